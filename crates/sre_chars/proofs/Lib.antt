@@ -1,0 +1,2 @@
+pub mod CategoryRows
+pub mod RisingLists

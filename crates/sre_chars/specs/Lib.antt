@@ -1,0 +1,5 @@
+pub mod Categories
+pub mod Errors
+pub mod Numbers
+pub mod Tables
+pub mod Texts

@@ -1,0 +1,64 @@
+//! Bytes as a text: each byte is a character, so the offset of a cursor is its position.
+
+ghost use Rattle.sre_chars.specs.Texts.{StandsInBytes};
+
+use crate::string::{StrDrive, StringCursor};
+
+impl<'a> StrDrive for &'a [u8] {
+    ghost text = { λ s. s.now };
+
+    ghost stands = { λ s c p. StandsInBytes s.now c p };
+
+    ghost stands_at = { λ s c p h. (h.0, h.2) };
+
+    #[inline(always)]
+    fn count(&self) -> usize {
+        self.len()
+    }
+
+    #[inline(always)]
+    fn create_cursor(&self, n: usize) -> StringCursor {
+        StringCursor::new(n, n)
+    }
+
+    #[inline(always)]
+    fn adjust_cursor(&self, cursor: &mut StringCursor, n: usize) {
+        *cursor = StringCursor::new(n, n);
+    }
+
+    #[inline(always)]
+    fn advance(&self, cursor: &mut StringCursor) -> u32 {
+        let at = cursor.position();
+        *cursor = StringCursor::new(at + 1, at + 1);
+        u32::from(self[at])
+    }
+
+    #[inline(always)]
+    fn peek(&self, cursor: &StringCursor) -> u32 {
+        u32::from(self[cursor.position()])
+    }
+
+    #[inline(always)]
+    fn skip(&self, cursor: &mut StringCursor, n: usize) {
+        let at = cursor.position() + n;
+        *cursor = StringCursor::new(at, at);
+    }
+
+    #[inline(always)]
+    fn back_advance(&self, cursor: &mut StringCursor) -> u32 {
+        let at = cursor.position() - 1;
+        *cursor = StringCursor::new(at, at);
+        u32::from(self[at])
+    }
+
+    #[inline(always)]
+    fn back_peek(&self, cursor: &StringCursor) -> u32 {
+        u32::from(self[cursor.position() - 1])
+    }
+
+    #[inline(always)]
+    fn back_skip(&self, cursor: &mut StringCursor, n: usize) {
+        let at = cursor.position() - n;
+        *cursor = StringCursor::new(at, at);
+    }
+}

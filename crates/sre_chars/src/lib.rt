@@ -1,0 +1,10 @@
+//! Numbers, texts, categories and character tables of the SRE engine.
+#![tactic(auto)]
+
+mod bytes;
+mod category;
+pub mod constants;
+pub mod string;
+mod table;
+#[cfg(test)]
+mod tests;

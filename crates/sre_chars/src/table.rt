@@ -1,0 +1,188 @@
+//! Tables of case and of alphanumerics.
+//!
+//! ASCII is fixed in the code. Past it a table holds three rising lists, two of (from, to) and one
+//! of (low, high), and a character is looked up by halving.
+
+ghost use Rattle.std.specs.Prelude.{◌≡◌, ◌==◌, nat_le};
+ghost use Rattle.sre_chars.specs.Tables.{ascii_table, lower_ascii, upper_ascii, lower_of, upper_of, is_alphanumeric, is_ascii_alphanumeric, is_in_ranges, last_up_to, mapped};
+ghost use Rattle.sre_chars.specs.Errors.{list_fault};
+ghost use Rattle.std.specs.List.Sorted.{IsNonDecreasingBy};
+
+use std::alloc::Global;
+use std::marker::Model;
+use thiserror::Error;
+
+/// Why the lists of a table were refused.
+#[derive(Clone, Copy, PartialEq, Eq, Debug, Error)]
+pub enum UniError {
+    /// A growth was refused.
+    #[error("out of memory")]
+    Memory,
+    /// An entry does not begin above the former one, or a range ends below its low end.
+    #[error("Unsorted")]
+    Unsorted,
+    /// An entry begins below 128, where the table is fixed.
+    #[error("AsciiEntry")]
+    AsciiEntry,
+    /// A number of an entry, or within a range, is no Unicode scalar value.
+    #[error("NotScalar")]
+    NotScalar,
+}
+
+impl UniError {
+    ghost use Rattle.sre_chars.specs.Errors.{uni_error_number};
+
+    /// The number of this error among those of its kind.
+    pub fn number(&self) -> u32
+        ensures { result ≡ uni_error_number self.now }
+    {
+        match self {
+            UniError::Memory => 1,
+            UniError::Unsorted => 2,
+            UniError::AsciiEntry => 3,
+            UniError::NotScalar => 4,
+        }
+    }
+}
+
+// What the pairs of a list are: (from, to) of a map, or (low, high) of ranges.
+#[derive(Clone, Copy)]
+enum Listing {
+    Map,
+    Ranges,
+}
+
+/// A lower map, an upper map and a set of alphanumerics, over 32-bit characters.
+///
+/// ASCII is fixed: A to Z and a to z are each other's cases, letters and digits are alphanumeric.
+/// Past ASCII a character without an entry is its own lower and upper case, and one that lies in
+/// no range is not alphanumeric.
+#[derive(Drop)]
+pub struct UniTable {
+    lower: Vec<(u32, u32)>,
+    upper: Vec<(u32, u32)>,
+    alnum: Vec<(u32, u32)>,
+}
+
+impl Model for UniTable {
+    ghost use Rattle.std.specs.Prelude.{◌≡◌, None};
+    ghost use Rattle.sre_chars.specs.Tables.{Table};
+    ghost use Rattle.sre_chars.specs.Errors.{table_fault};
+
+    ghost Value = { Table };
+
+    ghost view = { λ t. record { lower = t.lower.items; upper = t.upper.items; alnum = t.alnum.items } };
+
+    ghost invariant = { λ t. table_fault (record { lower = t.lower.items; upper = t.upper.items; alnum = t.alnum.items }) ≡ None };
+}
+
+impl UniTable {
+    /// The table that knows ASCII alone. It takes no memory.
+    pub fn ascii(alloc: Global) -> UniTable
+        ensures { result ≡ ascii_table }
+    {
+        UniTable {
+            lower: Vec::new(alloc),
+            upper: Vec::new(alloc),
+            alnum: Vec::new(alloc),
+        }
+    }
+
+    // Whether a character is a letter or a digit.
+    pub(crate) fn is_alphanumeric(&self, ch: u32) -> bool
+        ensures { result ≡ is_alphanumeric self.now ch }
+    {
+        if ch < 128 {
+            is_ascii_alphanumeric(ch)
+        } else {
+            is_in_ranges(&self.alnum, ch)
+        }
+    }
+}
+
+/// An ASCII capital in lower case: 65 to 90 become 97 to 122, and others stay.
+#[inline]
+pub fn lower_ascii(ch: u32) -> u32
+    ensures { result ≡ lower_ascii ch }
+{
+    if 65 <= ch && ch <= 90 { ch + 32 } else { ch }
+}
+
+/// An ASCII small letter in upper case: 97 to 122 become 65 to 90, and others stay.
+#[inline]
+pub fn upper_ascii(ch: u32) -> u32
+    ensures { result ≡ upper_ascii ch }
+{
+    if 97 <= ch && ch <= 122 { ch - 32 } else { ch }
+}
+
+/// A character in lower case, by the table past ASCII.
+#[inline]
+pub fn lower_unicode(table: &UniTable, ch: u32) -> u32
+    ensures { result ≡ lower_of table.now ch }
+{
+    if ch < 128 {
+        lower_ascii(ch)
+    } else {
+        mapped(&table.lower, ch)
+    }
+}
+
+/// A character in upper case, by the table past ASCII.
+#[inline]
+pub fn upper_unicode(table: &UniTable, ch: u32) -> u32
+    ensures { result ≡ upper_of table.now ch }
+{
+    if ch < 128 {
+        upper_ascii(ch)
+    } else {
+        mapped(&table.upper, ch)
+    }
+}
+
+// Whether a character is an ASCII letter or digit.
+#[inline]
+pub(crate) fn is_ascii_alphanumeric(ch: u32) -> bool
+    ensures { result ≡ is_ascii_alphanumeric ch }
+{
+    matches!(ch, 48..=57 | 65..=90 | 97..=122)
+}
+
+// What a map takes a character to.
+fn mapped(entries: &[(u32, u32)], ch: u32) -> u32
+    requires { list_fault Listing.Map 0 entries.now ≡ None }
+    ensures { result ≡ mapped entries.now ch }
+{
+    match last_up_to(entries, ch) {
+        Some((from, to)) => if from == ch { to } else { ch },
+        None => ch,
+    }
+}
+
+// Whether a character lies in one of the ranges.
+fn is_in_ranges(entries: &[(u32, u32)], ch: u32) -> bool
+    requires { list_fault Listing.Ranges 0 entries.now ≡ None }
+    ensures { result ≡ is_in_ranges entries.now ch }
+{
+    match last_up_to(entries, ch) {
+        Some((_, high)) => ch <= high,
+        None => false,
+    }
+}
+
+// The last entry that begins at a character or below.
+fn last_up_to(entries: &[(u32, u32)], ch: u32) -> Option<(u32, u32)>
+    requires { IsNonDecreasingBy (λ e. e.0) entries.now }
+    ensures { result ≡ last_up_to entries.now ch }
+{
+    let count = entries.partition_point(
+        |entry: &(u32, u32)| -> bool
+            ensures { result ≡ nat_le entry.now.0 ch }
+        { entry.0 <= ch },
+    );
+    if count == 0 {
+        None
+    } else {
+        Some(entries[count - 1])
+    }
+}
