@@ -1,0 +1,9 @@
+use Rattle.sre_engine.proofs.Items.{one_exactly}
+use Rattle.sre_engine.proofs.code.item.item.Goals as goal
+
+pub returns-in_ok-test-in_default : goal.returns-in_ok-test-in_default
+returns-in_ok-test-in_default c =
+    let words = c.args.words.now in
+    let there = c.in_ok-code.ensures in
+    let found = c.in_ok-test-in_default.ensures in
+    (there.0, found.0, one_exactly words c.args.place c.in_ok-test-in_default.field-0 c.in_ok-code.code there.1 c.in_default.not-MARK found.1)

@@ -1,0 +1,28 @@
+-- The board: what a run of the machine holds beside its place and position.
+use Rattle.std.specs.Prelude.{ℕ, List, [], Option}
+use Rattle.sre_chars.specs.declared.string.StringCursor.{StringCursor}
+use Rattle.sre_engine.specs.Marks.{Marks}
+
+-- a loop in progress: where its REPEAT stands, its bodies so far, and where the last one beyond the least count began
+pub record Frame : Type 0 where
+  pub repeat : ℕ
+  pub count : ℕ
+  pub last : Option ℕ
+
+-- where the machine can go on: at an instruction
+pub data Point : Type 0 where
+  Instruction : ℕ → Point
+
+-- what is still to be tried: another point, under other loops and marks
+pub data Choice : Type 0 where
+  Else : Point → List Frame → StringCursor → Marks → Choice
+
+-- the loops in progress, innermost first, the marks, and the choices, newest first
+pub record Board : Type 0 where
+  pub frames : List Frame
+  pub marks : Marks
+  pub choices : List Choice
+
+-- these marks, and nothing else
+abbrev pub bare : Marks → Board
+bare m = record { frames = []; marks = m; choices = [] }

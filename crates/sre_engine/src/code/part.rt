@@ -1,0 +1,37 @@
+//! What closes parts.
+
+ghost use Rattle.std.specs.Prelude.{◌≡◌};
+ghost use Rattle.sre_engine.specs.Steps.{Closing};
+
+use crate::code::error::CodeError;
+use crate::code::step::{Part, Step};
+use crate::code::words;
+use sre_chars::constants::SreOpcode;
+
+/// SUCCESS, as the last word.
+#[tactic(auto, using(crate::proofs::Closing::whole_inside, crate::proofs::Closing::whole_end, crate::proofs::Closing::whole_exactly, crate::proofs::Closing::whole_trails, crate::proofs::Closing::whole_cut))]
+fn whole(words: &[u32], place: usize, width: u32) -> Result<Option<Step>, CodeError>
+    ensures { Closing words.now Part.Whole place width result }
+{
+    match words::opcode(words, place)? {
+        SreOpcode::SUCCESS => {
+            if place + 1 != words.len() {
+                return Err(CodeError::TrailingWords(place + 1));
+            }
+            Ok(Some(Step::Past {
+                place: place + 1,
+                width,
+            }))
+        }
+        _ => Ok(None),
+    }
+}
+
+/// What closes a part at this place, where its items have that least width; `None` where the part goes on.
+pub fn close(words: &[u32], place: usize, part: Part, width: u32) -> Result<Option<Step>, CodeError>
+    ensures { Closing words.now part place width result }
+{
+    match part {
+        Part::Whole => whole(words, place, width),
+    }
+}

@@ -1,0 +1,31 @@
+//! What the walk keeps, and what its steps come to.
+
+/// A part whose items are being read, by what ends it.
+#[derive(Clone, Copy)]
+pub enum Part {
+    /// All the words: SUCCESS as the last one.
+    Whole,
+}
+
+/// An open part, and the least width of its items so far.
+#[derive(Clone, Copy)]
+pub struct Open {
+    pub part: Part,
+    pub width: u32,
+}
+
+/// What is at a place.
+#[derive(Clone, Copy)]
+pub enum Step {
+    /// An item, whole: where it ends, and its least width.
+    Past { place: usize, width: u32 },
+    /// An item with a part, whose items begin at the place.
+    Opens { part: Part, place: usize },
+}
+
+/// Up to where the words have been read, and the least width of the item that ends there.
+#[derive(Clone, Copy)]
+pub struct Reached {
+    pub place: usize,
+    pub width: u32,
+}

@@ -1,0 +1,66 @@
+//! The walk over the words, with a stack of open parts.
+
+ghost use Rattle.sre_engine.specs.Walks.{Pushes, Turns, Walks};
+
+use crate::code::error::CodeError;
+use crate::code::step::{Open, Part, Reached, Step};
+use crate::code::{item, part};
+use std::alloc::Allocator;
+
+/// Puts the part that a step opens on the stack, and answers where to go on.
+fn follow<A: Allocator>(parts: &mut Vec<Open, A>, step: Step) -> Result<Reached, CodeError>
+    ensures { Pushes step parts.old.items parts.new.items result }
+{
+    match step {
+        Step::Past { place, width } => Ok(Reached { place, width }),
+        Step::Opens { part, place } => {
+            parts.push(Open { part, width: 0 })?;
+            Ok(Reached { place, width: 0 })
+        }
+    }
+}
+
+/// One turn: the innermost part, which was taken off the stack, is closed, or an item of it is read.
+#[tactic(auto, using(crate::proofs::Turns::turn_closes, crate::proofs::Turns::turn_reads, crate::proofs::Turns::turn_no_close, crate::proofs::Turns::turn_no_item))]
+fn turn<A: Allocator>(
+    words: &[u32],
+    reached: Reached,
+    top: Open,
+    parts: &mut Vec<Open, A>,
+) -> Result<Reached, CodeError>
+    ensures { Turns words.now reached top parts.old.items parts.new.items result }
+{
+    let width = top.width.saturating_add(reached.width);
+    if let Some(step) = part::close(words, reached.place, top.part, width)? {
+        return follow(parts, step);
+    }
+    let step = item::item(words, reached.place)?;
+    parts.push(Open {
+        part: top.part,
+        width,
+    })?;
+    follow(parts, step)
+}
+
+/// The least width of the tree whose items are the words from `start` on, with SUCCESS as the last word.
+#[tactic(auto, using(crate::proofs::Turns::walk_starts, crate::proofs::Turns::walk_goes_on, crate::proofs::Turns::walk_falls, crate::proofs::Turns::walk_stops, crate::proofs::Turns::walk_ends))]
+pub fn least_width<A: Allocator + Copy>(
+    alloc: A,
+    words: &[u32],
+    start: usize,
+) -> Result<u32, CodeError>
+    ensures { Walks words.now start result }
+{
+    let mut parts = Vec::new(alloc);
+    let mut reached = follow(
+        &mut parts,
+        Step::Opens {
+            part: Part::Whole,
+            place: start,
+        },
+    )?;
+    'walk: while let Some(top) = parts.pop() {
+        reached = turn(words, reached, top, &mut parts)?;
+    }
+    Ok(reached.width)
+}
