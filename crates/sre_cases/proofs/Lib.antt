@@ -1,0 +1,6 @@
+pub mod Cuts
+pub mod FileLines
+pub mod Numbers
+pub mod Pairs
+pub mod Words
+pub mod Lines

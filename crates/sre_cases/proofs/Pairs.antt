@@ -1,0 +1,52 @@
+-- Bytes and their pairs of hexadecimal digits.
+use Rattle.std.proofs.Common.{◌≡◌, ◌≢◌, ℕ, ◌+◌, ◌*◌, ◌/◌, ◌%◌, ◌<◌, false, List, [], ◌∷◌, ◌++◌, length, get_or, take, zero, suc, arith, refl, sym, ap, ◌∙◌, append_assoc, add-one}
+use Rattle.std.specs.Prelude.{All}
+use Rattle.std.proofs.lemmas.List.Elements.{All-get_or}
+use Rattle.std.specs.Fmt.{digit_glyph}
+use Rattle.std.proofs.Math.Seq.{take-suc}
+use Rattle.sre_cases.specs.Fields.{hex_text}
+
+hex_text-append : (bs cs : List ℕ) → hex_text (bs ++ cs) ≡ hex_text bs ++ hex_text cs
+hex_text-append [] cs = refl
+hex_text-append (b ∷ bs) cs = rw (hex_text-append bs cs) refl
+
+length-hex_text : (bs : List ℕ) → length (hex_text bs) ≡ 2 * length bs
+length-hex_text [] = refl
+length-hex_text (b ∷ bs) = let rest : length (hex_text bs) ≡ 2 * length bs = length-hex_text bs in omega (arith, rest)
+
+-- an odd number of digits is not what any bytes are written as
+pub odd_is_no_text : (digits : List ℕ) → length digits % 2 ≢ 0 → (bs : List ℕ) → hex_text bs ≢ digits
+odd_is_no_text digits odd bs is =
+    let twice : length digits ≡ 2 * length bs = sym (ap length is) ∙ length-hex_text bs in odd (omega arith)
+
+-- one byte more
+pub one_pair_more : (bs digits : List ℕ) (b i : ℕ) → hex_text bs ≡ take (2 * i) digits → 2 * i + 1 < length digits
+    → get_or digits (2 * i) 0 ≡ digit_glyph false (b / 16) → get_or digits (2 * i + 1) 0 ≡ digit_glyph false (b % 16)
+    → hex_text (bs ++ b ∷ []) ≡ take (2 * (i + 1)) digits
+one_pair_more bs digits b i so_far within high low =
+    let two_more : 2 * (i + 1) ≡ suc (suc (2 * i)) = omega arith in
+    let first : 2 * i < length digits = omega arith in
+    let second : suc (2 * i) < length digits = omega arith in
+    let low_at : get_or digits (suc (2 * i)) 0 ≡ digit_glyph false (b % 16) = rw add-one at low in
+    rw (hex_text-append bs (b ∷ []), two_more, take-suc digits (suc (2 * i)) 0 second, take-suc digits (2 * i) 0 first, high, low_at, so_far, append_assoc) refl
+
+pair_at : (bs : List ℕ) (i : ℕ) → i < length bs
+    → (get_or (hex_text bs) (2 * i) 0 ≡ digit_glyph false (get_or bs i 0 / 16)) × (get_or (hex_text bs) (2 * i + 1) 0 ≡ digit_glyph false (get_or bs i 0 % 16))
+pair_at [] i within = absurd (omega arith)
+pair_at (b ∷ bs) zero within = (refl, refl)
+pair_at (b ∷ bs) (suc i) within =
+    let below : i < length bs = omega arith in
+    let low_place : 2 * suc i + 1 ≡ suc (suc (2 * i + 1)) = omega arith in
+    let place : 2 * suc i ≡ suc (suc (2 * i)) = omega arith in
+    rw (low_place, place) (pair_at bs i below)
+
+-- two digits that no byte is written as, at the place of a pair
+pub no_pair_is_no_text : (digits : List ℕ) (i : ℕ) → 2 * i + 1 < length digits
+    → ((b : ℕ) → b < 256 → get_or digits (2 * i) 0 ≡ digit_glyph false (b / 16) → get_or digits (2 * i + 1) 0 ≢ digit_glyph false (b % 16))
+    → (bs : List ℕ) → All (λ b. b < 256) bs → hex_text bs ≢ digits
+no_pair_is_no_text digits i within none bs small is =
+    let twice : length digits ≡ 2 * length bs = sym (ap length is) ∙ length-hex_text bs in
+    let below : i < length bs = omega arith in
+    let fits : get_or bs i 0 < 256 = All-get_or (λ b. b < 256) bs i 0 below small in
+    let pair = pair_at bs i below in
+    none (get_or bs i 0) fits (rw is at pair.0) (rw is at pair.1)

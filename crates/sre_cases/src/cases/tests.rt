@@ -1,0 +1,365 @@
+//! What needs no answer of the machine: the syntax of lines, the faults, and refusals of memory.
+
+use super::*;
+use crate::line::Flags;
+use sre_engine::code::Hints;
+use sre_refusing::Refusing;
+use std::test::Fail;
+
+// A writer whose writes fail after some that are taken.
+#[derive(Drop)]
+struct FailsAfter {
+    left: u32,
+    bytes: Vec<u8>,
+}
+
+impl Write for FailsAfter {
+    fn write(&mut self, buf: &[u8]) -> io::Result<usize> {
+        if self.left == 0 {
+            return Err(io::Error::from(io::ErrorKind::Other));
+        }
+        self.left -= 1;
+        self.bytes.extend_from_slice(buf)?;
+        Ok(buf.len())
+    }
+
+    fn flush(&mut self) -> io::Result<()> {
+        Ok(())
+    }
+}
+
+#[test]
+fn lines_that_are_no_cases(rt: HostRuntime) -> Result<(), Fail> {
+    let lines = [
+        // verbs, and how many fields
+        "check",
+        "check ",
+        "Check 1",
+        "checks 1",
+        "match 1 b:61 all",
+        "match 1 b:61 -",
+        "match 1 b:61 all - -",
+        "search 1 b:61 all -",
+        "walk 1 b:61 all -",
+        // what divides fields
+        " check 1",
+        "check  1",
+        "check 1 ",
+        "check -  ",
+        "check\t1",
+        "check 1\t",
+        "check 1\r",
+        "check 1\0",
+        "\0",
+        "match  1 b:61 all -",
+        "match 1 b:61 all - ",
+        "match 1\tb:61\tall\t-",
+        // words
+        "match  b:61 all -",
+        "check +1",
+        "check -1",
+        "check 01",
+        "check 00",
+        "check 4294967296",
+        "check 18446744073709551616",
+        "check 1,",
+        "check ,1",
+        "check ,",
+        "check 1,,1",
+        "check 1, 1",
+        "check 1;1",
+        "check -,1",
+        "check --",
+        "check 0x1",
+        "check \u{661}",
+        // texts
+        "match 1 b:6 all -",
+        "match 1 b:6A all -",
+        "match 1 b:6g all -",
+        "match 1 b:6: all -",
+        "match 1 b:+1 all -",
+        "match 1 b all -",
+        "match 1 61 all -",
+        "match 1 :61 all -",
+        "match 1 B:61 all -",
+        "match 1 bb:61 all -",
+        "match 1 s:61 all -",
+        // windows
+        "match 1 b:61 All -",
+        "match 1 b:61 1 -",
+        "match 1 b:61 1.. -",
+        "match 1 b:61 ..1 -",
+        "match 1 b:61 .. -",
+        "match 1 b:61 1.2 -",
+        "match 1 b:61 1...2 -",
+        "match 1 b:61 1..2..3 -",
+        "match 1 b:61 01..2 -",
+        "match 1 b:61 1..+2 -",
+        "match 1 b:61 0..18446744073709551616 -",
+        "match 1 b:61 18446744073709551616..0 -",
+        // flags
+        "match 1 b:61 all x",
+        "match 1 b:61 all af",
+        "match 1 b:61 all ff",
+        "match 1 b:61 all f-",
+        "match 1 b:61 all F",
+        "match 1 b:61 all n",
+        "match 1 b:61 all ",
+    ];
+    for line in lines {
+        let file = format!(in rt.alloc(); "# all lines count\n\ncheck -\n{line}\ncheck -\n")?;
+        let mut out = Vec::new(rt.alloc());
+        let ran = run_cases(rt.alloc(), file.as_bytes(), &mut out);
+        assert!(rt; ran == Err(CaseFault::NotACase(4)), "{line:?}");
+        assert!(rt; out.as_slice() == b"refused\n".as_slice(), "{line:?}");
+    }
+    Ok(())
+}
+
+#[test]
+fn bytes_that_are_no_text(rt: HostRuntime) -> Result<(), Fail> {
+    let mut out = Vec::new(rt.alloc());
+    for file in [
+        b"check \xff".as_slice(),
+        b"\xff 1".as_slice(),
+        b"match 1 b:\xc3\xa9 all -".as_slice(),
+        b"check 1\r\ncheck 1\r\n".as_slice(),
+    ] {
+        assert!(rt; run_cases(rt.alloc(), file, &mut out) == Err(CaseFault::NotACase(1)));
+    }
+    assert!(rt; out.is_empty());
+    Ok(())
+}
+
+#[test]
+fn lines_that_are_cases(rt: HostRuntime) -> Result<(), Fail> {
+    let most = usize::MAX;
+    let greatest = u32::MAX;
+    for (line, words, text, case) in [
+        ("check -", [].as_slice(), b"".as_slice(), Case::Check),
+        ("check 0", [0].as_slice(), b"", Case::Check),
+        (
+            "check 10,4294967295,0",
+            [10, greatest, 0].as_slice(),
+            b"",
+            Case::Check,
+        ),
+        (
+            "match - b: all -",
+            [].as_slice(),
+            b"",
+            subject(Window::Whole, false, false),
+        ),
+        (
+            "match 1 b:00ff7f all f",
+            [1].as_slice(),
+            b"\x00\xff\x7f",
+            subject(Window::Whole, true, false),
+        ),
+        (
+            "match 1,2 b:0a20 5..3 a",
+            [1, 2].as_slice(),
+            b"\n ",
+            subject(Window::Span { start: 5, end: 3 }, false, true),
+        ),
+        (
+            "match 1 b:61 0..18446744073709551615 fa",
+            [1].as_slice(),
+            b"a",
+            subject(
+                Window::Span {
+                    start: 0,
+                    end: most,
+                },
+                true,
+                true,
+            ),
+        ),
+    ] {
+        let mut operands = Operands {
+            words: Vec::new(rt.alloc()),
+            text: Vec::new(rt.alloc()),
+        };
+        // what an earlier line left is gone
+        operands.words.push(7)?;
+        let read = read_case(line.as_bytes(), &mut operands);
+        assert!(rt; read == Ok(case), "{line}");
+        assert!(rt; operands.words.as_slice() == words, "{line}");
+        assert!(rt; operands.text.as_slice() == text, "{line}");
+    }
+    Ok(())
+}
+
+// A case over bytes.
+fn subject(window: Window, match_all: bool, must_advance: bool) -> Case {
+    Case::Match(Subject {
+        text: TextForm::Bytes,
+        window,
+        flags: Flags {
+            match_all,
+            must_advance,
+        },
+    })
+}
+
+#[test]
+fn files_without_a_fault(rt: HostRuntime) -> Result<(), Fail> {
+    for (file, answers) in [
+        ("", ""),
+        ("\n", ""),
+        ("\n\n\n", ""),
+        ("# check 1", ""),
+        ("#\n#\n", ""),
+        ("check -", "refused\n"),
+        ("check -\n", "refused\n"),
+        ("check -\n\n# note\ncheck -\n#", "refused\nrefused\n"),
+        ("match - b:61 all -\ncheck -", "refused\nrefused\n"),
+    ] {
+        let mut out = Vec::new(rt.alloc());
+        let ran = run_cases(rt.alloc(), file.as_bytes(), &mut out);
+        assert!(rt; ran == Ok(()), "{file:?}");
+        assert!(rt; out.as_slice() == answers.as_bytes(), "{file:?}");
+    }
+    Ok(())
+}
+
+#[test]
+fn answers_before_a_failed_write_are_kept(rt: HostRuntime) -> Result<(), Fail> {
+    for writes in 0..3u32 {
+        let mut out = FailsAfter {
+            left: writes,
+            bytes: Vec::new(rt.alloc()),
+        };
+        let ran = run_cases(
+            rt.alloc(),
+            b"check -\ncheck -\n\ncheck -\nnothing\n",
+            &mut out,
+        );
+        assert!(rt; ran == Err(CaseFault::OutputFailed), "after {writes}");
+        let mut kept = String::new(rt.alloc());
+        for _ in 0..writes {
+            kept.push_str("refused\n")?;
+        }
+        assert!(rt; out.bytes.as_slice() == kept.as_bytes(), "after {writes}");
+    }
+    Ok(())
+}
+
+#[test]
+fn refusals_in_a_line_and_in_a_case(rt: HostRuntime) -> Result<(), Fail> {
+    for (file, refused, ran, answers) in [
+        // the words, and the text
+        ("check 1", 1, Err(CaseFault::NoMemory), ""),
+        ("match - b:61 all -", 1, Err(CaseFault::NoMemory), ""),
+        // a line that is no case whatever memory there is
+        ("match 1 b:61 all x", 1, Err(CaseFault::NotACase(1)), ""),
+        // the answer
+        ("check -\ncheck -", 1, Ok(()), "memory\nrefused\n"),
+        ("check -\ncheck 1", 2, Err(CaseFault::NoMemory), "refused\n"),
+    ] {
+        let heap = Refusing::new(rt.alloc(), refused);
+        let mut out = Vec::new(rt.alloc());
+        let answered = answer_lines(rt.alloc(), &heap, file.as_bytes(), &mut out);
+        assert!(rt; answered == ran, "{file:?} without request {refused}");
+        assert!(rt;
+            out.as_slice() == answers.as_bytes(),
+            "{file:?} without request {refused}"
+        );
+    }
+    Ok(())
+}
+
+#[test]
+fn lines_of_faults(rt: HostRuntime) -> Result<(), Fail> {
+    for (fault, line) in [
+        (CaseFault::Usage, "usage: sre_cases FILE\n"),
+        (CaseFault::CannotRead, "x: cannot be read\n"),
+        (CaseFault::NotACase(1), "line 1: not a case\n"),
+        (
+            CaseFault::NotACase(u64::MAX),
+            "line 18446744073709551615: not a case\n",
+        ),
+        (CaseFault::NoMemory, "no memory\n"),
+        (CaseFault::OutputFailed, "output failed\n"),
+    ] {
+        let mut out = Vec::new(rt.alloc());
+        assert!(rt; write_fault(&fault, "x", &mut out) == Ok(()), "{line}");
+        assert!(rt; out.as_slice() == line.as_bytes(), "{line}");
+        let mut full = FailsAfter {
+            left: 0,
+            bytes: Vec::new(rt.alloc()),
+        };
+        assert!(rt;
+            write_fault(&fault, "x", &mut full) == Err(CaseFault::OutputFailed),
+            "{line}"
+        );
+    }
+    Ok(())
+}
+
+#[test]
+fn texts_of_answers(rt: HostRuntime) -> Result<(), Fail> {
+    for (width, prefix, literal, first_set, text) in [
+        (
+            None,
+            None,
+            false,
+            false,
+            "ok width - prefix - literal no set no",
+        ),
+        (
+            Some(2),
+            None,
+            false,
+            true,
+            "ok width 2 prefix - literal no set yes",
+        ),
+        (
+            Some(4),
+            Some((4, 2)),
+            false,
+            false,
+            "ok width 4 prefix 4,2 literal no set no",
+        ),
+        (
+            Some(3),
+            Some((3, 3)),
+            true,
+            false,
+            "ok width 3 prefix 3,3 literal yes set no",
+        ),
+    ] {
+        let mut answer = String::new(rt.alloc());
+        let hints = Hints {
+            width,
+            prefix,
+            literal,
+            first_set,
+        };
+        push_hints(&mut answer, &hints)?;
+        assert_eq!(rt; answer.as_str(), text);
+    }
+    for (start, end, last_index, marks, text) in [
+        (0, 0, -1, [].as_slice(), "yes 0..0 last -1 marks none"),
+        (
+            0,
+            2,
+            1,
+            [Some(0), Some(1)].as_slice(),
+            "yes 0..2 last 1 marks 0,1",
+        ),
+        (
+            0,
+            0,
+            2,
+            [None, None, None, Some(0)].as_slice(),
+            "yes 0..0 last 2 marks -,-,-,0",
+        ),
+        (7, 10, -1, [None].as_slice(), "yes 7..10 last -1 marks -"),
+    ] {
+        let mut answer = String::new(rt.alloc());
+        push_match(&mut answer, start, end, last_index, marks)?;
+        assert_eq!(rt; answer.as_str(), text);
+    }
+    Ok(())
+}
