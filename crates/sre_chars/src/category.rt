@@ -14,6 +14,7 @@ use crate::table::{UniTable, is_ascii_alphanumeric};
 ///
 /// A `NOT` form has the characters that its plain form lacks. The lists are those of CPython's
 /// `_sre`, with the table's alphanumerics in place of its database.
+#[inline(always)]
 pub fn category(table: &UniTable, code: SreCatCode, ch: u32) -> bool
     ensures { result ≡ category table.now (category_number code) ch }
 {

@@ -1,36 +1,56 @@
 -- The first accepted outcome of a run is the match.
-use Rattle.std.proofs.Common.{◌≡◌, ◌≤◌, ℕ, arith, true, false, Option, Some, None, refl, sym, ap, ◌∙◌, subst}
+use Rattle.std.proofs.Common.{◌≡◌, ◌≤◌, ◌<◌, ◌+◌, ℕ, Bool, true, false, nat_eq, arith, Option, Some, None, refl, sym, ap, ◌∙◌, subst}
+use Rattle.std.proofs.lemmas.Bool.Decides.{nat_tests}
 use Rattle.sre_chars.specs.declared.string.StringCursor.{StringCursor}
 use Rattle.sre_engine.specs.Tree.{Tree}
 use Rattle.sre_engine.specs.Marks.{Marks, no_marks}
 use Rattle.sre_engine.specs.Ways.{ways}
-use Rattle.sre_engine.specs.Found.{Asked, subject_of, is_accepted, at_start}
+use Rattle.sre_engine.specs.Found.{Asked, Match, subject_of, is_accepted, at_start, found}
 use Rattle.sre_engine.specs.Machine.{Run, Decides, outcomes}
-use Rattle.sre_engine.specs.Answers.{Shown, Answers, Spans}
-use Rattle.sre_engine.proofs.FoundLaws.{match_of_first, first_accepted-filter, at_start-is}
+use Rattle.sre_engine.specs.Answers.{Shown, Answers}
+use Rattle.sre_engine.proofs.FoundLaws.{match_of_first, first_accepted-filter, at_start-is, least-found, none-found}
 
 -- what a run for a request is about
 abbrev run_for : Asked → (StringCursor → ℕ → Type 0) → Run
 run_for a stands = record { words = a.words; subject = subject_of a; stands = stands; accepts = is_accepted a }
 
--- no outcome: the answer is no
-pub answers_no : (stands : StringCursor → ℕ → Type 0) (a : Asked) (t : Tree) (p s : ℕ) (found : Option StringCursor) (m : Marks) (shown : Shown) → p ≡ s → found ≡ None → Decides (run_for a stands) (outcomes (run_for a stands) t p) found m → Answers stands (at_start a t s) false shown
-answers_no stands a t p s found m shown at is d =
-    let none : at_start a t p ≡ None = first_accepted-filter a p (ways (subject_of a) t p no_marks) ∙ ap (match_of_first p) (subst (λ x. Decides (run_for a stands) (outcomes (run_for a stands) t p) x m) is d) in
-    subst (λ q. Answers stands (at_start a t q) false shown) at (rw none refl)
+-- what a run decides is the match from its start
+module _ (stands : StringCursor → ℕ → Type 0) (a : Asked) (t : Tree) (p : ℕ) (decided : Option StringCursor) (m : Marks) (d : Decides (run_for a stands) (outcomes (run_for a stands) t p) decided m) where
+  pub none_at : decided ≡ None → at_start a t p ≡ None
+  none_at is = first_accepted-filter a p (ways (subject_of a) t p no_marks) ∙ ap (match_of_first p) (subst (λ x. Decides (run_for a stands) (outcomes (run_for a stands) t p) x m) is d)
 
--- an outcome: the answer is yes, and the state shows it
-pub answers_yes : (stands : StringCursor → ℕ → Type 0) (a : Asked) (t : Tree) (p s : ℕ) (found : Option StringCursor) (end : StringCursor) (shown : Shown) → p ≡ s → found ≡ Some end → shown.start ≡ s → shown.cursor ≡ end → Decides (run_for a stands) (outcomes (run_for a stands) t p) found shown.marks → Answers stands (at_start a t s) true shown
-answers_yes stands a t p s found end shown at is start cursor d =
-    let e = subst (λ x. Decides (run_for a stands) (outcomes (run_for a stands) t p) x shown.marks) is d in
-    let some : at_start a t p ≡ Some (record { start = p; end = end.position; marks = shown.marks }) = first_accepted-filter a p (ways (subject_of a) t p no_marks) ∙ ap (match_of_first p) e.1.1 in
-    subst (λ q. Answers stands (at_start a t q) true shown) at
-    (rw some (refl, record { start = start ∙ sym at; end = subst (λ x. stands x end.position) (sym cursor) e.0; marks = refl }))
+  pub some_at : (end : StringCursor) → decided ≡ Some end → stands end end.position × (at_start a t p ≡ Some (record { start = p; end = end.position; marks = m }))
+  some_at end is =
+      let e = subst (λ x. Decides (run_for a stands) (outcomes (run_for a stands) t p) x m) is d in
+      (e.0, first_accepted-filter a p (ways (subject_of a) t p no_marks) ∙ ap (match_of_first p) e.1.1)
 
--- the match that is shown lies in the window
-pub span_yes : (stands : StringCursor → ℕ → Type 0) (a : Asked) (t : Tree) (p s : ℕ) (found : Option StringCursor) (end : StringCursor) (m : Marks) (shown : Shown) → p ≡ s → s ≤ a.end → found ≡ Some end → shown.start ≡ s → shown.cursor ≡ end → Decides (run_for a stands) (outcomes (run_for a stands) t p) found m → Spans s a.end shown
-span_yes stands a t p s found end m shown at inside is start cursor d =
-    let e = subst (λ x. Decides (run_for a stands) (outcomes (run_for a stands) t p) x m) is d in
-    let some : at_start a t p ≡ Some (record { start = p; end = end.position; marks = m }) = first_accepted-filter a p (ways (subject_of a) t p no_marks) ∙ ap (match_of_first p) e.1.1 in
-    let from = at_start-is a t p _ (omega (arith, at)) some in
-    record { starts = start; forward = omega (arith, from.order, at, ap (λ x. x.position) cursor); inside = omega (arith, from.end, ap (λ x. x.position) cursor) }
+  -- the match lies in the window
+  pub span_at : p ≤ a.end → (end : StringCursor) → decided ≡ Some end → (p ≤ end.position) × (end.position ≤ a.end)
+  span_at inside end is = let from = at_start-is a t p _ inside (some_at end is).1 in (from.order, from.end)
+
+-- an answer yes, with the match that the state shows
+pub answers_yes : (stands : StringCursor → ℕ → Type 0) (match : Option Match) (p : ℕ) (end : StringCursor) (shown : Shown) → shown.start ≡ p → shown.cursor ≡ end → stands end end.position → match ≡ Some (record { start = p; end = end.position; marks = shown.marks }) → Answers stands match true shown
+answers_yes stands match p end shown start cursor there some = rw some (refl, record { start = start; end = subst (λ x. stands x end.position) (sym cursor) there; marks = refl })
+
+-- an answer no
+pub answers_no : (stands : StringCursor → ℕ → Type 0) (match : Option Match) (shown : Shown) → match ≡ None → Answers stands match false shown
+answers_no stands match shown none = rw none refl
+
+-- no start before a position has a match
+abbrev pub NoneBefore : Asked → Tree → ℕ → Type 0
+NoneBefore a t p = (s : ℕ) → a.start ≤ s → s < p → at_start a t s ≡ None
+
+pub none_further : (a : Asked) (t : Tree) (p q : ℕ) → NoneBefore a t p → at_start a t p ≡ None → q ≡ p + 1 → NoneBefore a t q
+none_further a t p q before here next s from less = by_place (nat_eq s p) refl
+  where
+    by_place : (c : Bool) → nat_eq s p ≡ c → at_start a t s ≡ None
+    by_place true y = let is : p ≡ s = grind (arith, nat_tests) in subst (λ x. at_start a t x ≡ None) is here
+    by_place false n = before s from (grind (arith, nat_tests))
+
+-- none of the window's starts has a match
+pub found_none : (a : Asked) (t : Tree) (p : ℕ) → NoneBefore a t p → at_start a t p ≡ None → a.end ≤ p → found a t ≡ None
+found_none a t p before here past = none-found a t (λ s from to. none_further a t p (p + 1) before here refl s from (omega arith))
+
+-- the first that has one
+pub found_first : (a : Asked) (t : Tree) (p : ℕ) (m : Match) → NoneBefore a t p → at_start a t p ≡ Some m → a.start ≤ p → p ≤ a.end → m.start ≡ p → found a t ≡ Some m
+found_first a t p m before here from to start = least-found a t m (record { from = omega arith; to = omega arith; here = subst (λ q. at_start a t q ≡ Some m) (sym start) here; least = λ r l k. before r l (omega arith) })

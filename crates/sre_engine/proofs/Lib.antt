@@ -3,8 +3,11 @@ pub mod Families
 pub mod SetItems
 pub mod Places
 pub mod Widths
+pub mod Sets
 pub mod Characters
 pub mod Items
+pub mod Runs
+pub mod Branches
 pub mod Closing
 pub mod Turns
 pub mod Unique
@@ -16,9 +19,17 @@ pub mod PossessiveCases
 pub mod FoundLaws
 pub mod WalkLaws
 pub mod FirstWays
+pub mod Codes
+pub mod Blocks
+pub mod Members
+pub mod Counting
+pub mod OneCharacter
+pub mod Undo
+pub mod Choosing
 pub mod Cost
 pub mod Ran
 pub mod TreeOf
+mod ReaderRows
 pub mod Passing
 pub mod Instructions
 pub mod Start

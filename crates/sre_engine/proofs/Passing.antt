@@ -1,15 +1,14 @@
 -- Which characters a test passes, in terms of a text that is read.
-use Rattle.std.proofs.Common.{◌≡◌, ◌≢◌, ℕ, ◌<◌, ◌≤◌, true, false, nat_lt, refl, sym, subst, arith}
+use Rattle.std.proofs.Common.{◌≡◌, ℕ, ◌<◌, ◌≤◌, Bool, true, false, nat_lt, refl, sym, ap, ◌∙◌, subst, arith}
 use Rattle.std.proofs.lemmas.Bool.Decides.{nat_tests}
 use Rattle.sre_chars.specs.declared.string.StringCursor.{StringCursor}
-use Rattle.sre_engine.specs.Tree.{Test, Literal, Plain}
+use Rattle.sre_engine.specs.Tree.{Test}
+use Rattle.sre_engine.specs.Characters.{holds}
 use Rattle.sre_engine.specs.Subject.{Subject, passes, char_at}
 
-pub literal_passes : (s : Subject) (v p c : ℕ) → p < s.end → c ≡ char_at s p → c ≡ v → passes s (Literal Plain v) p ≡ true
-literal_passes s v p c l e f = grind (arith, nat_tests)
-
-pub literal_fails : (s : Subject) (v p c : ℕ) → c ≡ char_at s p → c ≢ v → passes s (Literal Plain v) p ≡ false
-literal_fails s v p c e f = grind (arith, nat_tests)
+-- a character that is read before the window's end decides
+pub read_passes : (s : Subject) (t : Test) (p c : ℕ) (b : Bool) → p < s.end → c ≡ char_at s p → b ≡ holds s.table t c → passes s t p ≡ b
+read_passes s t p c b l e h = let i : nat_lt p s.end ≡ true = grind (arith, nat_tests) in rw i (ap (λ x. holds s.table t x) (sym e) ∙ sym h)
 
 pub past_end : (s : Subject) (t : Test) (p : ℕ) → s.end ≤ p → passes s t p ≡ false
 past_end s t p l = let e : nat_lt p s.end ≡ false = grind (arith, nat_tests) in rw e refl

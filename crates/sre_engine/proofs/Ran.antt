@@ -1,18 +1,24 @@
 -- The words of a tree have the tree's ways.
-use Rattle.std.proofs.Common.{◌≡◌, ℕ, suc, ◌+◌, ◌<◌, ◌≤◌, Bool, true, false, cond, List, [], ◌∷◌, ◌++◌, refl, sym, ap, subst, arith}
+use Rattle.std.proofs.Common.{◌≡◌, ℕ, zero, suc, ◌+◌, ◌-◌, ◌<◌, ◌≤◌, Bool, true, false, cond, nat_lt, List, [], ◌∷◌, ◌++◌, length, map, refl, sym, ap, subst, arith}
 use Rattle.std.specs.List.{flat_map}
 use Rattle.std.proofs.lemmas.List.{append-nil}
+use Rattle.std.proofs.lemmas.Grind.{flat_map-append}
 use Rattle.std.proofs.lemmas.Bool.Decides.{nat_tests}
+use Rattle.sre_chars.specs.Numbers.{at_number}
+use Rattle.sre_chars.specs.declared.constants.SreAtCode.{SreAtCode}
 use Rattle.sre_chars.specs.declared.constants.SreOpcode.TheVariants as opcode
-use Rattle.sre_engine.specs.Tree.{Tree, Empty, Then, Item, One, Mark, Test, Literal, Plain}
+use Rattle.sre_engine.specs.Tree.{Tree, Empty, Then, Item, Fail, One, At, Mark, Branch, Run, GreedyRun, Trees, Only, Or, Test, Any, AnyAll, InCategory, Literal, NotLiteral, In, Fold, Plain, Ascii, Locale, Unicode}
 use Rattle.sre_engine.specs.Marks.{Marks, set_mark}
-use Rattle.sre_engine.specs.Subject.{Subject, passes}
-use Rattle.sre_engine.specs.Ways.{Way, Body, here, ways, item_ways}
-use Rattle.sre_engine.specs.Grammar.{Opcode, test_opcode, TestOperands, IsBuiltTest, Reads, ReadsItem}
-use Rattle.sre_engine.specs.Board.{Frame, Point, Instruction}
-use Rattle.sre_engine.specs.Machine.{family, Testing, Runs, at, Does, ends, taken, refused, marks}
+use Rattle.sre_engine.specs.Subject.{Subject, passes, holds_at}
+use Rattle.sre_engine.specs.Ways.{Way, Body, here, longest_run, falling, run_ways, ways, item_ways, branch_ways}
+use Rattle.sre_engine.specs.Grammar.{Word, Opcode, skip, JumpsTo, literal_opcode, not_literal_opcode, set_opcode, test_opcode, TestOperands, Reads, ReadsItem, ReadsBranch}
+use Rattle.sre_engine.specs.Board.{Frame, Point, Instruction, Alternatives, Shorter}
+use Rattle.sre_engine.specs.Machine.{family, Testing, Standing, Running, Runs, at, no_alternative, alternative, none_shorter, shorter, Does, fails, ends, taken, refused, stood, elsewhere, marks, branches, jumps, too_short, runs_on}
 use Rattle.sre_engine.proofs.Each.{flat_map-flat_map}
-use Rattle.sre_engine.proofs.Cost.{Costs, ending, cost, item_cost}
+use Rattle.sre_engine.proofs.Bounds.{longest_run-fits}
+use Rattle.sre_engine.proofs.Words.{word_there, word_past}
+use Rattle.sre_engine.proofs.Places.{alternative_long, branch_past}
+use Rattle.sre_engine.proofs.Cost.{Costs, ending, shorter_cost, run_cost, cost, item_cost, branch_cost}
 
 -- what follows each of some ways
 abbrev pub followed : Body → List Way → List Way
@@ -36,16 +42,87 @@ alone h = rw append-nil h
 pub passes-below : (s : Subject) (t : Test) (p : ℕ) → passes s t p ≡ true → p < s.end
 passes-below s t p h = grind (arith, nat_tests)
 
-test-family : (t : Test) → IsBuiltTest t → family (test_opcode t) ≡ Testing
-test-family (Literal Plain v) b = refl
-test-family _ b = absurd b
+literal-family : (f : Fold) → family (literal_opcode f) ≡ Testing
+literal-family Plain = refl
+literal-family Ascii = refl
+literal-family Locale = refl
+literal-family Unicode = refl
 
-one-ran : (ws : List ℕ) (s : Subject) (i j : ℕ) (t : Test) → Opcode ws i (test_opcode t) → TestOperands ws i j t → IsBuiltTest t → Ran ws s (Instruction i) j (λ p m. item_ways s (One t) p m) (λ C p m. item_cost s (One t) C p m)
-one-ran ws s i j t w h b fs K C p m e f = at (test_opcode t) w (go (passes s t p) refl)
+not_literal-family : (f : Fold) → family (not_literal_opcode f) ≡ Testing
+not_literal-family Plain = refl
+not_literal-family Ascii = refl
+not_literal-family Locale = refl
+not_literal-family Unicode = refl
+
+set-family : (f : Fold) → family (set_opcode f) ≡ Testing
+set-family Plain = refl
+set-family Ascii = refl
+set-family Locale = refl
+set-family Unicode = refl
+
+pub test-family : (t : Test) → family (test_opcode t) ≡ Testing
+test-family Any = refl
+test-family AnyAll = refl
+test-family (InCategory c) = refl
+test-family (Literal f v) = literal-family f
+test-family (NotLiteral f v) = not_literal-family f
+test-family (In f set) = set-family f
+
+one-ran : (ws : List ℕ) (s : Subject) (i j : ℕ) (t : Test) → Opcode ws i (test_opcode t) → TestOperands ws i j t → Ran ws s (Instruction i) j (λ p m. item_ways s (One t) p m) (λ C p m. item_cost s (One t) C p m)
+one-ran ws s i j t w h fs K C p m e f = at (test_opcode t) w (go (passes s t p) refl)
   where
     go : (y : Bool) → passes s t p ≡ y → Does ws s (family (test_opcode t)) i fs p m (followed K (cond y (here (p + 1) m) [])) (cond y (suc (C (p + 1) m)) 1)
-    go true y = rw (test-family t b) (taken j t w h y (alone (f (p + 1) m (omega arith) (omega (arith, passes-below s t p y)))))
-    go false y = rw (test-family t b) (refused j t w h y)
+    go true y = rw (test-family t) (taken j t w h y (alone (f (p + 1) m (omega arith) (omega (arith, passes-below s t p y)))))
+    go false y = rw (test-family t) (refused j t w h y)
+
+at-ran : (ws : List ℕ) (s : Subject) (i j : ℕ) (a : SreAtCode) → Opcode ws i opcode.AT → Word ws (i + 1) (at_number a) → j ≡ i + 2 → Ran ws s (Instruction i) j (λ p m. item_ways s (At a) p m) (λ C p m. item_cost s (At a) C p m)
+at-ran ws s i j a w h l fs K C p m e f = at opcode.AT w (go (holds_at s a p) refl)
+  where
+    go : (y : Bool) → holds_at s a p ≡ y → Does ws s Standing i fs p m (followed K (cond y (here p m) [])) (cond y (suc (C p m)) 1)
+    go true y = stood a h y (moved l (alone (f p m (omega arith) e)))
+    go false y = elsewhere a h y
+
+-- the last alternative has no other behind it
+last_alternative : {ws : List ℕ} {s : Subject} {q v p n : ℕ} {fs : List Frame} {m : Marks} {os : List Way} → Word ws q v → 0 < v → Word ws (q + v) 0 → Runs ws s (Instruction (q + 1)) fs p m os n → Runs ws s (Alternatives q) fs p m os (suc (suc (n + 1)))
+last_alternative {ws} {s} {q} {v} {p} {n} {fs} {m} {os} w l z h = subst (λ x. Runs ws s (Alternatives q) fs p m x (suc (suc (n + 1)))) (append-nil os) (alternative w l h (no_alternative z))
+
+shorter-ran : (ws : List ℕ) (s : Subject) (j low n : ℕ) (fs : List Frame) (K : Body) (C : Costs) (p : ℕ) (m : Marks) → p + (low + n) ≤ s.end → Follows ws s p (Instruction j) fs K C → Runs ws s (Shorter j n) fs (p + (low + n)) m (followed K (map (λ c. record { stop = p + c; marks = m }) (falling low n))) (shorter_cost C low n p m)
+shorter-ran ws s j low zero fs K C p m e f = none_shorter
+shorter-ran ws s j low (suc n) fs K C p m e f = shorter (omega arith) (f (p + (low + n)) m (omega arith) (omega arith)) (shorter-ran ws s j low n fs K C p m (omega arith) f)
+
+run-ran : (ws : List ℕ) (s : Subject) (i j low high : ℕ) (t : Test) → Opcode ws i opcode.REPEAT_ONE → j ≡ skip ws (i + 1) → Word ws (i + 2) low → Word ws (i + 3) high → Opcode ws (i + 4) (test_opcode t) → TestOperands ws (i + 4) (j - 1) t → Ran ws s (Instruction i) j (λ p m. run_ways s GreedyRun low high t p m) (λ C p m. run_cost low (longest_run s t high p) C p m)
+run-ran ws s i j low high t w tail wl wh wt h fs K C p m e f = at opcode.REPEAT_ONE w (go (nat_lt (longest_run s t high p) low) refl)
+  where
+    k : ℕ
+    k = longest_run s t high p
+
+    fits : p + longest_run s t high p ≤ s.end
+    fits = longest_run-fits s t high p e
+
+    go : (y : Bool) → nat_lt k low ≡ y → Does ws s Running i fs p m (followed K (map (λ n. record { stop = p + n; marks = m }) (falling low (k + 1 - low)))) (cond y 1 (suc (suc (C (p + k) m + shorter_cost C low (k - low) p m))))
+    go true y =
+        let l : k < low = grind (arith, nat_tests) in let z : k + 1 - low ≡ 0 = omega arith in
+        rw z (too_short (j - 1) t wl wh wt h l)
+    go false y =
+        let l : low ≤ k = grind (arith, nat_tests) in
+        let d : k + 1 - low ≡ suc (k - low) = omega arith in
+        let b : low + (k - low) ≡ k = omega arith in
+        let first : Runs ws s (Instruction (skip ws (i + 1))) fs (p + k) m (K (p + k) m) (C (p + k) m) = moved tail (f (p + k) m (omega arith) fits) in
+        let others : Runs ws s (Shorter (skip ws (i + 1)) (k - low)) fs (p + k) m (followed K (map (λ c. record { stop = p + c; marks = m }) (falling low (k - low)))) (shorter_cost C low (k - low) p m) =
+        subst (λ x. Runs ws s (Shorter x (k - low)) fs (p + k) m (followed K (map (λ c. record { stop = p + c; marks = m }) (falling low (k - low)))) (shorter_cost C low (k - low) p m)) tail
+        (rw b at (shorter-ran ws s j low (k - low) fs K C p m (omega (arith, fits)) f)) in
+        rw (d, b) (runs_on (j - 1) t wl wh wt h l first others)
+
+-- a skip word that leads on is there
+skip_there : (ws : List ℕ) (q : ℕ) → q < skip ws q → q < length ws
+skip_there ws q l = go (nat_lt q (length ws)) refl
+  where
+    go : (y : Bool) → nat_lt q (length ws) ≡ y → q < length ws
+    go true y = grind (arith, nat_tests)
+    go false y = let g : length ws ≤ q = grind (arith, nat_tests) in absurd (omega (arith, word_past ws q g))
+
+jump-ran : (ws : List ℕ) (s : Subject) (k j : ℕ) → k + 1 < j → JumpsTo ws k j → (fs : List Frame) (K : Body) (C : Costs) (q : ℕ) (m : Marks) → Runs ws s (Instruction j) fs q m (K q m) (C q m) → Runs ws s (Instruction k) fs q m (K q m) (suc (C q m))
+jump-ran ws s k j l h fs K C q m r = at opcode.JUMP h.0 (jumps (skip_there ws (k + 1) (omega (arith, h.1))) (moved h.1 r))
 
 mutual
   pub ran : (ws : List ℕ) (s : Subject) (i j : ℕ) (t : Tree) → Reads ws i j t → Ran ws s (Instruction i) j (λ p m. ways s t p m) (λ C p m. cost s t C p m)
@@ -55,9 +132,22 @@ mutual
       (item-ran ws s i h.0 item h.1 fs (λ q k. followed K (ways s rest q k)) (λ q k. cost s rest C q k) p m e (λ q k l g. ran ws s h.0 j rest h.2 fs K C q k g (λ q' k' l' g'. f q' k' (omega arith) g')))
 
   pub item-ran : (ws : List ℕ) (s : Subject) (i j : ℕ) (x : Item) → ReadsItem ws i j x → Ran ws s (Instruction i) j (λ p m. item_ways s x p m) (λ C p m. item_cost s x C p m)
-  item-ran ws s i j (One t) h fs K C p m e f = one-ran ws s i j t h.0 h.1 h.2 fs K C p m e f
+  item-ran ws s i j Fail h fs K C p m e f = at opcode.FAILURE h.0 fails
+  item-ran ws s i j (One t) h fs K C p m e f = one-ran ws s i j t h.0 h.1 fs K C p m e f
+  item-ran ws s i j (At a) h fs K C p m e f = at-ran ws s i j a h.0 h.1.0 h.1.1 fs K C p m e f
   item-ran ws s i j (Mark n) h fs K C p m e f = at opcode.MARK h.0 (marks h.1.0 (moved h.1.1 (alone (f p (set_mark m n p) (omega arith) e))))
+  item-ran ws s i j (Branch ts) h fs K C p m e f = at opcode.BRANCH h.0 (branches (branch-ran ws s (i + 1) j ts h.1 fs K C p m e f))
+  item-ran ws s i j (Run GreedyRun low high t) h fs K C p m e f = run-ran ws s i j low high t h.0 h.1.0 h.1.1 h.1.2 h.1.4 h.1.5 fs K C p m e f
   item-ran ws s i j _ h fs K C p m e f = absurd h.2
+
+  pub branch-ran : (ws : List ℕ) (s : Subject) (q j : ℕ) (ts : Trees) → ReadsBranch ws q j ts → (fs : List Frame) (K : Body) (C : Costs) (p : ℕ) (m : Marks) → p ≤ s.end → Follows ws s p (Instruction j) fs K C → Runs ws s (Alternatives q) fs p m (followed K (branch_ways s ts p m)) (branch_cost s ts (λ a b. suc (C a b)) p m)
+  branch-ran ws s q j (Only t) h fs K C p m e f =
+      let l : q + 3 ≤ skip ws q = alternative_long ws q j (Only t) h in
+      last_alternative (word_there ws q (skip_there ws q (omega arith))) (omega arith) h.2 (ran ws s (q + 1) (skip ws q - 2) t h.0 fs K (λ a b. suc (C a b)) p m e (λ q' k' l' g'. jump-ran ws s (skip ws q - 2) j (omega (arith, h.3)) h.1 fs K C q' k' (f q' k' l' g')))
+  branch-ran ws s q j (Or t ts) h fs K C p m e f =
+      let l : q + 3 ≤ skip ws q = alternative_long ws q j (Or t ts) h in
+      rw (flat_map-append (λ (w : Way). K w.stop w.marks) (ways s t p m) (branch_ways s ts p m))
+      (alternative (word_there ws q (skip_there ws q (omega arith))) (omega arith) (ran ws s (q + 1) (skip ws q - 2) t h.0 fs K (λ a b. suc (C a b)) p m e (λ q' k' l' g'. jump-ran ws s (skip ws q - 2) j (omega (arith, branch_past ts ws (skip ws q) j h.2)) h.1 fs K C q' k' (f q' k' l' g'))) (branch-ran ws s (skip ws q) j ts h.2 fs K C p m e f))
 
 singles : (os : List Way) → followed here os ≡ os
 singles [] = refl

@@ -8,7 +8,7 @@ use Rattle.sre_engine.specs.Grammar.{Opcode, ReadsSet}
 use Rattle.sre_engine.proofs.Words.{same_opcode}
 
 -- an item's first word
-abbrev set_item_opcode : SetItem → SreOpcode
+abbrev pub set_item_opcode : SetItem → SreOpcode
 set_item_opcode (Single v) = opcode.LITERAL
 set_item_opcode (Range low high) = opcode.RANGE
 set_item_opcode (RangeUniIgnore low high) = opcode.RANGE_UNI_IGNORE

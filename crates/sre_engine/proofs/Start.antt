@@ -1,14 +1,15 @@
 -- How a run begins, and how it ends.
-use Rattle.std.proofs.Common.{◌≡◌, ℕ, ◌≤◌, Bool, true, false, List, [], ◌∷◌, refl, sym, ◌∙◌, subst, arith}
+use Rattle.std.proofs.Common.{◌≡◌, ℕ, ◌+◌, ◌-◌, ◌≤◌, ◌++◌, Bool, true, false, List, [], ◌∷◌, refl, sym, ◌∙◌, subst, arith}
+use Rattle.std.specs.List.{filter}
 use Rattle.sre_chars.specs.declared.string.StringCursor.{StringCursor}
 use Rattle.sre_engine.specs.Tree.{Tree}
-use Rattle.sre_engine.specs.Marks.{Marks, no_marks}
-use Rattle.sre_engine.specs.Ways.{Way, here, ways}
+use Rattle.sre_engine.specs.Marks.{no_marks}
+use Rattle.sre_engine.specs.Ways.{Way, ways}
 use Rattle.sre_engine.specs.Grammar.{Whole}
 use Rattle.sre_engine.specs.Hinted.{IsCode, Confirmed}
 use Rattle.sre_engine.specs.declared.code.Hints.{Hints}
-use Rattle.sre_engine.specs.Board.{Instruction, bare}
-use Rattle.sre_engine.specs.Machine.{Run, Waits, outermost, Goes, Backs, Ends, Stands, Later, SaysAccepted, outcomes}
+use Rattle.sre_engine.specs.Board.{Instruction, Choice, BoardValue, bare}
+use Rattle.sre_engine.specs.Machine.{Run, Waits, outermost, otherwise, Goes, Ends, Stands, Later, SaysAccepted, outcomes}
 use Rattle.sre_engine.specs.declared.engine.machine.Next.{Next}
 use Rattle.sre_engine.specs.declared.engine.machine.Next.TheVariants as next
 use Rattle.std.proofs.Math.Logic.{∥∥₁_map}
@@ -26,9 +27,9 @@ pub whole_of : (ws : List ℕ) (hints : Hints) → ∥ ((t : Tree) × Whole ws t
 whole_of ws hints c = let k = code_tree ws hints c in subst (λ t. Whole ws t) (sym (whole-read ws k.0 k.1)) k.1
 
 -- a run from a cursor has the tree's accepted ways
-pub started : (r : Run) (t : Tree) (c : StringCursor) (m : Marks) → Whole r.words t → r.stands c c.position → c.position ≤ r.subject.end → m ≡ no_marks → Goes r (outcomes r t c.position) (cost r.subject t ending c.position no_marks) (Instruction 0) c (bare m)
-started r t c m whole stands inside fresh =
-    subst (λ x. Goes r (outcomes r t c.position) (cost r.subject t ending c.position no_marks) (Instruction 0) c (bare x)) (sym fresh)
+pub started : (r : Run) (t : Tree) (c : StringCursor) (b : BoardValue) → Whole r.words t → r.stands c c.position → c.position ≤ r.subject.end → b ≡ bare no_marks → Goes r (outcomes r t c.position) (cost r.subject t ending c.position no_marks) (Instruction 0) c b
+started r t c b whole stands inside fresh =
+    subst (λ x. Goes r (outcomes r t c.position) (cost r.subject t ending c.position no_marks) (Instruction 0) c x) (sym fresh)
     (record {
       now = ways r.subject t c.position no_marks;
       turns = cost r.subject t ending c.position no_marks;
@@ -39,35 +40,32 @@ started r t c m whole stands inside fresh =
       within = omega arith;
     })
 
--- with no choice left there is no outcome
-pub over : (r : Run) (all : List Way) (limit : ℕ) (m : Marks) → Backs r all limit (bare m) → all ≡ []
-over r all limit m b = go b.waits
-  where
-    go : {xs : List Way} {k : ℕ} → Waits r [] [] xs k → xs ≡ []
-    go outermost = refl
+-- the first outcome, if it is accepted, is the first of all
+first_waits : (r : Run) (cs : List Choice) (w : Way) (rest : List Way) {all : List Way} {k : ℕ} → r.accepts w ≡ true → Waits r cs (w ∷ rest) all k → (others : List Way) × (all ≡ w ∷ others)
+first_waits r [] w rest y outermost = rw y (filter r.accepts rest, refl)
+first_waits r (x ∷ cs) w rest y (otherwise {os = os} there d wt) = first_waits r cs w (rest ++ os) y wt
 
--- an outcome of the whole that is accepted is the first
-pub accepted_first : (r : Run) (all : List Way) (limit p : ℕ) (n : Next) (c : StringCursor) (m : Marks) (b : Bool) → n ≡ next.Done c → p ≡ c.position → SaysAccepted r p b → b ≡ true → Stands r all limit n (bare m) → r.stands c c.position × ((rest : List Way) × (all ≡ record { stop = c.position; marks = m } ∷ rest))
-accepted_first r all limit p n c m b done at says taken st = (e.stands, go e.waits)
-  where
-    e : Ends r all limit c (bare m)
-    e = subst (λ x. Stands r all limit x (bare m)) done st
+-- and else it is passed over
+refused_waits : (r : Run) (cs : List Choice) (w : Way) (rest : List Way) {all : List Way} {k : ℕ} → r.accepts w ≡ false → Waits r cs (w ∷ rest) all k → Waits r cs rest all k
+refused_waits r [] w rest n outermost = rw n outermost
+refused_waits r (x ∷ cs) w rest n (otherwise {os = os} there d wt) = otherwise there d (refused_waits r cs w (rest ++ os) n wt)
 
-    accepted : r.accepts (record { stop = c.position; marks = m }) ≡ true
-    accepted = sym (subst (λ x. SaysAccepted r x b) at says m) ∙ taken
+-- the machine stands at the end of the whole
+module _ (r : Run) (all : List Way) (limit p : ℕ) (n : Next) (c : StringCursor) (b : BoardValue) (accepted : Bool) (done : n ≡ next.Done c) (at : p ≡ c.position) (says : SaysAccepted r p accepted) (stands : Stands r all limit n b) where
+  ends : Ends r all limit c b
+  ends = subst (λ x. Stands r all limit x b) done stands
 
-    go : {xs : List Way} {k : ℕ} → Waits r [] (here c.position m) xs k → (rest : List Way) × (xs ≡ record { stop = c.position; marks = m } ∷ rest)
-    go outermost = rw accepted ([], refl)
+  said : accepted ≡ r.accepts (record { stop = c.position; marks = b.marks })
+  said = subst (λ x. SaysAccepted r x accepted) at says b.marks
 
--- one that is not is passed over
-pub refused_over : (r : Run) (all : List Way) (limit p : ℕ) (n : Next) (c : StringCursor) (m : Marks) (b : Bool) → n ≡ next.Done c → p ≡ c.position → SaysAccepted r p b → b ≡ false → Stands r all limit n (bare m) → Later r all limit next.Back (bare m)
-refused_over r all limit p n c m b done at says left st = (omega (arith, e.within), record { later = e.later; waits = go e.waits; within = omega (arith, e.within) })
-  where
-    e : Ends r all limit c (bare m)
-    e = subst (λ x. Stands r all limit x (bare m)) done st
+  -- an outcome that is accepted is the first
+  pub accepted_first : accepted ≡ true → r.stands c c.position × ((rest : List Way) × (all ≡ record { stop = c.position; marks = b.marks } ∷ rest))
+  accepted_first taken = (ends.stands, first_waits r b.choices _ [] (sym said ∙ taken) ends.waits)
 
-    refused : r.accepts (record { stop = c.position; marks = m }) ≡ false
-    refused = sym (subst (λ x. SaysAccepted r x b) at says m) ∙ left
+  -- one that is not is passed over
+  pub refused_over : accepted ≡ false → Later r all limit next.Back b
+  refused_over left = (omega (arith, ends.within), record { later = ends.later; waits = refused_waits r b.choices _ [] (sym said ∙ left) ends.waits; within = omega (arith, ends.within) })
 
-    go : {xs : List Way} {k : ℕ} → Waits r [] (here c.position m) xs k → Waits r [] [] xs k
-    go outermost = rw refused outermost
+-- an instruction or a choice is one turn
+pub one_turn : (r : Run) (all : List Way) (limit turned : ℕ) (n : Next) (b : BoardValue) → Later r all (limit - turned) n b → Stands r all (limit - (turned + 1)) n b
+one_turn r all limit turned n b l = let e : limit - turned - 1 ≡ limit - (turned + 1) = omega arith in subst (λ x. Stands r all x n b) e l.1

@@ -7,7 +7,8 @@ use Rattle.sre_engine.specs.Grammar.{Reads, Whole as IsWhole}
 use Rattle.sre_engine.specs.Width.{held, width, item_width}
 use Rattle.sre_engine.specs.Hinted.{IsCode}
 use Rattle.sre_engine.specs.Refusals.{place_of}
-use Rattle.sre_engine.specs.Steps.{Within, ItemAt, Closes, Remains, next, Exactly, Nowhere, IsEnd, IsInside, Leaves, Unclosed}
+use Rattle.sre_engine.specs.Reading.{Within}
+use Rattle.sre_engine.specs.Steps.{ItemAt, Closes, Remains, next, Exactly, Nowhere, IsEnd, IsInside, Leaves, Unclosed}
 use Rattle.sre_engine.specs.Walks.{opened, Rest, Left, After, Same, Never, work, Refused, Pushes, Turns, Body, HasBody}
 use Rattle.sre_engine.specs.declared.code.error.CodeError.{CodeError}
 use Rattle.sre_engine.specs.declared.code.error.CodeError.TheVariants.{Memory}

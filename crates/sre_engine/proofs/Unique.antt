@@ -102,7 +102,7 @@ category_back : (c : SreCatCode) → slice_index_or category_codes (category_num
 category_back category.DIGIT = refl
 category_back c = refl
 
-same_at : (ws : List ℕ) (i : ℕ) (a b : SreAtCode) → Word ws i (at_number a) → Word ws i (at_number b) → a ≡ b
+pub same_at : (ws : List ℕ) (i : ℕ) (a b : SreAtCode) → Word ws i (at_number a) → Word ws i (at_number b) → a ≡ b
 same_at ws i a b x y = sym (at_back a) ∙ ap (λ n. slice_index_or at_codes n at.BEGINNING) (same_word ws i (at_number a) (at_number b) x y) ∙ at_back b
 
 same_category : (ws : List ℕ) (i : ℕ) (a b : SreCatCode) → Word ws i (category_number a) → Word ws i (category_number b) → a ≡ b
@@ -151,7 +151,7 @@ set_same (Negate ∷ a) b ws i j r s =
 test_moved : (ws : List ℕ) (i : ℕ) (t u : Test) → t ≡ u → Opcode ws i (test_opcode t) → Opcode ws i (test_opcode u)
 test_moved ws i t u e x = let P : Test → Type 0 = λ y. Opcode ws i (test_opcode y) in subst P e x
 
-test_same : (t u : Test) (ws : List ℕ) (i j k : ℕ) → Opcode ws i (test_opcode t) → TestOperands ws i j t → Opcode ws i (test_opcode u) → TestOperands ws i k u → (t ≡ u) × (j ≡ k)
+pub test_same : (t u : Test) (ws : List ℕ) (i j k : ℕ) → Opcode ws i (test_opcode t) → TestOperands ws i j t → Opcode ws i (test_opcode u) → TestOperands ws i k u → (t ≡ u) × (j ≡ k)
 test_same Any u ws i j k w r x s = let f = is_any ws i k u (test_here ws i Any w) x s in (sym f.0, r ∙ sym f.1)
 test_same AnyAll u ws i j k w r x s = let f = is_any_all ws i k u (test_here ws i AnyAll w) x s in (sym f.0, r ∙ sym f.1)
 test_same (InCategory c) u ws i j k w r x s =

@@ -2,11 +2,15 @@
 use Rattle.std.proofs.Common.{ℕ, ◌≡◌, ◌<◌, ◌≤◌, List, [], ◌∷◌, length, slice_index_or, refl, sym, ◌∙◌, ap, subst, arith}
 use Rattle.std.proofs.lemmas.Option.{get_or_from_slice_get, slice_get-get_or, slice_get_within}
 use Rattle.std.proofs.lemmas.List.{get_or_past}
-use Rattle.sre_chars.specs.Numbers.{opcode_number}
+use Rattle.sre_chars.specs.Numbers.{opcode_number, at_number, category_number}
 use Rattle.sre_chars.specs.declared.constants.SreOpcode.{SreOpcode}
 use Rattle.sre_chars.specs.declared.constants.SreOpcode.TheVariants as opcode
+use Rattle.sre_chars.specs.declared.constants.SreAtCode.{SreAtCode}
+use Rattle.sre_chars.specs.declared.constants.SreAtCode.TheVariants as at
+use Rattle.sre_chars.specs.declared.constants.SreCatCode.{SreCatCode}
+use Rattle.sre_chars.specs.declared.constants.SreCatCode.TheVariants as category
 use Rattle.sre_engine.specs.Grammar.{Word, word, Opcode}
-use Rattle.sre_engine.specs.Steps.{NoOpcode}
+use Rattle.sre_engine.specs.Reading.{NoCode}
 
 pub same_word : (ws : List ℕ) (i a b : ℕ) → Word ws i a → Word ws i b → a ≡ b
 same_word ws i a b p q = cc
@@ -30,7 +34,7 @@ pub word_moved : (ws : List ℕ) (i k v : ℕ) → i ≡ k → Word ws i v → W
 word_moved ws i k v e w = let P : ℕ → Type 0 = λ n. Word ws n v in subst P e w
 
 -- the opcodes, in the order of their numbers
-abbrev opcodes : List SreOpcode
+abbrev pub opcodes : List SreOpcode
 opcodes =
     opcode.FAILURE ∷ opcode.SUCCESS ∷ opcode.ANY ∷ opcode.ANY_ALL ∷ opcode.ASSERT ∷ opcode.ASSERT_NOT ∷ opcode.AT ∷ opcode.BRANCH
     ∷ opcode.CATEGORY ∷ opcode.CHARSET ∷ opcode.BIGCHARSET ∷ opcode.GROUPREF ∷ opcode.GROUPREF_EXISTS ∷ opcode.IN ∷ opcode.INFO ∷ opcode.JUMP
@@ -40,7 +44,7 @@ opcodes =
     ∷ opcode.GROUPREF_LOC_IGNORE ∷ opcode.IN_LOC_IGNORE ∷ opcode.LITERAL_LOC_IGNORE ∷ opcode.NOT_LITERAL_LOC_IGNORE
     ∷ opcode.GROUPREF_UNI_IGNORE ∷ opcode.IN_UNI_IGNORE ∷ opcode.LITERAL_UNI_IGNORE ∷ opcode.NOT_LITERAL_UNI_IGNORE ∷ opcode.RANGE_UNI_IGNORE ∷ []
 
-opcode_back : (o : SreOpcode) → slice_index_or opcodes (opcode_number o) opcode.FAILURE ≡ o
+pub opcode_back : (o : SreOpcode) → slice_index_or opcodes (opcode_number o) opcode.FAILURE ≡ o
 opcode_back opcode.FAILURE = refl
 opcode_back o = refl
 
@@ -61,12 +65,26 @@ opcode_within ws i o a = word_within ws i (opcode_number o) a
 pub opcode_moved : (ws : List ℕ) (i k : ℕ) (o : SreOpcode) → i ≡ k → Opcode ws i o → Opcode ws k o
 opcode_moved ws i k o e a = word_moved ws i k (opcode_number o) e a
 
--- what reading an opcode answers
-pub opcode_there : (ws : List ℕ) (i v : ℕ) (o : SreOpcode) → i < length ws → v ≡ word ws i → opcode_number o ≡ v → Opcode ws i o
-opcode_there ws i v o there e n = word_at ws i (opcode_number o) there (sym e ∙ sym n)
+at_low : (a : SreAtCode) → at_number a < 12
+at_low at.BEGINNING = omega arith
+at_low a = omega arith
 
-pub opcode_past : (ws : List ℕ) (i : ℕ) → length ws ≤ i → NoOpcode ws i
-opcode_past ws i le = record { none = λ o a. omega (arith, opcode_within ws i o a) }
+category_low : (c : SreCatCode) → category_number c < 18
+category_low category.DIGIT = omega arith
+category_low c = omega arith
 
-pub opcode_unknown : (ws : List ℕ) (i v : ℕ) → v ≡ word ws i → 43 ≤ v → NoOpcode ws i
+-- what reading a code answers
+pub number_there : (ws : List ℕ) (i v n : ℕ) → i < length ws → v ≡ word ws i → n ≡ v → Word ws i n
+number_there ws i v n there e same = word_at ws i n there (sym e ∙ sym same)
+
+pub code_past : {C : Type 0} (number : C → ℕ) (ws : List ℕ) (i : ℕ) → length ws ≤ i → NoCode number ws i
+code_past number ws i le = record { none = λ c a. omega (arith, word_within ws i (number c) a) }
+
+pub opcode_unknown : (ws : List ℕ) (i v : ℕ) → v ≡ word ws i → 43 ≤ v → NoCode opcode_number ws i
 opcode_unknown ws i v e le = record { none = λ o a. omega (arith, word_of ws i (opcode_number o) a, opcode_low o) }
+
+pub at_unknown : (ws : List ℕ) (i v : ℕ) → v ≡ word ws i → 12 ≤ v → NoCode at_number ws i
+at_unknown ws i v e le = record { none = λ o a. omega (arith, word_of ws i (at_number o) a, at_low o) }
+
+pub category_unknown : (ws : List ℕ) (i v : ℕ) → v ≡ word ws i → 18 ≤ v → NoCode category_number ws i
+category_unknown ws i v e le = record { none = λ o a. omega (arith, word_of ws i (category_number o) a, category_low o) }

@@ -2,6 +2,8 @@
 use Rattle.std.specs.Prelude.{ℕ, List, [], Option}
 use Rattle.sre_chars.specs.declared.string.StringCursor.{StringCursor}
 use Rattle.sre_engine.specs.Marks.{Marks}
+pub use Rattle.sre_engine.specs.declared.engine.board.Point.{Point}
+pub use Rattle.sre_engine.specs.declared.engine.board.Point.TheVariants.{Instruction, Alternatives, Shorter}
 
 -- a loop in progress: where its REPEAT stands, its bodies so far, and where the last one beyond the least count began
 pub record Frame : Type 0 where
@@ -9,20 +11,16 @@ pub record Frame : Type 0 where
   pub count : ℕ
   pub last : Option ℕ
 
--- where the machine can go on: at an instruction
-pub data Point : Type 0 where
-  Instruction : ℕ → Point
-
 -- what is still to be tried: another point, under other loops and marks
 pub data Choice : Type 0 where
   Else : Point → List Frame → StringCursor → Marks → Choice
 
 -- the loops in progress, innermost first, the marks, and the choices, newest first
-pub record Board : Type 0 where
+pub record BoardValue : Type 0 where
   pub frames : List Frame
   pub marks : Marks
   pub choices : List Choice
 
 -- these marks, and nothing else
-abbrev pub bare : Marks → Board
+abbrev pub bare : Marks → BoardValue
 bare m = record { frames = []; marks = m; choices = [] }

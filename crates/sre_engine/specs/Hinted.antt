@@ -8,6 +8,10 @@ use Rattle.sre_engine.specs.declared.code.Hints.{Hints}
 abbrev pub IsCode : List ℕ → Type 0
 IsCode words = (tree : Tree) × Whole words tree
 
+-- the words have one tree at most
+abbrev pub HasOneTree : List ℕ → Type 0
+HasOneTree words = (t u : Tree) → Whole words t → Whole words u → t ≡ u
+
 -- each hint is there exactly where it is confirmed, which none is
 abbrev pub Confirmed : List ℕ → Tree → Hints → Type 0
 Confirmed words tree hints = hints ≡ record { width = None; prefix = None; literal = false; first_set = false }

@@ -13,10 +13,15 @@ pub mod Rows
 pub mod RowsOfWalks
 pub mod Refusals
 pub mod Hinted
+pub mod Reading
 pub mod Steps
 pub mod Walks
 pub mod Codes
 pub mod Board
+pub mod Trail
+pub mod Choices
 pub mod Machine
+pub mod Standing
+pub mod Counting
 pub mod Requests
 pub mod Answers

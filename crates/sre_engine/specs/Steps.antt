@@ -1,61 +1,29 @@
 -- Steps of the check: what is left to read of an item or a part, and what the answers say of it.
-use Rattle.std.specs.Prelude.{ℕ, ◌+◌, ◌≡◌, ◌<◌, ◌≤◌, List, length, Option, Some, None, Result, Ok, Err}
-use Rattle.sre_chars.specs.declared.constants.SreOpcode.{SreOpcode}
+use Rattle.std.specs.Prelude.{ℕ, ◌+◌, ◌≡◌, ◌<◌, ◌≤◌, ◌⊎◌, min, List, length, Option, Some, None, Result, Ok, Err}
 use Rattle.sre_chars.specs.declared.constants.SreOpcode.TheVariants as opcode
-use Rattle.sre_engine.specs.Tree.{Tree, Empty, Item, Test}
-use Rattle.sre_engine.specs.Grammar.{word, Opcode, Reads, ReadsItem, test_opcode, TestOperands, IsBuiltTest}
-use Rattle.sre_engine.specs.Width.{held, width, item_width}
-use Rattle.sre_engine.specs.Refusals.{place_of}
+use Rattle.sre_engine.specs.Tree.{Tree, Empty, Item, Trees}
+use Rattle.sre_engine.specs.Grammar.{Word, Opcode, JumpsTo, Reads, ReadsItem, ReadsBranch}
+use Rattle.sre_engine.specs.Width.{held, width, item_width, least_width}
+use Rattle.sre_engine.specs.Reading.{Within}
 use Rattle.sre_engine.specs.declared.code.error.CodeError.{CodeError}
 use Rattle.sre_engine.specs.declared.code.step.Part.{Part}
-use Rattle.sre_engine.specs.declared.code.step.Part.TheVariants.{Whole}
+use Rattle.sre_engine.specs.declared.code.step.Part.TheVariants.{Whole, Alternative}
+use Rattle.sre_engine.specs.declared.code.step.Bounds.{Bounds}
 use Rattle.sre_engine.specs.declared.code.step.Step.{Step}
 use Rattle.sre_engine.specs.declared.code.step.Step.TheVariants.{Past, Opens}
-
--- the place of a fault is at most the number of words
-abbrev pub Within : List ℕ → CodeError → Type 0
-Within ws e = place_of e ≤ length ws
-
--- the word at i, where it is there
-abbrev pub OperandAt : List ℕ → ℕ → Result ℕ CodeError → Type 0
-OperandAt ws i (Ok v) = (i < length ws) × (v ≡ word ws i)
-OperandAt ws i (Err e) = (length ws ≤ i) × Within ws e
-
--- no opcode is at i
-pub record NoOpcode (ws : List ℕ) (i : ℕ) : Type 0 where
-  pub none : (o : SreOpcode) → Opcode ws i o → ⊥
-
--- the opcode at i, where one is there
-abbrev pub OpcodeAt : List ℕ → ℕ → Result SreOpcode CodeError → Type 0
-OpcodeAt ws i (Ok o) = (i < length ws) × Opcode ws i o
-OpcodeAt ws i (Err e) = NoOpcode ws i × Within ws e
-
--- the words of [i, j) are a test
-abbrev pub ReadsTest : List ℕ → ℕ → ℕ → Test → Type 0
-ReadsTest ws i j t = Opcode ws i (test_opcode t) × TestOperands ws i j t × IsBuiltTest t
-
--- a test is at i and ends at j, as each test there does
-pub record TestExactly (ws : List ℕ) (i j : ℕ) : Type 0 where
-  pub test : Test
-  pub reads : ReadsTest ws i j test
-  pub only : (k : ℕ) (t : Test) → ReadsTest ws i k t → k ≡ j
-
--- no test is at i
-pub record NoTest (ws : List ℕ) (i : ℕ) : Type 0 where
-  pub none : (k : ℕ) (t : Test) → ReadsTest ws i k t → ⊥
-
--- where the test at i ends, or that none is there
-abbrev pub TestEnds : List ℕ → ℕ → Result ℕ CodeError → Type 0
-TestEnds ws i (Ok j) = (i < j) × TestExactly ws i j
-TestEnds ws i (Err e) = NoTest ws i × Within ws e
 
 -- an item of width w is at i and ends at j
 abbrev pub ItemAt : List ℕ → ℕ → ℕ → ℕ → Type 0
 ItemAt ws i j w = (item : Item) × ReadsItem ws i j item × (w ≡ item_width item)
 
+-- after an alternative of a branch with that tail, from the next length word on; the least width so far becomes w
+abbrev pub More : List ℕ → ℕ → ℕ → ℕ → ℕ → Type 0
+More ws q tail least w = (Word ws q 0 × (tail ≡ q + 1) × (w ≡ least)) ⊎ ((ts : Trees) × ReadsBranch ws q tail ts × (w ≡ min least (least_width ts)))
+
 -- a part whose items have been read up to k and have width u is closed there; what it belongs to ends at j and has width w
 abbrev pub Closes : List ℕ → Part → ℕ → ℕ → ℕ → ℕ → Type 0
 Closes ws Whole k u j w = Opcode ws k opcode.SUCCESS × (k + 1 ≡ length ws) × (j ≡ k + 1) × (w ≡ u)
+Closes ws (Alternative end tail least) k u j w = (k ≡ end) × JumpsTo ws k tail × More ws (k + 2) tail (min least u) w × (j ≡ tail)
 
 -- the words from i on are what is left of a part whose items so far have width a
 abbrev pub Finishes : List ℕ → Part → ℕ → ℕ → ℕ → ℕ → Type 0
@@ -114,3 +82,29 @@ abbrev pub Closing : List ℕ → Part → ℕ → ℕ → Result (Option Step) 
 Closing ws part i u (Ok None) = IsInside ws part i
 Closing ws part i u (Ok (Some s)) = IsEnd ws part i × Leaves ws i s × Exactly ws s (Closes ws part i u)
 Closing ws part i u (Err e) = Unclosed ws part i u e
+
+-- what closes a part that is known to end at i
+abbrev pub Ends : List ℕ → ℕ → (ℕ → ℕ → Type 0) → Result Step CodeError → Type 0
+Ends ws i P (Ok s) = Leaves ws i s × Exactly ws s P
+Ends ws i P (Err e) = Nowhere P × Within ws e
+
+-- what comes after an alternative, where the item ends at the tail
+abbrev pub MoreAt : List ℕ → ℕ → ℕ → ℕ → ℕ → ℕ → Type 0
+MoreAt ws q tail least j w = More ws q tail least w × (j ≡ tail)
+
+-- alternatives from the length word at q on, where those before have that least width
+abbrev pub TreesAt : List ℕ → ℕ → ℕ → ℕ → ℕ → Type 0
+TreesAt ws q least j w = (ts : Trees) × ReadsBranch ws q j ts × (w ≡ min least (least_width ts))
+
+-- an alternative is at q, and where it ends and leads
+pub record BoundsExactly (ws : List ℕ) (q : ℕ) (bounds : Bounds) : Type 0 where
+  pub opens : (least : ℕ) → Exactly ws (Opens (Alternative bounds.end bounds.tail least) (q + 1)) (TreesAt ws q least)
+
+-- no alternative is at q
+pub record NoTrees (ws : List ℕ) (q : ℕ) : Type 0 where
+  pub none : (j : ℕ) (ts : Trees) → ReadsBranch ws q j ts → ⊥
+
+-- the bounds of the alternative at q, where one is there
+abbrev pub BoundsAt : List ℕ → ℕ → Result Bounds CodeError → Type 0
+BoundsAt ws q (Ok bounds) = (q < length ws) × BoundsExactly ws q bounds
+BoundsAt ws q (Err e) = NoTrees ws q × Within ws e

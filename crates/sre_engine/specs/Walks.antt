@@ -4,7 +4,8 @@ use Rattle.sre_chars.specs.declared.constants.SreOpcode.TheVariants as opcode
 use Rattle.sre_engine.specs.Tree.{Tree}
 use Rattle.sre_engine.specs.Grammar.{Opcode, Reads}
 use Rattle.sre_engine.specs.Width.{held, width}
-use Rattle.sre_engine.specs.Steps.{Within, Finishes}
+use Rattle.sre_engine.specs.Reading.{Within}
+use Rattle.sre_engine.specs.Steps.{Finishes}
 use Rattle.sre_engine.specs.declared.code.error.CodeError.{CodeError}
 use Rattle.sre_engine.specs.declared.code.error.CodeError.TheVariants.{Memory}
 use Rattle.sre_engine.specs.declared.code.step.Open.{Open}

@@ -8,12 +8,15 @@
 ghost use Rattle.std.specs.Prelude.{◌≡◌, ◌≢◌, ◌≤◌, ℕ, List, length, IfOk, IfErr, OnOk};
 ghost use Rattle.sre_engine.specs.Tree.{Tree};
 ghost use Rattle.sre_engine.specs.Grammar.{Whole};
-ghost use Rattle.sre_engine.specs.Hinted.{IsCode, Confirmed};
+ghost use Rattle.sre_engine.specs.Hinted.{IsCode, HasOneTree, Confirmed};
 ghost use Rattle.sre_engine.specs.Refusals.{place_of};
 
+mod branch;
+mod character;
 mod error;
 mod item;
 mod part;
+mod set;
 mod step;
 #[cfg(test)]
 mod tests;
@@ -86,11 +89,12 @@ impl<'a> Code<'a> {
         Ok(Code { words, uni, hints })
     }
 
-    /// The words, to which the grammar relates a tree.
+    /// The words, to which the grammar relates exactly one tree.
     #[inline(always)]
     pub fn words(&self) -> &'a [u32]
         ensures same { result.now ≡ words_of self.now }
         ensures tree { IsCode result.now }
+        ensures one { HasOneTree result.now }
     {
         self.words
     }

@@ -1,13 +1,25 @@
 //! The machine, and what is asked of it.
 
+mod board;
 mod machine;
 mod marks;
+mod one_character;
+mod operands;
+mod position;
 mod request;
+mod runs;
+mod set;
 mod state;
+mod trail;
+mod turns;
 
 pub use marks::Marks;
 pub use request::Request;
 pub use state::{SreError, State};
 
+#[cfg(test)]
+mod match_tests;
+#[cfg(test)]
+mod search_tests;
 #[cfg(test)]
 mod tests;

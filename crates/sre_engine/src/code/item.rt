@@ -1,37 +1,28 @@
 //! Items, by their opcodes.
 
 ghost use Rattle.sre_engine.specs.Grammar.{Opcode};
-ghost use Rattle.sre_engine.specs.Steps.{TestEnds, Gives, ItemAt, ItemGives};
+ghost use Rattle.sre_engine.specs.Steps.{Gives, ItemAt, ItemGives};
 
 use crate::code::error::CodeError;
 use crate::code::step::Step;
-use crate::code::words;
+use crate::code::{branch, character, words};
 use sre_chars::constants::SreOpcode;
 
-/// `<LITERAL> <value>`
-#[tactic(auto, using(crate::proofs::Characters::literal_exactly, crate::proofs::Characters::literal_short))]
-fn literal(words: &[u32], place: usize) -> Result<usize, CodeError>
-    requires { Opcode words.now place SreOpcode.LITERAL }
-    ensures { TestEnds words.now place result }
+/// `<AT> <position>`
+#[tactic(auto, using(crate::proofs::Items::at_exactly, crate::proofs::Items::at_cut))]
+fn at(words: &[u32], place: usize) -> Result<Step, CodeError>
+    requires { Opcode words.now place SreOpcode.AT }
+    ensures { Gives words.now place (ItemAt words.now place) result }
 {
-    words::operand(words, place + 1)?;
-    Ok(place + 2)
-}
-
-/// Where the test of one character at this place ends.
-#[tactic(auto, using(crate::proofs::Characters::no_test))]
-fn test(words: &[u32], place: usize, code: SreOpcode) -> Result<usize, CodeError>
-    requires { Opcode words.now place code }
-    ensures { TestEnds words.now place result }
-{
-    match code {
-        SreOpcode::LITERAL => literal(words, place),
-        _ => Err(CodeError::BadItem(place)),
-    }
+    words::position(words, place + 1)?;
+    Ok(Step::Past {
+        place: place + 2,
+        width: 0,
+    })
 }
 
 /// `<MARK> <number>`
-#[tactic(auto, using(crate::proofs::Items::mark_exactly, crate::proofs::Items::mark_short))]
+#[tactic(auto, using(crate::proofs::Items::mark_exactly, crate::proofs::Items::mark_cut))]
 fn mark(words: &[u32], place: usize) -> Result<Step, CodeError>
     requires { Opcode words.now place SreOpcode.MARK }
     ensures { Gives words.now place (ItemAt words.now place) result }
@@ -43,16 +34,49 @@ fn mark(words: &[u32], place: usize) -> Result<Step, CodeError>
     })
 }
 
+/// `<REPEAT_ONE> <skip> <least count> <greatest count> <test> <SUCCESS>`
+#[tactic(auto, using(crate::proofs::Runs::run_exactly, crate::proofs::Runs::run_short, crate::proofs::Runs::run_counts, crate::proofs::Runs::run_no_opcode, crate::proofs::Runs::run_nowhere, crate::proofs::Runs::run_open, crate::proofs::Runs::run_ends_cut, crate::proofs::Runs::run_skip))]
+fn run(words: &[u32], place: usize) -> Result<Step, CodeError>
+    requires { Opcode words.now place SreOpcode.REPEAT_ONE }
+    ensures { Gives words.now place (ItemAt words.now place) result }
+{
+    let tail = words::skip(words, place + 1)?;
+    let low = words::operand(words, place + 2)?;
+    let high = words::operand(words, place + 3)?;
+    if low > high {
+        return Err(CodeError::BadCounts(place + 2));
+    }
+    let code = words::opcode(words, place + 4)?;
+    let end = character::test(words, place + 4, code)?;
+    let SreOpcode::SUCCESS = words::opcode(words, end)? else {
+        return Err(CodeError::BadItem(end));
+    };
+    if tail != end + 1 {
+        return Err(CodeError::BadSkip(place + 1));
+    }
+    Ok(Step::Past {
+        place: tail,
+        width: low,
+    })
+}
+
 /// The item at this place.
-#[tactic(auto, using(crate::proofs::Items::one_exactly, crate::proofs::Items::one_nowhere, crate::proofs::Items::no_opcode))]
+#[tactic(auto, using(crate::proofs::Items::fail_exactly, crate::proofs::Items::one_nowhere, crate::proofs::Items::no_opcode))]
 pub fn item(words: &[u32], place: usize) -> Result<Step, CodeError>
     ensures { ItemGives words.now place result }
 {
     let code = words::opcode(words, place)?;
     match code {
+        SreOpcode::FAILURE => Ok(Step::Past {
+            place: place + 1,
+            width: 0,
+        }),
+        SreOpcode::AT => at(words, place),
         SreOpcode::MARK => mark(words, place),
+        SreOpcode::BRANCH => branch::branch(words, place),
+        SreOpcode::REPEAT_ONE => run(words, place),
         _ => Ok(Step::Past {
-            place: test(words, place, code)?,
+            place: character::test(words, place, code)?,
             width: 1,
         }),
     }

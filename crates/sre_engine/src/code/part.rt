@@ -4,8 +4,8 @@ ghost use Rattle.std.specs.Prelude.{◌≡◌};
 ghost use Rattle.sre_engine.specs.Steps.{Closing};
 
 use crate::code::error::CodeError;
-use crate::code::step::{Part, Step};
-use crate::code::words;
+use crate::code::step::{Bounds, Part, Step};
+use crate::code::{branch, words};
 use sre_chars::constants::SreOpcode;
 
 /// SUCCESS, as the last word.
@@ -33,5 +33,8 @@ pub fn close(words: &[u32], place: usize, part: Part, width: u32) -> Result<Opti
 {
     match part {
         Part::Whole => whole(words, place, width),
+        Part::Alternative { end, tail, least } => {
+            branch::alternative(words, place, Bounds { end, tail }, least, width)
+        }
     }
 }

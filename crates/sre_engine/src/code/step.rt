@@ -5,6 +5,8 @@
 pub enum Part {
     /// All the words: SUCCESS as the last one.
     Whole,
+    /// An alternative of a BRANCH: JUMP at `end`, to `tail`; `least` is the least width of those before.
+    Alternative { end: usize, tail: usize, least: u32 },
 }
 
 /// An open part, and the least width of its items so far.
@@ -28,4 +30,11 @@ pub enum Step {
 pub struct Reached {
     pub place: usize,
     pub width: u32,
+}
+
+/// Where an alternative's JUMP stands, and where it leads.
+#[derive(Clone, Copy)]
+pub struct Bounds {
+    pub end: usize,
+    pub tail: usize,
 }

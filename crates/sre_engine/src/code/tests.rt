@@ -17,11 +17,22 @@ fn lawful_words(rt: HostRuntime) {
         literal: false,
         first_set: false,
     };
-    let lawful: [&[u32]; 4] = [
+    let lawful: [&[u32]; 15] = [
         &[1],
         &[16, 97, 1],
         &[17, 3, 1],
         &[17, 0, 16, 97, 17, 1, 16, 98, 1],
+        &[0, 1],
+        &[2, 3, 8, 17, 20, 97, 1],
+        &[6, 11, 6, 0, 1],
+        &[13, 4, 16, 97, 0, 1],
+        &[13, 10, 22, 97, 122, 8, 0, 16, 95, 21, 0, 1],
+        &[13, 11, 9, 0, 0, 0, 2, 0, 0, 0, 0, 0, 1],
+        &[7, 5, 16, 97, 15, 9, 7, 16, 97, 16, 98, 15, 2, 0, 1],
+        &[7, 3, 15, 2, 0, 1],
+        &[7, 8, 7, 3, 15, 2, 0, 15, 2, 0, 1],
+        &[24, 6, 0, 4294967295, 16, 97, 1, 1],
+        &[24, 9, 0, 1, 13, 4, 16, 97, 0, 1, 1],
     ];
     for words in lawful {
         match Code::check(alloc, words, &table) {
@@ -38,19 +49,42 @@ fn lawful_words(rt: HostRuntime) {
 #[test]
 fn kinds_and_places(rt: HostRuntime) {
     let alloc = rt.alloc();
-    let refused: [(&[u32], CodeError); 12] = [
+    let refused: [(&[u32], CodeError); 32] = [
         (&[], CodeError::Truncated(0)),
         (&[16], CodeError::Truncated(1)),
         (&[16, 97], CodeError::Truncated(2)),
         (&[17, 0, 17], CodeError::Truncated(3)),
+        (&[24, 6, 0], CodeError::Truncated(3)),
+        (&[7, 5, 16, 97], CodeError::Truncated(4)),
         (&[16, 97, 1, 1], CodeError::TrailingWords(3)),
         (&[1, 43], CodeError::TrailingWords(1)),
         (&[43, 1], CodeError::UnknownOpcode(0)),
         (&[16, 97, 4294967295, 1], CodeError::UnknownOpcode(2)),
+        (&[6, 12, 1], CodeError::UnknownAt(1)),
+        (&[8, 18, 1], CodeError::UnknownCategory(1)),
+        (&[13, 4, 8, 18, 0, 1], CodeError::UnknownCategory(3)),
+        (&[13, 2, 1, 1], CodeError::BadSet(2)),
+        (&[13, 1, 0, 1], CodeError::BadSkip(1)),
+        (&[24, 5, 0, 1, 16, 97, 1, 1], CodeError::BadSkip(1)),
+        (&[7, 5, 16, 97, 15, 3, 0, 1], CodeError::BadSkip(6)),
+        (
+            &[7, 5, 16, 97, 15, 8, 5, 16, 98, 15, 2, 0, 1],
+            CodeError::BadSkip(6),
+        ),
+        (&[24, 6, 2, 1, 16, 97, 1, 1], CodeError::BadCounts(2)),
         (&[25, 1], CodeError::BadItem(0)),
-        (&[16, 97, 15, 1], CodeError::BadItem(2)),
+        (&[15, 1, 1], CodeError::BadItem(0)),
         (&[9, 1], CodeError::BadItem(0)),
         (&[18, 1], CodeError::BadItem(0)),
+        (&[7, 0, 1], CodeError::BadItem(1)),
+        (&[7, 5, 16, 97, 1, 2, 0, 1], CodeError::BadItem(4)),
+        (&[24, 6, 0, 1, 16, 97, 0, 1], CodeError::BadItem(6)),
+        (&[24, 6, 0, 1, 17, 0, 1, 1], CodeError::BadItem(4)),
+        (&[32, 97, 1], CodeError::BadItem(0)),
+        (&[13, 4, 16, 97, 1, 1], CodeError::BadSet(4)),
+        (&[13, 4, 2, 2, 0, 1], CodeError::BadSet(2)),
+        (&[13, 3, 16, 0, 1], CodeError::BadSet(3)),
+        (&[13, 5, 42, 0, 0, 0, 1], CodeError::BadSet(2)),
     ];
     for (words, error) in refused {
         assert_eq!(rt; refusal(alloc, words), Some(error));

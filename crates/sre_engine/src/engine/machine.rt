@@ -1,26 +1,26 @@
-//! The machine: a backtracking run over the words, one turn after another and with no recursion.
+//! The machine: a turn of a backtracking run over the words, with no recursion.
 //!
 //! It rests on two facts alone: the text is lawful, and the words have a tree. So it has no test for bad words.
-//! Each opcode's function says that the accepted outcomes of the whole stay what they were, in one turn less.
+//! Each opcode's function says that the accepted outcomes of the whole stay what they were, in one turn less. What is
+//! still to be tried waits on the board, and a choice of which nothing can come is not put there.
 
-ghost use Rattle.std.specs.Prelude.{◌≡◌, ℕ, ◌+◌, ◌-◌, ◌<◌, ◌≤◌, ◌^◌, ◌∷◌, [], List, length, IfOk, MatchOption, nat_eq};
-ghost use Rattle.sre_engine.specs.Marks.{no_marks};
-ghost use Rattle.sre_engine.specs.Ways.{Way, ways};
+ghost use Rattle.std.specs.Prelude.{◌≡◌, ℕ, ◌+◌, ◌^◌, ◌<◌, ◌≤◌, [], List, length, IfOk, MatchOption, true};
 ghost use Rattle.sre_engine.specs.Subject.{char_at};
-ghost use Rattle.sre_engine.specs.Grammar.{Word, Opcode, Whole};
-ghost use Rattle.sre_engine.specs.Tree.{Tree};
-ghost use Rattle.sre_engine.specs.Board.{Board, bare};
-ghost use Rattle.sre_engine.specs.Machine.{IsAt, Advances, Stands, SaysAccepted, Decides, outcomes};
+ghost use Rattle.sre_engine.specs.Ways.{Way};
+ghost use Rattle.sre_engine.specs.Grammar.{Word, word, Opcode};
+ghost use Rattle.sre_engine.specs.Board.{Point, Instruction, Alternatives, Shorter, BoardValue};
+ghost use Rattle.sre_engine.specs.Machine.{family, Testing, HasRun, IsBack, Advances, Chooses, Retreats, Refuses, Skips, SkipsBoth, Stands};
 ghost use Rattle.sre_engine.specs.Requests.{end_of, run_of};
 
-use crate::engine::marks::Marks;
+use crate::engine::board::{Board, Point};
+use crate::engine::one_character::{takes, test_end};
+use crate::engine::position::holds_at;
 use crate::engine::request::Request;
-use sre_chars::constants::SreOpcode;
+use crate::engine::runs::longest_run;
+use sre_chars::constants::{SreAtCode, SreOpcode};
 use sre_chars::string::{StrDrive, StringCursor};
 use std::alloc::{AllocError, Allocator};
 use std::convert::TryFrom;
-use std::marker::{Brand, Model};
-use std::sync::ledger::{Blank, Book, Ledger, Share};
 
 /// What comes after a turn: an instruction, the newest choice, or the end of the innermost region.
 #[derive(Clone, Copy)]
@@ -32,11 +32,14 @@ pub(crate) enum Next {
 
 // The word at a place.
 #[inline(always)]
-fn word<S: StrDrive>(req: &Request<'_, S>, place: usize) -> u32
+fn word_at<S: StrDrive>(req: &Request<'_, S>, place: usize) -> u32
     requires { place < length (run_of req.now).words }
-    ensures { Word (run_of req.now).words place result }
+    ensures word { Word (run_of req.now).words place result }
+    ensures room { place + 2 ^ 33 < 2 ^ 64 }
 {
-    req.pattern_codes().words()[place]
+    let words = req.pattern_codes().words();
+    let _length = words.len();
+    words[place]
 }
 
 // The word some places on.
@@ -54,10 +57,11 @@ fn operand<S: StrDrive>(req: &Request<'_, S>, place: usize, offset: usize) -> u3
 // The opcode at a place that the machine has come to.
 #[inline(always)]
 fn opcode<S: StrDrive>(req: &Request<'_, S>, place: usize, cursor: StringCursor) -> SreOpcode
-    requires { (b : Board) × IsAt (run_of req.now) place cursor b }
-    ensures { Opcode (run_of req.now).words place result }
+    requires { HasRun (run_of req.now) (Instruction place) cursor }
+    ensures code { Opcode (run_of req.now).words place result }
+    ensures room { place + 2 ^ 33 < 2 ^ 64 }
 {
-    match SreOpcode::try_from(word(req, place)) {
+    match SreOpcode::try_from(word_at(req, place)) {
         Ok(opcode) => opcode,
         Err(_) => unreachable!(),
     }
@@ -65,7 +69,7 @@ fn opcode<S: StrDrive>(req: &Request<'_, S>, place: usize, cursor: StringCursor)
 
 // The character at a cursor that stands before the window's end, and the cursor behind it.
 #[inline(always)]
-fn read<S: StrDrive>(req: &Request<'_, S>, cursor: StringCursor) -> (u32, StringCursor)
+pub(crate) fn read<S: StrDrive>(req: &Request<'_, S>, cursor: StringCursor) -> (u32, StringCursor)
     requires stands { (run_of req.now).stands cursor cursor.position }
     requires inside { cursor.position < end_of req.now }
     ensures character { result.0 ≡ char_at (run_of req.now).subject cursor.position }
@@ -77,22 +81,59 @@ fn read<S: StrDrive>(req: &Request<'_, S>, cursor: StringCursor) -> (u32, String
     (character, after)
 }
 
-/// `LITERAL value`: the character is passed where it is the value.
+// The cursor one character back.
 #[inline(always)]
-fn literal<S: StrDrive>(req: &Request<'_, S>, place: usize, cursor: StringCursor) -> Next
-    requires opcode { Opcode (run_of req.now).words place SreOpcode.LITERAL }
-    requires stands { (b : Board) × IsAt (run_of req.now) place cursor b }
-    ensures { (b : Board) → Advances (run_of req.now) place cursor b result b }
+fn back_one<S: StrDrive>(req: &Request<'_, S>, cursor: StringCursor) -> StringCursor
+    requires stands { (run_of req.now).stands cursor cursor.position }
+    requires past { 1 ≤ cursor.position }
+    ensures position { cursor.position ≡ result.position + 1 }
+    ensures stands { (run_of req.now).stands result result.position }
 {
-    let value = operand(req, place, 1);
+    let mut before = cursor;
+    req.string().back_skip(&mut before, 1);
+    before
+}
+
+/// A test of one character, which is passed where the test takes it.
+#[inline(always)]
+fn test<S: StrDrive>(
+    req: &Request<'_, S>,
+    opcode: SreOpcode,
+    place: usize,
+    cursor: StringCursor,
+) -> Next
+    requires opcode { Opcode (run_of req.now).words place opcode }
+    requires tests { family opcode ≡ Testing }
+    requires stands { HasRun (run_of req.now) (Instruction place) cursor }
+    ensures { (b : BoardValue) → Advances (run_of req.now) (Instruction place) cursor b result b }
+{
     if cursor.position() >= req.end() {
         return Next::Back;
     }
     let (character, after) = read(req, cursor);
-    if character == value {
-        Next::At(place + 2, after)
+    if takes(req, place, opcode, character) {
+        Next::At(test_end(req, place, opcode), after)
     } else {
         Next::Back
+    }
+}
+
+/// `AT code`: goes on where the cursor stands as the code asks.
+#[inline(always)]
+fn at<S: StrDrive>(req: &Request<'_, S>, place: usize, cursor: StringCursor) -> Next
+    requires opcode { Opcode (run_of req.now).words place SreOpcode.AT }
+    requires stands { HasRun (run_of req.now) (Instruction place) cursor }
+    ensures { (b : BoardValue) → Advances (run_of req.now) (Instruction place) cursor b result b }
+{
+    match SreAtCode::try_from(operand(req, place, 1)) {
+        Ok(code) => {
+            if holds_at(req, code, cursor) {
+                Next::At(place + 2, cursor)
+            } else {
+                Next::Back
+            }
+        }
+        Err(_) => unreachable!(),
     }
 }
 
@@ -100,143 +141,280 @@ fn literal<S: StrDrive>(req: &Request<'_, S>, place: usize, cursor: StringCursor
 #[inline(always)]
 fn mark<S: StrDrive, A: Allocator>(
     req: &Request<'_, S>,
-    marks: &mut Marks<A>,
+    board: &mut Board<A>,
     place: usize,
     cursor: StringCursor,
 ) -> Result<Next, AllocError>
     requires opcode { Opcode (run_of req.now).words place SreOpcode.MARK }
-    requires stands { IsAt (run_of req.now) place cursor (bare marks.old) }
-    ensures { IfOk result (λ next. Advances (run_of req.now) place cursor (bare marks.old) next (bare marks.new)) }
+    requires stands { HasRun (run_of req.now) (Instruction place) cursor }
+    ensures { IfOk result (λ next. Advances (run_of req.now) (Instruction place) cursor board.old next board.new) }
 {
     let n = operand(req, place, 1);
-    marks.set(n, cursor.position())?;
+    board.set(n, cursor.position())?;
     Ok(Next::At(place + 2, cursor))
 }
 
-/// One instruction.
+/// `JUMP skip`: goes on where the skip leads.
 #[inline(always)]
-fn instruction<S: StrDrive, A: Allocator>(
-    req: &Request<'_, S>,
-    marks: &mut Marks<A>,
-    place: usize,
-    cursor: StringCursor,
-) -> Result<Next, AllocError>
-    requires { IsAt (run_of req.now) place cursor (bare marks.old) }
-    ensures { IfOk result (λ next. Advances (run_of req.now) place cursor (bare marks.old) next (bare marks.new)) }
+fn jump<S: StrDrive>(req: &Request<'_, S>, place: usize, cursor: StringCursor) -> Next
+    requires opcode { Opcode (run_of req.now).words place SreOpcode.JUMP }
+    requires stands { HasRun (run_of req.now) (Instruction place) cursor }
+    ensures { (b : BoardValue) → Advances (run_of req.now) (Instruction place) cursor b result b }
+{
+    let skip = operand(req, place, 1);
+    Next::At(place + 1 + skip as usize, cursor)
+}
+
+// Whether nothing can come of standing at an instruction: a LITERAL stands there, and the character is another.
+#[inline(always)]
+fn refuses<S: StrDrive>(req: &Request<'_, S>, place: usize, cursor: StringCursor) -> bool
+    requires { HasRun (run_of req.now) (Instruction place) cursor }
+    ensures { result ≡ true → Refuses (run_of req.now) place cursor.position }
 {
     match opcode(req, place, cursor) {
-        SreOpcode::SUCCESS => Ok(Next::Done(cursor)),
-        SreOpcode::LITERAL => Ok(literal(req, place, cursor)),
-        SreOpcode::MARK => mark(req, marks, place, cursor),
-        _ => unreachable!(),
-    }
-}
-
-// Whether an end is accepted, whatever the marks are.
-#[inline(always)]
-fn is_accepted<S: StrDrive>(req: &Request<'_, S>, stop: usize) -> bool
-    ensures { SaysAccepted (run_of req.now) stop result }
-{
-    (!req.match_all() || stop == req.end()) && (!req.must_advance() || stop != req.start())
-}
-
-// How many turns were taken. It takes no bytes, and only `tick` changes it.
-#[derive(Drop)]
-struct Turned<L: Ledger> {
-    book: Book<L>,
-    share: Share<L>,
-}
-
-impl<L: Ledger> Model for Turned<L> {
-    ghost use Rattle.std.specs.Prelude.{ℕ, ◌<◌};
-
-    ghost Value = { ℕ };
-
-    ghost view = { λ t. t.book.total };
-
-    ghost invariant = { λ t. 0 < t.share.parts };
-}
-
-impl<L: Ledger> Turned<L> {
-    #[inline(always)]
-    fn tick(&mut self)
-        ensures { self.new ≡ self.old + 1 }
-    {
-        self.book.add(&mut self.share, 1);
-    }
-}
-
-// The accepted outcomes of a run, and how many turns it takes at most.
-trait Plan {
-    ghost all: { List Way };
-
-    ghost limit: { ℕ };
-}
-
-impl Plan for Brand {
-    ghost all = { [] };
-
-    ghost limit = { 0 };
-}
-
-// Turns until the whole is decided: the cursor at the first accepted outcome's end, where there is one.
-#[inline(always)]
-fn turns<L: Ledger, K: Plan, S: StrDrive, A: Allocator>(
-    req: &Request<'_, S>,
-    marks: &mut Marks<A>,
-    start: StringCursor,
-    turned: &mut Turned<L>,
-) -> Result<Option<StringCursor>, AllocError>
-    requires new { turned.old ≡ 0 }
-    requires stands { Stands (run_of req.now) K.all K.limit (Next.At 0 start) (bare marks.old) }
-    ensures { IfOk result (λ found. Decides (run_of req.now) K.all found marks.new) }
-{
-    let mut next = Next::At(0, start);
-    'turn: loop {
-        turned.tick();
-        match next {
-            Next::At(place, cursor) => next = instruction(req, marks, place, cursor)?,
-            Next::Back => return Ok(None),
-            Next::Done(cursor) => {
-                if is_accepted(req, cursor.position()) {
-                    return Ok(Some(cursor));
-                }
-                next = Next::Back;
+        SreOpcode::LITERAL => {
+            if cursor.position() >= req.end() {
+                return true;
             }
+            let value = operand(req, place, 1);
+            let found = read(req, cursor);
+            if found.0 == value {
+                return false;
+            }
+            true
+        }
+        _ => false,
+    }
+}
+
+// Goes on at an instruction, with another point to be tried after it.
+#[inline(always)]
+fn choose<S: StrDrive, A: Allocator>(
+    req: &Request<'_, S>,
+    board: &mut Board<A>,
+    place: usize,
+    other: Point,
+    cursor: StringCursor,
+) -> Result<Next, AllocError>
+    ensures { IfOk result (λ next. Chooses (run_of req.now) (Instruction place) other cursor board.old next board.new) }
+{
+    let _ = req.end();
+    board.save(other, cursor)?;
+    Ok(Next::At(place, cursor))
+}
+
+// The first alternative from a length word on of which something may come, if there is one: its length word.
+#[inline(always)]
+fn first_alternative<S: StrDrive>(
+    req: &Request<'_, S>,
+    start: usize,
+    cursor: StringCursor,
+) -> Option<usize>
+    requires { HasRun (run_of req.now) (Alternatives start) cursor }
+    ensures { MatchOption result
+        ((b : BoardValue) → Advances (run_of req.now) (Alternatives start) cursor b Next.Back b)
+        (λ place. HasRun (run_of req.now) (Alternatives place) cursor × (0 < word (run_of req.now).words place) × Skips (run_of req.now) (Alternatives start) cursor (Alternatives place) cursor) }
+{
+    let mut place = start;
+    'alternative: loop {
+        let length = word_at(req, place) as usize;
+        if length == 0 {
+            return None;
+        }
+        if !refuses(req, place + 1, cursor) {
+            return Some(place);
+        }
+        place += length;
+    }
+}
+
+/// The alternatives of a BRANCH from a length word on: `length body JUMP skip ... 0`.
+#[inline(always)]
+fn alternatives<S: StrDrive, A: Allocator>(
+    req: &Request<'_, S>,
+    board: &mut Board<A>,
+    start: usize,
+    cursor: StringCursor,
+) -> Result<Next, AllocError>
+    requires { HasRun (run_of req.now) (Alternatives start) cursor }
+    ensures { IfOk result (λ next. Advances (run_of req.now) (Alternatives start) cursor board.old next board.new) }
+{
+    let Some(place) = first_alternative(req, start, cursor) else {
+        return Ok(Next::Back);
+    };
+    let length = word_at(req, place) as usize;
+    let after = place + length;
+    let following = word_at(req, after);
+    if following == 0 {
+        return Ok(Next::At(place + 1, cursor));
+    }
+    Ok(choose(req, board, place + 1, Point::Alternatives(after), cursor)?)
+}
+
+// The first of the shorter counts of a run of which something may come, if there is one: how many are left behind it,
+// and the cursor behind its characters.
+#[inline(always)]
+fn first_shorter<S: StrDrive>(
+    req: &Request<'_, S>,
+    tail: usize,
+    count: usize,
+    start: StringCursor,
+) -> Option<(usize, StringCursor)>
+    requires { HasRun (run_of req.now) (Shorter tail count) start }
+    ensures { MatchOption result
+        ((b : BoardValue) → Advances (run_of req.now) (Shorter tail count) start b Next.Back b)
+        (λ x. SkipsBoth (run_of req.now) (Shorter tail count) start (Instruction tail) (Shorter tail x.0) x.1) }
+{
+    let mut cursor = start;
+    let mut left = count;
+    'count: loop {
+        if left == 0 {
+            return None;
+        }
+        left -= 1;
+        cursor = back_one(req, cursor);
+        if !refuses(req, tail, cursor) {
+            return Some((left, cursor));
         }
     }
 }
 
-// Turns from the start, with no marks.
+/// The shorter counts of a run, so many of them, each followed by the run's tail.
 #[inline(always)]
-fn turns_from<L: Ledger, K: Plan, S: StrDrive, A: Allocator>(
+fn shorter<S: StrDrive, A: Allocator>(
     req: &Request<'_, S>,
-    marks: &mut Marks<A>,
+    board: &mut Board<A>,
+    tail: usize,
+    count: usize,
     start: StringCursor,
-    blank: Blank,
-) -> Result<Option<StringCursor>, AllocError>
-    requires name { blank.name ≡ L.name }
-    requires parts { blank.parts ≡ L.parts }
-    requires some { 0 < blank.parts }
-    requires stands { Stands (run_of req.now) K.all K.limit (Next.At 0 start) (bare marks.old) }
-    ensures { IfOk result (λ found. Decides (run_of req.now) K.all found marks.new) }
+) -> Result<Next, AllocError>
+    requires { HasRun (run_of req.now) (Shorter tail count) start }
+    ensures { IfOk result (λ next. Advances (run_of req.now) (Shorter tail count) start board.old next board.new) }
 {
-    let (book, share) = blank.open::<L>();
-    let mut turned = Turned { book, share };
-    turns::<L, K, S, A>(req, marks, start, &mut turned)
+    let Some(found) = first_shorter(req, tail, count, start) else {
+        return Ok(Next::Back);
+    };
+    if found.0 == 0 {
+        return Ok(Next::At(tail, found.1));
+    }
+    Ok(choose(req, board, tail, Point::Shorter(tail, found.0), found.1)?)
 }
 
-/// Runs the machine from a cursor, with no marks: the cursor at the end of the first accepted way, whose marks are
-/// then set, or `None` where no way is accepted.
-pub(crate) fn run<S: StrDrive, A: Allocator>(
+/// `REPEAT_ONE skip least greatest test SUCCESS`: the longest run of the test, then the shorter ones.
+#[inline(always)]
+fn repeat_one<S: StrDrive, A: Allocator>(
     req: &Request<'_, S>,
-    start: StringCursor,
-    marks: &mut Marks<A>,
-) -> Result<Option<StringCursor>, AllocError>
-    requires stands { (run_of req.now).stands start start.position }
-    requires inside { start.position ≤ end_of req.now }
-    requires fresh { marks.old ≡ no_marks }
-    ensures { (t : Tree) → Whole (run_of req.now).words t → IfOk result (λ found. Decides (run_of req.now) (outcomes (run_of req.now) t start.position) found marks.new) }
+    board: &mut Board<A>,
+    place: usize,
+    cursor: StringCursor,
+) -> Result<Next, AllocError>
+    requires opcode { Opcode (run_of req.now).words place SreOpcode.REPEAT_ONE }
+    requires stands { HasRun (run_of req.now) (Instruction place) cursor }
+    ensures { IfOk result (λ next. Advances (run_of req.now) (Instruction place) cursor board.old next board.new) }
 {
-    turns_from::<Brand, Brand, S, A>(req, marks, start, Blank::new(1))
+    let skip = operand(req, place, 1) as usize;
+    let least = operand(req, place, 2) as usize;
+    let greatest = operand(req, place, 3);
+    let run = longest_run(req, place + 4, greatest, cursor);
+    if run.0 < least {
+        return Ok(Next::Back);
+    }
+    let tail = place + 1 + skip;
+    let left = run.0 - least;
+    if refuses(req, tail, run.1) {
+        return Ok(shorter(req, board, tail, left, run.1)?);
+    }
+    if left == 0 {
+        return Ok(Next::At(tail, run.1));
+    }
+    Ok(choose(req, board, tail, Point::Shorter(tail, left), run.1)?)
+}
+
+/// Goes on with the newest choice, if there is one.
+#[inline(always)]
+pub(super) fn back<S: StrDrive, A: Allocator>(
+    req: &Request<'_, S>,
+    board: &mut Board<A>,
+) -> Result<Option<Next>, AllocError>
+    requires { IsBack (run_of req.now) board.old }
+    ensures { IfOk result (λ found. MatchOption found ((all : List Way) (limit : ℕ) → Stands (run_of req.now) all limit Next.Back board.old → all ≡ []) (λ next. Retreats (run_of req.now) board.old next board.new)) }
+{
+    match board.back() {
+        None => Ok(None),
+        Some(choice) => match choice.0 {
+            Point::Instruction(place) => Ok(Some(Next::At(place, choice.1))),
+            Point::Alternatives(place) => Ok(Some(alternatives(req, board, place, choice.1)?)),
+            Point::Shorter(tail, count) => Ok(Some(shorter(req, board, tail, count, choice.1)?)),
+        },
+    }
+}
+
+/// `BRANCH length body JUMP skip ... 0`: the first alternative, then the others.
+#[inline(always)]
+fn branch<S: StrDrive, A: Allocator>(
+    req: &Request<'_, S>,
+    board: &mut Board<A>,
+    place: usize,
+    cursor: StringCursor,
+) -> Result<Next, AllocError>
+    requires opcode { Opcode (run_of req.now).words place SreOpcode.BRANCH }
+    requires room { place + 2 ^ 33 < 2 ^ 64 }
+    requires stands { HasRun (run_of req.now) (Instruction place) cursor }
+    ensures { IfOk result (λ next. Advances (run_of req.now) (Instruction place) cursor board.old next board.new) }
+{
+    Ok(alternatives(req, board, place + 1, cursor)?)
+}
+
+/// One instruction.
+#[inline(always)]
+pub(super) fn instruction<S: StrDrive, A: Allocator>(
+    req: &Request<'_, S>,
+    board: &mut Board<A>,
+    place: usize,
+    cursor: StringCursor,
+) -> Result<Next, AllocError>
+    requires { HasRun (run_of req.now) (Instruction place) cursor }
+    ensures { IfOk result (λ next. Advances (run_of req.now) (Instruction place) cursor board.old next board.new) }
+{
+    match opcode(req, place, cursor) {
+        SreOpcode::FAILURE => Ok(Next::Back),
+        SreOpcode::SUCCESS => Ok(Next::Done(cursor)),
+        SreOpcode::ANY => Ok(test(req, SreOpcode::ANY, place, cursor)),
+        SreOpcode::ANY_ALL => Ok(test(req, SreOpcode::ANY_ALL, place, cursor)),
+        SreOpcode::AT => Ok(at(req, place, cursor)),
+        SreOpcode::BRANCH => branch(req, board, place, cursor),
+        SreOpcode::CATEGORY => Ok(test(req, SreOpcode::CATEGORY, place, cursor)),
+        SreOpcode::IN => Ok(test(req, SreOpcode::IN, place, cursor)),
+        SreOpcode::JUMP => Ok(jump(req, place, cursor)),
+        SreOpcode::LITERAL => Ok(test(req, SreOpcode::LITERAL, place, cursor)),
+        SreOpcode::MARK => mark(req, board, place, cursor),
+        SreOpcode::NOT_LITERAL => Ok(test(req, SreOpcode::NOT_LITERAL, place, cursor)),
+        SreOpcode::REPEAT_ONE => repeat_one(req, board, place, cursor),
+        SreOpcode::IN_IGNORE => Ok(test(req, SreOpcode::IN_IGNORE, place, cursor)),
+        SreOpcode::LITERAL_IGNORE => Ok(test(req, SreOpcode::LITERAL_IGNORE, place, cursor)),
+        SreOpcode::NOT_LITERAL_IGNORE => {
+            Ok(test(req, SreOpcode::NOT_LITERAL_IGNORE, place, cursor))
+        }
+        SreOpcode::IN_LOC_IGNORE => Ok(test(req, SreOpcode::IN_LOC_IGNORE, place, cursor)),
+        SreOpcode::LITERAL_LOC_IGNORE => {
+            Ok(test(req, SreOpcode::LITERAL_LOC_IGNORE, place, cursor))
+        }
+        SreOpcode::NOT_LITERAL_LOC_IGNORE => Ok(test(
+            req,
+            SreOpcode::NOT_LITERAL_LOC_IGNORE,
+            place,
+            cursor,
+        )),
+        SreOpcode::IN_UNI_IGNORE => Ok(test(req, SreOpcode::IN_UNI_IGNORE, place, cursor)),
+        SreOpcode::LITERAL_UNI_IGNORE => {
+            Ok(test(req, SreOpcode::LITERAL_UNI_IGNORE, place, cursor))
+        }
+        SreOpcode::NOT_LITERAL_UNI_IGNORE => Ok(test(
+            req,
+            SreOpcode::NOT_LITERAL_UNI_IGNORE,
+            place,
+            cursor,
+        )),
+        _ => unreachable!(),
+    }
 }

@@ -1,7 +1,8 @@
 //! Marks: the positions that a match has set.
 
-ghost use Rattle.std.specs.Prelude.{◌≡◌, ◌+◌, ◌*◌, ◌<◌, ◌≤◌, ◌^◌, length, None, IfOk, slice_index_or};
+ghost use Rattle.std.specs.Prelude.{◌≡◌, ℕ, ◌+◌, ◌*◌, ◌<◌, ◌≤◌, length, Option, None, IfOk, slice_index_or, slice_set};
 ghost use Rattle.sre_engine.specs.Marks.{no_marks, set_mark, lengthened};
+ghost use Rattle.sre_engine.specs.Trail.{restored, undo};
 
 use std::alloc::{AllocError, Allocator};
 use std::marker::Model;
@@ -13,18 +14,70 @@ use std::marker::Model;
 pub struct Marks<A: Allocator> {
     raw: Vec<Option<usize>, A>,
     // 0 where no group was closed
-    last: usize,
+    last: u32,
+}
+
+/// What stood at a mark before it was set.
+#[derive(Clone, Copy)]
+pub(crate) enum Former {
+    /// Nothing: the list ended before it, and had this length.
+    Past(usize),
+    /// An absent entry.
+    Absent,
+    /// A position.
+    At(usize),
+}
+
+/// What takes the setting of a mark back: what stood there, and the last index, 0 where there was none.
+#[derive(Clone, Copy)]
+pub(crate) struct Change {
+    pub former: Former,
+    pub mark: u32,
+    pub last: u32,
 }
 
 impl<A: Allocator> Model for Marks<A> {
-    ghost use Rattle.std.specs.Prelude.{◌<◌, ◌^◌};
     ghost use Rattle.sre_engine.specs.Marks.{Marks, index_of};
 
     ghost Value = { Marks };
 
     ghost view = { λ m. record { raw = m.raw.items; last = index_of m.last } };
+}
 
-    ghost invariant = { λ m. m.last < 2 ^ 33 };
+// What stands at an entry.
+#[inline(always)]
+fn former_at(raw: &[Option<usize>], entry: usize) -> Former
+    ensures { (value : Option ℕ) → restored result entry (slice_set (lengthened entry raw.now) entry value) ≡ raw.now }
+{
+    if entry >= raw.len() {
+        return Former::Past(raw.len());
+    }
+    match raw[entry] {
+        None => Former::Absent,
+        Some(position) => Former::At(position),
+    }
+}
+
+// Puts back what stood at an entry.
+#[inline(always)]
+fn restore<A: Allocator>(raw: &mut Vec<Option<usize>, A>, entry: usize, former: Former)
+    ensures { raw.new.items ≡ restored former entry raw.old.items }
+{
+    match former {
+        Former::Past(length) => raw.truncate(length),
+        Former::Absent => put(raw, entry, None),
+        Former::At(position) => put(raw, entry, Some(position)),
+    }
+}
+
+// Sets an entry, if there is one.
+#[inline(always)]
+fn put<A: Allocator>(raw: &mut Vec<Option<usize>, A>, entry: usize, value: Option<usize>)
+    ensures { raw.new.items ≡ slice_set raw.old.items entry value }
+{
+    if entry < raw.len() {
+        raw[entry] = value;
+    }
 }
 
 impl<A: Allocator> Marks<A> {
@@ -72,6 +125,7 @@ impl<A: Allocator> Marks<A> {
     }
 
     // Takes all marks away; the memory is kept.
+    #[inline(always)]
     pub(crate) fn clear(&mut self)
         ensures { self.new ≡ no_marks }
     {
@@ -80,17 +134,39 @@ impl<A: Allocator> Marks<A> {
     }
 
     // Sets mark `n` to `position`; on an error the marks are as they were.
+    #[inline(always)]
     pub(crate) fn set(&mut self, n: u32, position: usize) -> Result<(), AllocError>
         ensures { IfOk result (λ _. self.new ≡ set_mark self.old n position) }
     {
-        let n = n as usize;
-        if self.raw.len() <= n {
-            self.raw.resize(n + 1, None)?;
+        let place = n as usize;
+        if self.raw.len() <= place {
+            self.raw.resize(place + 1, None)?;
         }
-        self.raw[n] = Some(position);
+        self.raw[place] = Some(position);
         if n % 2 == 1 {
             self.last = (n - 1) / 2 + 1;
         }
         Ok(())
+    }
+
+    // What takes the setting of mark `n` back.
+    #[inline(always)]
+    pub(crate) fn change(&self, n: u32) -> Change
+        ensures { (position : ℕ) → undo result (set_mark self.now n position) ≡ self.now }
+    {
+        Change {
+            former: former_at(&self.raw, n as usize),
+            mark: n,
+            last: self.last,
+        }
+    }
+
+    // Takes a change back.
+    #[inline(always)]
+    pub(crate) fn undo(&mut self, change: Change)
+        ensures { self.new ≡ undo change self.old }
+    {
+        restore(&mut self.raw, change.mark as usize, change.former);
+        self.last = change.last;
     }
 }

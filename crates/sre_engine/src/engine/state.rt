@@ -1,17 +1,19 @@
 //! A state: what a search leaves of a match.
 
-ghost use Rattle.std.specs.Prelude.{◌≡◌, ◌≤◌, length, IfOk, OnErr, true, false};
+ghost use Rattle.std.specs.Prelude.{◌≡◌, ◌≤◌, length, IfOk, OnErr, true, false, None};
 ghost use Rattle.sre_engine.specs.Tree.{Tree};
 ghost use Rattle.sre_engine.specs.Grammar.{Whole};
 ghost use Rattle.sre_engine.specs.Marks.{no_marks};
-ghost use Rattle.sre_engine.specs.Found.{at_start};
+ghost use Rattle.sre_engine.specs.Found.{at_start, found};
+ghost use Rattle.sre_engine.specs.Machine.{Decides, outcomes};
 ghost use Rattle.sre_engine.specs.Codes.{words_of};
-ghost use Rattle.sre_engine.specs.Requests.{string_of, start_of, end_of, code_of, asked_of, stands_in};
+ghost use Rattle.sre_engine.specs.Requests.{string_of, start_of, end_of, code_of, asked_of, stands_in, run_of};
 ghost use Rattle.sre_engine.specs.Answers.{Answers, Spans};
 
-use crate::engine::machine::run;
+use crate::engine::board::Board;
 use crate::engine::marks::Marks;
 use crate::engine::request::Request;
+use crate::engine::turns::run;
 use sre_chars::string::{StrDrive, StringCursor};
 use std::alloc::{AllocError, Allocator};
 use std::marker::Model;
@@ -45,7 +47,7 @@ impl From<AllocError> for SreError {
 /// A state serves any number of searches, over texts of any kind. Its memory is kept from one to the next.
 #[derive(Drop)]
 pub struct State<A: Allocator + Copy> {
-    marks: Marks<A>,
+    board: Board<A>,
     start: usize,
     cursor: StringCursor,
 }
@@ -55,7 +57,36 @@ impl<A: Allocator + Copy> Model for State<A> {
 
     ghost Value = { Shown };
 
-    ghost view = { λ s. record { marks = s.marks; start = s.start; cursor = s.cursor } };
+    ghost view = { λ s. record { marks = s.board.marks; start = s.start; cursor = s.cursor } };
+}
+
+// The first accepted way from a cursor: the cursor at its end, and its marks on the board. Without one, or with an
+// error, there are no marks.
+#[inline(always)]
+fn attempt<S: StrDrive, A: Allocator>(
+    req: &Request<'_, S>,
+    start: StringCursor,
+    board: &mut Board<A>,
+) -> Result<Option<StringCursor>, SreError>
+    requires stands { (run_of req.now).stands start start.position }
+    requires inside { start.position ≤ end_of req.now }
+    ensures found { (t : Tree) → Whole (words_of (code_of req.now)) t
+        → IfOk result (λ found. Decides (run_of req.now) (outcomes (run_of req.now) t start.position) found board.new.marks) }
+    ensures none { result ≡ Ok None → board.new.marks ≡ no_marks }
+    ensures err { OnErr result (board.new.marks ≡ no_marks) }
+{
+    board.clear();
+    match run(req, start, board) {
+        Ok(Some(end)) => Ok(Some(end)),
+        Ok(None) => {
+            board.clear();
+            Ok(None)
+        }
+        Err(error) => {
+            board.clear();
+            Err(SreError::from(error))
+        }
+    }
 }
 
 impl<A: Allocator + Copy> State<A> {
@@ -64,7 +95,7 @@ impl<A: Allocator + Copy> State<A> {
         ensures { result ≡ record { marks = no_marks; start = 0; cursor = record { position = 0; offset = 0 } } }
     {
         State {
-            marks: Marks::new(alloc),
+            board: Board::new(alloc),
             start: 0,
             cursor: StringCursor::default(),
         }
@@ -74,7 +105,7 @@ impl<A: Allocator + Copy> State<A> {
     pub fn marks(&self) -> &Marks<A>
         ensures { result.now ≡ self.now.marks }
     {
-        &self.marks
+        self.board.marks()
     }
 
     /// The position at which the match starts. It is left open where the last search found none.
@@ -98,7 +129,7 @@ impl<A: Allocator + Copy> State<A> {
         ensures start { self.new.start ≡ start }
         ensures cursor { S.stands (string_of req.now) self.new.cursor start }
     {
-        self.marks.clear();
+        self.board.clear();
         (self.start, self.cursor) = (start, req.string().create_cursor(start));
     }
 
@@ -114,20 +145,38 @@ impl<A: Allocator + Copy> State<A> {
         ensures no { IfOk result (λ b. b ≡ false → self.new.marks ≡ no_marks) }
         ensures err { OnErr result (self.new.marks ≡ no_marks) }
     {
-        self.reset(req, req.start());
-        match run(req, self.cursor, &mut self.marks) {
-            Ok(Some(end)) => {
-                self.cursor = end;
+        let start = req.string().create_cursor(req.start());
+        match attempt(req, start, &mut self.board)? {
+            Some(end) => {
+                (self.start, self.cursor) = (req.start(), end);
                 Ok(true)
             }
-            Ok(None) => {
-                self.marks.clear();
-                Ok(false)
+            None => Ok(false),
+        }
+    }
+
+    /// Searches the window: whether there is a match at one of its starts, of which the state then shows that of the
+    /// least start.
+    ///
+    /// Each start is tried in turn, as `pymatch` tries it; an empty match at the window's end is one, too. Under
+    /// `must_advance` an empty match is refused at the window's start alone. An error means that memory was refused;
+    /// after it, as after `Ok(false)`, there are no marks, and the state serves again.
+    pub fn search<S: StrDrive>(&mut self, req: Request<'_, S>) -> Result<bool, SreError>
+        ensures ok { (t : Tree) → Whole (words_of (code_of req.entry)) t
+            → IfOk result (λ b. Answers (stands_in req.entry) (found (asked_of req.entry) t) b self.new) }
+        ensures no { IfOk result (λ b. b ≡ false → self.new.marks ≡ no_marks) }
+        ensures err { OnErr result (self.new.marks ≡ no_marks) }
+    {
+        let mut start = req.string().create_cursor(req.start());
+        'start: loop {
+            if let Some(end) = attempt(&req, start, &mut self.board)? {
+                (self.start, self.cursor) = (start.position(), end);
+                return Ok(true);
             }
-            Err(error) => {
-                self.marks.clear();
-                Err(SreError::from(error))
+            if start.position() >= req.end() {
+                return Ok(false);
             }
+            req.string().skip(&mut start, 1);
         }
     }
 }

@@ -6,4 +6,5 @@ returns-in_ok-test-in_default c =
     let words = c.args.words.now in
     let there = c.in_ok-code.ensures in
     let found = c.in_ok-test-in_default.ensures in
-    (there.0, found.0, one_exactly words c.args.place c.in_ok-test-in_default.field-0 c.in_ok-code.code there.1 c.in_default.not-MARK found.1)
+    let not = c.in_default in
+    (there.0, found.0, one_exactly words c.args.place c.in_ok-test-in_default.field-0 c.in_ok-code.code there.1 not.not-FAILURE not.not-AT not.not-MARK not.not-BRANCH not.not-REPEAT_ONE found.1)

@@ -1,11 +1,63 @@
-use Rattle.sre_engine.proofs.Instructions.{only_built, success_step}
+use Rattle.sre_engine.specs.Requests.{run_of}
+use Rattle.sre_engine.proofs.Instructions.{only_built, unbuilt, failure_step, success_step}
 use Rattle.sre_engine.proofs.engine.machine.instruction.Goals as goal
 
 pub unreachable-requires : goal.unreachable-requires
-unreachable-requires g c = only_built _ _ _ _ _ c.requires c.opcode.ensures c.in_default.not-SUCCESS c.in_default.not-LITERAL c.in_default.not-MARK
+unreachable-requires g c = only_built (run_of c.args.req.now) _ c.args.cursor c.opcode.result c.requires c.opcode.ensures.code (unbuilt c.opcode.result c.in_default.not-FAILURE c.in_default.not-SUCCESS c.in_default.not-ANY c.in_default.not-ANY_ALL c.in_default.not-AT c.in_default.not-BRANCH c.in_default.not-CATEGORY c.in_default.not-IN c.in_default.not-JUMP c.in_default.not-LITERAL c.in_default.not-MARK c.in_default.not-NOT_LITERAL c.in_default.not-REPEAT_ONE c.in_default.not-IN_IGNORE c.in_default.not-LITERAL_IGNORE c.in_default.not-NOT_LITERAL_IGNORE c.in_default.not-IN_LOC_IGNORE c.in_default.not-LITERAL_LOC_IGNORE c.in_default.not-NOT_LITERAL_LOC_IGNORE c.in_default.not-IN_UNI_IGNORE c.in_default.not-LITERAL_UNI_IGNORE c.in_default.not-NOT_LITERAL_UNI_IGNORE)
+
+pub returns-in-FAILURE : goal.returns-in-FAILURE
+returns-in-FAILURE g c = λ all limit. failure_step (run_of c.args.req.now) all limit _ c.args.cursor _ c.in-FAILURE.ensures.code
 
 pub returns-in-SUCCESS : goal.returns-in-SUCCESS
-returns-in-SUCCESS g c = λ all limit goes. success_step _ all limit _ _ _ c.in-SUCCESS.ensures goes
+returns-in-SUCCESS g c = λ all limit. success_step (run_of c.args.req.now) all limit _ c.args.cursor _ c.in-SUCCESS.ensures.code
+
+pub returns-in-ANY : goal.returns-in-ANY
+returns-in-ANY g c = c.test.ensures _
+
+pub returns-in-ANY_ALL : goal.returns-in-ANY_ALL
+returns-in-ANY_ALL g c = c.test-in-ANY_ALL.ensures _
+
+pub returns-in-CATEGORY : goal.returns-in-CATEGORY
+returns-in-CATEGORY g c = c.test-in-CATEGORY.ensures _
+
+pub returns-in-IN : goal.returns-in-IN
+returns-in-IN g c = c.test-in-IN.ensures _
 
 pub returns-in-LITERAL : goal.returns-in-LITERAL
-returns-in-LITERAL g c = c.literal.ensures _
+returns-in-LITERAL g c = c.test-in-LITERAL.ensures _
+
+pub returns-in-NOT_LITERAL : goal.returns-in-NOT_LITERAL
+returns-in-NOT_LITERAL g c = c.test-in-NOT_LITERAL.ensures _
+
+pub returns-in-IN_IGNORE : goal.returns-in-IN_IGNORE
+returns-in-IN_IGNORE g c = c.test-in-IN_IGNORE.ensures _
+
+pub returns-in-LITERAL_IGNORE : goal.returns-in-LITERAL_IGNORE
+returns-in-LITERAL_IGNORE g c = c.test-in-LITERAL_IGNORE.ensures _
+
+pub returns-in-NOT_LITERAL_IGNORE : goal.returns-in-NOT_LITERAL_IGNORE
+returns-in-NOT_LITERAL_IGNORE g c = c.test-in-NOT_LITERAL_IGNORE.ensures _
+
+pub returns-in-IN_LOC_IGNORE : goal.returns-in-IN_LOC_IGNORE
+returns-in-IN_LOC_IGNORE g c = c.test-in-IN_LOC_IGNORE.ensures _
+
+pub returns-in-LITERAL_LOC_IGNORE : goal.returns-in-LITERAL_LOC_IGNORE
+returns-in-LITERAL_LOC_IGNORE g c = c.test-in-LITERAL_LOC_IGNORE.ensures _
+
+pub returns-in-NOT_LITERAL_LOC_IGNORE : goal.returns-in-NOT_LITERAL_LOC_IGNORE
+returns-in-NOT_LITERAL_LOC_IGNORE g c = c.test-in-NOT_LITERAL_LOC_IGNORE.ensures _
+
+pub returns-in-IN_UNI_IGNORE : goal.returns-in-IN_UNI_IGNORE
+returns-in-IN_UNI_IGNORE g c = c.test-in-IN_UNI_IGNORE.ensures _
+
+pub returns-in-LITERAL_UNI_IGNORE : goal.returns-in-LITERAL_UNI_IGNORE
+returns-in-LITERAL_UNI_IGNORE g c = c.test-in-LITERAL_UNI_IGNORE.ensures _
+
+pub returns-in-NOT_LITERAL_UNI_IGNORE : goal.returns-in-NOT_LITERAL_UNI_IGNORE
+returns-in-NOT_LITERAL_UNI_IGNORE g c = c.test-in-NOT_LITERAL_UNI_IGNORE.ensures _
+
+pub returns-in-AT : goal.returns-in-AT
+returns-in-AT g c = c.at.ensures _
+
+pub returns-in-JUMP : goal.returns-in-JUMP
+returns-in-JUMP g c = c.jump.ensures _

@@ -1,28 +1,30 @@
-use Rattle.std.proofs.Common.{ap, ◌∙◌, refl}
-use Rattle.sre_engine.specs.Answers.{Shown}
+use Rattle.std.proofs.Common.{◌≡◌, ◌≤◌, Some, None, refl, ◌∙◌, subst, arith}
+use Rattle.sre_engine.specs.Found.{at_start}
 use Rattle.sre_engine.specs.Codes.{words_of, hints_of}
-use Rattle.sre_engine.specs.Requests.{start_of, code_of, asked_of, stands_in}
-use Rattle.sre_engine.proofs.Answering.{answers_yes, answers_no, span_yes}
+use Rattle.sre_engine.specs.Requests.{start_of, end_of, code_of, asked_of, stands_in}
+use Rattle.sre_engine.proofs.Answering.{answers_yes, answers_no, none_at, some_at, span_at}
 use Rattle.sre_engine.proofs.Start.{code_tree}
 use Rattle.sre_engine.proofs.engine.state.State.pymatch.Goals as goal
 
-pub returns-in-Ok-Some-clause-ok : goal.returns-in-Ok-Some-clause-ok
-returns-in-Ok-Some-clause-ok g c = λ t whole.
+pub returns-in-Some-clause-ok : goal.returns-in-Some-clause-ok
+returns-in-Some-clause-ok g c = λ t whole.
     let asked = c.args.req.now in
-    let at = ap (λ (s : Shown). s.cursor.position) c.self.view_is ∙ (g.met.S.StrDrive.stands_at asked.string c.reset.new.self.cursor c.start.result c.reset.ensures.cursor).0 ∙ c.start.ensures in
-    let start = ap (λ (s : Shown). s.start) c.self.view_is ∙ c.reset.ensures.start ∙ c.start.ensures in
-    answers_yes (stands_in asked) (asked_of asked) t c.self.inside.cursor.position (start_of asked) c.in-Ok-Some.field-0 c.in-Ok-Some.end _ at c.in-Ok-Some.field-0-is start refl (c.in-Ok-Some.ensures t whole)
+    let at = (g.met.S.StrDrive.stands_at c.string.result c.create_cursor-start.result c.start.result c.create_cursor-start.ensures).0 ∙ c.start.ensures in
+    let some = some_at (stands_in asked) (asked_of asked) t _ c.in_ok-end.field-0 c.attempt.new.board.marks (c.in_ok-end.ensures.found t whole) c.in-Some.end c.in-Some.is in
+    answers_yes (stands_in asked) _ (start_of asked) c.in-Some.end _ c.start-in-Some.ensures refl some.0
+    (subst (λ q. at_start (asked_of asked) t q ≡ Some (record { start = q; end = c.in-Some.end.position; marks = c.attempt.new.board.marks })) at some.1)
 
-pub returns-in-Ok-Some-clause-span : goal.returns-in-Ok-Some-clause-span
-returns-in-Ok-Some-clause-span g c = λ _.
+pub returns-in-Some-clause-span : goal.returns-in-Some-clause-span
+returns-in-Some-clause-span g c = λ _.
     let asked = c.args.req.now in
+    let at = (g.met.S.StrDrive.stands_at c.string.result c.create_cursor-start.result c.start.result c.create_cursor-start.ensures).0 ∙ c.start.ensures in
     let tree = code_tree (words_of (code_of asked)) (hints_of (code_of asked)) (code_of asked).checked in
-    let at = ap (λ (s : Shown). s.cursor.position) c.self.view_is ∙ (g.met.S.StrDrive.stands_at asked.string c.reset.new.self.cursor c.start.result c.reset.ensures.cursor).0 ∙ c.start.ensures in
-    let start = ap (λ (s : Shown). s.start) c.self.view_is ∙ c.reset.ensures.start ∙ c.start.ensures in
-    span_yes (stands_in asked) (asked_of asked) tree.0 c.self.inside.cursor.position (start_of asked) c.in-Ok-Some.field-0 c.in-Ok-Some.end c.run.new.marks _ at asked.in_window.0 c.in-Ok-Some.field-0-is start refl (c.in-Ok-Some.ensures tree.0 tree.1)
+    let from : c.create_cursor-start.result.position ≤ end_of asked = omega (arith, at, asked.in_window.0) in
+    let s = span_at (stands_in asked) (asked_of asked) tree.0 _ c.in_ok-end.field-0 c.attempt.new.board.marks (c.in_ok-end.ensures.found tree.0 tree.1) from c.in-Some.end c.in-Some.is in
+    record { starts = c.start-in-Some.ensures; forward = omega (arith, at, s.0); inside = s.1 }
 
-pub returns-in-Ok-None-clause-ok : goal.returns-in-Ok-None-clause-ok
-returns-in-Ok-None-clause-ok g c = λ t whole.
+pub returns-in-None-clause-ok : goal.returns-in-None-clause-ok
+returns-in-None-clause-ok g c = λ t whole.
     let asked = c.args.req.now in
-    let at = ap (λ (s : Shown). s.cursor.position) c.self.view_is ∙ (g.met.S.StrDrive.stands_at asked.string c.reset.new.self.cursor c.start.result c.reset.ensures.cursor).0 ∙ c.start.ensures in
-    answers_no (stands_in asked) (asked_of asked) t c.self.inside.cursor.position (start_of asked) c.in-Ok-None.field-0 c.run.new.marks _ at c.in-Ok-None.field-0-is (c.in-Ok-None.ensures t whole)
+    let at = (g.met.S.StrDrive.stands_at c.string.result c.create_cursor-start.result c.start.result c.create_cursor-start.ensures).0 ∙ c.start.ensures in
+    answers_no (stands_in asked) (at_start (asked_of asked) t (start_of asked)) _ (subst (λ q. at_start (asked_of asked) t q ≡ None) at (none_at (stands_in asked) (asked_of asked) t _ c.in_ok-end.field-0 c.attempt.new.board.marks (c.in_ok-end.ensures.found t whole) c.in-None.is))

@@ -1,0 +1,9 @@
+use Rattle.std.proofs.lemmas.Result.{IfOk-weaker}
+use Rattle.sre_engine.proofs.Choosing.{fits-more, set_held}
+use Rattle.sre_engine.proofs.engine.board.Board.set.Goals as goal
+
+pub invariant_of-self-2 : goal.invariant_of-self-2
+invariant_of-self-2 g c = fits-more _ _ _ c.set.ensures.kept c.self.invariant
+
+pub returns : goal.returns
+returns g c = IfOk-weaker _ _ _ (λ x h. set_held _ c.self.inside.trail c.set.new.self c.self.inside.choices.items c.args.n c.args.position c.self.view_is c.self.invariant h) c.set.ensures.set

@@ -1,0 +1,21 @@
+use Rattle.std.proofs.Common.{◌-◌}
+use Rattle.sre_engine.specs.Board.{Instruction, Alternatives, Shorter}
+use Rattle.sre_engine.specs.Requests.{run_of}
+use Rattle.sre_engine.proofs.Instructions.{back_none, back_at, later_again}
+use Rattle.sre_engine.proofs.engine.machine.back.Goals as goal
+
+pub returns-in-None : goal.returns-in-None
+returns-in-None g c = back_none (run_of c.args.req.now) _ c.in-None.ensures.0
+
+pub returns-in-Instruction : goal.returns-in-Instruction
+returns-in-Instruction g c = back_at (run_of c.args.req.now) c.args.board.now c.back.new.self c.in-Some.choice.0 (Instruction c.in-Instruction.place) c.in-Some.choice.1 c.in-Some.ensures c.in-Instruction.is
+
+pub returns-in_ok-alternatives-in-Alternatives : goal.returns-in_ok-alternatives-in-Alternatives
+returns-in_ok-alternatives-in-Alternatives g c = λ all limit x.
+    let s = back_at (run_of c.args.req.now) c.args.board.now c.back.new.self c.in-Some.choice.0 (Alternatives c.in-Alternatives.place) c.in-Some.choice.1 c.in-Some.ensures c.in-Alternatives.is all limit x in
+    later_again (run_of c.args.req.now) all limit _ _ s.0 (c.in_ok-alternatives-in-Alternatives.ensures all (limit - 1) s.1)
+
+pub returns-in_ok-shorter-in-Shorter : goal.returns-in_ok-shorter-in-Shorter
+returns-in_ok-shorter-in-Shorter g c = λ all limit x.
+    let s = back_at (run_of c.args.req.now) c.args.board.now c.back.new.self c.in-Some.choice.0 (Shorter c.in-Shorter.tail c.in-Shorter.count) c.in-Some.choice.1 c.in-Some.ensures c.in-Shorter.is all limit x in
+    later_again (run_of c.args.req.now) all limit _ _ s.0 (c.in_ok-shorter-in-Shorter.ensures all (limit - 1) s.1)

@@ -1,0 +1,28 @@
+use Rattle.std.proofs.Common.{◌≡◌, ◌≤◌, ◌+◌, refl, sym, subst, arith}
+use Rattle.sre_engine.specs.Requests.{end_of, asked_of, stands_in}
+use Rattle.sre_engine.proofs.Answering.{answers_yes, answers_no, none_at, some_at, none_further, found_none, found_first}
+use Rattle.sre_engine.proofs.engine.state.State.search.Goals as goal
+
+pub returns-in-Some-clause-ok : goal.returns-in-Some-clause-ok
+returns-in-Some-clause-ok g c = λ t whole.
+    let asked = c.args.req in
+    let some = some_at (stands_in asked) (asked_of asked) t _ c.in_ok-end.field-0 c.attempt.new.board.marks (c.in_ok-end.ensures.found t whole) c.in-Some.end c.in-Some.is in
+    answers_yes (stands_in asked) _ c.start.start.position c.in-Some.end _ c.position.ensures refl some.0
+    (found_first (asked_of asked) t _ _ (c.start.invariant.before t whole) some.1 c.start.invariant.from c.start.invariant.inside refl)
+
+pub returns-then-position-end-clause-ok : goal.returns-then-position-end-clause-ok
+returns-then-position-end-clause-ok g c = λ t whole.
+    let asked = c.args.req in
+    let past : end_of asked ≤ c.start.start.position = omega arith in
+    answers_no (stands_in asked) _ _ (found_none (asked_of asked) t _ (c.start.invariant.before t whole) (none_at (stands_in asked) (asked_of asked) t _ c.in_ok-end.field-0 c.attempt.new.board.marks (c.in_ok-end.ensures.found t whole) c.in_default.is) past)
+
+pub start-preserved : goal.start-preserved
+start-preserved g c =
+    let asked = c.args.req in
+    let at : c.skip.new.cursor.position ≡ c.start.start.position + 1 = (g.met.S.StrDrive.stands_at c.string-in-start.result c.skip.new.cursor _ c.skip.ensures).0 in
+    record {
+      stands = subst (λ (s : g.row.S.Denot). g.S.StrDrive.stands s c.skip.new.cursor c.skip.new.cursor.position) c.string-in-start.ensures (subst (λ n. g.S.StrDrive.stands c.string-in-start.result c.skip.new.cursor n) (sym at) c.skip.ensures);
+      from = omega (arith, c.start.invariant.from, at);
+      inside = omega (arith, at);
+      before = λ t whole. none_further (asked_of asked) t _ _ (c.start.invariant.before t whole) (none_at (stands_in asked) (asked_of asked) t _ c.in_ok-end.field-0 c.attempt.new.board.marks (c.in_ok-end.ensures.found t whole) c.in_default.is) at;
+    }

@@ -1,0 +1,18 @@
+use Rattle.std.proofs.Common.{◌-◌, ◌≤◌}
+use Rattle.sre_engine.specs.Tree.{Tree}
+use Rattle.sre_engine.specs.Grammar.{Whole}
+use Rattle.sre_engine.specs.Codes.{words_of}
+use Rattle.sre_engine.specs.Requests.{start_of, end_of, code_of, asked_of, run_of}
+use Rattle.sre_engine.proofs.Answering.{NoneBefore}
+use Rattle.sre_engine.proofs.engine.state.State.search.Given as goal
+
+abbrev pub invariant-start : goal.invariant-start
+invariant-start g l = record {
+  stands : (run_of l.fn.req).stands l.start l.start.position;
+  from : start_of l.fn.req ≤ l.start.position;
+  inside : l.start.position ≤ end_of l.fn.req;
+  before : (t : Tree) → Whole (words_of (code_of l.fn.req)) t → NoneBefore (asked_of l.fn.req) t l.start.position;
+}
+
+abbrev pub decreases-start : goal.decreases-start
+decreases-start g l = end_of l.fn.req - l.start.position

@@ -1,0 +1,103 @@
+//! Tests of one character: which characters a test takes, and where its words end.
+//!
+//! A caller that knows the opcode passes it as a constant, so that nothing is left of the choice among them.
+
+ghost use Rattle.std.specs.Prelude.{◌≡◌, ℕ, List};
+ghost use Rattle.sre_engine.specs.Tree.{Test, Locale, SetItem};
+ghost use Rattle.sre_engine.specs.Characters.{is_literal, in_set, holds};
+ghost use Rattle.sre_engine.specs.Grammar.{Opcode};
+ghost use Rattle.sre_engine.specs.Standing.{SetStands, HasSet, TestStands, HasTest};
+ghost use Rattle.sre_engine.specs.Requests.{run_of};
+
+use crate::engine::operands::{category_code, operand, word};
+use crate::engine::request::Request;
+use crate::engine::set::is_member;
+use sre_chars::constants::SreOpcode;
+use sre_chars::string::{StrDrive, UniTable, category, lower_ascii, lower_unicode, upper_ascii};
+use std::convert::TryFrom;
+
+// Whether a value is a character or one of its ASCII cases.
+#[inline(always)]
+fn is_any_case(uni: &UniTable, value: u32, character: u32) -> bool
+    ensures { result ≡ is_literal uni.now Locale value character }
+{
+    value == character || value == lower_ascii(character) || value == upper_ascii(character)
+}
+
+// Whether a set takes one of a character's ASCII cases.
+#[inline(always)]
+fn takes_a_case(words: &[u32], uni: &UniTable, place: usize, character: u32) -> bool
+    requires { HasSet words.now place }
+    ensures { (j : ℕ) (set : List SetItem) → SetStands words.now place j set → result ≡ in_set uni.now Locale set character }
+{
+    is_member(words, uni, place, lower_ascii(character))
+        || is_member(words, uni, place, upper_ascii(character))
+}
+
+/// The opcode of the test at a place.
+#[inline(always)]
+pub(super) fn opcode<S: StrDrive>(req: &Request<'_, S>, place: usize) -> SreOpcode
+    requires { HasTest (run_of req.now).words place }
+    ensures { Opcode (run_of req.now).words place result }
+{
+    match SreOpcode::try_from(word(req.pattern_codes().words(), place)) {
+        Ok(opcode) => opcode,
+        Err(_) => unreachable!(),
+    }
+}
+
+/// Whether the test whose opcode is at a place takes a character.
+#[inline(always)]
+pub(crate) fn takes<S: StrDrive>(
+    req: &Request<'_, S>,
+    place: usize,
+    opcode: SreOpcode,
+    character: u32,
+) -> bool
+    requires code { Opcode (run_of req.now).words place opcode }
+    requires stands { HasTest (run_of req.now).words place }
+    ensures { (j : ℕ) (t : Test) → TestStands (run_of req.now).words place j t → result ≡ holds (run_of req.now).subject.table t character }
+{
+    let words = req.pattern_codes().words();
+    let uni = req.pattern_codes().uni();
+    match opcode {
+        SreOpcode::ANY => character != 10,
+        SreOpcode::ANY_ALL => true,
+        SreOpcode::CATEGORY => category(uni, category_code(words, place + 1), character),
+        SreOpcode::LITERAL => operand(words, place, 1) == character,
+        SreOpcode::LITERAL_IGNORE => operand(words, place, 1) == lower_ascii(character),
+        SreOpcode::LITERAL_LOC_IGNORE => is_any_case(uni, operand(words, place, 1), character),
+        SreOpcode::LITERAL_UNI_IGNORE => operand(words, place, 1) == lower_unicode(uni, character),
+        SreOpcode::NOT_LITERAL => operand(words, place, 1) != character,
+        SreOpcode::NOT_LITERAL_IGNORE => operand(words, place, 1) != lower_ascii(character),
+        SreOpcode::NOT_LITERAL_LOC_IGNORE => !is_any_case(uni, operand(words, place, 1), character),
+        SreOpcode::NOT_LITERAL_UNI_IGNORE => {
+            operand(words, place, 1) != lower_unicode(uni, character)
+        }
+        SreOpcode::IN => is_member(words, uni, place + 2, character),
+        SreOpcode::IN_IGNORE => is_member(words, uni, place + 2, lower_ascii(character)),
+        SreOpcode::IN_LOC_IGNORE => takes_a_case(words, uni, place + 2, character),
+        SreOpcode::IN_UNI_IGNORE => {
+            is_member(words, uni, place + 2, lower_unicode(uni, character))
+        }
+        _ => unreachable!(),
+    }
+}
+
+/// Where the words of the test whose opcode is at a place end.
+#[inline(always)]
+pub(crate) fn test_end<S: StrDrive>(req: &Request<'_, S>, place: usize, opcode: SreOpcode) -> usize
+    requires code { Opcode (run_of req.now).words place opcode }
+    requires stands { HasTest (run_of req.now).words place }
+    ensures { (j : ℕ) (t : Test) → TestStands (run_of req.now).words place j t → result ≡ j }
+{
+    let words = req.pattern_codes().words();
+    match opcode {
+        SreOpcode::ANY | SreOpcode::ANY_ALL => place + 1,
+        SreOpcode::IN
+        | SreOpcode::IN_IGNORE
+        | SreOpcode::IN_LOC_IGNORE
+        | SreOpcode::IN_UNI_IGNORE => place + 1 + operand(words, place, 1) as usize,
+        _ => place + 2,
+    }
+}
