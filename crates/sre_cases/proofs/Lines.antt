@@ -12,7 +12,8 @@ use Rattle.sre_cases.specs.declared.line.Window.TheVariants.{Whole, Span}
 use Rattle.sre_cases.specs.Fields.{hex_text, words_text, window_text, IsWindow, flags_text, bytes_text, subject_text, AreOperands, verb_text, verb, fields_text, case_text}
 use Rattle.sre_cases.specs.declared.line.Case.{Case}
 use Rattle.sre_cases.specs.declared.line.Verb.{Verb}
-use Rattle.sre_cases.specs.declared.line.Verb.TheVariants.{Check as Verb-Check, Match as Verb-Match}
+use Rattle.sre_cases.specs.declared.line.Verb.TheVariants.{Check as Verb-Check, Find as Verb-Find}
+use Rattle.sre_cases.specs.declared.line.Finding.TheVariants.{Match, Search}
 use Rattle.sre_cases.proofs.Cuts.{cut_once, uncut}
 use Rattle.sre_cases.proofs.Numbers.{decimal_lacks}
 use Rattle.sre_cases.proofs.Words.{AllWords}
@@ -138,9 +139,13 @@ verb_lacks : (v : Verb) → Lacks (verb_text v) 32
 verb_lacks Verb-Check =
     lacks_cons 32 99 (104 ∷ 101 ∷ 99 ∷ 107 ∷ []) (omega arith) (lacks_cons 32 104 (101 ∷ 99 ∷ 107 ∷ []) (omega arith)
     (lacks_cons 32 101 (99 ∷ 107 ∷ []) (omega arith) (lacks_cons 32 99 (107 ∷ []) (omega arith) (lacks_cons 32 107 [] (omega arith) (lacks_nil 32)))))
-verb_lacks Verb-Match =
+verb_lacks (Verb-Find Match) =
     lacks_cons 32 109 (97 ∷ 116 ∷ 99 ∷ 104 ∷ []) (omega arith) (lacks_cons 32 97 (116 ∷ 99 ∷ 104 ∷ []) (omega arith)
     (lacks_cons 32 116 (99 ∷ 104 ∷ []) (omega arith) (lacks_cons 32 99 (104 ∷ []) (omega arith) (lacks_cons 32 104 [] (omega arith) (lacks_nil 32)))))
+verb_lacks (Verb-Find Search) =
+    lacks_cons 32 115 (101 ∷ 97 ∷ 114 ∷ 99 ∷ 104 ∷ []) (omega arith) (lacks_cons 32 101 (97 ∷ 114 ∷ 99 ∷ 104 ∷ []) (omega arith)
+    (lacks_cons 32 97 (114 ∷ 99 ∷ 104 ∷ []) (omega arith) (lacks_cons 32 114 (99 ∷ 104 ∷ []) (omega arith)
+    (lacks_cons 32 99 (104 ∷ []) (omega arith) (lacks_cons 32 104 [] (omega arith) (lacks_nil 32))))))
 
 pub after_verb : (line field left : List ℕ) (case : Case) (words text : List ℕ) → field ++ 32 ∷ left ≡ line → Lacks field 32
     → case_text case words text ≡ line → (verb_text (verb case) ≡ field) × (fields_text case words text ≡ left)

@@ -7,9 +7,10 @@ use Rattle.sre_cases.specs.declared.line.TextForm.{TextForm}
 use Rattle.sre_cases.specs.declared.line.TextForm.TheVariants.{Bytes}
 use Rattle.sre_cases.specs.declared.line.Subject.{Subject}
 use Rattle.sre_cases.specs.declared.line.Case.{Case}
-use Rattle.sre_cases.specs.declared.line.Case.TheVariants.{Check, Match}
+use Rattle.sre_cases.specs.declared.line.Case.TheVariants.{Check, Find}
+use Rattle.sre_cases.specs.declared.line.Finding.TheVariants.{Match, Search}
 use Rattle.sre_cases.specs.declared.line.Verb.{Verb}
-use Rattle.sre_cases.specs.declared.line.Verb.TheVariants.{Check as Verb-Check, Match as Verb-Match}
+use Rattle.sre_cases.specs.declared.line.Verb.TheVariants.{Check as Verb-Check, Find as Verb-Find}
 use Rattle.sre_cases.specs.declared.line.Window.{Window}
 use Rattle.sre_cases.specs.declared.line.Window.TheVariants.{Whole, Span}
 
@@ -61,16 +62,17 @@ subject_text subject text = 32 ∷ bytes_text subject.text text ++ (32 ∷ windo
 -- the verb that a case begins with
 abbrev pub verb_text : Verb → List ℕ
 verb_text Verb-Check = codes "check"
-verb_text Verb-Match = codes "match"
+verb_text (Verb-Find Match) = codes "match"
+verb_text (Verb-Find Search) = codes "search"
 
 abbrev pub verb : Case → Verb
 verb Check = Verb-Check
-verb (Match subject) = Verb-Match
+verb (Find finding subject) = Verb-Find finding
 
 -- what stands behind the verb
 abbrev pub fields_text : Case → List ℕ → List ℕ → List ℕ
 fields_text Check words text = words_text words
-fields_text (Match subject) words text = words_text words ++ subject_text subject text
+fields_text (Find finding subject) words text = words_text words ++ subject_text subject text
 
 -- a case with its words and its text as a line
 abbrev pub case_text : Case → List ℕ → List ℕ → List ℕ
@@ -84,4 +86,4 @@ pub record AreOperands (words text : List ℕ) : Type 0 where
 -- a case whose numbers fit
 abbrev pub IsCase : Case → Type 0
 IsCase Check = Unit {0}
-IsCase (Match subject) = IsWindow subject.window
+IsCase (Find finding subject) = IsWindow subject.window

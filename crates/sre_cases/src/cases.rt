@@ -6,7 +6,9 @@ ghost use Rattle.sre_cases.specs.Answers.{fault_text, IsFaultOfCases};
 ghost use Rattle.sre_cases.specs.Lines.{lines_of, IsReadable, AreReadable};
 
 use crate::answer::{push_hints, push_match};
-use crate::line::{Case, LineFault, Operands, Subject, TextForm, Window, read_case, split_once};
+use crate::line::{
+    Case, Finding, LineFault, Operands, Subject, TextForm, Window, read_case, split_once,
+};
 use sre_engine::code::CodeError;
 use sre_engine::engine::{SreError, State};
 use sre_engine::{Code, Request, StrDrive, UniTable};
@@ -118,10 +120,10 @@ fn push_answer<A: Allocator + Copy>(desk: &mut Desk<A>, case: Case) -> Result<()
     match Code::check(desk.alloc, desk.operands.words.as_slice(), &desk.table) {
         Ok(code) => match case {
             Case::Check => push_hints(&mut desk.answer, &code.hints())?,
-            Case::Match(subject) => match subject.text {
+            Case::Find(finding, subject) => match subject.text {
                 TextForm::Bytes => {
                     let asked = request(desk.operands.text.as_slice(), subject, code);
-                    push_match_in(asked, &mut desk.state, &mut desk.answer)?;
+                    push_found(finding, asked, &mut desk.state, &mut desk.answer)?;
                 }
             },
         },
@@ -142,13 +144,18 @@ fn request<'a, S: StrDrive>(text: S, subject: Subject, code: Code<'a>) -> Reques
     request
 }
 
-// Appends the match at the window's start, or `no`.
-fn push_match_in<S: StrDrive, A: Allocator + Copy>(
+// Appends the match that is found, or `no`.
+fn push_found<S: StrDrive, A: Allocator + Copy>(
+    finding: Finding,
     request: Request<'_, S>,
     state: &mut State<A>,
     answer: &mut String<A>,
 ) -> Result<(), AllocError> {
-    match state.pymatch(&request) {
+    let found = match finding {
+        Finding::Match => state.pymatch(&request),
+        Finding::Search => state.search(request),
+    };
+    match found {
         Ok(true) => {
             let end = state.cursor().position();
             let marks = state.marks();

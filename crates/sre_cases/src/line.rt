@@ -1,6 +1,6 @@
 //! Lines as cases.
 //!
-//! A case is `check WORDS` or `match WORDS TEXT WINDOW FLAGS`, its fields divided by single spaces.
+//! A case is `check WORDS`, or `match` or `search` with WORDS TEXT WINDOW FLAGS, its fields divided by single spaces.
 //! A line is read whole before its words are checked, and any other line is refused.
 
 ghost use Rattle.std.specs.Prelude.{◌≡◌, ◌≢◌, ℕ, ◌^◌, ◌<◌, ◌++◌, ◌∷◌, List, All, Contains, IfSome, IfNone, IfOk, OnOk, []};
@@ -34,7 +34,7 @@ impl<T: Drop> From<AllocFailed<T>> for LineFault {
 #[derive(Clone, Copy, PartialEq, Eq, Debug)]
 enum Verb {
     Check,
-    Match,
+    Find(Finding),
 }
 
 /// What a case asks. Its words and its text stand in [`Operands`].
@@ -42,8 +42,17 @@ enum Verb {
 pub enum Case {
     /// Whether the words are a code, and its hints.
     Check,
-    /// A match at the window's start.
-    Match(Subject),
+    /// A match.
+    Find(Finding, Subject),
+}
+
+/// Where a match may start.
+#[derive(Clone, Copy, PartialEq, Eq, Debug)]
+pub enum Finding {
+    /// `match`: at the window's start.
+    Match,
+    /// `search`: anywhere in the window, and the least start counts.
+    Search,
 }
 
 /// How the text of a case is searched.
@@ -100,7 +109,7 @@ pub fn read_case<A: Allocator>(line: &[u8], operands: &mut Operands<A>) -> Resul
             read_words(fields, &mut operands.words)?;
             Ok(Case::Check)
         }
-        Some(Verb::Match) => Ok(Case::Match(read_subject(fields, operands)?)),
+        Some(Verb::Find(finding)) => Ok(Case::Find(finding, read_subject(fields, operands)?)),
         None => Err(LineFault::NotACase),
     }
 }
@@ -112,7 +121,8 @@ fn verb_of(field: &[u8]) -> Option<Verb>
 {
     match field {
         b"check" => Some(Verb::Check),
-        b"match" => Some(Verb::Match),
+        b"match" => Some(Verb::Find(Finding::Match)),
+        b"search" => Some(Verb::Find(Finding::Search)),
         _ => None,
     }
 }

@@ -5,7 +5,7 @@ use sre_refusing::Refusing;
 use std::test::Fail;
 
 // Lines and their answers, by the definition of the engine's matches.
-const ROWS: [(&str, &str); 13] = [
+const ROWS: [(&str, &str); 32] = [
     (
         "match 17,0,16,97,17,1,16,98,1 b:6162 all -",
         "yes 0..2 last 1 marks 0,1",
@@ -25,6 +25,46 @@ const ROWS: [(&str, &str); 13] = [
     ("check -", "refused"),
     ("check 16,97,1,1", "refused"),
     ("match 16,97,1,1 b:61 all -", "refused"),
+    (
+        "match 24,6,0,4294967295,16,97,1,1 b:616162 all -",
+        "yes 0..2 last -1 marks none",
+    ),
+    (
+        "match 7,5,16,97,15,9,7,16,97,16,98,15,2,0,1 b:6162 all -",
+        "yes 0..1 last -1 marks none",
+    ),
+    (
+        "match 7,5,16,97,15,9,7,16,97,16,98,15,2,0,1 b:6162 all f",
+        "yes 0..2 last -1 marks none",
+    ),
+    (
+        "match 13,11,9,0,0,0,2,0,0,0,0,0,1 b:61 all -",
+        "yes 0..1 last -1 marks none",
+    ),
+    ("match 13,11,9,0,0,0,2,0,0,0,0,0,1 b:62 all -", "no"),
+    (
+        "search 16,97,1 b:626261 all -",
+        "yes 2..3 last -1 marks none",
+    ),
+    (
+        "search 17,0,16,97,17,1,1 b:6261 all -",
+        "yes 1..2 last 1 marks 1,2",
+    ),
+    ("search 16,97,1 b:6161 all f", "yes 1..2 last -1 marks none"),
+    (
+        "search 16,97,1 b:616261 1..9 -",
+        "yes 2..3 last -1 marks none",
+    ),
+    ("search 16,97,1 b:6261 0..1 -", "no"),
+    ("search 1 b:61 all -", "yes 0..0 last -1 marks none"),
+    ("search 1 b:61 all a", "yes 1..1 last -1 marks none"),
+    ("search 1 b: all a", "no"),
+    ("search 16,97,1,1 b:61 all -", "refused"),
+    ("check 7,0,1", "refused"),
+    ("check 43,1", "refused"),
+    ("check 25,1", "refused"),
+    ("check 8,18,1", "refused"),
+    ("check 6,12,1", "refused"),
 ];
 
 #[test]

@@ -39,7 +39,10 @@ fn lines_that_are_no_cases(rt: HostRuntime) -> Result<(), Fail> {
         "match 1 b:61 all",
         "match 1 b:61 -",
         "match 1 b:61 all - -",
-        "search 1 b:61 all -",
+        "search 1",
+        "search 1 b:61 all",
+        "searches 1 b:61 all -",
+        "find 1 b:61 all -",
         "walk 1 b:61 all -",
         // what divides fields
         " check 1",
@@ -148,25 +151,37 @@ fn lines_that_are_cases(rt: HostRuntime) -> Result<(), Fail> {
             "match - b: all -",
             [].as_slice(),
             b"",
-            subject(Window::Whole, false, false),
+            subject(Finding::Match, Window::Whole, false, false),
         ),
         (
             "match 1 b:00ff7f all f",
             [1].as_slice(),
             b"\x00\xff\x7f",
-            subject(Window::Whole, true, false),
+            subject(Finding::Match, Window::Whole, true, false),
+        ),
+        (
+            "search 1 b:61 all f",
+            [1].as_slice(),
+            b"a",
+            subject(Finding::Search, Window::Whole, true, false),
         ),
         (
             "match 1,2 b:0a20 5..3 a",
             [1, 2].as_slice(),
             b"\n ",
-            subject(Window::Span { start: 5, end: 3 }, false, true),
+            subject(
+                Finding::Match,
+                Window::Span { start: 5, end: 3 },
+                false,
+                true,
+            ),
         ),
         (
             "match 1 b:61 0..18446744073709551615 fa",
             [1].as_slice(),
             b"a",
             subject(
+                Finding::Match,
                 Window::Span {
                     start: 0,
                     end: most,
@@ -191,15 +206,16 @@ fn lines_that_are_cases(rt: HostRuntime) -> Result<(), Fail> {
 }
 
 // A case over bytes.
-fn subject(window: Window, match_all: bool, must_advance: bool) -> Case {
-    Case::Match(Subject {
+fn subject(finding: Finding, window: Window, match_all: bool, must_advance: bool) -> Case {
+    let subject = Subject {
         text: TextForm::Bytes,
         window,
         flags: Flags {
             match_all,
             must_advance,
         },
-    })
+    };
+    Case::Find(finding, subject)
 }
 
 #[test]
