@@ -1,23 +1,13 @@
 -- Bits of sets: where the words have a character's bit.
-use Rattle.std.proofs.Common.{ℕ, zero, suc, ◌+◌, ◌-◌, ◌*◌, ◌/◌, ◌%◌, ◌^◌, ◌≡◌, ◌<◌, ◌≤◌, true, nat_eq, nat_lt, List, [], ◌∷◌, length, take, drop, slice_index, slice_range, refl, sym, ◌∙◌, ap, arith, length-drop}
+use Rattle.std.proofs.Common.{ℕ, zero, suc, ◌+◌, ◌-◌, ◌*◌, ◌/◌, ◌%◌, ◌^◌, ◌≡◌, ◌<◌, ◌≤◌, List, [], ◌∷◌, length, take, drop, slice_index, slice_range, refl, sym, ◌∙◌, ap, arith, length-drop}
 use Rattle.std.specs.List.{flat_map}
 use Rattle.std.proofs.lemmas.List.{get_or-take, get_or-drop, length-take-le}
 use Rattle.std.proofs.lemmas.List.Concat.{get_or-flat_map}
-use Rattle.std.proofs.lemmas.Bool.Decides.{nat_tests}
-use Rattle.sre_chars.specs.Tables.{Table}
-use Rattle.sre_engine.specs.Tree.{Charset, BigCharset}
-use Rattle.sre_engine.specs.Characters.{item_holds}
 use Rattle.sre_engine.specs.Grammar.{bytes_of, BytesBelow, BlocksBelow}
 
 -- a part of a list at k
 part_at : (ws : List ℕ) (a b k : ℕ) → a + k < b → slice_index (slice_range ws a b) k ≡ slice_index ws (a + k)
 part_at ws a b k l = get_or-take (b - a) (drop a ws) k 0 (omega arith) ∙ get_or-drop a ws k 0
-
--- the eight words of a CHARSET
-pub charset_bit : (ws : List ℕ) (table : Table) (i c : ℕ) → c < 256 → nat_eq (slice_index ws (i + 1 + c / 32) / 2 ^ (c % 32) % 2) 1 ≡ item_holds table (Charset (slice_range ws (i + 1) (i + 9))) c
-charset_bit ws table i c l =
-    let e : nat_lt c 256 ≡ true = grind (arith, nat_tests) in
-    rw (e, part_at ws (i + 1) (i + 9) (c / 32) (omega arith)) refl
 
 -- what holds of each number below four
 each_byte : (P : ℕ → Type 0) → P 0 → P 1 → P 2 → P 3 → (r : ℕ) → r < 4 → P r
@@ -67,13 +57,3 @@ block_below ws i c count l room b =
     let e : slice_index xs q ≡ slice_index ws (i + 2 + q) = part_at ws (i + 2) (i + 66) q (omega arith) in
     let below : slice_index (bytes_of (slice_index xs q)) (c / 256 % 4) < count = byte_below count (slice_index xs q) (c / 256 % 4) (b q there) (omega arith) in
     omega (arith, byte_of (slice_index xs q) (c / 256 % 4) (omega arith), ap (λ w. w / 2 ^ (8 * (c / 256 % 4)) % 256) e)
-
--- the eight words of a block
-pub block_bit : (ws : List ℕ) (table : Table) (i c n count : ℕ) → c < 65536 → n < count → n ≡ slice_index (flat_map bytes_of (slice_range ws (i + 2) (i + 66))) (c / 256)
-    → nat_eq (slice_index ws (i + 66 + 8 * n + c % 256 / 32) / 2 ^ (c % 32) % 2) 1 ≡ item_holds table (BigCharset (flat_map bytes_of (slice_range ws (i + 2) (i + 66))) (slice_range ws (i + 66) (i + 66 + count * 8))) c
-block_bit ws table i c n count l below is =
-    let e : nat_lt c 65536 ≡ true = grind (arith, nat_tests) in
-    let k : (256 * n + c % 256) / 32 ≡ 8 * n + c % 256 / 32 = omega arith in
-    let r : (256 * n + c % 256) % 32 ≡ c % 32 = omega arith in
-    let at : i + 66 + (8 * n + c % 256 / 32) ≡ i + 66 + 8 * n + c % 256 / 32 = omega arith in
-    rw (e, ← is, k, r, part_at ws (i + 66) (i + 66 + count * 8) (8 * n + c % 256 / 32) (omega arith), at) refl

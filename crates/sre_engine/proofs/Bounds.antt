@@ -6,7 +6,7 @@ use Rattle.std.proofs.lemmas.Bool.Decides.{nat_tests}
 use Rattle.sre_engine.specs.Tree.{Tree, Empty, Then, Item, Fail, One, At, Mark, Branch, Loop, Run, PossessiveLoop, Atomic, Look, Reference, Exists, ExistsElse, Trees, Only, Or, Test, Order, Greedy, Lazy, RunKind, GreedyRun, LazyRun, PossessiveRun, Sign, Positive, Negative, Fold}
 use Rattle.sre_engine.specs.Marks.{Marks, group}
 use Rattle.sre_engine.specs.Subject.{Subject, passes, holds_at, same_folded}
-use Rattle.sre_engine.specs.Ways.{Way, Body, first, here, unlimited, run_length, longest_run, rising, falling, counts, run_ways, within, ordered, may_repeat, more, least, possessive_more, look_ways, reference_ways, ways, item_ways, branch_ways}
+use Rattle.sre_engine.specs.Ways.{Way, Body, first, here, unlimited, run_length, most_from, longest_run, rising, falling, counts, run_ways, within, ordered, may_repeat, more, least, possessive_more, look_ways, reference_ways, ways, item_ways, branch_ways}
 use Rattle.sre_engine.proofs.Each.{each-append, each-flat_map, each-weaken, each-map, each-first, each-cond, filter-each, each-filter}
 
 -- a way that ends between p and the window's end
@@ -102,7 +102,7 @@ module _ (s : Subject) where
 
   -- a run ends inside the window
   pub longest_run-fits : (t : Test) (high p : ℕ) → p ≤ s.end → p + longest_run s t high p ≤ s.end
-  longest_run-fits t high p h = run_length-bounded t (cond (nat_eq high unlimited || nat_lt (s.end - p) high) (s.end - p) high) p (fits (nat_eq high unlimited) (nat_lt (s.end - p) high) refl)
+  longest_run-fits t high p h = run_length-bounded t (most_from s high p) p (fits (nat_eq high unlimited) (nat_lt (s.end - p) high) refl)
     where
       fits : (a b : Bool) → nat_lt (s.end - p) high ≡ b → p + cond (a || b) (s.end - p) high ≤ s.end
       fits true b e = omega arith

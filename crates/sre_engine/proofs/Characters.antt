@@ -6,7 +6,7 @@ use Rattle.sre_chars.specs.declared.constants.SreOpcode.TheVariants as opcode
 use Rattle.sre_chars.specs.declared.constants.SreCatCode.{SreCatCode}
 use Rattle.sre_engine.specs.Tree.{Test, Any, AnyAll, InCategory, Literal, NotLiteral, In, Fold, Plain, SetItem}
 use Rattle.sre_engine.specs.Grammar.{Opcode, Word, word, skip, test_opcode, TestOperands, ReadsSet, IsBuiltTest, IsBuiltSet}
-use Rattle.sre_engine.specs.Reading.{NoCode, ReadsTest, TestExactly, NoTest, TestEnds, HasSet, NoSet}
+use Rattle.sre_engine.specs.Reading.{NoCode, ReadsTest, TestExactly, NoTest, TestEnds, IsSet, NoSet}
 use Rattle.sre_engine.specs.declared.code.error.CodeError.TheVariants.{BadItem}
 use Rattle.sre_engine.proofs.Words.{word_within, word_there, word_past, opcode_within, opcode_moved, same_opcode}
 use Rattle.sre_engine.proofs.Places.{set_within, set_moved}
@@ -76,7 +76,7 @@ set_here ws i k t h r =
     plain Plain set b o = record { set = set; ends = o.0; reads = o.1; closed = o.2; built = b }
     plain fold set b o = absurd b
 
-pub set_exactly : (ws : List ℕ) (i t : ℕ) → Opcode ws i opcode.IN → t ≡ skip ws (i + 1) → Opcode ws (t - 1) opcode.FAILURE → HasSet ws (i + 2) (t - 1) → TestExactly ws i t
+pub set_exactly : (ws : List ℕ) (i t : ℕ) → Opcode ws i opcode.IN → t ≡ skip ws (i + 1) → Opcode ws (t - 1) opcode.FAILURE → IsSet ws (i + 2) (t - 1) → TestExactly ws i t
 set_exactly ws i t h e closed s = record { test = In Plain s.set.0; reads = (h, (e, s.set.1, closed), s.set.2); only = λ k x r. (set_here ws i k x h r).ends ∙ sym e }
 
 pub set_wrong : (ws : List ℕ) (i t : ℕ) → Opcode ws i opcode.IN → t ≡ skip ws (i + 1) → NoSet ws (i + 2) (t - 1) → NoTest ws i

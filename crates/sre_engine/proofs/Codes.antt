@@ -2,26 +2,15 @@
 use Rattle.std.proofs.Common.{ℕ, ◌≡◌, ◌<◌, ◌≤◌, List, length, sym, subst, arith}
 use Rattle.sre_chars.specs.Numbers.{opcode_number, category_number}
 use Rattle.sre_chars.specs.declared.constants.SreOpcode.{SreOpcode}
-use Rattle.sre_chars.specs.declared.constants.SreOpcode.TheVariants as opcode
-use Rattle.sre_chars.specs.declared.constants.SreCatCode.{SreCatCode}
-use Rattle.sre_chars.specs.declared.constants.SreCatCode.TheVariants as category
 use Rattle.sre_engine.specs.Grammar.{Word, Opcode}
 use Rattle.sre_engine.specs.Standing.{HasCategory}
-use Rattle.sre_engine.proofs.Words.{same_word, word_within}
+use Rattle.sre_engine.proofs.Words.{opcode_low, category_low, same_word, word_within}
 
 pub word_known : (ws : List ℕ) (i v n : ℕ) → Word ws i v → n ≡ v → Word ws i n
 word_known ws i v n w e = subst (λ x. Word ws i x) (sym e) w
 
-opcode_low : (o : SreOpcode) → opcode_number o < 43
-opcode_low opcode.FAILURE = omega arith
-opcode_low o = omega arith
-
 pub opcode_unlike : (ws : List ℕ) (i v : ℕ) (o : SreOpcode) → Opcode ws i o → Word ws i v → 43 ≤ v → ⊥
 opcode_unlike ws i v o w r l = omega (arith, opcode_low o, same_word ws i (opcode_number o) v w r)
-
-category_low : (c : SreCatCode) → category_number c < 18
-category_low category.DIGIT = omega arith
-category_low c = omega arith
 
 pub category_within : (ws : List ℕ) (i : ℕ) → HasCategory ws i → i < length ws
 category_within ws i h = word_within ws i (category_number h.code) h.there

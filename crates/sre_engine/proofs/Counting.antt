@@ -1,18 +1,15 @@
 -- What a run of one character comes to.
-use Rattle.std.proofs.Common.{ℕ, zero, suc, ◌+◌, ◌-◌, ◌≡◌, ◌<◌, ◌≤◌, Bool, true, false, nat_lt, refl, sym, ◌∙◌, ap, arith}
+use Rattle.std.proofs.Common.{ℕ, zero, suc, ◌+◌, ◌-◌, ◌≡◌, ◌<◌, ◌≤◌, true, false, refl, sym, ◌∙◌, ap, arith}
 use Rattle.std.proofs.lemmas.Bool.Decides.{nat_tests}
 use Rattle.sre_chars.specs.declared.string.StringCursor.{StringCursor}
 use Rattle.sre_engine.specs.Tree.{Test}
 use Rattle.sre_engine.specs.Characters.{holds}
 use Rattle.sre_engine.specs.Subject.{Subject, char_at, passes}
-use Rattle.sre_engine.specs.Ways.{run_length}
+use Rattle.sre_engine.specs.Ways.{most_from, run_length}
 use Rattle.sre_engine.specs.Machine.{Run}
 use Rattle.sre_engine.specs.Standing.{TestStands}
-use Rattle.sre_engine.specs.Counting.{most_from, Counted}
-use Rattle.sre_engine.proofs.Passing.{stands_at_own}
-
-pub passing : (s : Subject) (t : Test) (p c : ℕ) (b : Bool) → p < s.end → c ≡ char_at s p → b ≡ holds s.table t c → passes s t p ≡ b
-passing s t p c b l e h = let inside : nat_lt p s.end ≡ true = grind (arith, nat_tests) in rw inside (ap (λ x. holds s.table t x) (sym e) ∙ sym h)
+use Rattle.sre_engine.specs.Counting.{Counted}
+use Rattle.sre_engine.proofs.Passing.{read_passes, stands_at_own}
 
 run_stops : (s : Subject) (t : Test) (n p : ℕ) → passes s t p ≡ false → run_length s t n p ≡ 0
 run_stops s t zero p h = refl
@@ -26,18 +23,10 @@ run_goes s t (suc n) p l h = let e : suc n - 1 ≡ n = omega arith in rw (h, e) 
 pub run_whole : (s : Subject) (t : Test) (n p : ℕ) → ((c : ℕ) → holds s.table t c ≡ true) → n ≤ s.end - p → run_length s t n p ≡ n
 run_whole s t zero p h l = refl
 run_whole s t (suc n) p h l =
-    let e : passes s t p ≡ true = passing s t p (char_at s p) true (omega arith) refl (sym (h (char_at s p))) in
+    let e : passes s t p ≡ true = read_passes s t p (char_at s p) true (omega arith) refl (sym (h (char_at s p))) in
     rw e (ap (λ k. suc k) (run_whole s t n (p + 1) h (omega arith)))
 
--- at first, behind one more character, where a character is not taken, and at the greatest count
-pub counted_none : (r : Run) (i most : ℕ) (start : StringCursor) → r.stands start start.position → Counted r i most start start 0
-counted_none r i most start h = record {
-  within = omega arith;
-  position = omega arith;
-  stands = h;
-  each = λ j t s. let e : most - 0 ≡ most = omega arith in rw e (omega arith);
-}
-
+-- behind one more character, where a character is not taken, and at the greatest count
 pub counted_more : (r : Run) (i most count c : ℕ) (start cursor after : StringCursor) → Counted r i most start cursor count → count < most → most ≤ r.subject.end - start.position → c ≡ char_at r.subject cursor.position
     → ((j : ℕ) (t : Test) → TestStands r.words i j t → true ≡ holds r.subject.table t c) → after.position ≡ cursor.position + 1 → r.stands after (cursor.position + 1) → Counted r i most start after (count + 1)
 counted_more r i most count c start cursor after k l room e h at there = record {
@@ -46,7 +35,7 @@ counted_more r i most count c start cursor after k l room e h at there = record 
   stands = stands_at_own r.stands after (cursor.position + 1) at there;
   each = λ j t s.
       let inside : cursor.position < r.subject.end = omega (arith, k.position) in
-      let on = run_goes r.subject t (most - count) cursor.position (omega arith) (passing r.subject t cursor.position c true inside e (h j t s)) in
+      let on = run_goes r.subject t (most - count) cursor.position (omega arith) (read_passes r.subject t cursor.position c true inside e (h j t s)) in
       let one : most - count - 1 ≡ most - (count + 1) = omega arith in
       rw (k.each j t s, on, one, at) (omega arith);
 }
@@ -55,7 +44,7 @@ pub counted_stop : (r : Run) (i most count c : ℕ) (start cursor : StringCursor
     → ((j : ℕ) (t : Test) → TestStands r.words i j t → false ≡ holds r.subject.table t c) → (j : ℕ) (t : Test) → TestStands r.words i j t → count ≡ run_length r.subject t most start.position
 counted_stop r i most count c start cursor k l room e h j t s =
     let inside : cursor.position < r.subject.end = omega (arith, k.position) in
-    omega (arith, k.each j t s, run_stops r.subject t (most - count) cursor.position (passing r.subject t cursor.position c false inside e (h j t s)))
+    omega (arith, k.each j t s, run_stops r.subject t (most - count) cursor.position (read_passes r.subject t cursor.position c false inside e (h j t s)))
 
 pub counted_all : (r : Run) (i most count : ℕ) (start cursor : StringCursor) → Counted r i most start cursor count → most ≤ count → (j : ℕ) (t : Test) → TestStands r.words i j t → count ≡ run_length r.subject t most start.position
 counted_all r i most count start cursor k l j t s =

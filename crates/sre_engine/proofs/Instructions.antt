@@ -4,7 +4,6 @@ use Rattle.std.proofs.lemmas.List.{append-nil}
 use Rattle.std.proofs.lemmas.Bool.Decides.{nat_tests}
 use Rattle.sre_chars.specs.Numbers.{at_number}
 use Rattle.sre_chars.specs.declared.constants.SreAtCode.{SreAtCode}
-use Rattle.sre_chars.specs.declared.constants.SreAtCode.TheVariants as at_code
 use Rattle.sre_chars.specs.declared.constants.SreOpcode.{SreOpcode}
 use Rattle.sre_chars.specs.declared.constants.SreOpcode.TheVariants as opcode
 use Rattle.sre_chars.specs.declared.string.StringCursor.{StringCursor}
@@ -19,11 +18,11 @@ use Rattle.sre_engine.specs.Machine.{Family, family, Failing, Ending, Testing, S
 use Rattle.sre_engine.specs.Standing.{TestStands, HasTest}
 use Rattle.sre_engine.specs.declared.engine.machine.Next.{Next}
 use Rattle.sre_engine.specs.declared.engine.machine.Next.TheVariants as next
-use Rattle.sre_engine.proofs.Words.{same_word, same_opcode, word_of, word_within, opcode_within}
+use Rattle.sre_engine.proofs.Words.{same_word, same_opcode, same_at, at_low, word_of, word_within, opcode_within}
 use Rattle.sre_engine.proofs.Ran.{moved}
 use Rattle.sre_engine.proofs.Passing.{past_end, read_passes, stands_at_own}
 use Rattle.sre_engine.proofs.Families.{is_literal}
-use Rattle.sre_engine.proofs.Unique.{test_same, same_at}
+use Rattle.sre_engine.proofs.Unique.{test_same}
 
 -- what is done where an opcode stands
 pub does_at : {ws : List ℕ} {s : Subject} {i p n : ℕ} {fs : List Frame} {m : Marks} {os : List Way} (o : SreOpcode) → Opcode ws i o → Runs ws s (Instruction i) fs p m os n → Does ws s (family o) i fs p m os n
@@ -32,16 +31,6 @@ does_at {ws} {s} {i} {p} {n} {fs} {m} {os} o w (at x wx d) = subst (λ y. Does w
 -- the same for a known family
 pub does_in : {ws : List ℕ} {s : Subject} {i p n : ℕ} {fs : List Frame} {m : Marks} {os : List Way} (o : SreOpcode) (f : Family) → family o ≡ f → Opcode ws i o → Runs ws s (Instruction i) fs p m os n → Does ws s f i fs p m os n
 does_in {ws} {s} {i} {p} {n} {fs} {m} {os} o f e w r = subst (λ y. Does ws s y i fs p m os n) e (does_at o w r)
-
--- an opcode stands where the machine does
-pub opcode_there : (r : Run) (i : ℕ) (c : StringCursor) → HasRun r (Instruction i) c → (o : SreOpcode) × Opcode r.words i o
-opcode_there r i c x = go x.runs
-  where
-    go : {s : Subject} {fs : List Frame} {p n : ℕ} {m : Marks} {os : List Way} → Runs r.words s (Instruction i) fs p m os n → (o : SreOpcode) × Opcode r.words i o
-    go (at o w d) = (o, w)
-
-pub place_within : (r : Run) (i : ℕ) (c : StringCursor) → HasRun r (Instruction i) c → i < length r.words
-place_within r i c x = let o = opcode_there r i c x in opcode_within r.words i o.0 o.1
 
 -- no opcode that isn't built is reached
 pub only_built : (r : Run) (i : ℕ) (c : StringCursor) (o : SreOpcode) → HasRun r (Instruction i) c → Opcode r.words i o → family o ≡ Unbuilt → ⊥
@@ -189,9 +178,6 @@ refuses_test r i j p t o w f st n fs m os k x = go (does_in o Testing f w x)
         absurd (let y : passes r.subject t p ≡ true = ap (λ x. passes r.subject x p) (sym same.0) ∙ e in cc)
     go (refused j' t' wt h e) = refl
 
-pub has_run : (r : Run) (all : List Way) (limit : ℕ) (pt : Point) (c : StringCursor) (b : BoardValue) → Goes r all limit pt c b → HasRun r pt c
-has_run r all limit pt c b g = record { frames = _; marks = _; outcomes = _; turns = _; stands = g.stands; runs = g.runs }
-
 -- the outcomes of a point are those of two, one after the other
 record Two (ws : List ℕ) (s : Subject) (first second : Point) (fs : List Frame) (p : ℕ) (m : Marks) (os : List Way) (n : ℕ) : Type 0 where
   now : List Way
@@ -219,9 +205,6 @@ two_shorter {ws} {s} {t} {k} {p} {n} {fs} {m} j q e back (shorter {k = k'} {q = 
 goes_both : (r : Run) (all : List Way) (limit : ℕ) (pt first second : Point) (c c' : StringCursor) (b : BoardValue) (g : Goes r all limit pt c b) → r.stands c' c'.position → Two r.words r.subject first second b.frames c'.position b.marks g.now g.turns → GoesBoth r all limit first second c' b
 goes_both r all limit pt first second c c' b g there t =
     record { now = t.now; next = t.next; turns = t.turns; further = t.further; later = g.later; stands = there; runs = t.runs; others = t.others; waits = subst (λ x. Waits r b.choices x all g.later) t.same g.waits; within = omega (arith, t.within, g.within) }
-
-pub both_first : (r : Run) (all : List Way) (limit : ℕ) (first second : Point) (c : StringCursor) (b : BoardValue) → GoesBoth r all limit first second c b → HasRun r first c
-both_first r all limit first second c b g = record { frames = _; marks = _; outcomes = _; turns = _; stands = g.stands; runs = g.runs }
 
 -- nothing comes of the first
 pub both_pass : (r : Run) (i : ℕ) (second : Point) (c : StringCursor) (b : BoardValue) → Refuses r i c.position → (all : List Way) (limit : ℕ) → GoesBoth r all limit (Instruction i) second c b → Goes r all limit second c b
@@ -413,10 +396,6 @@ literal_past r i c w x l = let t = test_there r i c opcode.LITERAL w refl x in r
 
 pub at_operand : (r : Run) (i : ℕ) (c : StringCursor) → Opcode r.words i opcode.AT → HasRun r (Instruction i) c → i + 1 < length r.words
 at_operand r i c w x = let a = at_there r i c w x in word_within r.words (i + 1) (at_number a.0) a.1
-
-at_low : (a : SreAtCode) → at_number a < 12
-at_low at_code.BEGINNING = omega arith
-at_low a = omega arith
 
 -- each position code is known
 pub at_known : (r : Run) (i v : ℕ) (c : StringCursor) → Opcode r.words i opcode.AT → HasRun r (Instruction i) c → Word r.words (i + 1) v → 12 ≤ v → ⊥

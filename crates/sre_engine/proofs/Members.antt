@@ -193,13 +193,7 @@ one_item_member ws table i j c holds set s x =
     go true = refl
     go false = refl
 
--- the verdict, where an item holds and where the set ends
-pub left_held : (ws : List ℕ) (table : Table) (start c i next : ℕ) (taken holds : Bool) → Left ws table start c i taken → ItemSays ws table i c holds next → holds ≡ true → (j : ℕ) (set : List SetItem) → SetStands ws start j set → taken ≡ is_member table set c
-left_held ws table start c i next taken holds l x held j set s =
-    let f = l.each j set s in
-    let g = x.each j f.0 f.1 in
-    sym (f.2 ∙ g.2 taken ∙ ap (λ b. cond b taken (verdict table taken g.0 c)) held)
-
+-- the verdict, where the set ends
 pub left_nothing : (ws : List ℕ) (table : Table) (start c i : ℕ) (taken : Bool) → Left ws table start c i taken → Opcode ws i opcode.FAILURE → (j : ℕ) (set : List SetItem) → SetStands ws start j set → not taken ≡ is_member table set c
 left_nothing ws table start c i taken l w j set s =
     let f = l.each j set s in

@@ -7,7 +7,7 @@ use Rattle.sre_chars.specs.declared.constants.SreOpcode.TheVariants as opcode
 use Rattle.sre_chars.specs.declared.constants.SreCatCode.{SreCatCode}
 use Rattle.sre_engine.specs.Tree.{SetItem, Single, Range, RangeUniIgnore, Category, Charset, BigCharset, Negate}
 use Rattle.sre_engine.specs.Grammar.{Opcode, Word, word, ReadsSet, IsBuiltSet, BlocksBelow, bytes_of}
-use Rattle.sre_engine.specs.Reading.{NoCode, SetItemExactly, NoSetItem, HasSet, NoSet, SameSets, SetItemEnds}
+use Rattle.sre_engine.specs.Reading.{NoCode, SetItemExactly, NoSetItem, IsSet, NoSet, SameSets, SetItemEnds}
 use Rattle.sre_engine.specs.declared.code.error.CodeError.TheVariants.{BadSet}
 use Rattle.sre_engine.proofs.Words.{word_within, word_there, opcode_within, same_opcode}
 use Rattle.sre_engine.proofs.SetItems.{set_item_opcode, first, is_single, is_range, is_set_category, is_charset, is_big_charset, is_negate}
@@ -107,11 +107,8 @@ no_item ws i o h single range category charset big negate =
 pub set_stops : (ws : List ℕ) (start place end : ℕ) → SameSets ws start place end → place < end → NoSetItem ws place → NoSet ws start end
 set_stops ws start place end inv lt n = record { none = λ s. n.none end lt (inv.to s) }
 
-pub set_goes_on : (ws : List ℕ) (start place next end : ℕ) → SameSets ws start place end → place < end → SetItemExactly ws place next → SameSets ws start next end
-set_goes_on ws start place next end inv lt x = record { to = λ s. x.complete end lt (inv.to s); from = λ s. inv.from (x.sound end s) }
-
 pub set_past : (ws : List ℕ) (start place end : ℕ) → SameSets ws start place end → end ≤ place → place ≢ end → NoSet ws start end
 set_past ws start place end inv le ne = record { none = λ s. let t = inv.to s in ne (omega (arith, set_within ws place end t.0 t.1)) }
 
-pub set_ends : (ws : List ℕ) (start place end : ℕ) → SameSets ws start place end → place ≡ end → HasSet ws start end
+pub set_ends : (ws : List ℕ) (start place end : ℕ) → SameSets ws start place end → place ≡ end → IsSet ws start end
 set_ends ws start place end inv e = record { set = inv.from ([], e, tt) }

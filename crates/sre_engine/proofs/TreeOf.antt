@@ -10,25 +10,13 @@ use Rattle.sre_chars.specs.declared.constants.SreCatCode.{SreCatCode}
 use Rattle.sre_chars.specs.declared.constants.SreCatCode.TheVariants as category
 use Rattle.sre_engine.specs.Tree.{Tree, Empty, Then, Item, Fail, One, At, Mark, Branch, Loop, Run, PossessiveLoop, Atomic, Look, Reference, Exists, ExistsElse, Trees, Only, Or, Test, Any, AnyAll, InCategory, Literal, NotLiteral, In, Order, Greedy, Lazy, RunKind, GreedyRun, LazyRun, PossessiveRun, Sign, Positive, Negative, Fold, Plain, Ascii, Locale, Unicode, SetItem, Single, Range, RangeUniIgnore, Category, Charset, BigCharset, Negate}
 use Rattle.sre_engine.specs.Grammar.{Word, word, Opcode, skip, bytes_of, test_opcode, item_opcode, until_opcode, ReadsSet, TestOperands, Reads, Operands, ReadsBranch, Whole}
-use Rattle.sre_engine.proofs.Words.{word_of, opcodes, opcode_back, opcode_within}
+use Rattle.sre_engine.proofs.Words.{word_of, opcodes, opcode_back, opcode_within, at_codes, at_back, categories, category_back}
 use Rattle.sre_engine.proofs.Places.{reads_within, operands_past, branch_past, set_within, alternative_long}
 
 -- The codes of words
 
 abbrev pub opcode_at : List ℕ → ℕ → SreOpcode
 opcode_at ws i = slice_index_or opcodes (word ws i) opcode.FAILURE
-
--- the position codes and the categories, in the order of their numbers
-abbrev pub at_codes : List SreAtCode
-at_codes =
-    at.BEGINNING ∷ at.BEGINNING_LINE ∷ at.BEGINNING_STRING ∷ at.BOUNDARY ∷ at.NON_BOUNDARY ∷ at.END ∷ at.END_LINE ∷ at.END_STRING
-    ∷ at.LOC_BOUNDARY ∷ at.LOC_NON_BOUNDARY ∷ at.UNI_BOUNDARY ∷ at.UNI_NON_BOUNDARY ∷ []
-
-abbrev pub categories : List SreCatCode
-categories =
-    category.DIGIT ∷ category.NOT_DIGIT ∷ category.SPACE ∷ category.NOT_SPACE ∷ category.WORD ∷ category.NOT_WORD ∷ category.LINEBREAK ∷ category.NOT_LINEBREAK
-    ∷ category.LOC_WORD ∷ category.LOC_NOT_WORD ∷ category.UNI_DIGIT ∷ category.UNI_NOT_DIGIT ∷ category.UNI_SPACE ∷ category.UNI_NOT_SPACE
-    ∷ category.UNI_WORD ∷ category.UNI_NOT_WORD ∷ category.UNI_LINEBREAK ∷ category.UNI_NOT_LINEBREAK ∷ []
 
 abbrev pub at_code_at : List ℕ → ℕ → SreAtCode
 at_code_at ws i = slice_index_or at_codes (word ws i) at.BEGINNING
@@ -164,19 +152,11 @@ tree_of ws = (items_at (length ws) ws 0 (length ws - 1)).0
 
 -- What they answer where the words are in the grammar
 
-at_code_back : (a : SreAtCode) → slice_index_or at_codes (at_number a) at.BEGINNING ≡ a
-at_code_back at.BEGINNING = refl
-at_code_back a = refl
-
-category_back : (c : SreCatCode) → slice_index_or categories (category_number c) category.DIGIT ≡ c
-category_back category.DIGIT = refl
-category_back c = refl
-
 opcode-read : (ws : List ℕ) (i : ℕ) (o : SreOpcode) → Opcode ws i o → opcode_at ws i ≡ o
 opcode-read ws i o h = ap (λ n. slice_index_or opcodes n opcode.FAILURE) (word_of ws i (opcode_number o) h) ∙ opcode_back o
 
 at_code-read : (ws : List ℕ) (i : ℕ) (a : SreAtCode) → Word ws i (at_number a) → at_code_at ws i ≡ a
-at_code-read ws i a h = ap (λ n. slice_index_or at_codes n at.BEGINNING) (word_of ws i (at_number a) h) ∙ at_code_back a
+at_code-read ws i a h = ap (λ n. slice_index_or at_codes n at.BEGINNING) (word_of ws i (at_number a) h) ∙ at_back a
 
 category-read : (ws : List ℕ) (i : ℕ) (c : SreCatCode) → Word ws i (category_number c) → category_at ws i ≡ c
 category-read ws i c h = ap (λ n. slice_index_or categories n category.DIGIT) (word_of ws i (category_number c) h) ∙ category_back c

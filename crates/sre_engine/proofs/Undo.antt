@@ -1,7 +1,6 @@
 -- Laws of the trail: a change that is taken back leaves what stood there before.
-use Rattle.std.proofs.Common.{◌≡◌, ℕ, zero, suc, ◌+◌, ◌-◌, ◌<◌, ◌≤◌, List, [], ◌∷◌, ◌++◌, length, take, Option, None, slice_set, slice_index_or, replicate, refl, sym, ap, ◌∙◌, arith}
-use Rattle.std.proofs.lemmas.List.{take-set-le, set-get_or, append-nil}
-use Rattle.std.proofs.Math.Seq.{take-append_seam}
+use Rattle.std.proofs.Common.{◌≡◌, ℕ, zero, suc, ◌+◌, ◌-◌, ◌<◌, List, [], ◌∷◌, ◌++◌, length, Option, None, slice_set, slice_index_or, refl, sym, ap, ◌∙◌, arith}
+use Rattle.std.proofs.lemmas.List.{set-get_or, append-nil}
 use Rattle.sre_engine.specs.Marks.{Marks, lengthened, set_mark}
 use Rattle.sre_engine.specs.Trail.{Trail, states, undo, undone, past_of, trail_of}
 use Rattle.sre_engine.specs.declared.engine.marks.Change.{Change}
@@ -16,10 +15,6 @@ pub back_inside : (n : ℕ) (raw : List (Option ℕ)) (value former : Option ℕ
 back_inside n raw value former h e =
     let none : n + 1 - length raw ≡ 0 = omega arith in
     rw (e, none, append-nil) (set-set raw n value (slice_index_or raw n None) ∙ set-get_or raw n None)
-
--- a list that was lengthened is cut
-pub back_past : (n : ℕ) (raw : List (Option ℕ)) (value : Option ℕ) → length raw ≤ n → take (length raw) (slice_set (lengthened n raw) n value) ≡ raw
-back_past n raw value h = take-set-le (length raw) (lengthened n raw) n value h ∙ take-append_seam raw (replicate (n + 1 - length raw) None)
 
 undone-push : (cs : List Change) (c : Change) (m : Marks) → undone (cs ++ c ∷ []) m ≡ undone cs (undo c m)
 undone-push [] c m = refl

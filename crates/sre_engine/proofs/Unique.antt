@@ -1,15 +1,10 @@
 -- The grammar relates at most one tree to a word list.
-use Rattle.std.proofs.Common.{ℕ, ◌+◌, ◌*◌, ◌-◌, ◌≡◌, ◌<◌, List, [], ◌∷◌, length, slice_index_or, ⊎_elim, refl, sym, ◌∙◌, ap, subst, arith}
-use Rattle.sre_chars.specs.Numbers.{at_number, category_number}
+use Rattle.std.proofs.Common.{ℕ, ◌+◌, ◌*◌, ◌-◌, ◌≡◌, ◌<◌, List, [], ◌∷◌, length, ⊎_elim, refl, sym, ◌∙◌, ap, subst, arith}
 use Rattle.sre_chars.specs.declared.constants.SreOpcode.{SreOpcode}
 use Rattle.sre_chars.specs.declared.constants.SreOpcode.TheVariants as opcode
-use Rattle.sre_chars.specs.declared.constants.SreAtCode.{SreAtCode}
-use Rattle.sre_chars.specs.declared.constants.SreAtCode.TheVariants as at
-use Rattle.sre_chars.specs.declared.constants.SreCatCode.{SreCatCode}
-use Rattle.sre_chars.specs.declared.constants.SreCatCode.TheVariants as category
 use Rattle.sre_engine.specs.Tree.{Tree, Empty, Then, Item, Fail, One, At, Mark, Branch, Loop, Run, PossessiveLoop, Atomic, Look, Reference, Exists, ExistsElse, Trees, Only, Or, Test, Any, AnyAll, InCategory, Literal, NotLiteral, In, Order, Greedy, Lazy, RunKind, GreedyRun, LazyRun, PossessiveRun, Sign, Positive, Negative, Fold, Plain, Ascii, Locale, Unicode, SetItem, Single, Range, RangeUniIgnore, Category, Charset, BigCharset, Negate}
-use Rattle.sre_engine.specs.Grammar.{Word, word, skip, Opcode, test_opcode, literal_opcode, not_literal_opcode, set_opcode, reference_opcode, run_opcode, look_opcode, until_opcode, Reads, ReadsItem, ReadsBranch, TestOperands, ReadsSet, Whole}
-use Rattle.sre_engine.proofs.Words.{same_word, same_opcode, word_of}
+use Rattle.sre_engine.specs.Grammar.{word, skip, Opcode, test_opcode, literal_opcode, not_literal_opcode, set_opcode, reference_opcode, run_opcode, look_opcode, until_opcode, Reads, ReadsItem, ReadsBranch, TestOperands, ReadsSet, Whole}
+use Rattle.sre_engine.proofs.Words.{same_word, same_opcode, same_at, same_category, word_of}
 use Rattle.sre_engine.proofs.Families.{test_here, is_any, is_any_all, is_category, is_literal, is_not_literal, is_set, item_here, is_fail, is_one, is_at, is_mark, is_branch, is_loop, is_run, is_possessive, is_atomic, is_look, is_reference, is_exists, no_item}
 use Rattle.sre_engine.proofs.SetItems.{is_single, is_range, is_folded_range, is_set_category, is_charset, is_big_charset, is_negate}
 use Rattle.sre_engine.proofs.Places.{set_within, reads_within, operands_past, alternative_long, reads_moved, set_moved}
@@ -81,32 +76,6 @@ order_back o = refl
 -- a word that tells its opcode back tells which of a family it is
 same_member : {A : Type 0} (family : A → SreOpcode) (member : SreOpcode → A) → ((a : A) → member (family a) ≡ a) → (ws : List ℕ) (i : ℕ) (a b : A) → Opcode ws i (family a) → Opcode ws i (family b) → a ≡ b
 same_member family member back ws i a b x y = sym (back a) ∙ ap member (same_opcode ws i (family a) (family b) x y) ∙ back b
-
--- the position codes and the category codes, in the order of their numbers
-abbrev at_codes : List SreAtCode
-at_codes =
-    at.BEGINNING ∷ at.BEGINNING_LINE ∷ at.BEGINNING_STRING ∷ at.BOUNDARY ∷ at.NON_BOUNDARY ∷ at.END ∷ at.END_LINE ∷ at.END_STRING
-    ∷ at.LOC_BOUNDARY ∷ at.LOC_NON_BOUNDARY ∷ at.UNI_BOUNDARY ∷ at.UNI_NON_BOUNDARY ∷ []
-
-at_back : (a : SreAtCode) → slice_index_or at_codes (at_number a) at.BEGINNING ≡ a
-at_back at.BEGINNING = refl
-at_back a = refl
-
-abbrev category_codes : List SreCatCode
-category_codes =
-    category.DIGIT ∷ category.NOT_DIGIT ∷ category.SPACE ∷ category.NOT_SPACE ∷ category.WORD ∷ category.NOT_WORD ∷ category.LINEBREAK ∷ category.NOT_LINEBREAK
-    ∷ category.LOC_WORD ∷ category.LOC_NOT_WORD ∷ category.UNI_DIGIT ∷ category.UNI_NOT_DIGIT ∷ category.UNI_SPACE ∷ category.UNI_NOT_SPACE
-    ∷ category.UNI_WORD ∷ category.UNI_NOT_WORD ∷ category.UNI_LINEBREAK ∷ category.UNI_NOT_LINEBREAK ∷ []
-
-category_back : (c : SreCatCode) → slice_index_or category_codes (category_number c) category.DIGIT ≡ c
-category_back category.DIGIT = refl
-category_back c = refl
-
-pub same_at : (ws : List ℕ) (i : ℕ) (a b : SreAtCode) → Word ws i (at_number a) → Word ws i (at_number b) → a ≡ b
-same_at ws i a b x y = sym (at_back a) ∙ ap (λ n. slice_index_or at_codes n at.BEGINNING) (same_word ws i (at_number a) (at_number b) x y) ∙ at_back b
-
-same_category : (ws : List ℕ) (i : ℕ) (a b : SreCatCode) → Word ws i (category_number a) → Word ws i (category_number b) → a ≡ b
-same_category ws i a b x y = sym (category_back a) ∙ ap (λ n. slice_index_or category_codes n category.DIGIT) (same_word ws i (category_number a) (category_number b) x y) ∙ category_back b
 
 -- sets
 longer : (ws : List ℕ) (i p j : ℕ) (s : List SetItem) → i < p → ReadsSet ws p j s → i < j

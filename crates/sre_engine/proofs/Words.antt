@@ -48,7 +48,7 @@ pub opcode_back : (o : SreOpcode) → slice_index_or opcodes (opcode_number o) o
 opcode_back opcode.FAILURE = refl
 opcode_back o = refl
 
-opcode_low : (o : SreOpcode) → opcode_number o < 43
+pub opcode_low : (o : SreOpcode) → opcode_number o < 43
 opcode_low opcode.FAILURE = omega arith
 opcode_low o = omega arith
 
@@ -65,13 +65,40 @@ opcode_within ws i o a = word_within ws i (opcode_number o) a
 pub opcode_moved : (ws : List ℕ) (i k : ℕ) (o : SreOpcode) → i ≡ k → Opcode ws i o → Opcode ws k o
 opcode_moved ws i k o e a = word_moved ws i k (opcode_number o) e a
 
-at_low : (a : SreAtCode) → at_number a < 12
+-- the position codes, in the order of their numbers
+abbrev pub at_codes : List SreAtCode
+at_codes =
+    at.BEGINNING ∷ at.BEGINNING_LINE ∷ at.BEGINNING_STRING ∷ at.BOUNDARY ∷ at.NON_BOUNDARY ∷ at.END ∷ at.END_LINE ∷ at.END_STRING
+    ∷ at.LOC_BOUNDARY ∷ at.LOC_NON_BOUNDARY ∷ at.UNI_BOUNDARY ∷ at.UNI_NON_BOUNDARY ∷ []
+
+pub at_back : (a : SreAtCode) → slice_index_or at_codes (at_number a) at.BEGINNING ≡ a
+at_back at.BEGINNING = refl
+at_back a = refl
+
+pub at_low : (a : SreAtCode) → at_number a < 12
 at_low at.BEGINNING = omega arith
 at_low a = omega arith
 
-category_low : (c : SreCatCode) → category_number c < 18
+pub same_at : (ws : List ℕ) (i : ℕ) (a b : SreAtCode) → Word ws i (at_number a) → Word ws i (at_number b) → a ≡ b
+same_at ws i a b x y = sym (at_back a) ∙ ap (λ n. slice_index_or at_codes n at.BEGINNING) (same_word ws i (at_number a) (at_number b) x y) ∙ at_back b
+
+-- the categories, in the order of their numbers
+abbrev pub categories : List SreCatCode
+categories =
+    category.DIGIT ∷ category.NOT_DIGIT ∷ category.SPACE ∷ category.NOT_SPACE ∷ category.WORD ∷ category.NOT_WORD ∷ category.LINEBREAK ∷ category.NOT_LINEBREAK
+    ∷ category.LOC_WORD ∷ category.LOC_NOT_WORD ∷ category.UNI_DIGIT ∷ category.UNI_NOT_DIGIT ∷ category.UNI_SPACE ∷ category.UNI_NOT_SPACE
+    ∷ category.UNI_WORD ∷ category.UNI_NOT_WORD ∷ category.UNI_LINEBREAK ∷ category.UNI_NOT_LINEBREAK ∷ []
+
+pub category_back : (c : SreCatCode) → slice_index_or categories (category_number c) category.DIGIT ≡ c
+category_back category.DIGIT = refl
+category_back c = refl
+
+pub category_low : (c : SreCatCode) → category_number c < 18
 category_low category.DIGIT = omega arith
 category_low c = omega arith
+
+pub same_category : (ws : List ℕ) (i : ℕ) (a b : SreCatCode) → Word ws i (category_number a) → Word ws i (category_number b) → a ≡ b
+same_category ws i a b x y = sym (category_back a) ∙ ap (λ n. slice_index_or categories n category.DIGIT) (same_word ws i (category_number a) (category_number b) x y) ∙ category_back b
 
 -- what reading a code answers
 pub number_there : (ws : List ℕ) (i v n : ℕ) → i < length ws → v ≡ word ws i → n ≡ v → Word ws i n

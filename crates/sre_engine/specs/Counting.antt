@@ -1,15 +1,10 @@
 -- Runs of one character, as they are counted.
-use Rattle.std.specs.Prelude.{ℕ, ◌+◌, ◌-◌, ◌≡◌, ◌≤◌, ◌||◌, cond, nat_eq, nat_lt}
+use Rattle.std.specs.Prelude.{ℕ, ◌+◌, ◌-◌, ◌≡◌, ◌≤◌}
 use Rattle.sre_chars.specs.declared.string.StringCursor.{StringCursor}
 use Rattle.sre_engine.specs.Tree.{Test}
-use Rattle.sre_engine.specs.Subject.{Subject}
-use Rattle.sre_engine.specs.Ways.{unlimited, run_length}
+use Rattle.sre_engine.specs.Ways.{run_length}
 use Rattle.sre_engine.specs.Machine.{Run}
 use Rattle.sre_engine.specs.Standing.{TestStands}
-
--- the longest run from p may have so many characters: those that are left, up to the greatest count
-abbrev pub most_from : Subject → ℕ → ℕ → ℕ
-most_from s high p = cond (nat_eq high unlimited || nat_lt (s.end - p) high) (s.end - p) high
 
 -- the test at i takes the first count characters from start on, and the cursor stands behind them
 pub record Counted (r : Run) (i most : ℕ) (start cursor : StringCursor) (count : ℕ) : Type 0 where

@@ -65,7 +65,7 @@ abbrev pub SetItemEnds : List ℕ → ℕ → Result ℕ CodeError → Type 0
 SetItemEnds ws i (Ok p) = (i < p) × SetItemExactly ws i p
 SetItemEnds ws i (Err e) = NoSetItem ws i × Within ws e
 
-pub record HasSet (ws : List ℕ) (i j : ℕ) : Type 0 where
+pub record IsSet (ws : List ℕ) (i j : ℕ) : Type 0 where
   pub set : SetAt ws i j
 
 pub record NoSet (ws : List ℕ) (i j : ℕ) : Type 0 where
@@ -73,7 +73,7 @@ pub record NoSet (ws : List ℕ) (i j : ℕ) : Type 0 where
 
 -- whether a set's items fill [i, j)
 abbrev pub SetFills : {U : Type 0} → List ℕ → ℕ → ℕ → Result U CodeError → Type 0
-SetFills ws i j (Ok _) = HasSet ws i j
+SetFills ws i j (Ok _) = IsSet ws i j
 SetFills ws i j (Err e) = NoSet ws i j × Within ws e
 
 -- the items from i on and those from k on fill the words up to j alike

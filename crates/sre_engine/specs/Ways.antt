@@ -32,9 +32,13 @@ abbrev pub run_length : Subject → Test → ℕ → ℕ → ℕ
 run_length s t zero p = 0
 run_length s t (suc n) p = cond (passes s t p) (suc (run_length s t n (p + 1))) 0
 
+-- how many characters a run from p may have: those that are left in the window, up to the greatest count
+abbrev pub most_from : Subject → ℕ → ℕ → ℕ
+most_from s high p = cond (nat_eq high unlimited || nat_lt (s.end - p) high) (s.end - p) high
+
 -- the longest run from p inside the window, up to the greatest count
 abbrev pub longest_run : Subject → Test → ℕ → ℕ → ℕ
-longest_run s t high p = run_length s t (cond (nat_eq high unlimited || nat_lt (s.end - p) high) (s.end - p) high) p
+longest_run s t high p = run_length s t (most_from s high p) p
 
 -- n counts from low on, rising
 abbrev pub rising : ℕ → ℕ → List ℕ

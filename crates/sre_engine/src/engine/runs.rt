@@ -8,10 +8,9 @@ ghost use Rattle.sre_chars.specs.Categories.{category};
 ghost use Rattle.sre_chars.specs.Tables.{ascii_table, is_between};
 ghost use Rattle.sre_engine.specs.Tree.{Test, Charset};
 ghost use Rattle.sre_engine.specs.Characters.{item_holds, holds};
-ghost use Rattle.sre_engine.specs.Ways.{run_length, longest_run};
+ghost use Rattle.sre_engine.specs.Ways.{most_from, run_length, longest_run};
 ghost use Rattle.sre_engine.specs.Grammar.{Opcode};
 ghost use Rattle.sre_engine.specs.Standing.{TestStands, HasTest};
-ghost use Rattle.sre_engine.specs.Counting.{most_from};
 ghost use Rattle.sre_engine.specs.Requests.{run_of};
 
 use crate::engine::machine::read;

@@ -1,5 +1,5 @@
 use Rattle.std.proofs.Common.{◌∙◌, sym}
-use Rattle.sre_engine.specs.Counting.{most_from}
+use Rattle.sre_engine.specs.Ways.{most_from}
 use Rattle.sre_engine.specs.Requests.{run_of}
 use Rattle.sre_engine.proofs.Counting.{run_whole, most_left}
 use Rattle.sre_engine.proofs.OneCharacter.{any_all_takes}
