@@ -107,10 +107,11 @@ impl<'a> Code<'a> {
         self.uni
     }
 
-    /// The hints.
+    /// The hints, each of which the code's tree confirms.
     #[inline(always)]
     pub fn hints(&self) -> Hints
-        ensures { result ≡ hints_of self.now }
+        ensures same { result ≡ hints_of self.now }
+        ensures confirmed { (tree : Tree) → Whole (words_of self.now) tree → Confirmed (words_of self.now) tree result }
     {
         self.hints
     }

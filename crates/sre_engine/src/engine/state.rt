@@ -156,7 +156,7 @@ impl<A: Allocator + Copy> State<A> {
     }
 
     /// Searches the window: whether there is a match at one of its starts, of which the state then shows that of the
-    /// least start.
+    /// least start; it lies in the window.
     ///
     /// Each start is tried in turn, as `pymatch` tries it; an empty match at the window's end is one, too. Under
     /// `must_advance` an empty match is refused at the window's start alone. An error means that memory was refused;
@@ -164,6 +164,7 @@ impl<A: Allocator + Copy> State<A> {
     pub fn search<S: StrDrive>(&mut self, req: Request<'_, S>) -> Result<bool, SreError>
         ensures ok { (t : Tree) → Whole (words_of (code_of req.entry)) t
             → IfOk result (λ b. Answers (stands_in req.entry) (found (asked_of req.entry) t) b self.new) }
+        ensures span { IfOk result (λ b. b ≡ true → (start_of req.entry ≤ self.new.start) × Spans self.new.start (end_of req.entry) self.new) }
         ensures no { IfOk result (λ b. b ≡ false → self.new.marks ≡ no_marks) }
         ensures err { OnErr result (self.new.marks ≡ no_marks) }
     {

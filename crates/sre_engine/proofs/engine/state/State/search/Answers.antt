@@ -1,6 +1,8 @@
 use Rattle.std.proofs.Common.{◌≡◌, ◌≤◌, ◌+◌, refl, sym, subst, arith}
-use Rattle.sre_engine.specs.Requests.{end_of, asked_of, stands_in}
-use Rattle.sre_engine.proofs.Answering.{answers_yes, answers_no, none_at, some_at, none_further, found_none, found_first}
+use Rattle.sre_engine.specs.Codes.{words_of, hints_of}
+use Rattle.sre_engine.specs.Requests.{end_of, code_of, asked_of, stands_in}
+use Rattle.sre_engine.proofs.Answering.{answers_yes, answers_no, none_at, some_at, span_at, none_further, found_none, found_first}
+use Rattle.sre_engine.proofs.Start.{code_tree}
 use Rattle.sre_engine.proofs.engine.state.State.search.Goals as goal
 
 pub returns-in-Some-clause-ok : goal.returns-in-Some-clause-ok
@@ -9,6 +11,13 @@ returns-in-Some-clause-ok g c = λ t whole.
     let some = some_at (stands_in asked) (asked_of asked) t _ c.in_ok-end.field-0 c.attempt.new.board.marks (c.in_ok-end.ensures.found t whole) c.in-Some.end c.in-Some.is in
     answers_yes (stands_in asked) _ c.start.start.position c.in-Some.end _ c.position.ensures refl some.0
     (found_first (asked_of asked) t _ _ (c.start.invariant.before t whole) some.1 c.start.invariant.from c.start.invariant.inside refl)
+
+pub returns-in-Some-clause-span : goal.returns-in-Some-clause-span
+returns-in-Some-clause-span g c = λ _.
+    let asked = c.args.req in
+    let tree = code_tree (words_of (code_of asked)) (hints_of (code_of asked)) (code_of asked).checked in
+    let s = span_at (stands_in asked) (asked_of asked) tree.0 _ c.in_ok-end.field-0 c.attempt.new.board.marks (c.in_ok-end.ensures.found tree.0 tree.1) c.start.invariant.inside c.in-Some.end c.in-Some.is in
+    (omega (arith, c.start.invariant.from, c.position.ensures), record { starts = refl; forward = omega (arith, c.position.ensures, s.0); inside = s.1 })
 
 pub returns-then-position-end-clause-ok : goal.returns-then-position-end-clause-ok
 returns-then-position-end-clause-ok g c = λ t whole.
