@@ -1,5 +1,18 @@
 use super::*;
+use sre_refusing::Refusing;
 use std::fmt::Write;
+
+// branches of one alternative, one inside the other
+const ONE_BRANCH: &[u32] = &[7, 3, 15, 2, 0, 1];
+
+const FIVE_BRANCHES: &[u32] = &[
+    7, 23, 7, 18, 7, 13, 7, 8, 7, 3, 15, 2, 0, 15, 2, 0, 15, 2, 0, 15, 2, 0, 15, 2, 0, 1,
+];
+
+const NINE_BRANCHES: &[u32] = &[
+    7, 43, 7, 38, 7, 33, 7, 28, 7, 23, 7, 18, 7, 13, 7, 8, 7, 3, 15, 2, 0, 15, 2, 0, 15, 2, 0, 15,
+    2, 0, 15, 2, 0, 15, 2, 0, 15, 2, 0, 15, 2, 0, 15, 2, 0, 1,
+];
 
 fn refusal(alloc: Global, words: &[u32]) -> Option<CodeError> {
     let table = UniTable::ascii(alloc);
@@ -110,5 +123,23 @@ fn numbers_and_texts(rt: HostRuntime) {
         let shown = format!(in rt.alloc(); "{error}").expect(&rt, "memory");
         assert_eq!(rt; shown.as_str(), *text);
         assert_eq!(rt; error.number() as usize, i + 1);
+    }
+}
+
+// Each growth of the stack is refused in turn; a request behind the last one is not reached.
+#[test]
+fn a_refused_growth_is_no_fault(rt: HostRuntime) {
+    let table = UniTable::ascii(rt.alloc());
+    let cases: [(&[u32], u64); 3] = [(ONE_BRANCH, 1), (FIVE_BRANCHES, 2), (NINE_BRANCHES, 3)];
+    for (words, growths) in cases {
+        for refused in 1..6u64 {
+            let heap = Refusing::new(rt.alloc(), refused);
+            let error = Code::check_in(&heap, words, &table).err();
+            if refused <= growths {
+                assert_eq!(rt; error, Some(CodeError::Memory));
+            } else {
+                assert_eq!(rt; error, None);
+            }
+        }
     }
 }
