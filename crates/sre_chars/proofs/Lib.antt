@@ -1,2 +1,4 @@
 pub mod CategoryRows
 pub mod RisingLists
+pub mod Beginnings
+pub mod TextPlaces

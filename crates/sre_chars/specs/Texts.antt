@@ -1,5 +1,6 @@
 -- Where a cursor stands in a text.
-use Rattle.std.specs.Prelude.{◌≡◌, ◌≤◌, ℕ, List, length}
+use Rattle.std.specs.Prelude.{◌≡◌, ◌≤◌, ℕ, Bool, ◌||◌, nat_le, nat_lt, List, length, take, count_by}
+use Rattle.std.specs.Str.{chars, encode_utf8_all}
 
 -- a place in a text: the characters before it, and the bytes that these take
 pub record Cursor : Type 0 where
@@ -9,3 +10,19 @@ pub record Cursor : Type 0 where
 -- in bytes, each of which is a character, the offset is the position
 abbrev pub StandsInBytes : List ℕ → Cursor → ℕ → Type 0
 StandsInBytes bytes c p = (c.position ≡ p) × (c.offset ≡ p) × (p ≤ length bytes)
+
+-- how many bytes the first p characters of UTF-8 text take
+abbrev pub offset_of : List ℕ → ℕ → ℕ
+offset_of bytes p = length (encode_utf8_all (take p (chars bytes)))
+
+-- in UTF-8 text the offset is the bytes of the characters before the position
+abbrev pub StandsInText : List ℕ → Cursor → ℕ → Type 0
+StandsInText bytes c p = (c.position ≡ p) × (c.offset ≡ offset_of bytes p) × (p ≤ length (chars bytes))
+
+-- a byte at which a character begins: all but 10xxxxxx
+abbrev pub begins_char : ℕ → Bool
+begins_char byte = nat_lt byte 128 || nat_le 192 byte
+
+-- how many characters begin in the first n bytes
+abbrev pub begun : List ℕ → ℕ → ℕ
+begun bytes n = count_by begins_char (take n bytes)

@@ -8,3 +8,4 @@ pub mod string;
 mod table;
 #[cfg(test)]
 mod tests;
+mod text;

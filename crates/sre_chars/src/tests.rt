@@ -118,6 +118,41 @@ fn steps<S: StrDrive>(text: S) -> (u32, u32, u32, u32, StringCursor)
     (first, second, passed, back, cursor)
 }
 
+// Whether the text is these characters, each read from both sides, and each place reached by every call.
+fn is_text_of<S: StrDrive>(text: S, chars: &[u32]) -> bool {
+    let n = text.count();
+    if n != chars.len() {
+        return false;
+    }
+    for i in 0..n {
+        let place = text.create_cursor(i);
+        let mut skipped = text.create_cursor(0);
+        text.skip(&mut skipped, i);
+        let mut back = text.create_cursor(n);
+        text.back_skip(&mut back, n - i);
+        let mut adjusted = StringCursor::new(n, 1);
+        text.adjust_cursor(&mut adjusted, i);
+        if [skipped, back, adjusted] != [place; 3] {
+            return false;
+        }
+        let mut cursor = place;
+        let read = [
+            text.peek(&cursor),
+            text.advance(&mut cursor),
+            text.back_peek(&cursor),
+        ];
+        let next = cursor;
+        let passed = text.back_advance(&mut cursor);
+        if read != [chars[i]; 3] || passed != chars[i] {
+            return false;
+        }
+        if next != text.create_cursor(i + 1) || cursor != place {
+            return false;
+        }
+    }
+    true
+}
+
 #[test]
 fn cursors_step_over_bytes(rt: HostRuntime) {
     let bytes = [7, 9];
@@ -129,6 +164,52 @@ fn cursors_step_over_bytes(rt: HostRuntime) {
     assert_eq!(rt; text.back_advance(&mut cursor), 9);
     assert_eq!(rt; cursor, StringCursor::new(1, 1));
     assert_eq!(rt; steps(text), (7, 9, 7, 9, StringCursor::new(2, 2)));
+    assert!(rt; is_text_of(text, &[7, 9]));
+}
+
+// The bytes are `c3 a9 e2 82 ac`.
+#[test]
+fn cursors_step_over_characters(rt: HostRuntime) {
+    let text = "é€";
+    let mut cursor = text.create_cursor(2);
+    assert_eq!(rt; cursor, StringCursor::new(2, 5));
+    assert_eq!(rt; text.back_peek(&cursor), 8364);
+    text.back_skip(&mut cursor, 1);
+    assert_eq!(rt; cursor, StringCursor::new(1, 2));
+    assert_eq!(rt; text.advance(&mut cursor), 8364);
+    assert_eq!(rt;
+        steps(text),
+        (233, 8364, 233, 8364, StringCursor::new(2, 5))
+    );
+}
+
+// Each is repeated to go past several blocks of bytes, at whose edges characters of each width are cut.
+#[test]
+fn texts_are_their_scalar_values(rt: HostRuntime) -> Result<(), Fail> {
+    for (text, chars) in [
+        ("", [].as_slice()),
+        ("a", [97].as_slice()),
+        ("é€", [233, 8364].as_slice()),
+        ("aé€😀", [97, 233, 8364, 128512].as_slice()),
+        (
+            "\u{0}\u{7f}\u{80}\u{7ff}\u{800}\u{d7ff}\u{e000}\u{ffff}\u{10000}\u{10ffff}",
+            [0, 127, 128, 2047, 2048, 55295, 57344, 65535, 65536, 1114111].as_slice(),
+        ),
+    ] {
+        for times in [1, 70] {
+            let text = text.repeat(rt.alloc(), times)?;
+            let chars = chars.repeat(rt.alloc(), times)?;
+            assert!(rt;
+                is_text_of(text.as_str(), chars.as_slice()),
+                "{times} times"
+            );
+        }
+    }
+    let text = "aé€😀".repeat(rt.alloc(), 150)?;
+    let text = text.as_str();
+    assert_eq!(rt; text.count(), 600);
+    assert_eq!(rt; text.create_cursor(402), StringCursor::new(402, 1003));
+    Ok(())
 }
 
 // The runs are CPython's; of its Unicode words only those in ASCII, since the table has no others.

@@ -1,0 +1,122 @@
+-- Where characters begin in bytes, and how many begin before a place.
+use Rattle.std.proofs.Common.{◌≡◌, ℕ, ◌+◌, ◌-◌, ◌/◌, ◌<◌, ◌≤◌, true, false, cond, List, [], ◌∷◌, ◌++◌, length, take, drop, get_or, refl, ap, sym, ◌∙◌, arith, inl, inr, count_by, length-append}
+use Rattle.std.proofs.Math.Seq.{take-add}
+use Rattle.std.proofs.lemmas.List.{take-take, take_all}
+use Rattle.std.proofs.lemmas.List.Sums.{sum_by-append, sum_by-take-drop, sum_by_more, count_by-le-length}
+use Rattle.std.proofs.Math.Seq.{take-append_seam}
+use Rattle.std.proofs.lemmas.Bool.{cases_lt, lt-ltb, le-ltb}
+use Rattle.std.proofs.lemmas.Bool.Decides.{nat_tests}
+use Rattle.std.proofs.lemmas.List.{take-append-drop, length-take-le}
+use Rattle.std.proofs.lemmas.Str.{chars-append, chars_from_encodes, encodes-chars, IsUtf8-take}
+use Rattle.std.specs.Str.{chars, IsUtf8, IsCharBoundary}
+use lib.Utf8.{encode, encodes, next}
+use Rattle.sre_chars.proofs.TextPlaces.{length-chars_le, offset_boundary, take_offset}
+use Rattle.sre_chars.specs.Texts.{begins_char, begun, offset_of}
+
+-- a byte more
+pub begun_more : (bs : List ℕ) (i : ℕ) → i < length bs
+    → begun bs (i + 1) ≡ begun bs i + cond (begins_char (get_or bs i 0)) 1 0
+begun_more bs i h = sum_by_more (λ b. cond (begins_char b) 1 0) bs i 0 h
+
+-- a block more
+pub begun_block : (bs : List ℕ) (i n : ℕ) → begun bs (i + n) ≡ begun bs i + count_by begins_char (take n (drop i bs))
+begun_block bs i n =
+    ap (count_by begins_char) (take-add i n bs) ∙ sum_by-append (λ b. cond (begins_char b) 1 0) (take i bs) (take n (drop i bs))
+
+-- a block less
+pub begun_block_back : (bs : List ℕ) (i n : ℕ) → n ≤ i
+    → begun bs i ≡ begun bs (i - n) + count_by begins_char (drop (i - n) (take i bs))
+begun_block_back bs i n h =
+    let less : i - n ≤ i = omega arith in
+    sym (sum_by-take-drop (λ b. cond (begins_char b) 1 0) (take i bs) (i - n))
+    ∙ ap (λ bs'. count_by begins_char bs' + count_by begins_char (drop (i - n) (take i bs))) (take-take (i - n) i bs less)
+
+-- a first block, and what begins after it
+pub first_block : (bs : List ℕ) (n : ℕ)
+    → count_by begins_char bs ≡ count_by begins_char (take n bs) + count_by begins_char (drop n bs)
+first_block bs n = sym (sum_by-take-drop (λ b. cond (begins_char b) 1 0) bs n)
+
+pub begun_whole : (bs : List ℕ) → begun bs (length bs) ≡ count_by begins_char bs
+begun_whole bs = ap (count_by begins_char) (take_all (length bs) bs (omega arith))
+
+pub count_le : (bs : List ℕ) → count_by begins_char bs ≤ length bs
+count_le bs = count_by-le-length begins_char bs
+
+-- where a character begins, or at the end, the text may be cut
+at_begin : (b : ℕ) → 192 ≤ b → begins_char b ≡ true
+at_begin b h = grind (arith, nat_tests)
+
+within : (b : ℕ) → 128 ≤ b → b < 192 → begins_char b ≡ false
+within b h l = grind (arith, nat_tests)
+
+low : (b : ℕ) → b < 128 → begins_char b ≡ true
+low b h = grind (arith, nat_tests)
+
+-- of the bytes of a character the first alone begins one
+begins_once : (c : ℕ) → count_by begins_char (encode c) ≡ 1
+unfolding encode
+begins_once c = elim (cases_lt c 128) [
+  | inl l ↦ rw (lt-ltb c 128 l, low c l) refl
+  | inr h ↦ elim (cases_lt c 2048) [
+    | inl l ↦
+        rw (le-ltb c 128 h, lt-ltb c 2048 l, at_begin (192 + c / 64) (omega arith), within (next c) (omega arith) (omega arith))
+        refl
+    | inr h2 ↦ elim (cases_lt c 65536) [
+      | inl l ↦
+          rw (le-ltb c 128 h, le-ltb c 2048 h2, lt-ltb c 65536 l, at_begin (224 + c / 4096) (omega arith), within (next (c / 64)) (omega arith) (omega arith), within (next c) (omega arith) (omega arith))
+          refl
+      | inr h3 ↦
+          rw (le-ltb c 128 h, le-ltb c 2048 h2, le-ltb c 65536 h3, at_begin (240 + c / 262144) (omega arith), within (next (c / 4096)) (omega arith) (omega arith), within (next (c / 64)) (omega arith) (omega arith), within (next c) (omega arith) (omega arith))
+          refl
+    ]
+  ]
+]
+
+-- so each character of a text begins once
+pub begins_each : (cs : List ℕ) → count_by begins_char (encodes cs) ≡ length cs
+begins_each [] = refl
+begins_each (c ∷ cs) =
+    omega (arith, sum_by-append (λ b. cond (begins_char b) 1 0) (encode c) (encodes cs), begins_once c, begins_each cs)
+
+pub count_chars : (bs : List ℕ) → IsUtf8 bs → count_by begins_char bs ≡ length (chars bs)
+count_chars bs u = ap (count_by begins_char) (sym (encodes-chars bs u)) ∙ begins_each (chars bs)
+
+-- what a place p of a text says of its bytes before the offset o
+pub record IsPlace (text bs : List ℕ) (o p : ℕ) : Type 0 where
+  pub in_bounds : o ≤ length bs
+  pub boundary : IsCharBoundary bs o
+  pub begun_before : begun bs o ≡ p
+  pub begun_in_all : count_by begins_char bs ≡ length (chars text)
+  pub few : length (chars text) ≤ length bs
+
+pub place_in : (text bs : List ℕ) (o p : ℕ) → bs ≡ text → IsUtf8 bs → o ≡ offset_of text p → p ≤ length (chars text)
+    → IsPlace text bs o p
+place_in text bs o p same u e h =
+    rw (e, ← same)
+    (record {
+      in_bounds = (offset_boundary bs p u).0;
+      boundary = offset_boundary bs p u;
+      begun_before =
+          ap (count_by begins_char) (take_offset bs p u)
+          ∙ begins_each (take p (chars bs))
+          ∙ length-take-le p (chars bs) (rw (← same) at h);
+      begun_in_all = count_chars bs u;
+      few = length-chars_le bs u;
+    })
+
+-- where p characters begin before a cut, it is the place p
+pub place_at : (text bs : List ℕ) (o p : ℕ) → bs ≡ text → IsUtf8 bs → IsCharBoundary bs o → begun bs o ≡ p
+    → (o ≡ offset_of text p) × (p ≤ length (chars text))
+place_at text bs o p same u b e =
+    let front = IsUtf8-take bs o u b in
+    let cs = front.0 in
+    let rest = chars (drop o bs) in
+    let whole : chars bs ≡ cs ++ rest =
+    ap chars (sym (take-append-drop o bs))
+    ∙ chars-append (take o bs) (drop o bs) front
+    ∙ ap (λ t. t ++ rest) (sym (chars_from_encodes cs (take o bs) front front.1.1))
+    in
+    let many : p ≡ length cs = sym e ∙ ap (count_by begins_char) (sym front.1.1) ∙ begins_each cs in
+    let first : take p (chars bs) ≡ cs = rw (many, whole) (take-append_seam cs rest) in
+    rw (← same)
+    (sym (length-take-le o bs b.0) ∙ ap length (sym front.1.1) ∙ ap (λ t. length (encodes t)) (sym first), omega (arith, ap length whole, length-append cs rest, many))

@@ -1,0 +1,13 @@
+use Rattle.std.proofs.Common.{arith, ap, ◌∙◌, count_by, take, length}
+use Rattle.std.proofs.lemmas.List.{length-drop, take_rest}
+use Rattle.sre_chars.specs.Texts.{begins_char}
+use Rattle.sre_chars.proofs.Beginnings.{begun_block}
+use Rattle.sre_chars.proofs.text.pass_blocks.Goals as goal
+
+pub blocks-2-preserved : goal.blocks-2-preserved
+blocks-2-preserved c =
+    let rest = take_rest c.args.bytes.now c.blocks-2.offset in
+    let block = c.in-Some.ensures.cases.0 ∙ ap (take 64) rest in
+    let counted = c.beginnings_in_block-n.ensures.value ∙ ap (count_by begins_char) block in
+    let more = begun_block c.args.bytes.now c.blocks-2.offset 64 in
+    (omega (arith, c.in-Some.ensures.cases.2, ap length rest, length-drop c.blocks-2.offset c.args.bytes.now), omega (arith, counted, more))

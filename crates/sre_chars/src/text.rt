@@ -1,0 +1,216 @@
+//! UTF-8 as a text: each Unicode scalar value is a character of one to four bytes (RFC 3629).
+//!
+//! A `str` is always well-formed, so a step finds a whole character at the offset of a cursor and never
+//! searches for its edge.
+
+ghost use Rattle.std.specs.Prelude.{◌≡◌, ◌+◌, ◌-◌, ◌^◌, ◌<◌, ◌≤◌, length, slice_index, count_by};
+ghost use Rattle.std.specs.Str.{chars, IsCharBoundary};
+ghost use Rattle.sre_chars.specs.Texts.{StandsInText, offset_of, begins_char, begun};
+
+use crate::string::{StrDrive, StringCursor};
+
+// The character after a cursor, and the offset at which it ends.
+#[inline(always)]
+fn char_after(s: &str, cursor: &StringCursor) -> (char, usize)
+    requires at { StandsInText s.now cursor.now cursor.now.position }
+    requires before_end { cursor.now.position < length (chars s.now) }
+    ensures value { result.0 ≡ slice_index (chars s.now) cursor.now.position }
+    ensures offset { result.1 ≡ offset_of s.now (cursor.now.position + 1) }
+    ensures in_bounds { cursor.now.position < 2 ^ 63 }
+{
+    let mut rest = s[cursor.offset()..].chars();
+    match rest.next() {
+        Some(c) => (c, s.len() - rest.as_str().len()),
+        None => unreachable!(),
+    }
+}
+
+// The character before a cursor, and the offset at which it begins.
+#[inline(always)]
+fn char_before(s: &str, cursor: &StringCursor) -> (char, usize)
+    requires at { StandsInText s.now cursor.now cursor.now.position }
+    requires after_start { 0 < cursor.now.position }
+    ensures value { result.0 ≡ slice_index (chars s.now) (cursor.now.position - 1) }
+    ensures offset { result.1 ≡ offset_of s.now (cursor.now.position - 1) }
+{
+    let (before, _) = s.split_at(cursor.offset());
+    let mut front = before.chars();
+    match front.next_back() {
+        Some(c) => (c, front.as_str().len()),
+        None => unreachable!(),
+    }
+}
+
+// How many bytes a block has.
+const BLOCK: usize = 64;
+
+// Whether a character begins at the byte: all others are `10xxxxxx` (RFC 3629, section 3).
+#[inline(always)]
+fn is_beginning(byte: u8) -> bool
+    ensures { result ≡ begins_char byte }
+{
+    byte < 0x80 || 0xc0 <= byte
+}
+
+// How many characters begin in a block. The sum of so few fits a byte, so each lane of a vector can hold one.
+#[inline(always)]
+fn beginnings_in_block(block: &[u8; BLOCK]) -> usize
+    ensures value { result ≡ count_by begins_char block.now }
+    ensures bound { result ≤ 64 }
+{
+    let mut count: u8 = 0;
+    for i in 0..BLOCK {
+        count += u8::from(is_beginning(block[i]));
+    }
+    usize::from(count)
+}
+
+// How many characters begin in the bytes.
+fn beginnings(bytes: &[u8]) -> usize
+    ensures { result ≡ count_by begins_char bytes.now }
+{
+    let mut count = 0;
+    let mut left = bytes;
+    'blocks: while let Some((block, rest)) = left.split_first_chunk::<BLOCK>() {
+        count += beginnings_in_block(block);
+        left = rest;
+    }
+    for i in 0..left.len() {
+        count += usize::from(is_beginning(left[i]));
+    }
+    count
+}
+
+// Passes whole blocks in which no more than `n` characters begin: the offset behind them, and how many are left.
+fn pass_blocks(bytes: &[u8], mut offset: usize, mut n: usize) -> (usize, usize)
+    requires { offset ≤ length bytes.now }
+    ensures in_bounds { result.0 ≤ length bytes.now }
+    ensures passed { begun bytes.now result.0 + result.1 ≡ begun bytes.now offset + n }
+{
+    'blocks: while BLOCK <= n {
+        let Some((block, _)) = bytes[offset..].split_first_chunk::<BLOCK>() else {
+            break;
+        };
+        offset += BLOCK;
+        n -= beginnings_in_block(block);
+    }
+    (offset, n)
+}
+
+// Where the character begins before which `n` more begin than before `offset`, or the end.
+fn pass_bytes(bytes: &[u8], mut offset: usize, mut n: usize) -> usize
+    requires in_bounds { offset ≤ length bytes.now }
+    requires within { begun bytes.now offset + n ≤ count_by begins_char bytes.now }
+    ensures at { IsCharBoundary bytes.now result }
+    ensures passed { begun bytes.now result ≡ begun bytes.now offset + n }
+{
+    while offset < bytes.len() {
+        if is_beginning(bytes[offset]) {
+            if n == 0 {
+                break;
+            }
+            n -= 1;
+        }
+        offset += 1;
+    }
+    offset
+}
+
+// Passes whole blocks backwards in which fewer than `n` characters begin.
+fn pass_blocks_back(bytes: &[u8], mut offset: usize, mut n: usize) -> (usize, usize)
+    requires { offset ≤ length bytes.now }
+    ensures in_bounds { result.0 ≤ offset }
+    ensures passed { begun bytes.now result.0 + n ≡ begun bytes.now offset + result.1 }
+    ensures some_left { result.1 ≡ 0 → result.0 ≡ offset }
+{
+    'blocks: while BLOCK < n {
+        let Some((_, block)) = bytes[..offset].split_last_chunk::<BLOCK>() else {
+            break;
+        };
+        offset -= BLOCK;
+        n -= beginnings_in_block(block);
+    }
+    (offset, n)
+}
+
+// Where the character begins that is the `n`th before `offset`.
+fn pass_bytes_back(bytes: &[u8], mut offset: usize, mut n: usize) -> usize
+    requires in_bounds { offset ≤ length bytes.now }
+    requires within { n ≤ begun bytes.now offset }
+    requires at { n ≡ 0 → IsCharBoundary bytes.now offset }
+    ensures at { IsCharBoundary bytes.now result }
+    ensures passed { begun bytes.now result + n ≡ begun bytes.now offset }
+{
+    while 0 < n {
+        offset -= 1;
+        if is_beginning(bytes[offset]) {
+            n -= 1;
+        }
+    }
+    offset
+}
+
+impl<'a> StrDrive for &'a str {
+    ghost text = { λ s. chars s.now };
+
+    ghost stands = { λ s c p. StandsInText s.now c p };
+
+    ghost stands_at = { λ s c p h. (h.0, h.2) };
+
+    #[inline]
+    fn count(&self) -> usize {
+        beginnings(self.as_bytes())
+    }
+
+    #[inline]
+    fn create_cursor(&self, n: usize) -> StringCursor {
+        let mut cursor = StringCursor::new(0, 0);
+        self.skip(&mut cursor, n);
+        cursor
+    }
+
+    #[inline]
+    fn adjust_cursor(&self, cursor: &mut StringCursor, n: usize) {
+        *cursor = self.create_cursor(n);
+    }
+
+    #[inline(always)]
+    fn advance(&self, cursor: &mut StringCursor) -> u32 {
+        let (passed, offset) = char_after(self, cursor);
+        *cursor = StringCursor::new(cursor.position() + 1, offset);
+        u32::from(passed)
+    }
+
+    #[inline(always)]
+    fn peek(&self, cursor: &StringCursor) -> u32 {
+        u32::from(char_after(self, cursor).0)
+    }
+
+    #[inline]
+    fn skip(&self, cursor: &mut StringCursor, n: usize) {
+        let bytes = self.as_bytes();
+        let (offset, left) = pass_blocks(bytes, cursor.offset(), n);
+        let end = pass_bytes(bytes, offset, left);
+        *cursor = StringCursor::new(cursor.position() + n, end);
+    }
+
+    #[inline(always)]
+    fn back_advance(&self, cursor: &mut StringCursor) -> u32 {
+        let (passed, offset) = char_before(self, cursor);
+        *cursor = StringCursor::new(cursor.position() - 1, offset);
+        u32::from(passed)
+    }
+
+    #[inline(always)]
+    fn back_peek(&self, cursor: &StringCursor) -> u32 {
+        u32::from(char_before(self, cursor).0)
+    }
+
+    #[inline]
+    fn back_skip(&self, cursor: &mut StringCursor, n: usize) {
+        let bytes = self.as_bytes();
+        let (offset, left) = pass_blocks_back(bytes, cursor.offset(), n);
+        let start = pass_bytes_back(bytes, offset, left);
+        *cursor = StringCursor::new(cursor.position() - n, start);
+    }
+}
