@@ -1,4 +1,5 @@
 pub mod CategoryRows
+pub mod GrowingLists
 pub mod RisingLists
 pub mod Beginnings
 pub mod TextPlaces

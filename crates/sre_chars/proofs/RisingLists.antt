@@ -10,7 +10,7 @@ use Rattle.sre_chars.specs.declared.table.Listing.{Listing}
 use Rattle.sre_chars.specs.declared.table.Listing.TheVariants.{Map, Ranges}
 
 -- two searches that both find nothing
-both_none : {T : Type 0} (a b : Option T) → option_or a b ≡ None → (a ≡ None) × (b ≡ None)
+pub both_none : {T : Type 0} (a b : Option T) → option_or a b ≡ None → (a ≡ None) × (b ≡ None)
 both_none None b h = (refl, h)
 both_none (Some x) b h = absurd (cc)
 

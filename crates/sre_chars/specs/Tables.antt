@@ -7,6 +7,10 @@ pub record Table : Type 0 where
   pub upper : List (ℕ × ℕ)
   pub alnum : List (ℕ × ℕ)
 
+-- the table of three lists
+abbrev pub table_of : List (ℕ × ℕ) → List (ℕ × ℕ) → List (ℕ × ℕ) → Table
+table_of lower upper alnum = record { lower = lower; upper = upper; alnum = alnum }
+
 -- the table with no entry past ASCII
 abbrev pub ascii_table : Table
 ascii_table = record { lower = []; upper = []; alnum = [] }

@@ -3,12 +3,18 @@
 //! ASCII is fixed in the code. Past it a table holds three rising lists, two of (from, to) and one
 //! of (low, high), and a character is looked up by halving.
 
-ghost use Rattle.std.specs.Prelude.{◌≡◌, ◌==◌, nat_le};
-ghost use Rattle.sre_chars.specs.Tables.{ascii_table, lower_ascii, upper_ascii, lower_of, upper_of, is_alphanumeric, is_ascii_alphanumeric, is_in_ranges, last_up_to, mapped};
-ghost use Rattle.sre_chars.specs.Errors.{list_fault};
+ghost use Rattle.std.specs.Prelude.{◌≡◌, ◌==◌, nat_le, None, Some, IfOk, OnOk, IfErr, IsOkUnless};
+ghost use Rattle.std.specs.Option.{option_or};
+ghost use Rattle.sre_chars.specs.Tables.{ascii_table, table_of, lower_ascii, upper_ascii, lower_of, upper_of, is_alphanumeric, is_ascii_alphanumeric, is_in_ranges, last_up_to, mapped};
+ghost use Rattle.sre_chars.specs.Errors.{list_fault, table_fault};
 ghost use Rattle.std.specs.List.Sorted.{IsNonDecreasingBy};
 
-use std::alloc::Global;
+mod lists;
+#[cfg(test)]
+mod tests;
+
+use lists::{Lists, checked_lists, std_lists};
+use std::alloc::{AllocError, AllocFailed, Global};
 use std::marker::Model;
 use thiserror::Error;
 
@@ -18,13 +24,14 @@ pub enum UniError {
     /// A growth was refused.
     #[error("out of memory")]
     Memory,
-    /// An entry does not begin above the former one, or a range ends below its low end.
+    /// A map's entry is not above the former one, a range does not begin above the end of the
+    /// former one, or a range ends below its low end.
     #[error("Unsorted")]
     Unsorted,
-    /// An entry begins below 128, where the table is fixed.
+    /// A map's entry is for a character below 128, or a range has an end there: ASCII is fixed.
     #[error("AsciiEntry")]
     AsciiEntry,
-    /// A number of an entry, or within a range, is no Unicode scalar value.
+    /// An entry has a number that is no Unicode scalar value, or a range runs over surrogates.
     #[error("NotScalar")]
     NotScalar,
 }
@@ -42,6 +49,28 @@ impl UniError {
             UniError::AsciiEntry => 3,
             UniError::NotScalar => 4,
         }
+    }
+}
+
+impl From<AllocError> for UniError {
+    ghost use Rattle.std.specs.Prelude.{◌≡◌};
+    ghost use Rattle.sre_chars.specs.declared.table.UniError.TheVariants.{Memory};
+
+    ghost from_gives = { λ _ error. error ≡ Memory };
+
+    fn from(_failed: AllocError) -> UniError {
+        UniError::Memory
+    }
+}
+
+impl<T: Drop> From<AllocFailed<T>> for UniError {
+    ghost use Rattle.std.specs.Prelude.{◌≡◌};
+    ghost use Rattle.sre_chars.specs.declared.table.UniError.TheVariants.{Memory};
+
+    ghost from_gives = { λ _ error. error ≡ Memory };
+
+    fn from(_failed: AllocFailed<T>) -> UniError {
+        UniError::Memory
     }
 }
 
@@ -86,6 +115,67 @@ impl UniTable {
             upper: Vec::new(alloc),
             alnum: Vec::new(alloc),
         }
+    }
+
+    /// The table of three lists, which it copies.
+    ///
+    /// `lower` and `upper` hold pairs (from, to), each `from` above the former one. `alnum` holds
+    /// pairs (low, high), low up to high, each low above the former high; both ends belong to the
+    /// range. All numbers are Unicode scalar values, those between two ends too, and no `from`,
+    /// low or high is below 128. A `to` may be.
+    ///
+    /// # Errors
+    ///
+    /// The lists are checked in the order of the parameters, entry by entry, and the first fault
+    /// is answered. Of the faults of one entry it is [`UniError::NotScalar`] before
+    /// [`UniError::AsciiEntry`] before [`UniError::Unsorted`]. Only then memory is asked for, once
+    /// a list: [`UniError::Memory`] says that the lists have no fault, and that a request was
+    /// refused.
+    pub fn new(
+        alloc: Global,
+        lower: &[(u32, u32)],
+        upper: &[(u32, u32)],
+        alnum: &[(u32, u32)],
+    ) -> Result<UniTable, UniError>
+        ensures table { IfOk result (λ table. table ≡ table_of lower.now upper.now alnum.now) }
+        ensures lawful { OnOk result (table_fault (table_of lower.now upper.now alnum.now) ≡ None) }
+        ensures refused { IfErr result (λ error. option_or (table_fault (table_of lower.now upper.now alnum.now)) (Some UniError.Memory) ≡ Some error) }
+    {
+        let Lists {
+            lower,
+            upper,
+            alnum,
+        } = checked_lists(alloc, lower, upper, alnum)?;
+        Ok(UniTable {
+            lower,
+            upper,
+            alnum,
+        })
+    }
+
+    /// The table of Unicode as std knows it.
+    ///
+    /// A character that std changes goes to the first character of `char::to_lowercase` and
+    /// `char::to_uppercase`; the alphanumerics are those of `char::is_alphanumeric`. Surrogates
+    /// and numbers above 0x10FFFF stay, and are not alphanumeric. It goes over all scalar values
+    /// three times, so a program makes it once.
+    ///
+    /// # Errors
+    ///
+    /// Only [`UniError::Memory`], where a growth of a list was refused.
+    pub fn from_std(alloc: Global) -> Result<UniTable, UniError>
+        ensures refused { IsOkUnless result UniError.Memory }
+    {
+        let Lists {
+            lower,
+            upper,
+            alnum,
+        } = std_lists(alloc)?;
+        Ok(UniTable {
+            lower,
+            upper,
+            alnum,
+        })
     }
 
     // Whether a character is a letter or a digit.

@@ -1,0 +1,190 @@
+//! The three lists of a table: those of a caller, and those of std.
+//!
+//! A caller's lists are checked whole before any memory is asked for. std's are written in rising
+//! order, so that they have no fault.
+
+ghost use Rattle.std.specs.Prelude.{◌≡◌, None, Some, IfSome, IfNone, IfOk, OnOk, IfErr, IsOkUnless, IsTrue, true};
+ghost use Rattle.std.specs.Option.{option_or};
+ghost use Rattle.sre_chars.specs.Tables.{table_of, is_scalar};
+ghost use Rattle.sre_chars.specs.Errors.{last_of, is_scalar_entry, entry_fault, list_fault, table_fault};
+
+use super::{Listing, UniError};
+use std::alloc::Allocator;
+
+// The lists of a table.
+#[derive(Drop)]
+pub(super) struct Lists<A: Allocator + Copy> {
+    pub(super) lower: Vec<(u32, u32), A>,
+    pub(super) upper: Vec<(u32, u32), A>,
+    pub(super) alnum: Vec<(u32, u32), A>,
+}
+
+// The case that a character is taken to.
+#[derive(Clone, Copy)]
+enum Case {
+    Lower,
+    Upper,
+}
+
+// Copies three lists, once they are known to have no fault.
+pub(super) fn checked_lists<A: Allocator + Copy>(
+    alloc: A,
+    lower: &[(u32, u32)],
+    upper: &[(u32, u32)],
+    alnum: &[(u32, u32)],
+) -> Result<Lists<A>, UniError>
+    ensures lists { IfOk result (λ lists. table_of lists.lower.items lists.upper.items lists.alnum.items ≡ table_of lower.now upper.now alnum.now) }
+    ensures lawful { OnOk result (table_fault (table_of lower.now upper.now alnum.now) ≡ None) }
+    ensures refused { IfErr result (λ error. option_or (table_fault (table_of lower.now upper.now alnum.now)) (Some UniError.Memory) ≡ Some error) }
+{
+    check(Listing::Map, lower)?;
+    check(Listing::Map, upper)?;
+    check(Listing::Ranges, alnum)?;
+    Ok(Lists {
+        lower: Vec::from_slice(alloc, lower)?,
+        upper: Vec::from_slice(alloc, upper)?,
+        alnum: Vec::from_slice(alloc, alnum)?,
+    })
+}
+
+// The lists of std: both ways into the other case, and its alphanumerics, past ASCII.
+pub(super) fn std_lists<A: Allocator + Copy>(alloc: A) -> Result<Lists<A>, UniError>
+    ensures lawful { IfOk result (λ lists. table_fault (table_of lists.lower.items lists.upper.items lists.alnum.items) ≡ None) }
+    ensures refused { IsOkUnless result UniError.Memory }
+{
+    Ok(Lists {
+        lower: std_map(alloc, Case::Lower)?,
+        upper: std_map(alloc, Case::Upper)?,
+        alnum: std_ranges(alloc)?,
+    })
+}
+
+// Refuses a list by its first fault.
+fn check(kind: Listing, entries: &[(u32, u32)]) -> Result<(), UniError>
+    ensures lawful { OnOk result (list_fault kind 0 entries.now ≡ None) }
+    ensures refused { IfErr result (λ error. list_fault kind 0 entries.now ≡ Some error) }
+{
+    let mut next = 0;
+    for &entry in entries {
+        if let Some(fault) = entry_fault(kind, next, entry) {
+            return Err(fault);
+        }
+        next = last_of(kind, entry) + 1;
+    }
+    Ok(())
+}
+
+// What is wrong with an entry, where the numbers below `next` are taken up.
+fn entry_fault(kind: Listing, next: u32, entry: (u32, u32)) -> Option<UniError>
+    ensures { result ≡ entry_fault kind next entry }
+{
+    let first = entry.0;
+    let last = last_of(kind, entry);
+    if !is_scalar_entry(kind, entry) {
+        Some(UniError::NotScalar)
+    } else if first < 128 || last < 128 {
+        Some(UniError::AsciiEntry)
+    } else if first < next || last < first {
+        Some(UniError::Unsorted)
+    } else {
+        None
+    }
+}
+
+// The last number that an entry takes up.
+fn last_of(kind: Listing, entry: (u32, u32)) -> u32
+    ensures { result ≡ last_of kind entry }
+{
+    match kind {
+        Listing::Map => entry.0,
+        Listing::Ranges => entry.1,
+    }
+}
+
+// Whether an entry is of scalar values alone, a range of those between its ends too.
+fn is_scalar_entry(kind: Listing, entry: (u32, u32)) -> bool
+    ensures { result ≡ is_scalar_entry kind entry }
+{
+    let are_scalar = is_scalar(entry.0) && is_scalar(entry.1);
+    match kind {
+        Listing::Map => are_scalar,
+        Listing::Ranges => are_scalar && !(entry.0 < 0xD800 && 0xDFFF < entry.1),
+    }
+}
+
+// Whether Unicode gives the number to a character.
+fn is_scalar(ch: u32) -> bool
+    ensures { result ≡ is_scalar ch }
+{
+    matches!(ch, 0..=0xD7FF | 0xE000..=0x10FFFF)
+}
+
+// The characters past ASCII that std changes, with what it changes them to.
+fn std_map<A: Allocator>(alloc: A, case: Case) -> Result<Vec<(u32, u32), A>, UniError>
+    ensures lawful { IfOk result (λ entries. list_fault Listing.Map 0 entries.items ≡ None) }
+    ensures refused { IsOkUnless result UniError.Memory }
+{
+    let mut entries = Vec::new(alloc);
+    for from in 128..0x110000u32 {
+        if let Some(ch) = char::from_u32(from) {
+            let to = in_case(case, ch);
+            if to != ch {
+                entries.push((from, to as u32))?;
+            }
+        }
+    }
+    Ok(entries)
+}
+
+// The first character that std takes a character to.
+fn in_case(case: Case, ch: char) -> char
+    ensures scalar { is_scalar result ≡ true }
+{
+    let mut changed = match case {
+        Case::Lower => ch.to_lowercase(),
+        Case::Upper => ch.to_uppercase(),
+    };
+    changed.next().unwrap_or(ch)
+}
+
+// The runs of characters past ASCII that std calls alphanumeric.
+fn std_ranges<A: Allocator>(alloc: A) -> Result<Vec<(u32, u32), A>, UniError>
+    ensures lawful { IfOk result (λ ranges. list_fault Listing.Ranges 0 ranges.items ≡ None) }
+    ensures refused { IsOkUnless result UniError.Memory }
+{
+    let mut ranges = Vec::new(alloc);
+    let mut run = None;
+    for code in 128..0x110000u32 {
+        if is_std_alphanumeric(code) {
+            run = Some(extended(run, code));
+        } else if let Some(range) = run {
+            ranges.push(range)?;
+            run = None;
+        }
+    }
+    if let Some(range) = run {
+        ranges.push(range)?;
+    }
+    Ok(ranges)
+}
+
+// A run with one number more, or a run of that number alone.
+fn extended(run: Option<(u32, u32)>, code: u32) -> (u32, u32)
+    ensures alone { IfNone run (result ≡ (code, code)) }
+    ensures longer { IfSome run (λ range. result ≡ (range.0, code)) }
+{
+    match run {
+        Some((low, _)) => (low, code),
+        None => (code, code),
+    }
+}
+
+// Whether std calls the character of that number alphanumeric.
+fn is_std_alphanumeric(code: u32) -> bool
+    ensures scalar { IsTrue result → is_scalar code ≡ true }
+{
+    match char::from_u32(code) {
+        Some(ch) => ch.is_alphanumeric(),
+        None => false,
+    }
+}
