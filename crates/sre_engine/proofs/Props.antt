@@ -3,8 +3,8 @@ use Rattle.std.proofs.Common.{ℕ, ◌+◌, ◌*◌, ◌-◌, ◌≡◌, List, [
 use Rattle.std.proofs.Props.{props}
 use mathlib.Core.HLevel.{is_prop→PathP}
 use Rattle.std.proofs.Math.Logic.{∥∥₁_elim}
-use Rattle.sre_engine.specs.Tree.{Tree, Empty, Then, Item, Fail, One, At, Mark, Branch, Loop, Run, PossessiveLoop, Atomic, Look, Reference, Exists, ExistsElse, Trees, Only, Or, GreedyRun, Test, Literal, NotLiteral, In, Plain, SetItem, Single, Range, RangeUniIgnore, Category, Charset, BigCharset, Negate}
-use Rattle.sre_engine.specs.Grammar.{word, skip, Reads, ReadsItem, ReadsBranch, TestOperands, ReadsSet, IsBuilt, IsBuiltTest, IsBuiltSet, Whole}
+use Rattle.sre_engine.specs.Tree.{Tree, Empty, Then, Item, Fail, One, At, Mark, Branch, Loop, Run, PossessiveLoop, Atomic, Look, Reference, Exists, ExistsElse, Trees, Only, Or, GreedyRun, Test, In, SetItem, Single, Range, RangeUniIgnore, Category, Charset, BigCharset, Negate}
+use Rattle.sre_engine.specs.Grammar.{word, skip, Reads, ReadsItem, ReadsBranch, TestOperands, ReadsSet, IsBuilt, Whole}
 use Rattle.sre_engine.specs.Hinted.{IsCode}
 use Rattle.sre_engine.proofs.Unique.{item_same, whole_same}
 
@@ -14,20 +14,8 @@ between A B one pa pb x y =
     let p : x.0 ≡ y.0 = one x.0 y.0 x.1 y.1 in
     λ i. (p i, is_prop→PathP (λ j. A (p j)) (λ j. pa (p j)) x.1 y.1 i, is_prop→PathP (λ j. B (p j)) (λ j. pb (p j)) x.2 y.2 i)
 
-built_set_prop : (s : List SetItem) → IsProp (IsBuiltSet s)
-built_set_prop [] = hlevel props
-built_set_prop (RangeUniIgnore low high ∷ s) = hlevel props
-built_set_prop (x ∷ s) = built_set_prop s
-
-built_test_prop : (t : Test) → IsProp (IsBuiltTest t)
-built_test_prop (Literal Plain v) = hlevel props
-built_test_prop (NotLiteral Plain v) = hlevel props
-built_test_prop (In Plain s) = built_set_prop s
-built_test_prop t = hlevel props
-
 built_prop : (x : Item) → IsProp (IsBuilt x)
-built_prop (One t) = built_test_prop t
-built_prop (Run GreedyRun low high t) = built_test_prop t
+built_prop (Run GreedyRun low high t) = hlevel props
 built_prop x = hlevel props
 
 set_prop : (s : List SetItem) (ws : List ℕ) (i j : ℕ) → IsProp (ReadsSet ws i j s)
@@ -52,7 +40,7 @@ mutual
 
   item_prop : (x : Item) (ws : List ℕ) (i j : ℕ) → IsProp (ReadsItem ws i j x)
   item_prop Fail ws i j = hlevel (props, built_prop Fail)
-  item_prop (One t) ws i j = hlevel (props, test_prop t ws i j, built_test_prop t)
+  item_prop (One t) ws i j = hlevel (props, test_prop t ws i j, built_prop (One t))
   item_prop (At a) ws i j = hlevel (props, built_prop (At a))
   item_prop (Mark n) ws i j = hlevel (props, built_prop (Mark n))
   item_prop (Branch ts) ws i j = hlevel (props, branch_prop ts ws (i + 1) j, built_prop (Branch ts))

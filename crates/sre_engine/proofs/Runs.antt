@@ -32,7 +32,7 @@ run_here ws i j (Run GreedyRun low high t) h r = record {
   ends = r.1.0;
   counts = omega (arith, word_of ws (i + 2) low r.1.1, word_of ws (i + 3) high r.1.2, r.1.3);
   there = word_within ws (i + 4) (opcode_number (test_opcode t)) r.1.4;
-  reads = (r.1.4, r.1.5, r.2);
+  reads = (r.1.4, r.1.5);
   closed = r.1.6;
   longer = test_past t ws (i + 4) (j - 1) r.1.5;
 }
@@ -48,7 +48,7 @@ run_exactly ws i e t v high h skips low highest there le x closed ends =
     let at : e ≡ t - 1 = omega arith in
     let P : ℕ → Type 0 = λ n. TestOperands ws (i + 4) n x.test in
     past ws i t v (Run GreedyRun (word ws (i + 2)) (word ws (i + 3)) x.test)
-    (h, (skips, word_there ws (i + 2) (omega arith), word_there ws (i + 3) there, omega arith, x.reads.0, subst P at x.reads.1, opcode_moved ws e (t - 1) opcode.SUCCESS at closed), x.reads.2) low
+    (h, (skips, word_there ws (i + 2) (omega arith), word_there ws (i + 3) there, omega arith, x.reads.0, subst P at x.reads.1, opcode_moved ws e (t - 1) opcode.SUCCESS at closed), tt) low
     (λ j y r. let f = run_here ws i j y h r in (f.ends ∙ sym skips, f.width ∙ sym low))
 
 pub run_short : (ws : List ℕ) (i : ℕ) → Opcode ws i opcode.REPEAT_ONE → length ws ≤ i + 4 → Nowhere (ItemAt ws i)

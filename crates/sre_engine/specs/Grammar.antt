@@ -120,28 +120,14 @@ TestOperands ws i j (In fold set) = (j ≡ skip ws (i + 1)) × ReadsSet ws (i + 
 abbrev pub JumpsTo : List ℕ → ℕ → ℕ → Type 0
 JumpsTo ws k j = Opcode ws k opcode.JUMP × (j ≡ skip ws (k + 1))
 
--- which sets, tests and items the engine has; a word that begins another one relates no tree
-abbrev pub IsBuiltSet : List SetItem → Type 0
-IsBuiltSet [] = Unit {0}
-IsBuiltSet (RangeUniIgnore low high ∷ rest) = ⊥
-IsBuiltSet (_ ∷ rest) = IsBuiltSet rest
-
-abbrev pub IsBuiltTest : Test → Type 0
-IsBuiltTest Any = Unit {0}
-IsBuiltTest AnyAll = Unit {0}
-IsBuiltTest (InCategory c) = Unit {0}
-IsBuiltTest (Literal Plain v) = Unit {0}
-IsBuiltTest (NotLiteral Plain v) = Unit {0}
-IsBuiltTest (In Plain set) = IsBuiltSet set
-IsBuiltTest _ = ⊥
-
+-- which items the engine has; a word that begins another one relates no tree
 abbrev pub IsBuilt : Item → Type 0
 IsBuilt Fail = Unit {0}
-IsBuilt (One t) = IsBuiltTest t
+IsBuilt (One t) = Unit {0}
 IsBuilt (At a) = Unit {0}
 IsBuilt (Mark n) = Unit {0}
 IsBuilt (Branch ts) = Unit {0}
-IsBuilt (Run GreedyRun low high t) = IsBuiltTest t
+IsBuilt (Run GreedyRun low high t) = Unit {0}
 IsBuilt _ = ⊥
 
 abbrev mutual

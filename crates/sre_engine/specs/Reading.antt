@@ -1,7 +1,8 @@
 -- Words, sets and tests: what the check's answers say of them.
 use Rattle.std.specs.Prelude.{ℕ, ◌≡◌, ◌<◌, ◌≤◌, List, length, Result, Ok, Err}
-use Rattle.sre_engine.specs.Tree.{Test, SetItem}
-use Rattle.sre_engine.specs.Grammar.{Word, word, skip, Opcode, ReadsSet, IsBuiltSet, test_opcode, TestOperands, IsBuiltTest}
+use Rattle.sre_chars.specs.declared.constants.SreOpcode.{SreOpcode}
+use Rattle.sre_engine.specs.Tree.{Fold, Test, SetItem}
+use Rattle.sre_engine.specs.Grammar.{Word, word, skip, Opcode, ReadsSet, test_opcode, TestOperands}
 use Rattle.sre_engine.specs.Refusals.{place_of}
 use Rattle.sre_engine.specs.declared.code.error.CodeError.{CodeError}
 
@@ -28,9 +29,14 @@ abbrev pub CodeAt : {C : Type 0} → (C → ℕ) → List ℕ → ℕ → Result
 CodeAt number ws i (Ok c) = (i < length ws) × Word ws i (number c)
 CodeAt number ws i (Err e) = NoCode number ws i × Within ws e
 
+-- an opcode is at i, under one of the foldings
+pub record FoldedAt (opcode_of : Fold → SreOpcode) (ws : List ℕ) (i : ℕ) : Type 0 where
+  pub fold : Fold
+  pub there : Opcode ws i (opcode_of fold)
+
 -- the words of [i, j) are a test
 abbrev pub ReadsTest : List ℕ → ℕ → ℕ → Test → Type 0
-ReadsTest ws i j t = Opcode ws i (test_opcode t) × TestOperands ws i j t × IsBuiltTest t
+ReadsTest ws i j t = Opcode ws i (test_opcode t) × TestOperands ws i j t
 
 -- a test is at i and ends at j, as each test there does
 pub record TestExactly (ws : List ℕ) (i j : ℕ) : Type 0 where
@@ -49,7 +55,7 @@ TestEnds ws i (Err e) = NoTest ws i × Within ws e
 
 -- the words of [i, j) are a set's items
 abbrev pub SetAt : List ℕ → ℕ → ℕ → Type 0
-SetAt ws i j = (set : List SetItem) × ReadsSet ws i j set × IsBuiltSet set
+SetAt ws i j = (set : List SetItem) × ReadsSet ws i j set
 
 -- the set's item at i ends at p
 pub record SetItemExactly (ws : List ℕ) (i p : ℕ) : Type 0 where

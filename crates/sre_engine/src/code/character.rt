@@ -1,7 +1,7 @@
 //! Tests of one character.
 
-ghost use Rattle.sre_engine.specs.Grammar.{Opcode};
-ghost use Rattle.sre_engine.specs.Reading.{TestEnds};
+ghost use Rattle.sre_engine.specs.Grammar.{Opcode, literal_opcode, not_literal_opcode, set_opcode};
+ghost use Rattle.sre_engine.specs.Reading.{FoldedAt, TestEnds};
 
 use crate::code::error::CodeError;
 use crate::code::{set, words};
@@ -17,30 +17,30 @@ fn category(words: &[u32], place: usize) -> Result<usize, CodeError>
     Ok(place + 2)
 }
 
-/// `<LITERAL> <value>`
+/// `<LITERAL> <value>`, under each folding
 #[tactic(auto, using(crate::proofs::Characters::literal_exactly, crate::proofs::Characters::literal_cut))]
 fn literal(words: &[u32], place: usize) -> Result<usize, CodeError>
-    requires { Opcode words.now place SreOpcode.LITERAL }
+    requires { FoldedAt literal_opcode words.now place }
     ensures { TestEnds words.now place result }
 {
     words::operand(words, place + 1)?;
     Ok(place + 2)
 }
 
-/// `<NOT_LITERAL> <value>`
+/// `<NOT_LITERAL> <value>`, under each folding
 #[tactic(auto, using(crate::proofs::Characters::not_literal_exactly, crate::proofs::Characters::not_literal_cut))]
 fn not_literal(words: &[u32], place: usize) -> Result<usize, CodeError>
-    requires { Opcode words.now place SreOpcode.NOT_LITERAL }
+    requires { FoldedAt not_literal_opcode words.now place }
     ensures { TestEnds words.now place result }
 {
     words::operand(words, place + 1)?;
     Ok(place + 2)
 }
 
-/// `<IN> <skip> <set> <FAILURE>`
+/// `<IN> <skip> <set> <FAILURE>`, under each folding
 #[tactic(auto, using(crate::proofs::Characters::set_exactly, crate::proofs::Characters::set_cut, crate::proofs::Characters::set_empty, crate::proofs::Characters::set_open, crate::proofs::Characters::set_ends_cut, crate::proofs::Characters::set_wrong))]
 fn in_set(words: &[u32], place: usize) -> Result<usize, CodeError>
-    requires { Opcode words.now place SreOpcode.IN }
+    requires { FoldedAt set_opcode words.now place }
     ensures { TestEnds words.now place result }
 {
     let tail = words::skip(words, place + 1)?;
@@ -55,7 +55,7 @@ fn in_set(words: &[u32], place: usize) -> Result<usize, CodeError>
 }
 
 /// Where the test of one character ends that has this opcode.
-#[tactic(auto, using(crate::proofs::Characters::any_exactly, crate::proofs::Characters::any_all_exactly, crate::proofs::Characters::no_test))]
+#[tactic(auto, using(crate::proofs::Characters::any_exactly, crate::proofs::Characters::any_all_exactly, crate::proofs::Characters::literal_at, crate::proofs::Characters::not_literal_at, crate::proofs::Characters::set_at))]
 pub fn test(words: &[u32], place: usize, code: SreOpcode) -> Result<usize, CodeError>
     requires { Opcode words.now place code }
     ensures { TestEnds words.now place result }
@@ -64,9 +64,18 @@ pub fn test(words: &[u32], place: usize, code: SreOpcode) -> Result<usize, CodeE
         SreOpcode::ANY => Ok(place + 1),
         SreOpcode::ANY_ALL => Ok(place + 1),
         SreOpcode::CATEGORY => category(words, place),
-        SreOpcode::LITERAL => literal(words, place),
-        SreOpcode::NOT_LITERAL => not_literal(words, place),
-        SreOpcode::IN => in_set(words, place),
+        SreOpcode::LITERAL
+        | SreOpcode::LITERAL_IGNORE
+        | SreOpcode::LITERAL_LOC_IGNORE
+        | SreOpcode::LITERAL_UNI_IGNORE => literal(words, place),
+        SreOpcode::NOT_LITERAL
+        | SreOpcode::NOT_LITERAL_IGNORE
+        | SreOpcode::NOT_LITERAL_LOC_IGNORE
+        | SreOpcode::NOT_LITERAL_UNI_IGNORE => not_literal(words, place),
+        SreOpcode::IN
+        | SreOpcode::IN_IGNORE
+        | SreOpcode::IN_LOC_IGNORE
+        | SreOpcode::IN_UNI_IGNORE => in_set(words, place),
         _ => Err(CodeError::BadItem(place)),
     }
 }

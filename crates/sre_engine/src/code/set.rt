@@ -1,6 +1,6 @@
 //! Sets: items, one after the other.
 
-ghost use Rattle.std.specs.Prelude.{◌≤◌, length, IsTrue, ◌↔◌};
+ghost use Rattle.std.specs.Prelude.{◌≤◌, ◌⊎◌, length, IsTrue, ◌↔◌};
 ghost use Rattle.sre_engine.specs.Grammar.{Opcode, BytesBelow, BlocksBelow};
 ghost use Rattle.sre_engine.specs.Reading.{SetItemEnds, SetFills};
 
@@ -18,10 +18,10 @@ fn literal(words: &[u32], place: usize) -> Result<usize, CodeError>
     Ok(place + 2)
 }
 
-/// `<RANGE> <low> <high>`
+/// `<RANGE> <low> <high>`, and the same with RANGE_UNI_IGNORE
 #[tactic(auto, using(crate::proofs::Sets::range_item, crate::proofs::Sets::range_cut))]
 fn range(words: &[u32], place: usize) -> Result<usize, CodeError>
-    requires { Opcode words.now place SreOpcode.RANGE }
+    requires { Opcode words.now place SreOpcode.RANGE ⊎ Opcode words.now place SreOpcode.RANGE_UNI_IGNORE }
     ensures { SetItemEnds words.now place result }
 {
     words::operand(words, place + 2)?;
@@ -91,14 +91,14 @@ fn big_charset(words: &[u32], place: usize) -> Result<usize, CodeError>
 }
 
 /// Where the set's item at this place ends.
-#[tactic(auto, using(crate::proofs::Sets::negate_item, crate::proofs::Sets::no_item, crate::proofs::Sets::no_opcode))]
+#[tactic(auto, using(crate::proofs::Sets::range_there, crate::proofs::Sets::negate_item, crate::proofs::Sets::no_item, crate::proofs::Sets::no_opcode))]
 fn item(words: &[u32], place: usize) -> Result<usize, CodeError>
     ensures { SetItemEnds words.now place result }
 {
     let code = words::opcode(words, place)?;
     match code {
         SreOpcode::LITERAL => literal(words, place),
-        SreOpcode::RANGE => range(words, place),
+        SreOpcode::RANGE | SreOpcode::RANGE_UNI_IGNORE => range(words, place),
         SreOpcode::CATEGORY => category(words, place),
         SreOpcode::CHARSET => charset(words, place),
         SreOpcode::BIGCHARSET => big_charset(words, place),

@@ -30,7 +30,7 @@ fn lawful_words(rt: HostRuntime) {
         literal: false,
         first_set: false,
     };
-    let lawful: [&[u32]; 15] = [
+    let lawful: [&[u32]; 27] = [
         &[1],
         &[16, 97, 1],
         &[17, 3, 1],
@@ -46,6 +46,18 @@ fn lawful_words(rt: HostRuntime) {
         &[7, 8, 7, 3, 15, 2, 0, 15, 2, 0, 1],
         &[24, 6, 0, 4294967295, 16, 97, 1, 1],
         &[24, 9, 0, 1, 13, 4, 16, 97, 0, 1, 1],
+        &[32, 97, 1],
+        &[33, 97, 1],
+        &[31, 4, 16, 97, 0, 1],
+        &[36, 97, 1],
+        &[37, 97, 1],
+        &[35, 4, 16, 97, 0, 1],
+        &[40, 97, 1],
+        &[41, 97, 1],
+        &[39, 4, 16, 97, 0, 1],
+        &[13, 5, 42, 0, 0, 0, 1],
+        &[24, 6, 0, 4294967295, 33, 97, 1, 1],
+        &[24, 10, 0, 1, 39, 5, 42, 65, 90, 0, 1, 1],
     ];
     for words in lawful {
         match Code::check(alloc, words, &table) {
@@ -62,7 +74,7 @@ fn lawful_words(rt: HostRuntime) {
 #[test]
 fn kinds_and_places(rt: HostRuntime) {
     let alloc = rt.alloc();
-    let refused: [(&[u32], CodeError); 32] = [
+    let refused: [(&[u32], CodeError); 39] = [
         (&[], CodeError::Truncated(0)),
         (&[16], CodeError::Truncated(1)),
         (&[16, 97], CodeError::Truncated(2)),
@@ -93,11 +105,18 @@ fn kinds_and_places(rt: HostRuntime) {
         (&[7, 5, 16, 97, 1, 2, 0, 1], CodeError::BadItem(4)),
         (&[24, 6, 0, 1, 16, 97, 0, 1], CodeError::BadItem(6)),
         (&[24, 6, 0, 1, 17, 0, 1, 1], CodeError::BadItem(4)),
-        (&[32, 97, 1], CodeError::BadItem(0)),
         (&[13, 4, 16, 97, 1, 1], CodeError::BadSet(4)),
         (&[13, 4, 2, 2, 0, 1], CodeError::BadSet(2)),
         (&[13, 3, 16, 0, 1], CodeError::BadSet(3)),
-        (&[13, 5, 42, 0, 0, 0, 1], CodeError::BadSet(2)),
+        (&[32], CodeError::Truncated(1)),
+        (&[32, 97], CodeError::Truncated(2)),
+        (&[41], CodeError::Truncated(1)),
+        (&[31, 4, 16, 97, 0], CodeError::Truncated(5)),
+        (&[35, 4, 2, 2, 0, 1], CodeError::BadSet(2)),
+        (&[39, 4, 16, 97, 1, 1], CodeError::BadSet(4)),
+        (&[31, 1, 0, 1], CodeError::BadSkip(1)),
+        (&[13, 5, 42, 65], CodeError::Truncated(4)),
+        (&[13, 4, 42, 65, 0, 1], CodeError::BadSet(4)),
     ];
     for (words, error) in refused {
         assert_eq!(rt; refusal(alloc, words), Some(error));
