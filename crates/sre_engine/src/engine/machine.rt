@@ -376,45 +376,26 @@ pub(super) fn instruction<S: StrDrive, A: Allocator>(
     requires { HasRun (run_of req.now) (Instruction place) cursor }
     ensures { IfOk result (λ next. Advances (run_of req.now) (Instruction place) cursor board.old next board.new) }
 {
-    match opcode(req, place, cursor) {
-        SreOpcode::FAILURE => Ok(Next::Back),
-        SreOpcode::SUCCESS => Ok(Next::Done(cursor)),
-        SreOpcode::ANY => Ok(test(req, SreOpcode::ANY, place, cursor)),
-        SreOpcode::ANY_ALL => Ok(test(req, SreOpcode::ANY_ALL, place, cursor)),
-        SreOpcode::AT => Ok(at(req, place, cursor)),
-        SreOpcode::BRANCH => branch(req, board, place, cursor),
-        SreOpcode::CATEGORY => Ok(test(req, SreOpcode::CATEGORY, place, cursor)),
-        SreOpcode::IN => Ok(test(req, SreOpcode::IN, place, cursor)),
-        SreOpcode::JUMP => Ok(jump(req, place, cursor)),
-        SreOpcode::LITERAL => Ok(test(req, SreOpcode::LITERAL, place, cursor)),
-        SreOpcode::MARK => mark(req, board, place, cursor),
-        SreOpcode::NOT_LITERAL => Ok(test(req, SreOpcode::NOT_LITERAL, place, cursor)),
-        SreOpcode::REPEAT_ONE => repeat_one(req, board, place, cursor),
-        SreOpcode::IN_IGNORE => Ok(test(req, SreOpcode::IN_IGNORE, place, cursor)),
-        SreOpcode::LITERAL_IGNORE => Ok(test(req, SreOpcode::LITERAL_IGNORE, place, cursor)),
-        SreOpcode::NOT_LITERAL_IGNORE => {
-            Ok(test(req, SreOpcode::NOT_LITERAL_IGNORE, place, cursor))
-        }
-        SreOpcode::IN_LOC_IGNORE => Ok(test(req, SreOpcode::IN_LOC_IGNORE, place, cursor)),
-        SreOpcode::LITERAL_LOC_IGNORE => {
-            Ok(test(req, SreOpcode::LITERAL_LOC_IGNORE, place, cursor))
-        }
-        SreOpcode::NOT_LITERAL_LOC_IGNORE => Ok(test(
-            req,
-            SreOpcode::NOT_LITERAL_LOC_IGNORE,
-            place,
-            cursor,
-        )),
-        SreOpcode::IN_UNI_IGNORE => Ok(test(req, SreOpcode::IN_UNI_IGNORE, place, cursor)),
-        SreOpcode::LITERAL_UNI_IGNORE => {
-            Ok(test(req, SreOpcode::LITERAL_UNI_IGNORE, place, cursor))
-        }
-        SreOpcode::NOT_LITERAL_UNI_IGNORE => Ok(test(
-            req,
-            SreOpcode::NOT_LITERAL_UNI_IGNORE,
-            place,
-            cursor,
-        )),
-        _ => unreachable!(),
+    // An arm for each test, so that each knows its own opcode.
+    macro_rules! with_tests {
+        ($($test:ident)*) => {
+            match opcode(req, place, cursor) {
+                SreOpcode::FAILURE => Ok(Next::Back),
+                SreOpcode::SUCCESS => Ok(Next::Done(cursor)),
+                SreOpcode::AT => Ok(at(req, place, cursor)),
+                SreOpcode::BRANCH => branch(req, board, place, cursor),
+                SreOpcode::JUMP => Ok(jump(req, place, cursor)),
+                SreOpcode::MARK => mark(req, board, place, cursor),
+                SreOpcode::REPEAT_ONE => repeat_one(req, board, place, cursor),
+                $(SreOpcode::$test => Ok(test(req, SreOpcode::$test, place, cursor)),)*
+                _ => unreachable!(),
+            }
+        };
     }
+    with_tests!(
+        ANY ANY_ALL CATEGORY
+        LITERAL LITERAL_IGNORE LITERAL_LOC_IGNORE LITERAL_UNI_IGNORE
+        NOT_LITERAL NOT_LITERAL_IGNORE NOT_LITERAL_LOC_IGNORE NOT_LITERAL_UNI_IGNORE
+        IN IN_IGNORE IN_LOC_IGNORE IN_UNI_IGNORE
+    )
 }

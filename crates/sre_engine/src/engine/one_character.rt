@@ -60,28 +60,34 @@ pub(crate) fn takes<S: StrDrive>(
 {
     let words = req.pattern_codes().words();
     let uni = req.pattern_codes().uni();
-    match opcode {
-        SreOpcode::ANY => character != 10,
-        SreOpcode::ANY_ALL => true,
-        SreOpcode::CATEGORY => category(uni, category_code(words, place + 1), character),
-        SreOpcode::LITERAL => operand(words, place, 1) == character,
-        SreOpcode::LITERAL_IGNORE => operand(words, place, 1) == lower_ascii(character),
-        SreOpcode::LITERAL_LOC_IGNORE => is_any_case(uni, operand(words, place, 1), character),
-        SreOpcode::LITERAL_UNI_IGNORE => operand(words, place, 1) == lower_unicode(uni, character),
-        SreOpcode::NOT_LITERAL => operand(words, place, 1) != character,
-        SreOpcode::NOT_LITERAL_IGNORE => operand(words, place, 1) != lower_ascii(character),
-        SreOpcode::NOT_LITERAL_LOC_IGNORE => !is_any_case(uni, operand(words, place, 1), character),
-        SreOpcode::NOT_LITERAL_UNI_IGNORE => {
-            operand(words, place, 1) != lower_unicode(uni, character)
-        }
-        SreOpcode::IN => is_member(words, uni, place + 2, character),
-        SreOpcode::IN_IGNORE => is_member(words, uni, place + 2, lower_ascii(character)),
-        SreOpcode::IN_LOC_IGNORE => takes_a_case(words, uni, place + 2, character),
-        SreOpcode::IN_UNI_IGNORE => {
-            is_member(words, uni, place + 2, lower_unicode(uni, character))
-        }
-        _ => unreachable!(),
+    // A row for each folding but that of the locale: its opcodes, and the character as it shows it.
+    macro_rules! takes_folded {
+        ($($literal:ident $not_literal:ident $set:ident: $folded:expr,)*) => {
+            match opcode {
+                SreOpcode::ANY => character != 10,
+                SreOpcode::ANY_ALL => true,
+                SreOpcode::CATEGORY => category(uni, category_code(words, place + 1), character),
+                $(
+                    SreOpcode::$literal => operand(words, place, 1) == $folded,
+                    SreOpcode::$not_literal => operand(words, place, 1) != $folded,
+                    SreOpcode::$set => is_member(words, uni, place + 2, $folded),
+                )*
+                SreOpcode::LITERAL_LOC_IGNORE => {
+                    is_any_case(uni, operand(words, place, 1), character)
+                }
+                SreOpcode::NOT_LITERAL_LOC_IGNORE => {
+                    !is_any_case(uni, operand(words, place, 1), character)
+                }
+                SreOpcode::IN_LOC_IGNORE => takes_a_case(words, uni, place + 2, character),
+                _ => unreachable!(),
+            }
+        };
     }
+    takes_folded!(
+        LITERAL NOT_LITERAL IN: character,
+        LITERAL_IGNORE NOT_LITERAL_IGNORE IN_IGNORE: lower_ascii(character),
+        LITERAL_UNI_IGNORE NOT_LITERAL_UNI_IGNORE IN_UNI_IGNORE: lower_unicode(uni, character),
+    )
 }
 
 /// Where the words of the test whose opcode is at a place end.
