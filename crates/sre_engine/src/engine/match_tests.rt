@@ -119,6 +119,59 @@ fn the_first_way_is_taken(rt: HostRuntime) -> Result<(), Fail> {
 }
 
 #[test]
+fn foldings_pass_over_case(rt: HostRuntime) -> Result<(), Fail> {
+    let cases: [(&[u32], &[u8], Option<(usize, usize)>); 30] = [
+        (&[32, 97, 1], b"A", Some((0, 1))),
+        (&[32, 97, 1], b"b", None),
+        (&[32, 65, 1], b"A", None),
+        (&[33, 97, 1], b"A", None),
+        (&[33, 65, 1], b"A", Some((0, 1))),
+        (&[31, 4, 16, 97, 0, 1], b"A", Some((0, 1))),
+        (&[31, 4, 16, 65, 0, 1], b"A", None),
+        (&[36, 65, 1], b"a", Some((0, 1))),
+        (&[36, 97, 1], b"A", Some((0, 1))),
+        (&[37, 65, 1], b"a", None),
+        (&[37, 65, 1], b"b", Some((0, 1))),
+        (&[35, 4, 16, 97, 0, 1], b"A", Some((0, 1))),
+        (&[35, 4, 16, 65, 0, 1], b"a", Some((0, 1))),
+        (&[35, 4, 16, 65, 0, 1], b"b", None),
+        (&[40, 97, 1], b"A", Some((0, 1))),
+        (&[40, 65, 1], b"A", None),
+        (&[41, 97, 1], b"A", None),
+        (&[39, 4, 16, 97, 0, 1], b"A", Some((0, 1))),
+        (&[39, 4, 16, 65, 0, 1], b"A", None),
+        (&[13, 5, 42, 65, 90, 0, 1], b"a", Some((0, 1))),
+        (&[13, 5, 42, 65, 90, 0, 1], b"[", None),
+        (&[24, 6, 0, ANY_NUMBER, 32, 97, 1, 1], b"aAb", Some((0, 2))),
+        (&[24, 6, 0, ANY_NUMBER, 33, 97, 1, 1], b"bBaA", Some((0, 2))),
+        (&[24, 6, 0, ANY_NUMBER, 36, 65, 1, 1], b"aAb", Some((0, 2))),
+        (&[24, 6, 0, ANY_NUMBER, 37, 65, 1, 1], b"bBaA", Some((0, 2))),
+        (&[24, 6, 0, ANY_NUMBER, 40, 97, 1, 1], b"aAb", Some((0, 2))),
+        (&[24, 6, 0, ANY_NUMBER, 41, 97, 1, 1], b"bBaA", Some((0, 2))),
+        (
+            &[24, 9, 0, ANY_NUMBER, 31, 4, 16, 97, 0, 1, 1],
+            b"aAb",
+            Some((0, 2)),
+        ),
+        (
+            &[24, 9, 0, ANY_NUMBER, 35, 4, 16, 65, 0, 1, 1],
+            b"aAb",
+            Some((0, 2)),
+        ),
+        (
+            &[24, 9, 0, ANY_NUMBER, 39, 4, 16, 97, 0, 1, 1],
+            b"aAb",
+            Some((0, 2)),
+        ),
+    ];
+    for (words, text, ends) in cases {
+        let shown = matched(rt.alloc(), words, text, (0, usize::MAX), false)?;
+        assert_eq!(rt; shown, (ends, 0, -1));
+    }
+    Ok(())
+}
+
+#[test]
 fn a_window_is_kept(rt: HostRuntime) -> Result<(), Fail> {
     let cases: [(&[u32], &[u8], (usize, usize), Option<(usize, usize)>); 24] = [
         (NOT_A, b"ab", (0, 0), None),

@@ -26,6 +26,20 @@ const BITS_OF_A_AND_B: &[u32] = &[13, 11, 9, 0, 0, 0, 6, 0, 0, 0, 0, 0, 1];
 
 const ALL_BUT_A_TO_C: &[u32] = &[13, 6, 21, 22, 97, 99, 0, 1];
 
+// a, without regard to case
+const A_IN_ASCII: &[u32] = &[32, 97, 1];
+
+// the same, where the value may be upper case
+const NOT_A_IN_A_LOCALE: &[u32] = &[37, 65, 1];
+
+const A_IN_UNICODE: &[u32] = &[40, 97, 1];
+
+// [A] in a locale
+const SET_OF_A_IN_A_LOCALE: &[u32] = &[35, 4, 16, 65, 0, 1];
+
+// [A-Z], without regard to case
+const A_TO_Z_IN_UNICODE: &[u32] = &[39, 5, 42, 65, 90, 0, 1];
+
 // How far the test that words begin with runs in a text.
 fn run(alloc: Global, words: &[u32], text: &[u8], high: u32) -> Result<usize, Fail>
     requires { HasTest words.now 0 }
@@ -61,5 +75,15 @@ fn sets_run_as_far_as_they_take(rt: HostRuntime) -> Result<(), Fail> {
     assert!(rt; run(rt.alloc(), A_TO_C, b"acd", UNLIMITED)? == 2);
     assert!(rt; run(rt.alloc(), BITS_OF_A_AND_B, b"abc", UNLIMITED)? == 2);
     assert!(rt; run(rt.alloc(), ALL_BUT_A_TO_C, b"xda", UNLIMITED)? == 2);
+    Ok(())
+}
+
+#[test]
+fn folded_tests_run_as_far_as_they_hold(rt: HostRuntime) -> Result<(), Fail> {
+    assert!(rt; run(rt.alloc(), A_IN_ASCII, b"aAb", UNLIMITED)? == 2);
+    assert!(rt; run(rt.alloc(), NOT_A_IN_A_LOCALE, b"bBaA", UNLIMITED)? == 2);
+    assert!(rt; run(rt.alloc(), A_IN_UNICODE, b"aAb", UNLIMITED)? == 2);
+    assert!(rt; run(rt.alloc(), SET_OF_A_IN_A_LOCALE, b"aAb", UNLIMITED)? == 2);
+    assert!(rt; run(rt.alloc(), A_TO_Z_IN_UNICODE, b"aZ[", UNLIMITED)? == 2);
     Ok(())
 }
