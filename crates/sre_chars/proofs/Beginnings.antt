@@ -1,8 +1,8 @@
 -- Where characters begin in bytes, and how many begin before a place.
-use Rattle.std.proofs.Common.{◌≡◌, ℕ, ◌+◌, ◌-◌, ◌/◌, ◌<◌, ◌≤◌, true, false, cond, List, [], ◌∷◌, ◌++◌, length, take, drop, get_or, refl, ap, sym, ◌∙◌, arith, inl, inr, count_by, length-append}
+use Rattle.std.proofs.Common.{◌≡◌, ℕ, ◌+◌, ◌-◌, ◌/◌, ◌<◌, ◌≤◌, true, false, cond, List, [], ◌∷◌, ◌++◌, length, take, drop, refl, ap, sym, ◌∙◌, arith, inl, inr, count_by, length-append}
 use Rattle.std.proofs.Math.Seq.{take-add}
-use Rattle.std.proofs.lemmas.List.{take-take, take_all}
-use Rattle.std.proofs.lemmas.List.Sums.{sum_by-append, sum_by-take-drop, sum_by_more, count_by-le-length}
+use Rattle.std.proofs.lemmas.List.{take-take}
+use Rattle.std.proofs.lemmas.List.Sums.{sum_by-append, sum_by-take-drop}
 use Rattle.std.proofs.Math.Seq.{take-append_seam}
 use Rattle.std.proofs.lemmas.Bool.{cases_lt, lt-ltb, le-ltb}
 use Rattle.std.proofs.lemmas.Bool.Decides.{nat_tests}
@@ -12,11 +12,6 @@ use Rattle.std.specs.Str.{chars, IsUtf8, IsCharBoundary}
 use lib.Utf8.{encode, encodes, next}
 use Rattle.sre_chars.proofs.TextPlaces.{length-chars_le, offset_boundary, take_offset}
 use Rattle.sre_chars.specs.Texts.{begins_char, begun, offset_of}
-
--- a byte more
-pub begun_more : (bs : List ℕ) (i : ℕ) → i < length bs
-    → begun bs (i + 1) ≡ begun bs i + cond (begins_char (get_or bs i 0)) 1 0
-begun_more bs i h = sum_by_more (λ b. cond (begins_char b) 1 0) bs i 0 h
 
 -- a block more
 pub begun_block : (bs : List ℕ) (i n : ℕ) → begun bs (i + n) ≡ begun bs i + count_by begins_char (take n (drop i bs))
@@ -36,38 +31,35 @@ pub first_block : (bs : List ℕ) (n : ℕ)
     → count_by begins_char bs ≡ count_by begins_char (take n bs) + count_by begins_char (drop n bs)
 first_block bs n = sym (sum_by-take-drop (λ b. cond (begins_char b) 1 0) bs n)
 
-pub begun_whole : (bs : List ℕ) → begun bs (length bs) ≡ count_by begins_char bs
-begun_whole bs = ap (count_by begins_char) (take_all (length bs) bs (omega arith))
+-- the first byte of a character begins it, and no later one does
+first_byte : (b : ℕ) → 192 ≤ b → begins_char b ≡ true
+first_byte b h = grind (arith, nat_tests)
 
-pub count_le : (bs : List ℕ) → count_by begins_char bs ≤ length bs
-count_le bs = count_by-le-length begins_char bs
+later_byte : (c : ℕ) → begins_char (next c) ≡ false
+later_byte c = within (next c) (omega arith) (omega arith)
+  where
+    within : (b : ℕ) → 128 ≤ b → b < 192 → begins_char b ≡ false
+    within b h l = grind (arith, nat_tests)
 
--- where a character begins, or at the end, the text may be cut
-at_begin : (b : ℕ) → 192 ≤ b → begins_char b ≡ true
-at_begin b h = grind (arith, nat_tests)
+ascii_byte : (b : ℕ) → b < 128 → begins_char b ≡ true
+ascii_byte b h = grind (arith, nat_tests)
 
-within : (b : ℕ) → 128 ≤ b → b < 192 → begins_char b ≡ false
-within b h l = grind (arith, nat_tests)
-
-low : (b : ℕ) → b < 128 → begins_char b ≡ true
-low b h = grind (arith, nat_tests)
-
--- of the bytes of a character the first alone begins one
 begins_once : (c : ℕ) → count_by begins_char (encode c) ≡ 1
 unfolding encode
 begins_once c = elim (cases_lt c 128) [
-  | inl l ↦ rw (lt-ltb c 128 l, low c l) refl
+  | inl l ↦ rw (lt-ltb c 128 l, ascii_byte c l) refl
   | inr h ↦ elim (cases_lt c 2048) [
     | inl l ↦
-        rw (le-ltb c 128 h, lt-ltb c 2048 l, at_begin (192 + c / 64) (omega arith), within (next c) (omega arith) (omega arith))
-        refl
+        let lead = first_byte (192 + c / 64) (omega arith) in
+        rw (le-ltb c 128 h, lt-ltb c 2048 l, lead, later_byte c) refl
     | inr h2 ↦ elim (cases_lt c 65536) [
       | inl l ↦
-          rw (le-ltb c 128 h, le-ltb c 2048 h2, lt-ltb c 65536 l, at_begin (224 + c / 4096) (omega arith), within (next (c / 64)) (omega arith) (omega arith), within (next c) (omega arith) (omega arith))
-          refl
+          let lead = first_byte (224 + c / 4096) (omega arith) in
+          rw (le-ltb c 128 h, le-ltb c 2048 h2, lt-ltb c 65536 l, lead, later_byte (c / 64), later_byte c) refl
       | inr h3 ↦
-          rw (le-ltb c 128 h, le-ltb c 2048 h2, le-ltb c 65536 h3, at_begin (240 + c / 262144) (omega arith), within (next (c / 4096)) (omega arith) (omega arith), within (next (c / 64)) (omega arith) (omega arith), within (next c) (omega arith) (omega arith))
-          refl
+          let lead = first_byte (240 + c / 262144) (omega arith) in
+          let second = later_byte (c / 4096) in
+          rw (le-ltb c 128 h, le-ltb c 2048 h2, le-ltb c 65536 h3, lead, second, later_byte (c / 64), later_byte c) refl
     ]
   ]
 ]
@@ -118,5 +110,7 @@ place_at text bs o p same u b e =
     in
     let many : p ≡ length cs = sym e ∙ ap (count_by begins_char) (sym front.1.1) ∙ begins_each cs in
     let first : take p (chars bs) ≡ cs = rw (many, whole) (take-append_seam cs rest) in
-    rw (← same)
-    (sym (length-take-le o bs b.0) ∙ ap length (sym front.1.1) ∙ ap (λ t. length (encodes t)) (sym first), omega (arith, ap length whole, length-append cs rest, many))
+    rw (← same) (
+      sym (length-take-le o bs b.0) ∙ ap length (sym front.1.1) ∙ ap (λ t. length (encodes t)) (sym first),
+      omega (arith, ap length whole, length-append cs rest, many),
+    )

@@ -128,7 +128,7 @@ impl UniTable {
     ///
     /// The lists are checked in the order of the parameters, entry by entry, and the first fault
     /// is answered. Of the faults of one entry it is [`UniError::NotScalar`] before
-    /// [`UniError::AsciiEntry`] before [`UniError::Unsorted`]. Only then memory is asked for, once
+    /// [`UniError::AsciiEntry`] before [`UniError::Unsorted`]. Only then memory is asked for, at most once
     /// a list: [`UniError::Memory`] says that the lists have no fault, and that a request was
     /// refused.
     pub fn new(
