@@ -7,7 +7,7 @@ use Rattle.sre_engine.specs.Marks.{Marks, no_marks}
 use Rattle.sre_engine.specs.Ways.{ways}
 use Rattle.sre_engine.specs.Found.{Asked, Match, subject_of, is_accepted, at_start, found}
 use Rattle.sre_engine.specs.Machine.{Run, Decides, outcomes}
-use Rattle.sre_engine.specs.Answers.{Shown, Answers}
+use Rattle.sre_engine.specs.Answers.{Shown, Answers, given, AnswersAlike}
 use Rattle.sre_engine.proofs.FoundLaws.{match_of_first, first_accepted-filter, at_start-is, least-found, none-found}
 
 -- what a run for a request is about
@@ -30,11 +30,20 @@ module _ (stands : StringCursor → ℕ → Type 0) (a : Asked) (t : Tree) (p : 
 
 -- an answer yes, with the match that the state shows
 pub answers_yes : (stands : StringCursor → ℕ → Type 0) (match : Option Match) (p : ℕ) (end : StringCursor) (shown : Shown) → shown.start ≡ p → shown.cursor ≡ end → stands end end.position → match ≡ Some (record { start = p; end = end.position; marks = shown.marks }) → Answers stands match true shown
-answers_yes stands match p end shown start cursor there some = rw some (refl, record { start = start; end = subst (λ x. stands x end.position) (sym cursor) there; marks = refl })
+answers_yes stands match p end shown start cursor there some = rw some (refl, record { start = start; at = ap (λ x. x.position) cursor; end = subst (λ x. stands x end.position) (sym cursor) there; marks = refl })
 
 -- an answer no
 pub answers_no : (stands : StringCursor → ℕ → Type 0) (match : Option Match) (shown : Shown) → match ≡ None → Answers stands match false shown
 answers_no stands match shown none = rw none refl
+
+-- an answer is the model's match
+given-answer : (stands : StringCursor → ℕ → Type 0) (match : Option Match) (b : Bool) (shown : Shown) → Answers stands match b shown → given b shown ≡ match
+given-answer stands None b shown none = rw none refl
+given-answer stands (Some m) b shown some = rw (some.0, some.1.start, some.1.at, some.1.marks) refl
+
+-- and so it is that of whatever asks the same
+pub answers_alike : (model : Asked → Option Match) (asked : Asked) (stands : StringCursor → ℕ → Type 0) (b : Bool) (shown : Shown) → Answers stands (model asked) b shown → AnswersAlike model asked b shown
+answers_alike model asked stands b shown answer = record { alike = λ other same. given-answer stands (model asked) b shown answer ∙ ap model (sym same) }
 
 -- no start before a position has a match
 abbrev pub NoneBefore : Asked → Tree → ℕ → Type 0

@@ -2,7 +2,7 @@
 use Rattle.std.specs.Prelude.{ℕ, ◌≡◌, ◌≤◌, Bool, true, false, Option, Some, None}
 use Rattle.sre_chars.specs.declared.string.StringCursor.{StringCursor}
 use Rattle.sre_engine.specs.Marks.{Marks}
-use Rattle.sre_engine.specs.Found.{Match}
+use Rattle.sre_engine.specs.Found.{Asked, Match}
 
 -- what a state shows
 pub record Shown : Type 0 where
@@ -13,6 +13,7 @@ pub record Shown : Type 0 where
 -- a state shows a match, at whose end its cursor stands
 pub record Shows (stands : StringCursor → ℕ → Type 0) (m : Match) (s : Shown) : Type 0 where
   pub start : s.start ≡ m.start
+  pub at : s.cursor.position ≡ m.end
   pub end : stands s.cursor m.end
   pub marks : s.marks ≡ m.marks
 
@@ -26,3 +27,12 @@ pub record Spans (start end : ℕ) (s : Shown) : Type 0 where
   pub starts : s.start ≡ start
   pub forward : start ≤ s.cursor.position
   pub inside : s.cursor.position ≤ end
+
+-- an answer as the match that it gives, none where it is no
+abbrev pub given : Bool → Shown → Option Match
+given true s = Some (record { start = s.start; end = s.cursor.position; marks = s.marks })
+given false s = None
+
+-- the answer is the model's wherever the same is asked: of equal characters, window, flags and code, in a text of any type
+pub record AnswersAlike (model : Asked → Option Match) (asked : Asked) (b : Bool) (s : Shown) : Type 0 where
+  pub alike : (other : Asked) → other ≡ asked → given b s ≡ model other

@@ -38,6 +38,10 @@ first_accepted a s (w ∷ ws) = cond (is_accepted a w) (Some (record { start = s
 abbrev pub at_start : Asked → Tree → ℕ → Option Match
 at_start a t s = first_accepted a s (ways (subject_of a) t s no_marks)
 
+-- the match from the window's start
+abbrev pub matched : Asked → Tree → Option Match
+matched a t = at_start a t a.start
+
 -- the match from the least of n starts, from s on
 abbrev pub found_from : ℕ → Asked → Tree → ℕ → Option Match
 found_from zero a t s = None

@@ -5,8 +5,8 @@ use Rattle.sre_chars.specs.declared.constants.SreCatCode.TheVariants.{DIGIT}
 use Rattle.sre_engine.specs.Tree.{Tree, Test, Empty, One, At, Mark, Branch, Loop, Run, PossessiveLoop, Atomic, Look, Reference, Exists, ExistsElse, Only, Or, Any, AnyAll, InCategory, Literal, NotLiteral, In, Single, Range, RangeUniIgnore, Charset, BigCharset, Negate, Plain, Ascii, Locale, Unicode, Greedy, Lazy, GreedyRun, LazyRun, PossessiveRun, Positive, Negative}
 use Rattle.sre_engine.specs.Subject.{Subject}
 use Rattle.sre_engine.specs.Ways.{unlimited, run_length, longest_run, may_repeat}
-use Rattle.sre_engine.specs.Found.{found}
-use Rattle.sre_engine.specs.Shown.{items, is_a, a, b, c, d, window, whole, matched, span, marked, grouped}
+use Rattle.sre_engine.specs.Found.{matched, found}
+use Rattle.sre_engine.specs.Shown.{items, is_a, a, b, c, d, window, whole, span, marked, grouped}
 
 -- Literals and marks
 

@@ -36,10 +36,6 @@ window text start end = record { text = text; words = []; table = ascii_table; s
 abbrev pub whole : List ℕ → Asked
 whole text = window text 0 (length text)
 
--- the match at the window's start
-abbrev pub matched : Asked → Tree → Option Match
-matched asked t = at_start asked t asked.start
-
 -- a match without marks
 abbrev pub span : ℕ → ℕ → Match
 span start end = record { start = start; end = end; marks = no_marks }

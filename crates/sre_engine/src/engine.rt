@@ -23,3 +23,5 @@ mod match_tests;
 mod search_tests;
 #[cfg(test)]
 mod tests;
+#[cfg(test)]
+mod text_tests;

@@ -4,11 +4,11 @@ ghost use Rattle.std.specs.Prelude.{◌≡◌, ◌≤◌, length, IfOk, OnErr, t
 ghost use Rattle.sre_engine.specs.Tree.{Tree};
 ghost use Rattle.sre_engine.specs.Grammar.{Whole};
 ghost use Rattle.sre_engine.specs.Marks.{no_marks};
-ghost use Rattle.sre_engine.specs.Found.{at_start, found};
+ghost use Rattle.sre_engine.specs.Found.{matched, found};
 ghost use Rattle.sre_engine.specs.Machine.{Decides, outcomes};
 ghost use Rattle.sre_engine.specs.Codes.{words_of};
 ghost use Rattle.sre_engine.specs.Requests.{string_of, start_of, end_of, code_of, asked_of, stands_in, run_of};
-ghost use Rattle.sre_engine.specs.Answers.{Answers, Spans};
+ghost use Rattle.sre_engine.specs.Answers.{Answers, AnswersAlike, Spans};
 
 use crate::engine::board::Board;
 use crate::engine::marks::Marks;
@@ -136,11 +136,14 @@ impl<A: Allocator + Copy> State<A> {
     /// Matches at the window's start: whether there is a match, which the state then shows.
     ///
     /// The match is the first way, in the order of CPython's `_sre`, that the request's flags accept; it ends between
-    /// the window's start and its end. An error means that memory was refused; after it, as after `Ok(false)`, there
-    /// are no marks, and the state serves again.
+    /// the window's start and its end. Equal characters, windows, flags and codes have equal answers, whatever types the
+    /// texts are of. An error means that memory was refused; after it, as after `Ok(false)`, there are no marks, and the
+    /// state serves again.
     pub fn pymatch<S: StrDrive>(&mut self, req: &Request<'_, S>) -> Result<bool, SreError>
         ensures ok { (t : Tree) → Whole (words_of (code_of req.now)) t
-            → IfOk result (λ b. Answers (stands_in req.now) (at_start (asked_of req.now) t (start_of req.now)) b self.new) }
+            → IfOk result (λ b. Answers (stands_in req.now) (matched (asked_of req.now) t) b self.new) }
+        ensures alike { (t : Tree) → Whole (words_of (code_of req.now)) t
+            → IfOk result (λ b. AnswersAlike (λ asked. matched asked t) (asked_of req.now) b self.new) }
         ensures span { IfOk result (λ b. b ≡ true → Spans (start_of req.now) (end_of req.now) self.new) }
         ensures no { IfOk result (λ b. b ≡ false → self.new.marks ≡ no_marks) }
         ensures err { OnErr result (self.new.marks ≡ no_marks) }
@@ -164,6 +167,8 @@ impl<A: Allocator + Copy> State<A> {
     pub fn search<S: StrDrive>(&mut self, req: Request<'_, S>) -> Result<bool, SreError>
         ensures ok { (t : Tree) → Whole (words_of (code_of req.entry)) t
             → IfOk result (λ b. Answers (stands_in req.entry) (found (asked_of req.entry) t) b self.new) }
+        ensures alike { (t : Tree) → Whole (words_of (code_of req.entry)) t
+            → IfOk result (λ b. AnswersAlike (λ asked. found asked t) (asked_of req.entry) b self.new) }
         ensures span { IfOk result (λ b. b ≡ true → (start_of req.entry ≤ self.new.start) × Spans self.new.start (end_of req.entry) self.new) }
         ensures no { IfOk result (λ b. b ≡ false → self.new.marks ≡ no_marks) }
         ensures err { OnErr result (self.new.marks ≡ no_marks) }

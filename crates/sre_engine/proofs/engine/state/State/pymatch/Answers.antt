@@ -1,8 +1,8 @@
-use Rattle.std.proofs.Common.{◌≡◌, ◌≤◌, Some, None, refl, ◌∙◌, subst, arith}
-use Rattle.sre_engine.specs.Found.{at_start}
+use Rattle.std.proofs.Common.{◌≡◌, ◌≤◌, true, false, Some, None, refl, ◌∙◌, subst, arith}
+use Rattle.sre_engine.specs.Found.{at_start, matched}
 use Rattle.sre_engine.specs.Codes.{words_of, hints_of}
 use Rattle.sre_engine.specs.Requests.{start_of, end_of, code_of, asked_of, stands_in}
-use Rattle.sre_engine.proofs.Answering.{answers_yes, answers_no, none_at, some_at, span_at}
+use Rattle.sre_engine.proofs.Answering.{answers_yes, answers_no, answers_alike, none_at, some_at, span_at}
 use Rattle.sre_engine.proofs.Start.{code_tree}
 use Rattle.sre_engine.proofs.engine.state.State.pymatch.Goals as goal
 
@@ -28,3 +28,11 @@ returns-in-None-clause-ok g c = λ t whole.
     let asked = c.args.req.now in
     let at = (g.met.S.StrDrive.stands_at c.string.result c.create_cursor-start.result c.start.result c.create_cursor-start.ensures).0 ∙ c.start.ensures in
     answers_no (stands_in asked) (at_start (asked_of asked) t (start_of asked)) _ (subst (λ q. at_start (asked_of asked) t q ≡ None) at (none_at (stands_in asked) (asked_of asked) t _ c.in_ok-end.field-0 c.attempt.new.board.marks (c.in_ok-end.ensures.found t whole) c.in-None.is))
+
+pub returns-in-Some-clause-alike : goal.returns-in-Some-clause-alike
+returns-in-Some-clause-alike g c = λ t whole.
+    answers_alike (λ asked. matched asked t) (asked_of c.args.req.now) (stands_in c.args.req.now) true _ (returns-in-Some-clause-ok g c t whole)
+
+pub returns-in-None-clause-alike : goal.returns-in-None-clause-alike
+returns-in-None-clause-alike g c = λ t whole.
+    answers_alike (λ asked. matched asked t) (asked_of c.args.req.now) (stands_in c.args.req.now) false _ (returns-in-None-clause-ok g c t whole)

@@ -1,7 +1,8 @@
-use Rattle.std.proofs.Common.{◌≡◌, ◌≤◌, ◌+◌, refl, sym, subst, arith}
+use Rattle.std.proofs.Common.{◌≡◌, ◌≤◌, ◌+◌, true, false, refl, sym, subst, arith}
+use Rattle.sre_engine.specs.Found.{found}
 use Rattle.sre_engine.specs.Codes.{words_of, hints_of}
 use Rattle.sre_engine.specs.Requests.{end_of, code_of, asked_of, stands_in}
-use Rattle.sre_engine.proofs.Answering.{answers_yes, answers_no, none_at, some_at, span_at, none_further, found_none, found_first}
+use Rattle.sre_engine.proofs.Answering.{answers_yes, answers_no, answers_alike, none_at, some_at, span_at, none_further, found_none, found_first}
 use Rattle.sre_engine.proofs.Start.{code_tree}
 use Rattle.sre_engine.proofs.engine.state.State.search.Goals as goal
 
@@ -24,6 +25,14 @@ returns-then-position-end-clause-ok g c = λ t whole.
     let asked = c.args.req in
     let past : end_of asked ≤ c.start.start.position = omega arith in
     answers_no (stands_in asked) _ _ (found_none (asked_of asked) t _ (c.start.invariant.before t whole) (none_at (stands_in asked) (asked_of asked) t _ c.in_ok-end.field-0 c.attempt.new.board.marks (c.in_ok-end.ensures.found t whole) c.in_default.is) past)
+
+pub returns-in-Some-clause-alike : goal.returns-in-Some-clause-alike
+returns-in-Some-clause-alike g c = λ t whole.
+    answers_alike (λ asked. found asked t) (asked_of c.args.req) (stands_in c.args.req) true _ (returns-in-Some-clause-ok g c t whole)
+
+pub returns-then-position-end-clause-alike : goal.returns-then-position-end-clause-alike
+returns-then-position-end-clause-alike g c = λ t whole.
+    answers_alike (λ asked. found asked t) (asked_of c.args.req) (stands_in c.args.req) false _ (returns-then-position-end-clause-ok g c t whole)
 
 pub start-preserved : goal.start-preserved
 start-preserved g c =
