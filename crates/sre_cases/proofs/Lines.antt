@@ -1,21 +1,22 @@
 -- Lines cut at their spaces.
-use Rattle.std.proofs.Common.{◌≡◌, ◌≢◌, ℕ, ◌/◌, ◌%◌, ◌<◌, ◌^◌, false, List, [], ◌∷◌, ◌++◌, length, get_or, zero, suc, arith, refl, sym, ap, ◌∙◌, inl, inr}
-use Rattle.std.specs.Prelude.{Contains, codes}
+use Rattle.std.proofs.Common.{◌≡◌, ◌≢◌, ℕ, ◌/◌, ◌%◌, ◌<◌, ◌^◌, false, List, [], ◌∷◌, ◌++◌, length, get_or, zero, suc, arith, refl, sym, ap, subst, ◌∙◌, inl, inr}
+use Rattle.std.specs.Prelude.{All, Contains, codes}
 use Rattle.std.specs.Fmt.{decimal, digit_glyph}
 use Rattle.std.proofs.lemmas.Bool.Decides.{nat_tests}
 use Rattle.std.proofs.lemmas.List.Elements.{All-head, All-tail, Contains-append_cases}
 use Rattle.sre_cases.specs.declared.line.TextForm.{TextForm}
-use Rattle.sre_cases.specs.declared.line.TextForm.TheVariants.{Bytes}
+use Rattle.sre_cases.specs.declared.line.TextForm.TheVariants.{Bytes, Utf8}
 use Rattle.sre_cases.specs.declared.line.Subject.{Subject}
 use Rattle.sre_cases.specs.declared.line.Window.{Window}
 use Rattle.sre_cases.specs.declared.line.Window.TheVariants.{Whole, Span}
-use Rattle.sre_cases.specs.Fields.{hex_text, words_text, window_text, IsWindow, flags_text, bytes_text, subject_text, AreOperands, verb_text, verb, fields_text, case_text}
+use Rattle.sre_cases.specs.Fields.{hex_text, words_text, window_text, IsWindow, flags_text, form_text, bytes_text, IsText, subject_text, AreOperands, verb_text, verb, fields_text, case_text}
 use Rattle.sre_cases.specs.declared.line.Case.{Case}
 use Rattle.sre_cases.specs.declared.line.Verb.{Verb}
 use Rattle.sre_cases.specs.declared.line.Verb.TheVariants.{Check as Verb-Check, Find as Verb-Find}
 use Rattle.sre_cases.specs.declared.line.Finding.TheVariants.{Match, Search}
 use Rattle.sre_cases.proofs.Cuts.{cut_once, uncut}
 use Rattle.sre_cases.proofs.Numbers.{decimal_lacks}
+use Rattle.sre_cases.proofs.Pairs.{bytes_once}
 use Rattle.sre_cases.proofs.Words.{AllWords}
 
 abbrev pub Lacks : List ℕ → ℕ → Type 0
@@ -55,8 +56,14 @@ hex_lacks (b ∷ bytes) =
     lacks_cons 32 (digit_glyph false (b / 16)) (digit_glyph false (b % 16) ∷ hex_text bytes) (glyph_lacks (b / 16))
     (lacks_cons 32 (digit_glyph false (b % 16)) (hex_text bytes) (glyph_lacks (b % 16)) (hex_lacks bytes))
 
+form_lacks : (form : TextForm) (at : ℕ) → at < 98 → Lacks (form_text form) at
+form_lacks Bytes at low = lacks_cons at 98 [] (omega arith) (lacks_nil at)
+form_lacks Utf8 at low = lacks_cons at 115 [] (omega arith) (lacks_nil at)
+
 pub bytes_lack : (form : TextForm) (bytes : List ℕ) → Lacks (bytes_text form bytes) 32
-bytes_lack Bytes bytes = lacks_cons 32 98 (58 ∷ hex_text bytes) (omega arith) (lacks_cons 32 58 (hex_text bytes) (omega arith) (hex_lacks bytes))
+bytes_lack form bytes =
+    lacks_append 32 (form_text form) (58 ∷ hex_text bytes) (form_lacks form 32 (omega arith))
+    (lacks_cons 32 58 (hex_text bytes) (omega arith) (hex_lacks bytes))
 
 pub window_lacks : (window : Window) → IsWindow window → Lacks (window_text window) 32
 window_lacks Whole fits = lacks_cons 32 97 (108 ∷ 108 ∷ []) (omega arith) (lacks_cons 32 108 (108 ∷ []) (omega arith) (lacks_cons 32 108 [] (omega arith) (lacks_nil 32)))
@@ -122,9 +129,31 @@ after_window fields field left subject fits cut none is =
 
 -- the letter of a text's form, and its digits
 pub form_of : (field head digits : List ℕ) (form : TextForm) (bytes : List ℕ) → head ++ 58 ∷ digits ≡ field → Lacks head 58
-    → bytes_text form bytes ≡ field → (codes "b" ≡ head) × (hex_text bytes ≡ digits)
-form_of field head digits Bytes bytes cut none is =
-    cut_once 58 (98 ∷ []) (hex_text bytes) head digits (lacks_cons 58 98 [] (omega arith) (lacks_nil 58)) none (is ∙ sym cut)
+    → bytes_text form bytes ≡ field → (form_text form ≡ head) × (hex_text bytes ≡ digits)
+form_of field head digits form bytes cut none is =
+    cut_once 58 (form_text form) (hex_text bytes) head digits (form_lacks form 58 (omega arith)) none (is ∙ sym cut)
+
+-- a letter tells one form
+letter_once : (form other : TextForm) → form_text form ≡ form_text other → form ≡ other
+letter_once Bytes Bytes is = refl
+letter_once Utf8 Utf8 is = refl
+letter_once Bytes Utf8 is = let letters : 98 ≡ 115 = ap (λ xs. get_or xs 0 0) is in absurd (omega (arith, letters))
+letter_once Utf8 Bytes is = let letters : 115 ≡ 98 = ap (λ xs. get_or xs 0 0) is in absurd (omega (arith, letters))
+
+-- a letter of no form
+pub no_form : (field head digits : List ℕ) → head ++ 58 ∷ digits ≡ field → Lacks head 58 → ((form : TextForm) → form_text form ≢ head)
+    → (form : TextForm) (bytes : List ℕ) → bytes_text form bytes ≢ field
+no_form field head digits cut none other form bytes is = other form (form_of field head digits form bytes cut none is).0
+
+-- bytes that are no text of the form
+pub no_text : (field head digits : List ℕ) (form : TextForm) (read : List ℕ) → head ++ 58 ∷ digits ≡ field → Lacks head 58
+    → form_text form ≡ head → hex_text read ≡ digits → All (λ b. b < 256) read → ¬ (IsText form read)
+    → (other : TextForm) (bytes : List ℕ) → All (λ b. b < 256) bytes → IsText other bytes → bytes_text other bytes ≢ field
+no_text field head digits form read cut none letter written fit none_there other bytes fit' there is =
+    let parts = form_of field head digits other bytes cut none is in
+    let one : other ≡ form = letter_once other form (parts.0 ∙ sym letter) in
+    let same : bytes ≡ read = bytes_once bytes read fit' fit (parts.1 ∙ sym written) in
+    none_there (subst (λ f. IsText f read) one (subst (λ bs. IsText other bs) same there))
 
 -- fields that end too early
 pub no_text_field : (fields : List ℕ) (subject : Subject) (text : List ℕ) → Lacks fields 32

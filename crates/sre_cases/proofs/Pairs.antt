@@ -1,7 +1,8 @@
 -- Bytes and their pairs of hexadecimal digits.
 use Rattle.std.proofs.Common.{◌≡◌, ◌≢◌, ℕ, ◌+◌, ◌*◌, ◌/◌, ◌%◌, ◌<◌, false, List, [], ◌∷◌, ◌++◌, length, get_or, take, zero, suc, arith, refl, sym, ap, ◌∙◌, append_assoc, add-one}
 use Rattle.std.specs.Prelude.{All}
-use Rattle.std.proofs.lemmas.List.Elements.{All-get_or}
+use Rattle.std.proofs.lemmas.Bool.Decides.{nat_tests}
+use Rattle.std.proofs.lemmas.List.Elements.{All-get_or, All-head, All-tail}
 use Rattle.std.specs.Fmt.{digit_glyph}
 use Rattle.std.proofs.Math.Seq.{take-suc}
 use Rattle.sre_cases.specs.Fields.{hex_text}
@@ -50,3 +51,25 @@ no_pair_is_no_text digits i within none bs small is =
     let fits : get_or bs i 0 < 256 = All-get_or (λ b. b < 256) bs i 0 below small in
     let pair = pair_at bs i below in
     none (get_or bs i 0) fits (rw is at pair.0) (rw is at pair.1)
+
+glyph_once : (d e : ℕ) → d < 16 → e < 16 → digit_glyph false d ≡ digit_glyph false e → d ≡ e
+glyph_once d e small small' is = grind (arith, nat_tests)
+
+byte_once : (b c : ℕ) → b < 256 → c < 256 → digit_glyph false (b / 16) ≡ digit_glyph false (c / 16) → digit_glyph false (b % 16) ≡ digit_glyph false (c % 16) → b ≡ c
+byte_once b c small small' high low =
+    let highs : b / 16 ≡ c / 16 = glyph_once (b / 16) (c / 16) (omega arith) (omega arith) high in
+    let lows : b % 16 ≡ c % 16 = glyph_once (b % 16) (c % 16) (omega arith) (omega arith) low in
+    omega (arith, highs, lows)
+
+-- no other bytes are written as the same digits
+pub bytes_once : (bs cs : List ℕ) → All (λ b. b < 256) bs → All (λ b. b < 256) cs → hex_text bs ≡ hex_text cs → bs ≡ cs
+bytes_once [] [] small small' is = refl
+bytes_once [] (c ∷ cs) small small' is = absurd (cc)
+bytes_once (b ∷ bs) [] small small' is = absurd (cc)
+bytes_once (b ∷ bs) (c ∷ cs) small small' is =
+    let high : digit_glyph false (b / 16) ≡ digit_glyph false (c / 16) = cc in
+    let low : digit_glyph false (b % 16) ≡ digit_glyph false (c % 16) = cc in
+    let rest : hex_text bs ≡ hex_text cs = cc in
+    let first : b ≡ c = byte_once b c (All-head (λ b. b < 256) b bs small) (All-head (λ b. b < 256) c cs small') high low in
+    let others : bs ≡ cs = bytes_once bs cs (All-tail (λ b. b < 256) b bs small) (All-tail (λ b. b < 256) c cs small') rest in
+    rw (first, others) refl

@@ -2,9 +2,10 @@
 use Rattle.std.specs.Prelude.{ℕ, ◌≡◌, ◌≤◌, ◌<◌, ◌/◌, ◌%◌, ◌^◌, Bool, true, false, List, [], ◌∷◌, ◌++◌, map, codes, length, slice_index, All}
 use Rattle.std.specs.Fmt.{decimal, digit_glyph}
 use Rattle.std.specs.List.{join_with_byte}
+use Rattle.std.specs.Str.{IsUtf8}
 use Rattle.sre_cases.specs.declared.line.Flags.{Flags}
 use Rattle.sre_cases.specs.declared.line.TextForm.{TextForm}
-use Rattle.sre_cases.specs.declared.line.TextForm.TheVariants.{Bytes}
+use Rattle.sre_cases.specs.declared.line.TextForm.TheVariants.{Bytes, Utf8}
 use Rattle.sre_cases.specs.declared.line.Subject.{Subject}
 use Rattle.sre_cases.specs.declared.line.Case.{Case}
 use Rattle.sre_cases.specs.declared.line.Case.TheVariants.{Check, Find}
@@ -51,9 +52,19 @@ flag_letters true true = codes "fa"
 abbrev pub flags_text : Flags → List ℕ
 flags_text flags = flag_letters flags.match_all flags.must_advance
 
+-- the letter of a text's form
+abbrev pub form_text : TextForm → List ℕ
+form_text Bytes = codes "b"
+form_text Utf8 = codes "s"
+
 -- the bytes of a text as hexadecimal digits behind the letter of their form
 abbrev pub bytes_text : TextForm → List ℕ → List ℕ
-bytes_text Bytes bytes = codes "b:" ++ hex_text bytes
+bytes_text form bytes = form_text form ++ (58 ∷ hex_text bytes)
+
+-- bytes that a text of this form has
+abbrev pub IsText : TextForm → List ℕ → Type 0
+IsText Bytes bytes = Unit {0}
+IsText Utf8 bytes = IsUtf8 bytes
 
 -- the text, the window and the flags of a case, each behind a space
 abbrev pub subject_text : Subject → List ℕ → List ℕ
@@ -82,6 +93,11 @@ case_text case words text = verb_text (verb case) ++ (32 ∷ fields_text case wo
 pub record AreOperands (words text : List ℕ) : Type 0 where
   pub words_fit : All (λ w. w < 2 ^ 32) words
   pub bytes_fit : All (λ b. b < 256) text
+
+-- bytes that the text of a case has
+abbrev pub IsTextOf : Case → List ℕ → Type 0
+IsTextOf Check bytes = Unit {0}
+IsTextOf (Find finding subject) bytes = IsText subject.text bytes
 
 -- a case whose numbers fit
 abbrev pub IsCase : Case → Type 0

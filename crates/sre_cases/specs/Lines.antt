@@ -2,7 +2,7 @@
 use Rattle.std.specs.Prelude.{ℕ, ◌≡◌, ◌==◌, ◌⊎◌, List, [], ◌∷◌, slice_index}
 use Rattle.std.specs.List.{slice_split}
 use Rattle.sre_cases.specs.declared.line.Case.{Case}
-use Rattle.sre_cases.specs.Fields.{case_text}
+use Rattle.sre_cases.specs.Fields.{case_text, IsTextOf}
 
 abbrev pub lines_of : List ℕ → List (List ℕ)
 lines_of file = slice_split (λ b. b == 10) file
@@ -12,6 +12,7 @@ pub record IsCaseLine (line : List ℕ) : Type 0 where
   pub case : Case
   pub words : List ℕ
   pub text : List ℕ
+  pub is_text : IsTextOf case text
   pub written : case_text case words text ≡ line
 
 -- empty, or a note, or a case

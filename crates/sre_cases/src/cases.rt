@@ -3,6 +3,7 @@
 ghost use Rattle.std.specs.Prelude.{◌≡◌, ◌≤◌, ◌++◌, ◌∷◌, [], IfErr, OnOk};
 ghost use Rattle.std.specs.Io.KnownBytes.{Appends};
 ghost use Rattle.sre_cases.specs.Answers.{fault_text, IsFaultOfCases};
+ghost use Rattle.sre_cases.specs.Fields.{IsTextOf};
 ghost use Rattle.sre_cases.specs.Lines.{lines_of, IsReadable, AreReadable};
 
 use crate::answer::{push_hints, push_match};
@@ -116,13 +117,22 @@ fn answer_line<A: Allocator + Copy, W: Write>(
 }
 
 // Appends the answer to a case, with the byte that ends its line.
-fn push_answer<A: Allocator + Copy>(desk: &mut Desk<A>, case: Case) -> Result<(), AllocError> {
+fn push_answer<A: Allocator + Copy>(desk: &mut Desk<A>, case: Case) -> Result<(), AllocError>
+    requires { IsTextOf case desk.old.operands.text.items }
+{
     match Code::check(desk.alloc, desk.operands.words.as_slice(), &desk.table) {
         Ok(code) => match case {
             Case::Check => push_hints(&mut desk.answer, &code.hints())?,
             Case::Find(finding, subject) => match subject.text {
                 TextForm::Bytes => {
                     let asked = request(desk.operands.text.as_slice(), subject, code);
+                    push_found(finding, asked, &mut desk.state, &mut desk.answer)?;
+                }
+                TextForm::Utf8 => {
+                    let Ok(text) = str::from_utf8(desk.operands.text.as_slice()) else {
+                        unreachable!()
+                    };
+                    let asked = request(text, subject, code);
                     push_found(finding, asked, &mut desk.state, &mut desk.answer)?;
                 }
             },

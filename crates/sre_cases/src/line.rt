@@ -3,9 +3,9 @@
 //! A case is `check WORDS`, or `match` or `search` with WORDS TEXT WINDOW FLAGS, its fields divided by single spaces.
 //! A line is read whole before its words are checked, and any other line is refused.
 
-ghost use Rattle.std.specs.Prelude.{◌≡◌, ◌≢◌, ℕ, ◌^◌, ◌<◌, ◌++◌, ◌∷◌, List, All, Contains, IfSome, IfNone, IfOk, OnOk, []};
+ghost use Rattle.std.specs.Prelude.{◌≡◌, ◌≢◌, ℕ, ◌^◌, ◌<◌, ◌++◌, ◌∷◌, List, All, Contains, IfSome, IfNone, IfOk, OnOk, [], IsTrue, ◌↔◌};
 ghost use Rattle.std.specs.Fmt.{decimal};
-ghost use Rattle.sre_cases.specs.Fields.{verb_text, words_text, window_text, IsWindow, flags_text, bytes_text, subject_text, case_text, IsCase, AreOperands};
+ghost use Rattle.sre_cases.specs.Fields.{verb_text, words_text, window_text, IsWindow, flags_text, form_text, bytes_text, subject_text, case_text, IsCase, IsText, IsTextOf, AreOperands};
 
 use crate::number::{decimal_number, read_hex};
 use std::alloc::{AllocFailed, Allocator};
@@ -68,6 +68,8 @@ pub struct Subject {
 pub enum TextForm {
     /// `b:`, each byte a character.
     Bytes,
+    /// `s:`, the characters of UTF-8 text (RFC 3629).
+    Utf8,
 }
 
 /// The positions that a case asks about; a request cuts them at the text's end.
@@ -98,8 +100,9 @@ pub struct Operands<A: Allocator> {
 /// Reads a line, and leaves its words and its text in `operands`.
 pub fn read_case<A: Allocator>(line: &[u8], operands: &mut Operands<A>) -> Result<Case, LineFault>
     ensures read { IfOk result (λ case. case_text case operands.new.words.items operands.new.text.items ≡ line.now) }
+    ensures is_text { IfOk result (λ case. IsTextOf case operands.new.text.items) }
     ensures refused { result ≡ Err LineFault.NotACase → (case : Case) (words text : List ℕ) → IsCase case
-        → AreOperands words text → case_text case words text ≢ line.now }
+        → AreOperands words text → IsTextOf case text → case_text case words text ≢ line.now }
 {
     let Some((verb, fields)) = split_once(line, b' ') else {
         return Err(LineFault::NotACase);
@@ -134,8 +137,9 @@ fn read_subject<A: Allocator>(
 ) -> Result<Subject, LineFault>
     ensures read { IfOk result (λ subject. words_text operands.new.words.items
         ++ subject_text subject operands.new.text.items ≡ fields.now) }
+    ensures is_text { IfOk result (λ subject. IsText subject.text operands.new.text.items) }
     ensures refused { result ≡ Err LineFault.NotACase → (subject : Subject) (words text : List ℕ) → IsWindow subject.window
-        → AreOperands words text → words_text words ++ subject_text subject text ≢ fields.now }
+        → AreOperands words text → IsText subject.text text → words_text words ++ subject_text subject text ≢ fields.now }
 {
     let Some((words, fields)) = split_once(fields, b' ') else {
         return Err(LineFault::NotACase);
@@ -208,18 +212,42 @@ fn word_of(digits: &[u8]) -> Option<u32>
 // Reads the form of a text and its bytes.
 fn read_text<A: Allocator>(field: &[u8], text: &mut Vec<u8, A>) -> Result<TextForm, LineFault>
     ensures read { IfOk result (λ form. bytes_text form text.new.items ≡ field.now) }
+    ensures is_text { IfOk result (λ form. IsText form text.new.items) }
     ensures refused { result ≡ Err LineFault.NotACase → (form : TextForm) (bytes : List ℕ) → All (λ b. b < 256) bytes
-        → bytes_text form bytes ≢ field.now }
+        → IsText form bytes → bytes_text form bytes ≢ field.now }
 {
     let Some((form, digits)) = split_once(field, b':') else {
         return Err(LineFault::NotACase);
     };
+    let Some(form) = form_of(form) else {
+        return Err(LineFault::NotACase);
+    };
+    read_hex(digits, text)?;
+    if !is_text(form, text.as_slice()) {
+        return Err(LineFault::NotACase);
+    }
+    Ok(form)
+}
+
+// The form of a text that a letter tells.
+fn form_of(letter: &[u8]) -> Option<TextForm>
+    ensures written { IfSome result (λ form. form_text form ≡ letter.now) }
+    ensures refused { IfNone result ((form : TextForm) → form_text form ≢ letter.now) }
+{
+    match letter {
+        b"b" => Some(TextForm::Bytes),
+        b"s" => Some(TextForm::Utf8),
+        _ => None,
+    }
+}
+
+// Whether bytes are a text of this form.
+fn is_text(form: TextForm, bytes: &[u8]) -> bool
+    ensures { IsTrue result ↔ IsText form bytes.now }
+{
     match form {
-        b"b" => {
-            read_hex(digits, text)?;
-            Ok(TextForm::Bytes)
-        }
-        _ => Err(LineFault::NotACase),
+        TextForm::Bytes => true,
+        TextForm::Utf8 => str::from_utf8(bytes).is_ok(),
     }
 }
 

@@ -39,6 +39,7 @@ fn begins_as_number(digits: &[u8]) -> bool
 #[tactic(auto, using(crate::proofs::Pairs::odd_is_no_text, crate::proofs::Pairs::no_pair_is_no_text, crate::proofs::Pairs::one_pair_more))]
 pub fn read_hex<A: Allocator>(digits: &[u8], bytes: &mut Vec<u8, A>) -> Result<(), LineFault>
     ensures read { OnOk result (hex_text bytes.new.items ≡ digits.now) }
+    ensures fit { OnOk result (All (λ b. b < 256) bytes.new.items) }
     ensures refused { result ≡ Err LineFault.NotACase → (bs : List ℕ) → All (λ b. b < 256) bs → hex_text bs ≢ digits.now }
 {
     bytes.clear();

@@ -5,7 +5,7 @@ use sre_refusing::Refusing;
 use std::test::Fail;
 
 // Lines and their answers, by the definition of the engine's matches.
-const ROWS: [(&str, &str); 32] = [
+const ROWS: [(&str, &str); 45] = [
     (
         "match 17,0,16,97,17,1,16,98,1 b:6162 all -",
         "yes 0..2 last 1 marks 0,1",
@@ -60,6 +60,32 @@ const ROWS: [(&str, &str); 32] = [
     ("search 1 b:61 all a", "yes 1..1 last -1 marks none"),
     ("search 1 b: all a", "no"),
     ("search 16,97,1,1 b:61 all -", "refused"),
+    ("match 16,233,1 b:e9 all -", "yes 0..1 last -1 marks none"),
+    ("match 16,233,1 s:c3a9 all -", "yes 0..1 last -1 marks none"),
+    ("match 16,233,1 b:c3a9 all -", "no"),
+    ("match 1 s: all -", "yes 0..0 last -1 marks none"),
+    (
+        "search 17,0,16,8364,17,1,1 s:61c3a9e282ac62 1..3 -",
+        "yes 2..3 last 1 marks 2,3",
+    ),
+    (
+        "search 24,5,0,4294967295,3,1,1 s:61c3a9f09f9880 all f",
+        "yes 0..3 last -1 marks none",
+    ),
+    ("match 32,97,1 b:41 all -", "yes 0..1 last -1 marks none"),
+    ("match 32,65,1 b:41 all -", "no"),
+    ("match 36,65,1 b:61 all -", "yes 0..1 last -1 marks none"),
+    ("match 33,97,1 b:41 all -", "no"),
+    (
+        "match 35,4,16,97,0,1 b:41 all -",
+        "yes 0..1 last -1 marks none",
+    ),
+    (
+        "match 13,5,42,65,90,0,1 s:61 all -",
+        "yes 0..1 last -1 marks none",
+    ),
+    // the table knows no case past ASCII
+    ("match 40,233,1 s:c389 all -", "no"),
     ("check 7,0,1", "refused"),
     ("check 43,1", "refused"),
     ("check 25,1", "refused"),
@@ -105,5 +131,50 @@ fn a_refused_request_is_the_answer_or_the_fault(rt: HostRuntime) -> Result<(), F
             assert!(rt; kept, "{line} without request {refused}");
         }
     }
+    Ok(())
+}
+
+// The words of a set of one block table, behind `IN`: 64 words of block numbers, of which all but the first are 0, and
+// blocks, of which the last has every character and the others none.
+fn push_blocks(
+    words: &mut String,
+    skip: u32,
+    count: u32,
+    first: u32,
+    empty: u32,
+) -> Result<(), Fail> {
+    write!(words, "13,{skip},10,{count},{first}")?;
+    for _ in 0..63 + 8 * empty {
+        words.push_str(",0")?;
+    }
+    for _ in 0..8 {
+        words.push_str(",4294967295")?;
+    }
+    words.push_str(",0,1")?;
+    Ok(())
+}
+
+#[test]
+fn characters_are_looked_up_by_blocks(rt: HostRuntime) -> Result<(), Fail> {
+    let mut words = String::new(rt.alloc());
+    // the second block number is 1, the least significant byte comes first
+    push_blocks(&mut words, 84, 2, 256, 1)?;
+    for (text, answer) in [
+        ("s:c481", "yes 0..1 last -1 marks none\n"),
+        ("b:61", "no\n"),
+        ("s:f0908080", "no\n"),
+    ] {
+        let line = format!(in rt.alloc(); "match {words} {text} all -")?;
+        let mut out = Vec::new(rt.alloc());
+        assert!(rt; run_cases(rt.alloc(), line.as_bytes(), &mut out) == Ok(()));
+        assert!(rt; out.as_slice() == answer.as_bytes(), "{text}");
+    }
+    // one block, and a block number of 1
+    let mut refused = String::new(rt.alloc());
+    push_blocks(&mut refused, 76, 1, 1, 0)?;
+    let line = format!(in rt.alloc(); "check {refused}")?;
+    let mut out = Vec::new(rt.alloc());
+    assert!(rt; run_cases(rt.alloc(), line.as_bytes(), &mut out) == Ok(()));
+    assert!(rt; out.as_slice() == b"refused\n".as_slice());
     Ok(())
 }

@@ -86,7 +86,19 @@ fn lines_that_are_no_cases(rt: HostRuntime) -> Result<(), Fail> {
         "match 1 :61 all -",
         "match 1 B:61 all -",
         "match 1 bb:61 all -",
-        "match 1 s:61 all -",
+        "match 1 S:61 all -",
+        "match 1 u:61 all -",
+        "match 1 s61 all -",
+        "match 1 s:6 all -",
+        "match 1 s:6A all -",
+        // bytes that are no UTF-8: cut short, out of place, too long for their character, a surrogate, past the last
+        "match 1 s:c3 all -",
+        "match 1 s:a9 all -",
+        "match 1 s:6180 all -",
+        "match 1 s:c080 all -",
+        "match 1 s:eda080 all -",
+        "match 1 s:f4908080 all -",
+        "search - s:ff all -",
         // windows
         "match 1 b:61 All -",
         "match 1 b:61 1 -",
@@ -151,19 +163,31 @@ fn lines_that_are_cases(rt: HostRuntime) -> Result<(), Fail> {
             "match - b: all -",
             [].as_slice(),
             b"",
-            subject(Finding::Match, Window::Whole, false, false),
+            subject(Finding::Match, TextForm::Bytes, Window::Whole, false, false),
         ),
         (
             "match 1 b:00ff7f all f",
             [1].as_slice(),
             b"\x00\xff\x7f",
-            subject(Finding::Match, Window::Whole, true, false),
+            subject(Finding::Match, TextForm::Bytes, Window::Whole, true, false),
         ),
         (
             "search 1 b:61 all f",
             [1].as_slice(),
             b"a",
-            subject(Finding::Search, Window::Whole, true, false),
+            subject(Finding::Search, TextForm::Bytes, Window::Whole, true, false),
+        ),
+        (
+            "search 1 s:c3a9 all -",
+            [1].as_slice(),
+            b"\xc3\xa9",
+            subject(Finding::Search, TextForm::Utf8, Window::Whole, false, false),
+        ),
+        (
+            "match 1 s: all -",
+            [1].as_slice(),
+            b"",
+            subject(Finding::Match, TextForm::Utf8, Window::Whole, false, false),
         ),
         (
             "match 1,2 b:0a20 5..3 a",
@@ -171,6 +195,7 @@ fn lines_that_are_cases(rt: HostRuntime) -> Result<(), Fail> {
             b"\n ",
             subject(
                 Finding::Match,
+                TextForm::Bytes,
                 Window::Span { start: 5, end: 3 },
                 false,
                 true,
@@ -182,6 +207,7 @@ fn lines_that_are_cases(rt: HostRuntime) -> Result<(), Fail> {
             b"a",
             subject(
                 Finding::Match,
+                TextForm::Bytes,
                 Window::Span {
                     start: 0,
                     end: most,
@@ -205,10 +231,16 @@ fn lines_that_are_cases(rt: HostRuntime) -> Result<(), Fail> {
     Ok(())
 }
 
-// A case over bytes.
-fn subject(finding: Finding, window: Window, match_all: bool, must_advance: bool) -> Case {
+// A case over a text.
+fn subject(
+    finding: Finding,
+    text: TextForm,
+    window: Window,
+    match_all: bool,
+    must_advance: bool,
+) -> Case {
     let subject = Subject {
-        text: TextForm::Bytes,
+        text,
         window,
         flags: Flags {
             match_all,
@@ -269,6 +301,9 @@ fn refusals_in_a_line_and_in_a_case(rt: HostRuntime) -> Result<(), Fail> {
         ("match - b:61 all -", 1, Err(CaseFault::NoMemory), ""),
         // a line that is no case whatever memory there is
         ("match 1 b:61 all x", 1, Err(CaseFault::NotACase(1)), ""),
+        // a text that is none
+        ("match - s:ff all -", 1, Err(CaseFault::NoMemory), ""),
+        ("match - s:ff all -", 2, Err(CaseFault::NotACase(1)), ""),
         // the answer
         ("check -\ncheck -", 1, Ok(()), "memory\nrefused\n"),
         ("check -\ncheck 1", 2, Err(CaseFault::NoMemory), "refused\n"),

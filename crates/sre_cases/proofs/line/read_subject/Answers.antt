@@ -4,19 +4,19 @@ use Rattle.sre_cases.proofs.Lines.{after_words, after_text, after_window, no_tex
 use Rattle.sre_cases.proofs.line.read_subject.Goals as goal
 
 pub returns-in_default-split_once-clause-refused : goal.returns-in_default-split_once-clause-refused
-returns-in_default-split_once-clause-refused g c failed subject words text fits operands is =
+returns-in_default-split_once-clause-refused g c failed subject words text fits operands is_text is =
     let w = after_words c.args.fields.now c.in-Some.words.now c.in-Some.fields.now subject words text operands c.in-Some.ensures.parts c.in-Some.ensures.first is in
     no_text_field c.in-Some.fields.now subject text c.in_default-split_once.ensures.none w.1
 
 pub returns-in_default-split_once-2-clause-refused : goal.returns-in_default-split_once-2-clause-refused
-returns-in_default-split_once-2-clause-refused g c failed subject words text fits operands is =
+returns-in_default-split_once-2-clause-refused g c failed subject words text fits operands is_text is =
     let w = after_words c.args.fields.now c.in-Some.words.now c.in-Some.fields.now subject words text operands c.in-Some.ensures.parts c.in-Some.ensures.first is in
     let t = after_text c.in-Some.fields.now c.in-Some-split_once.text.now c.in-Some-split_once.fields.now subject text
     c.in-Some-split_once.ensures.parts c.in-Some-split_once.ensures.first w.1 in
     no_window_field c.in-Some-split_once.fields.now subject c.in_default-split_once-2.ensures.none t.1
 
 pub returns-in_default-flags_of-clause-refused : goal.returns-in_default-flags_of-clause-refused
-returns-in_default-flags_of-clause-refused g c failed subject words text fits operands is =
+returns-in_default-flags_of-clause-refused g c failed subject words text fits operands is_text is =
     let w = after_words c.args.fields.now c.in-Some.words.now c.in-Some.fields.now subject words text operands c.in-Some.ensures.parts c.in-Some.ensures.first is in
     let t = after_text c.in-Some.fields.now c.in-Some-split_once.text.now c.in-Some-split_once.fields.now subject text
     c.in-Some-split_once.ensures.parts c.in-Some-split_once.ensures.first w.1 in
@@ -25,7 +25,7 @@ returns-in_default-flags_of-clause-refused g c failed subject words text fits op
     c.in_default-flags_of.ensures.refused subject.flags v.1
 
 pub returns-in_default-window_of-clause-refused : goal.returns-in_default-window_of-clause-refused
-returns-in_default-window_of-clause-refused g c failed subject words text fits operands is =
+returns-in_default-window_of-clause-refused g c failed subject words text fits operands is_text is =
     let w = after_words c.args.fields.now c.in-Some.words.now c.in-Some.fields.now subject words text operands c.in-Some.ensures.parts c.in-Some.ensures.first is in
     let t = after_text c.in-Some.fields.now c.in-Some-split_once.text.now c.in-Some-split_once.fields.now subject text
     c.in-Some-split_once.ensures.parts c.in-Some-split_once.ensures.first w.1 in
@@ -34,13 +34,13 @@ returns-in_default-window_of-clause-refused g c failed subject words text fits o
     c.in_default-window_of.ensures.refused subject.window fits v.0
 
 pub returns-in_err-read_words-clause-refused : goal.returns-in_err-read_words-clause-refused
-returns-in_err-read_words-clause-refused g c failed subject words text fits operands is =
+returns-in_err-read_words-clause-refused g c failed subject words text fits operands is_text is =
     let w = after_words c.args.fields.now c.in-Some.words.now c.in-Some.fields.now subject words text operands c.in-Some.ensures.parts c.in-Some.ensures.first is in
     c.in_err-read_words.ensures.refused (search rules) words operands.words_fit w.0
 
 pub returns-in_err-text-clause-refused : goal.returns-in_err-text-clause-refused
-returns-in_err-text-clause-refused g c failed subject words text fits operands is =
+returns-in_err-text-clause-refused g c failed subject words text fits operands is_text is =
     let w = after_words c.args.fields.now c.in-Some.words.now c.in-Some.fields.now subject words text operands c.in-Some.ensures.parts c.in-Some.ensures.first is in
     let t = after_text c.in-Some.fields.now c.in-Some-split_once.text.now c.in-Some-split_once.fields.now subject text
     c.in-Some-split_once.ensures.parts c.in-Some-split_once.ensures.first w.1 in
-    c.in_err-text.ensures.refused (search rules) subject.text text operands.bytes_fit t.0
+    c.in_err-text.ensures.refused (search rules) subject.text text operands.bytes_fit is_text t.0
