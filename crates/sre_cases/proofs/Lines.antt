@@ -9,7 +9,7 @@ use Rattle.sre_cases.specs.declared.line.TextForm.TheVariants.{Bytes, Utf8}
 use Rattle.sre_cases.specs.declared.line.Subject.{Subject}
 use Rattle.sre_cases.specs.declared.line.Window.{Window}
 use Rattle.sre_cases.specs.declared.line.Window.TheVariants.{Whole, Span}
-use Rattle.sre_cases.specs.Fields.{hex_text, words_text, window_text, IsWindow, flags_text, form_text, bytes_text, IsText, subject_text, AreOperands, verb_text, verb, fields_text, case_text}
+use Rattle.sre_cases.specs.Fields.{hex_text, words_text, window_text, IsWindow, flags_text, form_text, bytes_text, IsText, subject_text, AreWords, verb_text, verb, fields_text, case_text}
 use Rattle.sre_cases.specs.declared.line.Case.{Case}
 use Rattle.sre_cases.specs.declared.line.Verb.{Verb}
 use Rattle.sre_cases.specs.declared.line.Verb.TheVariants.{Check as Verb-Check, Find as Verb-Find}
@@ -17,7 +17,6 @@ use Rattle.sre_cases.specs.declared.line.Finding.TheVariants.{Match, Search}
 use Rattle.sre_cases.proofs.Cuts.{cut_once, uncut}
 use Rattle.sre_cases.proofs.Numbers.{decimal_lacks}
 use Rattle.sre_cases.proofs.Pairs.{bytes_once}
-use Rattle.sre_cases.proofs.Words.{AllWords}
 
 abbrev pub Lacks : List ℕ → ℕ → Type 0
 Lacks xs at = ¬ (Contains xs at)
@@ -39,7 +38,7 @@ lacks_nil at there = omega (arith, there.1)
 number_lacks : (n at : ℕ) → n < 2 ^ 64 → at < 48 → Lacks (decimal n) at
 number_lacks n at fits low = decimal_lacks n at fits (λ range. omega (arith, range))
 
-pub words_lack : (words : List ℕ) → AllWords words → Lacks (words_text words) 32
+pub words_lack : (words : List ℕ) → AreWords words → Lacks (words_text words) 32
 words_lack [] all = lacks_cons 32 45 [] (omega arith) (lacks_nil 32)
 words_lack (w ∷ []) all = number_lacks w 32 (let fits = All-head (λ w. w < 2 ^ 32) w [] all in omega (arith, fits)) (omega arith)
 words_lack (w ∷ v ∷ more) all =
@@ -107,12 +106,12 @@ dots_meet first rest between last cut none span =
     let parts = cut_once 46 [] (decimal span.end) between last (lacks_nil 46) none (span.at_rest ∙ sym cut) in (sym parts.0, parts.1)
 
 -- the fields of a subject, one after the other
-pub after_words : (fields field left : List ℕ) (subject : Subject) (words text : List ℕ) → AreOperands words text → field ++ 32 ∷ left ≡ fields → Lacks field 32
+pub after_words : (fields field left : List ℕ) (subject : Subject) (words text : List ℕ) → AreWords words → field ++ 32 ∷ left ≡ fields → Lacks field 32
     → words_text words ++ subject_text subject text ≡ fields
     → (words_text words ≡ field) × (bytes_text subject.text text ++ (32 ∷ window_text subject.window ++ (32 ∷ flags_text subject.flags)) ≡ left)
-after_words fields field left subject words text operands cut none is =
+after_words fields field left subject words text words_fit cut none is =
     cut_once 32 (words_text words) (bytes_text subject.text text ++ (32 ∷ window_text subject.window ++ (32 ∷ flags_text subject.flags))) field left
-    (words_lack words operands.words_fit) none (is ∙ sym cut)
+    (words_lack words words_fit) none (is ∙ sym cut)
 
 pub after_text : (fields field left : List ℕ) (subject : Subject) (text : List ℕ) → field ++ 32 ∷ left ≡ fields → Lacks field 32
     → bytes_text subject.text text ++ (32 ∷ window_text subject.window ++ (32 ∷ flags_text subject.flags)) ≡ fields

@@ -89,17 +89,15 @@ fields_text (Find finding subject) words text = words_text words ++ subject_text
 abbrev pub case_text : Case → List ℕ → List ℕ → List ℕ
 case_text case words text = verb_text (verb case) ++ (32 ∷ fields_text case words text)
 
--- words and bytes that a case can hold
-pub record AreOperands (words text : List ℕ) : Type 0 where
-  pub words_fit : All (λ w. w < 2 ^ 32) words
-  pub bytes_fit : All (λ b. b < 256) text
+-- words have 32 bits
+abbrev pub AreWords : List ℕ → Type 0
+AreWords words = All (λ w. w < 2 ^ 32) words
 
--- bytes that the text of a case has
-abbrev pub IsTextOf : Case → List ℕ → Type 0
-IsTextOf Check bytes = Unit {0}
-IsTextOf (Find finding subject) bytes = IsText subject.text bytes
+-- the window's numbers fit, and the text has bytes of its form
+abbrev pub IsSubject : Subject → List ℕ → Type 0
+IsSubject subject text = IsWindow subject.window × All (λ b. b < 256) text × IsText subject.text text
 
--- a case whose numbers fit
-abbrev pub IsCase : Case → Type 0
-IsCase Check = Unit {0}
-IsCase (Find finding subject) = IsWindow subject.window
+-- a case with words and a text that it can have
+abbrev pub IsCase : Case → List ℕ → List ℕ → Type 0
+IsCase Check words text = AreWords words
+IsCase (Find finding subject) words text = AreWords words × IsSubject subject text

@@ -1,24 +1,55 @@
--- The lines of a file of cases.
-use Rattle.std.specs.Prelude.{ℕ, ◌≡◌, ◌==◌, ◌⊎◌, List, [], ◌∷◌, slice_index}
+-- The lines of a file of cases, and what is written for them.
+use Rattle.std.specs.Prelude.{ℕ, ◌≡◌, ◌≢◌, ◌==◌, ◌+◌, ◌⊎◌, Option, List, [], ◌∷◌, ◌++◌, length, slice_index}
 use Rattle.std.specs.List.{slice_split}
+use Rattle.std.specs.Io.KnownBytes.{Appends}
+use Rattle.sre_chars.specs.Tables.{ascii_table}
 use Rattle.sre_cases.specs.declared.line.Case.{Case}
-use Rattle.sre_cases.specs.Fields.{case_text, IsTextOf}
+use Rattle.sre_cases.specs.declared.cases.CaseFault.{CaseFault}
+use Rattle.sre_cases.specs.declared.cases.CaseFault.TheVariants.{NotACase}
+use Rattle.sre_cases.specs.Fields.{case_text, IsCase}
+use Rattle.sre_cases.specs.Cases.{IsAnswer}
 
 abbrev pub lines_of : List ℕ → List (List ℕ)
 lines_of file = slice_split (λ b. b == 10) file
 
--- a case with its words and its text, of which this is the line
-pub record IsCaseLine (line : List ℕ) : Type 0 where
+-- an empty line, or a note
+abbrev pub IsPassedOver : List ℕ → Type 0
+IsPassedOver line = (line ≡ []) ⊎ (slice_index line 0 ≡ 35)
+
+-- a case with its words and its text, of which this is the line, and its answer
+pub record IsAnsweredCase (line answer : List ℕ) : Type 0 where
   pub case : Case
   pub words : List ℕ
   pub text : List ℕ
-  pub is_text : IsTextOf case text
+  pub lawful : IsCase case words text
   pub written : case_text case words text ≡ line
+  pub answered : IsAnswer ascii_table case words text answer
 
--- empty, or a note, or a case
-abbrev pub IsReadable : List ℕ → Type 0
-IsReadable line = (line ≡ []) ⊎ (slice_index line 0 ≡ 35) ⊎ IsCaseLine line
+-- what is written for a line: nothing where it is passed over, else its answer, and byte 10
+abbrev pub IsAnswered : List ℕ → List ℕ → Type 0
+IsAnswered line out = (IsPassedOver line × (out ≡ [])) ⊎ ((answer : List ℕ) × IsAnsweredCase line answer × (out ≡ answer ++ 10 ∷ []))
 
-abbrev pub AreReadable : List (List ℕ) → Type 0
-AreReadable [] = Unit {0}
-AreReadable (line ∷ lines) = IsReadable line × AreReadable lines
+-- what is written for lines, one after the other
+abbrev pub AreAnswered : List (List ℕ) → List ℕ → Type 0
+AreAnswered [] out = out ≡ []
+AreAnswered (line ∷ lines) out = (first others : List ℕ) × IsAnswered line first × AreAnswered lines others × (out ≡ first ++ others)
+
+-- what a writer holds has grown by what is written for the lines
+pub record Answered (old new : Option (List ℕ)) (lines : List (List ℕ)) : Type 0 where
+  pub out : List ℕ
+  pub answers : AreAnswered lines out
+  pub appended : Appends old new out
+
+-- a line that no case is written as
+pub record IsNoCase (line : List ℕ) : Type 0 where
+  pub not_passed_over : ¬ (IsPassedOver line)
+  pub not_written : (case : Case) (words text : List ℕ) → IsCase case words text → case_text case words text ≢ line
+
+-- the lines before one are answered, and that one is not; where it is no case, the fault tells its number, from 1 on
+pub record StopsAt (old new : Option (List ℕ)) (lines : List (List ℕ)) (fault : CaseFault) : Type 0 where
+  pub before : List (List ℕ)
+  pub line : List ℕ
+  pub after : List (List ℕ)
+  pub split : lines ≡ before ++ line ∷ after
+  pub answered : Answered old new before
+  pub no_case : (n : ℕ) → fault ≡ NotACase n → (n ≡ length before + 1) × IsNoCase line

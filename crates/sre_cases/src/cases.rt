@@ -1,10 +1,16 @@
 //! The cases of a file, and their answers.
 
-ghost use Rattle.std.specs.Prelude.{◌≡◌, ◌≤◌, ◌++◌, ◌∷◌, [], IfErr, OnOk};
+ghost use Rattle.std.specs.Prelude.{◌≡◌, ◌≢◌, ◌≤◌, ◌++◌, ◌∷◌, [], ℕ, List, IfErr, OnOk, string_bytes};
 ghost use Rattle.std.specs.Io.KnownBytes.{Appends};
 ghost use Rattle.sre_cases.specs.Answers.{fault_text, IsFaultOfCases};
-ghost use Rattle.sre_cases.specs.Fields.{IsTextOf};
-ghost use Rattle.sre_cases.specs.Lines.{lines_of, IsReadable, AreReadable};
+ghost use Rattle.sre_chars.specs.Tables.{ascii_table};
+ghost use Rattle.sre_engine.specs.Tree.{Tree};
+ghost use Rattle.sre_engine.specs.Grammar.{Whole};
+ghost use Rattle.sre_engine.specs.Codes.{words_of, table_of};
+ghost use Rattle.sre_engine.specs.Requests.{asked_of, code_of};
+ghost use Rattle.sre_cases.specs.Cases.{IsAnswer, IsAnswerOf, asked, match_of, match_text};
+ghost use Rattle.sre_cases.specs.Fields.{IsCase};
+ghost use Rattle.sre_cases.specs.Lines.{lines_of, Answered, IsNoCase, StopsAt};
 
 use crate::answer::{push_hints, push_match};
 use crate::line::{
@@ -37,8 +43,10 @@ pub enum CaseFault {
 /// The faults are `NotACase`, `NoMemory` and `OutputFailed`. The answers to earlier lines are written
 /// then; a refusal of memory to a case itself is its answer `memory`.
 pub fn run_cases<W: Write>(alloc: Global, file: &[u8], out: &mut W) -> Result<(), CaseFault>
+    ensures answers { OnOk result (Answered (W.contents out.old) (W.contents out.new) (lines_of file.now)) }
     ensures faults { IfErr result IsFaultOfCases }
-    ensures read { OnOk result (AreReadable (lines_of file.now)) }
+    ensures stopped { IfErr result (λ fault. fault ≢ CaseFault.OutputFailed
+        → StopsAt (W.contents out.old) (W.contents out.new) (lines_of file.now) fault) }
 {
     answer_lines(alloc, alloc, file, out)
 }
@@ -50,8 +58,10 @@ fn answer_lines<A: Allocator + Copy, W: Write>(
     file: &[u8],
     out: &mut W,
 ) -> Result<(), CaseFault>
+    ensures answers { OnOk result (Answered (W.contents out.old) (W.contents out.new) (lines_of file.now)) }
     ensures faults { IfErr result IsFaultOfCases }
-    ensures read { OnOk result (AreReadable (lines_of file.now)) }
+    ensures stopped { IfErr result (λ fault. fault ≢ CaseFault.OutputFailed
+        → StopsAt (W.contents out.old) (W.contents out.new) (lines_of file.now) fault) }
 {
     let mut desk = Desk {
         alloc,
@@ -65,13 +75,16 @@ fn answer_lines<A: Allocator + Copy, W: Write>(
     };
     let mut number = 0u64;
     let mut left = file;
+    let _bytes = file.len();
     'lines: loop {
-        number = number.saturating_add(1);
+        number += 1;
         let Some((line, others)) = split_once(left, b'\n') else {
             return answer_line(&mut desk, left, number, out);
         };
-        answer_line(&mut desk, line, number, out)?;
-        left = others;
+        match answer_line(&mut desk, line, number, out) {
+            Ok(()) => left = others,
+            Err(fault) => return Err(fault),
+        }
     }
 }
 
@@ -92,9 +105,13 @@ fn answer_line<A: Allocator + Copy, W: Write>(
     number: u64,
     out: &mut W,
 ) -> Result<(), CaseFault>
-    requires { 1 ≤ number }
+    requires number { 1 ≤ number }
+    requires table { desk.old.table ≡ ascii_table }
+    ensures table { desk.new.table ≡ ascii_table }
+    ensures answers { OnOk result (Answered (W.contents out.old) (W.contents out.new) (line.now ∷ [])) }
     ensures faults { IfErr result IsFaultOfCases }
-    ensures read { OnOk result (IsReadable line.now) }
+    ensures unanswered { IfErr result (λ fault. fault ≢ CaseFault.OutputFailed → Answered (W.contents out.old) (W.contents out.new) []) }
+    ensures no_case { IfErr result (λ fault. (n : ℕ) → fault ≡ CaseFault.NotACase n → (n ≡ number) × IsNoCase line.now) }
 {
     if line.is_empty() || line[0] == b'#' {
         return Ok(());
@@ -104,49 +121,109 @@ fn answer_line<A: Allocator + Copy, W: Write>(
         Err(LineFault::NotACase) => return Err(CaseFault::NotACase(number)),
         Err(LineFault::NoMemory) => return Err(CaseFault::NoMemory),
     };
-    desk.answer.clear();
-    let answered = push_answer(desk, case);
-    let written = match answered {
-        Ok(()) => out.write_all(desk.answer.as_bytes()),
-        Err(AllocError) => out.write_all(b"memory\n"),
-    };
-    if written.is_err() {
+    let Ok(()) = write_answer(desk, case, out) else {
         return Err(CaseFault::OutputFailed);
-    }
+    };
     Ok(())
 }
 
-// Appends the answer to a case, with the byte that ends its line.
-fn push_answer<A: Allocator + Copy>(desk: &mut Desk<A>, case: Case) -> Result<(), AllocError>
-    requires { IsTextOf case desk.old.operands.text.items }
+// Writes the answer to the case that was read last, with the byte that ends its line.
+fn write_answer<A: Allocator + Copy, W: Write>(
+    desk: &mut Desk<A>,
+    case: Case,
+    out: &mut W,
+) -> io::Result<()>
+    requires { IsCase case desk.old.operands.words.items desk.old.operands.text.items }
+    ensures table { desk.new.table ≡ desk.old.table }
+    ensures answer { OnOk result ((said : List ℕ) × IsAnswer desk.old.table case desk.old.operands.words.items desk.old.operands.text.items said
+        × Appends (W.contents out.old) (W.contents out.new) (said ++ 10 ∷ [])) }
 {
-    match Code::check(desk.alloc, desk.operands.words.as_slice(), &desk.table) {
-        Ok(code) => match case {
-            Case::Check => push_hints(&mut desk.answer, &code.hints())?,
-            Case::Find(finding, subject) => match subject.text {
-                TextForm::Bytes => {
-                    let asked = request(desk.operands.text.as_slice(), subject, code);
-                    push_found(finding, asked, &mut desk.state, &mut desk.answer)?;
-                }
-                TextForm::Utf8 => {
-                    let Ok(text) = str::from_utf8(desk.operands.text.as_slice()) else {
-                        unreachable!()
-                    };
-                    let asked = request(text, subject, code);
-                    push_found(finding, asked, &mut desk.state, &mut desk.answer)?;
-                }
-            },
-        },
-        Err(CodeError::Memory) => return Err(AllocError),
-        Err(_) => desk.answer.push_str("refused")?,
+    desk.answer.clear();
+    let answered = push_answer(
+        desk.alloc,
+        &desk.table,
+        case,
+        &desk.operands,
+        &mut desk.state,
+        &mut desk.answer,
+    );
+    match answered {
+        Ok(()) => out.write_all(desk.answer.as_bytes()),
+        Err(AllocError) => out.write_all(b"memory\n"),
     }
-    desk.answer.push_str("\n")
+}
+
+// Appends the answer to a case, with the byte that ends its line.
+fn push_answer<A: Allocator + Copy>(
+    alloc: Global,
+    table: &UniTable,
+    case: Case,
+    operands: &Operands<A>,
+    state: &mut State<A>,
+    answer: &mut String<A>,
+) -> Result<(), AllocError>
+    requires { IsCase case operands.now.words.items operands.now.text.items }
+    ensures { OnOk result ((said : List ℕ) × IsAnswer table.now case operands.now.words.items operands.now.text.items said
+        × (string_bytes answer.new ≡ string_bytes answer.old ++ (said ++ 10 ∷ []))) }
+{
+    push_verdict(alloc, table, case, operands, state, answer)?;
+    answer.push_str("\n")
+}
+
+// Appends the answer to a case.
+fn push_verdict<A: Allocator + Copy>(
+    alloc: Global,
+    table: &UniTable,
+    case: Case,
+    operands: &Operands<A>,
+    state: &mut State<A>,
+    answer: &mut String<A>,
+) -> Result<(), AllocError>
+    requires { IsCase case operands.now.words.items operands.now.text.items }
+    ensures { OnOk result ((said : List ℕ) × IsAnswer table.now case operands.now.words.items operands.now.text.items said
+        × (string_bytes answer.new ≡ string_bytes answer.old ++ said)) }
+{
+    match Code::check(alloc, operands.words.as_slice(), table) {
+        Ok(code) => push_code_answer(code, case, operands.text.as_slice(), state, answer),
+        Err(CodeError::Memory) => Err(AllocError),
+        Err(_) => answer.push_str("refused"),
+    }
+}
+
+// Appends the answer to a case whose words are a code.
+fn push_code_answer<A: Allocator + Copy>(
+    code: Code<'_>,
+    case: Case,
+    text: &[u8],
+    state: &mut State<A>,
+    answer: &mut String<A>,
+) -> Result<(), AllocError>
+    requires { IsCase case (words_of code) text.now }
+    ensures { (t : Tree) → Whole (words_of code.entry) t → OnOk result ((said : List ℕ)
+        × IsAnswerOf t (table_of code.entry) case (words_of code.entry) text.now said
+        × (string_bytes answer.new ≡ string_bytes answer.old ++ said)) }
+{
+    match case {
+        Case::Check => push_hints(answer, &code.hints()),
+        Case::Find(finding, subject) => match subject.text {
+            TextForm::Bytes => push_found(finding, request(text, subject, code), state, answer),
+            TextForm::Utf8 => {
+                let Ok(text) = str::from_utf8(text) else {
+                    unreachable!()
+                };
+                push_found(finding, request(text, subject, code), state, answer)
+            }
+        },
+    }
 }
 
 // What a case asks of its text.
-fn request<'a, S: StrDrive>(text: S, subject: Subject, code: Code<'a>) -> Request<'a, S> {
+fn request<'a, S: StrDrive>(text: S, subject: Subject, code: Code<'a>) -> Request<'a, S>
+    ensures asked { asked_of result ≡ asked subject (words_of code.entry) (table_of code.entry) (S.text text) }
+    ensures code { code_of result ≡ code.entry }
+{
     let (start, end) = match subject.window {
-        Window::Whole => (0, usize::MAX),
+        Window::Whole => (0, text.count()),
         Window::Span { start, end } => (start, end),
     };
     let mut request = Request::new(text, start, end, code, subject.flags.match_all);
@@ -160,7 +237,10 @@ fn push_found<S: StrDrive, A: Allocator + Copy>(
     request: Request<'_, S>,
     state: &mut State<A>,
     answer: &mut String<A>,
-) -> Result<(), AllocError> {
+) -> Result<(), AllocError>
+    ensures { (t : Tree) → Whole (words_of (code_of request.entry)) t
+        → OnOk result (string_bytes answer.new ≡ string_bytes answer.old ++ match_text (match_of finding (asked_of request.entry) t)) }
+{
     let found = match finding {
         Finding::Match => state.pymatch(&request),
         Finding::Search => state.search(request),

@@ -5,7 +5,7 @@
 
 ghost use Rattle.std.specs.Prelude.{◌≡◌, ◌≢◌, ℕ, ◌^◌, ◌<◌, ◌++◌, ◌∷◌, List, All, Contains, IfSome, IfNone, IfOk, OnOk, [], IsTrue, ◌↔◌};
 ghost use Rattle.std.specs.Fmt.{decimal};
-ghost use Rattle.sre_cases.specs.Fields.{verb_text, words_text, window_text, IsWindow, flags_text, form_text, bytes_text, subject_text, case_text, IsCase, IsText, IsTextOf, AreOperands};
+ghost use Rattle.sre_cases.specs.Fields.{verb_text, words_text, window_text, IsWindow, flags_text, form_text, bytes_text, subject_text, case_text, IsText, AreWords, IsSubject, IsCase};
 
 use crate::number::{decimal_number, read_hex};
 use std::alloc::{AllocFailed, Allocator};
@@ -100,9 +100,9 @@ pub struct Operands<A: Allocator> {
 /// Reads a line, and leaves its words and its text in `operands`.
 pub fn read_case<A: Allocator>(line: &[u8], operands: &mut Operands<A>) -> Result<Case, LineFault>
     ensures read { IfOk result (λ case. case_text case operands.new.words.items operands.new.text.items ≡ line.now) }
-    ensures is_text { IfOk result (λ case. IsTextOf case operands.new.text.items) }
-    ensures refused { result ≡ Err LineFault.NotACase → (case : Case) (words text : List ℕ) → IsCase case
-        → AreOperands words text → IsTextOf case text → case_text case words text ≢ line.now }
+    ensures lawful { IfOk result (λ case. IsCase case operands.new.words.items operands.new.text.items) }
+    ensures refused { result ≡ Err LineFault.NotACase → (case : Case) (words text : List ℕ) → IsCase case words text
+        → case_text case words text ≢ line.now }
 {
     let Some((verb, fields)) = split_once(line, b' ') else {
         return Err(LineFault::NotACase);
@@ -137,9 +137,10 @@ fn read_subject<A: Allocator>(
 ) -> Result<Subject, LineFault>
     ensures read { IfOk result (λ subject. words_text operands.new.words.items
         ++ subject_text subject operands.new.text.items ≡ fields.now) }
-    ensures is_text { IfOk result (λ subject. IsText subject.text operands.new.text.items) }
-    ensures refused { result ≡ Err LineFault.NotACase → (subject : Subject) (words text : List ℕ) → IsWindow subject.window
-        → AreOperands words text → IsText subject.text text → words_text words ++ subject_text subject text ≢ fields.now }
+    ensures words { OnOk result (AreWords operands.new.words.items) }
+    ensures subject { IfOk result (λ subject. IsSubject subject operands.new.text.items) }
+    ensures refused { result ≡ Err LineFault.NotACase → (subject : Subject) (words text : List ℕ) → AreWords words
+        → IsSubject subject text → words_text words ++ subject_text subject text ≢ fields.now }
 {
     let Some((words, fields)) = split_once(fields, b' ') else {
         return Err(LineFault::NotACase);
@@ -168,7 +169,8 @@ fn read_subject<A: Allocator>(
 // Reads numbers up to 4294967295 divided by commas, or `-` for none.
 fn read_words<A: Allocator>(field: &[u8], words: &mut Vec<u32, A>) -> Result<(), LineFault>
     ensures read { OnOk result (words_text words.new.items ≡ field.now) }
-    ensures refused { result ≡ Err LineFault.NotACase → (ws : List ℕ) → All (λ w. w < 2 ^ 32) ws → words_text ws ≢ field.now }
+    ensures fit { OnOk result (AreWords words.new.items) }
+    ensures refused { result ≡ Err LineFault.NotACase → (ws : List ℕ) → AreWords ws → words_text ws ≢ field.now }
 {
     words.clear();
     if field == b"-".as_slice() {
@@ -186,7 +188,7 @@ fn read_words<A: Allocator>(field: &[u8], words: &mut Vec<u32, A>) -> Result<(),
 
 // Reads one word more.
 fn push_word<A: Allocator>(digits: &[u8], words: &mut Vec<u32, A>) -> Result<(), LineFault>
-    ensures read { OnOk result ((w : ℕ) × (decimal w ≡ digits.now) × (words.new.items ≡ words.old.items ++ w ∷ [])) }
+    ensures read { OnOk result ((w : ℕ) × (decimal w ≡ digits.now) × (words.new.items ≡ words.old.items ++ w ∷ []) × (w < 2 ^ 32)) }
     ensures refused { result ≡ Err LineFault.NotACase → (w : ℕ) → w < 2 ^ 32 → decimal w ≢ digits.now }
 {
     let Some(word) = word_of(digits) else {
@@ -212,6 +214,7 @@ fn word_of(digits: &[u8]) -> Option<u32>
 // Reads the form of a text and its bytes.
 fn read_text<A: Allocator>(field: &[u8], text: &mut Vec<u8, A>) -> Result<TextForm, LineFault>
     ensures read { IfOk result (λ form. bytes_text form text.new.items ≡ field.now) }
+    ensures fit { OnOk result (All (λ b. b < 256) text.new.items) }
     ensures is_text { IfOk result (λ form. IsText form text.new.items) }
     ensures refused { result ≡ Err LineFault.NotACase → (form : TextForm) (bytes : List ℕ) → All (λ b. b < 256) bytes
         → IsText form bytes → bytes_text form bytes ≢ field.now }
@@ -254,6 +257,7 @@ fn is_text(form: TextForm, bytes: &[u8]) -> bool
 // The window that a field writes.
 fn window_of(field: &[u8]) -> Option<Window>
     ensures written { IfSome result (λ window. window_text window ≡ field.now) }
+    ensures fits { IfSome result IsWindow }
     ensures refused { IfNone result ((window : Window) → IsWindow window → window_text window ≢ field.now) }
 {
     if field == b"all".as_slice() {

@@ -134,17 +134,17 @@ fn a_refused_request_is_the_answer_or_the_fault(rt: HostRuntime) -> Result<(), F
     Ok(())
 }
 
-// The words of a set of one block table, behind `IN`: 64 words of block numbers, of which all but the first are 0, and
-// blocks, of which the last has every character and the others none.
+// The words of a set of characters in blocks: the first word of block numbers, then `zeros` words up to the last block,
+// which has every character.
 fn push_blocks(
     words: &mut String,
     skip: u32,
     count: u32,
     first: u32,
-    empty: u32,
+    zeros: u32,
 ) -> Result<(), Fail> {
     write!(words, "13,{skip},10,{count},{first}")?;
-    for _ in 0..63 + 8 * empty {
+    for _ in 0..zeros {
         words.push_str(",0")?;
     }
     for _ in 0..8 {
@@ -158,7 +158,7 @@ fn push_blocks(
 fn characters_are_looked_up_by_blocks(rt: HostRuntime) -> Result<(), Fail> {
     let mut words = String::new(rt.alloc());
     // the second block number is 1, the least significant byte comes first
-    push_blocks(&mut words, 84, 2, 256, 1)?;
+    push_blocks(&mut words, 84, 2, 256, 71)?;
     for (text, answer) in [
         ("s:c481", "yes 0..1 last -1 marks none\n"),
         ("b:61", "no\n"),
@@ -171,7 +171,7 @@ fn characters_are_looked_up_by_blocks(rt: HostRuntime) -> Result<(), Fail> {
     }
     // one block, and a block number of 1
     let mut refused = String::new(rt.alloc());
-    push_blocks(&mut refused, 76, 1, 1, 0)?;
+    push_blocks(&mut refused, 76, 1, 1, 63)?;
     let line = format!(in rt.alloc(); "check {refused}")?;
     let mut out = Vec::new(rt.alloc());
     assert!(rt; run_cases(rt.alloc(), line.as_bytes(), &mut out) == Ok(()));

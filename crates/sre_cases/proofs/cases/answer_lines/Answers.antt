@@ -1,12 +1,35 @@
--- A line that was answered is readable, and so are those that are left.
-use Rattle.sre_cases.proofs.FileLines.{one_line_more, on_last_line}
+-- The lines before the one at hand are answered, and so are all of them, or those before the fault.
+use Rattle.sre_cases.proofs.FileLines.{at_first, one_line_more, stops_at, all_lines, stops_last, where_ok, where_err}
+use Rattle.std.proofs.Common.{◌+◌, refl}
 use Rattle.sre_cases.proofs.cases.answer_lines.Goals as goal
 
-pub returns-in_default-clause-read : goal.returns-in_default-clause-read
-returns-in_default-clause-read g c =
-    on_last_line c.lines.left.now c.args.file.now c.answer_line.result c.lines.invariant c.in_default.ensures.none c.answer_line.ensures.read
+pub lines-init : goal.lines-init
+lines-init g c = record { table = c.ascii.ensures; so_far = at_first c.args.file.now (g.W.Write.contents c.args.out.now) }
+
+pub returns-in_default-clause-answers : goal.returns-in_default-clause-answers
+returns-in_default-clause-answers g c =
+    where_ok c.answer_line.result
+    (all_lines c.args.file.now c.lines.left.now c.lines.number (g.W.Write.contents c.args.out.now) (g.W.Write.contents c.lines.out)
+    c.lines.invariant.so_far c.in_default.ensures.none (g.W.Write.contents c.answer_line.new.out))
+    c.answer_line.ensures.answers
+
+pub returns-in_default-clause-stopped : goal.returns-in_default-clause-stopped
+returns-in_default-clause-stopped g c =
+    where_err c.answer_line.result _ _ _
+    (λ fault unanswered no_case differs. stops_last c.args.file.now c.lines.left.now c.lines.number (g.W.Write.contents c.args.out.now) (g.W.Write.contents c.lines.out)
+    c.lines.invariant.so_far c.in_default.ensures.none (g.W.Write.contents c.answer_line.new.out) (c.lines.number + 1) fault (unanswered differs) refl no_case)
+    c.answer_line.ensures.unanswered c.answer_line.ensures.no_case
+
+pub returns-in-Err-clause-stopped : goal.returns-in-Err-clause-stopped
+returns-in-Err-clause-stopped g c = λ differs.
+    stops_at c.args.file.now c.lines.left.now c.in-Some.line.now c.in-Some.others.now c.lines.number (g.W.Write.contents c.args.out.now) (g.W.Write.contents c.lines.out)
+    c.lines.invariant.so_far c.in-Some.ensures.parts c.in-Some.ensures.first (g.W.Write.contents c.answer_line-in-lines.new.out) (c.lines.number + 1) _
+    (c.in-Err.ensures.unanswered differs) refl c.in-Err.ensures.no_case
 
 pub lines-preserved : goal.lines-preserved
-lines-preserved g c =
-    one_line_more c.lines.left.now c.args.file.now c.in-Some.line.now c.in-Some.others.now c.lines.invariant
-    c.in-Some.ensures.parts c.in-Some.ensures.first c.in_ok-answer_line.ensures.read
+lines-preserved g c = record {
+  table = c.answer_line-in-lines.ensures.table;
+  so_far = one_line_more c.args.file.now c.lines.left.now c.in-Some.line.now c.in-Some.others.now c.lines.number (g.W.Write.contents c.args.out.now) (g.W.Write.contents c.lines.out)
+      c.lines.invariant.so_far c.in-Some.ensures.parts c.in-Some.ensures.first (g.W.Write.contents c.answer_line-in-lines.new.out) (c.lines.number + 1)
+      c.in-Ok.ensures.answers refl;
+}
