@@ -123,6 +123,32 @@ fn kinds_and_places(rt: HostRuntime) {
     }
 }
 
+// A set of characters in blocks: all block numbers but those of the first word are 0, and the last block has every
+// character.
+#[test]
+fn block_numbers_are_below_their_count(rt: HostRuntime) {
+    let alloc = rt.alloc();
+    let mut two_blocks = [0; 86];
+    for (i, word) in [13, 84, 10, 2, 256].iter().enumerate() {
+        two_blocks[i] = *word;
+    }
+    for i in 76..84 {
+        two_blocks[i] = u32::MAX;
+    }
+    two_blocks[85] = 1;
+    assert_eq!(rt; refusal(alloc, &two_blocks), None);
+    // the first block number is 1, and there is one block
+    let mut one_block = [0; 78];
+    for (i, word) in [13, 76, 10, 1, 1].iter().enumerate() {
+        one_block[i] = *word;
+    }
+    for i in 68..76 {
+        one_block[i] = u32::MAX;
+    }
+    one_block[77] = 1;
+    assert_eq!(rt; refusal(alloc, &one_block), Some(CodeError::BadSet(2)));
+}
+
 #[test]
 fn numbers_and_texts(rt: HostRuntime) {
     let named = [
