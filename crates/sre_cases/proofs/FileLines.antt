@@ -78,6 +78,18 @@ pub record SoFar (file left : List ℕ) (number : ℕ) (old new : Option (List �
 pub at_first : (file : List ℕ) (known : Option (List ℕ)) → SoFar file file 0 known known
 at_first file known = record { before = []; lines = refl; answered = none_answered known; counted = refl; room = omega arith }
 
+-- the next line is not answered
+pub stops_at : (file left line : List ℕ) (after : List (List ℕ)) (number : ℕ) (a b c : Option (List ℕ)) (fault : CaseFault) → SoFar file left number a b → lines_of left ≡ line ∷ after
+    → Answered b c [] → ((m : ℕ) → fault ≡ NotACase m → (m ≡ number + 1) × IsNoCase line) → StopsAt a c (lines_of file) fault
+stops_at file left line after number a b c fault so_far next answered no_case = record {
+  before = so_far.before;
+  line = line;
+  after = after;
+  split = so_far.lines ∙ ap (λ ls. so_far.before ++ ls) next;
+  answered = subst (λ ls. Answered a c ls) (append-nil so_far.before) (all_answered a b c so_far.before [] so_far.answered answered);
+  no_case = λ m is. let found = no_case m is in (omega (arith, found.0, so_far.counted), found.1);
+}
+
 not_true : (b : Bool) → ¬ (b ≡ true) → b ≡ false
 not_true true other = absurd (other refl)
 not_true false other = refl
@@ -88,7 +100,7 @@ no_line_end xs none k d within =
 
 -- what is left begins with a line
 module _ (file left line others : List ℕ) (number : ℕ) (a b : Option (List ℕ)) (so_far : SoFar file left number a b) (cut : line ++ 10 ∷ others ≡ left) (none : ¬ (Contains line 10)) where
-  first_line : lines_of left ≡ line ∷ lines_of others
+  pub first_line : lines_of left ≡ line ∷ lines_of others
   first_line = rw (sym cut) (slice_split_at (λ b. b == 10) line 10 others (no_line_end line none) refl)
 
   shorter : length left ≡ length line + suc (length others)
@@ -103,30 +115,10 @@ module _ (file left line others : List ℕ) (number : ℕ) (a b : Option (List �
     room = omega (arith, next, so_far.room, shorter);
   }
 
-  pub stops_at : (c : Option (List ℕ)) (n : ℕ) (fault : CaseFault) → Answered b c [] → n ≡ number + 1 → ((m : ℕ) → fault ≡ NotACase m → (m ≡ n) × IsNoCase line) → StopsAt a c (lines_of file) fault
-  stops_at c n fault answered next no_case = record {
-    before = so_far.before;
-    line = line;
-    after = lines_of others;
-    split = so_far.lines ∙ ap (λ ls. so_far.before ++ ls) first_line;
-    answered = subst (λ ls. Answered a c ls) (append-nil so_far.before) (all_answered a b c so_far.before [] so_far.answered answered);
-    no_case = λ m is. let found = no_case m is in (omega (arith, found.0, next, so_far.counted), found.1);
-  }
-
 -- what is left is the last line
 module _ (file left : List ℕ) (number : ℕ) (a b : Option (List ℕ)) (so_far : SoFar file left number a b) (none : ¬ (Contains left 10)) where
-  last_line : lines_of left ≡ left ∷ []
+  pub last_line : lines_of left ≡ left ∷ []
   last_line = slice_split_none (λ b. b == 10) left (no_line_end left none)
 
   pub all_lines : (c : Option (List ℕ)) → Answered b c (left ∷ []) → Answered a c (lines_of file)
   all_lines c answered = rw (so_far.lines, last_line) (all_answered a b c so_far.before (left ∷ []) so_far.answered answered)
-
-  pub stops_last : (c : Option (List ℕ)) (n : ℕ) (fault : CaseFault) → Answered b c [] → n ≡ number + 1 → ((m : ℕ) → fault ≡ NotACase m → (m ≡ n) × IsNoCase left) → StopsAt a c (lines_of file) fault
-  stops_last c n fault answered next no_case = record {
-    before = so_far.before;
-    line = left;
-    after = [];
-    split = so_far.lines ∙ ap (λ ls. so_far.before ++ ls) last_line;
-    answered = subst (λ ls. Answered a c ls) (append-nil so_far.before) (all_answered a b c so_far.before [] so_far.answered answered);
-    no_case = λ m is. let found = no_case m is in (omega (arith, found.0, next, so_far.counted), found.1);
-  }

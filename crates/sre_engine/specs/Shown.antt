@@ -3,7 +3,7 @@ use Rattle.std.specs.Prelude.{ℕ, List, [], ◌∷◌, length, false, Option, S
 use Rattle.sre_chars.specs.Tables.{ascii_table}
 use Rattle.sre_engine.specs.Tree.{Tree, Empty, Then, Item, One, Test, Literal, Plain}
 use Rattle.sre_engine.specs.Marks.{no_marks}
-use Rattle.sre_engine.specs.Found.{Asked, Match, at_start}
+use Rattle.sre_engine.specs.Found.{Asked, Match}
 
 -- items, one after the other
 abbrev pub items : List Item → Tree

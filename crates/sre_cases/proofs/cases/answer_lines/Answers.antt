@@ -1,5 +1,5 @@
 -- The lines before the one at hand are answered, and so are all of them, or those before the fault.
-use Rattle.sre_cases.proofs.FileLines.{at_first, one_line_more, stops_at, all_lines, stops_last, where_ok, where_err}
+use Rattle.sre_cases.proofs.FileLines.{at_first, first_line, last_line, one_line_more, all_lines, stops_at, where_ok, where_err}
 use Rattle.std.proofs.Common.{◌+◌, refl}
 use Rattle.sre_cases.proofs.cases.answer_lines.Goals as goal
 
@@ -15,16 +15,19 @@ returns-in_default-clause-answers g c =
 
 pub returns-in_default-clause-stopped : goal.returns-in_default-clause-stopped
 returns-in_default-clause-stopped g c =
+    let next = last_line c.args.file.now c.lines.left.now c.lines.number (g.W.Write.contents c.args.out.now) (g.W.Write.contents c.lines.out)
+    c.lines.invariant.so_far c.in_default.ensures.none in
     where_err c.answer_line.result _ _ _
-    (λ fault unanswered no_case differs. stops_last c.args.file.now c.lines.left.now c.lines.number (g.W.Write.contents c.args.out.now) (g.W.Write.contents c.lines.out)
-    c.lines.invariant.so_far c.in_default.ensures.none (g.W.Write.contents c.answer_line.new.out) (c.lines.number + 1) fault (unanswered differs) refl no_case)
+    (λ fault unanswered no_case differs. stops_at c.args.file.now c.lines.left.now c.lines.left.now _ c.lines.number _ _ _ fault
+    c.lines.invariant.so_far next (unanswered differs) no_case)
     c.answer_line.ensures.unanswered c.answer_line.ensures.no_case
 
 pub returns-in-Err-clause-stopped : goal.returns-in-Err-clause-stopped
 returns-in-Err-clause-stopped g c = λ differs.
-    stops_at c.args.file.now c.lines.left.now c.in-Some.line.now c.in-Some.others.now c.lines.number (g.W.Write.contents c.args.out.now) (g.W.Write.contents c.lines.out)
-    c.lines.invariant.so_far c.in-Some.ensures.parts c.in-Some.ensures.first (g.W.Write.contents c.answer_line-in-lines.new.out) (c.lines.number + 1) _
-    (c.in-Err.ensures.unanswered differs) refl c.in-Err.ensures.no_case
+    let next = first_line c.args.file.now c.lines.left.now c.in-Some.line.now c.in-Some.others.now c.lines.number (g.W.Write.contents c.args.out.now) (g.W.Write.contents c.lines.out)
+    c.lines.invariant.so_far c.in-Some.ensures.parts c.in-Some.ensures.first in
+    stops_at c.args.file.now c.lines.left.now c.in-Some.line.now _ c.lines.number _ _ _ _
+    c.lines.invariant.so_far next (c.in-Err.ensures.unanswered differs) c.in-Err.ensures.no_case
 
 pub lines-preserved : goal.lines-preserved
 lines-preserved g c = record {
