@@ -14,6 +14,7 @@ ghost use Rattle.sre_engine.specs.Requests.{end_of, run_of};
 
 use crate::engine::board::{Board, Point};
 use crate::engine::one_character::{takes, test_end};
+use crate::engine::operands;
 use crate::engine::position::holds_at;
 use crate::engine::request::Request;
 use crate::engine::runs::longest_run;
@@ -37,9 +38,7 @@ fn word_at<S: StrDrive>(req: &Request<'_, S>, place: usize) -> u32
     ensures word { Word (run_of req.now).words place result }
     ensures room { place + 2 ^ 33 < 2 ^ 64 }
 {
-    let words = req.pattern_codes().words();
-    let _length = words.len();
-    words[place]
+    operands::word(req.pattern_codes().words(), place)
 }
 
 // The word some places on.
@@ -49,9 +48,7 @@ fn operand<S: StrDrive>(req: &Request<'_, S>, place: usize, offset: usize) -> u3
     ensures word { Word (run_of req.now).words (place + offset) result }
     ensures room { place + 2 ^ 33 < 2 ^ 64 }
 {
-    let words = req.pattern_codes().words();
-    let _length = words.len();
-    words[place + offset]
+    operands::operand(req.pattern_codes().words(), place, offset)
 }
 
 // The opcode at a place that the machine has come to.

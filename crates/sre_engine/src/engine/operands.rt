@@ -12,8 +12,10 @@ use std::convert::TryFrom;
 #[inline(always)]
 pub(super) fn word(words: &[u32], place: usize) -> u32
     requires { place < length words.now }
-    ensures { Word words.now place result }
+    ensures word { Word words.now place result }
+    ensures room { place + 2 ^ 33 < 2 ^ 64 }
 {
+    let _length = words.len();
     words[place]
 }
 
