@@ -27,10 +27,14 @@ pub mod OneCharacter
 pub mod Undo
 pub mod Choosing
 pub mod Cost
+pub mod Moving
+pub mod StepsAtItems
+pub mod StepsInBranches
+pub mod StepsInRuns
 pub mod Ran
 pub mod TreeOf
 mod ReaderRows
 pub mod Passing
-pub mod Instructions
+pub mod GoingBack
 pub mod Start
 pub mod Answering

@@ -20,8 +20,9 @@ pub mod Codes
 pub mod Board
 pub mod Trail
 pub mod Choices
-pub mod Machine
 pub mod Standing
+pub mod Moves
+pub mod Machine
 pub mod Counting
 pub mod Requests
 pub mod Answers

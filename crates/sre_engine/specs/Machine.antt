@@ -1,17 +1,16 @@
 -- The machine: what standing at a point of the words means, and what a turn keeps.
 use Rattle.std.specs.Prelude.{ℕ, suc, ◌+◌, ◌-◌, ◌≡◌, ◌<◌, ◌≤◌, length, Bool, true, false, List, [], ◌∷◌, ◌++◌, Option, Some, None}
 use Rattle.std.specs.List.{filter}
-use Rattle.sre_chars.specs.Numbers.{at_number}
-use Rattle.sre_chars.specs.declared.constants.SreAtCode.{SreAtCode}
 use Rattle.sre_chars.specs.declared.constants.SreOpcode.{SreOpcode}
 use Rattle.sre_chars.specs.declared.constants.SreOpcode.TheVariants as opcode
 use Rattle.sre_chars.specs.declared.string.StringCursor.{StringCursor}
-use Rattle.sre_engine.specs.Tree.{Tree, Test}
-use Rattle.sre_engine.specs.Marks.{Marks, no_marks, set_mark}
-use Rattle.sre_engine.specs.Subject.{Subject, passes, holds_at}
-use Rattle.sre_engine.specs.Ways.{Way, here, longest_run, ways}
-use Rattle.sre_engine.specs.Grammar.{Word, Opcode, skip, test_opcode, TestOperands}
+use Rattle.sre_engine.specs.Tree.{Tree}
+use Rattle.sre_engine.specs.Marks.{Marks, no_marks}
+use Rattle.sre_engine.specs.Subject.{Subject}
+use Rattle.sre_engine.specs.Ways.{Way, here, ways}
+use Rattle.sre_engine.specs.Grammar.{Opcode}
 use Rattle.sre_engine.specs.Board.{Point, Instruction, Alternatives, Shorter, Frame, Choice, Else, BoardValue}
+use Rattle.sre_engine.specs.Moves.{Spot, spot_at, Move, Stop, End, Go, Split, to_point, TestMove, AtMove, MarkMove, JumpMove, AlternativesMove, RunMove, ShorterMove}
 use Rattle.sre_engine.specs.declared.engine.machine.Next.{Next}
 use Rattle.sre_engine.specs.declared.engine.machine.Next.TheVariants as next
 
@@ -52,28 +51,38 @@ family opcode.JUMP = Jumping
 family opcode.REPEAT_ONE = Running
 family _ = Unbuilt
 
-mutual
-  -- from a point, the outcomes up to the end of its region in order, and how many turns they take
-  pub data Runs (ws : List ℕ) (s : Subject) : Point → List Frame → ℕ → Marks → List Way → ℕ → Type 0 where
-    at : {i p n : ℕ} {fs : List Frame} {m : Marks} {os : List Way} (o : SreOpcode) → Opcode ws i o → Does ws s (family o) i fs p m os n → Runs ws s (Instruction i) fs p m os n
-    no_alternative : {q p : ℕ} {fs : List Frame} {m : Marks} → Word ws q 0 → Runs ws s (Alternatives q) fs p m [] 1
-    alternative : {q v p n₁ n₂ : ℕ} {fs : List Frame} {m : Marks} {os₁ os₂ : List Way} → Word ws q v → 0 < v → Runs ws s (Instruction (q + 1)) fs p m os₁ n₁ → Runs ws s (Alternatives (q + v)) fs p m os₂ n₂ → Runs ws s (Alternatives q) fs p m (os₁ ++ os₂) (suc (suc (n₁ + n₂)))
-    none_shorter : {t p : ℕ} {fs : List Frame} {m : Marks} → Runs ws s (Shorter t 0) fs p m [] 1
-    shorter : {t k p q n₁ n₂ : ℕ} {fs : List Frame} {m : Marks} {os₁ os₂ : List Way} → p ≡ q + 1 → Runs ws s (Instruction t) fs q m os₁ n₁ → Runs ws s (Shorter t k) fs q m os₂ n₂ → Runs ws s (Shorter t (suc k)) fs p m (os₁ ++ os₂) (suc (suc (n₁ + n₂)))
+-- what a turn does at an instruction whose family is known
+abbrev pub InFamily : List ℕ → Subject → Family → ℕ → Spot → Move → Type 0
+InFamily ws s Failing i x mv = mv ≡ Stop
+InFamily ws s Ending i x mv = mv ≡ End
+InFamily ws s Testing i x mv = TestMove ws s i x mv
+InFamily ws s Standing i x mv = AtMove ws s i x mv
+InFamily ws s Marking i x mv = MarkMove ws i x mv
+InFamily ws s Branching i x mv = mv ≡ Go (to_point x (Alternatives (i + 1)))
+InFamily ws s Jumping i x mv = JumpMove ws i x mv
+InFamily ws s Running i x mv = RunMove ws s i x mv
+InFamily ws s Unbuilt i x mv = ⊥
 
-  -- the same at an instruction whose family is known
-  pub data Does (ws : List ℕ) (s : Subject) : Family → ℕ → List Frame → ℕ → Marks → List Way → ℕ → Type 0 where
-    fails : {i p : ℕ} {fs : List Frame} {m : Marks} → Does ws s Failing i fs p m [] 1
-    ends : {i p : ℕ} {fs : List Frame} {m : Marks} → Does ws s Ending i fs p m (here p m) 2
-    taken : {i p n : ℕ} {fs : List Frame} {m : Marks} {os : List Way} (j : ℕ) (t : Test) → Opcode ws i (test_opcode t) → TestOperands ws i j t → passes s t p ≡ true → Runs ws s (Instruction j) fs (p + 1) m os n → Does ws s Testing i fs p m os (suc n)
-    refused : {i p : ℕ} {fs : List Frame} {m : Marks} (j : ℕ) (t : Test) → Opcode ws i (test_opcode t) → TestOperands ws i j t → passes s t p ≡ false → Does ws s Testing i fs p m [] 1
-    stood : {i p n : ℕ} {fs : List Frame} {m : Marks} {os : List Way} (a : SreAtCode) → Word ws (i + 1) (at_number a) → holds_at s a p ≡ true → Runs ws s (Instruction (i + 2)) fs p m os n → Does ws s Standing i fs p m os (suc n)
-    elsewhere : {i p : ℕ} {fs : List Frame} {m : Marks} (a : SreAtCode) → Word ws (i + 1) (at_number a) → holds_at s a p ≡ false → Does ws s Standing i fs p m [] 1
-    marks : {i p k n : ℕ} {fs : List Frame} {m : Marks} {os : List Way} → Word ws (i + 1) k → Runs ws s (Instruction (i + 2)) fs p (set_mark m k p) os n → Does ws s Marking i fs p m os (suc n)
-    branches : {i p n : ℕ} {fs : List Frame} {m : Marks} {os : List Way} → Runs ws s (Alternatives (i + 1)) fs p m os n → Does ws s Branching i fs p m os (suc n)
-    jumps : {i p n : ℕ} {fs : List Frame} {m : Marks} {os : List Way} → i + 1 < length ws → Runs ws s (Instruction (skip ws (i + 1))) fs p m os n → Does ws s Jumping i fs p m os (suc n)
-    too_short : {i p low high : ℕ} {fs : List Frame} {m : Marks} (j : ℕ) (t : Test) → Word ws (i + 2) low → Word ws (i + 3) high → Opcode ws (i + 4) (test_opcode t) → TestOperands ws (i + 4) j t → longest_run s t high p < low → Does ws s Running i fs p m [] 1
-    runs_on : {i p low high n₁ n₂ : ℕ} {fs : List Frame} {m : Marks} {os₁ os₂ : List Way} (j : ℕ) (t : Test) → Word ws (i + 2) low → Word ws (i + 3) high → Opcode ws (i + 4) (test_opcode t) → TestOperands ws (i + 4) j t → low ≤ longest_run s t high p → Runs ws s (Instruction (skip ws (i + 1))) fs (p + longest_run s t high p) m os₁ n₁ → Runs ws s (Shorter (skip ws (i + 1)) (longest_run s t high p - low)) fs (p + longest_run s t high p) m os₂ n₂ → Does ws s Running i fs p m (os₁ ++ os₂) (suc (suc (n₁ + n₂)))
+-- what a turn does at a point
+abbrev pub MovesAt : List ℕ → Subject → Point → Spot → Move → Type 0
+MovesAt ws s (Instruction i) x mv = (o : SreOpcode) × Opcode ws i o × InFamily ws s (family o) i x mv
+MovesAt ws s (Alternatives q) x mv = AlternativesMove ws q x mv
+MovesAt ws s (Shorter t k) x mv = ShorterMove t k x mv
+
+abbrev pub Moves : List ℕ → Subject → Spot → Move → Type 0
+Moves ws s x mv = MovesAt ws s x.point x mv
+
+mutual
+  -- from a spot, the outcomes up to the end of its region in order, and how many turns they take
+  pub data Runs (ws : List ℕ) (s : Subject) : Spot → List Way → ℕ → Type 0 where
+    turns : {x : Spot} {os : List Way} {n : ℕ} (mv : Move) → Moves ws s x mv → Comes ws s x mv os n → Runs ws s x os n
+
+  -- the same after a turn that is known
+  pub data Comes (ws : List ℕ) (s : Subject) : Spot → Move → List Way → ℕ → Type 0 where
+    stops : {x : Spot} → Comes ws s x Stop [] 1
+    ends : {x : Spot} → Comes ws s x End (here x.position x.marks) 2
+    goes : {x y : Spot} {os : List Way} {n : ℕ} → Runs ws s y os n → Comes ws s x (Go y) os (suc n)
+    splits : {x y z : Spot} {os₁ os₂ : List Way} {n₁ n₂ : ℕ} → Runs ws s y os₁ n₁ → Runs ws s z os₂ n₂ → Comes ws s x (Split y z) (os₁ ++ os₂) (suc (suc (n₁ + n₂)))
 
 -- what a run is about: the words, the subject, which cursors stand at which position, and which outcomes are accepted
 pub record Run : Type 1 where
@@ -85,7 +94,11 @@ pub record Run : Type 1 where
 -- the accepted outcomes of the whole and the turns to come, where the innermost region has the outcomes now
 pub data Waits (r : Run) : List Choice → List Way → List Way → ℕ → Type 0 where
   outermost : {now : List Way} → Waits r [] now (filter r.accepts now) 0
-  otherwise : {pt : Point} {fs : List Frame} {c : StringCursor} {n k : ℕ} {m : Marks} {os now all : List Way} {cs : List Choice} → r.stands c c.position → Runs r.words r.subject pt fs c.position m os n → Waits r cs (now ++ os) all k → Waits r (Else pt fs c m ∷ cs) now all (suc (n + k))
+  otherwise : {pt : Point} {fs : List Frame} {c : StringCursor} {n k : ℕ} {m : Marks} {os now all : List Way} {cs : List Choice} → r.stands c c.position → Runs r.words r.subject (spot_at pt fs c.position m) os n → Waits r cs (now ++ os) all k → Waits r (Else pt fs c m ∷ cs) now all (suc (n + k))
+
+-- where the machine stands at a point and a cursor
+abbrev pub spot : Point → StringCursor → BoardValue → Spot
+spot pt c b = spot_at pt b.frames c.position b.marks
 
 -- the machine is at a point and a cursor: all are the accepted outcomes, and at most limit turns are left
 pub record Goes (r : Run) (all : List Way) (limit : ℕ) (pt : Point) (c : StringCursor) (b : BoardValue) : Type 0 where
@@ -93,21 +106,21 @@ pub record Goes (r : Run) (all : List Way) (limit : ℕ) (pt : Point) (c : Strin
   pub turns : ℕ
   pub later : ℕ
   pub stands : r.stands c c.position
-  pub runs : Runs r.words r.subject pt b.frames c.position b.marks now turns
+  pub runs : Runs r.words r.subject (spot pt c b) now turns
   pub waits : Waits r b.choices now all later
   pub within : turns + later ≤ limit
 
--- the same, with the outcomes of two points one after the other
-pub record GoesBoth (r : Run) (all : List Way) (limit : ℕ) (first second : Point) (c : StringCursor) (b : BoardValue) : Type 0 where
+-- the same at two spots, the outcomes of the one before those of the other
+pub record GoesBoth (r : Run) (all : List Way) (limit : ℕ) (first second : Spot) (c : StringCursor) (cs : List Choice) : Type 0 where
   pub now : List Way
   pub next : List Way
   pub turns : ℕ
   pub further : ℕ
   pub later : ℕ
   pub stands : r.stands c c.position
-  pub runs : Runs r.words r.subject first b.frames c.position b.marks now turns
-  pub others : Runs r.words r.subject second b.frames c.position b.marks next further
-  pub waits : Waits r b.choices (now ++ next) all later
+  pub runs : Runs r.words r.subject first now turns
+  pub others : Runs r.words r.subject second next further
+  pub waits : Waits r cs (now ++ next) all later
   pub within : turns + further + later + 2 ≤ limit
 
 -- the innermost region has no more outcomes
@@ -138,7 +151,7 @@ Advances r pt c old n new = (all : List Way) (limit : ℕ) → Goes r all limit 
 
 -- the same at two points
 abbrev pub Chooses : Run → Point → Point → StringCursor → BoardValue → Next → BoardValue → Type 0
-Chooses r first second c old n new = (all : List Way) (limit : ℕ) → GoesBoth r all limit first second c old → Later r all limit n new
+Chooses r first second c old n new = (all : List Way) (limit : ℕ) → GoesBoth r all limit (spot first c old) (spot second c old) c old.choices → Later r all limit n new
 
 -- the same where the machine goes back
 abbrev pub Retreats : Run → BoardValue → Next → BoardValue → Type 0
@@ -151,7 +164,14 @@ pub record HasRun (r : Run) (pt : Point) (c : StringCursor) : Type 0 where
   pub outcomes : List Way
   pub turns : ℕ
   pub stands : r.stands c c.position
-  pub runs : Runs r.words r.subject pt frames c.position marks outcomes turns
+  pub runs : Runs r.words r.subject (spot_at pt frames c.position marks) outcomes turns
+
+-- the same on a board
+pub record IsAt (r : Run) (pt : Point) (c : StringCursor) (b : BoardValue) : Type 0 where
+  pub outcomes : List Way
+  pub turns : ℕ
+  pub stands : r.stands c c.position
+  pub runs : Runs r.words r.subject (spot pt c b) outcomes turns
 
 -- the machine goes back, whatever the outcomes are
 pub record IsBack (r : Run) (b : BoardValue) : Type 0 where
@@ -167,11 +187,11 @@ Skips r pt c pt' c' = (b : BoardValue) (all : List Way) (limit : ℕ) → Goes r
 pub record SkipsBoth (r : Run) (pt : Point) (c : StringCursor) (first second : Point) (c' : StringCursor) : Type 0 where
   pub runs : HasRun r first c'
   pub others : HasRun r second c'
-  pub skips : (b : BoardValue) (all : List Way) (limit : ℕ) → Goes r all limit pt c b → GoesBoth r all limit first second c' b
+  pub skips : (b : BoardValue) (all : List Way) (limit : ℕ) → Goes r all limit pt c b → GoesBoth r all limit (spot first c' b) (spot second c' b) c' b.choices
 
 -- nothing comes of standing at an instruction and a position
 abbrev pub Refuses : Run → ℕ → ℕ → Type 0
-Refuses r i p = (fs : List Frame) (m : Marks) (os : List Way) (n : ℕ) → Runs r.words r.subject (Instruction i) fs p m os n → os ≡ []
+Refuses r i p = (fs : List Frame) (m : Marks) (os : List Way) (n : ℕ) → Runs r.words r.subject (spot_at (Instruction i) fs p m) os n → os ≡ []
 
 -- the accepted outcomes of a tree from a position, with no marks
 abbrev pub outcomes : Run → Tree → ℕ → List Way

@@ -1,7 +1,7 @@
 use Rattle.std.proofs.Common.{◌-◌}
 use Rattle.sre_engine.specs.Board.{Instruction, Alternatives, Shorter}
 use Rattle.sre_engine.specs.Requests.{run_of}
-use Rattle.sre_engine.proofs.Instructions.{back_none, back_at, later_again}
+use Rattle.sre_engine.proofs.GoingBack.{back_none, back_at, later_again}
 use Rattle.sre_engine.proofs.engine.machine.back.Goals as goal
 
 pub returns-in-None : goal.returns-in-None
