@@ -25,6 +25,7 @@ pub mod Members
 pub mod Counting
 pub mod OneCharacter
 pub mod Undo
+pub mod ChainLaws
 pub mod Choosing
 pub mod Cost
 pub mod Moving

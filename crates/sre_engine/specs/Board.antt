@@ -1,15 +1,10 @@
 -- The board: what a run of the machine holds beside its place and position.
-use Rattle.std.specs.Prelude.{ℕ, List, [], Option}
+use Rattle.std.specs.Prelude.{ℕ, List, []}
 use Rattle.sre_chars.specs.declared.string.StringCursor.{StringCursor}
 use Rattle.sre_engine.specs.Marks.{Marks}
+pub use Rattle.sre_engine.specs.Chains.{Frame}
 pub use Rattle.sre_engine.specs.declared.engine.board.Point.{Point}
 pub use Rattle.sre_engine.specs.declared.engine.board.Point.TheVariants.{Instruction, Alternatives, Shorter}
-
--- a loop in progress: where its REPEAT stands, its bodies so far, and where the last one beyond the least count began
-pub record Frame : Type 0 where
-  pub repeat : ℕ
-  pub count : ℕ
-  pub last : Option ℕ
 
 -- what is still to be tried: another point, under other loops and marks
 pub data Choice : Type 0 where

@@ -17,6 +17,7 @@ pub mod Reading
 pub mod Steps
 pub mod Walks
 pub mod Codes
+pub mod Chains
 pub mod Board
 pub mod Trail
 pub mod Choices

@@ -1,6 +1,7 @@
 //! The machine, and what is asked of it.
 
 mod board;
+mod chains;
 mod machine;
 mod marks;
 mod one_character;

@@ -1,11 +1,14 @@
 //! The board: what a run of the machine holds beside its place and position.
 //!
-//! Its value has frames, marks and choices as if each choice held its own. In memory all choices share one trail.
+//! Its value has frames, marks and choices as if each choice held its own. In memory all choices share one trail and
+//! one table of chains, and a chain is forgotten as soon as no choice can come back to it.
 
-ghost use Rattle.std.specs.Prelude.{◌≡◌, [], ◌∷◌, IfOk, MatchOption};
+ghost use Rattle.std.specs.Prelude.{◌≡◌, ℕ, ◌<◌, [], ◌∷◌, drop, length, reverse, IfOk, MatchOption};
 ghost use Rattle.sre_engine.specs.Marks.{no_marks, set_mark};
 ghost use Rattle.sre_engine.specs.Board.{Else, bare};
+ghost use Rattle.sre_engine.specs.Choices.{Fits};
 
+use crate::engine::chains::{Chains, Frame, frame_of};
 use crate::engine::marks::Marks;
 use crate::engine::trail::Trail;
 use sre_chars::string::StringCursor;
@@ -26,31 +29,46 @@ pub(crate) enum Point {
     Shorter(usize, usize),
 }
 
-/// A choice: where to go on, and how many changes there were to take back when it was made.
+/// A choice: where to go on, with which loops, and how many changes and chains there were when it was made.
 #[derive(Clone, Copy)]
 pub(crate) struct Saved {
     pub point: Point,
     pub cursor: StringCursor,
+    pub frame: usize,
+    pub chains: usize,
     pub changes: usize,
 }
 
-/// The marks, and what is still to be tried.
+/// The loops in progress, the marks, and what is still to be tried.
 #[derive(Drop)]
 pub(crate) struct Board<A: Allocator> {
     trail: Trail<A>,
+    chains: Chains<A>,
+    frame: usize,
     choices: Vec<Saved, A>,
 }
 
 impl<A: Allocator> Model for Board<A> {
-    ghost use Rattle.std.specs.Prelude.{length, reverse};
+    ghost use Rattle.std.specs.Prelude.{◌<◌, length, reverse};
     ghost use Rattle.sre_engine.specs.Board.{BoardValue};
     ghost use Rattle.sre_engine.specs.Choices.{board_of, Fits};
 
     ghost Value = { BoardValue };
 
-    ghost view = { λ b. board_of b.trail b.choices.items };
+    ghost view = { λ b. board_of b.trail b.chains b.frame b.choices.items };
 
-    ghost invariant = { λ b. Fits (reverse b.choices.items) (length b.trail.past) };
+    ghost invariant = { λ b. (b.frame < length b.chains) × Fits (reverse b.choices.items) (length b.chains) (length b.trail.past) };
+}
+
+// How many chains the choices need.
+#[inline(always)]
+fn kept(saved: &[Saved]) -> usize
+    ensures { (n more changes : ℕ) → result < n → Fits (reverse saved.now) more changes → Fits (reverse saved.now) n changes }
+{
+    if saved.is_empty() {
+        return 0;
+    }
+    saved[saved.len() - 1].chains
 }
 
 impl<A: Allocator + Copy> Board<A> {
@@ -61,6 +79,8 @@ impl<A: Allocator + Copy> Board<A> {
     {
         Board {
             trail: Trail::new(alloc),
+            chains: Chains::new(alloc),
+            frame: 0,
             choices: Vec::new(alloc),
         }
     }
@@ -80,8 +100,10 @@ impl<A: Allocator> Board<A> {
     pub(crate) fn clear(&mut self)
         ensures { self.new ≡ bare no_marks }
     {
-        self.trail.clear();
         self.choices.clear();
+        self.trail.clear();
+        self.frame = 0;
+        self.chains.clear();
     }
 
     /// Sets mark `n` to `position`. After an error the board is good for `clear` alone.
@@ -103,6 +125,8 @@ impl<A: Allocator> Board<A> {
         self.choices.push(Saved {
             point,
             cursor,
+            frame: self.frame,
+            chains: self.chains.count(),
             changes: self.trail.length(),
         })?;
         Ok(())
@@ -117,6 +141,39 @@ impl<A: Allocator> Board<A> {
     {
         let saved = self.choices.pop()?;
         self.trail.back(saved.changes);
+        self.chains.cut(saved.chains);
+        self.frame = saved.frame;
         Some((saved.point, saved.cursor))
+    }
+
+    /// The innermost loop in progress.
+    #[inline(always)]
+    pub(crate) fn top(&self) -> Frame
+        requires { 0 < length self.now.frames }
+        ensures { self.now.frames ≡ result ∷ drop 1 self.now.frames }
+    {
+        frame_of(self.chains.node(self.frame))
+    }
+
+    /// Leaves the innermost loop. Its chain is forgotten where no choice needs it.
+    #[inline(always)]
+    pub(crate) fn leave(&mut self)
+        requires { 0 < length self.old.frames }
+        ensures { self.new ≡ record self.old { frames = drop 1 self.old.frames } }
+    {
+        let id = self.frame;
+        self.frame = self.chains.node(id).parent;
+        if kept(&self.choices) < id {
+            self.chains.cut(id - 1);
+        }
+    }
+
+    /// Begins a loop.
+    #[inline(always)]
+    pub(crate) fn enter(&mut self, frame: Frame) -> Result<(), AllocError>
+        ensures { IfOk result (λ _. self.new ≡ record self.old { frames = frame ∷ self.old.frames }) }
+    {
+        self.frame = self.chains.push(frame, self.frame)?;
+        Ok(())
     }
 }
