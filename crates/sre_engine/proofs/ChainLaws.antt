@@ -1,9 +1,8 @@
 -- Laws of the table of chains.
-use Rattle.std.proofs.Common.{◌≡◌, ℕ, zero, suc, ◌+◌, ◌-◌, ◌<◌, ◌≤◌, List, [], ◌∷◌, ◌++◌, length, take, drop, add-zero, Bool, true, false, nat_lt, Option, Some, None, slice_index_or, slice_get, refl, sym, ap, ◌∙◌, subst, arith, length-append, add-one, append_assoc, ◌⊎◌, inl, inr}
-use Rattle.std.proofs.lemmas.List.{take-append-le, take-append-drop, length-take-le, append-nil, get_or_past}
+use Rattle.std.proofs.Common.{◌≡◌, ℕ, zero, suc, ◌+◌, ◌-◌, ◌<◌, ◌≤◌, List, [], ◌∷◌, ◌++◌, length, take, drop, add-zero, Bool, true, false, nat_lt, Some, slice_index_or, slice_get, refl, sym, ap, ◌∙◌, arith, length-append, append_assoc, ◌⊎◌, inl, inr}
+use Rattle.std.proofs.lemmas.List.{take-append-drop, length-take-le, append-nil, get_or_past}
 use Rattle.std.proofs.Math.Seq.{take-append_seam, get_or-append_seam}
 use Rattle.std.proofs.Math.ListN.{get_or-append}
-use Rattle.std.proofs.lemmas.Option.{slice_get_within}
 use Rattle.std.proofs.lemmas.Bool.Decides.{nat_tests}
 use Rattle.sre_engine.specs.Chains.{Frame, frame_of, grown, table, Based}
 use Rattle.sre_engine.specs.declared.engine.chains.Node.{Node}

@@ -1,9 +1,9 @@
 -- How many turns the machine takes for a tree, given how many it takes for what follows.
-use Rattle.std.proofs.Common.{ℕ, zero, suc, ◌+◌, ◌-◌, cond, nat_lt}
-use Rattle.sre_engine.specs.Tree.{Tree, Empty, Then, Item, One, At, Mark, Branch, Run, GreedyRun, Trees, Only, Or}
+use Rattle.std.proofs.Common.{ℕ, zero, suc, ◌+◌, ◌-◌, cond, nat_lt, Option, Some, None}
+use Rattle.sre_engine.specs.Tree.{Tree, Empty, Then, Item, One, At, Mark, Branch, Loop, Run, GreedyRun, LazyRun, Trees, Only, Or}
 use Rattle.sre_engine.specs.Marks.{Marks, set_mark}
 use Rattle.sre_engine.specs.Subject.{Subject, passes, holds_at}
-use Rattle.sre_engine.specs.Ways.{longest_run}
+use Rattle.sre_engine.specs.Ways.{longest_run, may_repeat}
 
 -- the turns from a position under marks
 abbrev pub Costs : Type 0
@@ -21,6 +21,24 @@ shorter_cost C low (suc n) p m = suc (suc (C (p + (low + n)) m + shorter_cost C 
 abbrev pub run_cost : ℕ → ℕ → Costs → Costs
 run_cost low k C p m = cond (nat_lt k low) 1 (suc (suc (C (p + k) m + shorter_cost C low (k - low) p m)))
 
+-- the longer counts of a lazy run, n of them behind c characters
+abbrev pub longer_cost : Costs → ℕ → ℕ → Costs
+longer_cost C c zero p m = 1
+longer_cost C c (suc n) p m = suc (suc (C (p + (c + 1)) m + longer_cost C (c + 1) n p m))
+
+abbrev pub lazy_run_cost : ℕ → ℕ → Costs → Costs
+lazy_run_cost low k C p m = cond (nat_lt k low) 1 (suc (suc (C (p + low) m + longer_cost C low (k - low) p m)))
+
+-- the bodies of a loop below its least count
+abbrev pub least_cost : (Costs → Costs) → Costs → ℕ → Costs
+least_cost body rest zero p m = rest p m
+least_cost body rest (suc owed) p m = suc (body (λ q k. least_cost body rest owed q k) p m)
+
+-- a loop from its least count on
+abbrev pub more_cost : ℕ → (Costs → Costs) → Costs → ℕ → ℕ → Option ℕ → Costs
+more_cost high body C zero count last p m = suc (C p m)
+more_cost high body C (suc fuel) count last p m = cond (may_repeat high count last p) (suc (suc (body (λ q k. more_cost high body C fuel (count + 1) (Some p) q k) p m + C p m))) (suc (C p m))
+
 abbrev mutual
   pub cost : Subject → Tree → Costs → Costs
   cost s Empty C p m = C p m
@@ -31,7 +49,9 @@ abbrev mutual
   item_cost s (At a) C p m = cond (holds_at s a p) (suc (C p m)) 1
   item_cost s (Mark n) C p m = suc (C p (set_mark m n p))
   item_cost s (Branch ts) C p m = suc (branch_cost s ts (λ q k. suc (C q k)) p m)
+  item_cost s (Loop o low high body) C p m = suc (least_cost (λ D q k. cost s body D q k) (λ q k. more_cost high (λ D a b. cost s body D a b) C (s.end + 1 - q) low None q k) low p m)
   item_cost s (Run GreedyRun low high t) C p m = run_cost low (longest_run s t high p) C p m
+  item_cost s (Run LazyRun low high t) C p m = lazy_run_cost low (longest_run s t high p) C p m
   item_cost s _ C p m = 1
 
   pub branch_cost : Subject → Trees → Costs → Costs

@@ -8,6 +8,7 @@ pub mod Characters
 pub mod Items
 pub mod Runs
 pub mod Branches
+pub mod Bodies
 pub mod Closing
 pub mod Turns
 pub mod Unique
@@ -28,10 +29,12 @@ pub mod Undo
 pub mod ChainLaws
 pub mod Choosing
 pub mod Cost
+pub mod Longest
 pub mod Moving
 pub mod StepsAtItems
 pub mod StepsInBranches
 pub mod StepsInRuns
+pub mod StepsInLoops
 pub mod Ran
 pub mod TreeOf
 mod ReaderRows

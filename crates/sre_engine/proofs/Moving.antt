@@ -1,16 +1,18 @@
 -- A turn of the machine, whatever the opcode: what it comes to, and that the accepted outcomes stay.
-use Rattle.std.proofs.Common.{◌≡◌, ◌≢◌, ℕ, suc, ◌+◌, ◌-◌, ◌<◌, ◌≤◌, Bool, true, false, cond, nat_eq, nat_lt, List, [], ◌∷◌, ◌++◌, refl, sym, ap, ◌∙◌, subst, arith}
+use Rattle.std.proofs.Common.{◌≡◌, ℕ, suc, ◌+◌, ◌-◌, ◌≤◌, List, [], ◌∷◌, ◌++◌, refl, sym, ap, ◌∙◌, subst, arith}
 use Rattle.std.proofs.lemmas.List.{append-nil}
 use Rattle.sre_chars.specs.declared.constants.SreOpcode.{SreOpcode}
 use Rattle.sre_chars.specs.declared.string.StringCursor.{StringCursor}
+use Rattle.sre_engine.specs.Tree.{Test, Order}
 use Rattle.sre_engine.specs.Marks.{Marks}
-use Rattle.sre_engine.specs.Subject.{Subject, passes, holds_at}
-use Rattle.sre_engine.specs.Ways.{Way, here, longest_run}
-use Rattle.sre_engine.specs.Grammar.{Opcode, skip}
-use Rattle.sre_engine.specs.Board.{Point, Instruction, Alternatives, Shorter, Frame, Choice, Else, BoardValue}
-use Rattle.sre_engine.specs.Moves.{Spot, spot_at, Move, Stop, End, Go, Split, to_point, to_place, TestMove, AtMove, MarkMove, JumpMove, AlternativesMove, RunMove, ShorterMove}
-use Rattle.sre_engine.specs.Machine.{Family, family, Failing, Ending, Testing, Standing, Marking, Branching, Jumping, Running, Unbuilt, InFamily, Moves, MovesAt, Runs, turns, Comes, stops, ends, goes, splits, Run, Waits, otherwise, Goes, GoesBoth, Later, Stands, spot, HasRun, IsAt, Refuses}
-use Rattle.sre_engine.specs.declared.engine.machine.Next.{Next}
+use Rattle.sre_engine.specs.Subject.{Subject}
+use Rattle.sre_engine.specs.Ways.{Way}
+use Rattle.sre_engine.specs.Grammar.{Word, Opcode}
+use Rattle.sre_engine.specs.Board.{Point, Instruction, Alternatives, Shorter, Longer, Frame, Choice, Else, BoardValue}
+use Rattle.sre_engine.specs.Moves.{Spot, spot_at, Move, Stop, End, Go, Split, TestMove, AtMove, MarkMove, AlternativesMove}
+use Rattle.sre_engine.specs.MovesInRuns.{RunOperands, RunMove, LazyRunMove, LongerMove}
+use Rattle.sre_engine.specs.MovesInLoops.{UntilMove}
+use Rattle.sre_engine.specs.Machine.{Family, family, Failing, Ending, Testing, Standing, Marking, Branching, Jumping, Running, RunningLazily, Repeating, Looping, Unbuilt, InFamily, Moves, MovesAt, Runs, turns, Comes, stops, ends, goes, splits, Run, Waits, otherwise, Goes, GoesBoth, Later, spot, HasRun, IsAt, Refuses}
 use Rattle.sre_engine.specs.declared.engine.machine.Next.TheVariants as next
 use Rattle.sre_engine.proofs.Words.{same_word, same_opcode, same_at}
 use Rattle.sre_engine.proofs.Unique.{test_same}
@@ -31,10 +33,36 @@ same_mark ws i x a b h k = h.is ∙ rw (same_word ws (i + 1) h.number k.number h
 same_alternatives : (ws : List ℕ) (q : ℕ) (x : Spot) (a b : Move) → AlternativesMove ws q x a → AlternativesMove ws q x b → a ≡ b
 same_alternatives ws q x a b h k = h.is ∙ rw (same_word ws q h.value k.value h.there k.there) (sym k.is)
 
+same_operands : (ws : List ℕ) (i low high end low' high' end' : ℕ) (t u : Test) → RunOperands ws i low high end t → RunOperands ws i low' high' end' u → (low ≡ low') × (high ≡ high') × (t ≡ u)
+same_operands ws i low high end low' high' end' t u h k = (
+  same_word ws (i + 2) low low' h.lowest k.lowest,
+  same_word ws (i + 3) high high' h.highest k.highest,
+  (test_same t u ws (i + 4) end end' h.stands.code h.stands.operands k.stands.code k.stands.operands).0,
+)
+
 same_run : (ws : List ℕ) (s : Subject) (i : ℕ) (x : Spot) (a b : Move) → RunMove ws s i x a → RunMove ws s i x b → a ≡ b
 same_run ws s i x a b h k =
-    let same = test_same h.test k.test ws (i + 4) h.end k.end h.stands.code h.stands.operands k.stands.code k.stands.operands in
-    h.is ∙ rw (same_word ws (i + 2) h.low k.low h.lowest k.lowest, same_word ws (i + 3) h.high k.high h.highest k.highest, same.0) (sym k.is)
+    let same = same_operands ws i h.low h.high h.end k.low k.high k.end h.test k.test h.operands k.operands in
+    h.is ∙ rw (same.0, same.1, same.2) (sym k.is)
+
+same_lazy_run : (ws : List ℕ) (s : Subject) (i : ℕ) (x : Spot) (a b : Move) → LazyRunMove ws s i x a → LazyRunMove ws s i x b → a ≡ b
+same_lazy_run ws s i x a b h k =
+    let same = same_operands ws i h.low h.high h.end k.low k.high k.end h.test k.test h.operands k.operands in
+    h.is ∙ rw (same.0, same.2) (sym k.is)
+
+same_longer : (ws : List ℕ) (s : Subject) (i n : ℕ) (x : Spot) (a b : Move) → LongerMove ws s i n x a → LongerMove ws s i n x b → a ≡ b
+same_longer ws s i n x a b h k =
+    let same = same_operands ws i h.low h.high h.end k.low k.high k.end h.test k.test h.operands k.operands in
+    h.is ∙ rw (same.1, same.2) (sym k.is)
+
+same_until : (ws : List ℕ) (o : Order) (u : ℕ) (x : Spot) (a b : Move) → UntilMove ws o u x a → UntilMove ws o u x b → a ≡ b
+same_until ws o u x a b h k =
+    let frames : h.frame ∷ h.outer ≡ k.frame ∷ k.outer = sym h.inside ∙ k.inside in
+    let frame : h.frame ≡ k.frame = cc in
+    let outer : h.outer ≡ k.outer = cc in
+    let low : h.low ≡ k.low = same_word ws (k.frame.repeat + 2) h.low k.low (subst (λ f. Word ws (f.repeat + 2) h.low) frame h.lowest) k.lowest in
+    let high : h.high ≡ k.high = same_word ws (k.frame.repeat + 3) h.high k.high (subst (λ f. Word ws (f.repeat + 3) h.high) frame h.highest) k.highest in
+    h.is ∙ rw (low, high, frame, outer) (sym k.is)
 
 same_in : (ws : List ℕ) (s : Subject) (f : Family) (i : ℕ) (x : Spot) (a b : Move) → InFamily ws s f i x a → InFamily ws s f i x b → a ≡ b
 same_in ws s Failing i x a b h k = h ∙ sym k
@@ -45,6 +73,9 @@ same_in ws s Marking i x a b h k = same_mark ws i x a b h k
 same_in ws s Branching i x a b h k = h ∙ sym k
 same_in ws s Jumping i x a b h k = h.is ∙ sym k.is
 same_in ws s Running i x a b h k = same_run ws s i x a b h k
+same_in ws s RunningLazily i x a b h k = same_lazy_run ws s i x a b h k
+same_in ws s Repeating i x a b h k = h.is ∙ sym k.is
+same_in ws s (Looping o) i x a b h k = same_until ws o i x a b h k
 same_in ws s Unbuilt i x a b h k = absurd h
 
 -- a turn is determined
@@ -54,6 +85,7 @@ moves_same ws s (Instruction i) x a b h k =
     same_in ws s (family k.0) i x a b (subst (λ f. InFamily ws s f i x a) same h.2) k.2
 moves_same ws s (Alternatives q) x a b h k = same_alternatives ws q x a b h k
 moves_same ws s (Shorter t n) x a b h k = h.is ∙ sym k.is
+moves_same ws s (Longer i n) x a b h k = same_longer ws s i n x a b h k
 
 -- so what comes of a spot comes of the one turn there
 pub comes : {ws : List ℕ} {s : Subject} {x : Spot} {os : List Way} {n : ℕ} (mv : Move) → Moves ws s x mv → Runs ws s x os n → Comes ws s x mv os n
@@ -145,8 +177,21 @@ both_choose r i second c b b' eb all limit g =
     let waiting : BoardValue = record b { choices = Else second b.frames c b.marks ∷ b.choices } in
     subst (λ x. Later r all limit (next.At i c) x) (sym eb) (both_wait r i (spot second c b) c b waiting b.choices refl refl all limit g)
 
--- of two spots, the second comes to nothing
+-- a spot of which nothing comes
+abbrev pub Barren : Run → Spot → Type 0
+Barren r x = (os : List Way) (n : ℕ) → Runs r.words r.subject x os n → os ≡ []
+
+-- nothing comes of the first of two spots, or of the second: the machine goes on at the other
+pub both_second : (r : Run) (y : Spot) (i : ℕ) (c : StringCursor) (b : BoardValue) (cs : List Choice) → Barren r y → b.choices ≡ cs → (all : List Way) (limit : ℕ) → GoesBoth r all limit y (spot (Instruction i) c b) c cs → Later r all limit (next.At i c) b
+both_second r y i c b cs none e all limit g =
+    let same : g.now ++ g.next ≡ g.next = ap (λ x. x ++ g.next) (none g.now g.turns g.runs) in
+    (omega (arith, g.within), record { now = g.next; turns = g.further; later = g.later; stands = g.stands; runs = g.others; waits = subst (λ x. Waits r x g.next all g.later) (sym e) (subst (λ x. Waits r cs x all g.later) same g.waits); within = omega (arith, g.within) })
+
+pub both_first : (r : Run) (z : Spot) (i : ℕ) (c : StringCursor) (b : BoardValue) (cs : List Choice) → Barren r z → b.choices ≡ cs → (all : List Way) (limit : ℕ) → GoesBoth r all limit (spot (Instruction i) c b) z c cs → Later r all limit (next.At i c) b
+both_first r z i c b cs none e all limit g =
+    let same : g.now ++ g.next ≡ g.now = ap (λ x. g.now ++ x) (none g.next g.further g.others) ∙ append-nil g.now in
+    (omega (arith, g.within), record { now = g.now; turns = g.turns; later = g.later; stands = g.stands; runs = g.runs; waits = subst (λ x. Waits r x g.now all g.later) (sym e) (subst (λ x. Waits r cs x all g.later) same g.waits); within = omega (arith, g.within) })
+
+-- where the second can make no turn but the last
 pub both_last : (r : Run) (i : ℕ) (z : Spot) (c : StringCursor) (b : BoardValue) → Moves r.words r.subject z Stop → (all : List Way) (limit : ℕ) → GoesBoth r all limit (spot (Instruction i) c b) z c b.choices → Later r all limit (next.At i c) b
-both_last r i z c b none all limit g =
-    let same : g.now ++ g.next ≡ g.now = ap (λ x. g.now ++ x) (run_nothing none g.others) ∙ append-nil g.now in
-    (omega (arith, g.within), record { now = g.now; turns = g.turns; later = g.later; stands = g.stands; runs = g.runs; waits = subst (λ x. Waits r b.choices x all g.later) same g.waits; within = omega (arith, g.within) })
+both_last r i z c b none = both_first r z i c b b.choices (λ os n x. run_nothing none x) refl

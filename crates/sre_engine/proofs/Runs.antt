@@ -3,15 +3,15 @@ use Rattle.std.proofs.Common.{ℕ, ◌+◌, ◌-◌, ◌≡◌, ◌≢◌, ◌<�
 use Rattle.sre_chars.specs.Numbers.{opcode_number}
 use Rattle.sre_chars.specs.declared.constants.SreOpcode.{SreOpcode}
 use Rattle.sre_chars.specs.declared.constants.SreOpcode.TheVariants as opcode
-use Rattle.sre_engine.specs.Tree.{Item, Run, Test, GreedyRun}
-use Rattle.sre_engine.specs.Grammar.{Opcode, word, skip, test_opcode, TestOperands, ReadsItem}
+use Rattle.sre_engine.specs.Tree.{Item, Run, Test, RunKind, GreedyRun, LazyRun, PossessiveRun}
+use Rattle.sre_engine.specs.Grammar.{Opcode, word, skip, run_opcode, test_opcode, TestOperands, ReadsItem}
 use Rattle.sre_engine.specs.Width.{item_width}
 use Rattle.sre_engine.specs.Reading.{NoCode, ReadsTest, TestExactly, NoTest}
-use Rattle.sre_engine.specs.Steps.{ItemAt, Exactly, Nowhere}
+use Rattle.sre_engine.specs.Steps.{BuiltRun, ItemAt, Exactly, Nowhere}
 use Rattle.sre_engine.specs.declared.code.step.Step.TheVariants.{Past}
 use Rattle.sre_engine.proofs.Words.{word_of, word_within, word_there, opcode_moved, same_opcode}
 use Rattle.sre_engine.proofs.Places.{test_past}
-use Rattle.sre_engine.proofs.Families.{OfRun, item_kind, kind_at}
+use Rattle.sre_engine.proofs.Families.{OfRun, kind_of, item_kind, kind_at}
 use Rattle.sre_engine.proofs.Items.{past}
 
 -- what is read of an item there
@@ -25,8 +25,13 @@ record RunHere (ws : List ℕ) (i j : ℕ) (x : Item) : Type 0 where
   closed : Opcode ws (j - 1) opcode.SUCCESS
   longer : i + 4 < j - 1
 
-run_here : (ws : List ℕ) (i j : ℕ) (x : Item) → Opcode ws i opcode.REPEAT_ONE → ReadsItem ws i j x → RunHere ws i j x
-run_here ws i j (Run GreedyRun low high t) h r = record {
+run_begins : (k : RunKind) → kind_of (run_opcode k) ≡ OfRun
+run_begins GreedyRun = refl
+run_begins LazyRun = refl
+run_begins PossessiveRun = refl
+
+of_words : (ws : List ℕ) (i j low high : ℕ) (t : Test) (kind : RunKind) → ReadsItem ws i j (Run kind low high t) → RunHere ws i j (Run kind low high t)
+of_words ws i j low high t kind r = record {
   test = t;
   width = sym (word_of ws (i + 2) low r.1.1);
   ends = r.1.0;
@@ -36,40 +41,50 @@ run_here ws i j (Run GreedyRun low high t) h r = record {
   closed = r.1.6;
   longer = test_past t ws (i + 4) (j - 1) r.1.5;
 }
-run_here ws i j (Run kind low high t) h r = absurd r.2
-run_here ws i j x h r = let e : OfRun ≡ item_kind x = kind_at ws i j OfRun x (record { code = opcode.REPEAT_ONE; there = h; begins = refl }) r in absurd (cc)
+
+pub greedy_there : (ws : List ℕ) (i : ℕ) → Opcode ws i opcode.REPEAT_ONE → BuiltRun ws i
+greedy_there ws i h = record { kind = GreedyRun; there = h; built = λ low high t. tt }
+
+pub lazy_there : (ws : List ℕ) (i : ℕ) → Opcode ws i opcode.MIN_REPEAT_ONE → BuiltRun ws i
+lazy_there ws i h = record { kind = LazyRun; there = h; built = λ low high t. tt }
+
+run_here : (ws : List ℕ) (i j : ℕ) (x : Item) → BuiltRun ws i → ReadsItem ws i j x → RunHere ws i j x
+run_here ws i j (Run GreedyRun low high t) h r = of_words ws i j low high t GreedyRun r
+run_here ws i j (Run LazyRun low high t) h r = of_words ws i j low high t LazyRun r
+run_here ws i j (Run PossessiveRun low high t) h r = absurd r.2
+run_here ws i j x h r = let e : OfRun ≡ item_kind x = kind_at ws i j OfRun x (record { code = run_opcode h.kind; there = h.there; begins = run_begins h.kind }) r in absurd (cc)
 
 -- where the test ends, SUCCESS stands
 run_closed : (ws : List ℕ) (i j e : ℕ) (x : Item) → RunHere ws i j x → TestExactly ws (i + 4) e → Opcode ws e opcode.SUCCESS
 run_closed ws i j e x f t = opcode_moved ws (j - 1) e opcode.SUCCESS (t.only (j - 1) f.test f.reads) f.closed
 
-pub run_exactly : (ws : List ℕ) (i e t v high : ℕ) → Opcode ws i opcode.REPEAT_ONE → t ≡ skip ws (i + 1) → v ≡ word ws (i + 2) → high ≡ word ws (i + 3) → i + 3 < length ws → v ≤ high → TestExactly ws (i + 4) e → Opcode ws e opcode.SUCCESS → t ≡ e + 1 → Exactly ws (Past t v) (ItemAt ws i)
+pub run_exactly : (ws : List ℕ) (i e t v high : ℕ) → BuiltRun ws i → t ≡ skip ws (i + 1) → v ≡ word ws (i + 2) → high ≡ word ws (i + 3) → i + 3 < length ws → v ≤ high → TestExactly ws (i + 4) e → Opcode ws e opcode.SUCCESS → t ≡ e + 1 → Exactly ws (Past t v) (ItemAt ws i)
 run_exactly ws i e t v high h skips low highest there le x closed ends =
     let at : e ≡ t - 1 = omega arith in
     let P : ℕ → Type 0 = λ n. TestOperands ws (i + 4) n x.test in
-    past ws i t v (Run GreedyRun (word ws (i + 2)) (word ws (i + 3)) x.test)
-    (h, (skips, word_there ws (i + 2) (omega arith), word_there ws (i + 3) there, omega arith, x.reads.0, subst P at x.reads.1, opcode_moved ws e (t - 1) opcode.SUCCESS at closed), tt) low
+    past ws i t v (Run h.kind (word ws (i + 2)) (word ws (i + 3)) x.test)
+    (h.there, (skips, word_there ws (i + 2) (omega arith), word_there ws (i + 3) there, omega arith, x.reads.0, subst P at x.reads.1, opcode_moved ws e (t - 1) opcode.SUCCESS at closed), h.built _ _ _) low
     (λ j y r. let f = run_here ws i j y h r in (f.ends ∙ sym skips, f.width ∙ sym low))
 
-pub run_short : (ws : List ℕ) (i : ℕ) → Opcode ws i opcode.REPEAT_ONE → length ws ≤ i + 4 → Nowhere (ItemAt ws i)
+pub run_short : (ws : List ℕ) (i : ℕ) → BuiltRun ws i → length ws ≤ i + 4 → Nowhere (ItemAt ws i)
 run_short ws i h le = record { none = λ j w y. omega (arith, (run_here ws i j y.0 h y.1).there) }
 
-pub run_counts : (ws : List ℕ) (i v high : ℕ) → Opcode ws i opcode.REPEAT_ONE → v ≡ word ws (i + 2) → high ≡ word ws (i + 3) → high < v → Nowhere (ItemAt ws i)
+pub run_counts : (ws : List ℕ) (i v high : ℕ) → BuiltRun ws i → v ≡ word ws (i + 2) → high ≡ word ws (i + 3) → high < v → Nowhere (ItemAt ws i)
 run_counts ws i v high h low highest lt = record { none = λ j w y. omega (arith, (run_here ws i j y.0 h y.1).counts) }
 
-pub run_no_opcode : (ws : List ℕ) (i : ℕ) → Opcode ws i opcode.REPEAT_ONE → NoCode opcode_number ws (i + 4) → Nowhere (ItemAt ws i)
+pub run_no_opcode : (ws : List ℕ) (i : ℕ) → BuiltRun ws i → NoCode opcode_number ws (i + 4) → Nowhere (ItemAt ws i)
 run_no_opcode ws i h n = record { none = λ j w y. let f = run_here ws i j y.0 h y.1 in n.none (test_opcode f.test) f.reads.0 }
 
-pub run_nowhere : (ws : List ℕ) (i : ℕ) → Opcode ws i opcode.REPEAT_ONE → NoTest ws (i + 4) → Nowhere (ItemAt ws i)
+pub run_nowhere : (ws : List ℕ) (i : ℕ) → BuiltRun ws i → NoTest ws (i + 4) → Nowhere (ItemAt ws i)
 run_nowhere ws i h n = record { none = λ j w y. let f = run_here ws i j y.0 h y.1 in n.none (j - 1) f.test f.reads }
 
-pub run_ends_cut : (ws : List ℕ) (i e : ℕ) → Opcode ws i opcode.REPEAT_ONE → TestExactly ws (i + 4) e → NoCode opcode_number ws e → Nowhere (ItemAt ws i)
+pub run_ends_cut : (ws : List ℕ) (i e : ℕ) → BuiltRun ws i → TestExactly ws (i + 4) e → NoCode opcode_number ws e → Nowhere (ItemAt ws i)
 run_ends_cut ws i e h x n = record { none = λ j w y. n.none opcode.SUCCESS (run_closed ws i j e y.0 (run_here ws i j y.0 h y.1) x) }
 
-pub run_open : (ws : List ℕ) (i e : ℕ) (o : SreOpcode) → Opcode ws i opcode.REPEAT_ONE → TestExactly ws (i + 4) e → Opcode ws e o → o ≢ opcode.SUCCESS → Nowhere (ItemAt ws i)
+pub run_open : (ws : List ℕ) (i e : ℕ) (o : SreOpcode) → BuiltRun ws i → TestExactly ws (i + 4) e → Opcode ws e o → o ≢ opcode.SUCCESS → Nowhere (ItemAt ws i)
 run_open ws i e o h x there ne = record { none = λ j w y. ne (same_opcode ws e o opcode.SUCCESS there (run_closed ws i j e y.0 (run_here ws i j y.0 h y.1) x)) }
 
-pub run_skip : (ws : List ℕ) (i e t : ℕ) → Opcode ws i opcode.REPEAT_ONE → TestExactly ws (i + 4) e → t ≡ skip ws (i + 1) → t ≢ e + 1 → Nowhere (ItemAt ws i)
+pub run_skip : (ws : List ℕ) (i e t : ℕ) → BuiltRun ws i → TestExactly ws (i + 4) e → t ≡ skip ws (i + 1) → t ≢ e + 1 → Nowhere (ItemAt ws i)
 run_skip ws i e t h x skips ne = record {
   none = λ j w y.
       let f = run_here ws i j y.0 h y.1 in

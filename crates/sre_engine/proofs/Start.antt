@@ -8,6 +8,7 @@ use Rattle.sre_engine.specs.Ways.{Way, ways}
 use Rattle.sre_engine.specs.Grammar.{Whole}
 use Rattle.sre_engine.specs.Hinted.{IsCode, Confirmed}
 use Rattle.sre_engine.specs.declared.code.Hints.{Hints}
+use Rattle.sre_engine.specs.Standing.{AreWords}
 use Rattle.sre_engine.specs.Board.{Instruction, Choice, BoardValue, bare}
 use Rattle.sre_engine.specs.Machine.{Run, Waits, outermost, otherwise, Goes, Ends, Stands, Later, SaysAccepted, outcomes}
 use Rattle.sre_engine.specs.declared.engine.machine.Next.{Next}
@@ -27,15 +28,15 @@ pub whole_of : (ws : List ℕ) (hints : Hints) → ∥ ((t : Tree) × Whole ws t
 whole_of ws hints c = let k = code_tree ws hints c in subst (λ t. Whole ws t) (sym (whole-read ws k.0 k.1)) k.1
 
 -- a run from a cursor has the tree's accepted ways
-pub started : (r : Run) (t : Tree) (c : StringCursor) (b : BoardValue) → Whole r.words t → r.stands c c.position → c.position ≤ r.subject.end → b ≡ bare no_marks → Goes r (outcomes r t c.position) (cost r.subject t ending c.position no_marks) (Instruction 0) c b
-started r t c b whole stands inside fresh =
+pub started : (r : Run) (t : Tree) (c : StringCursor) (b : BoardValue) → AreWords r.words → Whole r.words t → r.stands c c.position → c.position ≤ r.subject.end → b ≡ bare no_marks → Goes r (outcomes r t c.position) (cost r.subject t ending c.position no_marks) (Instruction 0) c b
+started r t c b v whole stands inside fresh =
     subst (λ x. Goes r (outcomes r t c.position) (cost r.subject t ending c.position no_marks) (Instruction 0) c x) (sym fresh)
     (record {
       now = ways r.subject t c.position no_marks;
       turns = cost r.subject t ending c.position no_marks;
       later = 0;
       stands = stands;
-      runs = region r.words r.subject 0 _ (λ q k. ways r.subject t q k) (λ C q k. cost r.subject t C q k) (ran r.words r.subject 0 _ t whole.0) whole.1 [] c.position no_marks inside;
+      runs = region r.words r.subject 0 _ (λ q k. ways r.subject t q k) (λ C q k. cost r.subject t C q k) (ran r.words r.subject 0 _ t v whole.0) whole.1 [] c.position no_marks inside;
       waits = outermost;
       within = omega arith;
     })

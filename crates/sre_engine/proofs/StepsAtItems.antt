@@ -1,5 +1,5 @@
 -- Turns at tests, positions, marks, jumps, and at the ends of a region.
-use Rattle.std.proofs.Common.{◌≡◌, ◌≢◌, ℕ, ◌+◌, ◌-◌, ◌<◌, ◌≤◌, Bool, true, false, nat_eq, List, [], ◌∷◌, length, refl, sym, ap, ◌∙◌, subst, arith}
+use Rattle.std.proofs.Common.{◌≡◌, ◌≢◌, ℕ, ◌+◌, ◌<◌, ◌≤◌, Bool, true, false, nat_eq, List, length, refl, sym, ap, ◌∙◌, subst, arith}
 use Rattle.std.proofs.lemmas.Bool.Decides.{nat_tests}
 use Rattle.sre_chars.specs.Numbers.{at_number}
 use Rattle.sre_chars.specs.declared.constants.SreAtCode.{SreAtCode}
@@ -7,17 +7,16 @@ use Rattle.sre_chars.specs.declared.constants.SreOpcode.{SreOpcode}
 use Rattle.sre_chars.specs.declared.constants.SreOpcode.TheVariants as opcode
 use Rattle.sre_chars.specs.declared.string.StringCursor.{StringCursor}
 use Rattle.sre_engine.specs.Tree.{Test, Literal, Plain}
-use Rattle.sre_engine.specs.Marks.{Marks, set_mark}
+use Rattle.sre_engine.specs.Marks.{set_mark}
 use Rattle.sre_engine.specs.Characters.{holds}
-use Rattle.sre_engine.specs.Subject.{Subject, passes, char_at, holds_at}
+use Rattle.sre_engine.specs.Subject.{passes, char_at, holds_at}
 use Rattle.sre_engine.specs.Ways.{Way}
-use Rattle.sre_engine.specs.Grammar.{Word, Opcode, skip}
-use Rattle.sre_engine.specs.Board.{Point, Instruction, Frame, BoardValue}
-use Rattle.sre_engine.specs.Moves.{Move, Stop, End, Go}
-use Rattle.sre_engine.specs.Machine.{family, Failing, Ending, Testing, Standing, Marking, Jumping, Unbuilt, Moves, Run, Goes, Later, spot, HasRun, Refuses}
+use Rattle.sre_engine.specs.Grammar.{Word, Opcode}
+use Rattle.sre_engine.specs.Board.{Instruction, BoardValue}
+use Rattle.sre_engine.specs.Machine.{family, Failing, Ending, Testing, Standing, Marking, Jumping, Unbuilt, Run, Goes, Later, HasRun, Refuses}
 use Rattle.sre_engine.specs.Standing.{TestStands, HasTest}
 use Rattle.sre_engine.specs.declared.engine.machine.Next.TheVariants as next
-use Rattle.sre_engine.proofs.Words.{same_word, same_at, at_low, word_of, word_within}
+use Rattle.sre_engine.proofs.Words.{same_word, at_low, word_of, word_within}
 use Rattle.sre_engine.proofs.Moving.{in_family, at_instruction, run_nothing, turn_stops, turn_ends, turn_goes}
 use Rattle.sre_engine.proofs.Passing.{past_end, read_passes, stands_at_own}
 use Rattle.sre_engine.proofs.Families.{is_literal}
@@ -27,8 +26,8 @@ pub only_built : (r : Run) (i : ℕ) (c : StringCursor) (o : SreOpcode) → HasR
 only_built r i c o x w e = (in_family o Unbuilt e w x.runs).1
 
 -- an opcode that is none of those that are built
-pub unbuilt : (o : SreOpcode) → o ≢ opcode.FAILURE → o ≢ opcode.SUCCESS → o ≢ opcode.ANY → o ≢ opcode.ANY_ALL → o ≢ opcode.AT → o ≢ opcode.BRANCH → o ≢ opcode.CATEGORY → o ≢ opcode.IN → o ≢ opcode.JUMP → o ≢ opcode.LITERAL → o ≢ opcode.MARK → o ≢ opcode.NOT_LITERAL → o ≢ opcode.REPEAT_ONE → o ≢ opcode.IN_IGNORE → o ≢ opcode.LITERAL_IGNORE → o ≢ opcode.NOT_LITERAL_IGNORE → o ≢ opcode.IN_LOC_IGNORE → o ≢ opcode.LITERAL_LOC_IGNORE → o ≢ opcode.NOT_LITERAL_LOC_IGNORE → o ≢ opcode.IN_UNI_IGNORE → o ≢ opcode.LITERAL_UNI_IGNORE → o ≢ opcode.NOT_LITERAL_UNI_IGNORE → family o ≡ Unbuilt
-unbuilt o n0 n1 n2 n3 n4 n5 n6 n7 n8 n9 n10 n11 n12 n13 n14 n15 n16 n17 n18 n19 n20 n21 = grind (arith)
+pub unbuilt : (o : SreOpcode) → o ≢ opcode.FAILURE → o ≢ opcode.SUCCESS → o ≢ opcode.ANY → o ≢ opcode.ANY_ALL → o ≢ opcode.AT → o ≢ opcode.BRANCH → o ≢ opcode.CATEGORY → o ≢ opcode.IN → o ≢ opcode.JUMP → o ≢ opcode.LITERAL → o ≢ opcode.MARK → o ≢ opcode.NOT_LITERAL → o ≢ opcode.REPEAT_ONE → o ≢ opcode.MIN_REPEAT_ONE → o ≢ opcode.REPEAT → o ≢ opcode.MAX_UNTIL → o ≢ opcode.MIN_UNTIL → o ≢ opcode.IN_IGNORE → o ≢ opcode.LITERAL_IGNORE → o ≢ opcode.NOT_LITERAL_IGNORE → o ≢ opcode.IN_LOC_IGNORE → o ≢ opcode.LITERAL_LOC_IGNORE → o ≢ opcode.NOT_LITERAL_LOC_IGNORE → o ≢ opcode.IN_UNI_IGNORE → o ≢ opcode.LITERAL_UNI_IGNORE → o ≢ opcode.NOT_LITERAL_UNI_IGNORE → family o ≡ Unbuilt
+unbuilt o n0 n1 n2 n3 n4 n5 n6 n7 n8 n9 n10 n11 n12 n13 n14 n15 n16 n17 n18 n19 n20 n21 n22 n23 n24 n25 = grind (arith)
 
 -- FAILURE
 pub failure_step : (r : Run) (i : ℕ) (c : StringCursor) (b : BoardValue) → Opcode r.words i opcode.FAILURE → (all : List Way) (limit : ℕ) → Goes r all limit (Instruction i) c b → Later r all limit next.Back b

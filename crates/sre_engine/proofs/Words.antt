@@ -11,6 +11,7 @@ use Rattle.sre_chars.specs.declared.constants.SreCatCode.{SreCatCode}
 use Rattle.sre_chars.specs.declared.constants.SreCatCode.TheVariants as category
 use Rattle.sre_engine.specs.Grammar.{Word, word, Opcode}
 use Rattle.sre_engine.specs.Reading.{NoCode}
+use Rattle.sre_engine.specs.Standing.{AreWords}
 
 pub same_word : (ws : List ℕ) (i a b : ℕ) → Word ws i a → Word ws i b → a ≡ b
 same_word ws i a b p q = cc
@@ -115,3 +116,6 @@ at_unknown ws i v e le = record { none = λ o a. omega (arith, word_of ws i (at_
 
 pub category_unknown : (ws : List ℕ) (i v : ℕ) → v ≡ word ws i → 18 ≤ v → NoCode category_number ws i
 category_unknown ws i v e le = record { none = λ o a. omega (arith, word_of ws i (category_number o) a, category_low o) }
+
+pub are_words : (ws : List ℕ) → ((i : ℕ) → word ws i < 4294967296) → AreWords ws
+are_words ws f = record { fits = λ i v w. omega (arith, f i, word_of ws i v w) }

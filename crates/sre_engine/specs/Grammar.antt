@@ -127,7 +127,9 @@ IsBuilt (One t) = Unit {0}
 IsBuilt (At a) = Unit {0}
 IsBuilt (Mark n) = Unit {0}
 IsBuilt (Branch ts) = Unit {0}
+IsBuilt (Loop o low high body) = Unit {0}
 IsBuilt (Run GreedyRun low high t) = Unit {0}
+IsBuilt (Run LazyRun low high t) = Unit {0}
 IsBuilt _ = ⊥
 
 abbrev mutual

@@ -23,6 +23,8 @@ pub mod Trail
 pub mod Choices
 pub mod Standing
 pub mod Moves
+pub mod MovesInRuns
+pub mod MovesInLoops
 pub mod Machine
 pub mod Counting
 pub mod Requests

@@ -1,16 +1,18 @@
 -- The machine: what standing at a point of the words means, and what a turn keeps.
-use Rattle.std.specs.Prelude.{ℕ, suc, ◌+◌, ◌-◌, ◌≡◌, ◌<◌, ◌≤◌, length, Bool, true, false, List, [], ◌∷◌, ◌++◌, Option, Some, None}
+use Rattle.std.specs.Prelude.{ℕ, suc, ◌+◌, ◌-◌, ◌≡◌, ◌≤◌, Bool, List, [], ◌∷◌, ◌++◌, Option, Some, None}
 use Rattle.std.specs.List.{filter}
 use Rattle.sre_chars.specs.declared.constants.SreOpcode.{SreOpcode}
 use Rattle.sre_chars.specs.declared.constants.SreOpcode.TheVariants as opcode
 use Rattle.sre_chars.specs.declared.string.StringCursor.{StringCursor}
-use Rattle.sre_engine.specs.Tree.{Tree}
+use Rattle.sre_engine.specs.Tree.{Tree, Order, Greedy, Lazy}
 use Rattle.sre_engine.specs.Marks.{Marks, no_marks}
 use Rattle.sre_engine.specs.Subject.{Subject}
 use Rattle.sre_engine.specs.Ways.{Way, here, ways}
 use Rattle.sre_engine.specs.Grammar.{Opcode}
-use Rattle.sre_engine.specs.Board.{Point, Instruction, Alternatives, Shorter, Frame, Choice, Else, BoardValue}
-use Rattle.sre_engine.specs.Moves.{Spot, spot_at, Move, Stop, End, Go, Split, to_point, TestMove, AtMove, MarkMove, JumpMove, AlternativesMove, RunMove, ShorterMove}
+use Rattle.sre_engine.specs.Board.{Point, Instruction, Alternatives, Shorter, Longer, Frame, Choice, Else, BoardValue}
+use Rattle.sre_engine.specs.Moves.{Spot, spot_at, Move, Stop, End, Go, Split, to_point, TestMove, AtMove, MarkMove, JumpMove, AlternativesMove}
+use Rattle.sre_engine.specs.MovesInRuns.{RunMove, ShorterMove, LazyRunMove, LongerMove}
+use Rattle.sre_engine.specs.MovesInLoops.{RepeatMove, UntilMove}
 use Rattle.sre_engine.specs.declared.engine.machine.Next.{Next}
 use Rattle.sre_engine.specs.declared.engine.machine.Next.TheVariants as next
 
@@ -24,6 +26,9 @@ pub data Family : Type 0 where
   Branching : Family
   Jumping : Family
   Running : Family
+  RunningLazily : Family
+  Repeating : Family
+  Looping : Order → Family
   Unbuilt : Family
 
 abbrev pub family : SreOpcode → Family
@@ -49,6 +54,10 @@ family opcode.MARK = Marking
 family opcode.BRANCH = Branching
 family opcode.JUMP = Jumping
 family opcode.REPEAT_ONE = Running
+family opcode.MIN_REPEAT_ONE = RunningLazily
+family opcode.REPEAT = Repeating
+family opcode.MAX_UNTIL = Looping Greedy
+family opcode.MIN_UNTIL = Looping Lazy
 family _ = Unbuilt
 
 -- what a turn does at an instruction whose family is known
@@ -61,6 +70,9 @@ InFamily ws s Marking i x mv = MarkMove ws i x mv
 InFamily ws s Branching i x mv = mv ≡ Go (to_point x (Alternatives (i + 1)))
 InFamily ws s Jumping i x mv = JumpMove ws i x mv
 InFamily ws s Running i x mv = RunMove ws s i x mv
+InFamily ws s RunningLazily i x mv = LazyRunMove ws s i x mv
+InFamily ws s Repeating i x mv = RepeatMove ws i x mv
+InFamily ws s (Looping o) i x mv = UntilMove ws o i x mv
 InFamily ws s Unbuilt i x mv = ⊥
 
 -- what a turn does at a point
@@ -68,6 +80,7 @@ abbrev pub MovesAt : List ℕ → Subject → Point → Spot → Move → Type 0
 MovesAt ws s (Instruction i) x mv = (o : SreOpcode) × Opcode ws i o × InFamily ws s (family o) i x mv
 MovesAt ws s (Alternatives q) x mv = AlternativesMove ws q x mv
 MovesAt ws s (Shorter t k) x mv = ShorterMove t k x mv
+MovesAt ws s (Longer i n) x mv = LongerMove ws s i n x mv
 
 abbrev pub Moves : List ℕ → Subject → Spot → Move → Type 0
 Moves ws s x mv = MovesAt ws s x.point x mv

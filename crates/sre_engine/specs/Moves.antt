@@ -1,14 +1,13 @@
 -- Moves: what the machine does in one turn, by the family of the opcode. Nothing here is recursive.
-use Rattle.std.specs.Prelude.{ℕ, ◌+◌, ◌-◌, ◌≡◌, ◌<◌, ◌≤◌, length, Bool, cond, nat_eq, nat_lt, List, [], ◌∷◌}
+use Rattle.std.specs.Prelude.{ℕ, ◌+◌, ◌≡◌, ◌<◌, length, cond, nat_eq, List}
 use Rattle.sre_chars.specs.Numbers.{at_number}
 use Rattle.sre_chars.specs.declared.constants.SreAtCode.{SreAtCode}
 use Rattle.sre_engine.specs.Tree.{Test}
 use Rattle.sre_engine.specs.Marks.{Marks, set_mark}
 use Rattle.sre_engine.specs.Subject.{Subject, passes, holds_at}
-use Rattle.sre_engine.specs.Ways.{longest_run}
 use Rattle.sre_engine.specs.Grammar.{Word, skip}
 use Rattle.sre_engine.specs.Standing.{TestStands}
-use Rattle.sre_engine.specs.Board.{Point, Instruction, Alternatives, Shorter, Frame}
+use Rattle.sre_engine.specs.Board.{Point, Instruction, Alternatives, Frame}
 
 -- where the machine stands: a point, the loops in progress, a position and marks
 pub record Spot : Type 0 where
@@ -64,21 +63,3 @@ pub record AlternativesMove (ws : List ℕ) (q : ℕ) (x : Spot) (mv : Move) : T
   pub value : ℕ
   pub there : Word ws q value
   pub is : mv ≡ cond (nat_eq value 0) Stop (Split (to_point x (Instruction (q + 1))) (to_point x (Alternatives (q + value))))
-
--- REPEAT_ONE skip least greatest test SUCCESS: the longest run, and then the shorter ones
-pub record RunMove (ws : List ℕ) (s : Subject) (i : ℕ) (x : Spot) (mv : Move) : Type 0 where
-  pub low : ℕ
-  pub high : ℕ
-  pub end : ℕ
-  pub test : Test
-  pub lowest : Word ws (i + 2) low
-  pub highest : Word ws (i + 3) high
-  pub stands : TestStands ws (i + 4) end test
-  pub is : mv ≡
-      let k = longest_run s test high x.position in
-      cond (nat_lt k low) Stop (Split (to_place x (Instruction (skip ws (i + 1))) (x.position + k)) (to_place x (Shorter (skip ws (i + 1)) (k - low)) (x.position + k)))
-
--- the shorter counts of a run, so many of them
-pub record ShorterMove (t k : ℕ) (x : Spot) (mv : Move) : Type 0 where
-  pub past : k ≤ x.position
-  pub is : mv ≡ cond (nat_eq k 0) Stop (Split (to_place x (Instruction t) (x.position - 1)) (to_place x (Shorter t (k - 1)) (x.position - 1)))

@@ -1,11 +1,12 @@
 -- What stands at a place of the words: a set, or a test of one character.
-use Rattle.std.specs.Prelude.{ℕ, ◌≡◌, ◌<◌, Bool, true, cond, List}
+use Rattle.std.specs.Prelude.{ℕ, ◌≡◌, ◌<◌, ◌≤◌, Bool, true, cond, List}
 use Rattle.sre_chars.specs.Numbers.{category_number}
 use Rattle.sre_chars.specs.Tables.{Table}
 use Rattle.sre_chars.specs.declared.constants.SreCatCode.{SreCatCode}
 use Rattle.sre_chars.specs.declared.constants.SreOpcode.TheVariants as opcode
 use Rattle.sre_engine.specs.Tree.{SetItem, Test}
 use Rattle.sre_engine.specs.Characters.{verdict}
+use Rattle.sre_engine.specs.Ways.{unlimited}
 use Rattle.sre_engine.specs.Grammar.{Word, Opcode, ReadsSet, test_opcode, TestOperands}
 
 -- word i is the number of a category's code
@@ -43,3 +44,7 @@ pub record HasTest (ws : List ℕ) (i : ℕ) : Type 0 where
   pub end : ℕ
   pub test : Test
   pub stands : TestStands ws i end test
+
+-- words are below 2^32
+pub record AreWords (ws : List ℕ) : Type 0 where
+  pub fits : (i v : ℕ) → Word ws i v → v ≤ unlimited

@@ -1,16 +1,22 @@
 -- Steps of the check: what is left to read of an item or a part, and what the answers say of it.
-use Rattle.std.specs.Prelude.{ℕ, ◌+◌, ◌≡◌, ◌<◌, ◌≤◌, ◌⊎◌, min, List, length, Option, Some, None, Result, Ok, Err}
+use Rattle.std.specs.Prelude.{ℕ, ◌+◌, ◌*◌, ◌≡◌, ◌<◌, ◌≤◌, ◌⊎◌, min, List, length, Option, Some, None, Result, Ok, Err}
 use Rattle.sre_chars.specs.declared.constants.SreOpcode.TheVariants as opcode
-use Rattle.sre_engine.specs.Tree.{Tree, Empty, Item, Trees}
-use Rattle.sre_engine.specs.Grammar.{Word, Opcode, JumpsTo, Reads, ReadsItem, ReadsBranch}
+use Rattle.sre_engine.specs.Tree.{Tree, Empty, Item, Run, Trees, Order, RunKind, Test}
+use Rattle.sre_engine.specs.Grammar.{Word, Opcode, run_opcode, until_opcode, IsBuilt, JumpsTo, Reads, ReadsItem, ReadsBranch}
 use Rattle.sre_engine.specs.Width.{held, width, item_width, least_width}
 use Rattle.sre_engine.specs.Reading.{Within}
 use Rattle.sre_engine.specs.declared.code.error.CodeError.{CodeError}
 use Rattle.sre_engine.specs.declared.code.step.Part.{Part}
-use Rattle.sre_engine.specs.declared.code.step.Part.TheVariants.{Whole, Alternative}
+use Rattle.sre_engine.specs.declared.code.step.Part.TheVariants.{Whole, Alternative, Body}
 use Rattle.sre_engine.specs.declared.code.step.Bounds.{Bounds}
 use Rattle.sre_engine.specs.declared.code.step.Step.{Step}
 use Rattle.sre_engine.specs.declared.code.step.Step.TheVariants.{Past, Opens}
+
+-- a run of one test is at i, of a kind that the engine has
+pub record BuiltRun (ws : List ℕ) (i : ℕ) : Type 0 where
+  pub kind : RunKind
+  pub there : Opcode ws i (run_opcode kind)
+  pub built : (low high : ℕ) (t : Test) → IsBuilt (Run kind low high t)
 
 -- an item of width w is at i and ends at j
 abbrev pub ItemAt : List ℕ → ℕ → ℕ → ℕ → Type 0
@@ -20,9 +26,14 @@ ItemAt ws i j w = (item : Item) × ReadsItem ws i j item × (w ≡ item_width it
 abbrev pub More : List ℕ → ℕ → ℕ → ℕ → ℕ → Type 0
 More ws q tail least w = (Word ws q 0 × (tail ≡ q + 1) × (w ≡ least)) ⊎ ((ts : Trees) × ReadsBranch ws q tail ts × (w ≡ min least (least_width ts)))
 
+-- MAX_UNTIL or MIN_UNTIL is at k
+abbrev pub IsUntil : List ℕ → ℕ → Type 0
+IsUntil ws k = (o : Order) × Opcode ws k (until_opcode o)
+
 -- a part whose items have been read up to k and have width u is closed there; what it belongs to ends at j and has width w
 abbrev pub Closes : List ℕ → Part → ℕ → ℕ → ℕ → ℕ → Type 0
 Closes ws Whole k u j w = Opcode ws k opcode.SUCCESS × (k + 1 ≡ length ws) × (j ≡ k + 1) × (w ≡ u)
+Closes ws (Body end least) k u j w = (k ≡ end) × IsUntil ws k × (j ≡ k + 1) × (w ≡ held (least * u))
 Closes ws (Alternative end tail least) k u j w = (k ≡ end) × JumpsTo ws k tail × More ws (k + 2) tail (min least u) w × (j ≡ tail)
 
 -- the words from i on are what is left of a part whose items so far have width a

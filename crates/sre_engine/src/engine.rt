@@ -2,6 +2,8 @@
 
 mod board;
 mod chains;
+mod lazy_runs;
+mod loops;
 mod machine;
 mod marks;
 mod one_character;
@@ -18,6 +20,8 @@ pub use marks::Marks;
 pub use request::Request;
 pub use state::{SreError, State};
 
+#[cfg(test)]
+mod loop_tests;
 #[cfg(test)]
 mod match_tests;
 #[cfg(test)]

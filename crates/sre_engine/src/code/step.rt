@@ -7,6 +7,8 @@ pub enum Part {
     Whole,
     /// An alternative of a BRANCH: JUMP at `end`, to `tail`; `least` is the least width of those before.
     Alternative { end: usize, tail: usize, least: u32 },
+    /// The body of a REPEAT: MAX_UNTIL or MIN_UNTIL at `end`; it stands `least` times at least.
+    Body { end: usize, least: u32 },
 }
 
 /// An open part, and the least width of its items so far.

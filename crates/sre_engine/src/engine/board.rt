@@ -27,6 +27,8 @@ pub(crate) enum Point {
     Alternatives(usize),
     /// With the counts of a run that are shorter than the one at the cursor: the run's tail, and how many they are.
     Shorter(usize, usize),
+    /// With the counts of a lazy run that are longer than the one at the cursor: the run's place, and that count.
+    Longer(usize, usize),
 }
 
 /// A choice: where to go on, with which loops, and how many changes and chains there were when it was made.

@@ -9,10 +9,12 @@ ghost use Rattle.sre_engine.specs.Subject.{char_at};
 ghost use Rattle.sre_engine.specs.Ways.{Way};
 ghost use Rattle.sre_engine.specs.Grammar.{Word, word, Opcode};
 ghost use Rattle.sre_engine.specs.Board.{Point, Instruction, Alternatives, Shorter, BoardValue};
-ghost use Rattle.sre_engine.specs.Machine.{family, Testing, HasRun, IsBack, Advances, Chooses, Retreats, Refuses, Skips, SkipsBoth, Stands};
+ghost use Rattle.sre_engine.specs.Machine.{family, Testing, HasRun, IsAt, IsBack, Advances, Chooses, Retreats, Refuses, Skips, SkipsBoth, Stands};
 ghost use Rattle.sre_engine.specs.Requests.{end_of, run_of};
 
 use crate::engine::board::{Board, Point};
+use crate::engine::lazy_runs::{longer, min_repeat_one};
+use crate::engine::loops::{max_until, min_until, repeat};
 use crate::engine::one_character::{takes, test_end};
 use crate::engine::operands;
 use crate::engine::position::holds_at;
@@ -33,7 +35,7 @@ pub(crate) enum Next {
 
 // The word at a place.
 #[inline(always)]
-fn word_at<S: StrDrive>(req: &Request<'_, S>, place: usize) -> u32
+pub(super) fn word_at<S: StrDrive>(req: &Request<'_, S>, place: usize) -> u32
     requires { place < length (run_of req.now).words }
     ensures word { Word (run_of req.now).words place result }
     ensures room { place + 2 ^ 33 < 2 ^ 64 }
@@ -43,7 +45,7 @@ fn word_at<S: StrDrive>(req: &Request<'_, S>, place: usize) -> u32
 
 // The word some places on.
 #[inline(always)]
-fn operand<S: StrDrive>(req: &Request<'_, S>, place: usize, offset: usize) -> u32
+pub(super) fn operand<S: StrDrive>(req: &Request<'_, S>, place: usize, offset: usize) -> u32
     requires { place + offset < length (run_of req.now).words }
     ensures word { Word (run_of req.now).words (place + offset) result }
     ensures room { place + 2 ^ 33 < 2 ^ 64 }
@@ -164,7 +166,7 @@ fn jump<S: StrDrive>(req: &Request<'_, S>, place: usize, cursor: StringCursor) -
 
 // Whether nothing can come of standing at an instruction: a LITERAL stands there, and the character is another.
 #[inline(always)]
-fn refuses<S: StrDrive>(req: &Request<'_, S>, place: usize, cursor: StringCursor) -> bool
+pub(super) fn refuses<S: StrDrive>(req: &Request<'_, S>, place: usize, cursor: StringCursor) -> bool
     requires { HasRun (run_of req.now) (Instruction place) cursor }
     ensures { result ≡ true → Refuses (run_of req.now) place cursor.position }
 {
@@ -186,7 +188,7 @@ fn refuses<S: StrDrive>(req: &Request<'_, S>, place: usize, cursor: StringCursor
 
 // Goes on at an instruction, with another point to be tried after it.
 #[inline(always)]
-fn choose<S: StrDrive, A: Allocator>(
+pub(super) fn choose<S: StrDrive, A: Allocator>(
     req: &Request<'_, S>,
     board: &mut Board<A>,
     place: usize,
@@ -342,6 +344,7 @@ pub(super) fn back<S: StrDrive, A: Allocator>(
             Point::Instruction(place) => Ok(Some(Next::At(place, choice.1))),
             Point::Alternatives(place) => Ok(Some(alternatives(req, board, place, choice.1)?)),
             Point::Shorter(tail, count) => Ok(Some(shorter(req, board, tail, count, choice.1)?)),
+            Point::Longer(place, count) => Ok(Some(longer(req, board, place, count, choice.1)?)),
         },
     }
 }
@@ -363,6 +366,7 @@ fn branch<S: StrDrive, A: Allocator>(
 }
 
 /// One instruction.
+#[tactic(auto, using(crate::proofs::Moving::on_board))]
 #[inline(always)]
 pub(super) fn instruction<S: StrDrive, A: Allocator>(
     req: &Request<'_, S>,
@@ -370,7 +374,7 @@ pub(super) fn instruction<S: StrDrive, A: Allocator>(
     place: usize,
     cursor: StringCursor,
 ) -> Result<Next, AllocError>
-    requires { HasRun (run_of req.now) (Instruction place) cursor }
+    requires { IsAt (run_of req.now) (Instruction place) cursor board.old }
     ensures { IfOk result (λ next. Advances (run_of req.now) (Instruction place) cursor board.old next board.new) }
 {
     // An arm for each test, so that each knows its own opcode.
@@ -384,6 +388,10 @@ pub(super) fn instruction<S: StrDrive, A: Allocator>(
                 SreOpcode::JUMP => Ok(jump(req, place, cursor)),
                 SreOpcode::MARK => mark(req, board, place, cursor),
                 SreOpcode::REPEAT_ONE => repeat_one(req, board, place, cursor),
+                SreOpcode::MIN_REPEAT_ONE => min_repeat_one(req, board, place, cursor),
+                SreOpcode::REPEAT => repeat(req, board, place, cursor),
+                SreOpcode::MAX_UNTIL => max_until(req, board, place, cursor),
+                SreOpcode::MIN_UNTIL => min_until(req, board, place, cursor),
                 $(SreOpcode::$test => Ok(test(req, SreOpcode::$test, place, cursor)),)*
                 _ => unreachable!(),
             }

@@ -3,7 +3,7 @@
 ghost use Rattle.std.specs.Prelude.{ℕ, ◌+◌, ◌<◌, ◌^◌, length};
 ghost use Rattle.sre_chars.specs.Numbers.{category_number};
 ghost use Rattle.sre_engine.specs.Grammar.{Word};
-ghost use Rattle.sre_engine.specs.Standing.{HasCategory};
+ghost use Rattle.sre_engine.specs.Standing.{AreWords, HasCategory};
 
 use sre_chars::constants::SreCatCode;
 use std::convert::TryFrom;
@@ -40,4 +40,12 @@ pub(super) fn category_code(words: &[u32], place: usize) -> SreCatCode
         Ok(code) => code,
         Err(_) => unreachable!(),
     }
+}
+
+/// That words are below 2^32, which is known of those that are passed. It does nothing.
+#[inline(always)]
+pub(super) fn know_words(words: &[u32])
+    ensures { AreWords words.now }
+{
+    let _length = words.len();
 }

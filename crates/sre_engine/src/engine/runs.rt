@@ -208,21 +208,22 @@ fn run_in_set<S: StrDrive>(
     run_of(req, place, SreOpcode::IN, most, start)
 }
 
-/// The longest run of the test at a place from a cursor on: how many characters it has, inside the window and up to
-/// `high`, where 4294967295 means no limit, and the cursor behind it.
-pub(crate) fn longest_run<S: StrDrive>(
+/// The longest run of the test at a place from a cursor on, of at most so many characters of the window, and the cursor
+/// behind it.
+#[inline(always)]
+pub(super) fn run_up_to<S: StrDrive>(
     req: &Request<'_, S>,
     place: usize,
-    high: u32,
+    most: usize,
     start: StringCursor,
 ) -> (usize, StringCursor)
     requires test { HasTest (run_of req.now).words place }
     requires stands { (run_of req.now).stands start start.position }
-    ensures count { (j : ℕ) (t : Test) → TestStands (run_of req.now).words place j t → result.0 ≡ longest_run (run_of req.now).subject t high start.position }
+    requires most { most ≤ req.now.end - start.position }
+    ensures count { (j : ℕ) (t : Test) → TestStands (run_of req.now).words place j t → result.0 ≡ run_length (run_of req.now).subject t most start.position }
     ensures position { result.1.position ≡ start.position + result.0 }
     ensures stands { (run_of req.now).stands result.1 result.1.position }
 {
-    let most = most(req, high, start);
     // An arm for each opcode, so that each loop knows its own.
     macro_rules! run_of_each {
         ($($opcode:ident)*) => {
@@ -240,4 +241,22 @@ pub(crate) fn longest_run<S: StrDrive>(
         NOT_LITERAL NOT_LITERAL_IGNORE NOT_LITERAL_LOC_IGNORE NOT_LITERAL_UNI_IGNORE
         IN_IGNORE IN_LOC_IGNORE IN_UNI_IGNORE
     )
+}
+
+/// The longest run of the test at a place from a cursor on: how many characters it has, inside the window and up to
+/// `high`, where 4294967295 means no limit, and the cursor behind it.
+pub(crate) fn longest_run<S: StrDrive>(
+    req: &Request<'_, S>,
+    place: usize,
+    high: u32,
+    start: StringCursor,
+) -> (usize, StringCursor)
+    requires test { HasTest (run_of req.now).words place }
+    requires stands { (run_of req.now).stands start start.position }
+    ensures count { (j : ℕ) (t : Test) → TestStands (run_of req.now).words place j t → result.0 ≡ longest_run (run_of req.now).subject t high start.position }
+    ensures position { result.1.position ≡ start.position + result.0 }
+    ensures stands { (run_of req.now).stands result.1 result.1.position }
+{
+    let most = most(req, high, start);
+    run_up_to(req, place, most, start)
 }

@@ -11,6 +11,7 @@ ghost use Rattle.sre_engine.specs.Requests.{end_of, run_of};
 
 use crate::engine::board::Board;
 use crate::engine::machine::{Next, back, instruction};
+use crate::engine::operands::know_words;
 use crate::engine::request::Request;
 use sre_chars::string::{StrDrive, StringCursor};
 use std::alloc::{AllocError, Allocator};
@@ -126,5 +127,6 @@ pub(crate) fn run<S: StrDrive, A: Allocator>(
     requires fresh { board.old ≡ bare no_marks }
     ensures { (t : Tree) → Whole (run_of req.now).words t → IfOk result (λ found. Decides (run_of req.now) (outcomes (run_of req.now) t start.position) found board.new.marks) }
 {
+    know_words(req.pattern_codes().words());
     turns_from::<Brand, Brand, S, A>(req, board, start, Blank::new(1))
 }

@@ -97,5 +97,5 @@ fn memory_is_kept(rt: HostRuntime) -> Result<(), Fail> {
 #[test]
 fn records_are_small(rt: HostRuntime) {
     assert!(rt; size_of::<Change>() == 24);
-    assert!(rt; size_of::<Saved>() == 48);
+    assert!(rt; size_of::<Saved>() == 64);
 }

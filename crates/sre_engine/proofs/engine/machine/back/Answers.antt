@@ -1,5 +1,5 @@
 use Rattle.std.proofs.Common.{◌-◌}
-use Rattle.sre_engine.specs.Board.{Instruction, Alternatives, Shorter}
+use Rattle.sre_engine.specs.Board.{Instruction, Alternatives, Shorter, Longer}
 use Rattle.sre_engine.specs.Requests.{run_of}
 use Rattle.sre_engine.proofs.GoingBack.{back_none, back_at, later_again}
 use Rattle.sre_engine.proofs.engine.machine.back.Goals as goal
@@ -19,3 +19,8 @@ pub returns-in_ok-shorter-in-Shorter : goal.returns-in_ok-shorter-in-Shorter
 returns-in_ok-shorter-in-Shorter g c = λ all limit x.
     let s = back_at (run_of c.args.req.now) c.args.board.now c.back.new.self c.in-Some.choice.0 (Shorter c.in-Shorter.tail c.in-Shorter.count) c.in-Some.choice.1 c.in-Some.ensures c.in-Shorter.is all limit x in
     later_again (run_of c.args.req.now) all limit _ _ s.0 (c.in_ok-shorter-in-Shorter.ensures all (limit - 1) s.1)
+
+pub returns-in_ok-longer-in-Longer : goal.returns-in_ok-longer-in-Longer
+returns-in_ok-longer-in-Longer g c = λ all limit x.
+    let s = back_at (run_of c.args.req.now) c.args.board.now c.back.new.self c.in-Some.choice.0 (Longer c.in-Longer.place c.in-Longer.count) c.in-Some.choice.1 c.in-Some.ensures c.in-Longer.is all limit x in
+    later_again (run_of c.args.req.now) all limit _ _ s.0 (c.in_ok-longer-in-Longer.ensures all (limit - 1) s.1)

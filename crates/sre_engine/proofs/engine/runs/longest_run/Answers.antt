@@ -1,12 +1,7 @@
-use Rattle.std.proofs.Common.{◌∙◌, sym}
-use Rattle.sre_engine.specs.Ways.{most_from}
+use Rattle.std.proofs.Common.{arith}
 use Rattle.sre_engine.specs.Requests.{run_of}
-use Rattle.sre_engine.proofs.Counting.{run_whole, most_left}
-use Rattle.sre_engine.proofs.OneCharacter.{any_all_takes}
+use Rattle.sre_engine.proofs.Counting.{most_left}
 use Rattle.sre_engine.proofs.engine.runs.longest_run.Goals as goal
 
-pub returns-in-ANY_ALL-clause-count : goal.returns-in-ANY_ALL-clause-count
-returns-in-ANY_ALL-clause-count g c = λ j t s.
-    let r = run_of c.args.req.now in
-    let p = c.args.start.position in
-    c.run_of_any.ensures.count ∙ c.most-most.ensures ∙ sym (run_whole r.subject t (most_from r.subject c.args.high p) p (λ x. any_all_takes r.words r.subject.table c.args.place j x t c.in-ANY_ALL.ensures s) (most_left r.subject c.args.high p))
+pub run_up_to-requires-clause-most : goal.run_up_to-requires-clause-most
+run_up_to-requires-clause-most g c = omega (arith, c.most-most.ensures, most_left (run_of c.args.req.now).subject c.args.high c.args.start.position)

@@ -1,3 +1,6 @@
+use Rattle.std.proofs.Common.{◌≡◌, ◌∙◌, ap, subst, ℕ, List}
+use Rattle.sre_engine.specs.Codes.{words_of}
+use Rattle.sre_engine.specs.Standing.{AreWords}
 use Rattle.sre_engine.specs.Requests.{run_of}
 use Rattle.sre_engine.proofs.Start.{started, whole_of}
 use Rattle.sre_engine.proofs.TreeOf.{tree_of, whole-read}
@@ -6,7 +9,8 @@ use Rattle.sre_engine.proofs.engine.turns.run.Goals as goal
 pub turns_from-requires-clause-stands : goal.turns_from-requires-clause-stands
 turns_from-requires-clause-stands g c =
     let r = run_of c.args.req.now in
-    started r (tree_of r.words) c.args.start c.args.board.now (whole_of _ _ c.args.req.now.pattern_codes.checked) c.requires.stands c.requires.inside c.requires.fresh
+    let same : c.words.result.now ≡ r.words = c.words.ensures.same ∙ ap words_of c.pattern_codes.ensures in
+    started r (tree_of r.words) c.args.start c.args.board.now (subst (λ (ws : List ℕ). AreWords ws) same c.know_words.ensures) (whole_of _ _ c.args.req.now.pattern_codes.checked) c.requires.stands c.requires.inside c.requires.fresh
 
 pub returns : goal.returns
 returns g c = λ t w. rw (← whole-read _ t w) c.turns_from.ensures

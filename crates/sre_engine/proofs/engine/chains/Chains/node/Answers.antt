@@ -1,4 +1,4 @@
-use Rattle.std.proofs.Common.{◌≡◌, sym, ◌∙◌, arith}
+use Rattle.std.proofs.Common.{arith}
 use Rattle.sre_engine.proofs.ChainLaws.{in_table, node_law}
 use Rattle.sre_engine.proofs.engine.chains.Chains.node.Goals as goal
 
