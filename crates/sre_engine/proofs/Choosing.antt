@@ -5,7 +5,7 @@ use Rattle.std.proofs.Math.ListN.{get_or-append}
 use Rattle.std.proofs.Math.Seq.{get_or-append_seam}
 use Rattle.sre_engine.specs.Marks.{Marks, no_marks, set_mark}
 use Rattle.sre_engine.specs.Trail.{Trail, states}
-use Rattle.sre_engine.specs.Board.{Frame, Else, BoardValue}
+use Rattle.sre_engine.specs.Board.{Frame, choice, BoardValue}
 use Rattle.sre_engine.specs.Choices.{choice_of, board_of, Fits}
 use Rattle.sre_engine.specs.declared.engine.board.Saved.{Saved}
 
@@ -13,7 +13,7 @@ abbrev pub Table : Type 0
 Table = List (List Frame)
 
 -- tables that agree below a number of chains
-abbrev Agree : Table → Table → ℕ → Type 0
+abbrev pub Agree : Table → Table → ℕ → Type 0
 Agree a b n = (i : ℕ) → i < n → slice_index_or b i [] ≡ slice_index_or a i []
 
 -- lists of marks that agree up to a length of the trail
@@ -25,7 +25,7 @@ pub fits-more : (ss : List Saved) (n n' c c' : ℕ) → n ≤ n' → c ≤ c' �
 fits-more [] n n' c c' h k f = tt
 fits-more (s ∷ ss) n n' c c' h k f = (omega (arith, f.0), omega (arith, f.1), f.2, f.3)
 
-same_choices : (ss : List Saved) (t u : Table) (a b : List Marks) (n c : ℕ) → Fits ss n c → Agree t u n → SameUpTo a b c → map (choice_of u b) ss ≡ map (choice_of t a) ss
+pub same_choices : (ss : List Saved) (t u : Table) (a b : List Marks) (n c : ℕ) → Fits ss n c → Agree t u n → SameUpTo a b c → map (choice_of u b) ss ≡ map (choice_of t a) ss
 same_choices [] t u a b n c f g h = refl
 same_choices (s ∷ ss) t u a b n c f g h =
     let one : choice_of u b s ≡ choice_of t a s = rw (g s.frame (omega (arith, f.0, f.2)), h s.changes f.1) refl in
@@ -73,7 +73,7 @@ length-back : (t t' : Trail) (k : ℕ) → k ≤ length t.past → states t' ≡
 length-back t t' k h e = omega (arith, length-append t.past (t.now ∷ []), length-append t'.past (t'.now ∷ []), ap (λ (x : List Marks). length x) e, length-take-le (k + 1) (states t))
 
 -- the newest choice is taken
-pub back_held : (b : BoardValue) (t t' : Trail) (chains chains' : Table) (frame : ℕ) (old new : List Saved) (s : Saved) → board_of t chains frame old ≡ b → Fits (reverse old) (length chains) (length t.past) → old ≡ new ++ s ∷ [] → states t' ≡ take (s.changes + 1) (states t) → chains' ≡ take (s.chains + 1) chains → b.choices ≡ Else s.point (slice_index_or chains' s.frame []) s.cursor t'.now ∷ (board_of t' chains' s.frame new).choices
+pub back_held : (b : BoardValue) (t t' : Trail) (chains chains' : Table) (frame : ℕ) (old new : List Saved) (s : Saved) → board_of t chains frame old ≡ b → Fits (reverse old) (length chains) (length t.past) → old ≡ new ++ s ∷ [] → states t' ≡ take (s.changes + 1) (states t) → chains' ≡ take (s.chains + 1) chains → b.choices ≡ choice s.point (slice_index_or chains' s.frame []) s.cursor t'.now ∷ (board_of t' chains' s.frame new).choices
 back_held b t t' chains chains' frame old new s e f eo et ec =
     let fits = fits_newest old new s (length chains) (length t.past) eo f in
     let same : SameUpTo (states t) (states t') s.changes = λ i h. ap (λ (x : List Marks). slice_index_or x i no_marks) et ∙ get_or-take (s.changes + 1) (states t) i no_marks (omega arith) in

@@ -1,9 +1,9 @@
 -- How many turns the machine takes for a tree, given how many it takes for what follows.
-use Rattle.std.proofs.Common.{ℕ, zero, suc, ◌+◌, ◌-◌, cond, nat_lt, Option, Some, None}
-use Rattle.sre_engine.specs.Tree.{Tree, Empty, Then, Item, One, At, Mark, Branch, Loop, Run, GreedyRun, LazyRun, Trees, Only, Or}
+use Rattle.std.proofs.Common.{ℕ, zero, suc, ◌+◌, ◌-◌, cond, nat_lt, List, [], ◌∷◌, Option, Some, None}
+use Rattle.sre_engine.specs.Tree.{Tree, Empty, Then, Item, One, At, Mark, Branch, Loop, Run, GreedyRun, LazyRun, PossessiveRun, Atomic, Look, Sign, Positive, Negative, Trees, Only, Or}
 use Rattle.sre_engine.specs.Marks.{Marks, set_mark}
 use Rattle.sre_engine.specs.Subject.{Subject, passes, holds_at}
-use Rattle.sre_engine.specs.Ways.{longest_run, may_repeat}
+use Rattle.sre_engine.specs.Ways.{Way, Body, longest_run, may_repeat, ways}
 
 -- the turns from a position under marks
 abbrev pub Costs : Type 0
@@ -20,6 +20,9 @@ shorter_cost C low (suc n) p m = suc (suc (C (p + (low + n)) m + shorter_cost C 
 
 abbrev pub run_cost : ℕ → ℕ → Costs → Costs
 run_cost low k C p m = cond (nat_lt k low) 1 (suc (suc (C (p + k) m + shorter_cost C low (k - low) p m)))
+
+abbrev pub longest_run_cost : ℕ → ℕ → Costs → Costs
+longest_run_cost low k C p m = cond (nat_lt k low) 1 (suc (C (p + k) m))
 
 -- the longer counts of a lazy run, n of them behind c characters
 abbrev pub longer_cost : Costs → ℕ → ℕ → Costs
@@ -39,6 +42,22 @@ abbrev pub more_cost : ℕ → (Costs → Costs) → Costs → ℕ → ℕ → O
 more_cost high body C zero count last p m = suc (C p m)
 more_cost high body C (suc fuel) count last p m = cond (may_repeat high count last p) (suc (suc (body (λ q k. more_cost high body C fuel (count + 1) (Some p) q k) p m + C p m))) (suc (C p m))
 
+-- behind an atomic group whose body has these ways
+abbrev pub atomic_cost : Costs → List Way → ℕ
+atomic_cost C [] = 1
+atomic_cost C (w ∷ _) = suc (C w.stop w.marks)
+
+-- behind a look, from where it began
+abbrev pub look_cost : Sign → Costs → ℕ → Marks → List Way → ℕ
+look_cost Positive C p m [] = 1
+look_cost Positive C p m (w ∷ _) = suc (C p w.marks)
+look_cost Negative C p m [] = suc (C p m)
+look_cost Negative C p m (w ∷ _) = 1
+
+-- a look and what is behind it
+abbrev pub looked_cost : Sign → ℕ → (Costs → Costs) → Body → Costs → Costs
+looked_cost sign back body W C p m = cond (nat_lt p back) (look_cost sign C p m []) (suc (body ending (p - back) m + look_cost sign C p m (W (p - back) m)))
+
 abbrev mutual
   pub cost : Subject → Tree → Costs → Costs
   cost s Empty C p m = C p m
@@ -52,6 +71,9 @@ abbrev mutual
   item_cost s (Loop o low high body) C p m = suc (least_cost (λ D q k. cost s body D q k) (λ q k. more_cost high (λ D a b. cost s body D a b) C (s.end + 1 - q) low None q k) low p m)
   item_cost s (Run GreedyRun low high t) C p m = run_cost low (longest_run s t high p) C p m
   item_cost s (Run LazyRun low high t) C p m = lazy_run_cost low (longest_run s t high p) C p m
+  item_cost s (Run PossessiveRun low high t) C p m = longest_run_cost low (longest_run s t high p) C p m
+  item_cost s (Atomic body) C p m = suc (cost s body ending p m + atomic_cost C (ways s body p m))
+  item_cost s (Look sign back body) C p m = looked_cost sign back (λ D q k. cost s body D q k) (λ q k. ways s body q k) C p m
   item_cost s _ C p m = 1
 
   pub branch_cost : Subject → Trees → Costs → Costs

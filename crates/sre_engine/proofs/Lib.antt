@@ -8,6 +8,7 @@ pub mod Characters
 pub mod Items
 pub mod Runs
 pub mod Branches
+pub mod Regions
 pub mod Bodies
 pub mod Closing
 pub mod Turns
@@ -28,6 +29,7 @@ pub mod OneCharacter
 pub mod Undo
 pub mod ChainLaws
 pub mod Choosing
+pub mod InnermostRegion
 pub mod Cost
 pub mod Longest
 pub mod Moving
@@ -35,6 +37,12 @@ pub mod StepsAtItems
 pub mod StepsInBranches
 pub mod StepsInRuns
 pub mod StepsInLoops
+pub mod StepsInRegions
+pub mod Outcomes
+pub mod RanAtItems
+pub mod RanInRuns
+pub mod RanInLoops
+pub mod RanInRegions
 pub mod Ran
 pub mod TreeOf
 mod ReaderRows

@@ -3,16 +3,17 @@ use Rattle.std.proofs.Common.{◌≡◌, ℕ, suc, ◌+◌, ◌-◌, ◌≤◌, 
 use Rattle.std.proofs.lemmas.List.{append-nil}
 use Rattle.sre_chars.specs.declared.constants.SreOpcode.{SreOpcode}
 use Rattle.sre_chars.specs.declared.string.StringCursor.{StringCursor}
-use Rattle.sre_engine.specs.Tree.{Test, Order}
+use Rattle.sre_engine.specs.Tree.{Test, Order, Sign}
 use Rattle.sre_engine.specs.Marks.{Marks}
 use Rattle.sre_engine.specs.Subject.{Subject}
 use Rattle.sre_engine.specs.Ways.{Way}
 use Rattle.sre_engine.specs.Grammar.{Word, Opcode}
-use Rattle.sre_engine.specs.Board.{Point, Instruction, Alternatives, Shorter, Longer, Frame, Choice, Else, BoardValue}
-use Rattle.sre_engine.specs.Moves.{Spot, spot_at, Move, Stop, End, Go, Split, TestMove, AtMove, MarkMove, AlternativesMove}
-use Rattle.sre_engine.specs.MovesInRuns.{RunOperands, RunMove, LazyRunMove, LongerMove}
+use Rattle.sre_engine.specs.Board.{Point, Instruction, Alternatives, Shorter, Longer, Inside, Frame, Region, Choice, Else, Keep, choice, from_region, BoardValue}
+use Rattle.sre_engine.specs.Moves.{Spot, spot_at, Move, Stop, End, Go, Split, Enter, TestMove, AtMove, MarkMove, AlternativesMove}
+use Rattle.sre_engine.specs.MovesInRuns.{RunOperands, RunMove, LongestRunMove, LazyRunMove, LongerMove}
 use Rattle.sre_engine.specs.MovesInLoops.{UntilMove}
-use Rattle.sre_engine.specs.Machine.{Family, family, Failing, Ending, Testing, Standing, Marking, Branching, Jumping, Running, RunningLazily, Repeating, Looping, Unbuilt, InFamily, Moves, MovesAt, Runs, turns, Comes, stops, ends, goes, splits, Run, Waits, otherwise, Goes, GoesBoth, Later, spot, HasRun, IsAt, Refuses}
+use Rattle.sre_engine.specs.MovesInRegions.{LookMove}
+use Rattle.sre_engine.specs.Machine.{Family, family, Failing, Ending, Testing, Standing, Marking, Branching, Jumping, Running, RunningLazily, RunningLongest, Repeating, Looping, Grouping, Looking, Unbuilt, InFamily, Moves, MovesAt, Runs, turns, Comes, stops, ends, goes, splits, enters, Run, Waits, otherwise, kept, Goes, GoesBoth, Later, spot, HasRun, IsAt, Refuses}
 use Rattle.sre_engine.specs.declared.engine.machine.Next.TheVariants as next
 use Rattle.sre_engine.proofs.Words.{same_word, same_opcode, same_at}
 use Rattle.sre_engine.proofs.Unique.{test_same}
@@ -45,6 +46,12 @@ same_run ws s i x a b h k =
     let same = same_operands ws i h.low h.high h.end k.low k.high k.end h.test k.test h.operands k.operands in
     h.is ∙ rw (same.0, same.1, same.2) (sym k.is)
 
+same_longest_run : (ws : List ℕ) (s : Subject) (i : ℕ) (x : Spot) (a b : Move) →
+    LongestRunMove ws s i x a → LongestRunMove ws s i x b → a ≡ b
+same_longest_run ws s i x a b h k =
+    let same = same_operands ws i h.low h.high h.end k.low k.high k.end h.test k.test h.operands k.operands in
+    h.is ∙ rw (same.0, same.1, same.2) (sym k.is)
+
 same_lazy_run : (ws : List ℕ) (s : Subject) (i : ℕ) (x : Spot) (a b : Move) → LazyRunMove ws s i x a → LazyRunMove ws s i x b → a ≡ b
 same_lazy_run ws s i x a b h k =
     let same = same_operands ws i h.low h.high h.end k.low k.high k.end h.test k.test h.operands k.operands in
@@ -64,6 +71,9 @@ same_until ws o u x a b h k =
     let high : h.high ≡ k.high = same_word ws (k.frame.repeat + 3) h.high k.high (subst (λ f. Word ws (f.repeat + 3) h.high) frame h.highest) k.highest in
     h.is ∙ rw (low, high, frame, outer) (sym k.is)
 
+same_look : (ws : List ℕ) (g : Sign) (i : ℕ) (x : Spot) (a b : Move) → LookMove ws g i x a → LookMove ws g i x b → a ≡ b
+same_look ws g i x a b h k = h.is ∙ rw (same_word ws (i + 2) h.back k.back h.there k.there) (sym k.is)
+
 same_in : (ws : List ℕ) (s : Subject) (f : Family) (i : ℕ) (x : Spot) (a b : Move) → InFamily ws s f i x a → InFamily ws s f i x b → a ≡ b
 same_in ws s Failing i x a b h k = h ∙ sym k
 same_in ws s Ending i x a b h k = h ∙ sym k
@@ -74,8 +84,11 @@ same_in ws s Branching i x a b h k = h ∙ sym k
 same_in ws s Jumping i x a b h k = h.is ∙ sym k.is
 same_in ws s Running i x a b h k = same_run ws s i x a b h k
 same_in ws s RunningLazily i x a b h k = same_lazy_run ws s i x a b h k
+same_in ws s RunningLongest i x a b h k = same_longest_run ws s i x a b h k
 same_in ws s Repeating i x a b h k = h.is ∙ sym k.is
 same_in ws s (Looping o) i x a b h k = same_until ws o i x a b h k
+same_in ws s Grouping i x a b h k = h.is ∙ sym k.is
+same_in ws s (Looking g) i x a b h k = same_look ws g i x a b h k
 same_in ws s Unbuilt i x a b h k = absurd h
 
 -- a turn is determined
@@ -86,6 +99,7 @@ moves_same ws s (Instruction i) x a b h k =
 moves_same ws s (Alternatives q) x a b h k = same_alternatives ws q x a b h k
 moves_same ws s (Shorter t n) x a b h k = h.is ∙ sym k.is
 moves_same ws s (Longer i n) x a b h k = same_longer ws s i n x a b h k
+moves_same ws s (Inside g) x a b h k = absurd h
 
 -- so what comes of a spot comes of the one turn there
 pub comes : {ws : List ℕ} {s : Subject} {x : Spot} {os : List Way} {n : ℕ} (mv : Move) → Moves ws s x mv → Runs ws s x os n → Comes ws s x mv os n
@@ -172,10 +186,21 @@ both_wait r i z c b b' cs same_place eb all limit g =
     let others : Runs r.words r.subject (spot_at z.point z.frames c.position z.marks) g.next g.further = subst (λ p. Runs r.words r.subject (spot_at z.point z.frames p z.marks) g.next g.further) same_place g.others in
     (omega (arith, g.within), record { now = g.now; turns = g.turns; later = suc (g.further + g.later); stands = g.stands; runs = g.runs; waits = subst (λ x. Waits r x g.now all (suc (g.further + g.later))) (sym eb) (otherwise g.stands others g.waits); within = omega (arith, g.within) })
 
-pub both_choose : (r : Run) (i : ℕ) (second : Point) (c : StringCursor) (b b' : BoardValue) → b' ≡ record b { choices = Else second b.frames c b.marks ∷ b.choices } → (all : List Way) (limit : ℕ) → GoesBoth r all limit (spot (Instruction i) c b) (spot second c b) c b.choices → Later r all limit (next.At i c) b'
-both_choose r i second c b b' eb all limit g =
+both_other : (r : Run) (i : ℕ) (second : Point) (c : StringCursor) (b b' : BoardValue) → b' ≡ record b { choices = Else second b.frames c b.marks ∷ b.choices } → (all : List Way) (limit : ℕ) → GoesBoth r all limit (spot (Instruction i) c b) (spot second c b) c b.choices → Later r all limit (next.At i c) b'
+both_other r i second c b b' eb all limit g =
     let waiting : BoardValue = record b { choices = Else second b.frames c b.marks ∷ b.choices } in
     subst (λ x. Later r all limit (next.At i c) x) (sym eb) (both_wait r i (spot second c b) c b waiting b.choices refl refl all limit g)
+
+-- the second is any point; nobody stands inside a region
+pub both_choose : (r : Run) (i : ℕ) (second : Point) (c : StringCursor) (b b' : BoardValue) → b' ≡ record b { choices = choice second b.frames c b.marks ∷ b.choices } → (all : List Way) (limit : ℕ) → GoesBoth r all limit (spot (Instruction i) c b) (spot second c b) c b.choices → Later r all limit (next.At i c) b'
+both_choose r i (Inside h) c b b' eb all limit g = absurd (nowhere g.others)
+  where
+    nowhere : {os : List Way} {n : ℕ} → Runs r.words r.subject (spot (Inside h) c b) os n → ⊥
+    nowhere (turns mv m d) = absurd m
+both_choose r i (Instruction j) c b b' eb all limit g = both_other r i (Instruction j) c b b' eb all limit g
+both_choose r i (Alternatives q) c b b' eb all limit g = both_other r i (Alternatives q) c b b' eb all limit g
+both_choose r i (Shorter j n) c b b' eb all limit g = both_other r i (Shorter j n) c b b' eb all limit g
+both_choose r i (Longer j n) c b b' eb all limit g = both_other r i (Longer j n) c b b' eb all limit g
 
 -- a spot of which nothing comes
 abbrev pub Barren : Run → Spot → Type 0
@@ -195,3 +220,18 @@ both_first r z i c b cs none e all limit g =
 -- where the second can make no turn but the last
 pub both_last : (r : Run) (i : ℕ) (z : Spot) (c : StringCursor) (b : BoardValue) → Moves r.words r.subject z Stop → (all : List Way) (limit : ℕ) → GoesBoth r all limit (spot (Instruction i) c b) z c b.choices → Later r all limit (next.At i c) b
 both_last r i z c b none = both_first r z i c b b.choices (λ os n x. run_nothing none x) refl
+
+-- a region is entered: what comes of it waits on the board, and the machine goes on at its body
+pub turn_enters : (r : Run) (i j : ℕ) (g : Region) (c c' : StringCursor) (b b' : BoardValue) → Moves r.words r.subject (spot (Instruction i) c b) (Enter g (spot (Instruction j) c' b')) → r.stands c' c'.position → b'.choices ≡ Keep g b.frames c b.marks ∷ b.choices → (all : List Way) (limit : ℕ) → Goes r all limit (Instruction i) c b → Later r all limit (next.At j c') b'
+turn_enters r i j g c c' b b' h there e all limit st = go (comes (Enter g (spot (Instruction j) c' b')) h st.runs) st.waits st.within
+  where
+    go : {os : List Way} {n k : ℕ} → Comes r.words r.subject (spot (Instruction i) c b) (Enter g (spot (Instruction j) c' b')) os n → Waits r b.choices os all k → n + k ≤ limit → Later r all limit (next.At j c') b'
+    go {os} {n} {k} (enters {now = now} {n₁ = n₁} {n₂ = n₂} d f) wt l =
+        (omega arith, record { now = now; turns = n₁; later = n₂ + k; stands = there; runs = d; waits = subst (λ x. Waits r x now all (n₂ + k)) (sym e) (kept st.stands f wt); within = omega arith })
+
+-- of a region that has an outcome, the other choices inside it do not matter
+pub cut_waits : (r : Run) (cs rest : List Choice) (g : Region) (fs : List Frame) (c : StringCursor) (m : Marks) (w : Way) (ws all : List Way) (k : ℕ) → from_region cs ≡ Keep g fs c m ∷ rest → Waits r cs (w ∷ ws) all k → (us : List Way) × (j : ℕ) × (j ≤ k) × Waits r (Keep g fs c m ∷ rest) (w ∷ us) all j
+cut_waits r [] rest g fs c m w ws all k e wt = absurd (cc)
+cut_waits r (Else pt gs d l ∷ cs) rest g fs c m w ws all k e (otherwise {n = n} {k = k'} {os = os} there x wt) =
+    let u = cut_waits r cs rest g fs c m w (ws ++ os) all k' e wt in (u.0, u.1, omega (arith, u.2), u.3)
+cut_waits r (Keep h gs d l ∷ cs) rest g fs c m w ws all k e wt = (ws, k, omega arith, subst (λ x. Waits r x (w ∷ ws) all k) e wt)

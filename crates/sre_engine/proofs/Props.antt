@@ -3,7 +3,7 @@ use Rattle.std.proofs.Common.{ℕ, ◌+◌, ◌*◌, ◌-◌, ◌≡◌, List, [
 use Rattle.std.proofs.Props.{props}
 use mathlib.Core.HLevel.{is_prop→PathP}
 use Rattle.std.proofs.Math.Logic.{∥∥₁_elim}
-use Rattle.sre_engine.specs.Tree.{Tree, Empty, Then, Item, Fail, One, At, Mark, Branch, Loop, Run, PossessiveLoop, Atomic, Look, Reference, Exists, ExistsElse, Trees, Only, Or, GreedyRun, LazyRun, Test, In, SetItem, Single, Range, RangeUniIgnore, Category, Charset, BigCharset, Negate}
+use Rattle.sre_engine.specs.Tree.{Tree, Empty, Then, Item, Fail, One, At, Mark, Branch, Loop, Run, PossessiveLoop, Atomic, Look, Reference, Exists, ExistsElse, Trees, Only, Or, Test, In, SetItem, Single, Range, RangeUniIgnore, Category, Charset, BigCharset, Negate}
 use Rattle.sre_engine.specs.Grammar.{word, skip, Reads, ReadsItem, ReadsBranch, TestOperands, ReadsSet, IsBuilt, Whole}
 use Rattle.sre_engine.specs.Hinted.{IsCode}
 use Rattle.sre_engine.proofs.Unique.{item_same, whole_same}
@@ -15,8 +15,7 @@ between A B one pa pb x y =
     λ i. (p i, is_prop→PathP (λ j. A (p j)) (λ j. pa (p j)) x.1 y.1 i, is_prop→PathP (λ j. B (p j)) (λ j. pb (p j)) x.2 y.2 i)
 
 built_prop : (x : Item) → IsProp (IsBuilt x)
-built_prop (Run GreedyRun low high t) = hlevel props
-built_prop (Run LazyRun low high t) = hlevel props
+built_prop (Run kind low high t) = hlevel props
 built_prop x = hlevel props
 
 set_prop : (s : List SetItem) (ws : List ℕ) (i j : ℕ) → IsProp (ReadsSet ws i j s)

@@ -10,15 +10,15 @@ use Rattle.sre_engine.specs.Characters.{holds}
 use Rattle.sre_engine.specs.Ways.{Way, unlimited, run_length, longest_run}
 use Rattle.sre_engine.specs.Grammar.{Word, word, Opcode, skip, test_opcode}
 use Rattle.sre_engine.specs.Board.{Instruction, Shorter, Longer, Frame, BoardValue}
-use Rattle.sre_engine.specs.Moves.{spot_at, Stop, Split}
+use Rattle.sre_engine.specs.Moves.{spot_at, Stop, Split, Go}
 use Rattle.sre_engine.specs.MovesInRuns.{RunOperands}
-use Rattle.sre_engine.specs.Machine.{Running, RunningLazily, Moves, Runs, turns, Run, Goes, GoesBoth, Later, spot, HasRun}
+use Rattle.sre_engine.specs.Machine.{Running, RunningLazily, Moves, Runs, turns, Run, Goes, GoesBoth, Later, spot, HasRun, RunningLongest}
 use Rattle.sre_engine.specs.Standing.{TestStands, HasTest}
 use Rattle.sre_engine.specs.declared.engine.machine.Next.TheVariants as next
 use Rattle.sre_engine.proofs.Words.{word_of, word_there, opcode_within}
 use Rattle.sre_engine.proofs.Passing.{past_end, read_passes}
 use Rattle.sre_engine.proofs.Longest.{goes_on, run_at_most, run_inside}
-use Rattle.sre_engine.proofs.Moving.{in_family, at_instruction, has_run, run_splits, turn_stops, turn_splits, both_last}
+use Rattle.sre_engine.proofs.Moving.{in_family, at_instruction, has_run, run_splits, turn_stops, turn_splits, both_last, turn_goes}
 
 -- shorter counts
 shorter_stop : (r : Run) (t k p : ℕ) (fs : List Frame) (m : Marks) → k ≡ 0 → Moves r.words r.subject (spot_at (Shorter t k) fs p m) Stop
@@ -86,6 +86,46 @@ module _ (r : Run) (i v low high count : ℕ) (c after : StringCursor) (w : Opco
   run_runs x =
       let s = run_splits _ _ (run_moves x.frames x.marks) x.runs in
       (has_run r (Instruction (i + 1 + v)) x.frames x.marks after there s.0, has_run r (Shorter (i + 1 + v) (count - low)) x.frames x.marks after there s.1)
+
+-- POSSESSIVE_REPEAT_ONE
+pub longest_there : (r : Run) (i : ℕ) (c : StringCursor) → Opcode r.words i opcode.POSSESSIVE_REPEAT_ONE →
+    HasRun r (Instruction i) c → RunWords r.words i
+longest_there r i c w x =
+    let h = (in_family opcode.POSSESSIVE_REPEAT_ONE RunningLongest refl w x.runs).1 in
+    let test : HasTest r.words (i + 4) = record { end = h.end; test = h.test; stands = h.operands.stands } in
+    record { operands = opcode_within r.words (i + 4) (test_opcode h.test) h.operands.stands.code; test = test }
+
+module _ (r : Run) (i low high count : ℕ) (c : StringCursor) (b : BoardValue)
+    (w : Opcode r.words i opcode.POSSESSIVE_REPEAT_ONE) (t : HasTest r.words (i + 4)) (wl : Word r.words (i + 2) low)
+    (wh : Word r.words (i + 3) high) (k : CountsRun r i high c.position count) where
+  longest_is : longest_run r.subject t.test high c.position ≡ count
+  longest_is = sym (k t.end t.test t.stands)
+
+  longest_operands : RunOperands r.words i low high t.end t.test
+  longest_operands = record { lowest = wl; highest = wh; stands = t.stands }
+
+  pub longest_short : count < low → (all : List Way) (limit : ℕ) → Goes r all limit (Instruction i) c b →
+      Later r all limit next.Back b
+  longest_short l =
+      let short : nat_lt count low ≡ true = grind (arith, nat_tests) in
+      turn_stops r (Instruction i) c b (at_instruction opcode.POSSESSIVE_REPEAT_ONE RunningLongest refl w
+      (record { low = low; high = high; end = t.end; test = t.test; operands = longest_operands; is = rw (longest_is, short) refl }))
+
+  pub longest_step : (v : ℕ) (after : StringCursor) → Word r.words (i + 1) v → low ≤ count →
+      after.position ≡ c.position + count → r.stands after after.position →
+      (all : List Way) (limit : ℕ) → Goes r all limit (Instruction i) c b → Later r all limit (next.At (i + 1 + v) after) b
+  longest_step v after wv l moved_on there all limit g =
+      let enough : nat_lt count low ≡ false = grind (arith, nat_tests) in
+      let move : Moves r.words r.subject (spot (Instruction i) c b) (Go (spot (Instruction (i + 1 + v)) after b)) =
+      at_instruction opcode.POSSESSIVE_REPEAT_ONE RunningLongest refl w (record {
+        low = low;
+        high = high;
+        end = t.end;
+        test = t.test;
+        operands = longest_operands;
+        is = rw (longest_is, enough, moved_on, word_of r.words (i + 1) v wv) refl;
+      }) in
+      turn_goes r (Instruction i) c b (Instruction (i + 1 + v)) after b move there refl all limit g
 
 -- MIN_REPEAT_ONE: the words that stand behind it
 pub lazy_there : (r : Run) (i : ℕ) (c : StringCursor) → Opcode r.words i opcode.MIN_REPEAT_ONE → HasRun r (Instruction i) c → RunWords r.words i

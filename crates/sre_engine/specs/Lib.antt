@@ -25,6 +25,7 @@ pub mod Standing
 pub mod Moves
 pub mod MovesInRuns
 pub mod MovesInLoops
+pub mod MovesInRegions
 pub mod Machine
 pub mod Counting
 pub mod Requests

@@ -4,15 +4,16 @@ use Rattle.std.specs.List.{filter}
 use Rattle.sre_chars.specs.declared.constants.SreOpcode.{SreOpcode}
 use Rattle.sre_chars.specs.declared.constants.SreOpcode.TheVariants as opcode
 use Rattle.sre_chars.specs.declared.string.StringCursor.{StringCursor}
-use Rattle.sre_engine.specs.Tree.{Tree, Order, Greedy, Lazy}
+use Rattle.sre_engine.specs.Tree.{Tree, Order, Greedy, Lazy, Sign, Positive, Negative}
 use Rattle.sre_engine.specs.Marks.{Marks, no_marks}
 use Rattle.sre_engine.specs.Subject.{Subject}
 use Rattle.sre_engine.specs.Ways.{Way, here, ways}
 use Rattle.sre_engine.specs.Grammar.{Opcode}
-use Rattle.sre_engine.specs.Board.{Point, Instruction, Alternatives, Shorter, Longer, Frame, Choice, Else, BoardValue}
-use Rattle.sre_engine.specs.Moves.{Spot, spot_at, Move, Stop, End, Go, Split, to_point, TestMove, AtMove, MarkMove, JumpMove, AlternativesMove}
-use Rattle.sre_engine.specs.MovesInRuns.{RunMove, ShorterMove, LazyRunMove, LongerMove}
+use Rattle.sre_engine.specs.Board.{Point, Instruction, Alternatives, Shorter, Longer, Inside, Frame, Choice, Else, Keep, Region, AtomicGroup, Ahead, NotAhead, BoardValue}
+use Rattle.sre_engine.specs.Moves.{Spot, spot_at, Move, Stop, End, Go, Split, Enter, closed, to_point, TestMove, AtMove, MarkMove, JumpMove, AlternativesMove}
+use Rattle.sre_engine.specs.MovesInRuns.{RunMove, LongestRunMove, ShorterMove, LazyRunMove, LongerMove}
 use Rattle.sre_engine.specs.MovesInLoops.{RepeatMove, UntilMove}
+use Rattle.sre_engine.specs.MovesInRegions.{AtomicMove, LookMove}
 use Rattle.sre_engine.specs.declared.engine.machine.Next.{Next}
 use Rattle.sre_engine.specs.declared.engine.machine.Next.TheVariants as next
 
@@ -27,8 +28,11 @@ pub data Family : Type 0 where
   Jumping : Family
   Running : Family
   RunningLazily : Family
+  RunningLongest : Family
   Repeating : Family
   Looping : Order → Family
+  Grouping : Family
+  Looking : Sign → Family
   Unbuilt : Family
 
 abbrev pub family : SreOpcode → Family
@@ -55,9 +59,13 @@ family opcode.BRANCH = Branching
 family opcode.JUMP = Jumping
 family opcode.REPEAT_ONE = Running
 family opcode.MIN_REPEAT_ONE = RunningLazily
+family opcode.POSSESSIVE_REPEAT_ONE = RunningLongest
 family opcode.REPEAT = Repeating
 family opcode.MAX_UNTIL = Looping Greedy
 family opcode.MIN_UNTIL = Looping Lazy
+family opcode.ATOMIC_GROUP = Grouping
+family opcode.ASSERT = Looking Positive
+family opcode.ASSERT_NOT = Looking Negative
 family _ = Unbuilt
 
 -- what a turn does at an instruction whose family is known
@@ -71,8 +79,11 @@ InFamily ws s Branching i x mv = mv ≡ Go (to_point x (Alternatives (i + 1)))
 InFamily ws s Jumping i x mv = JumpMove ws i x mv
 InFamily ws s Running i x mv = RunMove ws s i x mv
 InFamily ws s RunningLazily i x mv = LazyRunMove ws s i x mv
+InFamily ws s RunningLongest i x mv = LongestRunMove ws s i x mv
 InFamily ws s Repeating i x mv = RepeatMove ws i x mv
 InFamily ws s (Looping o) i x mv = UntilMove ws o i x mv
+InFamily ws s Grouping i x mv = AtomicMove ws i x mv
+InFamily ws s (Looking sign) i x mv = LookMove ws sign i x mv
 InFamily ws s Unbuilt i x mv = ⊥
 
 -- what a turn does at a point
@@ -81,6 +92,7 @@ MovesAt ws s (Instruction i) x mv = (o : SreOpcode) × Opcode ws i o × InFamily
 MovesAt ws s (Alternatives q) x mv = AlternativesMove ws q x mv
 MovesAt ws s (Shorter t k) x mv = ShorterMove t k x mv
 MovesAt ws s (Longer i n) x mv = LongerMove ws s i n x mv
+MovesAt ws s (Inside g) x mv = ⊥
 
 abbrev pub Moves : List ℕ → Subject → Spot → Move → Type 0
 Moves ws s x mv = MovesAt ws s x.point x mv
@@ -96,6 +108,7 @@ mutual
     ends : {x : Spot} → Comes ws s x End (here x.position x.marks) 2
     goes : {x y : Spot} {os : List Way} {n : ℕ} → Runs ws s y os n → Comes ws s x (Go y) os (suc n)
     splits : {x y z : Spot} {os₁ os₂ : List Way} {n₁ n₂ : ℕ} → Runs ws s y os₁ n₁ → Runs ws s z os₂ n₂ → Comes ws s x (Split y z) (os₁ ++ os₂) (suc (suc (n₁ + n₂)))
+    enters : {x y : Spot} {g : Region} {now os : List Way} {n₁ n₂ : ℕ} → Runs ws s y now n₁ → Comes ws s x (closed g x now) os n₂ → Comes ws s x (Enter g y) os (suc (n₁ + n₂))
 
 -- what a run is about: the words, the subject, which cursors stand at which position, and which outcomes are accepted
 pub record Run : Type 1 where
@@ -108,6 +121,7 @@ pub record Run : Type 1 where
 pub data Waits (r : Run) : List Choice → List Way → List Way → ℕ → Type 0 where
   outermost : {now : List Way} → Waits r [] now (filter r.accepts now) 0
   otherwise : {pt : Point} {fs : List Frame} {c : StringCursor} {n k : ℕ} {m : Marks} {os now all : List Way} {cs : List Choice} → r.stands c c.position → Runs r.words r.subject (spot_at pt fs c.position m) os n → Waits r cs (now ++ os) all k → Waits r (Else pt fs c m ∷ cs) now all (suc (n + k))
+  kept : {g : Region} {i : ℕ} {fs : List Frame} {c : StringCursor} {n k : ℕ} {m : Marks} {os now all : List Way} {cs : List Choice} → r.stands c c.position → Comes r.words r.subject (spot_at (Instruction i) fs c.position m) (closed g (spot_at (Instruction i) fs c.position m) now) os n → Waits r cs os all k → Waits r (Keep g fs c m ∷ cs) now all (n + k)
 
 -- where the machine stands at a point and a cursor
 abbrev pub spot : Point → StringCursor → BoardValue → Spot
@@ -169,6 +183,22 @@ Chooses r first second c old n new = (all : List Way) (limit : ℕ) → GoesBoth
 -- the same where the machine goes back
 abbrev pub Retreats : Run → BoardValue → Next → BoardValue → Type 0
 Retreats r old n new = (all : List Way) (limit : ℕ) → Backs r all limit old → Later r all limit n new
+
+-- the same where a region ends
+abbrev pub Closes : Run → StringCursor → BoardValue → Next → BoardValue → Type 0
+Closes r c old n new = (all : List Way) (limit : ℕ) → Ends r all limit c old → Later r all limit n new
+
+-- what comes of a region that was entered at d, where its body has an outcome at c
+abbrev pub after_outcome : Region → StringCursor → StringCursor → Next
+after_outcome (AtomicGroup t) c d = next.At t c
+after_outcome (Ahead t) c d = next.At t d
+after_outcome (NotAhead t) c d = next.Back
+
+-- what comes of one that was entered at a cursor, where its body has none
+abbrev pub without_outcome : Region → StringCursor → Next
+without_outcome (AtomicGroup t) c = next.Back
+without_outcome (Ahead t) c = next.Back
+without_outcome (NotAhead t) c = next.At t c
 
 -- there are outcomes, perhaps none, of standing at a point and a cursor
 pub record HasRun (r : Run) (pt : Point) (c : StringCursor) : Type 0 where

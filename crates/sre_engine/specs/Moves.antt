@@ -1,5 +1,5 @@
 -- Moves: what the machine does in one turn, by the family of the opcode. Nothing here is recursive.
-use Rattle.std.specs.Prelude.{ℕ, ◌+◌, ◌≡◌, ◌<◌, length, cond, nat_eq, List}
+use Rattle.std.specs.Prelude.{ℕ, ◌+◌, ◌≡◌, ◌<◌, length, cond, nat_eq, List, [], ◌∷◌}
 use Rattle.sre_chars.specs.Numbers.{at_number}
 use Rattle.sre_chars.specs.declared.constants.SreAtCode.{SreAtCode}
 use Rattle.sre_engine.specs.Tree.{Test}
@@ -7,7 +7,8 @@ use Rattle.sre_engine.specs.Marks.{Marks, set_mark}
 use Rattle.sre_engine.specs.Subject.{Subject, passes, holds_at}
 use Rattle.sre_engine.specs.Grammar.{Word, skip}
 use Rattle.sre_engine.specs.Standing.{TestStands}
-use Rattle.sre_engine.specs.Board.{Point, Instruction, Alternatives, Frame}
+use Rattle.sre_engine.specs.Board.{Point, Instruction, Alternatives, Frame, Region, AtomicGroup, Ahead, NotAhead}
+use Rattle.sre_engine.specs.Ways.{Way}
 
 -- where the machine stands: a point, the loops in progress, a position and marks
 pub record Spot : Type 0 where
@@ -19,12 +20,14 @@ pub record Spot : Type 0 where
 abbrev pub spot_at : Point → List Frame → ℕ → Marks → Spot
 spot_at pt fs p m = record { point = pt; frames = fs; position = p; marks = m }
 
--- a turn: nothing comes of the spot; its region ends there; it comes to another spot; or to one, and then to another
+-- a turn: nothing comes of the spot; its region ends there; it comes to another spot; to one, and then to another; or
+-- to a region, whose body begins at that spot
 pub data Move : Type 0 where
   Stop : Move
   End : Move
   Go : Spot → Move
   Split : Spot → Spot → Move
+  Enter : Region → Spot → Move
 
 -- another point, all else alike
 abbrev pub to_point : Spot → Point → Spot
@@ -33,6 +36,15 @@ to_point x pt = record x { point = pt }
 -- another point and position
 abbrev pub to_place : Spot → Point → ℕ → Spot
 to_place x pt p = record x { point = pt; position = p }
+
+-- what comes of a region that was entered at a spot, where its body has these outcomes
+abbrev pub closed : Region → Spot → List Way → Move
+closed (AtomicGroup t) x [] = Stop
+closed (AtomicGroup t) x (w ∷ ws) = Go (record x { point = Instruction t; position = w.stop; marks = w.marks })
+closed (Ahead t) x [] = Stop
+closed (Ahead t) x (w ∷ ws) = Go (record x { point = Instruction t; marks = w.marks })
+closed (NotAhead t) x [] = Go (to_point x (Instruction t))
+closed (NotAhead t) x (w ∷ ws) = Stop
 
 -- a test of one character
 pub record TestMove (ws : List ℕ) (s : Subject) (i : ℕ) (x : Spot) (mv : Move) : Type 0 where

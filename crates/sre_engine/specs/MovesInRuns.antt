@@ -6,7 +6,7 @@ use Rattle.sre_engine.specs.Ways.{unlimited, run_length, longest_run}
 use Rattle.sre_engine.specs.Grammar.{Word, skip}
 use Rattle.sre_engine.specs.Standing.{TestStands}
 use Rattle.sre_engine.specs.Board.{Instruction, Shorter, Longer}
-use Rattle.sre_engine.specs.Moves.{Spot, to_place, Move, Stop, Split}
+use Rattle.sre_engine.specs.Moves.{Spot, to_place, Move, Stop, Go, Split}
 
 -- the operands of a run at i: skip least greatest test SUCCESS
 pub record RunOperands (ws : List ℕ) (i low high end : ℕ) (test : Test) : Type 0 where
@@ -24,6 +24,17 @@ pub record RunMove (ws : List ℕ) (s : Subject) (i : ℕ) (x : Spot) (mv : Move
   pub is : mv ≡
       let k = longest_run s test high x.position in
       cond (nat_lt k low) Stop (Split (to_place x (Instruction (skip ws (i + 1))) (x.position + k)) (to_place x (Shorter (skip ws (i + 1)) (k - low)) (x.position + k)))
+
+-- POSSESSIVE_REPEAT_ONE: the longest run alone
+pub record LongestRunMove (ws : List ℕ) (s : Subject) (i : ℕ) (x : Spot) (mv : Move) : Type 0 where
+  pub low : ℕ
+  pub high : ℕ
+  pub end : ℕ
+  pub test : Test
+  pub operands : RunOperands ws i low high end test
+  pub is : mv ≡
+      let k = longest_run s test high x.position in
+      cond (nat_lt k low) Stop (Go (to_place x (Instruction (skip ws (i + 1))) (x.position + k)))
 
 -- the shorter counts of a run, so many of them
 pub record ShorterMove (t k : ℕ) (x : Spot) (mv : Move) : Type 0 where

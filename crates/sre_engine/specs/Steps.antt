@@ -1,22 +1,26 @@
 -- Steps of the check: what is left to read of an item or a part, and what the answers say of it.
 use Rattle.std.specs.Prelude.{ℕ, ◌+◌, ◌*◌, ◌≡◌, ◌<◌, ◌≤◌, ◌⊎◌, min, List, length, Option, Some, None, Result, Ok, Err}
 use Rattle.sre_chars.specs.declared.constants.SreOpcode.TheVariants as opcode
-use Rattle.sre_engine.specs.Tree.{Tree, Empty, Item, Run, Trees, Order, RunKind, Test}
-use Rattle.sre_engine.specs.Grammar.{Word, Opcode, run_opcode, until_opcode, IsBuilt, JumpsTo, Reads, ReadsItem, ReadsBranch}
+use Rattle.sre_engine.specs.Tree.{Tree, Empty, Item, Trees, Order, RunKind, Sign}
+use Rattle.sre_engine.specs.Grammar.{Word, Opcode, run_opcode, until_opcode, look_opcode, JumpsTo, Reads, ReadsItem, ReadsBranch}
 use Rattle.sre_engine.specs.Width.{held, width, item_width, least_width}
 use Rattle.sre_engine.specs.Reading.{Within}
 use Rattle.sre_engine.specs.declared.code.error.CodeError.{CodeError}
 use Rattle.sre_engine.specs.declared.code.step.Part.{Part}
-use Rattle.sre_engine.specs.declared.code.step.Part.TheVariants.{Whole, Alternative, Body}
+use Rattle.sre_engine.specs.declared.code.step.Part.TheVariants.{Whole, Alternative, Body, Region}
 use Rattle.sre_engine.specs.declared.code.step.Bounds.{Bounds}
 use Rattle.sre_engine.specs.declared.code.step.Step.{Step}
 use Rattle.sre_engine.specs.declared.code.step.Step.TheVariants.{Past, Opens}
 
--- a run of one test is at i, of a kind that the engine has
-pub record BuiltRun (ws : List ℕ) (i : ℕ) : Type 0 where
+-- a run of one test is at i, of some kind
+pub record RunAt (ws : List ℕ) (i : ℕ) : Type 0 where
   pub kind : RunKind
   pub there : Opcode ws i (run_opcode kind)
-  pub built : (low high : ℕ) (t : Test) → IsBuilt (Run kind low high t)
+
+-- ASSERT or ASSERT_NOT is at i
+pub record LookAt (ws : List ℕ) (i : ℕ) : Type 0 where
+  pub sign : Sign
+  pub there : Opcode ws i (look_opcode sign)
 
 -- an item of width w is at i and ends at j
 abbrev pub ItemAt : List ℕ → ℕ → ℕ → ℕ → Type 0
@@ -34,6 +38,7 @@ IsUntil ws k = (o : Order) × Opcode ws k (until_opcode o)
 abbrev pub Closes : List ℕ → Part → ℕ → ℕ → ℕ → ℕ → Type 0
 Closes ws Whole k u j w = Opcode ws k opcode.SUCCESS × (k + 1 ≡ length ws) × (j ≡ k + 1) × (w ≡ u)
 Closes ws (Body end least) k u j w = (k ≡ end) × IsUntil ws k × (j ≡ k + 1) × (w ≡ held (least * u))
+Closes ws (Region end least) k u j w = (k ≡ end) × Opcode ws k opcode.SUCCESS × (j ≡ k + 1) × (w ≡ held (least * u))
 Closes ws (Alternative end tail least) k u j w = (k ≡ end) × JumpsTo ws k tail × More ws (k + 2) tail (min least u) w × (j ≡ tail)
 
 -- the words from i on are what is left of a part whose items so far have width a

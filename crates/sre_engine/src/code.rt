@@ -16,6 +16,7 @@ mod character;
 mod error;
 mod item;
 mod part;
+mod region;
 mod repeat;
 mod set;
 mod step;

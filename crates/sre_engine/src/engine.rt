@@ -9,6 +9,8 @@ mod marks;
 mod one_character;
 mod operands;
 mod position;
+mod possessive_runs;
+mod regions;
 mod request;
 mod runs;
 mod set;
@@ -24,6 +26,8 @@ pub use state::{SreError, State};
 mod loop_tests;
 #[cfg(test)]
 mod match_tests;
+#[cfg(test)]
+mod region_tests;
 #[cfg(test)]
 mod search_tests;
 #[cfg(test)]

@@ -1,11 +1,11 @@
 //! Items, by their opcodes.
 
 ghost use Rattle.sre_engine.specs.Grammar.{Opcode};
-ghost use Rattle.sre_engine.specs.Steps.{Gives, ItemAt, ItemGives, BuiltRun};
+ghost use Rattle.sre_engine.specs.Steps.{Gives, ItemAt, ItemGives, RunAt};
 
 use crate::code::error::CodeError;
 use crate::code::step::Step;
-use crate::code::{branch, character, repeat, words};
+use crate::code::{branch, character, region, repeat, words};
 use sre_chars::constants::SreOpcode;
 
 /// `<AT> <position>`
@@ -34,10 +34,10 @@ fn mark(words: &[u32], place: usize) -> Result<Step, CodeError>
     })
 }
 
-/// `<REPEAT_ONE> <skip> <least count> <greatest count> <test> <SUCCESS>`, and MIN_REPEAT_ONE alike
+/// `<REPEAT_ONE> <skip> <least count> <greatest count> <test> <SUCCESS>`, and MIN_REPEAT_ONE and POSSESSIVE_REPEAT_ONE alike
 #[tactic(auto, using(crate::proofs::Runs::run_exactly, crate::proofs::Runs::run_short, crate::proofs::Runs::run_counts, crate::proofs::Runs::run_no_opcode, crate::proofs::Runs::run_nowhere, crate::proofs::Runs::run_open, crate::proofs::Runs::run_ends_cut, crate::proofs::Runs::run_skip))]
 fn run(words: &[u32], place: usize) -> Result<Step, CodeError>
-    requires { BuiltRun words.now place }
+    requires { RunAt words.now place }
     ensures { Gives words.now place (ItemAt words.now place) result }
 {
     let tail = words::skip(words, place + 1)?;
@@ -61,7 +61,7 @@ fn run(words: &[u32], place: usize) -> Result<Step, CodeError>
 }
 
 /// The item at this place.
-#[tactic(auto, using(crate::proofs::Items::fail_exactly, crate::proofs::Items::one_nowhere, crate::proofs::Items::no_opcode, crate::proofs::Runs::greedy_there, crate::proofs::Runs::lazy_there))]
+#[tactic(auto, using(crate::proofs::Items::fail_exactly, crate::proofs::Items::one_nowhere, crate::proofs::Items::no_opcode, crate::proofs::Runs::greedy_there, crate::proofs::Runs::lazy_there, crate::proofs::Runs::possessive_there, crate::proofs::Regions::assert_there, crate::proofs::Regions::assert_not_there))]
 pub fn item(words: &[u32], place: usize) -> Result<Step, CodeError>
     ensures { ItemGives words.now place result }
 {
@@ -76,7 +76,11 @@ pub fn item(words: &[u32], place: usize) -> Result<Step, CodeError>
         SreOpcode::BRANCH => branch::branch(words, place),
         SreOpcode::REPEAT_ONE => run(words, place),
         SreOpcode::MIN_REPEAT_ONE => run(words, place),
+        SreOpcode::POSSESSIVE_REPEAT_ONE => run(words, place),
         SreOpcode::REPEAT => repeat::repeat(words, place),
+        SreOpcode::ATOMIC_GROUP => region::atomic_group(words, place),
+        SreOpcode::ASSERT => region::look(words, place),
+        SreOpcode::ASSERT_NOT => region::look(words, place),
         _ => Ok(Step::Past {
             place: character::test(words, place, code)?,
             width: 1,

@@ -5,7 +5,7 @@ ghost use Rattle.sre_engine.specs.Steps.{Closing};
 
 use crate::code::error::CodeError;
 use crate::code::step::{Bounds, Part, Step};
-use crate::code::{branch, repeat, words};
+use crate::code::{branch, region, repeat, words};
 use sre_chars::constants::SreOpcode;
 
 /// SUCCESS, as the last word.
@@ -37,5 +37,6 @@ pub fn close(words: &[u32], place: usize, part: Part, width: u32) -> Result<Opti
             branch::alternative(words, place, Bounds { end, tail }, least, width)
         }
         Part::Body { end, least } => repeat::until(words, place, end, least, width),
+        Part::Region { end, least } => region::end(words, place, end, least, width),
     }
 }

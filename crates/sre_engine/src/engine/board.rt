@@ -5,8 +5,8 @@
 
 ghost use Rattle.std.specs.Prelude.{◌≡◌, ℕ, ◌<◌, [], ◌∷◌, drop, length, reverse, IfOk, MatchOption};
 ghost use Rattle.sre_engine.specs.Marks.{no_marks, set_mark};
-ghost use Rattle.sre_engine.specs.Board.{Else, bare};
-ghost use Rattle.sre_engine.specs.Choices.{Fits};
+ghost use Rattle.sre_engine.specs.Board.{Inside, choice, from_region, Cuts, bare};
+ghost use Rattle.sre_engine.specs.Choices.{Fits, regions_of, down_to_region};
 
 use crate::engine::chains::{Chains, Frame, frame_of};
 use crate::engine::marks::Marks;
@@ -17,6 +17,17 @@ use std::marker::Model;
 
 #[cfg(test)]
 mod tests;
+
+/// A region whose body is in progress, by where one goes on behind it.
+#[derive(Clone, Copy, PartialEq, Eq, Debug)]
+pub(crate) enum Region {
+    /// An atomic group.
+    AtomicGroup(usize),
+    /// A look whose body must match.
+    Ahead(usize),
+    /// A look whose body must not match.
+    NotAhead(usize),
+}
 
 /// Where the machine can go on.
 #[derive(Clone, Copy, PartialEq, Eq, Debug)]
@@ -29,6 +40,8 @@ pub(crate) enum Point {
     Shorter(usize, usize),
     /// With the counts of a lazy run that are longer than the one at the cursor: the run's place, and that count.
     Longer(usize, usize),
+    /// Behind a region whose body is in progress.
+    Inside(Region),
 }
 
 /// A choice: where to go on, with which loops, and how many changes and chains there were when it was made.
@@ -41,25 +54,26 @@ pub(crate) struct Saved {
     pub changes: usize,
 }
 
-/// The loops in progress, the marks, and what is still to be tried.
+/// The loops in progress, the marks, and what is still to be tried. It counts the regions among the choices.
 #[derive(Drop)]
 pub(crate) struct Board<A: Allocator> {
     trail: Trail<A>,
     chains: Chains<A>,
     frame: usize,
     choices: Vec<Saved, A>,
+    regions: usize,
 }
 
 impl<A: Allocator> Model for Board<A> {
-    ghost use Rattle.std.specs.Prelude.{◌<◌, length, reverse};
+    ghost use Rattle.std.specs.Prelude.{◌<◌, ◌≡◌, length, reverse};
     ghost use Rattle.sre_engine.specs.Board.{BoardValue};
-    ghost use Rattle.sre_engine.specs.Choices.{board_of, Fits};
+    ghost use Rattle.sre_engine.specs.Choices.{board_of, Fits, regions_in};
 
     ghost Value = { BoardValue };
 
     ghost view = { λ b. board_of b.trail b.chains b.frame b.choices.items };
 
-    ghost invariant = { λ b. (b.frame < length b.chains) × Fits (reverse b.choices.items) (length b.chains) (length b.trail.past) };
+    ghost invariant = { λ b. (b.frame < length b.chains) × Fits (reverse b.choices.items) (length b.chains) (length b.trail.past) × (b.regions ≡ regions_in (reverse b.choices.items)) };
 }
 
 // How many chains the choices need.
@@ -73,6 +87,32 @@ fn kept(saved: &[Saved]) -> usize
     saved[saved.len() - 1].chains
 }
 
+// How many regions a choice is.
+#[inline(always)]
+fn regions_of(point: Point) -> usize
+    ensures { result ≡ regions_of point }
+{
+    match point {
+        Point::Inside(_) => 1,
+        _ => 0,
+    }
+}
+
+// Takes choices down to the newest region, and that too.
+#[inline(always)]
+fn innermost<A: Allocator>(choices: &mut Vec<Saved, A>) -> Option<(Region, Saved)>
+    ensures { MatchOption result
+        (down_to_region (reverse choices.old.items) ≡ [])
+        (λ x. (x.1.point ≡ Inside x.0) × (down_to_region (reverse choices.old.items) ≡ x.1 ∷ reverse choices.new.items)) }
+{
+    'choice: loop {
+        let saved = choices.pop()?;
+        if let Point::Inside(region) = saved.point {
+            return Some((region, saved));
+        }
+    }
+}
+
 impl<A: Allocator + Copy> Board<A> {
     /// No marks and no choices. It takes no memory.
     #[inline(always)]
@@ -84,6 +124,7 @@ impl<A: Allocator + Copy> Board<A> {
             chains: Chains::new(alloc),
             frame: 0,
             choices: Vec::new(alloc),
+            regions: 0,
         }
     }
 }
@@ -106,6 +147,7 @@ impl<A: Allocator> Board<A> {
         self.trail.clear();
         self.frame = 0;
         self.chains.clear();
+        self.regions = 0;
     }
 
     /// Sets mark `n` to `position`. After an error the board is good for `clear` alone.
@@ -122,7 +164,7 @@ impl<A: Allocator> Board<A> {
     /// Adds a choice: to go on at a point and a cursor, with the marks as they are now.
     #[inline(always)]
     pub(crate) fn save(&mut self, point: Point, cursor: StringCursor) -> Result<(), AllocError>
-        ensures { IfOk result (λ _. self.new ≡ record self.old { choices = Else point self.old.frames cursor self.old.marks ∷ self.old.choices }) }
+        ensures { IfOk result (λ _. self.new ≡ record self.old { choices = choice point self.old.frames cursor self.old.marks ∷ self.old.choices }) }
     {
         self.choices.push(Saved {
             point,
@@ -131,7 +173,25 @@ impl<A: Allocator> Board<A> {
             chains: self.chains.count(),
             changes: self.trail.length(),
         })?;
+        self.regions += regions_of(point);
         Ok(())
+    }
+
+    /// Ends the innermost region, if there is one: the choices inside it go, and the marks stay. It takes no memory.
+    #[inline(always)]
+    pub(crate) fn cut(&mut self) -> Option<(Region, StringCursor)>
+        ensures { MatchOption result
+            ((from_region self.old.choices ≡ []) × (self.new ≡ self.old))
+            (λ x. Cuts self.old x.0 x.1 self.new) }
+    {
+        if self.regions == 0 {
+            return None;
+        }
+        let (region, saved) = innermost(&mut self.choices)?;
+        self.regions -= 1;
+        self.chains.cut(saved.chains);
+        self.frame = saved.frame;
+        Some((region, saved.cursor))
     }
 
     /// Takes the newest choice, with the marks that it was made with. It takes no memory.
@@ -139,9 +199,10 @@ impl<A: Allocator> Board<A> {
     pub(crate) fn back(&mut self) -> Option<(Point, StringCursor)>
         ensures { MatchOption result
             ((self.old.choices ≡ []) × (self.new ≡ self.old))
-            (λ x. self.old.choices ≡ Else x.0 self.new.frames x.1 self.new.marks ∷ self.new.choices) }
+            (λ x. self.old.choices ≡ choice x.0 self.new.frames x.1 self.new.marks ∷ self.new.choices) }
     {
         let saved = self.choices.pop()?;
+        self.regions -= regions_of(saved.point);
         self.trail.back(saved.changes);
         self.chains.cut(saved.chains);
         self.frame = saved.frame;

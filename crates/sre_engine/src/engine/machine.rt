@@ -18,6 +18,8 @@ use crate::engine::loops::{max_until, min_until, repeat};
 use crate::engine::one_character::{takes, test_end};
 use crate::engine::operands;
 use crate::engine::position::holds_at;
+use crate::engine::possessive_runs::possessive_repeat_one;
+use crate::engine::regions::{assert, assert_not, atomic_group, without_outcome};
 use crate::engine::request::Request;
 use crate::engine::runs::longest_run;
 use sre_chars::constants::{SreAtCode, SreOpcode};
@@ -345,6 +347,7 @@ pub(super) fn back<S: StrDrive, A: Allocator>(
             Point::Alternatives(place) => Ok(Some(alternatives(req, board, place, choice.1)?)),
             Point::Shorter(tail, count) => Ok(Some(shorter(req, board, tail, count, choice.1)?)),
             Point::Longer(place, count) => Ok(Some(longer(req, board, place, count, choice.1)?)),
+            Point::Inside(region) => Ok(Some(without_outcome(region, choice.1))),
         },
     }
 }
@@ -389,9 +392,13 @@ pub(super) fn instruction<S: StrDrive, A: Allocator>(
                 SreOpcode::MARK => mark(req, board, place, cursor),
                 SreOpcode::REPEAT_ONE => repeat_one(req, board, place, cursor),
                 SreOpcode::MIN_REPEAT_ONE => min_repeat_one(req, board, place, cursor),
+                SreOpcode::POSSESSIVE_REPEAT_ONE => Ok(possessive_repeat_one(req, place, cursor)),
                 SreOpcode::REPEAT => repeat(req, board, place, cursor),
                 SreOpcode::MAX_UNTIL => max_until(req, board, place, cursor),
                 SreOpcode::MIN_UNTIL => min_until(req, board, place, cursor),
+                SreOpcode::ATOMIC_GROUP => atomic_group(req, board, place, cursor),
+                SreOpcode::ASSERT => assert(req, board, place, cursor),
+                SreOpcode::ASSERT_NOT => assert_not(req, board, place, cursor),
                 $(SreOpcode::$test => Ok(test(req, SreOpcode::$test, place, cursor)),)*
                 _ => unreachable!(),
             }

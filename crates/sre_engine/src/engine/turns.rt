@@ -12,6 +12,7 @@ ghost use Rattle.sre_engine.specs.Requests.{end_of, run_of};
 use crate::engine::board::Board;
 use crate::engine::machine::{Next, back, instruction};
 use crate::engine::operands::know_words;
+use crate::engine::regions::end;
 use crate::engine::request::Request;
 use sre_chars::string::{StrDrive, StringCursor};
 use std::alloc::{AllocError, Allocator};
@@ -86,12 +87,15 @@ fn turns<L: Ledger, K: Plan, S: StrDrive, A: Allocator>(
                 Some(after) => next = after,
                 None => return Ok(None),
             },
-            Next::Done(cursor) => {
-                if is_accepted(req, cursor.position()) {
-                    return Ok(Some(cursor));
+            Next::Done(cursor) => match end(req, board, cursor) {
+                Some(after) => next = after,
+                None => {
+                    if is_accepted(req, cursor.position()) {
+                        return Ok(Some(cursor));
+                    }
+                    next = Next::Back;
                 }
-                next = Next::Back;
-            }
+            },
         }
     }
 }

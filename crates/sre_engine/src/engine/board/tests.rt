@@ -1,4 +1,4 @@
-use crate::engine::board::{Board, Point, Saved};
+use crate::engine::board::{Board, Point, Region, Saved};
 use crate::engine::marks::Change;
 use crate::string::StringCursor;
 use sre_refusing::Refusing;
@@ -91,6 +91,31 @@ fn memory_is_kept(rt: HostRuntime) -> Result<(), Fail> {
         board.set(0, position)?;
     }
     assert!(rt; heap.left() == left);
+    Ok(())
+}
+
+// A region that ends takes the choices inside it away, and neither the marks nor the choices before it.
+#[test]
+fn a_cut_takes_the_choices_of_the_region(rt: HostRuntime) -> Result<(), Fail> {
+    let mut board = Board::new(rt.alloc());
+    assert!(rt; board.cut() == None);
+    board.save(Point::Instruction(4), StringCursor::new(1, 2))?;
+    assert!(rt; board.cut() == None);
+    board.save(Point::Inside(Region::Ahead(7)), StringCursor::new(3, 4))?;
+    board.save(
+        Point::Inside(Region::AtomicGroup(9)),
+        StringCursor::new(5, 6),
+    )?;
+    board.set(0, 5)?;
+    board.save(Point::Instruction(8), StringCursor::new(7, 8))?;
+    board.set(1, 6)?;
+    assert!(rt; board.cut() == Some((Region::AtomicGroup(9), StringCursor::new(5, 6))));
+    assert!(rt; board.marks().raw() == [Some(5), Some(6)].as_slice());
+    assert!(rt; board.back() == Some((Point::Inside(Region::Ahead(7)), StringCursor::new(3, 4))));
+    assert!(rt; board.marks().raw().is_empty());
+    assert!(rt; board.cut() == None);
+    assert!(rt; board.back() == Some((Point::Instruction(4), StringCursor::new(1, 2))));
+    assert!(rt; board.back() == None);
     Ok(())
 }
 
