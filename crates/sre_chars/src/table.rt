@@ -3,18 +3,20 @@
 //! ASCII is fixed in the code. Past it a table holds three rising lists, two of (from, to) and one
 //! of (low, high), and a character is looked up by halving.
 
-ghost use Rattle.std.specs.Prelude.{◌≡◌, ◌==◌, nat_le, None, Some, IfOk, OnOk, IfErr, IsOkUnless};
+ghost use Rattle.std.specs.Prelude.{◌≡◌, ◌==◌, nat_le, None, Some, IfOk, OnOk, IfErr, IsOkUnless, OnErr};
 ghost use Rattle.std.specs.Option.{option_or};
 ghost use Rattle.sre_chars.specs.Tables.{ascii_table, table_of, lower_ascii, upper_ascii, lower_of, upper_of, is_alphanumeric, is_ascii_alphanumeric, is_in_ranges, last_up_to, mapped};
 ghost use Rattle.sre_chars.specs.Errors.{list_fault, table_fault};
 ghost use Rattle.std.specs.List.Sorted.{IsNonDecreasingBy};
+ghost use Rattle.sre_growth.specs.Refusal.{Refused};
 
 mod lists;
 #[cfg(test)]
 mod tests;
 
 use lists::{Lists, checked_lists, std_lists};
-use std::alloc::{AllocError, AllocFailed, Global};
+use sre_growth::Refusal;
+use std::alloc::{AllocError, Global};
 use std::marker::Model;
 use thiserror::Error;
 
@@ -63,13 +65,13 @@ impl From<AllocError> for UniError {
     }
 }
 
-impl<T: Drop> From<AllocFailed<T>> for UniError {
+impl From<Refusal> for UniError {
     ghost use Rattle.std.specs.Prelude.{◌≡◌};
     ghost use Rattle.sre_chars.specs.declared.table.UniError.TheVariants.{Memory};
 
     ghost from_gives = { λ _ error. error ≡ Memory };
 
-    fn from(_failed: AllocFailed<T>) -> UniError {
+    fn from(_refusal: Refusal) -> UniError {
         UniError::Memory
     }
 }
@@ -140,6 +142,7 @@ impl UniTable {
         ensures table { IfOk result (λ table. table ≡ table_of lower.now upper.now alnum.now) }
         ensures lawful { OnOk result (table_fault (table_of lower.now upper.now alnum.now) ≡ None) }
         ensures refused { IfErr result (λ error. option_or (table_fault (table_of lower.now upper.now alnum.now)) (Some UniError.Memory) ≡ Some error) }
+        ensures grows { table_fault (table_of lower.now upper.now alnum.now) ≡ None → OnErr result Refused }
     {
         let Lists {
             lower,
@@ -165,6 +168,7 @@ impl UniTable {
     /// Only [`UniError::Memory`], where a growth of a list was refused.
     pub fn from_std(alloc: Global) -> Result<UniTable, UniError>
         ensures refused { IsOkUnless result UniError.Memory }
+        ensures grows { OnErr result Refused }
     {
         let Lists {
             lower,

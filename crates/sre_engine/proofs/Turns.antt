@@ -18,6 +18,7 @@ use Rattle.sre_engine.specs.declared.code.step.Open.{Open}
 use Rattle.sre_engine.specs.declared.code.step.Reached.{Reached}
 use Rattle.sre_engine.specs.declared.code.step.Step.{Step}
 use Rattle.sre_engine.specs.declared.code.step.Step.TheVariants.{Past, Opens}
+use Rattle.sre_growth.specs.Refusal.{Refused as GrowthRefused}
 use Rattle.sre_engine.proofs.Words.{opcode_within, opcode_moved}
 use Rattle.sre_engine.proofs.Places.{reads_moved}
 use Rattle.sre_engine.proofs.Widths.{width_held}
@@ -115,8 +116,8 @@ falls_item : (ws : List ℕ) (s : Step) (f : Open) (i : ℕ) (q : Reached) (old 
 falls_item ws (Past p v) f i q old new l there e = omega (arith, ap length e.2, length-append old (f ∷ []))
 falls_item ws (Opens part p) f i q old new l there e = omega (arith, ap length e.2, length-append (old ++ f ∷ []) (opened part ∷ []), length-append old (f ∷ []))
 
-memory : (ws : List ℕ) (A : ℕ → Type 0) (e : CodeError) → e ≡ Memory → Refused ws A e
-memory ws A e same = record { never = λ ne. absurd (ne same); within = omega (arith, ap place_of same) }
+memory : (ws : List ℕ) (A : ℕ → Type 0) (e : CodeError) → (e ≡ Memory) × GrowthRefused → Refused ws A e
+memory ws A e m = record { never = λ ne. absurd (ne m.0); grows = λ W a. m.1; within = omega (arith, ap place_of m.0) }
 
 push_fails : (ws : List ℕ) (A : ℕ → Type 0) (s : Step) (old new : List Open) (e : CodeError) → Pushes s old new (Err e) → Refused ws A e
 push_fails ws A (Past p v) old new e m = memory ws A e m
@@ -139,10 +140,10 @@ turn_reads ws r a top s old new (Ok q) ae inside there lt x e =
 turn_reads ws r a top s old new (Err e) ae inside there lt x m = push_fails ws _ s (old ++ record { part = top.part; width = a } ∷ []) new e m
 
 pub turn_no_close : (ws : List ℕ) (i d a : ℕ) (top : Open) (old : List Open) (e : CodeError) → a ≡ held (top.width + d) → Unclosed ws top.part i a e → Refused ws (Rest ws i d (top ∷ reverse old)) e
-turn_no_close ws i d a top old e ae x = record { never = λ ne. close_stops ws top d a (reverse old) i ae x.end x.nowhere; within = x.within }
+turn_no_close ws i d a top old e ae x = let stops = close_stops ws top d a (reverse old) i ae x.end x.nowhere in record { never = λ ne. stops; grows = λ W r. absurd (stops.none W r); within = x.within }
 
 pub turn_no_item : (ws : List ℕ) (i d : ℕ) (top : Open) (old : List Open) (e : CodeError) → IsInside ws top.part i → Nowhere (ItemAt ws i) → Within ws e → Refused ws (Rest ws i d (top ∷ reverse old)) e
-turn_no_item ws i d top old e inside x le = record { never = λ ne. item_stops ws top d (reverse old) i inside x; within = le }
+turn_no_item ws i d top old e inside x le = let stops = item_stops ws top d (reverse old) i inside x in record { never = λ ne. stops; grows = λ W r. absurd (stops.none W r); within = le }
 
 -- the walk
 body_from : (ws : List ℕ) (i W : ℕ) → Body ws i W → Rest ws i 0 (opened Whole ∷ []) W
@@ -178,7 +179,7 @@ walk_falls ws r q top items old new e t = omega (arith, t.1, ap length e, length
 
 pub walk_stops : (ws : List ℕ) (start i d : ℕ) (top : Open) (items old : List Open) (e : CodeError) → Same (Body ws start) (Left ws i d items) → items ≡ old ++ top ∷ [] → Refused ws (Rest ws i d (top ∷ reverse old)) e → Refused ws (Body ws start) e
 walk_stops ws start i d top items old e inv same t =
-    record { never = λ ne. record { none = λ W b. (t.never ne).none W ((popped ws i d top items old same).to W (inv.to W b)) }; within = t.within }
+    record { never = λ ne. record { none = λ W b. (t.never ne).none W ((popped ws i d top items old same).to W (inv.to W b)) }; grows = λ W b. t.grows W ((popped ws i d top items old same).to W (inv.to W b)); within = t.within }
 
 pub walk_ends : (ws : List ℕ) (start : ℕ) (r : Reached) (items : List Open) → Same (Body ws start) (Left ws r.place r.width items) → items ≡ [] → HasBody ws start r.width
 walk_ends ws start r items inv e = record { body = inv.from r.width (rest_moved ws r.place r.place r.width r.width r.width [] _ refl refl (sym (ap reverse e)) refl) }
@@ -189,3 +190,7 @@ walk_code ws W b = (b.body.0.0, (b.body.0.1, b.body.1))
 
 pub walk_refused : (ws : List ℕ) (e : CodeError) (t : Tree) → Refused ws (Body ws 0) e → e ≢ Memory → ¬ (IsWhole ws t)
 walk_refused ws e t x ne w = (x.never ne).none (width t) ((t, w.0, refl), w.1)
+
+-- words that have a tree are refused only where a growth was
+pub walk_grows : (ws : List ℕ) (e : CodeError) (t : Tree) → Refused ws (Body ws 0) e → IsWhole ws t → GrowthRefused
+walk_grows ws e t x w = x.grows (width t) ((t, w.0, refl), w.1)

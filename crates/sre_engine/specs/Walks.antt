@@ -6,6 +6,7 @@ use Rattle.sre_engine.specs.Grammar.{Opcode, Reads}
 use Rattle.sre_engine.specs.Width.{held, width}
 use Rattle.sre_engine.specs.Reading.{Within}
 use Rattle.sre_engine.specs.Steps.{Finishes}
+use Rattle.sre_growth.specs.Refusal.{Refused as GrowthRefused}
 use Rattle.sre_engine.specs.declared.code.error.CodeError.{CodeError}
 use Rattle.sre_engine.specs.declared.code.error.CodeError.TheVariants.{Memory}
 use Rattle.sre_engine.specs.declared.code.step.Open.{Open}
@@ -46,16 +47,17 @@ pub record Never (A : ℕ → Type 0) : Type 0 where
 abbrev pub work : List ℕ → ℕ → List Open → ℕ
 work ws i parts = 2 * (length ws - i) + length parts
 
--- memory was refused, or nothing is as A says
+-- memory was refused, or nothing is as A says; where something is, a growth was refused
 pub record Refused (ws : List ℕ) (A : ℕ → Type 0) (e : CodeError) : Type 0 where
   pub never : e ≢ Memory → Never A
+  pub grows : (W : ℕ) → A W → GrowthRefused
   pub within : Within ws e
 
 -- what a step opens is on the stack
 abbrev pub Pushes : Step → List Open → List Open → Result Reached CodeError → Type 0
 Pushes (Past p v) old new (Ok r) = (r.place ≡ p) × (r.width ≡ v) × (new ≡ old)
 Pushes (Opens part p) old new (Ok r) = (r.place ≡ p) × (r.width ≡ 0) × (new ≡ old ++ opened part ∷ [])
-Pushes s old new (Err e) = e ≡ Memory
+Pushes s old new (Err e) = (e ≡ Memory) × GrowthRefused
 
 -- one turn, in which the top was the innermost part over the old ones: what is left stays the same, and the work falls
 abbrev pub Turns : List ℕ → Reached → Open → List Open → List Open → Result Reached CodeError → Type 0

@@ -5,11 +5,12 @@
 //! stack of its own for the parts that are open, and on the way adds up the least number of characters that a match
 //! passes.
 
-ghost use Rattle.std.specs.Prelude.{◌≡◌, ◌≢◌, ◌≤◌, ℕ, List, length, IfOk, IfErr, OnOk};
+ghost use Rattle.std.specs.Prelude.{◌≡◌, ◌≢◌, ◌≤◌, ℕ, List, length, IfOk, IfErr, OnOk, OnErr};
 ghost use Rattle.sre_engine.specs.Tree.{Tree};
 ghost use Rattle.sre_engine.specs.Grammar.{Whole};
 ghost use Rattle.sre_engine.specs.Hinted.{IsCode, HasOneTree, Confirmed};
 ghost use Rattle.sre_engine.specs.Refusals.{place_of};
+ghost use Rattle.sre_growth.specs.Refusal.{Refused};
 
 mod branch;
 mod character;
@@ -64,6 +65,7 @@ impl<'a> Code<'a> {
         ensures tree { OnOk result (IsCode words.now) }
         ensures refused { IfErr result (λ e. e ≢ CodeError.Memory → (tree : Tree) → ¬ (Whole words.now tree)) }
         ensures place { IfErr result (λ e. place_of e ≤ length words.now) }
+        ensures grows { (tree : Tree) → Whole words.now tree → OnErr result Refused }
     {
         Code::check_in(alloc, words, uni)
     }
@@ -80,6 +82,7 @@ impl<'a> Code<'a> {
         ensures tree { OnOk result (IsCode words.now) }
         ensures refused { IfErr result (λ e. e ≢ CodeError.Memory → (tree : Tree) → ¬ (Whole words.now tree)) }
         ensures place { IfErr result (λ e. place_of e ≤ length words.now) }
+        ensures grows { (tree : Tree) → Whole words.now tree → OnErr result Refused }
     {
         walk::least_width(alloc, words, 0)?;
         let hints = Hints {

@@ -3,9 +3,10 @@
 //! A caller's lists are checked whole before any memory is asked for. std's are written in rising
 //! order, so that they have no fault.
 
-ghost use Rattle.std.specs.Prelude.{◌≡◌, None, Some, IfSome, IfNone, IfOk, OnOk, IfErr, IsOkUnless, IsTrue, true};
+ghost use Rattle.std.specs.Prelude.{◌≡◌, None, Some, IfSome, IfNone, IfOk, OnOk, IfErr, IsOkUnless, OnErr, IsTrue, true};
 ghost use Rattle.std.specs.Option.{option_or};
 ghost use Rattle.sre_chars.specs.Tables.{table_of, is_scalar};
+ghost use Rattle.sre_growth.specs.Refusal.{Refused};
 ghost use Rattle.sre_chars.specs.Errors.{last_of, is_scalar_entry, entry_fault, list_fault, table_fault};
 
 use super::{Listing, UniError};
@@ -36,14 +37,15 @@ pub(super) fn checked_lists<A: Allocator + Copy>(
     ensures lists { IfOk result (λ lists. table_of lists.lower.items lists.upper.items lists.alnum.items ≡ table_of lower.now upper.now alnum.now) }
     ensures lawful { OnOk result (table_fault (table_of lower.now upper.now alnum.now) ≡ None) }
     ensures refused { IfErr result (λ error. option_or (table_fault (table_of lower.now upper.now alnum.now)) (Some UniError.Memory) ≡ Some error) }
+    ensures grows { table_fault (table_of lower.now upper.now alnum.now) ≡ None → OnErr result Refused }
 {
     check(Listing::Map, lower)?;
     check(Listing::Map, upper)?;
     check(Listing::Ranges, alnum)?;
     Ok(Lists {
-        lower: Vec::from_slice(alloc, lower)?,
-        upper: Vec::from_slice(alloc, upper)?,
-        alnum: Vec::from_slice(alloc, alnum)?,
+        lower: sre_growth::from_slice(alloc, lower)?,
+        upper: sre_growth::from_slice(alloc, upper)?,
+        alnum: sre_growth::from_slice(alloc, alnum)?,
     })
 }
 
@@ -51,6 +53,7 @@ pub(super) fn checked_lists<A: Allocator + Copy>(
 pub(super) fn std_lists<A: Allocator + Copy>(alloc: A) -> Result<Lists<A>, UniError>
     ensures lawful { IfOk result (λ lists. table_fault (table_of lists.lower.items lists.upper.items lists.alnum.items) ≡ None) }
     ensures refused { IsOkUnless result UniError.Memory }
+    ensures grows { OnErr result Refused }
 {
     Ok(Lists {
         lower: std_map(alloc, Case::Lower)?,
@@ -123,13 +126,14 @@ fn is_scalar(ch: u32) -> bool
 fn std_map<A: Allocator>(alloc: A, case: Case) -> Result<Vec<(u32, u32), A>, UniError>
     ensures lawful { IfOk result (λ entries. list_fault Listing.Map 0 entries.items ≡ None) }
     ensures refused { IsOkUnless result UniError.Memory }
+    ensures grows { OnErr result Refused }
 {
     let mut entries = Vec::new(alloc);
     for from in 128..0x110000u32 {
         if let Some(ch) = char::from_u32(from) {
             let to = in_case(case, ch);
             if to != ch {
-                entries.push((from, to as u32))?;
+                sre_growth::push(&mut entries, (from, to as u32))?;
             }
         }
     }
@@ -151,6 +155,7 @@ fn in_case(case: Case, ch: char) -> char
 fn std_ranges<A: Allocator>(alloc: A) -> Result<Vec<(u32, u32), A>, UniError>
     ensures lawful { IfOk result (λ ranges. list_fault Listing.Ranges 0 ranges.items ≡ None) }
     ensures refused { IsOkUnless result UniError.Memory }
+    ensures grows { OnErr result Refused }
 {
     let mut ranges = Vec::new(alloc);
     let mut run = None;
@@ -158,12 +163,12 @@ fn std_ranges<A: Allocator>(alloc: A) -> Result<Vec<(u32, u32), A>, UniError>
         if is_std_alphanumeric(code) {
             run = Some(extended(run, code));
         } else if let Some(range) = run {
-            ranges.push(range)?;
+            sre_growth::push(&mut ranges, range)?;
             run = None;
         }
     }
     if let Some(range) = run {
-        ranges.push(range)?;
+        sre_growth::push(&mut ranges, range)?;
     }
     Ok(ranges)
 }

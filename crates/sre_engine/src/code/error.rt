@@ -2,7 +2,7 @@
 
 ghost use Rattle.std.specs.Prelude.{◌≡◌};
 
-use std::alloc::AllocFailed;
+use sre_growth::Refusal;
 use thiserror::Error;
 
 /// Why words were refused. Each cause but the first carries the place of the word at which the fault was seen, which
@@ -44,12 +44,12 @@ pub enum CodeError {
     TrailingWords(usize),
 }
 
-impl<T: Drop> From<AllocFailed<T>> for CodeError {
+impl From<Refusal> for CodeError {
     ghost use Rattle.sre_engine.specs.declared.code.error.CodeError.TheVariants.{Memory};
 
     ghost from_gives = { λ _ e. e ≡ Memory };
 
-    fn from(_error: AllocFailed<T>) -> CodeError {
+    fn from(_refusal: Refusal) -> CodeError {
         CodeError::Memory
     }
 }

@@ -14,7 +14,7 @@ fn follow<A: Allocator>(parts: &mut Vec<Open, A>, step: Step) -> Result<Reached,
     match step {
         Step::Past { place, width } => Ok(Reached { place, width }),
         Step::Opens { part, place } => {
-            parts.push(Open { part, width: 0 })?;
+            sre_growth::push(parts, Open { part, width: 0 })?;
             Ok(Reached { place, width: 0 })
         }
     }
@@ -35,10 +35,11 @@ fn turn<A: Allocator>(
         return follow(parts, step);
     }
     let step = item::item(words, reached.place)?;
-    parts.push(Open {
+    let left = Open {
         part: top.part,
         width,
-    })?;
+    };
+    sre_growth::push(parts, left)?;
     follow(parts, step)
 }
 

@@ -12,7 +12,8 @@ use crate::engine::chains::{Chains, Frame, frame_of};
 use crate::engine::marks::Marks;
 use crate::engine::trail::Trail;
 use sre_chars::string::StringCursor;
-use std::alloc::{AllocError, Allocator};
+use sre_growth::Refusal;
+use std::alloc::Allocator;
 use std::marker::Model;
 
 #[cfg(test)]
@@ -152,7 +153,7 @@ impl<A: Allocator> Board<A> {
 
     /// Sets mark `n` to `position`. After an error the board is good for `clear` alone.
     #[inline(always)]
-    pub(crate) fn set(&mut self, n: u32, position: usize) -> Result<(), AllocError>
+    pub(crate) fn set(&mut self, n: u32, position: usize) -> Result<(), Refusal>
         ensures { IfOk result (λ _. self.new ≡ record self.old { marks = set_mark self.old.marks n position }) }
     {
         if self.choices.is_empty() {
@@ -163,16 +164,17 @@ impl<A: Allocator> Board<A> {
 
     /// Adds a choice: to go on at a point and a cursor, with the marks as they are now.
     #[inline(always)]
-    pub(crate) fn save(&mut self, point: Point, cursor: StringCursor) -> Result<(), AllocError>
+    pub(crate) fn save(&mut self, point: Point, cursor: StringCursor) -> Result<(), Refusal>
         ensures { IfOk result (λ _. self.new ≡ record self.old { choices = choice point self.old.frames cursor self.old.marks ∷ self.old.choices }) }
     {
-        self.choices.push(Saved {
+        let saved = Saved {
             point,
             cursor,
             frame: self.frame,
             chains: self.chains.count(),
             changes: self.trail.length(),
-        })?;
+        };
+        sre_growth::push(&mut self.choices, saved)?;
         self.regions += regions_of(point);
         Ok(())
     }
@@ -233,7 +235,7 @@ impl<A: Allocator> Board<A> {
 
     /// Begins a loop.
     #[inline(always)]
-    pub(crate) fn enter(&mut self, frame: Frame) -> Result<(), AllocError>
+    pub(crate) fn enter(&mut self, frame: Frame) -> Result<(), Refusal>
         ensures { IfOk result (λ _. self.new ≡ record self.old { frames = frame ∷ self.old.frames }) }
     {
         self.frame = self.chains.push(frame, self.frame)?;

@@ -5,7 +5,8 @@
 ghost use Rattle.std.specs.Prelude.{◌≡◌, ◌+◌, ◌<◌, ◌≤◌, ◌++◌, ◌∷◌, [], length, take, IfOk, slice_index_or};
 ghost use Rattle.sre_engine.specs.Chains.{frame_of};
 
-use std::alloc::{AllocError, Allocator};
+use sre_growth::Refusal;
+use std::alloc::Allocator;
 use std::marker::Model;
 
 /// A loop in progress: where its REPEAT stands, its bodies so far, and where the last one beyond the least count began.
@@ -117,13 +118,13 @@ impl<A: Allocator> Chains<A> {
 
     /// A new chain, and its number.
     #[inline(always)]
-    pub(crate) fn push(&mut self, frame: Frame, parent: usize) -> Result<usize, AllocError>
+    pub(crate) fn push(&mut self, frame: Frame, parent: usize) -> Result<usize, Refusal>
         requires { parent < length self.old }
         ensures chain { IfOk result (λ _. self.new ≡ self.old ++ (frame ∷ slice_index_or self.old parent []) ∷ []) }
         ensures kept { length self.old ≤ length self.new }
         ensures id { IfOk result (λ id. id ≡ length self.old) }
     {
-        self.nodes.push(node_of(frame, parent))?;
+        sre_growth::push(&mut self.nodes, node_of(frame, parent))?;
         Ok(self.nodes.len())
     }
 

@@ -17,7 +17,8 @@ use crate::engine::request::Request;
 use crate::engine::runs::run_up_to;
 use sre_chars::constants::SreOpcode;
 use sre_chars::string::{StrDrive, StringCursor};
-use std::alloc::{AllocError, Allocator};
+use sre_growth::Refusal;
+use std::alloc::Allocator;
 
 // Whether a run may be longer than so many characters.
 #[inline(always)]
@@ -74,7 +75,7 @@ pub(super) fn longer<S: StrDrive, A: Allocator>(
     place: usize,
     count: usize,
     start: StringCursor,
-) -> Result<Next, AllocError>
+) -> Result<Next, Refusal>
     requires { HasRun (run_of req.now) (Longer place count) start }
     ensures { IfOk result (λ next. Advances (run_of req.now) (Longer place count) start board.old next board.new) }
 {
@@ -93,7 +94,7 @@ pub(super) fn min_repeat_one<S: StrDrive, A: Allocator>(
     board: &mut Board<A>,
     place: usize,
     cursor: StringCursor,
-) -> Result<Next, AllocError>
+) -> Result<Next, Refusal>
     requires opcode { Opcode (run_of req.now).words place SreOpcode.MIN_REPEAT_ONE }
     requires stands { HasRun (run_of req.now) (Instruction place) cursor }
     ensures { IfOk result (λ next. Advances (run_of req.now) (Instruction place) cursor board.old next board.new) }

@@ -17,7 +17,8 @@ use crate::engine::machine::{Next, operand, refuses};
 use crate::engine::request::Request;
 use sre_chars::constants::SreOpcode;
 use sre_chars::string::{StrDrive, StringCursor};
-use std::alloc::{AllocError, Allocator};
+use sre_growth::Refusal;
+use std::alloc::Allocator;
 
 // Whether a further body may be tried at a cursor.
 #[inline(always)]
@@ -50,7 +51,7 @@ pub(super) fn repeat<S: StrDrive, A: Allocator>(
     board: &mut Board<A>,
     place: usize,
     cursor: StringCursor,
-) -> Result<Next, AllocError>
+) -> Result<Next, Refusal>
     requires opcode { Opcode (run_of req.now).words place SreOpcode.REPEAT }
     requires stands { HasRun (run_of req.now) (Instruction place) cursor }
     ensures { IfOk result (λ next. Advances (run_of req.now) (Instruction place) cursor board.old next board.new) }
@@ -71,7 +72,7 @@ pub(super) fn max_until<S: StrDrive, A: Allocator>(
     board: &mut Board<A>,
     place: usize,
     cursor: StringCursor,
-) -> Result<Next, AllocError>
+) -> Result<Next, Refusal>
     requires opcode { Opcode (run_of req.now).words place SreOpcode.MAX_UNTIL }
     requires stands { IsAt (run_of req.now) (Instruction place) cursor board.old }
     ensures { IfOk result (λ next. Advances (run_of req.now) (Instruction place) cursor board.old next board.new) }
@@ -109,7 +110,7 @@ pub(super) fn min_until<S: StrDrive, A: Allocator>(
     board: &mut Board<A>,
     place: usize,
     cursor: StringCursor,
-) -> Result<Next, AllocError>
+) -> Result<Next, Refusal>
     requires opcode { Opcode (run_of req.now).words place SreOpcode.MIN_UNTIL }
     requires stands { IsAt (run_of req.now) (Instruction place) cursor board.old }
     ensures { IfOk result (λ next. Advances (run_of req.now) (Instruction place) cursor board.old next board.new) }

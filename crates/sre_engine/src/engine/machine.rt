@@ -24,7 +24,8 @@ use crate::engine::request::Request;
 use crate::engine::runs::longest_run;
 use sre_chars::constants::{SreAtCode, SreOpcode};
 use sre_chars::string::{StrDrive, StringCursor};
-use std::alloc::{AllocError, Allocator};
+use sre_growth::Refusal;
+use std::alloc::Allocator;
 use std::convert::TryFrom;
 
 /// What comes after a turn: an instruction, the newest choice, or the end of the innermost region.
@@ -145,7 +146,7 @@ fn mark<S: StrDrive, A: Allocator>(
     board: &mut Board<A>,
     place: usize,
     cursor: StringCursor,
-) -> Result<Next, AllocError>
+) -> Result<Next, Refusal>
     requires opcode { Opcode (run_of req.now).words place SreOpcode.MARK }
     requires stands { HasRun (run_of req.now) (Instruction place) cursor }
     ensures { IfOk result (λ next. Advances (run_of req.now) (Instruction place) cursor board.old next board.new) }
@@ -196,7 +197,7 @@ pub(super) fn choose<S: StrDrive, A: Allocator>(
     place: usize,
     other: Point,
     cursor: StringCursor,
-) -> Result<Next, AllocError>
+) -> Result<Next, Refusal>
     ensures { IfOk result (λ next. Chooses (run_of req.now) (Instruction place) other cursor board.old next board.new) }
 {
     let _ = req.end();
@@ -236,7 +237,7 @@ fn alternatives<S: StrDrive, A: Allocator>(
     board: &mut Board<A>,
     start: usize,
     cursor: StringCursor,
-) -> Result<Next, AllocError>
+) -> Result<Next, Refusal>
     requires { HasRun (run_of req.now) (Alternatives start) cursor }
     ensures { IfOk result (λ next. Advances (run_of req.now) (Alternatives start) cursor board.old next board.new) }
 {
@@ -288,7 +289,7 @@ fn shorter<S: StrDrive, A: Allocator>(
     tail: usize,
     count: usize,
     start: StringCursor,
-) -> Result<Next, AllocError>
+) -> Result<Next, Refusal>
     requires { HasRun (run_of req.now) (Shorter tail count) start }
     ensures { IfOk result (λ next. Advances (run_of req.now) (Shorter tail count) start board.old next board.new) }
 {
@@ -308,7 +309,7 @@ fn repeat_one<S: StrDrive, A: Allocator>(
     board: &mut Board<A>,
     place: usize,
     cursor: StringCursor,
-) -> Result<Next, AllocError>
+) -> Result<Next, Refusal>
     requires opcode { Opcode (run_of req.now).words place SreOpcode.REPEAT_ONE }
     requires stands { HasRun (run_of req.now) (Instruction place) cursor }
     ensures { IfOk result (λ next. Advances (run_of req.now) (Instruction place) cursor board.old next board.new) }
@@ -336,7 +337,7 @@ fn repeat_one<S: StrDrive, A: Allocator>(
 pub(super) fn back<S: StrDrive, A: Allocator>(
     req: &Request<'_, S>,
     board: &mut Board<A>,
-) -> Result<Option<Next>, AllocError>
+) -> Result<Option<Next>, Refusal>
     requires { IsBack (run_of req.now) board.old }
     ensures { IfOk result (λ found. MatchOption found ((all : List Way) (limit : ℕ) → Stands (run_of req.now) all limit Next.Back board.old → all ≡ []) (λ next. Retreats (run_of req.now) board.old next board.new)) }
 {
@@ -359,7 +360,7 @@ fn branch<S: StrDrive, A: Allocator>(
     board: &mut Board<A>,
     place: usize,
     cursor: StringCursor,
-) -> Result<Next, AllocError>
+) -> Result<Next, Refusal>
     requires opcode { Opcode (run_of req.now).words place SreOpcode.BRANCH }
     requires room { place + 2 ^ 33 < 2 ^ 64 }
     requires stands { HasRun (run_of req.now) (Instruction place) cursor }
@@ -376,7 +377,7 @@ pub(super) fn instruction<S: StrDrive, A: Allocator>(
     board: &mut Board<A>,
     place: usize,
     cursor: StringCursor,
-) -> Result<Next, AllocError>
+) -> Result<Next, Refusal>
     requires { IsAt (run_of req.now) (Instruction place) cursor board.old }
     ensures { IfOk result (λ next. Advances (run_of req.now) (Instruction place) cursor board.old next board.new) }
 {

@@ -4,7 +4,8 @@ ghost use Rattle.std.specs.Prelude.{◌≡◌, ℕ, ◌+◌, ◌*◌, ◌<◌, �
 ghost use Rattle.sre_engine.specs.Marks.{no_marks, set_mark, lengthened};
 ghost use Rattle.sre_engine.specs.Trail.{restored, undo};
 
-use std::alloc::{AllocError, Allocator};
+use sre_growth::Refusal;
+use std::alloc::Allocator;
 use std::marker::Model;
 
 /// The positions of the marks that a match has set, and the index of the group that was closed last.
@@ -135,12 +136,12 @@ impl<A: Allocator> Marks<A> {
 
     // Sets mark `n` to `position`; on an error the marks are as they were.
     #[inline(always)]
-    pub(crate) fn set(&mut self, n: u32, position: usize) -> Result<(), AllocError>
+    pub(crate) fn set(&mut self, n: u32, position: usize) -> Result<(), Refusal>
         ensures { IfOk result (λ _. self.new ≡ set_mark self.old n position) }
     {
         let place = n as usize;
         if self.raw.len() <= place {
-            self.raw.resize(place + 1, None)?;
+            sre_growth::resize(&mut self.raw, place + 1, None)?;
         }
         self.raw[place] = Some(position);
         if n % 2 == 1 {

@@ -14,7 +14,8 @@ use crate::engine::machine::{Next, operand};
 use crate::engine::request::Request;
 use sre_chars::constants::SreOpcode;
 use sre_chars::string::{StrDrive, StringCursor};
-use std::alloc::{AllocError, Allocator};
+use sre_growth::Refusal;
+use std::alloc::Allocator;
 
 /// `ATOMIC_GROUP skip body SUCCESS`: the first way of the body alone.
 #[inline(always)]
@@ -23,7 +24,7 @@ pub(super) fn atomic_group<S: StrDrive, A: Allocator>(
     board: &mut Board<A>,
     place: usize,
     cursor: StringCursor,
-) -> Result<Next, AllocError>
+) -> Result<Next, Refusal>
     requires opcode { Opcode (run_of req.now).words place SreOpcode.ATOMIC_GROUP }
     requires stands { HasRun (run_of req.now) (Instruction place) cursor }
     ensures { IfOk result (λ next. Advances (run_of req.now) (Instruction place) cursor board.old next board.new) }
@@ -43,7 +44,7 @@ pub(super) fn assert<S: StrDrive, A: Allocator>(
     board: &mut Board<A>,
     place: usize,
     cursor: StringCursor,
-) -> Result<Next, AllocError>
+) -> Result<Next, Refusal>
     requires opcode { Opcode (run_of req.now).words place SreOpcode.ASSERT }
     requires stands { HasRun (run_of req.now) (Instruction place) cursor }
     ensures { IfOk result (λ next. Advances (run_of req.now) (Instruction place) cursor board.old next board.new) }
@@ -67,7 +68,7 @@ pub(super) fn assert_not<S: StrDrive, A: Allocator>(
     board: &mut Board<A>,
     place: usize,
     cursor: StringCursor,
-) -> Result<Next, AllocError>
+) -> Result<Next, Refusal>
     requires opcode { Opcode (run_of req.now).words place SreOpcode.ASSERT_NOT }
     requires stands { HasRun (run_of req.now) (Instruction place) cursor }
     ensures { IfOk result (λ next. Advances (run_of req.now) (Instruction place) cursor board.old next board.new) }

@@ -9,13 +9,15 @@ ghost use Rattle.sre_engine.specs.Machine.{Decides, outcomes};
 ghost use Rattle.sre_engine.specs.Codes.{words_of};
 ghost use Rattle.sre_engine.specs.Requests.{string_of, start_of, end_of, code_of, asked_of, stands_in, run_of};
 ghost use Rattle.sre_engine.specs.Answers.{Answers, AnswersAlike, Spans};
+ghost use Rattle.sre_growth.specs.Refusal.{Refused};
 
 use crate::engine::board::Board;
 use crate::engine::marks::Marks;
 use crate::engine::request::Request;
 use crate::engine::turns::run;
 use sre_chars::string::{StrDrive, StringCursor};
-use std::alloc::{AllocError, Allocator};
+use sre_growth::Refusal;
+use std::alloc::Allocator;
 use std::marker::Model;
 use thiserror::Error;
 
@@ -36,8 +38,8 @@ impl SreError {
     }
 }
 
-impl From<AllocError> for SreError {
-    fn from(_error: AllocError) -> SreError {
+impl From<Refusal> for SreError {
+    fn from(_refusal: Refusal) -> SreError {
         SreError::Memory
     }
 }
@@ -74,6 +76,7 @@ fn attempt<S: StrDrive, A: Allocator>(
         → IfOk result (λ found. Decides (run_of req.now) (outcomes (run_of req.now) t start.position) found board.new.marks) }
     ensures none { result ≡ Ok None → board.new.marks ≡ no_marks }
     ensures err { OnErr result (board.new.marks ≡ no_marks) }
+    ensures refused { OnErr result Refused }
 {
     board.clear();
     match run(req, start, board) {
@@ -147,6 +150,7 @@ impl<A: Allocator + Copy> State<A> {
         ensures span { IfOk result (λ b. b ≡ true → Spans (start_of req.now) (end_of req.now) self.new) }
         ensures no { IfOk result (λ b. b ≡ false → self.new.marks ≡ no_marks) }
         ensures err { OnErr result (self.new.marks ≡ no_marks) }
+        ensures refused { OnErr result Refused }
     {
         let start = req.string().create_cursor(req.start());
         match attempt(req, start, &mut self.board)? {
@@ -172,6 +176,7 @@ impl<A: Allocator + Copy> State<A> {
         ensures span { IfOk result (λ b. b ≡ true → (start_of req.entry ≤ self.new.start) × Spans self.new.start (end_of req.entry) self.new) }
         ensures no { IfOk result (λ b. b ≡ false → self.new.marks ≡ no_marks) }
         ensures err { OnErr result (self.new.marks ≡ no_marks) }
+        ensures refused { OnErr result Refused }
     {
         let mut start = req.string().create_cursor(req.start());
         'start: loop {

@@ -8,7 +8,8 @@ ghost use Rattle.sre_engine.specs.Marks.{no_marks, set_mark};
 ghost use Rattle.sre_engine.specs.Trail.{states};
 
 use crate::engine::marks::{Change, Marks};
-use std::alloc::{AllocError, Allocator};
+use sre_growth::Refusal;
+use std::alloc::Allocator;
 use std::marker::Model;
 
 /// Marks, and the changes that can be taken back, oldest first.
@@ -67,17 +68,17 @@ impl<A: Allocator> Trail<A> {
 
     /// Sets mark `n` to `position`.
     #[inline(always)]
-    pub(crate) fn set(&mut self, n: u32, position: usize) -> Result<(), AllocError>
+    pub(crate) fn set(&mut self, n: u32, position: usize) -> Result<(), Refusal>
         ensures set { IfOk result (λ _. self.new ≡ record { past = states self.old; now = set_mark self.old.now n position }) }
         ensures kept { length self.old.past ≤ length self.new.past }
     {
-        self.changes.push(self.marks.change(n))?;
+        sre_growth::push(&mut self.changes, self.marks.change(n))?;
         self.marks.set(n, position)
     }
 
     /// Sets mark `n` to `position`, for good, with all changes before.
     #[inline(always)]
-    pub(crate) fn set_for_good(&mut self, n: u32, position: usize) -> Result<(), AllocError>
+    pub(crate) fn set_for_good(&mut self, n: u32, position: usize) -> Result<(), Refusal>
         ensures { IfOk result (λ _. self.new ≡ record { past = []; now = set_mark self.old.now n position }) }
     {
         self.changes.clear();

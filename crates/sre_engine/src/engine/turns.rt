@@ -15,7 +15,8 @@ use crate::engine::operands::know_words;
 use crate::engine::regions::end;
 use crate::engine::request::Request;
 use sre_chars::string::{StrDrive, StringCursor};
-use std::alloc::{AllocError, Allocator};
+use sre_growth::Refusal;
+use std::alloc::Allocator;
 use std::marker::{Brand, Model};
 use std::sync::ledger::{Blank, Book, Ledger, Share};
 
@@ -73,7 +74,7 @@ fn turns<L: Ledger, K: Plan, S: StrDrive, A: Allocator>(
     board: &mut Board<A>,
     start: StringCursor,
     turned: &mut Turned<L>,
-) -> Result<Option<StringCursor>, AllocError>
+) -> Result<Option<StringCursor>, Refusal>
     requires new { turned.old ≡ 0 }
     requires stands { Stands (run_of req.now) K.all K.limit (Next.At 0 start) board.old }
     ensures { IfOk result (λ found. Decides (run_of req.now) K.all found board.new.marks) }
@@ -107,7 +108,7 @@ fn turns_from<L: Ledger, K: Plan, S: StrDrive, A: Allocator>(
     board: &mut Board<A>,
     start: StringCursor,
     blank: Blank,
-) -> Result<Option<StringCursor>, AllocError>
+) -> Result<Option<StringCursor>, Refusal>
     requires name { blank.name ≡ L.name }
     requires parts { blank.parts ≡ L.parts }
     requires some { 0 < blank.parts }
@@ -125,7 +126,7 @@ pub(crate) fn run<S: StrDrive, A: Allocator>(
     req: &Request<'_, S>,
     start: StringCursor,
     board: &mut Board<A>,
-) -> Result<Option<StringCursor>, AllocError>
+) -> Result<Option<StringCursor>, Refusal>
     requires stands { (run_of req.now).stands start start.position }
     requires inside { start.position ≤ end_of req.now }
     requires fresh { board.old ≡ bare no_marks }

@@ -2,11 +2,12 @@ use crate::engine::board::{Board, Point, Region, Saved};
 use crate::engine::marks::Change;
 use crate::string::StringCursor;
 use sre_refusing::Refusing;
-use std::alloc::{AllocError, Allocator, Global};
+use sre_growth::Refusal;
+use std::alloc::{Allocator, Global};
 use std::test::Fail;
 
 // Marks set over two choices, the second mark of each pair before the first, and one of them twice.
-fn set_over_choices<A: Allocator>(board: &mut Board<A>) -> Result<(), AllocError> {
+fn set_over_choices<A: Allocator>(board: &mut Board<A>) -> Result<(), Refusal> {
     board.set(1, 7)?;
     board.save(Point::Instruction(4), StringCursor::new(1, 2))?;
     board.set(0, 5)?;

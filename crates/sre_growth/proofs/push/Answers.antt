@@ -1,0 +1,6 @@
+use Rattle.sre_refused.specs.Seal.{refused}
+use Rattle.sre_growth.proofs.push.Goals as goal
+
+-- the list's own growth was refused
+pub invariant_of-result : goal.invariant_of-result
+invariant_of-result g c = record { refused = refused }

@@ -1,0 +1,1 @@
+pub use Rattle.sre_refused.specs.Seal.{Refused, one_refused}
