@@ -4,10 +4,10 @@ use Rattle.std.specs.Fmt.{decimal, signed_decimal}
 use Rattle.std.specs.Str.{chars}
 use Rattle.sre_chars.specs.Tables.{Table}
 use Rattle.sre_engine.specs.Tree.{Tree}
-use Rattle.sre_engine.specs.Grammar.{Whole}
-use Rattle.sre_engine.specs.Hinted.{IsCode, Confirmed}
+use Rattle.sre_engine.specs.Grammar.{Whole, IsCode}
+use Rattle.sre_engine.specs.Hinted.{Confirmed}
 use Rattle.sre_engine.specs.Found.{Asked, Match, matched, found}
-use Rattle.sre_engine.specs.declared.code.Hints.{Hints}
+use Rattle.sre_engine.specs.Hints.{Hints}
 use Rattle.sre_cases.specs.declared.line.Case.{Case}
 use Rattle.sre_cases.specs.declared.line.Case.TheVariants.{Check, Find}
 use Rattle.sre_cases.specs.declared.line.Finding.{Finding}

@@ -6,7 +6,7 @@ ghost use Rattle.sre_cases.specs.Answers.{fault_text, IsFaultOfCases};
 ghost use Rattle.sre_chars.specs.Tables.{ascii_table};
 ghost use Rattle.sre_engine.specs.Tree.{Tree};
 ghost use Rattle.sre_engine.specs.Grammar.{Whole};
-ghost use Rattle.sre_engine.specs.Codes.{words_of, table_of};
+ghost use Rattle.sre_engine.specs.Codes.{words_of, uni_of};
 ghost use Rattle.sre_engine.specs.Requests.{asked_of, code_of};
 ghost use Rattle.sre_cases.specs.Cases.{IsAnswer, IsAnswerOf, asked, match_of, match_text};
 ghost use Rattle.sre_cases.specs.Fields.{IsCase};
@@ -200,7 +200,7 @@ fn push_code_answer<A: Allocator + Copy>(
 ) -> Result<(), AllocError>
     requires { IsCase case (words_of code) text.now }
     ensures { (t : Tree) → Whole (words_of code.entry) t → OnOk result ((said : List ℕ)
-        × IsAnswerOf t (table_of code.entry) case (words_of code.entry) text.now said
+        × IsAnswerOf t (uni_of code.entry) case (words_of code.entry) text.now said
         × (string_bytes answer.new ≡ string_bytes answer.old ++ said)) }
 {
     match case {
@@ -219,7 +219,7 @@ fn push_code_answer<A: Allocator + Copy>(
 
 // What a case asks of its text.
 fn request<'a, S: StrDrive>(text: S, subject: Subject, code: Code<'a>) -> Request<'a, S>
-    ensures asked { asked_of result ≡ asked subject (words_of code.entry) (table_of code.entry) (S.text text) }
+    ensures asked { asked_of result ≡ asked subject (words_of code.entry) (uni_of code.entry) (S.text text) }
     ensures code { code_of result ≡ code.entry }
 {
     let (start, end) = match subject.window {

@@ -2,13 +2,13 @@
 use Rattle.std.proofs.Common.{◌≡◌, ◌≤◌, ◌<◌, ◌+◌, ℕ, Bool, true, false, nat_eq, arith, Option, Some, None, refl, sym, ap, ◌∙◌, subst}
 use Rattle.std.proofs.lemmas.Bool.Decides.{nat_tests}
 use Rattle.sre_chars.specs.declared.string.StringCursor.{StringCursor}
-use Rattle.sre_engine.specs.Tree.{Tree}
-use Rattle.sre_engine.specs.Marks.{Marks, no_marks}
-use Rattle.sre_engine.specs.Ways.{ways}
-use Rattle.sre_engine.specs.Found.{Asked, Match, subject_of, is_accepted, at_start, found}
-use Rattle.sre_engine.specs.Machine.{Run, Decides, outcomes}
+use Rattle.sre_model.specs.Tree.{Tree}
+use Rattle.sre_model.specs.Marks.{Marks, no_marks}
+use Rattle.sre_model.specs.Ways.{ways}
+use Rattle.sre_model.specs.Found.{Asked, Match, subject_of, is_accepted, at_start, found}
+use Rattle.sre_model.specs.Machine.{Run, Decides, outcomes}
 use Rattle.sre_engine.specs.Answers.{Shown, Answers, given, AnswersAlike}
-use Rattle.sre_engine.proofs.FoundLaws.{match_of_first, first_accepted-filter, at_start-is, least-found, none-found}
+use Rattle.sre_model.proofs.FoundLaws.{match_of_first, first_accepted-filter, at_start-is, least-found, none-found}
 
 -- what a run for a request is about
 abbrev run_for : Asked → (StringCursor → ℕ → Type 0) → Run

@@ -1,8 +1,8 @@
 -- What a state shows, and the answer of a search.
 use Rattle.std.specs.Prelude.{ℕ, ◌≡◌, ◌≤◌, Bool, true, false, Option, Some, None}
 use Rattle.sre_chars.specs.declared.string.StringCursor.{StringCursor}
-use Rattle.sre_engine.specs.Marks.{Marks}
-use Rattle.sre_engine.specs.Found.{Asked, Match}
+use Rattle.sre_model.specs.Marks.{Marks}
+use Rattle.sre_model.specs.Found.{Asked, Match}
 
 -- what a state shows
 pub record Shown : Type 0 where

@@ -1,10 +1,11 @@
 //! The SRE engine.
 #![tactic(auto)]
 
-pub mod code;
 pub mod engine;
 
-pub use code::Code;
-pub use engine::{Request, State};
+pub use engine::State;
+pub use sre_chars::constants::{CODESIZE, MAXGROUPS, MAXREPEAT, SreAtCode, SreCatCode, SreOpcode};
 pub use sre_chars::string::{StrDrive, StringCursor, UniTable};
 pub use sre_chars::{constants, string};
+pub use sre_code::{Code, code};
+pub use sre_request::Request;

@@ -3,21 +3,23 @@
 //! Behind the least count each try of a longer one takes one test, and never looks ahead.
 
 ghost use Rattle.std.specs.Prelude.{◌≡◌, ℕ, ◌+◌, ◌||◌, nat_eq, nat_lt, List, IfOk, MatchOption};
-ghost use Rattle.sre_engine.specs.Ways.{Way, unlimited};
-ghost use Rattle.sre_engine.specs.Grammar.{Opcode, skip};
-ghost use Rattle.sre_engine.specs.Board.{Instruction, Longer, BoardValue};
-ghost use Rattle.sre_engine.specs.Machine.{HasRun, Advances, SkipsBoth};
-ghost use Rattle.sre_engine.specs.Requests.{run_of};
+ghost use Rattle.sre_model.specs.Ways.{Way, unlimited};
+ghost use Rattle.sre_model.specs.Grammar.{Opcode, skip};
+ghost use Rattle.sre_model.specs.Board.{BoardValue};
+ghost use Rattle.sre_model.specs.declared.Point.TheVariants.{Instruction, Longer};
+ghost use Rattle.sre_model.specs.Machine.{HasRun, Advances, SkipsBoth};
+ghost use Rattle.sre_request.specs.Requests.{run_of};
 
-use crate::engine::board::{Board, Point};
-use crate::engine::machine::{Next, choose, operand, read, refuses};
-use crate::engine::one_character;
-use crate::engine::one_character::takes;
-use crate::engine::request::Request;
-use crate::engine::runs::run_up_to;
+use crate::engine::machine::{choose, operand, refuses};
+use sre_board::Board;
 use sre_chars::constants::SreOpcode;
 use sre_chars::string::{StrDrive, StringCursor};
 use sre_growth::Refusal;
+use sre_model::{Next, Point};
+use sre_request::one_character::takes;
+use sre_request::runs::run_up_to;
+use sre_request::text::read;
+use sre_request::{Request, one_character};
 use std::alloc::Allocator;
 
 // Whether a run may be longer than so many characters.

@@ -4,20 +4,20 @@
 //! can come is not saved: so a loop over a text that decides by its next character saves nothing.
 
 ghost use Rattle.std.specs.Prelude.{◌≡◌, ℕ, ◌+◌, IfOk, min};
-ghost use Rattle.sre_engine.specs.Ways.{Way, unlimited, may_repeat};
-ghost use Rattle.sre_engine.specs.Grammar.{Opcode};
-ghost use Rattle.sre_engine.specs.Board.{Instruction};
-ghost use Rattle.sre_engine.specs.MovesInLoops.{next_frame};
-ghost use Rattle.sre_engine.specs.Machine.{HasRun, IsAt, Advances};
-ghost use Rattle.sre_engine.specs.Requests.{run_of};
+ghost use Rattle.sre_model.specs.Ways.{Way, unlimited, may_repeat};
+ghost use Rattle.sre_model.specs.Grammar.{Opcode};
+ghost use Rattle.sre_model.specs.declared.Point.TheVariants.{Instruction};
+ghost use Rattle.sre_model.specs.MovesInLoops.{next_frame};
+ghost use Rattle.sre_model.specs.Machine.{HasRun, IsAt, Advances};
+ghost use Rattle.sre_request.specs.Requests.{run_of};
 
-use crate::engine::board::{Board, Point};
-use crate::engine::chains::Frame;
-use crate::engine::machine::{Next, operand, refuses};
-use crate::engine::request::Request;
+use crate::engine::machine::{operand, refuses};
+use sre_board::Board;
 use sre_chars::constants::SreOpcode;
 use sre_chars::string::{StrDrive, StringCursor};
 use sre_growth::Refusal;
+use sre_model::{Frame, Next, Point};
+use sre_request::Request;
 use std::alloc::Allocator;
 
 // Whether a further body may be tried at a cursor.

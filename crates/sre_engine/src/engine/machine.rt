@@ -5,36 +5,31 @@
 //! still to be tried waits on the board, and a choice of which nothing can come is not put there.
 
 ghost use Rattle.std.specs.Prelude.{◌≡◌, ℕ, ◌+◌, ◌^◌, ◌<◌, ◌≤◌, [], List, length, IfOk, MatchOption, true};
-ghost use Rattle.sre_engine.specs.Subject.{char_at};
-ghost use Rattle.sre_engine.specs.Ways.{Way};
-ghost use Rattle.sre_engine.specs.Grammar.{Word, word, Opcode};
-ghost use Rattle.sre_engine.specs.Board.{Point, Instruction, Alternatives, Shorter, BoardValue};
-ghost use Rattle.sre_engine.specs.Machine.{family, Testing, HasRun, IsAt, IsBack, Advances, Chooses, Retreats, Refuses, Skips, SkipsBoth, Stands};
-ghost use Rattle.sre_engine.specs.Requests.{end_of, run_of};
+ghost use Rattle.sre_model.specs.Subject.{char_at};
+ghost use Rattle.sre_model.specs.Ways.{Way};
+ghost use Rattle.sre_model.specs.Grammar.{Word, word, Opcode};
+ghost use Rattle.sre_model.specs.Board.{BoardValue};
+ghost use Rattle.sre_model.specs.declared.Point.TheVariants.{Instruction, Alternatives, Shorter};
+ghost use Rattle.sre_model.specs.declared.Point.{Point};
+ghost use Rattle.sre_model.specs.Machine.{family, Testing, HasRun, IsAt, IsBack, Advances, Chooses, Retreats, Refuses, Skips, SkipsBoth, Stands};
+ghost use Rattle.sre_request.specs.Requests.{end_of, run_of};
 
-use crate::engine::board::{Board, Point};
 use crate::engine::lazy_runs::{longer, min_repeat_one};
 use crate::engine::loops::{max_until, min_until, repeat};
-use crate::engine::one_character::{takes, test_end};
-use crate::engine::operands;
-use crate::engine::position::holds_at;
 use crate::engine::possessive_runs::possessive_repeat_one;
 use crate::engine::regions::{assert, assert_not, atomic_group, without_outcome};
-use crate::engine::request::Request;
-use crate::engine::runs::longest_run;
+use sre_board::Board;
 use sre_chars::constants::{SreAtCode, SreOpcode};
 use sre_chars::string::{StrDrive, StringCursor};
 use sre_growth::Refusal;
+use sre_model::{Next, Point};
+use sre_request::one_character::{takes, test_end};
+use sre_request::position::holds_at;
+use sre_request::runs::longest_run;
+use sre_request::text::{back_one, read};
+use sre_request::{Request, operands};
 use std::alloc::Allocator;
 use std::convert::TryFrom;
-
-/// What comes after a turn: an instruction, the newest choice, or the end of the innermost region.
-#[derive(Clone, Copy)]
-pub(crate) enum Next {
-    At(usize, StringCursor),
-    Back,
-    Done(StringCursor),
-}
 
 // The word at a place.
 #[inline(always)]
@@ -67,33 +62,6 @@ fn opcode<S: StrDrive>(req: &Request<'_, S>, place: usize, cursor: StringCursor)
         Ok(opcode) => opcode,
         Err(_) => unreachable!(),
     }
-}
-
-// The character at a cursor that stands before the window's end, and the cursor behind it.
-#[inline(always)]
-pub(crate) fn read<S: StrDrive>(req: &Request<'_, S>, cursor: StringCursor) -> (u32, StringCursor)
-    requires stands { (run_of req.now).stands cursor cursor.position }
-    requires inside { cursor.position < end_of req.now }
-    ensures character { result.0 ≡ char_at (run_of req.now).subject cursor.position }
-    ensures position { result.1.position ≡ cursor.position + 1 }
-    ensures stands { (run_of req.now).stands result.1 (cursor.position + 1) }
-{
-    let mut after = cursor;
-    let character = req.string().advance(&mut after);
-    (character, after)
-}
-
-// The cursor one character back.
-#[inline(always)]
-fn back_one<S: StrDrive>(req: &Request<'_, S>, cursor: StringCursor) -> StringCursor
-    requires stands { (run_of req.now).stands cursor cursor.position }
-    requires past { 1 ≤ cursor.position }
-    ensures position { cursor.position ≡ result.position + 1 }
-    ensures stands { (run_of req.now).stands result result.position }
-{
-    let mut before = cursor;
-    req.string().back_skip(&mut before, 1);
-    before
 }
 
 /// A test of one character, which is passed where the test takes it.
@@ -370,7 +338,7 @@ fn branch<S: StrDrive, A: Allocator>(
 }
 
 /// One instruction.
-#[tactic(auto, using(crate::proofs::Moving::on_board))]
+#[tactic(auto, using(sre_model::proofs::Moving::on_board))]
 #[inline(always)]
 pub(super) fn instruction<S: StrDrive, A: Allocator>(
     req: &Request<'_, S>,

@@ -4,17 +4,20 @@
 //! the choices inside it go as soon as the body ends.
 
 ghost use Rattle.std.specs.Prelude.{◌≡◌, ◌-◌, ◌≤◌, [], IfOk, MatchOption};
-ghost use Rattle.sre_engine.specs.Grammar.{Opcode};
-ghost use Rattle.sre_engine.specs.Board.{Instruction, from_region};
-ghost use Rattle.sre_engine.specs.Machine.{HasRun, Advances, Closes, after_outcome, without_outcome};
-ghost use Rattle.sre_engine.specs.Requests.{run_of};
+ghost use Rattle.sre_model.specs.Grammar.{Opcode};
+ghost use Rattle.sre_model.specs.Board.{from_region};
+ghost use Rattle.sre_model.specs.declared.Point.TheVariants.{Instruction};
+ghost use Rattle.sre_model.specs.Machine.{HasRun, Advances, Closes, after_outcome, without_outcome};
+ghost use Rattle.sre_request.specs.Requests.{run_of};
 
-use crate::engine::board::{Board, Point, Region};
-use crate::engine::machine::{Next, operand};
-use crate::engine::request::Request;
+use crate::engine::machine::operand;
+use sre_board::Board;
 use sre_chars::constants::SreOpcode;
 use sre_chars::string::{StrDrive, StringCursor};
 use sre_growth::Refusal;
+use sre_model::{Next, Point, Region};
+use sre_request::Request;
+use sre_request::text::back_by;
 use std::alloc::Allocator;
 
 /// `ATOMIC_GROUP skip body SUCCESS`: the first way of the body alone.
@@ -81,19 +84,6 @@ pub(super) fn assert_not<S: StrDrive, A: Allocator>(
     }
     board.save(Point::Inside(Region::NotAhead(tail)), cursor)?;
     Ok(Next::At(place + 3, back_by(req, cursor, back)))
-}
-
-// The cursor some characters back.
-#[inline(always)]
-fn back_by<S: StrDrive>(req: &Request<'_, S>, cursor: StringCursor, count: usize) -> StringCursor
-    requires stands { (run_of req.now).stands cursor cursor.position }
-    requires past { count ≤ cursor.position }
-    ensures position { result.position ≡ cursor.position - count }
-    ensures stands { (run_of req.now).stands result result.position }
-{
-    let mut before = cursor;
-    req.string().back_skip(&mut before, count);
-    before
 }
 
 /// The innermost region, if there is one, ends at a cursor: its body has an outcome.

@@ -1,22 +1,21 @@
 //! A state: what a search leaves of a match.
 
 ghost use Rattle.std.specs.Prelude.{◌≡◌, ◌≤◌, length, IfOk, OnErr, true, false, None};
-ghost use Rattle.sre_engine.specs.Tree.{Tree};
-ghost use Rattle.sre_engine.specs.Grammar.{Whole};
-ghost use Rattle.sre_engine.specs.Marks.{no_marks};
-ghost use Rattle.sre_engine.specs.Found.{matched, found};
-ghost use Rattle.sre_engine.specs.Machine.{Decides, outcomes};
-ghost use Rattle.sre_engine.specs.Codes.{words_of};
-ghost use Rattle.sre_engine.specs.Requests.{string_of, start_of, end_of, code_of, asked_of, stands_in, run_of};
+ghost use Rattle.sre_model.specs.Tree.{Tree};
+ghost use Rattle.sre_model.specs.Grammar.{Whole};
+ghost use Rattle.sre_model.specs.Marks.{no_marks};
+ghost use Rattle.sre_model.specs.Found.{matched, found};
+ghost use Rattle.sre_model.specs.Machine.{Decides, outcomes};
+ghost use Rattle.sre_code.specs.Codes.{words_of};
+ghost use Rattle.sre_request.specs.Requests.{string_of, start_of, end_of, code_of, asked_of, stands_in, run_of};
 ghost use Rattle.sre_engine.specs.Answers.{Answers, AnswersAlike, Spans};
 ghost use Rattle.sre_growth.specs.Refusal.{Refused};
 
-use crate::engine::board::Board;
-use crate::engine::marks::Marks;
-use crate::engine::request::Request;
 use crate::engine::turns::run;
+use sre_board::{Board, Marks};
 use sre_chars::string::{StrDrive, StringCursor};
 use sre_growth::Refusal;
+use sre_request::Request;
 use std::alloc::Allocator;
 use std::marker::Model;
 use thiserror::Error;

@@ -1,21 +1,22 @@
 //! The machine's loop: turns until the whole is decided.
 
 ghost use Rattle.std.specs.Prelude.{◌≡◌, ℕ, ◌+◌, ◌<◌, ◌≤◌, [], List, IfOk};
-ghost use Rattle.sre_engine.specs.Marks.{no_marks};
-ghost use Rattle.sre_engine.specs.Tree.{Tree};
-ghost use Rattle.sre_engine.specs.Ways.{Way};
-ghost use Rattle.sre_engine.specs.Grammar.{Whole};
-ghost use Rattle.sre_engine.specs.Board.{bare};
-ghost use Rattle.sre_engine.specs.Machine.{Stands, SaysAccepted, Decides, outcomes};
-ghost use Rattle.sre_engine.specs.Requests.{end_of, run_of};
+ghost use Rattle.sre_model.specs.Marks.{no_marks};
+ghost use Rattle.sre_model.specs.Tree.{Tree};
+ghost use Rattle.sre_model.specs.Ways.{Way};
+ghost use Rattle.sre_model.specs.Grammar.{Whole};
+ghost use Rattle.sre_model.specs.Board.{bare};
+ghost use Rattle.sre_model.specs.Machine.{Stands, SaysAccepted, Decides, outcomes};
+ghost use Rattle.sre_request.specs.Requests.{end_of, run_of};
 
-use crate::engine::board::Board;
-use crate::engine::machine::{Next, back, instruction};
-use crate::engine::operands::know_words;
+use crate::engine::machine::{back, instruction};
 use crate::engine::regions::end;
-use crate::engine::request::Request;
+use sre_board::Board;
 use sre_chars::string::{StrDrive, StringCursor};
 use sre_growth::Refusal;
+use sre_model::Next;
+use sre_request::Request;
+use sre_request::operands::know_words;
 use std::alloc::Allocator;
 use std::marker::{Brand, Model};
 use std::sync::ledger::{Blank, Book, Ledger, Share};

@@ -1,7 +1,7 @@
 use Rattle.std.proofs.Common.{◌-◌}
-use Rattle.sre_engine.specs.Board.{Longer}
-use Rattle.sre_engine.specs.Machine.{HasRun, Skips}
-use Rattle.sre_engine.specs.Requests.{run_of}
+use Rattle.sre_model.specs.declared.Point.TheVariants.{Longer}
+use Rattle.sre_model.specs.Machine.{HasRun, Skips}
+use Rattle.sre_request.specs.Requests.{run_of}
 use Rattle.sre_engine.proofs.engine.lazy_runs.first_longer.Given as goal
 
 abbrev pub invariant-count : goal.invariant-count

@@ -1,7 +1,7 @@
 use Rattle.std.proofs.Common.{◌<◌, ◌-◌, arith}
-use Rattle.sre_engine.specs.Requests.{run_of}
-use Rattle.sre_engine.proofs.Moving.{both_pass}
-use Rattle.sre_engine.proofs.StepsInRuns.{lazy_there, lazy_cut, lazy_short, lazy_both, lazy_runs}
+use Rattle.sre_request.specs.Requests.{run_of}
+use Rattle.sre_model.proofs.Moving.{both_pass}
+use Rattle.sre_model.proofs.StepsInRuns.{lazy_there, lazy_cut, lazy_short, lazy_both, lazy_runs}
 use Rattle.sre_engine.proofs.engine.lazy_runs.min_repeat_one.Goals as goal
 
 pub returns-then-saturating_sub-least : goal.returns-then-saturating_sub-least

@@ -1,5 +1,5 @@
-use Rattle.sre_engine.specs.Requests.{run_of}
-use Rattle.sre_engine.proofs.StepsInLoops.{repeat_step}
+use Rattle.sre_request.specs.Requests.{run_of}
+use Rattle.sre_model.proofs.StepsInLoops.{repeat_step}
 use Rattle.sre_engine.proofs.engine.loops.repeat.Goals as goal
 
 pub returns : goal.returns

@@ -1,7 +1,7 @@
 use Rattle.std.proofs.Common.{◌<◌, arith, subst}
-use Rattle.sre_engine.proofs.Words.{word_of}
-use Rattle.sre_engine.specs.Requests.{run_of}
-use Rattle.sre_engine.proofs.StepsInBranches.{alternatives_there, alternatives_both, alternatives_run, alternatives_last}
+use Rattle.sre_model.proofs.Words.{word_of}
+use Rattle.sre_request.specs.Requests.{run_of}
+use Rattle.sre_model.proofs.StepsInBranches.{alternatives_there, alternatives_both, alternatives_run, alternatives_last}
 use Rattle.sre_engine.proofs.engine.machine.alternatives.Goals as goal
 
 pub overflow_add-after : goal.overflow_add-after

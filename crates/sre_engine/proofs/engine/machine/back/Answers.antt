@@ -1,7 +1,7 @@
 use Rattle.std.proofs.Common.{◌-◌, refl}
-use Rattle.sre_engine.specs.Board.{Instruction, Alternatives, Shorter, Longer}
-use Rattle.sre_engine.specs.Requests.{run_of}
-use Rattle.sre_engine.proofs.GoingBack.{back_none, back_at, back_region, later_again}
+use Rattle.sre_model.specs.declared.Point.TheVariants.{Instruction, Alternatives, Shorter, Longer}
+use Rattle.sre_request.specs.Requests.{run_of}
+use Rattle.sre_model.proofs.GoingBack.{back_none, back_at, back_region, later_again}
 use Rattle.sre_engine.proofs.engine.machine.back.Goals as goal
 
 pub returns-in-None : goal.returns-in-None

@@ -1,5 +1,5 @@
-use Rattle.sre_engine.specs.Requests.{run_of}
-use Rattle.sre_engine.proofs.Moving.{both_choose}
+use Rattle.sre_request.specs.Requests.{run_of}
+use Rattle.sre_model.proofs.Moving.{both_choose}
 use Rattle.sre_engine.proofs.engine.machine.choose.Goals as goal
 
 pub returns : goal.returns

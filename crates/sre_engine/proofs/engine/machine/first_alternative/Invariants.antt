@@ -1,7 +1,7 @@
 use Rattle.std.proofs.Common.{length, ◌-◌}
-use Rattle.sre_engine.specs.Board.{Alternatives}
-use Rattle.sre_engine.specs.Machine.{HasRun, Skips}
-use Rattle.sre_engine.specs.Requests.{run_of}
+use Rattle.sre_model.specs.declared.Point.TheVariants.{Alternatives}
+use Rattle.sre_model.specs.Machine.{HasRun, Skips}
+use Rattle.sre_request.specs.Requests.{run_of}
 use Rattle.sre_engine.proofs.engine.machine.first_alternative.Given as goal
 
 abbrev pub invariant-alternative : goal.invariant-alternative

@@ -1,8 +1,8 @@
 use Rattle.std.proofs.Common.{◌≡◌, ◌-◌, arith, suc}
-use Rattle.sre_engine.specs.Requests.{run_of}
-use Rattle.sre_engine.proofs.StepsInRuns.{shorter_none, shorter_past, shorter_both, shorter_run}
-use Rattle.sre_engine.proofs.Moving.{both_pass}
-use Rattle.sre_engine.proofs.StepsInBranches.{positive}
+use Rattle.sre_request.specs.Requests.{run_of}
+use Rattle.sre_model.proofs.StepsInRuns.{shorter_none, shorter_past, shorter_both, shorter_run}
+use Rattle.sre_model.proofs.Moving.{both_pass}
+use Rattle.sre_model.proofs.StepsInBranches.{positive}
 use Rattle.sre_engine.proofs.engine.machine.first_shorter.Goals as goal
 
 pub returns-then-left-eq0 : goal.returns-then-left-eq0

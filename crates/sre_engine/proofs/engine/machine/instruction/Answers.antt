@@ -1,6 +1,6 @@
-use Rattle.sre_engine.specs.Requests.{run_of}
-use Rattle.sre_engine.proofs.Moving.{on_board}
-use Rattle.sre_engine.proofs.StepsAtItems.{only_built, unbuilt, failure_step, success_step}
+use Rattle.sre_request.specs.Requests.{run_of}
+use Rattle.sre_model.proofs.Moving.{on_board}
+use Rattle.sre_model.proofs.StepsAtItems.{only_built, unbuilt, failure_step, success_step}
 use Rattle.sre_engine.proofs.engine.machine.instruction.Goals as goal
 
 pub unreachable-requires : goal.unreachable-requires

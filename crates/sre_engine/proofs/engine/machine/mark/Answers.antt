@@ -1,5 +1,5 @@
-use Rattle.sre_engine.specs.Requests.{run_of}
-use Rattle.sre_engine.proofs.StepsAtItems.{mark_operand, mark_step}
+use Rattle.sre_request.specs.Requests.{run_of}
+use Rattle.sre_model.proofs.StepsAtItems.{mark_operand, mark_step}
 use Rattle.sre_engine.proofs.engine.machine.mark.Goals as goal
 
 pub operand-n-requires : goal.operand-n-requires

@@ -1,6 +1,6 @@
 use Rattle.std.proofs.Common.{◌≤◌, ◌<◌, arith}
-use Rattle.sre_engine.specs.Requests.{run_of}
-use Rattle.sre_engine.proofs.StepsAtItems.{literal_operand, literal_refuses, literal_past}
+use Rattle.sre_request.specs.Requests.{run_of}
+use Rattle.sre_model.proofs.StepsAtItems.{literal_operand, literal_refuses, literal_past}
 use Rattle.sre_engine.proofs.engine.machine.refuses.Goals as goal
 
 pub returns-then-position-end : goal.returns-then-position-end

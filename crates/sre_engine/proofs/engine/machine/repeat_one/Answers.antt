@@ -1,7 +1,7 @@
 use Rattle.std.proofs.Common.{arith}
-use Rattle.sre_engine.specs.Requests.{run_of}
-use Rattle.sre_engine.proofs.StepsInRuns.{run_there, run_short, run_both, run_runs, shorter_last}
-use Rattle.sre_engine.proofs.Moving.{both_pass}
+use Rattle.sre_request.specs.Requests.{run_of}
+use Rattle.sre_model.proofs.StepsInRuns.{run_there, run_short, run_both, run_runs, shorter_last}
+use Rattle.sre_model.proofs.Moving.{both_pass}
 use Rattle.sre_engine.proofs.engine.machine.repeat_one.Goals as goal
 
 pub operand-skip-requires : goal.operand-skip-requires

@@ -1,6 +1,6 @@
 use Rattle.std.proofs.Common.{arith}
-use Rattle.sre_engine.specs.Requests.{run_of}
-use Rattle.sre_engine.proofs.StepsInRuns.{longest_there, longest_short, longest_step}
+use Rattle.sre_request.specs.Requests.{run_of}
+use Rattle.sre_model.proofs.StepsInRuns.{longest_there, longest_short, longest_step}
 use Rattle.sre_engine.proofs.engine.possessive_runs.possessive_repeat_one.Goals as goal
 
 pub operand-skip-requires : goal.operand-skip-requires

@@ -1,5 +1,5 @@
-use Rattle.sre_engine.specs.Requests.{run_of}
-use Rattle.sre_engine.proofs.StepsInRegions.{atomic_operand, atomic_step}
+use Rattle.sre_request.specs.Requests.{run_of}
+use Rattle.sre_model.proofs.StepsInRegions.{atomic_operand, atomic_step}
 use Rattle.sre_engine.proofs.engine.regions.atomic_group.Goals as goal
 
 pub operand-skip-requires : goal.operand-skip-requires

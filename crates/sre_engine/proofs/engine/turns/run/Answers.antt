@@ -1,9 +1,10 @@
 use Rattle.std.proofs.Common.{◌≡◌, ◌∙◌, ap, subst, ℕ, List}
-use Rattle.sre_engine.specs.Codes.{words_of}
-use Rattle.sre_engine.specs.Standing.{AreWords}
-use Rattle.sre_engine.specs.Requests.{run_of}
-use Rattle.sre_engine.proofs.Start.{started, whole_of}
-use Rattle.sre_engine.proofs.TreeOf.{tree_of, whole-read}
+use Rattle.sre_code.specs.Codes.{words_of}
+use Rattle.sre_model.specs.Standing.{AreWords}
+use Rattle.sre_request.specs.Requests.{run_of}
+use Rattle.sre_model.proofs.Start.{started}
+use Rattle.sre_code.proofs.Checked.{whole_of}
+use Rattle.sre_model.proofs.TreeOf.{tree_of, whole-read}
 use Rattle.sre_engine.proofs.engine.turns.run.Goals as goal
 
 pub turns_from-requires-clause-stands : goal.turns_from-requires-clause-stands

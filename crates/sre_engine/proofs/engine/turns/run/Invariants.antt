@@ -1,8 +1,8 @@
-use Rattle.sre_engine.specs.Marks.{no_marks}
-use Rattle.sre_engine.specs.Machine.{outcomes}
-use Rattle.sre_engine.specs.Requests.{run_of}
-use Rattle.sre_engine.proofs.TreeOf.{tree_of}
-use Rattle.sre_engine.proofs.Cost.{cost, ending}
+use Rattle.sre_model.specs.Marks.{no_marks}
+use Rattle.sre_model.specs.Machine.{outcomes}
+use Rattle.sre_request.specs.Requests.{run_of}
+use Rattle.sre_model.proofs.TreeOf.{tree_of}
+use Rattle.sre_model.proofs.Cost.{cost, ending}
 use Rattle.sre_engine.proofs.engine.turns.run.Given as goal
 
 abbrev pub ghosts-turns_from-L-Ledger : goal.ghosts-turns_from-L-Ledger

@@ -1,9 +1,9 @@
 use Rattle.std.proofs.Common.{◌≡◌, ◌≤◌, true, false, Some, None, refl, ◌∙◌, subst, arith}
-use Rattle.sre_engine.specs.Found.{at_start, matched}
-use Rattle.sre_engine.specs.Codes.{words_of, hints_of}
-use Rattle.sre_engine.specs.Requests.{start_of, end_of, code_of, asked_of, stands_in}
+use Rattle.sre_model.specs.Found.{at_start, matched}
+use Rattle.sre_code.specs.Codes.{words_of, hints_of}
+use Rattle.sre_request.specs.Requests.{start_of, end_of, code_of, asked_of, stands_in}
 use Rattle.sre_engine.proofs.Answering.{answers_yes, answers_no, answers_alike, none_at, some_at, span_at}
-use Rattle.sre_engine.proofs.Start.{code_tree}
+use Rattle.sre_code.proofs.Checked.{code_tree}
 use Rattle.sre_engine.proofs.engine.state.State.pymatch.Goals as goal
 
 pub returns-in-Some-clause-ok : goal.returns-in-Some-clause-ok

@@ -1,0 +1,4 @@
+pub mod Undo
+pub mod ChainLaws
+pub mod Choosing
+pub mod InnermostRegion

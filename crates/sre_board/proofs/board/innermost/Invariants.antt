@@ -1,0 +1,9 @@
+use Rattle.std.proofs.Common.{◌≡◌, reverse, length}
+use Rattle.sre_board.specs.Choices.{down_to_region}
+use Rattle.sre_board.proofs.board.innermost.Given as goal
+
+abbrev pub invariant-choice : goal.invariant-choice
+invariant-choice g l = down_to_region (reverse l.choices.items) ≡ down_to_region (reverse l.initial.choices.items)
+
+abbrev pub decreases-choice : goal.decreases-choice
+decreases-choice g l = length l.choices.items

@@ -1,0 +1,39 @@
+-- The choices of a board, which share one trail and one table of chains.
+use Rattle.std.specs.Prelude.{ℕ, ◌+◌, ◌<◌, ◌≤◌, cond, nat_eq, List, [], ◌∷◌, map, reverse, slice_index_or}
+use Rattle.sre_model.specs.Marks.{Marks, no_marks}
+use Rattle.sre_board.specs.Trail.{Trail, states}
+use Rattle.sre_model.specs.Board.{Choice, choice, BoardValue}
+use Rattle.sre_model.specs.declared.Frame.{Frame}
+use Rattle.sre_model.specs.declared.Point.TheVariants.{Inside}
+use Rattle.sre_model.specs.declared.Point.{Point}
+use Rattle.sre_board.specs.declared.board.Saved.{Saved}
+
+-- a choice, whose marks are found on the trail and whose loops in the table
+abbrev pub choice_of : List (List Frame) → List Marks → Saved → Choice
+choice_of chains marks s = choice s.point (slice_index_or chains s.frame []) s.cursor (slice_index_or marks s.changes no_marks)
+
+abbrev pub board_of : Trail → List (List Frame) → ℕ → List Saved → BoardValue
+board_of t chains frame saved = record {
+  frames = slice_index_or chains frame [];
+  marks = t.now;
+  choices = map (choice_of chains (states t)) (reverse saved);
+}
+
+-- newest first, where there are n chains and c changes: none rests on a chain or a change that came after it
+abbrev pub Fits : List Saved → ℕ → ℕ → Type 0
+Fits [] n c = Unit {0}
+Fits (s ∷ ss) n c = (s.chains < n) × (s.changes ≤ c) × (s.frame ≤ s.chains) × Fits ss (s.chains + 1) s.changes
+
+abbrev pub regions_of : Point → ℕ
+regions_of (Inside g) = 1
+regions_of pt = 0
+
+-- how many regions there are among some choices
+abbrev pub regions_in : List Saved → ℕ
+regions_in [] = 0
+regions_in (s ∷ ss) = regions_in ss + regions_of s.point
+
+-- newest first, those from the newest region on
+abbrev pub down_to_region : List Saved → List Saved
+down_to_region [] = []
+down_to_region (s ∷ ss) = cond (nat_eq (regions_of s.point) 0) (down_to_region ss) (s ∷ ss)

@@ -1,0 +1,220 @@
+//! The board: what a run of the machine holds beside its place and position.
+//!
+//! Its value has frames, marks and choices as if each choice held its own. In memory all choices share one trail and
+//! one table of chains, and a chain is forgotten as soon as no choice can come back to it.
+
+ghost use Rattle.std.specs.Prelude.{◌≡◌, ℕ, ◌<◌, [], ◌∷◌, drop, length, reverse, IfOk, MatchOption};
+ghost use Rattle.sre_model.specs.Marks.{no_marks, set_mark};
+ghost use Rattle.sre_model.specs.Board.{choice, from_region, Cuts, bare};
+ghost use Rattle.sre_model.specs.declared.Point.TheVariants.{Inside};
+ghost use Rattle.sre_board.specs.Choices.{Fits, regions_of, down_to_region};
+
+use crate::chains::{Chains, frame_of};
+use crate::marks::Marks;
+use crate::trail::Trail;
+use sre_chars::string::StringCursor;
+use sre_growth::Refusal;
+use sre_model::{Frame, Point, Region};
+use std::alloc::Allocator;
+use std::marker::Model;
+
+#[cfg(test)]
+mod tests;
+
+/// A choice: where to go on, with which loops, and how many changes and chains there were when it was made.
+#[derive(Clone, Copy)]
+pub(crate) struct Saved {
+    pub point: Point,
+    pub cursor: StringCursor,
+    pub frame: usize,
+    pub chains: usize,
+    pub changes: usize,
+}
+
+/// The loops in progress, the marks, and what is still to be tried. It counts the regions among the choices.
+#[derive(Drop)]
+pub struct Board<A: Allocator> {
+    trail: Trail<A>,
+    chains: Chains<A>,
+    frame: usize,
+    choices: Vec<Saved, A>,
+    regions: usize,
+}
+
+impl<A: Allocator> Model for Board<A> {
+    ghost use Rattle.std.specs.Prelude.{◌<◌, ◌≡◌, length, reverse};
+    ghost use Rattle.sre_model.specs.Board.{BoardValue};
+    ghost use Rattle.sre_board.specs.Choices.{board_of, Fits, regions_in};
+
+    ghost Value = { BoardValue };
+
+    ghost view = { λ b. board_of b.trail b.chains b.frame b.choices.items };
+
+    ghost invariant = { λ b. (b.frame < length b.chains) × Fits (reverse b.choices.items) (length b.chains) (length b.trail.past) × (b.regions ≡ regions_in (reverse b.choices.items)) };
+}
+
+// How many chains the choices need.
+#[inline(always)]
+fn kept(saved: &[Saved]) -> usize
+    ensures { (n more changes : ℕ) → result < n → Fits (reverse saved.now) more changes → Fits (reverse saved.now) n changes }
+{
+    if saved.is_empty() {
+        return 0;
+    }
+    saved[saved.len() - 1].chains
+}
+
+// How many regions a choice is.
+#[inline(always)]
+fn regions_of(point: Point) -> usize
+    ensures { result ≡ regions_of point }
+{
+    match point {
+        Point::Inside(_) => 1,
+        _ => 0,
+    }
+}
+
+// Takes choices down to the newest region, and that too.
+#[inline(always)]
+fn innermost<A: Allocator>(choices: &mut Vec<Saved, A>) -> Option<(Region, Saved)>
+    ensures { MatchOption result
+        (down_to_region (reverse choices.old.items) ≡ [])
+        (λ x. (x.1.point ≡ Inside x.0) × (down_to_region (reverse choices.old.items) ≡ x.1 ∷ reverse choices.new.items)) }
+{
+    'choice: loop {
+        let saved = choices.pop()?;
+        if let Point::Inside(region) = saved.point {
+            return Some((region, saved));
+        }
+    }
+}
+
+impl<A: Allocator + Copy> Board<A> {
+    /// No marks and no choices. It takes no memory.
+    #[inline(always)]
+    pub fn new(alloc: A) -> Board<A>
+        ensures { result ≡ bare no_marks }
+    {
+        Board {
+            trail: Trail::new(alloc),
+            chains: Chains::new(alloc),
+            frame: 0,
+            choices: Vec::new(alloc),
+            regions: 0,
+        }
+    }
+}
+
+impl<A: Allocator> Board<A> {
+    /// The marks.
+    #[inline(always)]
+    pub fn marks(&self) -> &Marks<A>
+        ensures { result.now ≡ self.now.marks }
+    {
+        self.trail.marks()
+    }
+
+    /// Takes all away; the memory is kept.
+    #[inline(always)]
+    pub fn clear(&mut self)
+        ensures { self.new ≡ bare no_marks }
+    {
+        self.choices.clear();
+        self.trail.clear();
+        self.frame = 0;
+        self.chains.clear();
+        self.regions = 0;
+    }
+
+    /// Sets mark `n` to `position`. After an error the board is good for `clear` alone.
+    #[inline(always)]
+    pub fn set(&mut self, n: u32, position: usize) -> Result<(), Refusal>
+        ensures { IfOk result (λ _. self.new ≡ record self.old { marks = set_mark self.old.marks n position }) }
+    {
+        if self.choices.is_empty() {
+            return self.trail.set_for_good(n, position);
+        }
+        self.trail.set(n, position)
+    }
+
+    /// Adds a choice: to go on at a point and a cursor, with the marks as they are now.
+    #[inline(always)]
+    pub fn save(&mut self, point: Point, cursor: StringCursor) -> Result<(), Refusal>
+        ensures { IfOk result (λ _. self.new ≡ record self.old { choices = choice point self.old.frames cursor self.old.marks ∷ self.old.choices }) }
+    {
+        let saved = Saved {
+            point,
+            cursor,
+            frame: self.frame,
+            chains: self.chains.count(),
+            changes: self.trail.length(),
+        };
+        sre_growth::push(&mut self.choices, saved)?;
+        self.regions += regions_of(point);
+        Ok(())
+    }
+
+    /// Ends the innermost region, if there is one: the choices inside it go, and the marks stay. It takes no memory.
+    #[inline(always)]
+    pub fn cut(&mut self) -> Option<(Region, StringCursor)>
+        ensures { MatchOption result
+            ((from_region self.old.choices ≡ []) × (self.new ≡ self.old))
+            (λ x. Cuts self.old x.0 x.1 self.new) }
+    {
+        if self.regions == 0 {
+            return None;
+        }
+        let (region, saved) = innermost(&mut self.choices)?;
+        self.regions -= 1;
+        self.chains.cut(saved.chains);
+        self.frame = saved.frame;
+        Some((region, saved.cursor))
+    }
+
+    /// Takes the newest choice, with the marks that it was made with. It takes no memory.
+    #[inline(always)]
+    pub fn back(&mut self) -> Option<(Point, StringCursor)>
+        ensures { MatchOption result
+            ((self.old.choices ≡ []) × (self.new ≡ self.old))
+            (λ x. self.old.choices ≡ choice x.0 self.new.frames x.1 self.new.marks ∷ self.new.choices) }
+    {
+        let saved = self.choices.pop()?;
+        self.regions -= regions_of(saved.point);
+        self.trail.back(saved.changes);
+        self.chains.cut(saved.chains);
+        self.frame = saved.frame;
+        Some((saved.point, saved.cursor))
+    }
+
+    /// The innermost loop in progress.
+    #[inline(always)]
+    pub fn top(&self) -> Frame
+        requires { 0 < length self.now.frames }
+        ensures { self.now.frames ≡ result ∷ drop 1 self.now.frames }
+    {
+        frame_of(self.chains.node(self.frame))
+    }
+
+    /// Leaves the innermost loop. Its chain is forgotten where no choice needs it.
+    #[inline(always)]
+    pub fn leave(&mut self)
+        requires { 0 < length self.old.frames }
+        ensures { self.new ≡ record self.old { frames = drop 1 self.old.frames } }
+    {
+        let id = self.frame;
+        self.frame = self.chains.node(id).parent;
+        if kept(&self.choices) < id {
+            self.chains.cut(id - 1);
+        }
+    }
+
+    /// Begins a loop.
+    #[inline(always)]
+    pub fn enter(&mut self, frame: Frame) -> Result<(), Refusal>
+        ensures { IfOk result (λ _. self.new ≡ record self.old { frames = frame ∷ self.old.frames }) }
+    {
+        self.frame = self.chains.push(frame, self.frame)?;
+        Ok(())
+    }
+}

@@ -1,0 +1,141 @@
+//! The loops in progress, as chains of frames that share their ends.
+//!
+//! A chain has a number, so a choice that remembers its loops remembers a number alone.
+
+ghost use Rattle.std.specs.Prelude.{◌≡◌, ◌+◌, ◌<◌, ◌≤◌, ◌++◌, ◌∷◌, [], length, take, IfOk, slice_index_or};
+ghost use Rattle.sre_board.specs.Chains.{frame_of};
+
+use sre_growth::Refusal;
+use sre_model::Frame;
+use std::alloc::Allocator;
+use std::marker::Model;
+
+/// A frame in four words, and the number of the chain below it.
+#[derive(Clone, Copy)]
+pub(crate) struct Node {
+    pub repeat: usize,
+    pub last: usize,
+    pub parent: usize,
+    pub count: u32,
+    pub is_beyond: bool,
+}
+
+// The node of a frame on a chain.
+#[inline(always)]
+fn node_of(frame: Frame, parent: usize) -> Node
+    ensures frame { frame_of result ≡ frame }
+    ensures parent { result.parent ≡ parent }
+{
+    match frame.last {
+        None => Node {
+            repeat: frame.repeat,
+            last: 0,
+            parent,
+            count: frame.count,
+            is_beyond: false,
+        },
+        Some(last) => Node {
+            repeat: frame.repeat,
+            last,
+            parent,
+            count: frame.count,
+            is_beyond: true,
+        },
+    }
+}
+
+/// The frame of a node.
+#[inline(always)]
+pub(crate) fn frame_of(node: Node) -> Frame
+    ensures { result ≡ frame_of node }
+{
+    Frame {
+        repeat: node.repeat,
+        count: node.count,
+        last: if node.is_beyond {
+            Some(node.last)
+        } else {
+            None
+        },
+    }
+}
+
+/// The chains: the empty one, whose number is 0, and those that were made.
+#[derive(Drop)]
+pub(crate) struct Chains<A: Allocator> {
+    nodes: Vec<Node, A>,
+}
+
+impl<A: Allocator> Model for Chains<A> {
+    ghost use Rattle.std.specs.Prelude.{List};
+    ghost use Rattle.sre_board.specs.Chains.{table, Based};
+    ghost use Rattle.sre_model.specs.declared.Frame.{Frame};
+
+    ghost Value = { List (List Frame) };
+
+    ghost view = { λ c. table c.nodes.items };
+
+    ghost invariant = { λ c. Based c.nodes.items };
+}
+
+impl<A: Allocator + Copy> Chains<A> {
+    /// The empty chain alone. It takes no memory.
+    #[inline(always)]
+    pub(crate) fn new(alloc: A) -> Chains<A>
+        ensures { result ≡ [] ∷ [] }
+    {
+        Chains {
+            nodes: Vec::new(alloc),
+        }
+    }
+}
+
+impl<A: Allocator> Chains<A> {
+    /// How many chains there are beside the empty one.
+    #[inline(always)]
+    pub(crate) fn count(&self) -> usize
+        ensures { length self.now ≡ result + 1 }
+    {
+        self.nodes.len()
+    }
+
+    /// The newest node of a chain that is not empty.
+    #[inline(always)]
+    pub(crate) fn node(&self, id: usize) -> Node
+        requires { 0 < length (slice_index_or self.now id []) }
+        ensures chain { slice_index_or self.now id [] ≡ frame_of result ∷ slice_index_or self.now result.parent [] }
+        ensures parent { result.parent < id }
+        ensures there { id < length self.now }
+    {
+        self.nodes[id - 1]
+    }
+
+    /// A new chain, and its number.
+    #[inline(always)]
+    pub(crate) fn push(&mut self, frame: Frame, parent: usize) -> Result<usize, Refusal>
+        requires { parent < length self.old }
+        ensures chain { IfOk result (λ _. self.new ≡ self.old ++ (frame ∷ slice_index_or self.old parent []) ∷ []) }
+        ensures kept { length self.old ≤ length self.new }
+        ensures id { IfOk result (λ id. id ≡ length self.old) }
+    {
+        sre_growth::push(&mut self.nodes, node_of(frame, parent))?;
+        Ok(self.nodes.len())
+    }
+
+    /// Forgets the later chains.
+    #[inline(always)]
+    pub(crate) fn cut(&mut self, keep: usize)
+        requires { keep < length self.old }
+        ensures { self.new ≡ take (keep + 1) self.old }
+    {
+        self.nodes.truncate(keep);
+    }
+
+    /// Forgets all but the empty one; the memory is kept.
+    #[inline(always)]
+    pub(crate) fn clear(&mut self)
+        ensures { self.new ≡ [] ∷ [] }
+    {
+        self.nodes.clear();
+    }
+}

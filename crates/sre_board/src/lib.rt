@@ -1,0 +1,14 @@
+//! What a run of the machine holds beside its place and position: the loops in progress, the marks, and what is still to
+//! be tried.
+//!
+//! All choices share one list of marks with a trail of its changes, and one table of loops. So a choice is a record of
+//! one size, and to go back takes no memory.
+#![tactic(auto)]
+
+mod board;
+mod chains;
+mod marks;
+mod trail;
+
+pub use board::Board;
+pub use marks::Marks;

@@ -1,0 +1,173 @@
+//! Marks: the positions that a match has set.
+
+ghost use Rattle.std.specs.Prelude.{◌≡◌, ℕ, ◌+◌, ◌*◌, ◌<◌, ◌≤◌, length, Option, None, IfOk, slice_index_or, slice_set};
+ghost use Rattle.sre_model.specs.Marks.{no_marks, set_mark, lengthened};
+ghost use Rattle.sre_board.specs.Trail.{restored, undo};
+
+use sre_growth::Refusal;
+use std::alloc::Allocator;
+use std::marker::Model;
+
+/// The positions of the marks that a match has set, and the index of the group that was closed last.
+///
+/// Marks `2 * g` and `2 * g + 1` are the start and the end of group `g`, counted from 0. Positions count characters.
+#[derive(Drop)]
+pub struct Marks<A: Allocator> {
+    raw: Vec<Option<usize>, A>,
+    // 0 where no group was closed
+    last: u32,
+}
+
+/// What stood at a mark before it was set.
+#[derive(Clone, Copy)]
+pub(crate) enum Former {
+    /// Nothing: the list ended before it, and had this length.
+    Past(usize),
+    /// An absent entry.
+    Absent,
+    /// A position.
+    At(usize),
+}
+
+/// What takes the setting of a mark back: what stood there, and the last index, 0 where there was none.
+#[derive(Clone, Copy)]
+pub(crate) struct Change {
+    pub former: Former,
+    pub mark: u32,
+    pub last: u32,
+}
+
+impl<A: Allocator> Model for Marks<A> {
+    ghost use Rattle.sre_model.specs.Marks.{Marks, index_of};
+
+    ghost Value = { Marks };
+
+    ghost view = { λ m. record { raw = m.raw.items; last = index_of m.last } };
+}
+
+// What stands at an entry.
+#[inline(always)]
+fn former_at(raw: &[Option<usize>], entry: usize) -> Former
+    ensures { (value : Option ℕ) → restored result entry (slice_set (lengthened entry raw.now) entry value) ≡ raw.now }
+{
+    if entry >= raw.len() {
+        return Former::Past(raw.len());
+    }
+    match raw[entry] {
+        None => Former::Absent,
+        Some(position) => Former::At(position),
+    }
+}
+
+// Puts back what stood at an entry.
+#[inline(always)]
+fn restore<A: Allocator>(raw: &mut Vec<Option<usize>, A>, entry: usize, former: Former)
+    ensures { raw.new.items ≡ restored former entry raw.old.items }
+{
+    match former {
+        Former::Past(length) => raw.truncate(length),
+        Former::Absent => put(raw, entry, None),
+        Former::At(position) => put(raw, entry, Some(position)),
+    }
+}
+
+// Sets an entry, if there is one.
+#[inline(always)]
+fn put<A: Allocator>(raw: &mut Vec<Option<usize>, A>, entry: usize, value: Option<usize>)
+    ensures { raw.new.items ≡ slice_set raw.old.items entry value }
+{
+    if entry < raw.len() {
+        raw[entry] = value;
+    }
+}
+
+impl<A: Allocator> Marks<A> {
+    /// No marks: an empty list, and the last index -1. It takes no memory.
+    pub fn new(alloc: A) -> Marks<A>
+        ensures { result ≡ no_marks }
+    {
+        Marks {
+            raw: Vec::new(alloc),
+            last: 0,
+        }
+    }
+
+    /// The position of each mark up to the greatest one that is set; one in between that is not set is `None`.
+    pub fn raw(&self) -> &[Option<usize>]
+        ensures { result.now ≡ self.now.raw }
+    {
+        self.raw.as_slice()
+    }
+
+    /// The index of the group that was closed last, counted from 1; -1 where there is none.
+    pub fn last_index(&self) -> isize
+        ensures { result ≡ self.now.last }
+    {
+        if self.last == 0 {
+            -1
+        } else {
+            self.last as isize
+        }
+    }
+
+    /// The start and the end of group `group`, counted from 0: two `None` where its end lies past the list.
+    pub fn get(&self, group: usize) -> (Option<usize>, Option<usize>)
+        ensures there { 2 * group + 1 < length self.now.raw
+            → (result.0 ≡ slice_index_or self.now.raw (2 * group) None)
+            × (result.1 ≡ slice_index_or self.now.raw (2 * group + 1) None) }
+        ensures absent { length self.now.raw ≤ 2 * group + 1 → result ≡ (None, None) }
+    {
+        let marks = self.raw.as_slice();
+        if group < marks.len() / 2 {
+            (marks[2 * group], marks[2 * group + 1])
+        } else {
+            (None, None)
+        }
+    }
+
+    // Takes all marks away; the memory is kept.
+    #[inline(always)]
+    pub(crate) fn clear(&mut self)
+        ensures { self.new ≡ no_marks }
+    {
+        self.raw.clear();
+        self.last = 0;
+    }
+
+    // Sets mark `n` to `position`; on an error the marks are as they were.
+    #[inline(always)]
+    pub(crate) fn set(&mut self, n: u32, position: usize) -> Result<(), Refusal>
+        ensures { IfOk result (λ _. self.new ≡ set_mark self.old n position) }
+    {
+        let place = n as usize;
+        if self.raw.len() <= place {
+            sre_growth::resize(&mut self.raw, place + 1, None)?;
+        }
+        self.raw[place] = Some(position);
+        if n % 2 == 1 {
+            self.last = (n - 1) / 2 + 1;
+        }
+        Ok(())
+    }
+
+    // What takes the setting of mark `n` back.
+    #[inline(always)]
+    pub(crate) fn change(&self, n: u32) -> Change
+        ensures { (position : ℕ) → undo result (set_mark self.now n position) ≡ self.now }
+    {
+        Change {
+            former: former_at(&self.raw, n as usize),
+            mark: n,
+            last: self.last,
+        }
+    }
+
+    // Takes a change back.
+    #[inline(always)]
+    pub(crate) fn undo(&mut self, change: Change)
+        ensures { self.new ≡ undo change self.old }
+    {
+        restore(&mut self.raw, change.mark as usize, change.former);
+        self.last = change.last;
+    }
+}

@@ -1,0 +1,109 @@
+//! The trail: marks whose changes can be taken back.
+//!
+//! What the marks are now is held once, and each change says what stood there before. So a choice that remembers the
+//! marks remembers a length of the trail alone.
+
+ghost use Rattle.std.specs.Prelude.{◌≡◌, ◌+◌, ◌<◌, ◌≤◌, [], length, take, IfOk};
+ghost use Rattle.sre_model.specs.Marks.{no_marks, set_mark};
+ghost use Rattle.sre_board.specs.Trail.{states};
+
+use crate::marks::{Change, Marks};
+use sre_growth::Refusal;
+use std::alloc::Allocator;
+use std::marker::Model;
+
+/// Marks, and the changes that can be taken back, oldest first.
+#[derive(Drop)]
+pub(crate) struct Trail<A: Allocator> {
+    marks: Marks<A>,
+    changes: Vec<Change, A>,
+}
+
+impl<A: Allocator> Model for Trail<A> {
+    ghost use Rattle.sre_board.specs.Trail.{Trail, trail_of};
+
+    ghost Value = { Trail };
+
+    ghost view = { λ t. trail_of t.changes.items t.marks };
+}
+
+impl<A: Allocator + Copy> Trail<A> {
+    /// No marks. It takes no memory.
+    #[inline(always)]
+    pub(crate) fn new(alloc: A) -> Trail<A>
+        ensures { result ≡ record { past = []; now = no_marks } }
+    {
+        Trail {
+            marks: Marks::new(alloc),
+            changes: Vec::new(alloc),
+        }
+    }
+}
+
+impl<A: Allocator> Trail<A> {
+    /// The marks now.
+    #[inline(always)]
+    pub(crate) fn marks(&self) -> &Marks<A>
+        ensures { result.now ≡ self.now.now }
+    {
+        &self.marks
+    }
+
+    /// How many changes can be taken back.
+    #[inline(always)]
+    pub(crate) fn length(&self) -> usize
+        ensures { result ≡ length self.now.past }
+    {
+        self.changes.len()
+    }
+
+    /// Takes all marks away, for good; the memory is kept.
+    #[inline(always)]
+    pub(crate) fn clear(&mut self)
+        ensures { self.new ≡ record { past = []; now = no_marks } }
+    {
+        self.marks.clear();
+        self.changes.clear();
+    }
+
+    /// Sets mark `n` to `position`.
+    #[inline(always)]
+    pub(crate) fn set(&mut self, n: u32, position: usize) -> Result<(), Refusal>
+        ensures set { IfOk result (λ _. self.new ≡ record { past = states self.old; now = set_mark self.old.now n position }) }
+        ensures kept { length self.old.past ≤ length self.new.past }
+    {
+        sre_growth::push(&mut self.changes, self.marks.change(n))?;
+        self.marks.set(n, position)
+    }
+
+    /// Sets mark `n` to `position`, for good, with all changes before.
+    #[inline(always)]
+    pub(crate) fn set_for_good(&mut self, n: u32, position: usize) -> Result<(), Refusal>
+        ensures { IfOk result (λ _. self.new ≡ record { past = []; now = set_mark self.old.now n position }) }
+    {
+        self.changes.clear();
+        self.marks.set(n, position)
+    }
+
+    // Takes the newest change back.
+    #[inline(always)]
+    fn undo(&mut self)
+        requires { 0 < length self.old.past }
+        ensures { states self.new ≡ self.old.past }
+    {
+        if let Some(change) = self.changes.pop() {
+            self.marks.undo(change);
+        }
+    }
+
+    /// Takes changes back, newest first, until `keep` are left. It takes no memory.
+    #[inline(always)]
+    pub(crate) fn back(&mut self, keep: usize)
+        requires { keep ≤ length self.old.past }
+        ensures { states self.new ≡ take (keep + 1) (states self.old) }
+    {
+        'back: while self.length() > keep {
+            self.undo();
+        }
+    }
+}

@@ -1,0 +1,11 @@
+pub mod ReadWords
+pub mod ReadSets
+pub mod ReadCharacters
+pub mod ReadItems
+pub mod ReadRuns
+pub mod ReadBranches
+pub mod ReadRegions
+pub mod ReadBodies
+pub mod ClosingParts
+pub mod Descending
+pub mod Checked

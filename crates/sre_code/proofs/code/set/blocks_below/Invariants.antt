@@ -1,0 +1,6 @@
+use Rattle.std.proofs.Common.{ℕ, ◌<◌, slice_index}
+use Rattle.sre_model.specs.Grammar.{BytesBelow}
+use Rattle.sre_code.proofs.code.set.blocks_below.Given as goal
+
+abbrev pub invariant-loop-block : goal.invariant-loop-block
+invariant-loop-block l = (k : ℕ) → k < l.block-index → BytesBelow l.count (slice_index l.blocks k)

@@ -1,0 +1,16 @@
+-- What a code shows.
+use Rattle.std.specs.Prelude.{ℕ, List}
+use Rattle.sre_chars.specs.Tables.{Table}
+use Rattle.sre_code.specs.declared.code.Hints.{Hints}
+use Rattle.sre_code.specs.declared.code.Code.{Code}
+
+-- the words
+abbrev pub words_of : Code → List ℕ
+words_of code = code.words.now
+
+-- the table
+abbrev pub uni_of : Code → Table
+uni_of code = code.uni.now
+
+abbrev pub hints_of : Code → Hints
+hints_of code = code.hints

@@ -1,0 +1,77 @@
+-- The descent of the check into the words, with a stack of open parts.
+use Rattle.std.specs.Prelude.{ℕ, ◌+◌, ◌-◌, ◌*◌, ◌≡◌, ◌≢◌, ◌<◌, List, [], ◌∷◌, ◌++◌, reverse, length, Result, Ok, Err}
+use Rattle.sre_chars.specs.declared.constants.SreOpcode.TheVariants as opcode
+use Rattle.sre_model.specs.Tree.{Tree}
+use Rattle.sre_model.specs.Grammar.{Opcode, Reads}
+use Rattle.sre_model.specs.Width.{held, width}
+use Rattle.sre_code.specs.Reading.{Within}
+use Rattle.sre_code.specs.Steps.{Finishes}
+use Rattle.sre_growth.specs.Refusal.{Refused}
+use Rattle.sre_code.specs.declared.code.error.CodeError.{CodeError}
+use Rattle.sre_code.specs.declared.code.error.CodeError.TheVariants.{Memory}
+use Rattle.sre_code.specs.declared.code.step.Open.{Open}
+use Rattle.sre_code.specs.declared.code.step.Reached.{Reached}
+use Rattle.sre_code.specs.declared.code.step.Part.{Part}
+use Rattle.sre_code.specs.declared.code.step.Step.{Step}
+use Rattle.sre_code.specs.declared.code.step.Step.TheVariants.{Past, Opens}
+
+-- a part that begins
+abbrev pub opened : Part → Open
+opened part = record { part = part; width = 0 }
+
+-- the words from i on complete the open parts, the innermost first, and the outermost then has width W;
+-- d is the width of the item that ends at i
+abbrev pub Rest : List ℕ → ℕ → ℕ → List Open → ℕ → Type 0
+Rest ws i d [] W = W ≡ d
+Rest ws i d (top ∷ below) W = (j : ℕ) × (w : ℕ) × Finishes ws top.part (held (top.width + d)) i j w × Rest ws j w below W
+
+-- the same, with the innermost part last, as the stack keeps them
+abbrev pub StackRest : List ℕ → ℕ → ℕ → List Open → ℕ → Type 0
+StackRest ws i d parts W = Rest ws i d (reverse parts) W
+
+-- the same, after a step
+abbrev pub After : List ℕ → Step → List Open → ℕ → Type 0
+After ws (Past p v) parts W = Rest ws p v parts W
+After ws (Opens part p) parts W = Rest ws p 0 (opened part ∷ parts) W
+
+-- two things are the case for the same widths
+pub record Same (A B : ℕ → Type 0) : Type 0 where
+  pub to : (W : ℕ) → A W → B W
+  pub from : (W : ℕ) → B W → A W
+
+-- for no width
+pub record Never (A : ℕ → Type 0) : Type 0 where
+  pub none : (W : ℕ) → A W → ⊥
+
+-- what is left to do, as a number that falls
+abbrev pub work : List ℕ → ℕ → List Open → ℕ
+work ws i parts = 2 * (length ws - i) + length parts
+
+-- memory was refused, or nothing is as A says; where something is, a growth was refused
+pub record Fails (ws : List ℕ) (A : ℕ → Type 0) (e : CodeError) : Type 0 where
+  pub never : e ≢ Memory → Never A
+  pub grows : (W : ℕ) → A W → Refused
+  pub within : Within ws e
+
+-- what a step opens is on the stack
+abbrev pub Pushes : Step → List Open → List Open → Result Reached CodeError → Type 0
+Pushes (Past p v) old new (Ok r) = (r.place ≡ p) × (r.width ≡ v) × (new ≡ old)
+Pushes (Opens part p) old new (Ok r) = (r.place ≡ p) × (r.width ≡ 0) × (new ≡ old ++ opened part ∷ [])
+Pushes s old new (Err e) = (e ≡ Memory) × Refused
+
+-- one step, in which the top was the innermost part over the old ones: what is left stays the same, and the work falls
+abbrev pub ReadsOn : List ℕ → Reached → Open → List Open → List Open → Result Reached CodeError → Type 0
+ReadsOn ws r top old new (Ok q) = Same (Rest ws r.place r.width (top ∷ reverse old)) (StackRest ws q.place q.width new) × (work ws q.place new < work ws r.place old + 1)
+ReadsOn ws r top old new (Err e) = Fails ws (Rest ws r.place r.width (top ∷ reverse old)) e
+
+-- the words from start on are the items of a tree of width W, and SUCCESS as the last word
+abbrev pub WholeFrom : List ℕ → ℕ → ℕ → Type 0
+WholeFrom ws start W = ((t : Tree) × Reads ws start (length ws - 1) t × (W ≡ width t)) × Opcode ws (length ws - 1) opcode.SUCCESS
+
+pub record HasWhole (ws : List ℕ) (start W : ℕ) : Type 0 where
+  pub body : WholeFrom ws start W
+
+-- the least width of the tree, or that there is none
+abbrev pub Descends : List ℕ → ℕ → Result ℕ CodeError → Type 0
+Descends ws start (Ok W) = HasWhole ws start W
+Descends ws start (Err e) = Fails ws (WholeFrom ws start) e

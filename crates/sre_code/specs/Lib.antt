@@ -1,0 +1,6 @@
+pub mod Refusals
+pub mod Hinted
+pub mod Reading
+pub mod Steps
+pub mod Descent
+pub mod Codes

@@ -1,0 +1,100 @@
+//! Checked words.
+//!
+//! A [`Code`] is a view of words that the grammar (`specs/Grammar.antt`) relates to a tree, of which there is then
+//! exactly one, together with a table of characters. [`Code::check`] reads the words once from left to right, with a
+//! stack of its own for the parts that are open, and on the way adds up the least number of characters that a match
+//! passes.
+
+ghost use Rattle.std.specs.Prelude.{◌≡◌, ◌≢◌, ◌≤◌, ℕ, List, length, IfOk, IfErr, OnOk, OnErr};
+ghost use Rattle.sre_model.specs.Tree.{Tree};
+ghost use Rattle.sre_model.specs.Grammar.{Whole};
+ghost use Rattle.sre_code.specs.Hinted.{Confirmed};
+ghost use Rattle.sre_model.specs.Grammar.{IsCode, HasOneTree};
+ghost use Rattle.sre_code.specs.Refusals.{place_of};
+ghost use Rattle.sre_growth.specs.Refusal.{Refused};
+
+mod branch;
+mod character;
+pub(crate) mod check;
+mod descent;
+mod error;
+mod item;
+mod part;
+mod region;
+mod repeat;
+mod set;
+mod step;
+mod words;
+
+use check::check_in;
+pub use error::CodeError;
+use sre_chars::string::UniTable;
+use std::alloc::Global;
+
+/// What is known of a code beside its tree; none of it is taken from the words unless it is confirmed.
+#[derive(Clone, Copy, PartialEq, Eq, Debug)]
+pub struct Hints {
+    /// No match is shorter than this number of characters.
+    pub width: Option<u32>,
+    /// Each match begins with this number of characters, of which the second number need not be matched again.
+    pub prefix: Option<(u32, u32)>,
+    /// The prefix is all that a match has.
+    pub literal: bool,
+    /// Each match begins with a character of the set that the words begin with.
+    pub first_set: bool,
+}
+
+/// A view of checked words and a table of characters, with confirmed hints.
+#[derive(Clone, Copy)]
+pub struct Code<'a> {
+    words: &'a [u32],
+    uni: &'a UniTable,
+    hints: Hints,
+    pub ghost checked: { ∥ ((tree : Tree) × Whole words.now tree × Confirmed words.now tree hints) ∥₁ },
+}
+
+impl<'a> Code<'a> {
+    ghost use Rattle.sre_code.specs.Codes.{words_of, uni_of, hints_of};
+
+    /// Checks words against the grammar.
+    ///
+    /// The words are refused exactly where the grammar relates no tree to them, or where memory was refused: then a growth
+    /// of the check's stack was. Which cause is named where several stand is open.
+    pub fn check(alloc: Global, words: &'a [u32], uni: &'a UniTable) -> Result<Code<'a>, CodeError>
+        ensures words { IfOk result (λ code. words_of code ≡ words.now) }
+        ensures uni { IfOk result (λ code. uni_of code ≡ uni.now) }
+        ensures tree { OnOk result (IsCode words.now) }
+        ensures refused { IfErr result (λ e. e ≢ CodeError.Memory → (tree : Tree) → ¬ (Whole words.now tree)) }
+        ensures place { IfErr result (λ e. place_of e ≤ length words.now) }
+        ensures grows { (tree : Tree) → Whole words.now tree → OnErr result Refused }
+    {
+        check_in(alloc, words, uni)
+    }
+
+    /// The words, to which the grammar relates exactly one tree.
+    #[inline(always)]
+    pub fn words(&self) -> &'a [u32]
+        ensures same { result.now ≡ words_of self.now }
+        ensures tree { IsCode result.now }
+        ensures one { HasOneTree result.now }
+    {
+        self.words
+    }
+
+    /// The table.
+    #[inline(always)]
+    pub fn uni(&self) -> &'a UniTable
+        ensures { result.now ≡ uni_of self.now }
+    {
+        self.uni
+    }
+
+    /// The hints, each of which the code's tree confirms.
+    #[inline(always)]
+    pub fn hints(&self) -> Hints
+        ensures same { result ≡ hints_of self.now }
+        ensures confirmed { (tree : Tree) → Whole (words_of self.now) tree → Confirmed (words_of self.now) tree result }
+    {
+        self.hints
+    }
+}

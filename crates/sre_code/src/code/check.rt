@@ -1,0 +1,37 @@
+//! The check, with its stack in memory of any kind.
+
+ghost use Rattle.std.specs.Prelude.{◌≡◌, ◌≢◌, ◌≤◌, length, IfOk, IfErr, OnOk, OnErr};
+ghost use Rattle.sre_model.specs.Tree.{Tree};
+ghost use Rattle.sre_model.specs.Grammar.{Whole, IsCode};
+ghost use Rattle.sre_code.specs.Refusals.{place_of};
+ghost use Rattle.sre_code.specs.Codes.{words_of, uni_of};
+ghost use Rattle.sre_growth.specs.Refusal.{Refused};
+
+use crate::code::descent::descend;
+use crate::code::{Code, CodeError, Hints};
+use sre_chars::string::UniTable;
+use std::alloc::Allocator;
+
+/// What [`Code::check`] says, with the stack in memory that `alloc` gives: for tests that refuse it.
+#[tactic(auto, using(crate::proofs::Descending::descent_code, crate::proofs::Descending::descent_refused))]
+pub fn check_in<'a, A: Allocator + Copy>(
+    alloc: A,
+    words: &'a [u32],
+    uni: &'a UniTable,
+) -> Result<Code<'a>, CodeError>
+    ensures words { IfOk result (λ code. words_of code ≡ words.now) }
+    ensures uni { IfOk result (λ code. uni_of code ≡ uni.now) }
+    ensures tree { OnOk result (IsCode words.now) }
+    ensures refused { IfErr result (λ e. e ≢ CodeError.Memory → (tree : Tree) → ¬ (Whole words.now tree)) }
+    ensures place { IfErr result (λ e. place_of e ≤ length words.now) }
+    ensures grows { (tree : Tree) → Whole words.now tree → OnErr result Refused }
+{
+    descend(alloc, words, 0)?;
+    let hints = Hints {
+        width: None,
+        prefix: None,
+        literal: false,
+        first_set: false,
+    };
+    Ok(Code { words, uni, hints })
+}

@@ -1,0 +1,78 @@
+//! Why words are refused.
+
+ghost use Rattle.std.specs.Prelude.{◌≡◌};
+
+use sre_growth::Refusal;
+use thiserror::Error;
+
+/// Why words were refused. Each cause but the first carries the place of the word at which the fault was seen, which
+/// is at most the number of words; where several causes stand, any of them may be named.
+#[derive(Clone, Copy, PartialEq, Eq, Debug, Error)]
+pub enum CodeError {
+    /// Memory was refused. It may come before any other.
+    #[error("out of memory")]
+    Memory,
+    /// The words or a part end before an item, a set, the block or the last SUCCESS is whole.
+    #[error("Truncated {0}")]
+    Truncated(usize),
+    /// A word that is no opcode's number stands where an opcode is read.
+    #[error("UnknownOpcode {0}")]
+    UnknownOpcode(usize),
+    /// A word that is no position code's number stands after AT.
+    #[error("UnknownAt {0}")]
+    UnknownAt(usize),
+    /// A word that is no category code's number stands after CATEGORY.
+    #[error("UnknownCategory {0}")]
+    UnknownCategory(usize),
+    /// A skip, a length or a JUMP leads elsewhere than its layout demands.
+    #[error("BadSkip {0}")]
+    BadSkip(usize),
+    /// The least count of a repeat is above its greatest.
+    #[error("BadCounts {0}")]
+    BadCounts(usize),
+    /// A known opcode stands where no item of that kind may, a part has a wrong end, or a BRANCH has no alternatives.
+    #[error("BadItem {0}")]
+    BadItem(usize),
+    /// A set has another opcode, no FAILURE at its end, or a block number that is not below the block count.
+    #[error("BadSet {0}")]
+    BadSet(usize),
+    /// An information block is not at the front, or its skip is below 4 or leads past the last word.
+    #[error("BadInfo {0}")]
+    BadInfo(usize),
+    /// There are words after the SUCCESS that ends the code.
+    #[error("TrailingWords {0}")]
+    TrailingWords(usize),
+}
+
+impl From<Refusal> for CodeError {
+    ghost use Rattle.sre_code.specs.declared.code.error.CodeError.TheVariants.{Memory};
+
+    ghost from_gives = { λ _ e. e ≡ Memory };
+
+    fn from(_refusal: Refusal) -> CodeError {
+        CodeError::Memory
+    }
+}
+
+impl CodeError {
+    ghost use Rattle.sre_code.specs.Refusals.{refusal_number};
+
+    /// The number of this cause.
+    pub fn number(&self) -> u32
+        ensures { result ≡ refusal_number self.now }
+    {
+        match self {
+            CodeError::Memory => 1,
+            CodeError::Truncated(_) => 2,
+            CodeError::UnknownOpcode(_) => 3,
+            CodeError::UnknownAt(_) => 4,
+            CodeError::UnknownCategory(_) => 5,
+            CodeError::BadSkip(_) => 6,
+            CodeError::BadCounts(_) => 7,
+            CodeError::BadItem(_) => 8,
+            CodeError::BadSet(_) => 9,
+            CodeError::BadInfo(_) => 10,
+            CodeError::TrailingWords(_) => 11,
+        }
+    }
+}

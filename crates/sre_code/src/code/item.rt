@@ -1,0 +1,89 @@
+//! Items, by their opcodes.
+
+ghost use Rattle.sre_model.specs.Grammar.{Opcode};
+ghost use Rattle.sre_code.specs.Steps.{Gives, ItemAt, ItemGives, RunAt};
+
+use crate::code::error::CodeError;
+use crate::code::step::Step;
+use crate::code::{branch, character, region, repeat, words};
+use sre_chars::constants::SreOpcode;
+
+/// `<AT> <position>`
+#[tactic(auto, using(crate::proofs::ReadItems::at_exactly, crate::proofs::ReadItems::at_cut))]
+fn at(words: &[u32], place: usize) -> Result<Step, CodeError>
+    requires { Opcode words.now place SreOpcode.AT }
+    ensures { Gives words.now place (ItemAt words.now place) result }
+{
+    words::position(words, place + 1)?;
+    Ok(Step::Past {
+        place: place + 2,
+        width: 0,
+    })
+}
+
+/// `<MARK> <number>`
+#[tactic(auto, using(crate::proofs::ReadItems::mark_exactly, crate::proofs::ReadItems::mark_cut))]
+fn mark(words: &[u32], place: usize) -> Result<Step, CodeError>
+    requires { Opcode words.now place SreOpcode.MARK }
+    ensures { Gives words.now place (ItemAt words.now place) result }
+{
+    words::operand(words, place + 1)?;
+    Ok(Step::Past {
+        place: place + 2,
+        width: 0,
+    })
+}
+
+/// `<REPEAT_ONE> <skip> <least count> <greatest count> <test> <SUCCESS>`, and MIN_REPEAT_ONE and POSSESSIVE_REPEAT_ONE alike
+#[tactic(auto, using(crate::proofs::ReadRuns::run_exactly, crate::proofs::ReadRuns::run_short, crate::proofs::ReadRuns::run_counts, crate::proofs::ReadRuns::run_no_opcode, crate::proofs::ReadRuns::run_nowhere, crate::proofs::ReadRuns::run_open, crate::proofs::ReadRuns::run_ends_cut, crate::proofs::ReadRuns::run_skip))]
+fn run(words: &[u32], place: usize) -> Result<Step, CodeError>
+    requires { RunAt words.now place }
+    ensures { Gives words.now place (ItemAt words.now place) result }
+{
+    let tail = words::skip(words, place + 1)?;
+    let low = words::operand(words, place + 2)?;
+    let high = words::operand(words, place + 3)?;
+    if low > high {
+        return Err(CodeError::BadCounts(place + 2));
+    }
+    let test = words::opcode(words, place + 4)?;
+    let end = character::test(words, place + 4, test)?;
+    let SreOpcode::SUCCESS = words::opcode(words, end)? else {
+        return Err(CodeError::BadItem(end));
+    };
+    if tail != end + 1 {
+        return Err(CodeError::BadSkip(place + 1));
+    }
+    Ok(Step::Past {
+        place: tail,
+        width: low,
+    })
+}
+
+/// The item at this place.
+#[tactic(auto, using(crate::proofs::ReadItems::fail_exactly, crate::proofs::ReadItems::one_nowhere, crate::proofs::ReadItems::no_opcode, crate::proofs::ReadRuns::greedy_there, crate::proofs::ReadRuns::lazy_there, crate::proofs::ReadRuns::possessive_there, crate::proofs::ReadRegions::assert_there, crate::proofs::ReadRegions::assert_not_there))]
+pub fn item(words: &[u32], place: usize) -> Result<Step, CodeError>
+    ensures { ItemGives words.now place result }
+{
+    let code = words::opcode(words, place)?;
+    match code {
+        SreOpcode::FAILURE => Ok(Step::Past {
+            place: place + 1,
+            width: 0,
+        }),
+        SreOpcode::AT => at(words, place),
+        SreOpcode::MARK => mark(words, place),
+        SreOpcode::BRANCH => branch::branch(words, place),
+        SreOpcode::REPEAT_ONE => run(words, place),
+        SreOpcode::MIN_REPEAT_ONE => run(words, place),
+        SreOpcode::POSSESSIVE_REPEAT_ONE => run(words, place),
+        SreOpcode::REPEAT => repeat::repeat(words, place),
+        SreOpcode::ATOMIC_GROUP => region::atomic_group(words, place),
+        SreOpcode::ASSERT => region::look(words, place),
+        SreOpcode::ASSERT_NOT => region::look(words, place),
+        _ => Ok(Step::Past {
+            place: character::test(words, place, code)?,
+            width: 1,
+        }),
+    }
+}

@@ -1,0 +1,42 @@
+//! What closes parts.
+
+ghost use Rattle.std.specs.Prelude.{◌≡◌};
+ghost use Rattle.sre_code.specs.Steps.{Closing};
+
+use crate::code::error::CodeError;
+use crate::code::step::{Bounds, Part, Step};
+use crate::code::{branch, region, repeat, words};
+use sre_chars::constants::SreOpcode;
+
+/// SUCCESS, as the last word.
+#[tactic(auto, using(crate::proofs::ClosingParts::whole_inside, crate::proofs::ClosingParts::whole_end, crate::proofs::ClosingParts::whole_exactly, crate::proofs::ClosingParts::whole_trails, crate::proofs::ClosingParts::whole_cut))]
+fn whole(words: &[u32], place: usize, width: u32) -> Result<Option<Step>, CodeError>
+    ensures { Closing words.now Part.Whole place width result }
+{
+    match words::opcode(words, place)? {
+        SreOpcode::SUCCESS => {
+            if place + 1 != words.len() {
+                return Err(CodeError::TrailingWords(place + 1));
+            }
+            Ok(Some(Step::Past {
+                place: place + 1,
+                width,
+            }))
+        }
+        _ => Ok(None),
+    }
+}
+
+/// What closes a part at this place, where its items have that least width; `None` where the part goes on.
+pub fn close(words: &[u32], place: usize, part: Part, width: u32) -> Result<Option<Step>, CodeError>
+    ensures { Closing words.now part place width result }
+{
+    match part {
+        Part::Whole => whole(words, place, width),
+        Part::Alternative { end, tail, least } => {
+            branch::alternative(words, place, Bounds { end, tail }, least, width)
+        }
+        Part::Body { end, least } => repeat::until(words, place, end, least, width),
+        Part::Region { end, least } => region::end(words, place, end, least, width),
+    }
+}

@@ -1,0 +1,71 @@
+//! `<ATOMIC_GROUP> <skip> <items> <SUCCESS>`, and `<ASSERT> <skip> <back> <items> <SUCCESS>` and ASSERT_NOT alike; the
+//! skip leads behind the SUCCESS.
+
+ghost use Rattle.sre_model.specs.Grammar.{Opcode};
+ghost use Rattle.sre_code.specs.Steps.{Gives, ItemAt, LookAt, Closing};
+
+use crate::code::error::CodeError;
+use crate::code::step::{Part, Step};
+use crate::code::words;
+use sre_chars::constants::SreOpcode;
+
+/// The item, which opens its body.
+#[tactic(auto, using(crate::proofs::ReadRegions::atomic_exactly, crate::proofs::ReadRegions::atomic_short, crate::proofs::ReadRegions::atomic_cut))]
+pub fn atomic_group(words: &[u32], place: usize) -> Result<Step, CodeError>
+    requires { Opcode words.now place SreOpcode.ATOMIC_GROUP }
+    ensures { Gives words.now place (ItemAt words.now place) result }
+{
+    let tail = words::skip(words, place + 1)?;
+    if tail < place + 3 {
+        return Err(CodeError::BadSkip(place + 1));
+    }
+    Ok(Step::Opens {
+        part: Part::Region {
+            end: tail - 1,
+            least: 1,
+        },
+        place: place + 2,
+    })
+}
+
+/// The item, which opens its body; a look has no width.
+#[tactic(auto, using(crate::proofs::ReadRegions::look_exactly, crate::proofs::ReadRegions::look_short, crate::proofs::ReadRegions::look_cut))]
+pub fn look(words: &[u32], place: usize) -> Result<Step, CodeError>
+    requires { LookAt words.now place }
+    ensures { Gives words.now place (ItemAt words.now place) result }
+{
+    let tail = words::skip(words, place + 1)?;
+    if tail < place + 4 {
+        return Err(CodeError::BadSkip(place + 1));
+    }
+    Ok(Step::Opens {
+        part: Part::Region {
+            end: tail - 1,
+            least: 0,
+        },
+        place: place + 3,
+    })
+}
+
+/// The end of a body, if it is here.
+#[tactic(auto, using(crate::proofs::ReadRegions::region_inside, crate::proofs::ReadRegions::region_open, crate::proofs::ReadRegions::region_cut))]
+pub fn end(
+    words: &[u32],
+    place: usize,
+    end: usize,
+    least: u32,
+    width: u32,
+) -> Result<Option<Step>, CodeError>
+    ensures { Closing words.now (Part.Region end least) place width result }
+{
+    if place != end {
+        return Ok(None);
+    }
+    match words::opcode(words, place)? {
+        SreOpcode::SUCCESS => Ok(Some(Step::Past {
+            place: place + 1,
+            width: least.saturating_mul(width),
+        })),
+        _ => Err(CodeError::BadItem(place)),
+    }
+}

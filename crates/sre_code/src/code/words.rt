@@ -1,0 +1,62 @@
+//! Single words: operands, skips, and the numbers of codes.
+
+ghost use Rattle.sre_chars.specs.Numbers.{opcode_number, at_number, category_number};
+ghost use Rattle.sre_code.specs.Reading.{OperandAt, SkipAt, CodeAt};
+
+use crate::code::error::CodeError;
+use sre_chars::constants::{SreAtCode, SreCatCode, SreOpcode};
+use std::convert::TryFrom;
+
+/// The word at a place.
+pub fn operand(words: &[u32], place: usize) -> Result<u32, CodeError>
+    ensures { OperandAt words.now place result }
+{
+    match words.get(place) {
+        Some(word) => Ok(*word),
+        None => Err(CodeError::Truncated(words.len())),
+    }
+}
+
+/// Where the skip word at a place leads.
+pub fn skip(words: &[u32], place: usize) -> Result<usize, CodeError>
+    ensures { SkipAt words.now place result }
+{
+    let skip = operand(words, place)?;
+    Ok(place + skip as usize)
+}
+
+/// The opcode at a place.
+#[tactic(auto, using(crate::proofs::ReadWords::number_there, crate::proofs::ReadWords::code_past, crate::proofs::ReadWords::opcode_unknown))]
+pub fn opcode(words: &[u32], place: usize) -> Result<SreOpcode, CodeError>
+    ensures { CodeAt opcode_number words.now place result }
+{
+    let word = operand(words, place)?;
+    match SreOpcode::try_from(word) {
+        Ok(opcode) => Ok(opcode),
+        Err(_) => Err(CodeError::UnknownOpcode(place)),
+    }
+}
+
+/// The position code at a place.
+#[tactic(auto, using(crate::proofs::ReadWords::number_there, crate::proofs::ReadWords::code_past, crate::proofs::ReadWords::at_unknown))]
+pub fn position(words: &[u32], place: usize) -> Result<SreAtCode, CodeError>
+    ensures { CodeAt at_number words.now place result }
+{
+    let word = operand(words, place)?;
+    match SreAtCode::try_from(word) {
+        Ok(position) => Ok(position),
+        Err(_) => Err(CodeError::UnknownAt(place)),
+    }
+}
+
+/// The category code at a place.
+#[tactic(auto, using(crate::proofs::ReadWords::number_there, crate::proofs::ReadWords::code_past, crate::proofs::ReadWords::category_unknown))]
+pub fn category(words: &[u32], place: usize) -> Result<SreCatCode, CodeError>
+    ensures { CodeAt category_number words.now place result }
+{
+    let word = operand(words, place)?;
+    match SreCatCode::try_from(word) {
+        Ok(category) => Ok(category),
+        Err(_) => Err(CodeError::UnknownCategory(place)),
+    }
+}

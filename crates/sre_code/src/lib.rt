@@ -1,0 +1,7 @@
+//! Checked words: the grammar's check, and what is known of a code.
+#![tactic(auto)]
+
+pub mod code;
+
+pub use code::Code;
+pub use code::check::check_in;

@@ -1,9 +1,0 @@
-use Rattle.std.proofs.Common.{◌-◌}
-use Rattle.sre_engine.specs.Reading.{SameSets}
-use Rattle.sre_engine.proofs.code.set.items.Given as goal
-
-abbrev pub invariant-items : goal.invariant-items
-invariant-items l = SameSets l.words l.start l.place l.end
-
-abbrev pub decreases-items : goal.decreases-items
-decreases-items l = l.end - l.place

@@ -1,5 +1,0 @@
-use Rattle.sre_engine.proofs.ChainLaws.{cut_law}
-use Rattle.sre_engine.proofs.engine.chains.Chains.cut.Goals as goal
-
-pub returns : goal.returns
-returns g c = cut_law c.self.inside.nodes.items c.truncate.new.self.items _ c.args.keep c.self.view_is c.truncate.ensures.items c.requires

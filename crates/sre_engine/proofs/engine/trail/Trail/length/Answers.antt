@@ -1,6 +1,0 @@
-use Rattle.std.proofs.Common.{arith}
-use Rattle.sre_engine.proofs.Undo.{length-of}
-use Rattle.sre_engine.proofs.engine.trail.Trail.length.Goals as goal
-
-pub returns : goal.returns
-returns g c = omega (arith, length-of _ c.self.inside.changes.items c.self.inside.marks c.self.view_is, c.self.inside.changes.ok.0)

@@ -1,5 +1,0 @@
-use Rattle.sre_engine.proofs.Undo.{undo_law}
-use Rattle.sre_engine.proofs.engine.trail.Trail.undo.Goals as goal
-
-pub returns-in-Some : goal.returns-in-Some
-returns-in-Some g c = undo_law _ c.self.inside.changes.items c.pop.new.self.items c.self.inside.marks c.undo.new.self c.in-Some.change c.self.view_is c.in-Some.ensures.items c.undo.ensures

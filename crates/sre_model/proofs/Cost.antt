@@ -1,0 +1,81 @@
+-- How many turns the machine takes for a tree, given how many it takes for what follows.
+use Rattle.std.proofs.Common.{ℕ, zero, suc, ◌+◌, ◌-◌, cond, nat_lt, List, [], ◌∷◌, Option, Some, None}
+use Rattle.sre_model.specs.Tree.{Tree, Empty, Then, Item, One, At, Mark, Branch, Loop, Run, GreedyRun, LazyRun, PossessiveRun, Atomic, Look, Sign, Positive, Negative, Trees, Only, Or}
+use Rattle.sre_model.specs.Marks.{Marks, set_mark}
+use Rattle.sre_model.specs.Subject.{Subject, passes, holds_at}
+use Rattle.sre_model.specs.Ways.{Way, Body, longest_run, may_repeat, ways}
+
+-- the turns from a position under marks
+abbrev pub Costs : Type 0
+Costs = ℕ → Marks → ℕ
+
+-- a region's last turns
+abbrev pub ending : Costs
+ending q k = 2
+
+-- the shorter counts of a run, down to the least
+abbrev pub shorter_cost : Costs → ℕ → ℕ → Costs
+shorter_cost C low zero p m = 1
+shorter_cost C low (suc n) p m = suc (suc (C (p + (low + n)) m + shorter_cost C low n p m))
+
+abbrev pub run_cost : ℕ → ℕ → Costs → Costs
+run_cost low k C p m = cond (nat_lt k low) 1 (suc (suc (C (p + k) m + shorter_cost C low (k - low) p m)))
+
+abbrev pub longest_run_cost : ℕ → ℕ → Costs → Costs
+longest_run_cost low k C p m = cond (nat_lt k low) 1 (suc (C (p + k) m))
+
+-- the longer counts of a lazy run, n of them behind c characters
+abbrev pub longer_cost : Costs → ℕ → ℕ → Costs
+longer_cost C c zero p m = 1
+longer_cost C c (suc n) p m = suc (suc (C (p + (c + 1)) m + longer_cost C (c + 1) n p m))
+
+abbrev pub lazy_run_cost : ℕ → ℕ → Costs → Costs
+lazy_run_cost low k C p m = cond (nat_lt k low) 1 (suc (suc (C (p + low) m + longer_cost C low (k - low) p m)))
+
+-- the bodies of a loop below its least count
+abbrev pub least_cost : (Costs → Costs) → Costs → ℕ → Costs
+least_cost body rest zero p m = rest p m
+least_cost body rest (suc owed) p m = suc (body (λ q k. least_cost body rest owed q k) p m)
+
+-- a loop from its least count on
+abbrev pub more_cost : ℕ → (Costs → Costs) → Costs → ℕ → ℕ → Option ℕ → Costs
+more_cost high body C zero count last p m = suc (C p m)
+more_cost high body C (suc fuel) count last p m = cond (may_repeat high count last p) (suc (suc (body (λ q k. more_cost high body C fuel (count + 1) (Some p) q k) p m + C p m))) (suc (C p m))
+
+-- behind an atomic group whose body has these ways
+abbrev pub atomic_cost : Costs → List Way → ℕ
+atomic_cost C [] = 1
+atomic_cost C (w ∷ _) = suc (C w.stop w.marks)
+
+-- behind a look, from where it began
+abbrev pub look_cost : Sign → Costs → ℕ → Marks → List Way → ℕ
+look_cost Positive C p m [] = 1
+look_cost Positive C p m (w ∷ _) = suc (C p w.marks)
+look_cost Negative C p m [] = suc (C p m)
+look_cost Negative C p m (w ∷ _) = 1
+
+-- a look and what is behind it
+abbrev pub looked_cost : Sign → ℕ → (Costs → Costs) → Body → Costs → Costs
+looked_cost sign back body W C p m = cond (nat_lt p back) (look_cost sign C p m []) (suc (body ending (p - back) m + look_cost sign C p m (W (p - back) m)))
+
+abbrev mutual
+  pub cost : Subject → Tree → Costs → Costs
+  cost s Empty C p m = C p m
+  cost s (Then item rest) C p m = item_cost s item (λ q k. cost s rest C q k) p m
+
+  pub item_cost : Subject → Item → Costs → Costs
+  item_cost s (One t) C p m = cond (passes s t p) (suc (C (p + 1) m)) 1
+  item_cost s (At a) C p m = cond (holds_at s a p) (suc (C p m)) 1
+  item_cost s (Mark n) C p m = suc (C p (set_mark m n p))
+  item_cost s (Branch ts) C p m = suc (branch_cost s ts (λ q k. suc (C q k)) p m)
+  item_cost s (Loop o low high body) C p m = suc (least_cost (λ D q k. cost s body D q k) (λ q k. more_cost high (λ D a b. cost s body D a b) C (s.end + 1 - q) low None q k) low p m)
+  item_cost s (Run GreedyRun low high t) C p m = run_cost low (longest_run s t high p) C p m
+  item_cost s (Run LazyRun low high t) C p m = lazy_run_cost low (longest_run s t high p) C p m
+  item_cost s (Run PossessiveRun low high t) C p m = longest_run_cost low (longest_run s t high p) C p m
+  item_cost s (Atomic body) C p m = suc (cost s body ending p m + atomic_cost C (ways s body p m))
+  item_cost s (Look sign back body) C p m = looked_cost sign back (λ D q k. cost s body D q k) (λ q k. ways s body q k) C p m
+  item_cost s _ C p m = 1
+
+  pub branch_cost : Subject → Trees → Costs → Costs
+  branch_cost s (Only t) C p m = suc (suc (cost s t C p m + 1))
+  branch_cost s (Or t ts) C p m = suc (suc (cost s t C p m + branch_cost s ts C p m))

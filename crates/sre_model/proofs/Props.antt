@@ -1,0 +1,70 @@
+-- A tree is related in one way.
+use Rattle.std.proofs.Common.{ℕ, ◌+◌, ◌*◌, ◌-◌, ◌≡◌, List, [], ◌∷◌, length}
+use Rattle.std.proofs.Props.{props}
+use mathlib.Core.HLevel.{is_prop→PathP}
+use Rattle.std.proofs.Math.Logic.{∥∥₁_elim}
+use Rattle.sre_model.specs.Tree.{Tree, Empty, Then, Item, Fail, One, At, Mark, Branch, Loop, Run, PossessiveLoop, Atomic, Look, Reference, Exists, ExistsElse, Trees, Only, Or, Test, In, SetItem, Single, Range, RangeUniIgnore, Category, Charset, BigCharset, Negate}
+use Rattle.sre_model.specs.Grammar.{word, skip, Reads, ReadsItem, ReadsBranch, TestOperands, ReadsSet, IsBuilt, Whole}
+use Rattle.sre_model.specs.Grammar.{IsCode}
+use Rattle.sre_model.proofs.Unique.{item_same, whole_same}
+
+-- the place between two readings is determined
+between : (A B : ℕ → Type 0) → ((k m : ℕ) → A k → A m → k ≡ m) → ((k : ℕ) → IsProp (A k)) → ((k : ℕ) → IsProp (B k)) → IsProp ((k : ℕ) × A k × B k)
+between A B one pa pb x y =
+    let p : x.0 ≡ y.0 = one x.0 y.0 x.1 y.1 in
+    λ i. (p i, is_prop→PathP (λ j. A (p j)) (λ j. pa (p j)) x.1 y.1 i, is_prop→PathP (λ j. B (p j)) (λ j. pb (p j)) x.2 y.2 i)
+
+built_prop : (x : Item) → IsProp (IsBuilt x)
+built_prop (Run kind low high t) = hlevel props
+built_prop x = hlevel props
+
+set_prop : (s : List SetItem) (ws : List ℕ) (i j : ℕ) → IsProp (ReadsSet ws i j s)
+set_prop [] ws i j = hlevel props
+set_prop (Single v ∷ s) ws i j = hlevel (props, set_prop s ws (i + 2) j)
+set_prop (Range l h ∷ s) ws i j = hlevel (props, set_prop s ws (i + 3) j)
+set_prop (RangeUniIgnore l h ∷ s) ws i j = hlevel (props, set_prop s ws (i + 3) j)
+set_prop (Category c ∷ s) ws i j = hlevel (props, set_prop s ws (i + 2) j)
+set_prop (Charset b ∷ s) ws i j = hlevel (props, set_prop s ws (i + 9) j)
+set_prop (BigCharset n b ∷ s) ws i j = hlevel (props, set_prop s ws (i + 66 + word ws (i + 1) * 8) j)
+set_prop (Negate ∷ s) ws i j = hlevel (props, set_prop s ws (i + 1) j)
+
+test_prop : (t : Test) (ws : List ℕ) (i j : ℕ) → IsProp (TestOperands ws i j t)
+test_prop (In f s) ws i j = hlevel (props, set_prop s ws (i + 2) (j - 1))
+test_prop t ws i j = hlevel props
+
+mutual
+  pub reads_prop : (t : Tree) (ws : List ℕ) (i j : ℕ) → IsProp (Reads ws i j t)
+  reads_prop Empty ws i j = hlevel props
+  reads_prop (Then x t) ws i j = between (λ k. ReadsItem ws i k x) (λ k. Reads ws k j t)
+      (λ k m r s. (item_same x x ws i k m r s).1) (λ k. item_prop x ws i k) (λ k. reads_prop t ws k j)
+
+  item_prop : (x : Item) (ws : List ℕ) (i j : ℕ) → IsProp (ReadsItem ws i j x)
+  item_prop Fail ws i j = hlevel (props, built_prop Fail)
+  item_prop (One t) ws i j = hlevel (props, test_prop t ws i j, built_prop (One t))
+  item_prop (At a) ws i j = hlevel (props, built_prop (At a))
+  item_prop (Mark n) ws i j = hlevel (props, built_prop (Mark n))
+  item_prop (Branch ts) ws i j = hlevel (props, branch_prop ts ws (i + 1) j, built_prop (Branch ts))
+  item_prop (Loop o low high body) ws i j = hlevel (props, reads_prop body ws (i + 4) (skip ws (i + 1)), built_prop (Loop o low high body))
+  item_prop (Run kind low high t) ws i j = hlevel (props, test_prop t ws (i + 4) (j - 1), built_prop (Run kind low high t))
+  item_prop (PossessiveLoop low high body) ws i j = hlevel (props, reads_prop body ws (i + 4) (skip ws (i + 1)), built_prop (PossessiveLoop low high body))
+  item_prop (Atomic body) ws i j = hlevel (props, reads_prop body ws (i + 2) (j - 1), built_prop (Atomic body))
+  item_prop (Look sign back body) ws i j = hlevel (props, reads_prop body ws (i + 3) (j - 1), built_prop (Look sign back body))
+  item_prop (Reference fold g) ws i j = hlevel (props, built_prop (Reference fold g))
+  item_prop (Exists g a) ws i j = hlevel (props, reads_prop a ws (i + 3) j, built_prop (Exists g a))
+  item_prop (ExistsElse g a b) ws i j = hlevel (props, reads_prop a ws (i + 3) (i + 1 + word ws (i + 2) - 2), reads_prop b ws (i + 1 + word ws (i + 2)) j, built_prop (ExistsElse g a b))
+
+  branch_prop : (ts : Trees) (ws : List ℕ) (q j : ℕ) → IsProp (ReadsBranch ws q j ts)
+  branch_prop (Only t) ws q j = hlevel (props, reads_prop t ws (q + 1) (skip ws q - 2))
+  branch_prop (Or t ts) ws q j = hlevel (props, reads_prop t ws (q + 1) (skip ws q - 2), branch_prop ts ws (skip ws q) j)
+
+pub whole_prop : (ws : List ℕ) (t : Tree) → IsProp (Whole ws t)
+whole_prop ws t = hlevel (props, reads_prop t ws 0 (length ws - 1))
+
+pub code_prop : (ws : List ℕ) → IsProp (IsCode ws)
+code_prop ws x y =
+    let p : x.0 ≡ y.0 = whole_same ws x.0 y.0 x.1 y.1 in
+    λ i. (p i, is_prop→PathP (λ j. Whole ws (p j)) (λ j. whole_prop ws (p j)) x.1 y.1 i)
+
+-- the tree that a code keeps
+pub kept_tree : (ws : List ℕ) → ∥ IsCode ws ∥₁ → IsCode ws
+kept_tree ws c = ∥∥₁_elim c (code_prop ws) (λ x. x)

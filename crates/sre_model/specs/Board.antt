@@ -1,0 +1,42 @@
+-- The board: what a run of the machine holds beside its place and position.
+use Rattle.std.specs.Prelude.{◌≡◌, List, [], ◌∷◌}
+use Rattle.sre_chars.specs.declared.string.StringCursor.{StringCursor}
+use Rattle.sre_model.specs.Marks.{Marks}
+use Rattle.sre_model.specs.declared.Frame.{Frame}
+use Rattle.sre_model.specs.declared.Point.{Point}
+use Rattle.sre_model.specs.declared.Point.TheVariants.{Instruction, Alternatives, Shorter, Longer, Inside}
+use Rattle.sre_model.specs.declared.Region.{Region}
+use Rattle.sre_model.specs.declared.Region.TheVariants.{AtomicGroup, Ahead, NotAhead}
+
+-- what is still to be tried: another point, under other loops and marks; or what comes of a region, whose body is in
+-- progress, and which was entered under those loops and marks
+pub data Choice : Type 0 where
+  Else : Point → List Frame → StringCursor → Marks → Choice
+  Keep : Region → List Frame → StringCursor → Marks → Choice
+
+-- a choice, by its point
+abbrev pub choice : Point → List Frame → StringCursor → Marks → Choice
+choice (Inside g) fs c m = Keep g fs c m
+choice pt fs c m = Else pt fs c m
+
+-- the innermost region, and what waits behind it
+abbrev pub from_region : List Choice → List Choice
+from_region [] = []
+from_region (Else pt fs c m ∷ cs) = from_region cs
+from_region (Keep g fs c m ∷ cs) = Keep g fs c m ∷ cs
+
+-- the loops in progress, innermost first, the marks, and the choices, newest first
+pub record BoardValue : Type 0 where
+  pub frames : List Frame
+  pub marks : Marks
+  pub choices : List Choice
+
+-- these marks, and nothing else
+abbrev pub bare : Marks → BoardValue
+bare m = record { frames = []; marks = m; choices = [] }
+
+-- the innermost region ends, and its choices go: the loops are those under which it was entered, the marks stay
+pub record Cuts (old : BoardValue) (g : Region) (c : StringCursor) (new : BoardValue) : Type 0 where
+  pub entered : Marks
+  pub region : from_region old.choices ≡ Keep g new.frames c entered ∷ new.choices
+  pub marks : new.marks ≡ old.marks

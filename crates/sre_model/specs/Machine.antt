@@ -1,0 +1,255 @@
+-- The machine: what standing at a point of the words means, and what a turn keeps.
+use Rattle.std.specs.Prelude.{ℕ, suc, ◌+◌, ◌-◌, ◌≡◌, ◌≤◌, Bool, List, [], ◌∷◌, ◌++◌, Option, Some, None}
+use Rattle.std.specs.List.{filter}
+use Rattle.sre_chars.specs.declared.constants.SreOpcode.{SreOpcode}
+use Rattle.sre_chars.specs.declared.constants.SreOpcode.TheVariants as opcode
+use Rattle.sre_chars.specs.declared.string.StringCursor.{StringCursor}
+use Rattle.sre_model.specs.Tree.{Tree, Order, Greedy, Lazy, Sign, Positive, Negative}
+use Rattle.sre_model.specs.Marks.{Marks, no_marks}
+use Rattle.sre_model.specs.Subject.{Subject}
+use Rattle.sre_model.specs.Ways.{Way, here, ways}
+use Rattle.sre_model.specs.Grammar.{Opcode}
+use Rattle.sre_model.specs.Board.{Choice, Else, Keep, BoardValue}
+use Rattle.sre_model.specs.declared.Frame.{Frame}
+use Rattle.sre_model.specs.declared.Region.TheVariants.{AtomicGroup, Ahead, NotAhead}
+use Rattle.sre_model.specs.declared.Region.{Region}
+use Rattle.sre_model.specs.declared.Point.TheVariants.{Instruction, Alternatives, Shorter, Longer, Inside}
+use Rattle.sre_model.specs.declared.Point.{Point}
+use Rattle.sre_model.specs.Moves.{Spot, spot_at, Move, Stop, End, Go, Split, Enter, closed, to_point, TestMove, AtMove, MarkMove, JumpMove, AlternativesMove}
+use Rattle.sre_model.specs.MovesInRuns.{RunMove, LongestRunMove, ShorterMove, LazyRunMove, LongerMove}
+use Rattle.sre_model.specs.MovesInLoops.{RepeatMove, UntilMove}
+use Rattle.sre_model.specs.MovesInRegions.{AtomicMove, LookMove}
+use Rattle.sre_model.specs.declared.Next.{Next}
+use Rattle.sre_model.specs.declared.Next.TheVariants as next
+
+-- the opcodes that the machine does alike
+pub data Family : Type 0 where
+  Failing : Family
+  Ending : Family
+  Testing : Family
+  Standing : Family
+  Marking : Family
+  Branching : Family
+  Jumping : Family
+  Running : Family
+  RunningLazily : Family
+  RunningLongest : Family
+  Repeating : Family
+  Looping : Order → Family
+  Grouping : Family
+  Looking : Sign → Family
+  Unbuilt : Family
+
+abbrev pub family : SreOpcode → Family
+family opcode.FAILURE = Failing
+family opcode.SUCCESS = Ending
+family opcode.ANY = Testing
+family opcode.ANY_ALL = Testing
+family opcode.CATEGORY = Testing
+family opcode.LITERAL = Testing
+family opcode.LITERAL_IGNORE = Testing
+family opcode.LITERAL_LOC_IGNORE = Testing
+family opcode.LITERAL_UNI_IGNORE = Testing
+family opcode.NOT_LITERAL = Testing
+family opcode.NOT_LITERAL_IGNORE = Testing
+family opcode.NOT_LITERAL_LOC_IGNORE = Testing
+family opcode.NOT_LITERAL_UNI_IGNORE = Testing
+family opcode.IN = Testing
+family opcode.IN_IGNORE = Testing
+family opcode.IN_LOC_IGNORE = Testing
+family opcode.IN_UNI_IGNORE = Testing
+family opcode.AT = Standing
+family opcode.MARK = Marking
+family opcode.BRANCH = Branching
+family opcode.JUMP = Jumping
+family opcode.REPEAT_ONE = Running
+family opcode.MIN_REPEAT_ONE = RunningLazily
+family opcode.POSSESSIVE_REPEAT_ONE = RunningLongest
+family opcode.REPEAT = Repeating
+family opcode.MAX_UNTIL = Looping Greedy
+family opcode.MIN_UNTIL = Looping Lazy
+family opcode.ATOMIC_GROUP = Grouping
+family opcode.ASSERT = Looking Positive
+family opcode.ASSERT_NOT = Looking Negative
+family _ = Unbuilt
+
+-- what a turn does at an instruction whose family is known
+abbrev pub InFamily : List ℕ → Subject → Family → ℕ → Spot → Move → Type 0
+InFamily ws s Failing i x mv = mv ≡ Stop
+InFamily ws s Ending i x mv = mv ≡ End
+InFamily ws s Testing i x mv = TestMove ws s i x mv
+InFamily ws s Standing i x mv = AtMove ws s i x mv
+InFamily ws s Marking i x mv = MarkMove ws i x mv
+InFamily ws s Branching i x mv = mv ≡ Go (to_point x (Alternatives (i + 1)))
+InFamily ws s Jumping i x mv = JumpMove ws i x mv
+InFamily ws s Running i x mv = RunMove ws s i x mv
+InFamily ws s RunningLazily i x mv = LazyRunMove ws s i x mv
+InFamily ws s RunningLongest i x mv = LongestRunMove ws s i x mv
+InFamily ws s Repeating i x mv = RepeatMove ws i x mv
+InFamily ws s (Looping o) i x mv = UntilMove ws o i x mv
+InFamily ws s Grouping i x mv = AtomicMove ws i x mv
+InFamily ws s (Looking sign) i x mv = LookMove ws sign i x mv
+InFamily ws s Unbuilt i x mv = ⊥
+
+-- what a turn does at a point
+abbrev pub MovesAt : List ℕ → Subject → Point → Spot → Move → Type 0
+MovesAt ws s (Instruction i) x mv = (o : SreOpcode) × Opcode ws i o × InFamily ws s (family o) i x mv
+MovesAt ws s (Alternatives q) x mv = AlternativesMove ws q x mv
+MovesAt ws s (Shorter t k) x mv = ShorterMove t k x mv
+MovesAt ws s (Longer i n) x mv = LongerMove ws s i n x mv
+MovesAt ws s (Inside g) x mv = ⊥
+
+abbrev pub Moves : List ℕ → Subject → Spot → Move → Type 0
+Moves ws s x mv = MovesAt ws s x.point x mv
+
+mutual
+  -- from a spot, the outcomes up to the end of its region in order, and how many turns they take
+  pub data Runs (ws : List ℕ) (s : Subject) : Spot → List Way → ℕ → Type 0 where
+    turns : {x : Spot} {os : List Way} {n : ℕ} (mv : Move) → Moves ws s x mv → Comes ws s x mv os n → Runs ws s x os n
+
+  -- the same after a turn that is known
+  pub data Comes (ws : List ℕ) (s : Subject) : Spot → Move → List Way → ℕ → Type 0 where
+    stops : {x : Spot} → Comes ws s x Stop [] 1
+    ends : {x : Spot} → Comes ws s x End (here x.position x.marks) 2
+    goes : {x y : Spot} {os : List Way} {n : ℕ} → Runs ws s y os n → Comes ws s x (Go y) os (suc n)
+    splits : {x y z : Spot} {os₁ os₂ : List Way} {n₁ n₂ : ℕ} → Runs ws s y os₁ n₁ → Runs ws s z os₂ n₂ → Comes ws s x (Split y z) (os₁ ++ os₂) (suc (suc (n₁ + n₂)))
+    enters : {x y : Spot} {g : Region} {now os : List Way} {n₁ n₂ : ℕ} → Runs ws s y now n₁ → Comes ws s x (closed g x now) os n₂ → Comes ws s x (Enter g y) os (suc (n₁ + n₂))
+
+-- what a run is about: the words, the subject, which cursors stand at which position, and which outcomes are accepted
+pub record Run : Type 1 where
+  pub words : List ℕ
+  pub subject : Subject
+  pub stands : StringCursor → ℕ → Type 0
+  pub accepts : Way → Bool
+
+-- the accepted outcomes of the whole and the turns to come, where the innermost region has the outcomes now
+pub data Waits (r : Run) : List Choice → List Way → List Way → ℕ → Type 0 where
+  outermost : {now : List Way} → Waits r [] now (filter r.accepts now) 0
+  otherwise : {pt : Point} {fs : List Frame} {c : StringCursor} {n k : ℕ} {m : Marks} {os now all : List Way} {cs : List Choice} → r.stands c c.position → Runs r.words r.subject (spot_at pt fs c.position m) os n → Waits r cs (now ++ os) all k → Waits r (Else pt fs c m ∷ cs) now all (suc (n + k))
+  kept : {g : Region} {i : ℕ} {fs : List Frame} {c : StringCursor} {n k : ℕ} {m : Marks} {os now all : List Way} {cs : List Choice} → r.stands c c.position → Comes r.words r.subject (spot_at (Instruction i) fs c.position m) (closed g (spot_at (Instruction i) fs c.position m) now) os n → Waits r cs os all k → Waits r (Keep g fs c m ∷ cs) now all (n + k)
+
+-- where the machine stands at a point and a cursor
+abbrev pub spot : Point → StringCursor → BoardValue → Spot
+spot pt c b = spot_at pt b.frames c.position b.marks
+
+-- the machine is at a point and a cursor: all are the accepted outcomes, and at most limit turns are left
+pub record Goes (r : Run) (all : List Way) (limit : ℕ) (pt : Point) (c : StringCursor) (b : BoardValue) : Type 0 where
+  pub now : List Way
+  pub turns : ℕ
+  pub later : ℕ
+  pub stands : r.stands c c.position
+  pub runs : Runs r.words r.subject (spot pt c b) now turns
+  pub waits : Waits r b.choices now all later
+  pub within : turns + later ≤ limit
+
+-- the same at two spots, the outcomes of the one before those of the other
+pub record GoesBoth (r : Run) (all : List Way) (limit : ℕ) (first second : Spot) (c : StringCursor) (cs : List Choice) : Type 0 where
+  pub now : List Way
+  pub next : List Way
+  pub turns : ℕ
+  pub further : ℕ
+  pub later : ℕ
+  pub stands : r.stands c c.position
+  pub runs : Runs r.words r.subject first now turns
+  pub others : Runs r.words r.subject second next further
+  pub waits : Waits r cs (now ++ next) all later
+  pub within : turns + further + later + 2 ≤ limit
+
+-- the innermost region has no more outcomes
+pub record Backs (r : Run) (all : List Way) (limit : ℕ) (b : BoardValue) : Type 0 where
+  pub later : ℕ
+  pub waits : Waits r b.choices [] all later
+  pub within : later ≤ limit
+
+-- the innermost region ends at a cursor
+pub record Ends (r : Run) (all : List Way) (limit : ℕ) (c : StringCursor) (b : BoardValue) : Type 0 where
+  pub later : ℕ
+  pub stands : r.stands c c.position
+  pub waits : Waits r b.choices (here c.position b.marks) all later
+  pub within : later + 1 ≤ limit
+
+abbrev pub Stands : Run → List Way → ℕ → Next → BoardValue → Type 0
+Stands r all limit (next.At i c) b = Goes r all limit (Instruction i) c b
+Stands r all limit next.Back b = Backs r all limit b
+Stands r all limit (next.Done c) b = Ends r all limit c b
+
+-- one turn later, the accepted outcomes being the same
+abbrev pub Later : Run → List Way → ℕ → Next → BoardValue → Type 0
+Later r all limit n b = (1 ≤ limit) × Stands r all (limit - 1) n b
+
+-- a turn at a point
+abbrev pub Advances : Run → Point → StringCursor → BoardValue → Next → BoardValue → Type 0
+Advances r pt c old n new = (all : List Way) (limit : ℕ) → Goes r all limit pt c old → Later r all limit n new
+
+-- the same at two points
+abbrev pub Chooses : Run → Point → Point → StringCursor → BoardValue → Next → BoardValue → Type 0
+Chooses r first second c old n new = (all : List Way) (limit : ℕ) → GoesBoth r all limit (spot first c old) (spot second c old) c old.choices → Later r all limit n new
+
+-- the same where the machine goes back
+abbrev pub Retreats : Run → BoardValue → Next → BoardValue → Type 0
+Retreats r old n new = (all : List Way) (limit : ℕ) → Backs r all limit old → Later r all limit n new
+
+-- the same where a region ends
+abbrev pub Closes : Run → StringCursor → BoardValue → Next → BoardValue → Type 0
+Closes r c old n new = (all : List Way) (limit : ℕ) → Ends r all limit c old → Later r all limit n new
+
+-- what comes of a region that was entered at d, where its body has an outcome at c
+abbrev pub after_outcome : Region → StringCursor → StringCursor → Next
+after_outcome (AtomicGroup t) c d = next.At t c
+after_outcome (Ahead t) c d = next.At t d
+after_outcome (NotAhead t) c d = next.Back
+
+-- what comes of one that was entered at a cursor, where its body has none
+abbrev pub without_outcome : Region → StringCursor → Next
+without_outcome (AtomicGroup t) c = next.Back
+without_outcome (Ahead t) c = next.Back
+without_outcome (NotAhead t) c = next.At t c
+
+-- there are outcomes, perhaps none, of standing at a point and a cursor
+pub record HasRun (r : Run) (pt : Point) (c : StringCursor) : Type 0 where
+  pub frames : List Frame
+  pub marks : Marks
+  pub outcomes : List Way
+  pub turns : ℕ
+  pub stands : r.stands c c.position
+  pub runs : Runs r.words r.subject (spot_at pt frames c.position marks) outcomes turns
+
+-- the same on a board
+pub record IsAt (r : Run) (pt : Point) (c : StringCursor) (b : BoardValue) : Type 0 where
+  pub outcomes : List Way
+  pub turns : ℕ
+  pub stands : r.stands c c.position
+  pub runs : Runs r.words r.subject (spot pt c b) outcomes turns
+
+-- the machine goes back, whatever the outcomes are
+pub record IsBack (r : Run) (b : BoardValue) : Type 0 where
+  pub all : List Way
+  pub limit : ℕ
+  pub backs : Backs r all limit b
+
+-- what a point comes to without a turn, on any board
+abbrev pub Skips : Run → Point → StringCursor → Point → StringCursor → Type 0
+Skips r pt c pt' c' = (b : BoardValue) (all : List Way) (limit : ℕ) → Goes r all limit pt c b → Goes r all limit pt' c' b
+
+-- the same, where two points come of it
+pub record SkipsBoth (r : Run) (pt : Point) (c : StringCursor) (first second : Point) (c' : StringCursor) : Type 0 where
+  pub runs : HasRun r first c'
+  pub others : HasRun r second c'
+  pub skips : (b : BoardValue) (all : List Way) (limit : ℕ) → Goes r all limit pt c b → GoesBoth r all limit (spot first c' b) (spot second c' b) c' b.choices
+
+-- nothing comes of standing at an instruction and a position
+abbrev pub Refuses : Run → ℕ → ℕ → Type 0
+Refuses r i p = (fs : List Frame) (m : Marks) (os : List Way) (n : ℕ) → Runs r.words r.subject (spot_at (Instruction i) fs p m) os n → os ≡ []
+
+-- the accepted outcomes of a tree from a position, with no marks
+abbrev pub outcomes : Run → Tree → ℕ → List Way
+outcomes r t p = filter r.accepts (ways r.subject t p no_marks)
+
+-- the first of all accepted outcomes, which ends at that cursor and has those marks, or that there is none
+abbrev pub Decides : Run → List Way → Option StringCursor → Marks → Type 0
+Decides r all None m = all ≡ []
+Decides r all (Some c) m = r.stands c c.position × ((rest : List Way) × (all ≡ record { stop = c.position; marks = m } ∷ rest))
+
+-- whether an end is accepted, whatever the marks are
+abbrev pub SaysAccepted : Run → ℕ → Bool → Type 0
+SaysAccepted r p b = (m : Marks) → b ≡ r.accepts (record { stop = p; marks = m })

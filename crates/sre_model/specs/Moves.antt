@@ -1,0 +1,81 @@
+-- Moves: what the machine does in one turn, by the family of the opcode. Nothing here is recursive.
+use Rattle.std.specs.Prelude.{ℕ, ◌+◌, ◌≡◌, ◌<◌, length, cond, nat_eq, List, [], ◌∷◌}
+use Rattle.sre_chars.specs.Numbers.{at_number}
+use Rattle.sre_chars.specs.declared.constants.SreAtCode.{SreAtCode}
+use Rattle.sre_model.specs.Tree.{Test}
+use Rattle.sre_model.specs.Marks.{Marks, set_mark}
+use Rattle.sre_model.specs.Subject.{Subject, passes, holds_at}
+use Rattle.sre_model.specs.Grammar.{Word, skip}
+use Rattle.sre_model.specs.Standing.{TestStands}
+use Rattle.sre_model.specs.declared.Frame.{Frame}
+use Rattle.sre_model.specs.declared.Region.TheVariants.{AtomicGroup, Ahead, NotAhead}
+use Rattle.sre_model.specs.declared.Region.{Region}
+use Rattle.sre_model.specs.declared.Point.TheVariants.{Instruction, Alternatives}
+use Rattle.sre_model.specs.declared.Point.{Point}
+use Rattle.sre_model.specs.Ways.{Way}
+
+-- where the machine stands: a point, the loops in progress, a position and marks
+pub record Spot : Type 0 where
+  pub point : Point
+  pub frames : List Frame
+  pub position : ℕ
+  pub marks : Marks
+
+abbrev pub spot_at : Point → List Frame → ℕ → Marks → Spot
+spot_at pt fs p m = record { point = pt; frames = fs; position = p; marks = m }
+
+-- a turn: nothing comes of the spot; its region ends there; it comes to another spot; to one, and then to another; or
+-- to a region, whose body begins at that spot
+pub data Move : Type 0 where
+  Stop : Move
+  End : Move
+  Go : Spot → Move
+  Split : Spot → Spot → Move
+  Enter : Region → Spot → Move
+
+-- another point, all else alike
+abbrev pub to_point : Spot → Point → Spot
+to_point x pt = record x { point = pt }
+
+-- another point and position
+abbrev pub to_place : Spot → Point → ℕ → Spot
+to_place x pt p = record x { point = pt; position = p }
+
+-- what comes of a region that was entered at a spot, where its body has these outcomes
+abbrev pub closed : Region → Spot → List Way → Move
+closed (AtomicGroup t) x [] = Stop
+closed (AtomicGroup t) x (w ∷ ws) = Go (record x { point = Instruction t; position = w.stop; marks = w.marks })
+closed (Ahead t) x [] = Stop
+closed (Ahead t) x (w ∷ ws) = Go (record x { point = Instruction t; marks = w.marks })
+closed (NotAhead t) x [] = Go (to_point x (Instruction t))
+closed (NotAhead t) x (w ∷ ws) = Stop
+
+-- a test of one character
+pub record TestMove (ws : List ℕ) (s : Subject) (i : ℕ) (x : Spot) (mv : Move) : Type 0 where
+  pub end : ℕ
+  pub test : Test
+  pub stands : TestStands ws i end test
+  pub is : mv ≡ cond (passes s test x.position) (Go (to_place x (Instruction end) (x.position + 1))) Stop
+
+-- AT code
+pub record AtMove (ws : List ℕ) (s : Subject) (i : ℕ) (x : Spot) (mv : Move) : Type 0 where
+  pub code : SreAtCode
+  pub there : Word ws (i + 1) (at_number code)
+  pub is : mv ≡ cond (holds_at s code x.position) (Go (to_point x (Instruction (i + 2)))) Stop
+
+-- MARK n
+pub record MarkMove (ws : List ℕ) (i : ℕ) (x : Spot) (mv : Move) : Type 0 where
+  pub number : ℕ
+  pub there : Word ws (i + 1) number
+  pub is : mv ≡ Go (record x { point = Instruction (i + 2); marks = set_mark x.marks number x.position })
+
+-- JUMP skip
+pub record JumpMove (ws : List ℕ) (i : ℕ) (x : Spot) (mv : Move) : Type 0 where
+  pub there : i + 1 < length ws
+  pub is : mv ≡ Go (to_point x (Instruction (skip ws (i + 1))))
+
+-- the alternatives of a BRANCH from the length word at q on
+pub record AlternativesMove (ws : List ℕ) (q : ℕ) (x : Spot) (mv : Move) : Type 0 where
+  pub value : ℕ
+  pub there : Word ws q value
+  pub is : mv ≡ cond (nat_eq value 0) Stop (Split (to_point x (Instruction (q + 1))) (to_point x (Alternatives (q + value))))

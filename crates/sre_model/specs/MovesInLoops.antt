@@ -1,0 +1,51 @@
+-- What the machine does in one turn at a loop: REPEAT skip least greatest body, and then MAX_UNTIL or MIN_UNTIL.
+use Rattle.std.specs.Prelude.{ℕ, ◌+◌, ◌≡◌, ◌<◌, length, min, cond, nat_lt, List, ◌∷◌, Option, Some, None}
+use Rattle.sre_model.specs.Tree.{Order, Greedy, Lazy}
+use Rattle.sre_model.specs.Ways.{unlimited, may_repeat}
+use Rattle.sre_model.specs.Grammar.{Word, skip}
+use Rattle.sre_model.specs.declared.Frame.{Frame}
+use Rattle.sre_model.specs.declared.Point.TheVariants.{Instruction}
+use Rattle.sre_model.specs.Moves.{Spot, Move, Go, Split}
+
+-- a loop that has had no body
+abbrev pub first_frame : ℕ → Frame
+first_frame i = record { repeat = i; count = 0; last = None }
+
+-- one body more, as far as is counted
+abbrev pub next_frame : Frame → Option ℕ → Frame
+next_frame f last = record { repeat = f.repeat; count = min (f.count + 1) unlimited; last = last }
+
+-- at a further body of a loop
+abbrev pub at_body : Frame → Option ℕ → List Frame → Spot → Spot
+at_body f last outer x = record x { point = Instruction (f.repeat + 4); frames = next_frame f last ∷ outer }
+
+-- behind the loop that ends at u
+abbrev pub behind : ℕ → List Frame → Spot → Spot
+behind u outer x = record x { point = Instruction (u + 1); frames = outer }
+
+-- a further body, or the loop's end, in order
+abbrev pub in_order : Order → Spot → Spot → Move
+in_order Greedy body end = Split body end
+in_order Lazy body end = Split end body
+
+-- REPEAT
+pub record RepeatMove (ws : List ℕ) (i : ℕ) (x : Spot) (mv : Move) : Type 0 where
+  pub there : i + 1 < length ws
+  pub is : mv ≡ Go (record x { point = Instruction (skip ws (i + 1)); frames = first_frame i ∷ x.frames })
+
+-- what ends a body: below the least count a further one; from it on a further one where one may be tried, and the end
+abbrev pub until_move : Order → ℕ → ℕ → ℕ → Frame → List Frame → Spot → Move
+until_move o low high u f outer x =
+    cond (nat_lt f.count low) (Go (at_body f f.last outer x))
+    (cond (may_repeat high f.count f.last x.position) (in_order o (at_body f (Some x.position) outer x) (behind u outer x)) (Go (behind u outer x)))
+
+-- MAX_UNTIL, MIN_UNTIL
+pub record UntilMove (ws : List ℕ) (o : Order) (u : ℕ) (x : Spot) (mv : Move) : Type 0 where
+  pub frame : Frame
+  pub outer : List Frame
+  pub low : ℕ
+  pub high : ℕ
+  pub inside : x.frames ≡ frame ∷ outer
+  pub lowest : Word ws (frame.repeat + 2) low
+  pub highest : Word ws (frame.repeat + 3) high
+  pub is : mv ≡ until_move o low high u frame outer x

@@ -1,0 +1,26 @@
+-- What the machine does in one turn at a region: ATOMIC_GROUP skip body SUCCESS, and the looks.
+use Rattle.std.specs.Prelude.{ℕ, ◌+◌, ◌-◌, ◌≡◌, ◌<◌, length, cond, nat_lt, List, []}
+use Rattle.sre_model.specs.Tree.{Sign, Positive, Negative}
+use Rattle.sre_model.specs.Grammar.{Word, skip}
+use Rattle.sre_model.specs.declared.Region.TheVariants.{AtomicGroup, Ahead, NotAhead}
+use Rattle.sre_model.specs.declared.Region.{Region}
+use Rattle.sre_model.specs.declared.Point.TheVariants.{Instruction}
+use Rattle.sre_model.specs.Moves.{Spot, to_point, to_place, Move, Enter, closed}
+
+-- ATOMIC_GROUP
+pub record AtomicMove (ws : List ℕ) (i : ℕ) (x : Spot) (mv : Move) : Type 0 where
+  pub there : i + 1 < length ws
+  pub is : mv ≡ Enter (AtomicGroup (skip ws (i + 1))) (to_point x (Instruction (i + 2)))
+
+-- a look, by where one goes on behind it
+abbrev pub look : Sign → ℕ → Region
+look Positive t = Ahead t
+look Negative t = NotAhead t
+
+-- ASSERT, ASSERT_NOT: where fewer characters stand before, it is as if its body had no outcome
+pub record LookMove (ws : List ℕ) (sign : Sign) (i : ℕ) (x : Spot) (mv : Move) : Type 0 where
+  pub back : ℕ
+  pub there : Word ws (i + 2) back
+  pub is : mv ≡
+      let g = look sign (skip ws (i + 1)) in
+      cond (nat_lt x.position back) (closed g x []) (Enter g (to_place x (Instruction (i + 3)) (x.position - back)))

@@ -1,0 +1,51 @@
+//! What a code means, and how a machine over its words comes to it.
+//!
+//! `specs/` has the meaning: the tree of a code, its ways, the match that is found, the walk; and then, over the words,
+//! where a backtracking machine can stand and what one turn makes of that. `proofs/` has their laws. The code of the
+//! crates above is proved against these; here stand only the few types that both speak of.
+#![tactic(auto)]
+
+use sre_chars::string::StringCursor;
+
+/// A region whose body is in progress, by the place behind the region.
+#[derive(Clone, Copy, PartialEq, Eq, Debug)]
+pub enum Region {
+    /// An atomic group.
+    AtomicGroup(usize),
+    /// A look whose body must match.
+    Ahead(usize),
+    /// A look whose body must not match.
+    NotAhead(usize),
+}
+
+/// Where the machine can go on. Places count words.
+#[derive(Clone, Copy, PartialEq, Eq, Debug)]
+pub enum Point {
+    /// At an instruction's place.
+    Instruction(usize),
+    /// At the place of an alternative's length word.
+    Alternatives(usize),
+    /// With the counts of a run that are shorter than the one at the cursor: the run's tail, and how many they are.
+    Shorter(usize, usize),
+    /// With the counts of a lazy run that are longer than the one at the cursor: the run's place, and that count.
+    Longer(usize, usize),
+    /// Behind a region whose body is in progress.
+    Inside(Region),
+}
+
+/// A loop in progress: the place of its REPEAT, its bodies so far, held at 4294967295, and the position at which the last
+/// one beyond the least count began.
+#[derive(Clone, Copy)]
+pub struct Frame {
+    pub repeat: usize,
+    pub count: u32,
+    pub last: Option<usize>,
+}
+
+/// What comes after a turn: an instruction, the newest choice, or the end of the innermost region.
+#[derive(Clone, Copy)]
+pub enum Next {
+    At(usize, StringCursor),
+    Back,
+    Done(StringCursor),
+}

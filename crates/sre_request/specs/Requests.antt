@@ -1,0 +1,53 @@
+-- What a request asks.
+use Rattle.std.specs.Prelude.{ℕ, Bool}
+use Rattle.sre_chars.specs.declared.string.StrDrive.{Ghosts}
+use Rattle.sre_chars.specs.declared.string.StringCursor.{StringCursor}
+use Rattle.sre_model.specs.Found.{Asked, subject_of, is_accepted}
+use Rattle.sre_model.specs.Machine.{Run}
+use Rattle.sre_code.specs.Codes.{words_of, uni_of}
+use Rattle.sre_code.specs.declared.code.Code.{Code}
+use Rattle.sre_request.specs.declared.request.Request.{Request}
+
+-- the parts of a request
+abbrev pub string_of : {S : Type 0} {text : Ghosts S} → Request S text → S
+string_of r = r.string
+
+abbrev pub start_of : {S : Type 0} {text : Ghosts S} → Request S text → ℕ
+start_of r = r.start
+
+abbrev pub end_of : {S : Type 0} {text : Ghosts S} → Request S text → ℕ
+end_of r = r.end
+
+abbrev pub code_of : {S : Type 0} {text : Ghosts S} → Request S text → Code
+code_of r = r.pattern_codes
+
+abbrev pub match_all_of : {S : Type 0} {text : Ghosts S} → Request S text → Bool
+match_all_of r = r.match_all
+
+abbrev pub must_advance_of : {S : Type 0} {text : Ghosts S} → Request S text → Bool
+must_advance_of r = r.must_advance
+
+-- the text, words, table, window and flags of a request
+abbrev pub asked_of : {S : Type 0} {text : Ghosts S} → Request S text → Asked
+asked_of {S} {text} r = record {
+  text = text.text r.string;
+  words = words_of r.pattern_codes;
+  table = uni_of r.pattern_codes;
+  start = r.start;
+  end = r.end;
+  match_all = r.match_all;
+  must_advance = r.must_advance;
+}
+
+-- which cursors stand at which position of a request's text
+abbrev pub stands_in : {S : Type 0} {text : Ghosts S} → Request S text → StringCursor → ℕ → Type 0
+stands_in {S} {text} r = text.stands r.string
+
+-- a run of the machine for a request
+abbrev pub run_of : {S : Type 0} {text : Ghosts S} → Request S text → Run
+run_of r = record {
+  words = words_of r.pattern_codes;
+  subject = subject_of (asked_of r);
+  stands = stands_in r;
+  accepts = is_accepted (asked_of r);
+}

@@ -1,0 +1,14 @@
+//! What is asked of a search, and what the machine reads of it: operands, tests of one character and their runs, positions.
+//!
+//! Each function rests on what stands at a place of the words, and says what the definitions say of it.
+#![tactic(auto)]
+
+pub mod one_character;
+pub mod operands;
+pub mod position;
+mod request;
+pub mod runs;
+mod set;
+pub mod text;
+
+pub use request::Request;

@@ -1,0 +1,162 @@
+//! What is asked of a search.
+
+ghost use Rattle.std.specs.Prelude.{⊤, ◌≡◌, ◌≤◌, length};
+
+use sre_chars::string::StrDrive;
+use sre_code::Code;
+use std::alloc::AllocError;
+
+/// A text, a window of it, a code and two flags. Positions count characters.
+pub struct Request<'a, S: StrDrive> {
+    string: S,
+    start: usize,
+    end: usize,
+    pattern_codes: Code<'a>,
+    match_all: bool,
+    must_advance: bool,
+    ghost in_window: { (start ≤ end) × (end ≤ length (S.text string)) },
+}
+
+impl<'a, S: StrDrive> Clone for Request<'a, S> {
+    ghost is_clone = { λ r s. s ≡ r };
+
+    ghost is_infallible = { λ _. ⊤ };
+
+    fn clone(&self) -> Result<Request<'a, S>, AllocError> {
+        Ok(self.again())
+    }
+}
+
+impl<'a, S: StrDrive> Copy for Request<'a, S> {}
+
+impl<'a, S: StrDrive> Request<'a, S> {
+    ghost use Rattle.std.specs.Prelude.{◌≡◌, length, min, false};
+    ghost use Rattle.sre_request.specs.Requests.{string_of, start_of, end_of, code_of, match_all_of, must_advance_of};
+
+    /// A request over the window from `start` to `end` of a text: `end` is held at the number of characters, and
+    /// `start` at `end`. `must_advance` is not set.
+    pub fn new(
+        string: S,
+        start: usize,
+        end: usize,
+        pattern_codes: Code<'a>,
+        match_all: bool,
+    ) -> Request<'a, S>
+        ensures string { string_of result ≡ string }
+        ensures end { end_of result ≡ min end (length (S.text string)) }
+        ensures start { start_of result ≡ min start (min end (length (S.text string))) }
+        ensures pattern_codes { code_of result ≡ pattern_codes.entry }
+        ensures match_all { match_all_of result ≡ match_all }
+        ensures must_advance { must_advance_of result ≡ false }
+    {
+        let end = end.min(string.count());
+        Request {
+            string,
+            start: start.min(end),
+            end,
+            pattern_codes,
+            match_all,
+            must_advance: false,
+        }
+    }
+
+    // The same request: a generic function cannot copy one as a whole.
+    #[inline(always)]
+    pub(crate) fn again(&self) -> Request<'a, S>
+        ensures { result ≡ self.now }
+    {
+        Request {
+            string: self.string,
+            start: self.start,
+            end: self.end,
+            pattern_codes: self.pattern_codes,
+            match_all: self.match_all,
+            must_advance: self.must_advance,
+        }
+    }
+
+    /// The text.
+    #[inline(always)]
+    pub fn string(&self) -> S
+        ensures { result ≡ string_of self.now }
+    {
+        self.string
+    }
+
+    /// The position at which the window starts.
+    #[inline(always)]
+    pub fn start(&self) -> usize
+        ensures { result ≡ start_of self.now }
+    {
+        self.start
+    }
+
+    /// The position at which the window ends: characters from it on are not seen.
+    #[inline(always)]
+    pub fn end(&self) -> usize
+        ensures { result ≡ end_of self.now }
+    {
+        self.end
+    }
+
+    /// The code.
+    #[inline(always)]
+    pub fn pattern_codes(&self) -> Code<'a>
+        ensures { result ≡ code_of self.now }
+    {
+        self.pattern_codes
+    }
+
+    /// Whether a match has to end at the window's end.
+    #[inline(always)]
+    pub fn match_all(&self) -> bool
+        ensures { result ≡ match_all_of self.now }
+    {
+        self.match_all
+    }
+
+    /// Whether an empty match at the window's start is refused.
+    #[inline(always)]
+    pub fn must_advance(&self) -> bool
+        ensures { result ≡ must_advance_of self.now }
+    {
+        self.must_advance
+    }
+
+    /// Sets whether an empty match at the window's start is refused.
+    pub fn set_must_advance(&mut self, must_advance: bool)
+        ensures must_advance { must_advance_of self.new ≡ must_advance }
+        ensures string { string_of self.new ≡ string_of self.old }
+        ensures start { start_of self.new ≡ start_of self.old }
+        ensures end { end_of self.new ≡ end_of self.old }
+        ensures pattern_codes { code_of self.new ≡ code_of self.old }
+        ensures match_all { match_all_of self.new ≡ match_all_of self.old }
+    {
+        self.must_advance = must_advance;
+    }
+
+    /// Sets whether a match has to end at the window's end.
+    pub fn set_match_all(&mut self, match_all: bool)
+        ensures match_all { match_all_of self.new ≡ match_all }
+        ensures string { string_of self.new ≡ string_of self.old }
+        ensures start { start_of self.new ≡ start_of self.old }
+        ensures end { end_of self.new ≡ end_of self.old }
+        ensures pattern_codes { code_of self.new ≡ code_of self.old }
+        ensures must_advance { must_advance_of self.new ≡ must_advance_of self.old }
+    {
+        self.match_all = match_all;
+    }
+
+    /// Moves the window, whose ends are held as `new` holds them.
+    pub fn set_window(&mut self, start: usize, end: usize)
+        ensures end { end_of self.new ≡ min end (length (S.text (string_of self.old))) }
+        ensures start { start_of self.new ≡ min start (min end (length (S.text (string_of self.old)))) }
+        ensures string { string_of self.new ≡ string_of self.old }
+        ensures pattern_codes { code_of self.new ≡ code_of self.old }
+        ensures match_all { match_all_of self.new ≡ match_all_of self.old }
+        ensures must_advance { must_advance_of self.new ≡ must_advance_of self.old }
+    {
+        let end = end.min(self.string.count());
+        (self.start, self.end) = (start.min(end), end);
+    }
+}

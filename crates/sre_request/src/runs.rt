@@ -1,0 +1,259 @@
+//! Runs: how far a test of one character goes on taking.
+//!
+//! The opcode is looked at once, before a loop of its own that holds what it needs of the words.
+
+ghost use Rattle.std.specs.Prelude.{◌≡◌, ℕ, ◌+◌, ◌-◌, ◌≤◌, Bool, length, slice_range};
+ghost use Rattle.sre_chars.specs.Numbers.{category_number};
+ghost use Rattle.sre_chars.specs.Categories.{category};
+ghost use Rattle.sre_chars.specs.Tables.{ascii_table, is_between};
+ghost use Rattle.sre_model.specs.Tree.{Test, Charset};
+ghost use Rattle.sre_model.specs.Characters.{item_holds, holds};
+ghost use Rattle.sre_model.specs.Ways.{most_from, run_length, longest_run};
+ghost use Rattle.sre_model.specs.Grammar.{Opcode};
+ghost use Rattle.sre_model.specs.Standing.{TestStands, HasTest};
+ghost use Rattle.sre_request.specs.Requests.{run_of};
+
+use crate::one_character::{opcode, takes};
+use crate::operands::{category_code, operand, word};
+use crate::request::Request;
+use crate::set::{has_bit, is_between};
+use crate::text::read;
+use sre_chars::constants::{MAXREPEAT, SreCatCode, SreOpcode};
+use sre_chars::string::{StrDrive, StringCursor, UniTable, category};
+
+// How many characters a run from a cursor may have: those that are left, up to the greatest count.
+#[inline(always)]
+fn most<S: StrDrive>(req: &Request<'_, S>, high: u32, cursor: StringCursor) -> usize
+    ensures { result ≡ most_from (run_of req.now).subject high cursor.position }
+{
+    let left = req.end().saturating_sub(cursor.position());
+    let high = high as usize;
+    if high == MAXREPEAT || left < high {
+        left
+    } else {
+        high
+    }
+}
+
+// A run of any characters.
+#[inline(always)]
+fn run_any<S: StrDrive>(
+    req: &Request<'_, S>,
+    most: usize,
+    start: StringCursor,
+) -> (usize, StringCursor)
+    requires stands { (run_of req.now).stands start start.position }
+    requires most { most ≤ req.now.end - start.position }
+    ensures count { result.0 ≡ most }
+    ensures position { result.1.position ≡ start.position + most }
+    ensures stands { (run_of req.now).stands result.1 result.1.position }
+{
+    let mut after = start;
+    req.string().skip(&mut after, most);
+    (most, after)
+}
+
+// The longest run of the test whose opcode is at a place, and the cursor behind it.
+#[inline(always)]
+fn run_tested<S: StrDrive>(
+    req: &Request<'_, S>,
+    place: usize,
+    opcode: SreOpcode,
+    most: usize,
+    start: StringCursor,
+) -> (usize, StringCursor)
+    requires code { Opcode (run_of req.now).words place opcode }
+    requires test { HasTest (run_of req.now).words place }
+    requires stands { (run_of req.now).stands start start.position }
+    requires most { most ≤ req.now.end - start.position }
+    ensures count { (j : ℕ) (t : Test) → TestStands (run_of req.now).words place j t → result.0 ≡ run_length (run_of req.now).subject t most start.position }
+    ensures position { result.1.position ≡ start.position + result.0 }
+    ensures stands { (run_of req.now).stands result.1 result.1.position }
+{
+    let mut cursor = start;
+    let mut count = 0;
+    'character: while count < most {
+        let (character, after) = read(req, cursor);
+        if !takes(req, place, opcode, character) {
+            return (count, cursor);
+        }
+        cursor = after;
+        count += 1;
+    }
+    (count, cursor)
+}
+
+// A test with its operands at hand.
+trait Taker {
+    ghost takes: { Self → ℕ → Bool };
+
+    fn takes(&self, character: u32) -> bool
+        ensures { result ≡ takes self.now character };
+}
+
+// Takes the characters from low to high.
+#[derive(Clone, Copy)]
+struct Between {
+    low: u32,
+    high: u32,
+}
+
+impl Taker for Between {
+    ghost takes = { λ b c. is_between b.low b.high c };
+
+    #[inline(always)]
+    fn takes(&self, character: u32) -> bool {
+        is_between(self.low, self.high, character)
+    }
+}
+
+// Takes the characters below 256 whose bit is set in the eight words behind a CHARSET.
+#[derive(Clone, Copy)]
+struct Bits<'a> {
+    words: &'a [u32],
+    place: usize,
+    ghost room: { place + 9 ≤ length words.now },
+}
+
+impl<'a> Taker for Bits<'a> {
+    ghost takes = { λ b c. item_holds ascii_table (Charset (slice_range b.words.now (b.place + 1) (b.place + 9))) c };
+
+    #[inline(always)]
+    fn takes(&self, character: u32) -> bool {
+        has_bit(self.words, self.place, character)
+    }
+}
+
+// Takes the characters of a category.
+#[derive(Clone, Copy)]
+struct OfCategory<'a> {
+    uni: &'a UniTable,
+    code: SreCatCode,
+}
+
+impl<'a> Taker for OfCategory<'a> {
+    ghost takes = { λ o c. category o.uni.now (category_number o.code) c };
+
+    #[inline(always)]
+    fn takes(&self, character: u32) -> bool {
+        category(self.uni, self.code, character)
+    }
+}
+
+// The longest run of the test at a place, whose operands are at hand, and the cursor behind it.
+#[inline(always)]
+fn run_while<S: StrDrive, T: Taker>(
+    req: &Request<'_, S>,
+    place: usize,
+    taker: &T,
+    most: usize,
+    start: StringCursor,
+) -> (usize, StringCursor)
+    requires taker { (j c : ℕ) (t : Test) → TestStands (run_of req.now).words place j t → T.takes taker.now c ≡ holds (run_of req.now).subject.table t c }
+    requires stands { (run_of req.now).stands start start.position }
+    requires most { most ≤ req.now.end - start.position }
+    ensures count { (j : ℕ) (t : Test) → TestStands (run_of req.now).words place j t → result.0 ≡ run_length (run_of req.now).subject t most start.position }
+    ensures position { result.1.position ≡ start.position + result.0 }
+    ensures stands { (run_of req.now).stands result.1 result.1.position }
+{
+    let mut cursor = start;
+    let mut count = 0;
+    'character: while count < most {
+        let (character, after) = read(req, cursor);
+        if !taker.takes(character) {
+            return (count, cursor);
+        }
+        cursor = after;
+        count += 1;
+    }
+    (count, cursor)
+}
+
+// The longest run of an IN at a place, and the cursor behind it. A set of one RANGE, CATEGORY or CHARSET is told by its
+// length and first word, and has a loop of its own.
+#[inline(always)]
+fn run_in_set<S: StrDrive>(
+    req: &Request<'_, S>,
+    place: usize,
+    most: usize,
+    start: StringCursor,
+) -> (usize, StringCursor)
+    requires code { Opcode (run_of req.now).words place SreOpcode.IN }
+    requires test { HasTest (run_of req.now).words place }
+    requires stands { (run_of req.now).stands start start.position }
+    requires most { most ≤ req.now.end - start.position }
+    ensures count { (j : ℕ) (t : Test) → TestStands (run_of req.now).words place j t → result.0 ≡ run_length (run_of req.now).subject t most start.position }
+    ensures position { result.1.position ≡ start.position + result.0 }
+    ensures stands { (run_of req.now).stands result.1 result.1.position }
+{
+    let words = req.pattern_codes().words();
+    let (skip, set) = (operand(words, place, 1), place + 2);
+    let first = word(words, set);
+    if skip == 5 && first == SreOpcode::RANGE as u32 {
+        let low = operand(words, set, 1);
+        let high = operand(words, set, 2);
+        return run_while(req, place, &Between { low, high }, most, start);
+    }
+    if skip == 4 && first == SreOpcode::CATEGORY as u32 {
+        let (uni, code) = (req.pattern_codes().uni(), category_code(words, set + 1));
+        return run_while(req, place, &OfCategory { uni, code }, most, start);
+    }
+    if skip == 11 && first == SreOpcode::CHARSET as u32 {
+        let bits = Bits { words, place: set };
+        return run_while(req, place, &bits, most, start);
+    }
+    run_tested(req, place, SreOpcode::IN, most, start)
+}
+
+/// The longest run of the test at a place from a cursor on, of at most so many characters of the window, and the cursor
+/// behind it.
+#[inline(always)]
+pub fn run_up_to<S: StrDrive>(
+    req: &Request<'_, S>,
+    place: usize,
+    most: usize,
+    start: StringCursor,
+) -> (usize, StringCursor)
+    requires test { HasTest (run_of req.now).words place }
+    requires stands { (run_of req.now).stands start start.position }
+    requires most { most ≤ req.now.end - start.position }
+    ensures count { (j : ℕ) (t : Test) → TestStands (run_of req.now).words place j t → result.0 ≡ run_length (run_of req.now).subject t most start.position }
+    ensures position { result.1.position ≡ start.position + result.0 }
+    ensures stands { (run_of req.now).stands result.1 result.1.position }
+{
+    // An arm for each opcode, so that each loop knows its own.
+    macro_rules! run_each {
+        ($($opcode:ident)*) => {
+            match opcode(req, place) {
+                SreOpcode::ANY_ALL => run_any(req, most, start),
+                SreOpcode::IN => run_in_set(req, place, most, start),
+                $(SreOpcode::$opcode => run_tested(req, place, SreOpcode::$opcode, most, start),)*
+                _ => unreachable!(),
+            }
+        };
+    }
+    run_each!(
+        ANY CATEGORY
+        LITERAL LITERAL_IGNORE LITERAL_LOC_IGNORE LITERAL_UNI_IGNORE
+        NOT_LITERAL NOT_LITERAL_IGNORE NOT_LITERAL_LOC_IGNORE NOT_LITERAL_UNI_IGNORE
+        IN_IGNORE IN_LOC_IGNORE IN_UNI_IGNORE
+    )
+}
+
+/// The longest run of the test at a place from a cursor on: how many characters it has, inside the window and up to
+/// `high`, where 4294967295 means no limit, and the cursor behind it.
+pub fn longest_run<S: StrDrive>(
+    req: &Request<'_, S>,
+    place: usize,
+    high: u32,
+    start: StringCursor,
+) -> (usize, StringCursor)
+    requires test { HasTest (run_of req.now).words place }
+    requires stands { (run_of req.now).stands start start.position }
+    ensures count { (j : ℕ) (t : Test) → TestStands (run_of req.now).words place j t → result.0 ≡ longest_run (run_of req.now).subject t high start.position }
+    ensures position { result.1.position ≡ start.position + result.0 }
+    ensures stands { (run_of req.now).stands result.1 result.1.position }
+{
+    let most = most(req, high, start);
+    run_up_to(req, place, most, start)
+}
