@@ -1,20 +1,31 @@
-//! The growths of lists, of which a refusal is a value that nothing else makes.
+//! The growths of lists, whose refusal is a value that nothing else makes.
+//!
+//! A [`Refusal`] carries the fact `Refused`: a growth was refused. `Refused` is sealed in the crate
+//! `sre_refused`, on which this crate alone stands, and the three functions here say it only where std's
+//! own growth of the list failed. So a call whose error has the fact errs only where memory was
+//! refused, however it came by the error.
+//!
+//! Each function is a match on std's call and no more: that is what a reader has to believe.
 #![tactic(auto)]
 
-ghost use Rattle.std.specs.Prelude.{◌≡◌, ◌+◌, ◌-◌, ◌<◌, ◌≤◌, ◌++◌, ◌∷◌, [], is_ok, take, replicate, if◌then◌else◌, OnErr, IfOk};
+ghost use Rattle.std.specs.Prelude.{◌≡◌, ◌+◌, ◌-◌, ◌^◌, ◌<◌, ◌≤◌, ◌++◌, ◌∷◌, [], is_ok, take, replicate, if◌then◌else◌, OnErr, IfOk};
 ghost use Rattle.std.specs.Vec.{vec_len, vec_capacity};
 ghost use Rattle.sre_growth.specs.Refusal.{Refused, one_refused};
 
 use std::alloc::{AllocError, Allocator};
 
-/// Says that a growth was refused.
+/// The refusal of a growth: who holds one knows that a growth was refused.
 #[derive(Clone, Copy, Debug)]
 pub struct Refusal {
     cause: AllocError,
     pub ghost refused: { Refused } by { one_refused },
 }
 
-/// Adds an item; only a full list can refuse it.
+/// Appends an item to a list.
+///
+/// # Errors
+///
+/// [`Refusal`], where the list was full and could not grow. The list is then as it was.
 #[inline(always)]
 pub fn push<T: Drop, A: Allocator>(list: &mut Vec<T, A>, item: T) -> Result<(), Refusal>
     ensures items { list.new.items ≡ (if is_ok result then list.old.items ++ item ∷ [] else list.old.items) }
@@ -29,14 +40,24 @@ pub fn push<T: Drop, A: Allocator>(list: &mut Vec<T, A>, item: T) -> Result<(), 
     }
 }
 
-/// Cuts or fills up to a length; only a list that is too small can refuse it.
+/// Cuts a list to `length` items, or fills it up to so many with `value`.
+///
+/// A length is at most 2^32, that of a list with an item for each 32-bit number: no memory has
+/// room for an absurd length, so asking for one would be a way to be refused.
+///
+/// # Errors
+///
+/// [`Refusal`], where the list had no room for so many and could not grow. It is then as it was.
 #[inline(always)]
 pub fn resize<T: Copy, A: Allocator>(
     list: &mut Vec<T, A>,
     length: usize,
     value: T,
 ) -> Result<(), Refusal>
-    ensures items { list.new.items ≡ (if is_ok result then take length list.old.items ++ replicate (length - vec_len list.old) value else list.old.items) }
+    requires { length ≤ 2 ^ 32 }
+    ensures items { list.new.items ≡ (if is_ok result
+        then take length list.old.items ++ replicate (length - vec_len list.old) value
+        else list.old.items) }
     ensures len { vec_len list.new ≡ (if is_ok result then length else vec_len list.old) }
     ensures full { OnErr result (vec_capacity list.old < length) }
 {
@@ -46,7 +67,11 @@ pub fn resize<T: Copy, A: Allocator>(
     }
 }
 
-/// A list of a slice's items.
+/// A new list with the items of a slice.
+///
+/// # Errors
+///
+/// [`Refusal`], where the memory of the new list was refused.
 #[inline(always)]
 pub fn from_slice<T: Copy, A: Allocator>(alloc: A, items: &[T]) -> Result<Vec<T, A>, Refusal>
     ensures { IfOk result (λ list. list.items ≡ items.now) }
@@ -56,3 +81,6 @@ pub fn from_slice<T: Copy, A: Allocator>(alloc: A, items: &[T]) -> Result<Vec<T,
         Err(cause) => Err(Refusal { cause }),
     }
 }
+
+#[cfg(test)]
+mod tests;
