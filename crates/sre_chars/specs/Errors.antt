@@ -28,7 +28,7 @@ is_scalar_entry Ranges e = is_scalar e.0 && is_scalar e.1 && not (nat_lt e.0 0xD
 abbrev pub entry_fault : Listing → ℕ → ℕ × ℕ → Option UniError
 entry_fault kind next e =
     if not (is_scalar_entry kind e) then Some NotScalar
-    else if nat_lt e.0 128 || nat_lt (last_of kind e) 128 then Some AsciiEntry
+    else if nat_lt e.0 128 then Some AsciiEntry
     else if nat_lt e.0 next || nat_lt (last_of kind e) e.0 then Some Unsorted
     else None
 
@@ -39,4 +39,5 @@ list_fault kind next (e ∷ es) = option_or (entry_fault kind next e) (list_faul
 
 -- the first fault of a table
 abbrev pub table_fault : Table → Option UniError
-table_fault t = option_or (list_fault Map 0 t.lower) (option_or (list_fault Map 0 t.upper) (list_fault Ranges 0 t.alnum))
+table_fault t =
+    option_or (list_fault Map 0 t.lower) (option_or (list_fault Map 0 t.upper) (list_fault Ranges 0 t.alnum))

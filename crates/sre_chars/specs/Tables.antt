@@ -1,5 +1,6 @@
 -- Case maps and alphanumerics: fixed in ASCII, and past it as a table lists them.
-use Rattle.std.specs.Prelude.{◌==◌, ◌+◌, ◌-◌, ℕ, Bool, false, Option, Some, None, unwrap_or, List, [], ◌∷◌, if◌then◌else◌, nat_lt, nat_le, ◌&&◌, ◌||◌}
+use Rattle.std.specs.Prelude.{◌==◌, ◌+◌, ◌-◌, ℕ, Bool, false, if◌then◌else◌, nat_lt, nat_le, ◌&&◌, ◌||◌}
+use Rattle.std.specs.Prelude.{Option, Some, None, unwrap_or, List, [], ◌∷◌}
 
 -- the entries (from, to) of the lower and upper map, and the ranges (low, high) of alphanumerics, all past ASCII
 pub record Table : Type 0 where

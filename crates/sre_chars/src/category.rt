@@ -5,7 +5,8 @@
 
 ghost use Rattle.std.specs.Prelude.{◌≡◌};
 ghost use Rattle.sre_chars.specs.Numbers.{category_number};
-ghost use Rattle.sre_chars.specs.Categories.{category, is_digit, is_space, is_word, is_linebreak, is_unicode_space, is_unicode_word, is_unicode_linebreak};
+ghost use Rattle.sre_chars.specs.Categories.{category, is_digit, is_space, is_word, is_linebreak};
+ghost use Rattle.sre_chars.specs.Categories.{is_unicode_space, is_unicode_word, is_unicode_linebreak};
 
 use crate::constants::SreCatCode;
 use crate::table::{UniTable, is_ascii_alphanumeric};

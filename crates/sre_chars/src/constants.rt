@@ -3,7 +3,10 @@
 //! A pattern is a list of 32-bit words. Its opcodes have the numbers that CPython's `_sre` and the
 //! crate `rustpython-sre_engine` give them, and `TryFrom<u32>` is the one way from a word to a code.
 
-ghost use Rattle.std.specs.Prelude.{◌≡◌};
+ghost use Rattle.std.specs.Prelude.{◌≡◌, ◌==◌};
+ghost use Rattle.std.specs.Cmp.Rules.{comparing};
+ghost use Rattle.std.specs.Ordering.{on};
+ghost use Rattle.std.proofs.Common.{rules};
 ghost use Rattle.sre_chars.specs.Numbers.{IsCodeOf, at_number, category_number, opcode_number};
 
 use std::convert::TryFrom;
@@ -37,8 +40,8 @@ impl UnknownCode {
 /// What an item of a pattern does.
 ///
 /// `SreOpcode::try_from(word)` gives the opcode of that number, from 0 to 42, and refuses a greater
-/// word.
-#[derive(Clone, Copy, PartialEq, Eq, Debug)]
+/// word. Two opcodes are equal exactly where their numbers are.
+#[derive(Clone, Copy, Eq, Debug)]
 pub enum SreOpcode {
     FAILURE = 0,
     SUCCESS = 1,
@@ -83,6 +86,16 @@ pub enum SreOpcode {
     LITERAL_UNI_IGNORE = 40,
     NOT_LITERAL_UNI_IGNORE = 41,
     RANGE_UNI_IGNORE = 42,
+}
+
+impl PartialEq for SreOpcode {
+    ghost eq = { on opcode_number ◌==◌ };
+
+    ghost laws = { Prim.search (comparing, rules) };
+
+    fn eq(&self, other: &SreOpcode) -> bool {
+        *self as u32 == *other as u32
+    }
 }
 
 impl TryFrom<u32> for SreOpcode {
@@ -143,8 +156,9 @@ impl TryFrom<u32> for SreOpcode {
 /// What an item that takes no character asks of a position.
 ///
 /// `SreAtCode::try_from(word)` gives the code of that number, from 0 to 11, and refuses a greater
-/// word. The `LOC` and `UNI` forms differ in what they take for a word character.
-#[derive(Clone, Copy, PartialEq, Eq, Debug)]
+/// word. Two codes are equal exactly where their numbers are. The `LOC` and `UNI` forms differ in
+/// what they take for a word character.
+#[derive(Clone, Copy, Eq, Debug)]
 pub enum SreAtCode {
     BEGINNING = 0,
     BEGINNING_LINE = 1,
@@ -158,6 +172,16 @@ pub enum SreAtCode {
     LOC_NON_BOUNDARY = 9,
     UNI_BOUNDARY = 10,
     UNI_NON_BOUNDARY = 11,
+}
+
+impl PartialEq for SreAtCode {
+    ghost eq = { on at_number ◌==◌ };
+
+    ghost laws = { Prim.search (comparing, rules) };
+
+    fn eq(&self, other: &SreAtCode) -> bool {
+        *self as u32 == *other as u32
+    }
 }
 
 impl TryFrom<u32> for SreAtCode {
@@ -187,8 +211,8 @@ impl TryFrom<u32> for SreAtCode {
 /// A category of characters; `category` says which characters are in it.
 ///
 /// `SreCatCode::try_from(word)` gives the code of that number, from 0 to 17, and refuses a greater
-/// word.
-#[derive(Clone, Copy, PartialEq, Eq, Debug)]
+/// word. Two codes are equal exactly where their numbers are.
+#[derive(Clone, Copy, Eq, Debug)]
 pub enum SreCatCode {
     DIGIT = 0,
     NOT_DIGIT = 1,
@@ -208,6 +232,16 @@ pub enum SreCatCode {
     UNI_NOT_WORD = 15,
     UNI_LINEBREAK = 16,
     UNI_NOT_LINEBREAK = 17,
+}
+
+impl PartialEq for SreCatCode {
+    ghost eq = { on category_number ◌==◌ };
+
+    ghost laws = { Prim.search (comparing, rules) };
+
+    fn eq(&self, other: &SreCatCode) -> bool {
+        *self as u32 == *other as u32
+    }
 }
 
 impl TryFrom<u32> for SreCatCode {

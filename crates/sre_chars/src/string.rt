@@ -16,7 +16,7 @@ use std::marker::Model;
 /// A place in a text: how many characters are before it, and how many bytes.
 ///
 /// A cursor belongs to no text by itself: `StrDrive` says in which texts it stands, and where.
-#[derive(Clone, Copy, PartialEq, Eq, Debug, Default)]
+#[derive(Clone, Copy, PartialEq, Eq, Debug)]
 pub struct StringCursor {
     position: usize,
     offset: usize,
@@ -30,6 +30,18 @@ impl Model for StringCursor {
     ghost view = { λ c. record { position = c.position; offset = c.offset } };
 
     ghost inverse = { λ c. record { position = c.position; offset = c.offset } };
+}
+
+impl Default for StringCursor {
+    ghost is_default = { λ cursor. (cursor.position ≡ 0) × (cursor.offset ≡ 0) };
+
+    /// The cursor of no characters and no bytes.
+    fn default() -> StringCursor {
+        StringCursor {
+            position: 0,
+            offset: 0,
+        }
+    }
 }
 
 impl StringCursor {
@@ -124,5 +136,6 @@ pub trait StrDrive: Copy {
         ensures { stands self.now cursor.new (cursor.old.position - n) };
 
     // A cursor that stands at a place has it as its position, and it is one of the text's.
-    ghost stands_at: { (s : Self) (c : StringCursor) (p : ℕ) → stands s c p → (c.position ≡ p) × (p ≤ length (text s)) };
+    ghost stands_at: { (s : Self) (c : StringCursor) (p : ℕ) → stands s c p
+        → (c.position ≡ p) × (p ≤ length (text s)) };
 }

@@ -5,7 +5,8 @@
 
 ghost use Rattle.std.specs.Prelude.{◌≡◌, ◌==◌, nat_le, None, Some, IfOk, OnOk, IfErr, IsOkUnless, OnErr};
 ghost use Rattle.std.specs.Option.{option_or};
-ghost use Rattle.sre_chars.specs.Tables.{ascii_table, table_of, lower_ascii, upper_ascii, lower_of, upper_of, is_alphanumeric, is_ascii_alphanumeric, is_in_ranges, last_up_to, mapped};
+ghost use Rattle.sre_chars.specs.Tables.{ascii_table, table_of, lower_ascii, upper_ascii, lower_of, upper_of};
+ghost use Rattle.sre_chars.specs.Tables.{is_alphanumeric, is_ascii_alphanumeric, is_in_ranges, last_up_to, mapped};
 ghost use Rattle.sre_chars.specs.Errors.{list_fault, table_fault};
 ghost use Rattle.std.specs.List.Sorted.{IsNonDecreasingBy};
 ghost use Rattle.sre_growth.specs.Refusal.{Refused};
@@ -27,10 +28,10 @@ pub enum UniError {
     #[error("out of memory")]
     Memory,
     /// A map's entry is not above the former one, a range does not begin above the end of the
-    /// former one, or a range ends below its low end.
+    /// former one, or a range holds no number, as its high end is below its low end.
     #[error("Unsorted")]
     Unsorted,
-    /// A map's entry is for a character below 128, or a range has an end there: ASCII is fixed.
+    /// A map's entry is for a character below 128, or a range's low end is: ASCII is fixed.
     #[error("AsciiEntry")]
     AsciiEntry,
     /// An entry has a number that is no Unicode scalar value, or a range runs over surrogates.
@@ -97,14 +98,14 @@ pub struct UniTable {
 
 impl Model for UniTable {
     ghost use Rattle.std.specs.Prelude.{◌≡◌, None};
-    ghost use Rattle.sre_chars.specs.Tables.{Table};
+    ghost use Rattle.sre_chars.specs.Tables.{Table, table_of};
     ghost use Rattle.sre_chars.specs.Errors.{table_fault};
 
     ghost Value = { Table };
 
-    ghost view = { λ t. record { lower = t.lower.items; upper = t.upper.items; alnum = t.alnum.items } };
+    ghost view = { λ t. table_of t.lower.items t.upper.items t.alnum.items };
 
-    ghost invariant = { λ t. table_fault (record { lower = t.lower.items; upper = t.upper.items; alnum = t.alnum.items }) ≡ None };
+    ghost invariant = { λ t. table_fault (table_of t.lower.items t.upper.items t.alnum.items) ≡ None };
 }
 
 impl UniTable {
@@ -123,8 +124,8 @@ impl UniTable {
     ///
     /// `lower` and `upper` hold pairs (from, to), each `from` above the former one. `alnum` holds
     /// pairs (low, high), low up to high, each low above the former high; both ends belong to the
-    /// range. All numbers are Unicode scalar values, those between two ends too, and no `from`,
-    /// low or high is below 128. A `to` may be.
+    /// range. All numbers are Unicode scalar values, those between two ends too, and no `from` or
+    /// low is below 128. A `to` may be.
     ///
     /// # Errors
     ///
@@ -141,7 +142,8 @@ impl UniTable {
     ) -> Result<UniTable, UniError>
         ensures table { IfOk result (λ table. table ≡ table_of lower.now upper.now alnum.now) }
         ensures lawful { OnOk result (table_fault (table_of lower.now upper.now alnum.now) ≡ None) }
-        ensures refused { IfErr result (λ error. option_or (table_fault (table_of lower.now upper.now alnum.now)) (Some UniError.Memory) ≡ Some error) }
+        ensures refused { IfErr result (λ error.
+            option_or (table_fault (table_of lower.now upper.now alnum.now)) (Some UniError.Memory) ≡ Some error) }
         ensures grows { table_fault (table_of lower.now upper.now alnum.now) ≡ None → OnErr result Refused }
     {
         let Lists {

@@ -1,121 +1,68 @@
-//! Worked examples, and what no clause says: printed texts, derived calls, the trait through its bound.
-
-ghost use Rattle.std.specs.Prelude.{◌≡◌, ◌==◌, ◌≤◌, length};
-ghost use Rattle.sre_chars.specs.Numbers.{opcode_number, at_number, category_number};
+//! Worked examples, and what no clause says: printed texts, and the trait through its bound.
 
 use crate::constants::{
     CODESIZE, MAXGROUPS, MAXREPEAT, SreAtCode, SreCatCode, SreOpcode, UnknownCode,
 };
-use crate::string::{
-    StrDrive, StringCursor, UniError, UniTable, category, lower_ascii, lower_unicode, upper_ascii,
-    upper_unicode,
-};
+use crate::string::{StrDrive, StringCursor, UniError, UniTable, category};
 use std::test::Fail;
 
-// Opcodes are equal where their numbers are.
-fn is_same_opcode(a: SreOpcode, b: SreOpcode) -> bool
-    ensures { result ≡ (opcode_number a == opcode_number b) }
-{
-    a == b
-}
-
-// So are position codes.
-fn is_same_at(a: SreAtCode, b: SreAtCode) -> bool
-    ensures { result ≡ (at_number a == at_number b) }
-{
-    a == b
-}
-
-// So are category codes.
-fn is_same_category(a: SreCatCode, b: SreCatCode) -> bool
-    ensures { result ≡ (category_number a == category_number b) }
-{
-    a == b
-}
-
-// The cursor of no characters and no bytes.
-fn default_cursor() -> StringCursor
-    ensures position { result.position ≡ 0 }
-    ensures offset { result.offset ≡ 0 }
-{
-    StringCursor::default()
-}
-
+// The numbers are those of CPython's `_constants.py`.
 #[test]
-fn limits_are_those_of_64_bits(rt: HostRuntime) {
-    assert_eq!(rt; CODESIZE, 4);
-    assert_eq!(rt; MAXREPEAT, 4294967295);
-    assert_eq!(rt; MAXGROUPS, 2147483647);
-}
-
-#[test]
-fn words_become_opcodes(rt: HostRuntime) {
-    assert_eq!(rt; SreOpcode::try_from(0), Ok(SreOpcode::FAILURE));
-    assert_eq!(rt; SreOpcode::try_from(1), Ok(SreOpcode::SUCCESS));
-    assert_eq!(rt; SreOpcode::try_from(17), Ok(SreOpcode::MARK));
-    assert_eq!(rt; SreOpcode::try_from(25), Ok(SreOpcode::SUBPATTERN));
-    assert_eq!(rt; SreOpcode::try_from(42), Ok(SreOpcode::RANGE_UNI_IGNORE));
+fn words_become_codes(rt: HostRuntime) {
+    assert_eq!(rt;
+        (CODESIZE, MAXREPEAT, MAXGROUPS),
+        (4, 4294967295, 2147483647)
+    );
+    for (word, opcode) in [
+        (0, SreOpcode::FAILURE),
+        (1, SreOpcode::SUCCESS),
+        (17, SreOpcode::MARK),
+        (25, SreOpcode::SUBPATTERN),
+        (42, SreOpcode::RANGE_UNI_IGNORE),
+    ] {
+        assert_eq!(rt; SreOpcode::try_from(word), Ok(opcode));
+    }
+    for (word, code) in [
+        (0, SreAtCode::BEGINNING),
+        (7, SreAtCode::END_STRING),
+        (11, SreAtCode::UNI_NON_BOUNDARY),
+    ] {
+        assert_eq!(rt; SreAtCode::try_from(word), Ok(code));
+    }
+    for (word, code) in [
+        (0, SreCatCode::DIGIT),
+        (9, SreCatCode::LOC_NOT_WORD),
+        (17, SreCatCode::UNI_NOT_LINEBREAK),
+    ] {
+        assert_eq!(rt; SreCatCode::try_from(word), Ok(code));
+    }
     for word in [43, 44, 4294967295] {
-        assert_eq!(rt; SreOpcode::try_from(word), Err(UnknownCode(word)));
+        let refusal = UnknownCode(word);
+        assert_eq!(rt; SreOpcode::try_from(word), Err(refusal));
+        assert_eq!(rt; SreAtCode::try_from(word), Err(refusal));
+        assert_eq!(rt; SreCatCode::try_from(word), Err(refusal));
     }
-    assert!(rt; is_same_opcode(SreOpcode::IN, SreOpcode::IN));
-    assert!(rt; !is_same_opcode(SreOpcode::IN, SreOpcode::INFO));
+    assert_eq!(rt; SreAtCode::try_from(12), Err(UnknownCode(12)));
+    assert_eq!(rt; SreCatCode::try_from(18), Err(UnknownCode(18)));
 }
 
 #[test]
-fn words_become_position_codes(rt: HostRuntime) {
-    assert_eq!(rt; SreAtCode::try_from(0), Ok(SreAtCode::BEGINNING));
-    assert_eq!(rt; SreAtCode::try_from(7), Ok(SreAtCode::END_STRING));
-    assert_eq!(rt; SreAtCode::try_from(11), Ok(SreAtCode::UNI_NON_BOUNDARY));
-    for word in [12, 4294967295] {
-        assert_eq!(rt; SreAtCode::try_from(word), Err(UnknownCode(word)));
+fn errors_have_numbers_and_words(rt: HostRuntime) -> Result<(), Fail> {
+    for (error, number, words) in [
+        (UniError::Memory, 1, "out of memory"),
+        (UniError::Unsorted, 2, "Unsorted"),
+        (UniError::AsciiEntry, 3, "AsciiEntry"),
+        (UniError::NotScalar, 4, "NotScalar"),
+    ] {
+        assert_eq!(rt; error.number(), number);
+        let text = format!(in rt.alloc(); "{error}")?;
+        assert_eq!(rt; text.as_str(), words);
     }
-    assert!(rt; is_same_at(SreAtCode::END, SreAtCode::END));
-    assert!(rt; !is_same_at(SreAtCode::END, SreAtCode::END_LINE));
-}
-
-#[test]
-fn words_become_category_codes(rt: HostRuntime) {
-    assert_eq!(rt; SreCatCode::try_from(0), Ok(SreCatCode::DIGIT));
-    assert_eq!(rt; SreCatCode::try_from(9), Ok(SreCatCode::LOC_NOT_WORD));
-    assert_eq!(rt; SreCatCode::try_from(17), Ok(SreCatCode::UNI_NOT_LINEBREAK));
-    for word in [18, 4294967295] {
-        assert_eq!(rt; SreCatCode::try_from(word), Err(UnknownCode(word)));
-    }
-    assert!(rt; is_same_category(SreCatCode::WORD, SreCatCode::WORD));
-    assert!(rt; !is_same_category(SreCatCode::WORD, SreCatCode::LOC_WORD));
-}
-
-#[test]
-fn refusals_print_their_word(rt: HostRuntime) -> Result<(), Fail> {
     let refusal = UnknownCode(43);
     assert_eq!(rt; refusal.number(), 1);
     let text = format!(in rt.alloc(); "{refusal}")?;
     assert_eq!(rt; text.as_str(), "unknown code 43");
     Ok(())
-}
-
-#[test]
-fn cursors_have_their_fields(rt: HostRuntime) {
-    let cursor = StringCursor::new(2, 5);
-    assert_eq!(rt; (cursor.position(), cursor.offset()), (2, 5));
-    assert_eq!(rt; default_cursor(), StringCursor::new(0, 0));
-    assert!(rt; cursor != default_cursor());
-}
-
-// Steps past the first character and back again, by every call of a text of two characters or more.
-fn steps<S: StrDrive>(text: S) -> (u32, u32, u32, u32, StringCursor)
-    requires { 2 ≤ length (S.text text) }
-{
-    let mut cursor = text.create_cursor(1);
-    let second = text.peek(&cursor);
-    let first = text.back_peek(&cursor);
-    text.back_skip(&mut cursor, 1);
-    let passed = text.advance(&mut cursor);
-    text.skip(&mut cursor, 1);
-    let back = text.back_advance(&mut cursor);
-    text.adjust_cursor(&mut cursor, text.count());
-    (first, second, passed, back, cursor)
 }
 
 // Whether the text is these characters, each read from both sides, and each place reached by every call.
@@ -153,39 +100,11 @@ fn is_text_of<S: StrDrive>(text: S, chars: &[u32]) -> bool {
     true
 }
 
+// Each `str` is repeated to go past several blocks of bytes, at whose edges characters of each width are cut.
 #[test]
-fn cursors_step_over_bytes(rt: HostRuntime) {
-    let bytes = [7, 9];
-    let text = bytes.as_slice();
-    let mut cursor = StringCursor::default();
-    assert_eq!(rt; text.advance(&mut cursor), 7);
-    assert_eq!(rt; text.advance(&mut cursor), 9);
-    assert_eq!(rt; cursor, StringCursor::new(2, 2));
-    assert_eq!(rt; text.back_advance(&mut cursor), 9);
-    assert_eq!(rt; cursor, StringCursor::new(1, 1));
-    assert_eq!(rt; steps(text), (7, 9, 7, 9, StringCursor::new(2, 2)));
-    assert!(rt; is_text_of(text, &[7, 9]));
-}
-
-// The bytes are `c3 a9 e2 82 ac`.
-#[test]
-fn cursors_step_over_characters(rt: HostRuntime) {
-    let text = "é€";
-    let mut cursor = text.create_cursor(2);
-    assert_eq!(rt; cursor, StringCursor::new(2, 5));
-    assert_eq!(rt; text.back_peek(&cursor), 8364);
-    text.back_skip(&mut cursor, 1);
-    assert_eq!(rt; cursor, StringCursor::new(1, 2));
-    assert_eq!(rt; text.advance(&mut cursor), 8364);
-    assert_eq!(rt;
-        steps(text),
-        (233, 8364, 233, 8364, StringCursor::new(2, 5))
-    );
-}
-
-// Each is repeated to go past several blocks of bytes, at whose edges characters of each width are cut.
-#[test]
-fn texts_are_their_scalar_values(rt: HostRuntime) -> Result<(), Fail> {
+fn texts_are_their_characters(rt: HostRuntime) -> Result<(), Fail> {
+    let bytes = [0u8, 7, 127, 128, 195, 169, 255];
+    assert!(rt; is_text_of(bytes.as_slice(), &[0, 7, 127, 128, 195, 169, 255]));
     for (text, chars) in [
         ("", [].as_slice()),
         ("a", [97].as_slice()),
@@ -205,10 +124,25 @@ fn texts_are_their_scalar_values(rt: HostRuntime) -> Result<(), Fail> {
             );
         }
     }
+    Ok(())
+}
+
+// The characters of "aé€😀" take 1, 2, 3 and 4 bytes.
+#[test]
+fn offsets_count_bytes(rt: HostRuntime) -> Result<(), Fail> {
+    let start = StringCursor::default();
+    assert_eq!(rt; (start.position(), start.offset()), (0, 0));
     let text = "aé€😀".repeat(rt.alloc(), 150)?;
     let text = text.as_str();
     assert_eq!(rt; text.count(), 600);
-    assert_eq!(rt; text.create_cursor(402), StringCursor::new(402, 1003));
+    assert_eq!(rt; text.create_cursor(0), start);
+    for (position, offset) in [(1, 1), (2, 3), (3, 6), (4, 10), (402, 1003), (600, 1500)] {
+        let mut cursor = start;
+        if position <= text.count() {
+            text.skip(&mut cursor, position);
+        }
+        assert_eq!(rt; cursor, StringCursor::new(position, offset));
+    }
     Ok(())
 }
 
@@ -273,41 +207,4 @@ fn categories_are_those_of_cpython(rt: HostRuntime) {
             assert_eq!(rt; category(&table, negated, ch), !is_in, "not {ch}");
         }
     }
-}
-
-#[test]
-fn cases_change_ascii_letters_alone(rt: HostRuntime) {
-    let table = UniTable::ascii(rt.alloc());
-    for (ch, lower, upper) in [
-        (64, 64, 64),
-        (65, 97, 65),
-        (90, 122, 90),
-        (91, 91, 91),
-        (96, 96, 96),
-        (97, 97, 65),
-        (122, 122, 90),
-        (123, 123, 123),
-        (201, 201, 201),
-        (4294967295, 4294967295, 4294967295),
-    ] {
-        assert_eq!(rt; lower_ascii(ch), lower);
-        assert_eq!(rt; upper_ascii(ch), upper);
-        assert_eq!(rt; lower_unicode(&table, ch), lower);
-        assert_eq!(rt; upper_unicode(&table, ch), upper);
-    }
-}
-
-#[test]
-fn refusals_of_tables_have_numbers_and_names(rt: HostRuntime) -> Result<(), Fail> {
-    for (error, number, name) in [
-        (UniError::Memory, 1, "out of memory"),
-        (UniError::Unsorted, 2, "Unsorted"),
-        (UniError::AsciiEntry, 3, "AsciiEntry"),
-        (UniError::NotScalar, 4, "NotScalar"),
-    ] {
-        assert_eq!(rt; error.number(), number);
-        let text = format!(in rt.alloc(); "{error}")?;
-        assert_eq!(rt; text.as_str(), name);
-    }
-    Ok(())
 }

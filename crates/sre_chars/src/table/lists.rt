@@ -3,7 +3,8 @@
 //! A caller's lists are checked whole before any memory is asked for. std's are written in rising
 //! order, so that they have no fault.
 
-ghost use Rattle.std.specs.Prelude.{◌≡◌, None, Some, IfSome, IfNone, IfOk, OnOk, IfErr, IsOkUnless, OnErr, IsTrue, true};
+ghost use Rattle.std.specs.Prelude.{◌≡◌, true, IsTrue, None, Some, IfSome, IfNone};
+ghost use Rattle.std.specs.Prelude.{IfOk, OnOk, IfErr, OnErr, IsOkUnless};
 ghost use Rattle.std.specs.Option.{option_or};
 ghost use Rattle.sre_chars.specs.Tables.{table_of, is_scalar};
 ghost use Rattle.sre_growth.specs.Refusal.{Refused};
@@ -34,9 +35,11 @@ pub(super) fn checked_lists<A: Allocator + Copy>(
     upper: &[(u32, u32)],
     alnum: &[(u32, u32)],
 ) -> Result<Lists<A>, UniError>
-    ensures lists { IfOk result (λ lists. table_of lists.lower.items lists.upper.items lists.alnum.items ≡ table_of lower.now upper.now alnum.now) }
+    ensures lists { IfOk result (λ lists.
+        table_of lists.lower.items lists.upper.items lists.alnum.items ≡ table_of lower.now upper.now alnum.now) }
     ensures lawful { OnOk result (table_fault (table_of lower.now upper.now alnum.now) ≡ None) }
-    ensures refused { IfErr result (λ error. option_or (table_fault (table_of lower.now upper.now alnum.now)) (Some UniError.Memory) ≡ Some error) }
+    ensures refused { IfErr result (λ error.
+        option_or (table_fault (table_of lower.now upper.now alnum.now)) (Some UniError.Memory) ≡ Some error) }
     ensures grows { table_fault (table_of lower.now upper.now alnum.now) ≡ None → OnErr result Refused }
 {
     check(Listing::Map, lower)?;
@@ -51,7 +54,8 @@ pub(super) fn checked_lists<A: Allocator + Copy>(
 
 // The lists of std: both ways into the other case, and its alphanumerics, past ASCII.
 pub(super) fn std_lists<A: Allocator + Copy>(alloc: A) -> Result<Lists<A>, UniError>
-    ensures lawful { IfOk result (λ lists. table_fault (table_of lists.lower.items lists.upper.items lists.alnum.items) ≡ None) }
+    ensures lawful { IfOk result (λ lists.
+        table_fault (table_of lists.lower.items lists.upper.items lists.alnum.items) ≡ None) }
     ensures refused { IsOkUnless result UniError.Memory }
     ensures grows { OnErr result Refused }
 {
@@ -85,7 +89,7 @@ fn entry_fault(kind: Listing, next: u32, entry: (u32, u32)) -> Option<UniError>
     let last = last_of(kind, entry);
     if !is_scalar_entry(kind, entry) {
         Some(UniError::NotScalar)
-    } else if first < 128 || last < 128 {
+    } else if first < 128 {
         Some(UniError::AsciiEntry)
     } else if first < next || last < first {
         Some(UniError::Unsorted)

@@ -1,7 +1,7 @@
-//! Lists that are refused and lists that are taken, every lookup of std's table, and refused growth.
+//! Lists that are refused and lists that are taken, lookups, std's table, and refused requests for memory.
 
 use super::lists::{Lists, checked_lists, std_lists};
-use super::{UniError, UniTable, lower_unicode, upper_unicode};
+use super::{UniError, UniTable, lower_ascii, lower_unicode, upper_ascii, upper_unicode};
 use crate::category::category;
 use crate::constants::SreCatCode;
 use sre_refusing::Refusing;
@@ -18,146 +18,147 @@ fn refusal(
     UniTable::new(alloc, lower, upper, alnum).err()
 }
 
+// Of the faults of one entry NotScalar is before AsciiEntry, and that before Unsorted.
 #[test]
-fn entries_of_maps_have_faults(rt: HostRuntime) {
+fn lists_have_faults(rt: HostRuntime) {
     let alloc = rt.alloc();
-    let none: [(u32, u32); 0] = [];
-    for (entries, fault) in [
-        ([(65, 97)].as_slice(), UniError::AsciiEntry),
-        ([(127, 200)].as_slice(), UniError::AsciiEntry),
-        ([(200, 1), (200, 2)].as_slice(), UniError::Unsorted),
-        ([(201, 1), (200, 2)].as_slice(), UniError::Unsorted),
-        ([(55296, 200)].as_slice(), UniError::NotScalar),
-        ([(57343, 200)].as_slice(), UniError::NotScalar),
-        ([(200, 55296)].as_slice(), UniError::NotScalar),
-        ([(200, 57343)].as_slice(), UniError::NotScalar),
-        ([(1114112, 200)].as_slice(), UniError::NotScalar),
-        ([(200, 1114112)].as_slice(), UniError::NotScalar),
-        ([(4294967295, 200)].as_slice(), UniError::NotScalar),
-        ([(200, 4294967295)].as_slice(), UniError::NotScalar),
+    for (map, fault) in [
+        ([].as_slice(), None),
+        (
+            [
+                (128, 65),
+                (129, 0),
+                (55295, 57344),
+                (57344, 55295),
+                (1114111, 1114111),
+            ]
+            .as_slice(),
+            None,
+        ),
+        ([(65, 97)].as_slice(), Some(UniError::AsciiEntry)),
+        ([(127, 200)].as_slice(), Some(UniError::AsciiEntry)),
+        (
+            [(201, 233), (65, 97)].as_slice(),
+            Some(UniError::AsciiEntry),
+        ),
+        ([(200, 1), (200, 2)].as_slice(), Some(UniError::Unsorted)),
+        ([(201, 1), (200, 2)].as_slice(), Some(UniError::Unsorted)),
+        ([(55296, 200)].as_slice(), Some(UniError::NotScalar)),
+        ([(57343, 200)].as_slice(), Some(UniError::NotScalar)),
+        ([(200, 55296)].as_slice(), Some(UniError::NotScalar)),
+        ([(200, 57343)].as_slice(), Some(UniError::NotScalar)),
+        ([(1114112, 200)].as_slice(), Some(UniError::NotScalar)),
+        ([(200, 4294967295)].as_slice(), Some(UniError::NotScalar)),
+        (
+            [(201, 233), (65, 55296)].as_slice(),
+            Some(UniError::NotScalar),
+        ),
+        (
+            [(201, 233), (201, 55296)].as_slice(),
+            Some(UniError::NotScalar),
+        ),
+        (
+            [(201, 233), (200, 1), (65, 97), (55296, 1)].as_slice(),
+            Some(UniError::Unsorted),
+        ),
+        (
+            [(201, 233), (65, 97), (200, 1), (55296, 1)].as_slice(),
+            Some(UniError::AsciiEntry),
+        ),
     ] {
-        assert_eq!(rt; refusal(alloc, entries, &none, &none), Some(fault));
-        assert_eq!(rt; refusal(alloc, &none, entries, &none), Some(fault));
+        assert_eq!(rt; refusal(alloc, map, &[], &[]), fault);
+        assert_eq!(rt; refusal(alloc, &[], map, &[]), fault);
     }
-    let lawful = [
-        (128, 65),
-        (129, 0),
-        (55295, 57344),
-        (57344, 55295),
-        (1114111, 1114111),
-    ];
-    assert_eq!(rt; refusal(alloc, &lawful, &lawful, &none), None);
-    assert_eq!(rt; refusal(alloc, &none, &none, &none), None);
-}
-
-#[test]
-fn ranges_have_faults(rt: HostRuntime) {
-    let alloc = rt.alloc();
-    let none: [(u32, u32); 0] = [];
     for (ranges, fault) in [
-        ([(48, 57)].as_slice(), UniError::AsciiEntry),
-        ([(127, 200)].as_slice(), UniError::AsciiEntry),
-        ([(200, 100)].as_slice(), UniError::AsciiEntry),
-        ([(1641, 1632)].as_slice(), UniError::Unsorted),
-        ([(60000, 50000)].as_slice(), UniError::Unsorted),
-        ([(200, 210), (205, 220)].as_slice(), UniError::Unsorted),
-        ([(200, 210), (210, 220)].as_slice(), UniError::Unsorted),
-        ([(200, 210), (150, 160)].as_slice(), UniError::Unsorted),
-        ([(55295, 57344)].as_slice(), UniError::NotScalar),
-        ([(55295, 55296)].as_slice(), UniError::NotScalar),
-        ([(57343, 57344)].as_slice(), UniError::NotScalar),
-        ([(100, 60000)].as_slice(), UniError::NotScalar),
-        ([(1114111, 1114112)].as_slice(), UniError::NotScalar),
+        (
+            [
+                (128, 128),
+                (129, 200),
+                (202, 55295),
+                (57344, 57344),
+                (1114111, 1114111),
+            ]
+            .as_slice(),
+            None,
+        ),
+        ([(48, 57)].as_slice(), Some(UniError::AsciiEntry)),
+        ([(127, 200)].as_slice(), Some(UniError::AsciiEntry)),
+        ([(100, 99)].as_slice(), Some(UniError::AsciiEntry)),
+        ([(200, 100)].as_slice(), Some(UniError::Unsorted)),
+        ([(128, 127)].as_slice(), Some(UniError::Unsorted)),
+        ([(1641, 1632)].as_slice(), Some(UniError::Unsorted)),
+        ([(60000, 50000)].as_slice(), Some(UniError::Unsorted)),
+        (
+            [(200, 210), (205, 220)].as_slice(),
+            Some(UniError::Unsorted),
+        ),
+        (
+            [(200, 210), (210, 220)].as_slice(),
+            Some(UniError::Unsorted),
+        ),
+        (
+            [(200, 210), (150, 160)].as_slice(),
+            Some(UniError::Unsorted),
+        ),
+        (
+            [(200, 210), (205, 100)].as_slice(),
+            Some(UniError::Unsorted),
+        ),
+        ([(55295, 57344)].as_slice(), Some(UniError::NotScalar)),
+        ([(55295, 55296)].as_slice(), Some(UniError::NotScalar)),
+        ([(57343, 57344)].as_slice(), Some(UniError::NotScalar)),
+        ([(100, 60000)].as_slice(), Some(UniError::NotScalar)),
+        ([(1114111, 1114112)].as_slice(), Some(UniError::NotScalar)),
+        (
+            [(200, 210), (55296, 100)].as_slice(),
+            Some(UniError::NotScalar),
+        ),
+        (
+            [(200, 210), (220, 57343), (205, 1)].as_slice(),
+            Some(UniError::NotScalar),
+        ),
     ] {
-        assert_eq!(rt; refusal(alloc, &none, &none, ranges), Some(fault));
+        assert_eq!(rt; refusal(alloc, &[], &[], ranges), fault);
     }
-    let lawful = [
-        (128, 128),
-        (129, 200),
-        (202, 55295),
-        (57344, 57344),
-        (1114111, 1114111),
-    ];
-    assert_eq!(rt; refusal(alloc, &none, &none, &lawful), None);
+    let lawful = [(201, 233)].as_slice();
+    let ascii = [(65, 97)].as_slice();
+    let unsorted = [(201, 233), (201, 234)].as_slice();
+    let surrogate = [(55296, 200)].as_slice();
+    for (lower, upper, alnum, fault) in [
+        (unsorted, ascii, surrogate, UniError::Unsorted),
+        (ascii, unsorted, surrogate, UniError::AsciiEntry),
+        (lawful, ascii, surrogate, UniError::AsciiEntry),
+        (lawful, unsorted, ascii, UniError::Unsorted),
+        (lawful, lawful, surrogate, UniError::NotScalar),
+    ] {
+        assert_eq!(rt; refusal(alloc, lower, upper, alnum), Some(fault));
+    }
 }
 
 #[test]
-fn the_first_fault_is_answered(rt: HostRuntime) {
+fn characters_are_looked_up(rt: HostRuntime) -> Result<(), Fail> {
     let alloc = rt.alloc();
-    let ascii = [(65, 97)];
-    let unsorted = [(201, 233), (201, 234)];
-    let surrogate = [(55296, 200)];
-    // The first list comes first, whatever its fault is.
-    assert_eq!(rt;
-        refusal(alloc, &unsorted, &ascii, &surrogate),
-        Some(UniError::Unsorted)
-    );
-    assert_eq!(rt;
-        refusal(alloc, &ascii, &unsorted, &surrogate),
-        Some(UniError::AsciiEntry)
-    );
-    assert_eq!(rt;
-        refusal(alloc, &[], &ascii, &surrogate),
-        Some(UniError::AsciiEntry)
-    );
-    assert_eq!(rt;
-        refusal(alloc, &[(201, 233)], &unsorted, &ascii),
-        Some(UniError::Unsorted)
-    );
-    // So does the first entry.
-    assert_eq!(rt;
-        refusal(
-            alloc,
-            &[(201, 233), (200, 1), (65, 97), (55296, 1)],
-            &[],
-            &[]
-        ),
-        Some(UniError::Unsorted)
-    );
-    assert_eq!(rt;
-        refusal(
-            alloc,
-            &[(201, 233), (65, 97), (200, 1), (55296, 1)],
-            &[],
-            &[]
-        ),
-        Some(UniError::AsciiEntry)
-    );
-    assert_eq!(rt;
-        refusal(alloc, &[], &[], &[(200, 210), (220, 57343), (205, 1)]),
-        Some(UniError::NotScalar)
-    );
-    // Of the faults of one entry NotScalar is before AsciiEntry, and that before Unsorted.
-    assert_eq!(rt;
-        refusal(alloc, &[(201, 233), (65, 55296)], &[], &[]),
-        Some(UniError::NotScalar)
-    );
-    assert_eq!(rt;
-        refusal(alloc, &[(201, 233), (201, 55296)], &[], &[]),
-        Some(UniError::NotScalar)
-    );
-    assert_eq!(rt;
-        refusal(alloc, &[(201, 233), (65, 97)], &[], &[]),
-        Some(UniError::AsciiEntry)
-    );
-    assert_eq!(rt;
-        refusal(alloc, &[], &[], &[(200, 210), (55296, 100)]),
-        Some(UniError::NotScalar)
-    );
-    assert_eq!(rt;
-        refusal(alloc, &[], &[], &[(200, 210), (205, 100)]),
-        Some(UniError::AsciiEntry)
-    );
-    assert_eq!(rt;
-        refusal(alloc, &[], &[], &[(200, 210), (205, 204)]),
-        Some(UniError::Unsorted)
-    );
-}
-
-#[test]
-fn accents_are_looked_up(rt: HostRuntime) -> Result<(), Fail> {
-    let table = UniTable::new(
-        rt.alloc(),
+    let ascii = UniTable::ascii(alloc);
+    for (ch, lower, upper) in [
+        (64, 64, 64),
+        (65, 97, 65),
+        (90, 122, 90),
+        (91, 91, 91),
+        (96, 96, 96),
+        (97, 97, 65),
+        (122, 122, 90),
+        (123, 123, 123),
+        (201, 201, 201),
+        (4294967295, 4294967295, 4294967295),
+    ] {
+        assert_eq!(rt; (lower_ascii(ch), upper_ascii(ch)), (lower, upper));
+        assert_eq!(rt;
+            (lower_unicode(&ascii, ch), upper_unicode(&ascii, ch)),
+            (lower, upper)
+        );
+    }
+    let accents = UniTable::new(
+        alloc,
         &[(201, 233)],
         &[(233, 201)],
         &[(201, 201), (233, 233)],
@@ -174,11 +175,17 @@ fn accents_are_looked_up(rt: HostRuntime) -> Result<(), Fail> {
         (1114112, 1114112, 1114112, false),
         (4294967295, 4294967295, 4294967295, false),
     ] {
-        assert_eq!(rt; lower_unicode(&table, ch), lower, "{ch}");
-        assert_eq!(rt; upper_unicode(&table, ch), upper, "{ch}");
-        assert_eq!(rt; category(&table, SreCatCode::UNI_WORD, ch), is_word, "{ch}");
         assert_eq!(rt;
-            category(&table, SreCatCode::UNI_NOT_WORD, ch),
+            (lower_unicode(&accents, ch), upper_unicode(&accents, ch)),
+            (lower, upper)
+        );
+        assert_eq!(rt;
+            category(&accents, SreCatCode::UNI_WORD, ch),
+            is_word,
+            "{ch}"
+        );
+        assert_eq!(rt;
+            category(&accents, SreCatCode::UNI_NOT_WORD, ch),
             !is_word,
             "{ch}"
         );
@@ -186,51 +193,44 @@ fn accents_are_looked_up(rt: HostRuntime) -> Result<(), Fail> {
     Ok(())
 }
 
+// Each list has 1,000 entries. The maps take every third character to another thousand, and every
+// fifth character begins a range of three.
 #[test]
-fn entries_are_found_wherever_they_stand(rt: HostRuntime) -> Result<(), Fail> {
-    let cases = [
-        (128, 65),
-        (256, 257),
-        (300, 299),
-        (55295, 57344),
-        (57344, 55295),
-        (66560, 66600),
-        (1114111, 128),
-    ];
-    let ranges = [
-        (128, 130),
-        (200, 200),
-        (202, 300),
-        (55000, 55295),
-        (57344, 57400),
-        (1114000, 1114111),
-    ];
-    let table = UniTable::new(rt.alloc(), &cases, &cases, &ranges)?;
-    for (from, to) in cases {
-        assert_eq!(rt; lower_unicode(&table, from), to);
-        assert_eq!(rt; upper_unicode(&table, from), to);
+fn long_lists_are_looked_up(rt: HostRuntime) -> Result<(), Fail> {
+    let alloc = rt.alloc();
+    let mut lower = Vec::new(alloc);
+    let mut upper = Vec::new(alloc);
+    let mut alnum = Vec::new(alloc);
+    for i in 0..1000u32 {
+        lower.push((128 + 3 * i, 0x10000 + i))?;
+        upper.push((128 + 3 * i, 0x20000 + i))?;
+        alnum.push((128 + 5 * i, 130 + 5 * i))?;
     }
-    for ch in [
-        129, 255, 258, 301, 55294, 55296, 57343, 57345, 66559, 66561, 1114110, 1114112, 4294967295,
-    ] {
-        assert_eq!(rt; lower_unicode(&table, ch), ch);
-        assert_eq!(rt; upper_unicode(&table, ch), ch);
-    }
-    for ch in [
-        128, 130, 200, 202, 250, 300, 55000, 55295, 57344, 57400, 1114000, 1114050, 1114111,
-    ] {
-        assert!(rt; table.is_alphanumeric(ch), "{ch}");
-    }
-    for ch in [
-        131, 199, 201, 301, 54999, 55296, 57343, 57401, 1113999, 1114112, 4294967295,
-    ] {
-        assert!(rt; !table.is_alphanumeric(ch), "{ch}");
+    let table = UniTable::new(alloc, &lower, &upper, &alnum)?;
+    for ch in 128..6000u32 {
+        let i = (ch - 128) / 3;
+        let is_entry = (ch - 128) % 3 == 0 && i < 1000;
+        let images = if is_entry {
+            (0x10000 + i, 0x20000 + i)
+        } else {
+            (ch, ch)
+        };
+        let is_word = (ch - 128) % 5 < 3 && (ch - 128) / 5 < 1000;
+        assert!(rt;
+            (lower_unicode(&table, ch), upper_unicode(&table, ch)) == images,
+            "{ch}"
+        );
+        assert!(rt;
+            category(&table, SreCatCode::UNI_WORD, ch) == is_word,
+            "{ch}"
+        );
     }
     Ok(())
 }
 
+// Every character is as std has it, and some are compared with their rows of UnicodeData.txt.
 #[test]
-fn every_character_is_as_std_has_it(rt: HostRuntime) -> Result<(), Fail> {
+fn stds_table_is_unicodes(rt: HostRuntime) -> Result<(), Fail> {
     let table = UniTable::from_std(rt.alloc())?;
     for code in 0..0x120000u32 {
         let (lower, upper, is_word) = match char::from_u32(code) {
@@ -248,18 +248,6 @@ fn every_character_is_as_std_has_it(rt: HostRuntime) -> Result<(), Fail> {
             "{code}"
         );
     }
-    for code in [4294967294, 4294967295] {
-        assert_eq!(rt; lower_unicode(&table, code), code);
-        assert_eq!(rt; upper_unicode(&table, code), code);
-        assert!(rt; !category(&table, SreCatCode::UNI_WORD, code));
-    }
-    Ok(())
-}
-
-// Some rows of UnicodeData.txt, that std's table holds what Unicode says.
-#[test]
-fn stds_table_has_the_rows_of_unicode(rt: HostRuntime) -> Result<(), Fail> {
-    let table = UniTable::from_std(rt.alloc())?;
     for (ch, lower, upper, is_word) in [
         (0xC9, 0xE9, 0xC9, true),
         (0xE9, 0xE9, 0xC9, true),
@@ -275,63 +263,62 @@ fn stds_table_has_the_rows_of_unicode(rt: HostRuntime) -> Result<(), Fail> {
         (0x4E00, 0x4E00, 0x4E00, true),
         (0x10400, 0x10428, 0x10400, true),
         (0x1F600, 0x1F600, 0x1F600, false),
+        (0xFFFFFFFF, 0xFFFFFFFF, 0xFFFFFFFF, false),
     ] {
-        assert_eq!(rt; lower_unicode(&table, ch), lower, "{ch}");
-        assert_eq!(rt; upper_unicode(&table, ch), upper, "{ch}");
-        assert_eq!(rt; category(&table, SreCatCode::UNI_WORD, ch), is_word, "{ch}");
+        assert!(rt; lower_unicode(&table, ch) == lower, "{ch}");
+        assert!(rt; upper_unicode(&table, ch) == upper, "{ch}");
+        assert!(rt;
+            category(&table, SreCatCode::UNI_WORD, ch) == is_word,
+            "{ch}"
+        );
     }
     Ok(())
 }
 
-// Why no lists came.
-fn fault_of(lists: Result<Lists<&Refusing<Global>>, UniError>) -> Option<UniError> {
+// Whether memory was refused exactly where the error is, and the lists are the table's where there is none.
+fn is_as_refused(
+    heap: &Refusing<Global>,
+    lists: Result<Lists<&Refusing<Global>>, UniError>,
+    table: &UniTable,
+) -> bool {
     match lists {
-        Ok(_) => None,
-        Err(error) => Some(error),
+        Ok(lists) => {
+            heap.left() != 0
+                && lists.lower.as_slice() == table.lower.as_slice()
+                && lists.upper.as_slice() == table.upper.as_slice()
+                && lists.alnum.as_slice() == table.alnum.as_slice()
+        }
+        Err(error) => heap.left() == 0 && error == UniError::Memory,
     }
 }
 
 #[test]
-fn each_request_of_new_may_be_refused(rt: HostRuntime) {
-    let cases = [(201, 233)];
-    let ranges = [(201, 201), (233, 233)];
-    for refused in 1..4u64 {
+fn new_fails_where_a_request_is_refused(rt: HostRuntime) -> Result<(), Fail> {
+    let (lower, upper, alnum) = ([(201, 233)], [(233, 201)], [(201, 201), (233, 233)]);
+    let table = UniTable::new(rt.alloc(), &lower, &upper, &alnum)?;
+    for refused in 1..6u64 {
         let heap = Refusing::new(rt.alloc(), refused);
-        assert_eq!(rt;
-            fault_of(checked_lists(&heap, &cases, &cases, &ranges)),
-            Some(UniError::Memory)
-        );
+        let lists = checked_lists(&heap, &lower, &upper, &alnum);
+        assert!(rt; is_as_refused(&heap, lists, &table), "{refused}");
+        // A list is asked for once.
+        assert_eq!(rt; heap.left(), refused.saturating_sub(3));
     }
-    let heap = Refusing::new(rt.alloc(), 4);
-    assert_eq!(rt;
-        fault_of(checked_lists(&heap, &cases, &cases, &ranges)),
-        None
-    );
-    assert_eq!(rt; heap.left(), 1);
-}
-
-#[test]
-fn lists_are_checked_before_memory_is_asked_for(rt: HostRuntime) {
+    // The lists are checked before.
     let heap = Refusing::new(rt.alloc(), 1);
-    let cases = [(201, 233)];
-    let lists = checked_lists(&heap, &cases, &cases, &[(48, 57)]);
-    assert_eq!(rt; fault_of(lists), Some(UniError::AsciiEntry));
+    let fault = checked_lists(&heap, &lower, &upper, &[(48, 57)]).err();
+    assert_eq!(rt; fault, Some(UniError::AsciiEntry));
     assert_eq!(rt; heap.left(), 1);
+    Ok(())
 }
 
-// The first requests, one in the middle, and none.
+// The first requests, some in the middle, and none.
 #[test]
-fn requests_of_from_std_may_be_refused(rt: HostRuntime) {
-    for refused in [1, 2, 12, 20] {
+fn from_std_fails_where_a_request_is_refused(rt: HostRuntime) -> Result<(), Fail> {
+    let table = UniTable::from_std(rt.alloc())?;
+    for refused in [1, 2, 12, 20, 1000] {
         let heap = Refusing::new(rt.alloc(), refused);
-        assert_eq!(rt;
-            fault_of(std_lists(&heap)),
-            Some(UniError::Memory),
-            "{refused}"
-        );
-        assert_eq!(rt; heap.left(), 0);
+        let lists = std_lists(&heap);
+        assert!(rt; is_as_refused(&heap, lists, &table), "{refused}");
     }
-    let heap = Refusing::new(rt.alloc(), 1000);
-    assert_eq!(rt; fault_of(std_lists(&heap)), None);
-    assert!(rt; heap.left() > 900, "{}", heap.left());
+    Ok(())
 }
