@@ -11,7 +11,8 @@ use Rattle.sre_model.specs.Standing.{HasTest}
 use Rattle.sre_code.specs.declared.code.error.CodeError.TheVariants.{BadItem}
 use Rattle.sre_model.proofs.Words.{word_within, word_there, word_past, opcode_within, opcode_moved, same_opcode}
 use Rattle.sre_model.proofs.Places.{set_within, set_moved}
-use Rattle.sre_model.proofs.Families.{HasTestKind, test_here, OfCategory, OfLiteral, OfNotLiteral, is_any, is_any_all, is_category, is_literal, is_not_literal, is_set}
+use Rattle.sre_model.specs.Roles.{OfCategory, OfLiteral, OfNotLiteral}
+use Rattle.sre_model.proofs.Families.{HasTestKind, test_here, is_any, is_any_all, is_category, is_literal, is_not_literal, is_set}
 
 -- ANY and ANY_ALL
 pub any_exactly : (ws : List ℕ) (i : ℕ) → Opcode ws i opcode.ANY → TestExactly ws i (i + 1)

@@ -1,5 +1,6 @@
 -- The first accepted outcome of a run is the match.
-use Rattle.std.proofs.Common.{◌≡◌, ◌≤◌, ◌<◌, ◌+◌, ℕ, Bool, true, false, nat_eq, arith, Option, Some, None, refl, sym, ap, ◌∙◌, subst}
+use Rattle.std.specs.Prelude.{⊤}
+use Rattle.std.proofs.Common.{[], ◌≡◌, ◌≤◌, ◌<◌, ◌+◌, ℕ, Bool, true, false, nat_eq, arith, Option, Some, None, refl, sym, ap, ◌∙◌, subst}
 use Rattle.std.proofs.lemmas.Bool.Decides.{nat_tests}
 use Rattle.sre_chars.specs.declared.string.StringCursor.{StringCursor}
 use Rattle.sre_model.specs.Tree.{Tree}
@@ -7,12 +8,12 @@ use Rattle.sre_model.specs.Marks.{Marks, no_marks}
 use Rattle.sre_model.specs.Ways.{ways}
 use Rattle.sre_model.specs.Found.{Asked, Match, subject_of, is_accepted, at_start, found}
 use Rattle.sre_model.specs.Machine.{Run, Decides, outcomes}
-use Rattle.sre_engine.specs.Answers.{Shown, Answers, given, AnswersAlike}
+use Rattle.sre_engine.specs.Answers.{Shown, Answers, Tells, given, AnswersAlike}
 use Rattle.sre_model.proofs.FoundLaws.{match_of_first, first_accepted-filter, at_start-is, least-found, none-found}
 
--- what a run for a request is about
+-- what a run for a request decides about; the words are those of its tree, whatever they are
 abbrev run_for : Asked → (StringCursor → ℕ → Type 0) → Run
-run_for a stands = record { words = a.words; subject = subject_of a; stands = stands; accepts = is_accepted a }
+run_for a stands = record { words = []; subject = subject_of a; stands = stands; accepts = is_accepted a }
 
 -- what a run decides is the match from its start
 module _ (stands : StringCursor → ℕ → Type 0) (a : Asked) (t : Tree) (p : ℕ) (decided : Option StringCursor) (m : Marks) (d : Decides (run_for a stands) (outcomes (run_for a stands) t p) decided m) where
@@ -41,9 +42,19 @@ given-answer : (stands : StringCursor → ℕ → Type 0) (match : Option Match)
 given-answer stands None b shown none = rw none refl
 given-answer stands (Some m) b shown some = rw (some.0, some.1.start, some.1.at, some.1.marks) refl
 
--- and so it is that of whatever asks the same
+-- and so it is that of each other request that asks the same
 pub answers_alike : (model : Asked → Option Match) (asked : Asked) (stands : StringCursor → ℕ → Type 0) (b : Bool) (shown : Shown) → Answers stands (model asked) b shown → AnswersAlike model asked b shown
-answers_alike model asked stands b shown answer = record { alike = λ other same. given-answer stands (model asked) b shown answer ∙ ap model (sym same) }
+answers_alike model asked stands b shown answer = record {
+  alike = λ other c u same told.
+      given-answer (λ _ _. ⊤) (model other) c u told ∙ ap model same ∙ sym (given-answer stands (model asked) b shown answer);
+}
+
+-- an answer tells its match
+pub told : (stands : StringCursor → ℕ → Type 0) (match : Option Match) (b : Bool) (shown : Shown)
+    → Answers stands match b shown → Tells match b shown
+told stands None b shown none = none
+told stands (Some m) b shown some =
+    let s = some.1 in (some.0, record { start = s.start; at = s.at; end = tt; marks = s.marks })
 
 -- no start before a position has a match
 abbrev pub NoneBefore : Asked → Tree → ℕ → Type 0

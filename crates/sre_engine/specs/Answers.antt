@@ -1,5 +1,5 @@
 -- What a state shows, and the answer of a search.
-use Rattle.std.specs.Prelude.{ℕ, ◌≡◌, ◌≤◌, Bool, true, false, Option, Some, None}
+use Rattle.std.specs.Prelude.{⊤, ℕ, ◌≡◌, ◌≤◌, Bool, true, false, Option, Some, None}
 use Rattle.sre_chars.specs.declared.string.StringCursor.{StringCursor}
 use Rattle.sre_model.specs.Marks.{Marks}
 use Rattle.sre_model.specs.Found.{Asked, Match}
@@ -33,6 +33,11 @@ abbrev pub given : Bool → Shown → Option Match
 given true s = Some (record { start = s.start; end = s.cursor.position; marks = s.marks })
 given false s = None
 
--- the answer is the model's wherever the same is asked: of equal characters, window, flags and code, in a text of any type
+-- an answer in a text of whatever type: which of its cursors stand where is left open
+abbrev pub Tells : Option Match → Bool → Shown → Type 0
+Tells m b s = Answers (λ c p. ⊤) m b s
+
+-- another request, in a text of whatever type, that asks the same of a code of the same tree is answered alike: of equal
+-- characters, tables, windows and flags the same match or none; c and u are its answer and what a state then shows
 pub record AnswersAlike (model : Asked → Option Match) (asked : Asked) (b : Bool) (s : Shown) : Type 0 where
-  pub alike : (other : Asked) → other ≡ asked → given b s ≡ model other
+  pub alike : (other : Asked) (c : Bool) (u : Shown) → other ≡ asked → Tells (model other) c u → given c u ≡ given b s

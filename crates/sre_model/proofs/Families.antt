@@ -5,37 +5,17 @@ use Rattle.sre_chars.specs.declared.constants.SreOpcode.TheVariants as opcode
 use Rattle.sre_chars.specs.declared.constants.SreAtCode.{SreAtCode}
 use Rattle.sre_chars.specs.declared.constants.SreCatCode.{SreCatCode}
 use Rattle.sre_model.specs.Tree.{Tree, Item, Fail, One, At, Mark, Branch, Loop, Run, PossessiveLoop, Atomic, Look, Reference, Exists, ExistsElse, Trees, Test, Any, AnyAll, InCategory, Literal, NotLiteral, In, Order, RunKind, GreedyRun, LazyRun, PossessiveRun, Sign, Positive, Negative, Fold, Plain, Ascii, Locale, Unicode, SetItem}
+use Rattle.sre_model.specs.Roles.{TestKind, OfAny, OfAnyAll, OfCategory, OfLiteral, OfNotLiteral, OfSet, OfNoTest, Role, ToFail, ToTest, ToStand, ToMark, ToBranch, ToRun, ToRepeat, ToRepeatPossessively, ToGroup, ToLook, ToRefer, ToAsk, role}
 use Rattle.sre_model.specs.Grammar.{Opcode, test_opcode, item_opcode, ReadsItem, TestOperands}
 use Rattle.sre_model.proofs.Words.{same_opcode}
 
--- the kinds of tests
-pub data TestKind : Type 0 where
-  OfAny : TestKind
-  OfAnyAll : TestKind
-  OfCategory : TestKind
-  OfLiteral : TestKind
-  OfNotLiteral : TestKind
-  OfSet : TestKind
-  OfNoTest : TestKind
+-- which tests a role has
+abbrev pub tests_of : Role → TestKind
+tests_of (ToTest kind) = kind
+tests_of _ = OfNoTest
 
--- which tests an opcode begins
 abbrev pub test_kind_of : SreOpcode → TestKind
-test_kind_of opcode.ANY = OfAny
-test_kind_of opcode.ANY_ALL = OfAnyAll
-test_kind_of opcode.CATEGORY = OfCategory
-test_kind_of opcode.LITERAL = OfLiteral
-test_kind_of opcode.LITERAL_IGNORE = OfLiteral
-test_kind_of opcode.LITERAL_LOC_IGNORE = OfLiteral
-test_kind_of opcode.LITERAL_UNI_IGNORE = OfLiteral
-test_kind_of opcode.NOT_LITERAL = OfNotLiteral
-test_kind_of opcode.NOT_LITERAL_IGNORE = OfNotLiteral
-test_kind_of opcode.NOT_LITERAL_LOC_IGNORE = OfNotLiteral
-test_kind_of opcode.NOT_LITERAL_UNI_IGNORE = OfNotLiteral
-test_kind_of opcode.IN = OfSet
-test_kind_of opcode.IN_IGNORE = OfSet
-test_kind_of opcode.IN_LOC_IGNORE = OfSet
-test_kind_of opcode.IN_UNI_IGNORE = OfSet
-test_kind_of _ = OfNoTest
+test_kind_of o = tests_of (role o)
 
 abbrev pub test_kind : Test → TestKind
 test_kind Any = OfAny
@@ -114,30 +94,24 @@ pub data Kind : Type 0 where
   OfExists : Kind
   OfNone : Kind
 
-abbrev one_or_none : TestKind → Kind
-one_or_none OfNoTest = OfNone
-one_or_none _ = OfOne
+-- which items a role begins
+abbrev pub items_of : Role → Kind
+items_of ToFail = OfFail
+items_of (ToTest kind) = OfOne
+items_of ToStand = OfAt
+items_of ToMark = OfMark
+items_of ToBranch = OfBranch
+items_of ToRepeat = OfLoop
+items_of (ToRun kind) = OfRun
+items_of ToRepeatPossessively = OfPossessiveLoop
+items_of ToGroup = OfAtomic
+items_of (ToLook sign) = OfLook
+items_of ToRefer = OfReference
+items_of ToAsk = OfExists
+items_of _ = OfNone
 
--- which items an opcode begins
 abbrev pub kind_of : SreOpcode → Kind
-kind_of opcode.FAILURE = OfFail
-kind_of opcode.AT = OfAt
-kind_of opcode.MARK = OfMark
-kind_of opcode.BRANCH = OfBranch
-kind_of opcode.REPEAT = OfLoop
-kind_of opcode.REPEAT_ONE = OfRun
-kind_of opcode.MIN_REPEAT_ONE = OfRun
-kind_of opcode.POSSESSIVE_REPEAT_ONE = OfRun
-kind_of opcode.POSSESSIVE_REPEAT = OfPossessiveLoop
-kind_of opcode.ATOMIC_GROUP = OfAtomic
-kind_of opcode.ASSERT = OfLook
-kind_of opcode.ASSERT_NOT = OfLook
-kind_of opcode.GROUPREF = OfReference
-kind_of opcode.GROUPREF_IGNORE = OfReference
-kind_of opcode.GROUPREF_LOC_IGNORE = OfReference
-kind_of opcode.GROUPREF_UNI_IGNORE = OfReference
-kind_of opcode.GROUPREF_EXISTS = OfExists
-kind_of o = one_or_none (test_kind_of o)
+kind_of o = items_of (role o)
 
 abbrev pub item_kind : Item → Kind
 item_kind Fail = OfFail

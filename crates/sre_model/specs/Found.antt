@@ -6,10 +6,9 @@ use Rattle.sre_model.specs.Marks.{Marks, no_marks}
 use Rattle.sre_model.specs.Subject.{Subject}
 use Rattle.sre_model.specs.Ways.{Way, ways}
 
--- the characters, the table, the window [start, end] and the flags; and the words, which the tree is read from
+-- the characters, the table, the window [start, end] and the flags
 pub record Asked : Type 0 where
   pub text : List ℕ
-  pub words : List ℕ
   pub table : Table
   pub start : ℕ
   pub end : ℕ

@@ -5,6 +5,7 @@ pub mod Subject
 pub mod Ways
 pub mod Loops
 pub mod Grammar
+pub mod Roles
 pub mod Width
 pub mod Found
 pub mod WalkBounds

@@ -2,9 +2,9 @@
 use Rattle.std.specs.Prelude.{ℕ, suc, ◌+◌, ◌-◌, ◌≡◌, ◌≤◌, Bool, List, [], ◌∷◌, ◌++◌, Option, Some, None}
 use Rattle.std.specs.List.{filter}
 use Rattle.sre_chars.specs.declared.constants.SreOpcode.{SreOpcode}
-use Rattle.sre_chars.specs.declared.constants.SreOpcode.TheVariants as opcode
 use Rattle.sre_chars.specs.declared.string.StringCursor.{StringCursor}
-use Rattle.sre_model.specs.Tree.{Tree, Order, Greedy, Lazy, Sign, Positive, Negative}
+use Rattle.sre_model.specs.Tree.{Tree, Order, Sign, GreedyRun, LazyRun, PossessiveRun}
+use Rattle.sre_model.specs.Roles.{Role, ToFail, ToEnd, ToTest, ToStand, ToMark, ToBranch, ToJump, ToRun, ToRepeat, ToLoop, ToGroup, ToLook, role}
 use Rattle.sre_model.specs.Marks.{Marks, no_marks}
 use Rattle.sre_model.specs.Subject.{Subject}
 use Rattle.sre_model.specs.Ways.{Way, here, ways}
@@ -40,38 +40,26 @@ pub data Family : Type 0 where
   Looking : Sign → Family
   Unbuilt : Family
 
+-- the family of a role
+abbrev pub family_of : Role → Family
+family_of ToFail = Failing
+family_of ToEnd = Ending
+family_of (ToTest kind) = Testing
+family_of ToStand = Standing
+family_of ToMark = Marking
+family_of ToBranch = Branching
+family_of ToJump = Jumping
+family_of (ToRun GreedyRun) = Running
+family_of (ToRun LazyRun) = RunningLazily
+family_of (ToRun PossessiveRun) = RunningLongest
+family_of ToRepeat = Repeating
+family_of (ToLoop order) = Looping order
+family_of ToGroup = Grouping
+family_of (ToLook sign) = Looking sign
+family_of _ = Unbuilt
+
 abbrev pub family : SreOpcode → Family
-family opcode.FAILURE = Failing
-family opcode.SUCCESS = Ending
-family opcode.ANY = Testing
-family opcode.ANY_ALL = Testing
-family opcode.CATEGORY = Testing
-family opcode.LITERAL = Testing
-family opcode.LITERAL_IGNORE = Testing
-family opcode.LITERAL_LOC_IGNORE = Testing
-family opcode.LITERAL_UNI_IGNORE = Testing
-family opcode.NOT_LITERAL = Testing
-family opcode.NOT_LITERAL_IGNORE = Testing
-family opcode.NOT_LITERAL_LOC_IGNORE = Testing
-family opcode.NOT_LITERAL_UNI_IGNORE = Testing
-family opcode.IN = Testing
-family opcode.IN_IGNORE = Testing
-family opcode.IN_LOC_IGNORE = Testing
-family opcode.IN_UNI_IGNORE = Testing
-family opcode.AT = Standing
-family opcode.MARK = Marking
-family opcode.BRANCH = Branching
-family opcode.JUMP = Jumping
-family opcode.REPEAT_ONE = Running
-family opcode.MIN_REPEAT_ONE = RunningLazily
-family opcode.POSSESSIVE_REPEAT_ONE = RunningLongest
-family opcode.REPEAT = Repeating
-family opcode.MAX_UNTIL = Looping Greedy
-family opcode.MIN_UNTIL = Looping Lazy
-family opcode.ATOMIC_GROUP = Grouping
-family opcode.ASSERT = Looking Positive
-family opcode.ASSERT_NOT = Looking Negative
-family _ = Unbuilt
+family o = family_of (role o)
 
 -- what a turn does at an instruction whose family is known
 abbrev pub InFamily : List ℕ → Subject → Family → ℕ → Spot → Move → Type 0

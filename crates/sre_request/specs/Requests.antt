@@ -27,11 +27,10 @@ match_all_of r = r.match_all
 abbrev pub must_advance_of : {S : Type 0} {text : Ghosts S} → Request S text → Bool
 must_advance_of r = r.must_advance
 
--- the text, words, table, window and flags of a request
+-- the text, table, window and flags of a request
 abbrev pub asked_of : {S : Type 0} {text : Ghosts S} → Request S text → Asked
 asked_of {S} {text} r = record {
   text = text.text r.string;
-  words = words_of r.pattern_codes;
   table = uni_of r.pattern_codes;
   start = r.start;
   end = r.end;

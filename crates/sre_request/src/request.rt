@@ -30,7 +30,7 @@ impl<'a, S: StrDrive> Clone for Request<'a, S> {
 impl<'a, S: StrDrive> Copy for Request<'a, S> {}
 
 impl<'a, S: StrDrive> Request<'a, S> {
-    ghost use Rattle.std.specs.Prelude.{◌≡◌, length, min, false};
+    ghost use Rattle.std.specs.Prelude.{◌≡◌, ◌≤◌, length, min, false};
     ghost use Rattle.sre_request.specs.Requests.{string_of, start_of, end_of, code_of, match_all_of, must_advance_of};
 
     /// A request over the window from `start` to `end` of a text: `end` is held at the number of characters, and
@@ -83,18 +83,21 @@ impl<'a, S: StrDrive> Request<'a, S> {
         self.string
     }
 
-    /// The position at which the window starts.
+    /// The position at which the window starts; it is at most the window's end.
     #[inline(always)]
     pub fn start(&self) -> usize
-        ensures { result ≡ start_of self.now }
+        ensures value { result ≡ start_of self.now }
+        ensures in_window { result ≤ end_of self.now }
     {
         self.start
     }
 
-    /// The position at which the window ends: characters from it on are not seen.
+    /// The position at which the window ends: characters from it on are not seen. It is at most the number of the text's
+    /// characters.
     #[inline(always)]
     pub fn end(&self) -> usize
-        ensures { result ≡ end_of self.now }
+        ensures value { result ≡ end_of self.now }
+        ensures in_text { result ≤ length (S.text (string_of self.now)) }
     {
         self.end
     }

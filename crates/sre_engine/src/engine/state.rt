@@ -77,7 +77,7 @@ fn attempt<S: StrDrive, A: Allocator>(
     ensures err { OnErr result (board.new.marks ≡ no_marks) }
     ensures refused { OnErr result Refused }
 {
-    board.clear();
+    board.clear(); // of an earlier run
     match run(req, start, board) {
         Ok(Some(end)) => Ok(Some(end)),
         Ok(None) => {
@@ -138,9 +138,11 @@ impl<A: Allocator + Copy> State<A> {
     /// Matches at the window's start: whether there is a match, which the state then shows.
     ///
     /// The match is the first way, in the order of CPython's `_sre`, that the request's flags accept; it ends between
-    /// the window's start and its end. Equal characters, windows, flags and codes have equal answers, whatever types the
-    /// texts are of. An error means that memory was refused; after it, as after `Ok(false)`, there are no marks, and the
-    /// state serves again.
+    /// the window's start and its end. Equal characters, tables, windows, flags and trees have equal answers, whatever
+    /// types the texts are of.
+    ///
+    /// An error means that a growth of the state's memory was refused. After it, as after `Ok(false)`, there are no
+    /// marks, start and cursor are open, and the state serves again, with a text of any type.
     pub fn pymatch<S: StrDrive>(&mut self, req: &Request<'_, S>) -> Result<bool, SreError>
         ensures ok { (t : Tree) → Whole (words_of (code_of req.now)) t
             → IfOk result (λ b. Answers (stands_in req.now) (matched (asked_of req.now) t) b self.new) }
@@ -165,8 +167,11 @@ impl<A: Allocator + Copy> State<A> {
     /// least start; it lies in the window.
     ///
     /// Each start is tried in turn, as `pymatch` tries it; an empty match at the window's end is one, too. Under
-    /// `must_advance` an empty match is refused at the window's start alone. An error means that memory was refused;
-    /// after it, as after `Ok(false)`, there are no marks, and the state serves again.
+    /// `must_advance` an empty match is refused at the window's start alone. Equal characters, tables, windows, flags and
+    /// trees have equal answers, whatever types the texts are of.
+    ///
+    /// An error means that a growth of the state's memory was refused. After it, as after `Ok(false)`, there are no
+    /// marks, start and cursor are open, and the state serves again, with a text of any type.
     pub fn search<S: StrDrive>(&mut self, req: Request<'_, S>) -> Result<bool, SreError>
         ensures ok { (t : Tree) → Whole (words_of (code_of req.entry)) t
             → IfOk result (λ b. Answers (stands_in req.entry) (found (asked_of req.entry) t) b self.new) }

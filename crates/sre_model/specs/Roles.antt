@@ -1,0 +1,72 @@
+-- Roles: what each opcode is for, in one table.
+use Rattle.sre_chars.specs.declared.constants.SreOpcode.{SreOpcode}
+use Rattle.sre_chars.specs.declared.constants.SreOpcode.TheVariants as opcode
+use Rattle.sre_model.specs.Tree.{Order, Greedy, Lazy, RunKind, GreedyRun, LazyRun, PossessiveRun, Sign, Positive, Negative}
+
+-- the kinds of tests
+pub data TestKind : Type 0 where
+  OfAny : TestKind
+  OfAnyAll : TestKind
+  OfCategory : TestKind
+  OfLiteral : TestKind
+  OfNotLiteral : TestKind
+  OfSet : TestKind
+  OfNoTest : TestKind
+
+-- the last one is that of the opcodes that begin nothing where the machine can stand
+pub data Role : Type 0 where
+  ToFail : Role
+  ToEnd : Role
+  ToTest : TestKind → Role
+  ToStand : Role
+  ToMark : Role
+  ToBranch : Role
+  ToJump : Role
+  ToRun : RunKind → Role
+  ToRepeat : Role
+  ToLoop : Order → Role
+  ToRepeatPossessively : Role
+  ToGroup : Role
+  ToLook : Sign → Role
+  ToRefer : Role
+  ToAsk : Role
+  ToNothing : Role
+
+abbrev pub role : SreOpcode → Role
+role opcode.FAILURE = ToFail
+role opcode.SUCCESS = ToEnd
+role opcode.ANY = ToTest OfAny
+role opcode.ANY_ALL = ToTest OfAnyAll
+role opcode.CATEGORY = ToTest OfCategory
+role opcode.LITERAL = ToTest OfLiteral
+role opcode.LITERAL_IGNORE = ToTest OfLiteral
+role opcode.LITERAL_LOC_IGNORE = ToTest OfLiteral
+role opcode.LITERAL_UNI_IGNORE = ToTest OfLiteral
+role opcode.NOT_LITERAL = ToTest OfNotLiteral
+role opcode.NOT_LITERAL_IGNORE = ToTest OfNotLiteral
+role opcode.NOT_LITERAL_LOC_IGNORE = ToTest OfNotLiteral
+role opcode.NOT_LITERAL_UNI_IGNORE = ToTest OfNotLiteral
+role opcode.IN = ToTest OfSet
+role opcode.IN_IGNORE = ToTest OfSet
+role opcode.IN_LOC_IGNORE = ToTest OfSet
+role opcode.IN_UNI_IGNORE = ToTest OfSet
+role opcode.AT = ToStand
+role opcode.MARK = ToMark
+role opcode.BRANCH = ToBranch
+role opcode.JUMP = ToJump
+role opcode.REPEAT_ONE = ToRun GreedyRun
+role opcode.MIN_REPEAT_ONE = ToRun LazyRun
+role opcode.POSSESSIVE_REPEAT_ONE = ToRun PossessiveRun
+role opcode.REPEAT = ToRepeat
+role opcode.MAX_UNTIL = ToLoop Greedy
+role opcode.MIN_UNTIL = ToLoop Lazy
+role opcode.POSSESSIVE_REPEAT = ToRepeatPossessively
+role opcode.ATOMIC_GROUP = ToGroup
+role opcode.ASSERT = ToLook Positive
+role opcode.ASSERT_NOT = ToLook Negative
+role opcode.GROUPREF = ToRefer
+role opcode.GROUPREF_IGNORE = ToRefer
+role opcode.GROUPREF_LOC_IGNORE = ToRefer
+role opcode.GROUPREF_UNI_IGNORE = ToRefer
+role opcode.GROUPREF_EXISTS = ToAsk
+role _ = ToNothing
