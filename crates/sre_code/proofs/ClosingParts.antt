@@ -43,3 +43,6 @@ whole_cut ws u i e n le = record {
   nowhere = record { none = λ j w c. n.none opcode.SUCCESS c.0 };
   within = le;
 }
+
+-- what `whole` answers
+pub ruleset whole_laws = (whole_inside, whole_end, whole_exactly, whole_trails, whole_cut)

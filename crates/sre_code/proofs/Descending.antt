@@ -194,3 +194,9 @@ descent_refused ws e t x ne w = (x.never ne).none (width t) ((t, w.0, refl), w.1
 -- words that have a tree are refused only where a growth was
 pub descent_grows : (ws : List ℕ) (e : CodeError) (t : Tree) → Fails ws (WholeFrom ws 0) e → IsWhole ws t → Refused
 descent_grows ws e t x w = x.grows (width t) ((t, w.0, refl), w.1)
+
+-- what `read_on` answers
+pub ruleset read_on_laws = (step_closes, step_reads, step_no_close, step_no_item)
+
+-- what `descend` answers
+pub ruleset descend_laws = (descent_starts, descent_goes_on, descent_falls, descent_stops, descent_ends)

@@ -3,6 +3,7 @@ pub mod ReadSets
 pub mod ReadCharacters
 pub mod ReadItems
 pub mod ReadRuns
+pub mod AnyItem
 pub mod ReadBranches
 pub mod ReadRegions
 pub mod ReadBodies

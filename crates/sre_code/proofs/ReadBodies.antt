@@ -72,3 +72,9 @@ body_open ws end least i u o e same h max_ min_ le = record { end = body_end ws 
 
 pub body_cut : (ws : List ℕ) (end least i u : ℕ) (e : CodeError) → i ≡ end → NoCode opcode_number ws i → Within ws e → Unclosed ws (Body end least) i u e
 body_cut ws end least i u e same n le = record { end = body_end ws end least i same; nowhere = record { none = λ j w c. n.none (until_opcode c.1.0) c.1.1 }; within = le }
+
+-- what `repeat` answers
+pub ruleset repeat_laws = (loop_exactly, loop_cut, loop_counts)
+
+-- what `until` answers
+pub ruleset until_laws = (body_inside, body_max, body_min, body_open, body_cut)

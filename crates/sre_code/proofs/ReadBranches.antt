@@ -193,3 +193,12 @@ jump_gives ws e tail least u m i (Ok s) me same h te x =
 jump_gives ws e tail least u m i (Err f) me same h te x =
     let P : ℕ → Type 0 = λ n. Nowhere (MoreAt ws (i + 2) tail n) in
     (jump_nowhere ws e tail least u i (subst P me x.0), x.1)
+
+-- what `bounds` answers
+pub ruleset bounds_laws = (bounds_exactly, trees_short, trees_past, trees_cut)
+
+-- what `another` answers
+pub ruleset another_laws = (more_last, more_unlike, more_next, more_nowhere, more_wrong, more_short)
+
+-- what `jump` answers
+pub ruleset jump_laws = (jump_gives, jump_past, jump_wrong, jump_cut, jump_skip)

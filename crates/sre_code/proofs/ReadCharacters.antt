@@ -113,3 +113,12 @@ set_cut ws i h le = set_empty ws i (skip ws (i + 1)) h refl (omega (arith, word_
 -- where no test is
 pub no_test : (ws : List ℕ) (i : ℕ) (o : SreOpcode) → Opcode ws i o → (HasTest ws i → ⊥) → TestEnds ws i (Err (BadItem i))
 no_test ws i o h none = (record { none = λ k t r. none (record { end = k; test = t; stands = record { code = r.0; operands = r.1 } }) }, omega (arith, opcode_within ws i o h))
+
+-- what `not_literal` answers
+pub ruleset not_literal_laws = (not_literal_exactly, not_literal_cut)
+
+-- what `in_set` answers
+pub ruleset in_set_laws = (set_exactly, set_cut, set_empty, set_open, set_ends_cut, set_wrong)
+
+-- what `test` answers
+pub ruleset test_laws = (any_exactly, any_all_exactly, literal_at, not_literal_at, set_at)

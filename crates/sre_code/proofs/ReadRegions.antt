@@ -116,3 +116,12 @@ look_short ws i tail h leads short = record { none = λ j w y. let f = is_look w
 
 pub look_cut : (ws : List ℕ) (i : ℕ) → LookAt ws i → length ws ≤ i + 1 → Nowhere (ItemAt ws i)
 look_cut ws i h past = record { none = λ j w y. let f = is_look ws i j y.0 (look_kind ws i h.sign h.there) y.1 in omega (arith, word_within ws (i + 2) f.1 f.4.1.1) }
+
+-- what `atomic_group` answers
+pub ruleset atomic_group_laws = (atomic_exactly, atomic_short, atomic_cut)
+
+-- what `look` answers
+pub ruleset look_laws = (look_exactly, look_short, look_cut)
+
+-- what `end` answers
+pub ruleset end_laws = (region_inside, region_open, region_cut)

@@ -92,3 +92,6 @@ run_skip ws i e t h x skips ne = record {
       let at : j - 1 ≡ e = x.only (j - 1) f.test f.reads in
       ne (omega (arith, f.ends, f.longer));
 }
+
+-- what `run` answers
+pub ruleset run_laws = (run_exactly, run_short, run_counts, run_no_opcode, run_nowhere, run_open, run_ends_cut, run_skip)

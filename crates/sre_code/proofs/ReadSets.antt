@@ -115,3 +115,12 @@ set_past ws start place end inv le ne = record { none = λ s. let t = inv.to s i
 
 pub set_ends : (ws : List ℕ) (start place end : ℕ) → SameSets ws start place end → place ≡ end → IsSet ws start end
 set_ends ws start place end inv e = record { set = inv.from ([], e) }
+
+-- what `big_charset` answers
+pub ruleset big_charset_laws = (big_exactly, big_blocks, big_short, big_cut)
+
+-- what `item` answers
+pub ruleset item_laws = (range_there, negate_item, no_item, no_opcode)
+
+-- what `items` answers
+pub ruleset items_laws = (set_stops, set_past, set_ends)

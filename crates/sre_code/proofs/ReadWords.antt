@@ -19,3 +19,12 @@ at_unknown ws i v e le = record { none = λ o a. omega (arith, word_of ws i (at_
 
 pub category_unknown : (ws : List ℕ) (i v : ℕ) → v ≡ word ws i → 18 ≤ v → NoCode category_number ws i
 category_unknown ws i v e le = record { none = λ o a. omega (arith, word_of ws i (category_number o) a, category_low o) }
+
+-- what `opcode` answers
+pub ruleset opcode_laws = (number_there, code_past, opcode_unknown)
+
+-- what `position` answers
+pub ruleset position_laws = (number_there, code_past, at_unknown)
+
+-- what `category` answers
+pub ruleset category_laws = (number_there, code_past, category_unknown)

@@ -11,7 +11,7 @@ use crate::code::words;
 use sre_chars::constants::SreOpcode;
 
 /// The bounds of the alternative whose length word is at this place.
-#[tactic(auto, using(crate::proofs::ReadBranches::bounds_exactly, crate::proofs::ReadBranches::trees_short, crate::proofs::ReadBranches::trees_past, crate::proofs::ReadBranches::trees_cut))]
+#[tactic(auto, using(crate::proofs::ReadBranches::bounds_laws))]
 fn bounds(words: &[u32], place: usize) -> Result<Bounds, CodeError>
     ensures { BoundsAt words.now place result }
 {
@@ -44,7 +44,7 @@ pub fn branch(words: &[u32], place: usize) -> Result<Step, CodeError>
 }
 
 /// What comes after an alternative, from the next length word on.
-#[tactic(auto, using(crate::proofs::ReadBranches::more_last, crate::proofs::ReadBranches::more_unlike, crate::proofs::ReadBranches::more_next, crate::proofs::ReadBranches::more_nowhere, crate::proofs::ReadBranches::more_wrong, crate::proofs::ReadBranches::more_short))]
+#[tactic(auto, using(crate::proofs::ReadBranches::another_laws))]
 fn another(words: &[u32], place: usize, tail: usize, least: u32) -> Result<Step, CodeError>
     ensures { EndGives words.now place (MoreAt words.now place tail least) result }
 {
@@ -72,7 +72,7 @@ fn another(words: &[u32], place: usize, tail: usize, least: u32) -> Result<Step,
 }
 
 /// JUMP at the end of an alternative, and what comes after it.
-#[tactic(auto, using(crate::proofs::ReadBranches::jump_gives, crate::proofs::ReadBranches::jump_past, crate::proofs::ReadBranches::jump_wrong, crate::proofs::ReadBranches::jump_cut, crate::proofs::ReadBranches::jump_skip))]
+#[tactic(auto, using(crate::proofs::ReadBranches::jump_laws))]
 fn jump(
     words: &[u32],
     place: usize,

@@ -28,7 +28,7 @@ fn literal(words: &[u32], place: usize) -> Result<usize, CodeError>
 }
 
 /// `<NOT_LITERAL> <value>`, under each folding
-#[tactic(auto, using(crate::proofs::ReadCharacters::not_literal_exactly, crate::proofs::ReadCharacters::not_literal_cut))]
+#[tactic(auto, using(crate::proofs::ReadCharacters::not_literal_laws))]
 fn not_literal(words: &[u32], place: usize) -> Result<usize, CodeError>
     requires { FoldedAt not_literal_opcode words.now place }
     ensures { TestEnds words.now place result }
@@ -38,7 +38,7 @@ fn not_literal(words: &[u32], place: usize) -> Result<usize, CodeError>
 }
 
 /// `<IN> <skip> <set> <FAILURE>`, under each folding
-#[tactic(auto, using(crate::proofs::ReadCharacters::set_exactly, crate::proofs::ReadCharacters::set_cut, crate::proofs::ReadCharacters::set_empty, crate::proofs::ReadCharacters::set_open, crate::proofs::ReadCharacters::set_ends_cut, crate::proofs::ReadCharacters::set_wrong))]
+#[tactic(auto, using(crate::proofs::ReadCharacters::in_set_laws))]
 fn in_set(words: &[u32], place: usize) -> Result<usize, CodeError>
     requires { FoldedAt set_opcode words.now place }
     ensures { TestEnds words.now place result }
@@ -55,7 +55,7 @@ fn in_set(words: &[u32], place: usize) -> Result<usize, CodeError>
 }
 
 /// Where the test of one character ends that has this opcode.
-#[tactic(auto, using(crate::proofs::ReadCharacters::any_exactly, crate::proofs::ReadCharacters::any_all_exactly, crate::proofs::ReadCharacters::literal_at, crate::proofs::ReadCharacters::not_literal_at, crate::proofs::ReadCharacters::set_at))]
+#[tactic(auto, using(crate::proofs::ReadCharacters::test_laws))]
 pub fn test(words: &[u32], place: usize, code: SreOpcode) -> Result<usize, CodeError>
     requires { Opcode words.now place code }
     ensures { TestEnds words.now place result }

@@ -21,7 +21,7 @@ fn follow<A: Allocator>(parts: &mut Vec<Open, A>, step: Step) -> Result<Reached,
 }
 
 /// One step: the innermost part, which was taken off the stack, is closed, or an item of it is read.
-#[tactic(auto, using(crate::proofs::Descending::step_closes, crate::proofs::Descending::step_reads, crate::proofs::Descending::step_no_close, crate::proofs::Descending::step_no_item))]
+#[tactic(auto, using(crate::proofs::Descending::read_on_laws))]
 fn read_on<A: Allocator>(
     words: &[u32],
     reached: Reached,
@@ -44,7 +44,7 @@ fn read_on<A: Allocator>(
 }
 
 /// The least width of the tree whose items are the words from `start` on, with SUCCESS as the last word.
-#[tactic(auto, using(crate::proofs::Descending::descent_starts, crate::proofs::Descending::descent_goes_on, crate::proofs::Descending::descent_falls, crate::proofs::Descending::descent_stops, crate::proofs::Descending::descent_ends))]
+#[tactic(auto, using(crate::proofs::Descending::descend_laws))]
 pub fn descend<A: Allocator + Copy>(alloc: A, words: &[u32], start: usize) -> Result<u32, CodeError>
     ensures { Descends words.now start result }
 {

@@ -35,7 +35,7 @@ fn mark(words: &[u32], place: usize) -> Result<Step, CodeError>
 }
 
 /// `<REPEAT_ONE> <skip> <least count> <greatest count> <test> <SUCCESS>`, and MIN_REPEAT_ONE and POSSESSIVE_REPEAT_ONE alike
-#[tactic(auto, using(crate::proofs::ReadRuns::run_exactly, crate::proofs::ReadRuns::run_short, crate::proofs::ReadRuns::run_counts, crate::proofs::ReadRuns::run_no_opcode, crate::proofs::ReadRuns::run_nowhere, crate::proofs::ReadRuns::run_open, crate::proofs::ReadRuns::run_ends_cut, crate::proofs::ReadRuns::run_skip))]
+#[tactic(auto, using(crate::proofs::ReadRuns::run_laws))]
 fn run(words: &[u32], place: usize) -> Result<Step, CodeError>
     requires { RunAt words.now place }
     ensures { Gives words.now place (ItemAt words.now place) result }
@@ -61,7 +61,7 @@ fn run(words: &[u32], place: usize) -> Result<Step, CodeError>
 }
 
 /// The item at this place.
-#[tactic(auto, using(crate::proofs::ReadItems::fail_exactly, crate::proofs::ReadItems::one_nowhere, crate::proofs::ReadItems::no_opcode, crate::proofs::ReadRuns::greedy_there, crate::proofs::ReadRuns::lazy_there, crate::proofs::ReadRuns::possessive_there, crate::proofs::ReadRegions::assert_there, crate::proofs::ReadRegions::assert_not_there))]
+#[tactic(auto, using(crate::proofs::AnyItem::item_laws))]
 pub fn item(words: &[u32], place: usize) -> Result<Step, CodeError>
     ensures { ItemGives words.now place result }
 {

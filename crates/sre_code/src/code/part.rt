@@ -9,7 +9,7 @@ use crate::code::{branch, region, repeat, words};
 use sre_chars::constants::SreOpcode;
 
 /// SUCCESS, as the last word.
-#[tactic(auto, using(crate::proofs::ClosingParts::whole_inside, crate::proofs::ClosingParts::whole_end, crate::proofs::ClosingParts::whole_exactly, crate::proofs::ClosingParts::whole_trails, crate::proofs::ClosingParts::whole_cut))]
+#[tactic(auto, using(crate::proofs::ClosingParts::whole_laws))]
 fn whole(words: &[u32], place: usize, width: u32) -> Result<Option<Step>, CodeError>
     ensures { Closing words.now Part.Whole place width result }
 {

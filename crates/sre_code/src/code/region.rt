@@ -10,7 +10,7 @@ use crate::code::words;
 use sre_chars::constants::SreOpcode;
 
 /// The item, which opens its body.
-#[tactic(auto, using(crate::proofs::ReadRegions::atomic_exactly, crate::proofs::ReadRegions::atomic_short, crate::proofs::ReadRegions::atomic_cut))]
+#[tactic(auto, using(crate::proofs::ReadRegions::atomic_group_laws))]
 pub fn atomic_group(words: &[u32], place: usize) -> Result<Step, CodeError>
     requires { Opcode words.now place SreOpcode.ATOMIC_GROUP }
     ensures { Gives words.now place (ItemAt words.now place) result }
@@ -29,7 +29,7 @@ pub fn atomic_group(words: &[u32], place: usize) -> Result<Step, CodeError>
 }
 
 /// The item, which opens its body; a look has no width.
-#[tactic(auto, using(crate::proofs::ReadRegions::look_exactly, crate::proofs::ReadRegions::look_short, crate::proofs::ReadRegions::look_cut))]
+#[tactic(auto, using(crate::proofs::ReadRegions::look_laws))]
 pub fn look(words: &[u32], place: usize) -> Result<Step, CodeError>
     requires { LookAt words.now place }
     ensures { Gives words.now place (ItemAt words.now place) result }
@@ -48,7 +48,7 @@ pub fn look(words: &[u32], place: usize) -> Result<Step, CodeError>
 }
 
 /// The end of a body, if it is here.
-#[tactic(auto, using(crate::proofs::ReadRegions::region_inside, crate::proofs::ReadRegions::region_open, crate::proofs::ReadRegions::region_cut))]
+#[tactic(auto, using(crate::proofs::ReadRegions::end_laws))]
 pub fn end(
     words: &[u32],
     place: usize,

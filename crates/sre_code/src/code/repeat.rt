@@ -9,7 +9,7 @@ use crate::code::words;
 use sre_chars::constants::SreOpcode;
 
 /// The item, which opens its body.
-#[tactic(auto, using(crate::proofs::ReadBodies::loop_exactly, crate::proofs::ReadBodies::loop_cut, crate::proofs::ReadBodies::loop_counts))]
+#[tactic(auto, using(crate::proofs::ReadBodies::repeat_laws))]
 pub fn repeat(words: &[u32], place: usize) -> Result<Step, CodeError>
     requires { Opcode words.now place SreOpcode.REPEAT }
     ensures { Gives words.now place (ItemAt words.now place) result }
@@ -27,7 +27,7 @@ pub fn repeat(words: &[u32], place: usize) -> Result<Step, CodeError>
 }
 
 /// The end of a body, if it is here.
-#[tactic(auto, using(crate::proofs::ReadBodies::body_inside, crate::proofs::ReadBodies::body_max, crate::proofs::ReadBodies::body_min, crate::proofs::ReadBodies::body_open, crate::proofs::ReadBodies::body_cut))]
+#[tactic(auto, using(crate::proofs::ReadBodies::until_laws))]
 pub fn until(
     words: &[u32],
     place: usize,

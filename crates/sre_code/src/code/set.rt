@@ -71,7 +71,7 @@ fn blocks_below(blocks: &[u32], count: u32) -> bool
 }
 
 /// `<BIGCHARSET> <count> <64 words of block numbers> <8 words of bits for each block>`
-#[tactic(auto, using(crate::proofs::ReadSets::big_exactly, crate::proofs::ReadSets::big_blocks, crate::proofs::ReadSets::big_short, crate::proofs::ReadSets::big_cut, sre_model::proofs::Words::opcode_within))]
+#[tactic(auto, using(crate::proofs::ReadSets::big_charset_laws, sre_model::proofs::Words::opcode_within))]
 fn big_charset(words: &[u32], place: usize) -> Result<usize, CodeError>
     requires { Opcode words.now place SreOpcode.BIGCHARSET }
     ensures { SetItemEnds words.now place result }
@@ -91,7 +91,7 @@ fn big_charset(words: &[u32], place: usize) -> Result<usize, CodeError>
 }
 
 /// Where the set's item at this place ends.
-#[tactic(auto, using(crate::proofs::ReadSets::range_there, crate::proofs::ReadSets::negate_item, crate::proofs::ReadSets::no_item, crate::proofs::ReadSets::no_opcode))]
+#[tactic(auto, using(crate::proofs::ReadSets::item_laws))]
 fn item(words: &[u32], place: usize) -> Result<usize, CodeError>
     ensures { SetItemEnds words.now place result }
 {
@@ -108,7 +108,7 @@ fn item(words: &[u32], place: usize) -> Result<usize, CodeError>
 }
 
 /// Whether a set's items fill the words from `start` to `end`.
-#[tactic(auto, using(crate::proofs::ReadSets::set_stops, crate::proofs::ReadSets::set_past, crate::proofs::ReadSets::set_ends))]
+#[tactic(auto, using(crate::proofs::ReadSets::items_laws))]
 pub fn items(words: &[u32], start: usize, end: usize) -> Result<(), CodeError>
     requires { end ≤ length words.now }
     ensures { SetFills words.now start end result }
