@@ -1,5 +1,6 @@
 -- Where characters begin in bytes, and how many begin before a place.
-use Rattle.std.proofs.Common.{◌≡◌, ℕ, ◌+◌, ◌-◌, ◌/◌, ◌<◌, ◌≤◌, true, false, cond, List, [], ◌∷◌, ◌++◌, length, take, drop, refl, ap, sym, ◌∙◌, arith, inl, inr, count_by, length-append}
+use Rattle.std.proofs.Common.{◌≡◌, ℕ, ◌+◌, ◌-◌, ◌/◌, ◌<◌, ◌≤◌, true, false, cond, inl, inr, refl, ap, sym, ◌∙◌, arith}
+use Rattle.std.proofs.Common.{List, [], ◌∷◌, ◌++◌, length, take, drop, count_by, length-append}
 use Rattle.std.proofs.Math.Seq.{take-add}
 use Rattle.std.proofs.lemmas.List.{take-take}
 use Rattle.std.proofs.lemmas.List.Sums.{sum_by-append, sum_by-take-drop}
@@ -16,15 +17,17 @@ use Rattle.sre_chars.specs.Texts.{begins_char, begun, offset_of}
 -- a block more
 pub begun_block : (bs : List ℕ) (i n : ℕ) → begun bs (i + n) ≡ begun bs i + count_by begins_char (take n (drop i bs))
 begun_block bs i n =
-    ap (count_by begins_char) (take-add i n bs) ∙ sum_by-append (λ b. cond (begins_char b) 1 0) (take i bs) (take n (drop i bs))
+    ap (count_by begins_char) (take-add i n bs)
+    ∙ sum_by-append (λ b. cond (begins_char b) 1 0) (take i bs) (take n (drop i bs))
 
 -- a block less
 pub begun_block_back : (bs : List ℕ) (i n : ℕ) → n ≤ i
     → begun bs i ≡ begun bs (i - n) + count_by begins_char (drop (i - n) (take i bs))
 begun_block_back bs i n h =
     let less : i - n ≤ i = omega arith in
+    let block = drop (i - n) (take i bs) in
     sym (sum_by-take-drop (λ b. cond (begins_char b) 1 0) (take i bs) (i - n))
-    ∙ ap (λ bs'. count_by begins_char bs' + count_by begins_char (drop (i - n) (take i bs))) (take-take (i - n) i bs less)
+    ∙ ap (λ front. count_by begins_char front + count_by begins_char block) (take-take (i - n) i bs less)
 
 -- a first block, and what begins after it
 pub first_block : (bs : List ℕ) (n : ℕ)

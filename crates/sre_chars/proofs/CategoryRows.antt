@@ -1,6 +1,6 @@
 -- Rows of the categories and of the case maps, which the definitions compute.
 use Rattle.std.proofs.Common.{◌≡◌, true, false, [], ◌∷◌, refl}
-use Rattle.sre_chars.specs.Tables.{Table, ascii_table, lower_ascii, upper_ascii, lower_of, upper_of, is_alphanumeric}
+use Rattle.sre_chars.specs.Tables.{Table, ascii_table, table_of, lower_ascii, upper_ascii, lower_of, upper_of, is_alphanumeric}
 use Rattle.sre_chars.specs.Categories.{category}
 
 pub underscore_is_word : (t : Table) → category t 4 95 ≡ true
@@ -38,14 +38,16 @@ characters_that_stay = (refl, refl, refl)
 
 -- a table of É (201) and é (233)
 abbrev pub accented : Table
-accented = record { lower = (201, 233) ∷ []; upper = (233, 201) ∷ []; alnum = (201, 201) ∷ (233, 233) ∷ [] }
+accented = table_of ((201, 233) ∷ []) ((233, 201) ∷ []) ((201, 201) ∷ (233, 233) ∷ [])
 
-pub cases_of_accented : (lower_of accented 201 ≡ 233) × (upper_of accented 233 ≡ 201) × (lower_of accented 202 ≡ 202)
+pub cases_of_accented : (lower_of accented 201 ≡ 233) × (upper_of accented 233 ≡ 201)
+    × (lower_of accented 202 ≡ 202)
 cases_of_accented = (refl, refl, refl)
 
-pub words_of_accented : (category accented 14 233 ≡ true) × (category accented 15 234 ≡ true) × (category accented 4 233 ≡ false)
+pub words_of_accented : (category accented 14 233 ≡ true) × (category accented 15 234 ≡ true)
+    × (category accented 4 233 ≡ false)
 words_of_accented = (refl, refl, refl)
 
 -- a surrogate is never alphanumeric
-pub surrogate_is_no_letter : is_alphanumeric (record { lower = []; upper = []; alnum = (200, 60000) ∷ [] }) 55296 ≡ false
+pub surrogate_is_no_letter : is_alphanumeric (table_of [] [] ((200, 60000) ∷ [])) 55296 ≡ false
 surrogate_is_no_letter = refl

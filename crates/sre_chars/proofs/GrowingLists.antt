@@ -1,5 +1,6 @@
 -- Lists that grow at their end, by entries above all that they have, stay without a fault.
-use Rattle.std.proofs.Common.{◌≡◌, ℕ, ◌+◌, ◌<◌, ◌≤◌, ◌⊎◌, inl, inr, true, Option, Some, None, List, [], ◌∷◌, ◌++◌, refl, arith}
+use Rattle.std.proofs.Common.{◌≡◌, ℕ, ◌+◌, ◌<◌, ◌≤◌, ◌⊎◌, inl, inr, true, refl, arith}
+use Rattle.std.proofs.Common.{Option, Some, None, List, [], ◌∷◌, ◌++◌}
 use Rattle.std.specs.Option.{IfNone, IfSome}
 use Rattle.std.proofs.lemmas.Bool.Decides.{nat_tests}
 use Rattle.std.specs.Char.{IsScalar}
@@ -25,7 +26,8 @@ abbrev pub IsRun : List (ℕ × ℕ) → ℕ → Option (ℕ × ℕ) → Type 0
 IsRun es n None = Unit {0}
 IsRun es n (Some r) = (entry_fault Ranges (next_after Ranges 0 es) r ≡ None) × (r.1 + 1 ≡ n)
 
-next_after-append : (kind : Listing) (next : ℕ) (es : List (ℕ × ℕ)) (e : ℕ × ℕ) → next_after kind next (es ++ e ∷ []) ≡ last_of kind e + 1
+next_after-append : (kind : Listing) (next : ℕ) (es : List (ℕ × ℕ)) (e : ℕ × ℕ)
+    → next_after kind next (es ++ e ∷ []) ≡ last_of kind e + 1
 next_after-append kind next [] e = refl
 next_after-append kind next (x ∷ es) e = next_after-append kind (last_of kind x + 1) es e
 
@@ -50,12 +52,13 @@ pub lawful_in_map : (next from to : ℕ) → is_scalar from ≡ true → is_scal
 lawful_in_map next from to f t a l = grind (arith, nat_tests)
 
 -- a range of one number, above all others
-pub lawful_alone : (next code : ℕ) → is_scalar code ≡ true → 128 ≤ code → next ≤ code → entry_fault Ranges next (code, code) ≡ None
+pub lawful_alone : (next code : ℕ) → is_scalar code ≡ true → 128 ≤ code → next ≤ code
+    → entry_fault Ranges next (code, code) ≡ None
 lawful_alone next code s a l = grind (arith, nat_tests)
 
 -- a range with the number above its end
-pub lawful_longer : (next low high code : ℕ) → entry_fault Ranges next (low, high) ≡ None → is_scalar code ≡ true → high + 1 ≡ code
-    → entry_fault Ranges next (low, code) ≡ None
+pub lawful_longer : (next low high code : ℕ) → entry_fault Ranges next (low, high) ≡ None → is_scalar code ≡ true
+    → high + 1 ≡ code → entry_fault Ranges next (low, code) ≡ None
 lawful_longer next low high code h s e = grind (arith, nat_tests)
 
 scalar_by_cases : (c : ℕ) → (c < 55296) ⊎ ((57344 ≤ c) × (c < 1114112)) → is_scalar c ≡ true
@@ -67,9 +70,11 @@ pub scalar_char : (c : ℕ) → IsScalar c → is_scalar c ≡ true
 scalar_char c h = scalar_by_cases c (scalar_cases c h)
 
 -- a map's list with one entry more
-pub grown_map : (es : List (ℕ × ℕ)) (from to : ℕ) → IsRisingBelow Map es from → is_scalar from ≡ true → is_scalar to ≡ true → 128 ≤ from
-    → IsRisingBelow Map (es ++ (from, to) ∷ []) (from + 1)
-grown_map es from to h f t a = grown Map es (from, to) (from + 1) h.lawful (lawful_in_map (next_after Map 0 es) from to f t a h.below) (omega arith)
+pub grown_map : (es : List (ℕ × ℕ)) (from to : ℕ) → IsRisingBelow Map es from → is_scalar from ≡ true
+    → is_scalar to ≡ true → 128 ≤ from → IsRisingBelow Map (es ++ (from, to) ∷ []) (from + 1)
+grown_map es from to h f t a =
+    let lawful = lawful_in_map (next_after Map 0 es) from to f t a h.below in
+    grown Map es (from, to) (from + 1) h.lawful lawful (omega arith)
 
 -- a run that is a list's next range
 pub grown_ranges : (es : List (ℕ × ℕ)) (r : ℕ × ℕ) (n : ℕ) → IsRisingBelow Ranges es n → IsRun es n (Some r)
@@ -77,8 +82,9 @@ pub grown_ranges : (es : List (ℕ × ℕ)) (r : ℕ × ℕ) (n : ℕ) → IsRis
 grown_ranges es r n h run = let ends = run.1 in grown Ranges es r (n + 1) h.lawful run.0 (omega arith)
 
 -- a run with one number more
-pub longer_run : (es : List (ℕ × ℕ)) (n : ℕ) (run : Option (ℕ × ℕ)) (r : ℕ × ℕ) → IsRisingBelow Ranges es n → IsRun es n run
-    → is_scalar n ≡ true → 128 ≤ n → IfNone run (r ≡ (n, n)) → IfSome run (λ range. r ≡ (range.0, n)) → IsRun es (n + 1) (Some r)
+pub longer_run : (es : List (ℕ × ℕ)) (n : ℕ) (run : Option (ℕ × ℕ)) (r : ℕ × ℕ) → IsRisingBelow Ranges es n
+    → IsRun es n run → is_scalar n ≡ true → 128 ≤ n → IfNone run (r ≡ (n, n)) → IfSome run (λ range. r ≡ (range.0, n))
+    → IsRun es (n + 1) (Some r)
 longer_run es n None r h run s a alone longer = rw alone (lawful_alone (next_after Ranges 0 es) n s a h.below, refl)
 longer_run es n (Some range) r h run s a alone longer =
     rw longer (lawful_longer (next_after Ranges 0 es) range.0 range.1 n run.0 s run.1, refl)

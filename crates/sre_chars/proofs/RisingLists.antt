@@ -1,5 +1,6 @@
 -- Lists without a fault rise, and so a character is looked up at the last entry that begins at it or below.
-use Rattle.std.proofs.Common.{◌≡◌, ℕ, zero, suc, ◌+◌, ◌==◌, ◌<◌, ◌≤◌, Bool, true, false, ◌&&◌, ◌||◌, Option, Some, None, unwrap_or, if◌then◌else◌, List, [], ◌∷◌, length, get_or, refl, arith}
+use Rattle.std.proofs.Common.{◌≡◌, ℕ, zero, suc, ◌+◌, ◌==◌, ◌<◌, ◌≤◌, Bool, true, false, ◌&&◌, ◌||◌, if◌then◌else◌}
+use Rattle.std.proofs.Common.{Option, Some, None, unwrap_or, List, [], ◌∷◌, length, get_or, refl, arith}
 use Rattle.std.specs.Prelude.{nat_le, nat_lt}
 use Rattle.std.specs.Option.{option_or}
 use Rattle.std.specs.List.Sorted.{IsNonDecreasingBy}
@@ -78,7 +79,10 @@ last_up_to-at (e ∷ es) c zero d l below above =
     let rest = last_up_to-none es c d (λ k h. above (suc k) (omega arith) (omega arith)) in
     rw (below 0 (omega arith), rest) refl
 last_up_to-at (e ∷ es) c (suc i) d l below above =
-    let rest = last_up_to-at es c i d (omega arith) (λ k h. below (suc k) (omega arith)) (λ k h m. above (suc k) (omega arith) (omega arith)) in
+    let rest =
+    last_up_to-at es c i d (omega arith) (λ k h. below (suc k) (omega arith))
+    (λ k h m. above (suc k) (omega arith) (omega arith))
+    in
     rw (below 0 (omega arith), rest) refl
 
 -- what a character is mapped to by the entry where it is looked up
@@ -91,7 +95,8 @@ abbrev pub reaches : Option (ℕ × ℕ) → ℕ → Bool
 reaches None c = false
 reaches (Some e) c = nat_le c e.1
 
-image_of_both : (e : ℕ × ℕ) (es : List (ℕ × ℕ)) (c : ℕ) (o : Option (ℕ × ℕ)) → mapped es c ≡ image_by o c → (c < e.0 + 1 → o ≡ None)
+image_of_both : (e : ℕ × ℕ) (es : List (ℕ × ℕ)) (c : ℕ) (o : Option (ℕ × ℕ))
+    → mapped es c ≡ image_by o c → (c < e.0 + 1 → o ≡ None)
     → (if e.0 == c then e.1 else mapped es c) ≡ image_by (if nat_le e.0 c then Some (unwrap_or o e) else None) c
 image_of_both e es c None rest beyond = grind (arith, nat_tests)
 image_of_both e es c (Some x) rest beyond = grind (arith, nat_tests)
@@ -105,7 +110,8 @@ mapped-last_up_to next (e ∷ es) c h =
     let beyond : c < e.0 + 1 → last_up_to es c ≡ None = none_up_to Map (e.0 + 1) es c head.1 in
     image_of_both e es c (last_up_to es c) rest beyond
 
-reach_of_both : (e : ℕ × ℕ) (es : List (ℕ × ℕ)) (c : ℕ) (o : Option (ℕ × ℕ)) → is_in_ranges es c ≡ reaches o c → e.0 ≤ e.1 → (c < e.1 + 1 → o ≡ None)
+reach_of_both : (e : ℕ × ℕ) (es : List (ℕ × ℕ)) (c : ℕ) (o : Option (ℕ × ℕ))
+    → is_in_ranges es c ≡ reaches o c → e.0 ≤ e.1 → (c < e.1 + 1 → o ≡ None)
     → (is_between e.0 e.1 c || is_in_ranges es c) ≡ reaches (if nat_le e.0 c then Some (unwrap_or o e) else None) c
 reach_of_both e es c None rest rises beyond = grind (arith, nat_tests)
 reach_of_both e es c (Some x) rest rises beyond = grind (arith, nat_tests)
@@ -141,12 +147,15 @@ pub record AreLawful (t : Table) : Type 0 where
 
 pub lawful_lists : (t : Table) → table_fault t ≡ None → AreLawful t
 lawful_lists t h =
-    let first = both_none (list_fault Map 0 t.lower) (option_or (list_fault Map 0 t.upper) (list_fault Ranges 0 t.alnum)) h in
-    let second = both_none (list_fault Map 0 t.upper) (list_fault Ranges 0 t.alnum) first.1 in
+    let upper = list_fault Map 0 t.upper in
+    let alnum = list_fault Ranges 0 t.alnum in
+    let first = both_none (list_fault Map 0 t.lower) (option_or upper alnum) h in
+    let second = both_none upper alnum first.1 in
     record { lower = first.0; upper = second.0; alnum = second.1 }
 
 -- past ASCII the ranges alone decide
-pub is_alphanumeric-past_ascii : (t : Table) (c : ℕ) → table_fault t ≡ None → 128 ≤ c → is_alphanumeric t c ≡ is_in_ranges t.alnum c
+pub is_alphanumeric-past_ascii : (t : Table) (c : ℕ) → table_fault t ≡ None → 128 ≤ c
+    → is_alphanumeric t c ≡ is_in_ranges t.alnum c
 is_alphanumeric-past_ascii t c h l =
     let past : nat_lt c 128 ≡ false = grind (arith, nat_tests) in
     rw past (is_scalar-in_ranges 0 t.alnum c (lawful_lists t h).alnum)

@@ -10,7 +10,8 @@ pub unreachable-requires : goal.unreachable-requires
 unreachable-requires c =
     let at = c.offset.ensures ∙ c.requires.at.1 in
     let front = c.chars-front.ensures.rest ∙ c.split_at.ensures.front ∙ ap (λ n. take n c.args.s.now) at in
-    omega (arith, some_before _ _ c.utf8.s c.requires.after_start c.requires.at.2, ap length front, c.in-None.ensures.steps.0)
+    let some = some_before _ _ c.utf8.s c.requires.after_start c.requires.at.2 in
+    omega (arith, some, ap length front, c.in-None.ensures.steps.0)
 
 pub returns : goal.returns
 returns c =

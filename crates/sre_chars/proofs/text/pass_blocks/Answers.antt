@@ -10,4 +10,5 @@ blocks-2-preserved c =
     let block = c.in-Some.ensures.cases.0 ∙ ap (take 64) rest in
     let counted = c.beginnings_in_block-n.ensures.value ∙ ap (count_by begins_char) block in
     let more = begun_block c.args.bytes.now c.blocks-2.offset 64 in
-    (omega (arith, c.in-Some.ensures.cases.2, ap length rest, length-drop c.blocks-2.offset c.args.bytes.now), omega (arith, counted, more))
+    let left = length-drop c.blocks-2.offset c.args.bytes.now in
+    (omega (arith, c.in-Some.ensures.cases.2, ap length rest, left), omega (arith, counted, more))

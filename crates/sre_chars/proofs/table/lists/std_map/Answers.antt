@@ -10,7 +10,8 @@ loop-from-preserved g c =
       | in-Some+then-to-ch+in_ok-push w ↦
           let scalar = scalar_char c.loop-from.from w.in-Some.ensures.value.0 in
           rw (w.entries-is, w.in_ok-push.ensures.items)
-          (grown_map c.loop-from.entries.items c.loop-from.from w.in_case-to.result kept scalar w.in_case-to.ensures.scalar c.loop-from.auto.from)
+          (grown_map c.loop-from.entries.items c.loop-from.from w.in_case-to.result kept scalar
+          w.in_case-to.ensures.scalar c.loop-from.auto.from)
       | in-Some+else-to-ch w ↦ rw w.entries-is (record { lawful = kept.lawful; below = omega arith })
       | in_default w ↦ rw w.entries-is (record { lawful = kept.lawful; below = omega arith })
     ]

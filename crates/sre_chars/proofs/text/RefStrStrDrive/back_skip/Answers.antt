@@ -5,11 +5,13 @@ use Rattle.sre_chars.proofs.text.RefStrStrDrive.back_skip.Goals as goal
 
 pub pass_blocks_back-offset-requires : goal.pass_blocks_back-offset-requires
 pass_blocks_back-offset-requires c =
-    (place_in _ _ _ _ c.as_bytes-bytes.ensures.value c.as_bytes-bytes.ensures.utf8 (c.offset.ensures ∙ c.requires.at.1) c.requires.at.2).in_bounds
+    let bytes = c.as_bytes-bytes.ensures in
+    (place_in _ _ _ _ bytes.value bytes.utf8 (c.offset.ensures ∙ c.requires.at.1) c.requires.at.2).in_bounds
 
 pub pass_bytes_back-start-requires : goal.pass_bytes_back-start-requires
 pass_bytes_back-start-requires c =
-    let from = place_in _ _ _ _ c.as_bytes-bytes.ensures.value c.as_bytes-bytes.ensures.utf8 (c.offset.ensures ∙ c.requires.at.1) c.requires.at.2 in
+    let bytes = c.as_bytes-bytes.ensures in
+    let from = place_in _ _ _ _ bytes.value bytes.utf8 (c.offset.ensures ∙ c.requires.at.1) c.requires.at.2 in
     let passed = c.pass_blocks_back-offset.ensures in
     record {
       in_bounds = omega (arith, from.in_bounds, passed.in_bounds);
@@ -19,10 +21,9 @@ pass_bytes_back-start-requires c =
 
 pub returns : goal.returns
 returns c =
-    let text = c.as_bytes-bytes.ensures.value in
-    let utf8 = c.as_bytes-bytes.ensures.utf8 in
-    let from = place_in _ _ _ _ text utf8 (c.offset.ensures ∙ c.requires.at.1) c.requires.at.2 in
-    let to = place_at _ _ _ (c.args.cursor.now.position - c.args.n) text utf8 c.pass_bytes_back-start.ensures.at
+    let bytes = c.as_bytes-bytes.ensures in
+    let from = place_in _ _ _ _ bytes.value bytes.utf8 (c.offset.ensures ∙ c.requires.at.1) c.requires.at.2 in
+    let to = place_at _ _ _ (c.args.cursor.now.position - c.args.n) bytes.value bytes.utf8 c.pass_bytes_back-start.ensures.at
     (omega (arith, from.begun_before, c.pass_blocks_back-offset.ensures.passed, c.pass_bytes_back-start.ensures.passed))
     in
     (omega arith, c.new.ensures.offset ∙ to.0, to.1)

@@ -4,24 +4,26 @@ use Rattle.sre_chars.proofs.text.RefStrStrDrive.skip.Goals as goal
 
 pub pass_blocks-offset-requires : goal.pass_blocks-offset-requires
 pass_blocks-offset-requires c =
-    (place_in _ _ _ _ c.as_bytes-bytes.ensures.value c.as_bytes-bytes.ensures.utf8 (c.offset.ensures ∙ c.requires.at.1) c.requires.at.2).in_bounds
+    let bytes = c.as_bytes-bytes.ensures in
+    (place_in _ _ _ _ bytes.value bytes.utf8 (c.offset.ensures ∙ c.requires.at.1) c.requires.at.2).in_bounds
 
 pub pass_bytes-end-requires-clause-within : goal.pass_bytes-end-requires-clause-within
 pass_bytes-end-requires-clause-within c =
-    let from = place_in _ _ _ _ c.as_bytes-bytes.ensures.value c.as_bytes-bytes.ensures.utf8 (c.offset.ensures ∙ c.requires.at.1) c.requires.at.2 in
+    let bytes = c.as_bytes-bytes.ensures in
+    let from = place_in _ _ _ _ bytes.value bytes.utf8 (c.offset.ensures ∙ c.requires.at.1) c.requires.at.2 in
     omega (arith, from.begun_before, from.begun_in_all, c.pass_blocks-offset.ensures.passed)
 
 pub overflow_add-position : goal.overflow_add-position
 overflow_add-position c =
-    let from = place_in _ _ _ _ c.as_bytes-bytes.ensures.value c.as_bytes-bytes.ensures.utf8 (c.offset.ensures ∙ c.requires.at.1) c.requires.at.2 in
+    let bytes = c.as_bytes-bytes.ensures in
+    let from = place_in _ _ _ _ bytes.value bytes.utf8 (c.offset.ensures ∙ c.requires.at.1) c.requires.at.2 in
     omega (arith, from.few)
 
 pub returns : goal.returns
 returns c =
-    let text = c.as_bytes-bytes.ensures.value in
-    let utf8 = c.as_bytes-bytes.ensures.utf8 in
-    let from = place_in _ _ _ _ text utf8 (c.offset.ensures ∙ c.requires.at.1) c.requires.at.2 in
-    let to = place_at _ _ _ (c.args.cursor.now.position + c.args.n) text utf8 c.pass_bytes-end.ensures.at
+    let bytes = c.as_bytes-bytes.ensures in
+    let from = place_in _ _ _ _ bytes.value bytes.utf8 (c.offset.ensures ∙ c.requires.at.1) c.requires.at.2 in
+    let to = place_at _ _ _ (c.args.cursor.now.position + c.args.n) bytes.value bytes.utf8 c.pass_bytes-end.ensures.at
     (omega (arith, from.begun_before, c.pass_blocks-offset.ensures.passed, c.pass_bytes-end.ensures.passed))
     in
     (omega arith, c.new.ensures.offset ∙ to.0, to.1)
