@@ -3,21 +3,21 @@ use Rattle.std.proofs.Common.{◌≡◌, ℕ, suc, ◌+◌, ◌-◌, ◌≤◌, 
 use Rattle.std.proofs.lemmas.List.{append-nil}
 use Rattle.sre_chars.specs.declared.constants.SreOpcode.{SreOpcode}
 use Rattle.sre_chars.specs.declared.string.StringCursor.{StringCursor}
-use Rattle.sre_model.specs.Tree.{Test, Order, Sign}
+use Rattle.sre_model.specs.Tree.{Test, Order, RunKind, Sign}
 use Rattle.sre_model.specs.Marks.{Marks}
 use Rattle.sre_model.specs.Subject.{Subject}
 use Rattle.sre_model.specs.Ways.{Way}
-use Rattle.sre_model.specs.Grammar.{Word, Opcode}
+use Rattle.sre_model.specs.Grammar.{Word, Opcode, skip}
 use Rattle.sre_model.specs.Board.{Choice, Else, Keep, choice, from_region, BoardValue}
 use Rattle.sre_model.specs.declared.Frame.{Frame}
 use Rattle.sre_model.specs.declared.Region.{Region}
 use Rattle.sre_model.specs.declared.Point.TheVariants.{Instruction, Alternatives, Shorter, Longer, Inside}
 use Rattle.sre_model.specs.declared.Point.{Point}
 use Rattle.sre_model.specs.Moves.{Spot, spot_at, Move, Stop, End, Go, Split, Enter, TestMove, AtMove, MarkMove, AlternativesMove}
-use Rattle.sre_model.specs.MovesInRuns.{RunOperands, RunMove, LongestRunMove, LazyRunMove, LongerMove}
+use Rattle.sre_model.specs.MovesInRuns.{RunOperands, run_turn, RunMove, LongerMove}
 use Rattle.sre_model.specs.MovesInLoops.{UntilMove}
 use Rattle.sre_model.specs.MovesInRegions.{LookMove}
-use Rattle.sre_model.specs.Machine.{Family, family, Failing, Ending, Testing, Standing, Marking, Branching, Jumping, Running, RunningLazily, RunningLongest, Repeating, Looping, Grouping, Looking, Unbuilt, InFamily, Moves, MovesAt, Runs, turns, Comes, stops, ends, goes, splits, enters, Run, Waits, otherwise, kept, Goes, GoesBoth, Later, spot, HasRun, IsAt, Refuses}
+use Rattle.sre_model.specs.Machine.{Family, family, Failing, Ending, Testing, Standing, Marking, Branching, Jumping, Running, Repeating, Looping, Grouping, Looking, Unbuilt, InFamily, Moves, MovesAt, Runs, turns, Comes, stops, ends, goes, splits, enters, Run, Waits, otherwise, kept, Goes, GoesBoth, Later, spot, HasRun, IsAt, Refuses}
 use Rattle.sre_model.specs.declared.Next.TheVariants as next
 use Rattle.sre_model.proofs.Words.{same_word, same_opcode, same_at}
 use Rattle.sre_model.proofs.Unique.{test_same}
@@ -45,21 +45,13 @@ same_operands ws i low high end low' high' end' t u h k = (
   (test_same t u ws (i + 4) end end' h.stands.code h.stands.operands k.stands.code k.stands.operands).0,
 )
 
-same_run : (ws : List ℕ) (s : Subject) (i : ℕ) (x : Spot) (a b : Move) → RunMove ws s i x a → RunMove ws s i x b → a ≡ b
-same_run ws s i x a b h k =
+same_run : (ws : List ℕ) (s : Subject) (kind : RunKind) (i : ℕ) (x : Spot) (a b : Move) → RunMove ws s kind i x a → RunMove ws s kind i x b → a ≡ b
+same_run ws s kind i x a b h k =
     let same = same_operands ws i h.low h.high h.end k.low k.high k.end h.test k.test h.operands k.operands in
-    h.is ∙ rw (same.0, same.1, same.2) (sym k.is)
-
-same_longest_run : (ws : List ℕ) (s : Subject) (i : ℕ) (x : Spot) (a b : Move) →
-    LongestRunMove ws s i x a → LongestRunMove ws s i x b → a ≡ b
-same_longest_run ws s i x a b h k =
-    let same = same_operands ws i h.low h.high h.end k.low k.high k.end h.test k.test h.operands k.operands in
-    h.is ∙ rw (same.0, same.1, same.2) (sym k.is)
-
-same_lazy_run : (ws : List ℕ) (s : Subject) (i : ℕ) (x : Spot) (a b : Move) → LazyRunMove ws s i x a → LazyRunMove ws s i x b → a ≡ b
-same_lazy_run ws s i x a b h k =
-    let same = same_operands ws i h.low h.high h.end k.low k.high k.end h.test k.test h.operands k.operands in
-    h.is ∙ rw (same.0, same.2) (sym k.is)
+    let turn = λ (low high : ℕ) (t : Test). run_turn kind s i (skip ws (i + 1)) low high t x in
+    let low : turn h.low h.high h.test ≡ turn k.low h.high h.test = ap (λ n. turn n h.high h.test) same.0 in
+    let high : turn k.low h.high h.test ≡ turn k.low k.high h.test = ap (λ n. turn k.low n h.test) same.1 in
+    h.is ∙ low ∙ high ∙ ap (λ t. turn k.low k.high t) same.2 ∙ sym k.is
 
 same_longer : (ws : List ℕ) (s : Subject) (i n : ℕ) (x : Spot) (a b : Move) → LongerMove ws s i n x a → LongerMove ws s i n x b → a ≡ b
 same_longer ws s i n x a b h k =
@@ -86,9 +78,7 @@ same_in ws s Standing i x a b h k = same_at_code ws s i x a b h k
 same_in ws s Marking i x a b h k = same_mark ws i x a b h k
 same_in ws s Branching i x a b h k = h ∙ sym k
 same_in ws s Jumping i x a b h k = h.is ∙ sym k.is
-same_in ws s Running i x a b h k = same_run ws s i x a b h k
-same_in ws s RunningLazily i x a b h k = same_lazy_run ws s i x a b h k
-same_in ws s RunningLongest i x a b h k = same_longest_run ws s i x a b h k
+same_in ws s (Running kind) i x a b h k = same_run ws s kind i x a b h k
 same_in ws s Repeating i x a b h k = h.is ∙ sym k.is
 same_in ws s (Looping o) i x a b h k = same_until ws o i x a b h k
 same_in ws s Grouping i x a b h k = h.is ∙ sym k.is

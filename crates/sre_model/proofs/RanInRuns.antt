@@ -12,7 +12,7 @@ use Rattle.sre_model.specs.declared.Point.TheVariants.{Instruction, Shorter, Lon
 use Rattle.sre_model.specs.Standing.{TestStands}
 use Rattle.sre_model.specs.Moves.{Spot, spot_at, Stop, Split, Go}
 use Rattle.sre_model.specs.MovesInRuns.{RunOperands}
-use Rattle.sre_model.specs.Machine.{Running, RunningLazily, Moves, Runs, turns, stops, splits, RunningLongest, goes}
+use Rattle.sre_model.specs.Machine.{Running, Moves, Runs, turns, stops, splits, goes}
 use Rattle.sre_model.proofs.Moving.{at_instruction}
 use Rattle.sre_model.proofs.Bounds.{longest_run-fits}
 use Rattle.sre_model.proofs.Longest.{goes_on, longest_goes_on, longest_stops, least_there, least_short}
@@ -43,7 +43,7 @@ run-ran ws s i j low high t w tail wl wh wt h fs K C p m e f = go (nat_lt (longe
     go : (y : Bool) → nat_lt k low ≡ y → Runs ws s (spot_at (Instruction i) fs p m) (followed K (map (λ n. record { stop = p + n; marks = m }) (falling low (k + 1 - low)))) (cond y 1 (suc (suc (C (p + k) m + shorter_cost C low (k - low) p m))))
     go true y =
         let l : k < low = grind (arith, nat_tests) in let z : k + 1 - low ≡ 0 = omega arith in
-        let move : Moves ws s (spot_at (Instruction i) fs p m) Stop = at_instruction opcode.REPEAT_ONE Running refl w (record { low = low; high = high; end = j - 1; test = t; operands = record { lowest = wl; highest = wh; stands = st }; is = rw y refl }) in
+        let move : Moves ws s (spot_at (Instruction i) fs p m) Stop = at_instruction opcode.REPEAT_ONE (Running GreedyRun) refl w (record { low = low; high = high; end = j - 1; test = t; operands = record { lowest = wl; highest = wh; stands = st }; is = rw y refl }) in
         rw z (turns Stop move stops)
     go false y =
         let l : low ≤ k = grind (arith, nat_tests) in
@@ -52,7 +52,7 @@ run-ran ws s i j low high t w tail wl wh wt h fs K C p m e f = go (nat_lt (longe
         let others : Runs ws s (spot_at (Shorter j (k - low)) fs (p + k) m) (followed K (map (λ c. record { stop = p + c; marks = m }) (falling low (k - low)))) (shorter_cost C low (k - low) p m) =
         rw b at (shorter-ran ws s j low (k - low) fs K C p m (omega (arith, fits)) f) in
         let move : Moves ws s (spot_at (Instruction i) fs p m) (Split (spot_at (Instruction j) fs (p + k) m) (spot_at (Shorter j (k - low)) fs (p + k) m)) =
-        at_instruction opcode.REPEAT_ONE Running refl w (record { low = low; high = high; end = j - 1; test = t; operands = record { lowest = wl; highest = wh; stands = st }; is = rw (y, ← tail) refl }) in
+        at_instruction opcode.REPEAT_ONE (Running GreedyRun) refl w (record { low = low; high = high; end = j - 1; test = t; operands = record { lowest = wl; highest = wh; stands = st }; is = rw (y, ← tail) refl }) in
         rw (d, b) (turns (Split (spot_at (Instruction j) fs (p + k) m) (spot_at (Shorter j (k - low)) fs (p + k) m)) move (splits (f (p + k) m (omega arith) fits) others))
 
 -- the longer counts of a lazy run, behind c characters of it
@@ -85,7 +85,7 @@ lazy-run-ran ws s i j low high t w tail wl wh le wt h fs K C p m e f = go (nat_l
         let l : k < low = grind (arith, nat_tests) in
         let z : k + 1 - low ≡ 0 = omega arith in
         let short : run_length s t low p ≡ k = least_short s t high p e low le l in
-        let move : Moves ws s (spot_at (Instruction i) fs p m) Stop = at_instruction opcode.MIN_REPEAT_ONE RunningLazily refl w (record { low = low; high = high; end = j - 1; test = t; operands = o; is = rw (short, y) refl }) in
+        let move : Moves ws s (spot_at (Instruction i) fs p m) Stop = at_instruction opcode.MIN_REPEAT_ONE (Running LazyRun) refl w (record { low = low; high = high; end = j - 1; test = t; operands = o; is = rw (short, y) refl }) in
         rw z (turns Stop move stops)
     go false y =
         let l : low ≤ k = grind (arith, nat_tests) in
@@ -94,7 +94,7 @@ lazy-run-ran ws s i j low high t w tail wl wh le wt h fs K C p m e f = go (nat_l
         let there : run_length s t low p ≡ low = least_there s t high p e low l in
         let enough : nat_lt low low ≡ false = grind (arith, nat_tests) in
         let move : Moves ws s (spot_at (Instruction i) fs p m) (Split (spot_at (Instruction j) fs (p + low) m) (spot_at (Longer i low) fs (p + low) m)) =
-        at_instruction opcode.MIN_REPEAT_ONE RunningLazily refl w (record { low = low; high = high; end = j - 1; test = t; operands = o; is = rw (there, enough, ← tail) refl }) in
+        at_instruction opcode.MIN_REPEAT_ONE (Running LazyRun) refl w (record { low = low; high = high; end = j - 1; test = t; operands = o; is = rw (there, enough, ← tail) refl }) in
         rw d (turns (Split (spot_at (Instruction j) fs (p + low) m) (spot_at (Longer i low) fs (p + low) m)) move
         (splits (f (p + low) m (omega arith) (omega (arith, fits))) (longer-ran ws s i j low high t (k - low) low fs K C p m tail o e (omega (arith, l)) f)))
 
@@ -118,12 +118,12 @@ longest-run-ran ws s i j low high t w tail o fs K C p m e f = go (nat_lt k low) 
         (cond y 1 (suc (C (p + k) m)))
     go true y =
         let few : nat_le low k ≡ false = grind (arith, nat_tests) in
-        let move : Moves ws s x Stop = at_instruction opcode.POSSESSIVE_REPEAT_ONE RunningLongest refl w
+        let move : Moves ws s x Stop = at_instruction opcode.POSSESSIVE_REPEAT_ONE (Running PossessiveRun) refl w
         (record { low = low; high = high; end = j - 1; test = t; operands = o; is = rw y refl }) in
         rw few (turns Stop move stops)
     go false y =
         let enough : nat_le low k ≡ true = grind (arith, nat_tests) in
         let there : Spot = spot_at (Instruction j) fs (p + k) m in
-        let move : Moves ws s x (Go there) = at_instruction opcode.POSSESSIVE_REPEAT_ONE RunningLongest refl w
+        let move : Moves ws s x (Go there) = at_instruction opcode.POSSESSIVE_REPEAT_ONE (Running PossessiveRun) refl w
         (record { low = low; high = high; end = j - 1; test = t; operands = o; is = rw (y, ← tail) refl }) in
         rw enough (turns (Go there) move (goes (alone (f (p + k) m (omega arith) fits))))

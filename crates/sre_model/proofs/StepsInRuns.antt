@@ -3,18 +3,18 @@ use Rattle.std.proofs.Common.{◌≡◌, ℕ, suc, ◌+◌, ◌-◌, ◌<◌, �
 use Rattle.std.proofs.lemmas.Bool.Decides.{nat_tests}
 use Rattle.sre_chars.specs.declared.constants.SreOpcode.TheVariants as opcode
 use Rattle.sre_chars.specs.declared.string.StringCursor.{StringCursor}
-use Rattle.sre_model.specs.Tree.{Test}
+use Rattle.sre_model.specs.Tree.{Test, RunKind, GreedyRun, LazyRun, PossessiveRun}
 use Rattle.sre_model.specs.Marks.{Marks}
 use Rattle.sre_model.specs.Subject.{passes, char_at}
 use Rattle.sre_model.specs.Characters.{holds}
 use Rattle.sre_model.specs.Ways.{Way, unlimited, run_length, longest_run}
-use Rattle.sre_model.specs.Grammar.{Word, word, Opcode, skip, test_opcode}
+use Rattle.sre_model.specs.Grammar.{Word, word, Opcode, skip, test_opcode, run_opcode}
 use Rattle.sre_model.specs.Board.{BoardValue}
 use Rattle.sre_model.specs.declared.Frame.{Frame}
 use Rattle.sre_model.specs.declared.Point.TheVariants.{Instruction, Shorter, Longer}
 use Rattle.sre_model.specs.Moves.{spot_at, Stop, Split, Go}
 use Rattle.sre_model.specs.MovesInRuns.{RunOperands}
-use Rattle.sre_model.specs.Machine.{Running, RunningLazily, Moves, Runs, turns, Run, Goes, GoesBoth, Later, spot, HasRun, RunningLongest}
+use Rattle.sre_model.specs.Machine.{family, Running, Moves, Runs, turns, Run, Goes, GoesBoth, Later, spot, HasRun}
 use Rattle.sre_model.specs.Standing.{TestStands, HasTest}
 use Rattle.sre_model.specs.declared.Next.TheVariants as next
 use Rattle.sre_model.proofs.Words.{word_of, word_there, opcode_within}
@@ -54,15 +54,21 @@ shorter_run r t k j c c' e place there x =
 pub shorter_last : (r : Run) (i t k : ℕ) (c : StringCursor) (b : BoardValue) → k ≡ 0 → (all : List Way) (limit : ℕ) → GoesBoth r all limit (spot (Instruction i) c b) (spot (Shorter t k) c b) c b.choices → Later r all limit (next.At i c) b
 shorter_last r i t k c b e = both_last r i (spot (Shorter t k) c b) c b (shorter_stop r t k c.position b.frames b.marks e)
 
--- REPEAT_ONE: the words that stand behind it
+-- a run: the words that stand behind its opcode
 pub record RunWords (ws : List ℕ) (i : ℕ) : Type 0 where
   pub operands : i + 4 < length ws
   pub test : HasTest ws (i + 4)
 
-pub run_there : (r : Run) (i : ℕ) (c : StringCursor) → Opcode r.words i opcode.REPEAT_ONE → HasRun r (Instruction i) c → RunWords r.words i
-run_there r i c w x =
-    let h = (in_family opcode.REPEAT_ONE Running refl w x.runs).1 in
-    record { operands = opcode_within r.words (i + 4) (test_opcode h.test) h.operands.stands.code; test = record { end = h.end; test = h.test; stands = h.operands.stands } }
+run_family : (kind : RunKind) → family (run_opcode kind) ≡ Running kind
+run_family GreedyRun = refl
+run_family LazyRun = refl
+run_family PossessiveRun = refl
+
+pub run_there : (r : Run) (kind : RunKind) (i : ℕ) (c : StringCursor) → Opcode r.words i (run_opcode kind) → HasRun r (Instruction i) c → RunWords r.words i
+run_there r kind i c w x =
+    let h = (in_family (run_opcode kind) (Running kind) (run_family kind) w x.runs).1 in
+    let test : HasTest r.words (i + 4) = record { end = h.end; test = h.test; stands = h.operands.stands } in
+    record { operands = opcode_within r.words (i + 4) (test_opcode h.test) h.operands.stands.code; test = test }
 
 -- how long the run is, whatever test stands there
 abbrev pub CountsRun : Run → ℕ → ℕ → ℕ → ℕ → Type 0
@@ -72,14 +78,14 @@ pub run_short : (r : Run) (i low high count : ℕ) (c : StringCursor) (b : Board
 run_short r i low high count c b w t wl wh k l =
     let longest : longest_run r.subject t.test high c.position ≡ count = sym (k t.end t.test t.stands) in
     let short : nat_lt count low ≡ true = grind (arith, nat_tests) in
-    turn_stops r (Instruction i) c b (at_instruction opcode.REPEAT_ONE Running refl w (record { low = low; high = high; end = t.end; test = t.test; operands = record { lowest = wl; highest = wh; stands = t.stands }; is = rw (longest, short) refl }))
+    turn_stops r (Instruction i) c b (at_instruction opcode.REPEAT_ONE (Running GreedyRun) refl w (record { low = low; high = high; end = t.end; test = t.test; operands = record { lowest = wl; highest = wh; stands = t.stands }; is = rw (longest, short) refl }))
 
 module _ (r : Run) (i v low high count : ℕ) (c after : StringCursor) (w : Opcode r.words i opcode.REPEAT_ONE) (t : HasTest r.words (i + 4)) (wv : Word r.words (i + 1) v) (wl : Word r.words (i + 2) low) (wh : Word r.words (i + 3) high) (k : CountsRun r i high c.position count) (l : low ≤ count) (moved_on : after.position ≡ c.position + count) (there : r.stands after after.position) where
   run_moves : (fs : List Frame) (m : Marks) → Moves r.words r.subject (spot_at (Instruction i) fs c.position m) (Split (spot_at (Instruction (i + 1 + v)) fs after.position m) (spot_at (Shorter (i + 1 + v) (count - low)) fs after.position m))
   run_moves fs m =
       let longest : longest_run r.subject t.test high c.position ≡ count = sym (k t.end t.test t.stands) in
       let enough : nat_lt count low ≡ false = grind (arith, nat_tests) in
-      at_instruction opcode.REPEAT_ONE Running refl w (record { low = low; high = high; end = t.end; test = t.test; operands = record { lowest = wl; highest = wh; stands = t.stands }; is = rw (longest, enough, moved_on, word_of r.words (i + 1) v wv) refl })
+      at_instruction opcode.REPEAT_ONE (Running GreedyRun) refl w (record { low = low; high = high; end = t.end; test = t.test; operands = record { lowest = wl; highest = wh; stands = t.stands }; is = rw (longest, enough, moved_on, word_of r.words (i + 1) v wv) refl })
 
   pub run_both : (b : BoardValue) (all : List Way) (limit : ℕ) → Goes r all limit (Instruction i) c b → GoesBoth r all limit (spot (Instruction (i + 1 + v)) after b) (spot (Shorter (i + 1 + v) (count - low)) after b) after b.choices
   run_both b all limit g = turn_splits r (Instruction i) c b (spot (Instruction (i + 1 + v)) after b) (spot (Shorter (i + 1 + v) (count - low)) after b) after (run_moves b.frames b.marks) there all limit g
@@ -90,13 +96,6 @@ module _ (r : Run) (i v low high count : ℕ) (c after : StringCursor) (w : Opco
       (has_run r (Instruction (i + 1 + v)) x.frames x.marks after there s.0, has_run r (Shorter (i + 1 + v) (count - low)) x.frames x.marks after there s.1)
 
 -- POSSESSIVE_REPEAT_ONE
-pub longest_there : (r : Run) (i : ℕ) (c : StringCursor) → Opcode r.words i opcode.POSSESSIVE_REPEAT_ONE →
-    HasRun r (Instruction i) c → RunWords r.words i
-longest_there r i c w x =
-    let h = (in_family opcode.POSSESSIVE_REPEAT_ONE RunningLongest refl w x.runs).1 in
-    let test : HasTest r.words (i + 4) = record { end = h.end; test = h.test; stands = h.operands.stands } in
-    record { operands = opcode_within r.words (i + 4) (test_opcode h.test) h.operands.stands.code; test = test }
-
 module _ (r : Run) (i low high count : ℕ) (c : StringCursor) (b : BoardValue)
     (w : Opcode r.words i opcode.POSSESSIVE_REPEAT_ONE) (t : HasTest r.words (i + 4)) (wl : Word r.words (i + 2) low)
     (wh : Word r.words (i + 3) high) (k : CountsRun r i high c.position count) where
@@ -110,7 +109,7 @@ module _ (r : Run) (i low high count : ℕ) (c : StringCursor) (b : BoardValue)
       Later r all limit next.Back b
   longest_short l =
       let short : nat_lt count low ≡ true = grind (arith, nat_tests) in
-      turn_stops r (Instruction i) c b (at_instruction opcode.POSSESSIVE_REPEAT_ONE RunningLongest refl w
+      turn_stops r (Instruction i) c b (at_instruction opcode.POSSESSIVE_REPEAT_ONE (Running PossessiveRun) refl w
       (record { low = low; high = high; end = t.end; test = t.test; operands = longest_operands; is = rw (longest_is, short) refl }))
 
   pub longest_step : (v : ℕ) (after : StringCursor) → Word r.words (i + 1) v → low ≤ count →
@@ -119,7 +118,7 @@ module _ (r : Run) (i low high count : ℕ) (c : StringCursor) (b : BoardValue)
   longest_step v after wv l moved_on there all limit g =
       let enough : nat_lt count low ≡ false = grind (arith, nat_tests) in
       let move : Moves r.words r.subject (spot (Instruction i) c b) (Go (spot (Instruction (i + 1 + v)) after b)) =
-      at_instruction opcode.POSSESSIVE_REPEAT_ONE RunningLongest refl w (record {
+      at_instruction opcode.POSSESSIVE_REPEAT_ONE (Running PossessiveRun) refl w (record {
         low = low;
         high = high;
         end = t.end;
@@ -129,12 +128,7 @@ module _ (r : Run) (i low high count : ℕ) (c : StringCursor) (b : BoardValue)
       }) in
       turn_goes r (Instruction i) c b (Instruction (i + 1 + v)) after b move there refl all limit g
 
--- MIN_REPEAT_ONE: the words that stand behind it
-pub lazy_there : (r : Run) (i : ℕ) (c : StringCursor) → Opcode r.words i opcode.MIN_REPEAT_ONE → HasRun r (Instruction i) c → RunWords r.words i
-lazy_there r i c w x =
-    let h = (in_family opcode.MIN_REPEAT_ONE RunningLazily refl w x.runs).1 in
-    record { operands = opcode_within r.words (i + 4) (test_opcode h.test) h.operands.stands.code; test = record { end = h.end; test = h.test; stands = h.operands.stands } }
-
+-- MIN_REPEAT_ONE
 operands_of : (ws : List ℕ) (i low high : ℕ) (t : HasTest ws (i + 4)) → Word ws (i + 2) low → Word ws (i + 3) high → RunOperands ws i low high t.end t.test
 operands_of ws i low high t wl wh = record { lowest = wl; highest = wh; stands = t.stands }
 
@@ -149,7 +143,7 @@ module _ (r : Run) (i low : ℕ) (c : StringCursor) (w : Opcode r.words i opcode
   lazy_stops : (b : BoardValue) → run_length r.subject h.test.test low c.position < low → (all : List Way) (limit : ℕ) → Goes r all limit (Instruction i) c b → Later r all limit next.Back b
   lazy_stops b l =
       let short : nat_lt (run_length r.subject h.test.test low c.position) low ≡ true = grind (arith, nat_tests) in
-      turn_stops r (Instruction i) c b (at_instruction opcode.MIN_REPEAT_ONE RunningLazily refl w (record { low = low; high = word r.words (i + 3); end = h.test.end; test = h.test.test; operands = lazy_operands; is = rw short refl }))
+      turn_stops r (Instruction i) c b (at_instruction opcode.MIN_REPEAT_ONE (Running LazyRun) refl w (record { low = low; high = word r.words (i + 3); end = h.test.end; test = h.test.test; operands = lazy_operands; is = rw short refl }))
 
   -- the window is too short, or a character does not pass
   pub lazy_cut : (b : BoardValue) → r.subject.end - c.position < low → (all : List Way) (limit : ℕ) → Goes r all limit (Instruction i) c b → Later r all limit next.Back b
@@ -164,7 +158,7 @@ module _ (r : Run) (i low : ℕ) (c : StringCursor) (w : Opcode r.words i opcode
         let all_ : run_length r.subject h.test.test low c.position ≡ low = omega (arith, k h.test.end h.test.test h.test.stands, run_at_most r.subject h.test.test low c.position) in
         let enough : nat_lt low low ≡ false = grind (arith, nat_tests) in
         let place : after.position ≡ c.position + low = omega (arith, all_, k h.test.end h.test.test h.test.stands) in
-        at_instruction opcode.MIN_REPEAT_ONE RunningLazily refl w (record { low = low; high = word r.words (i + 3); end = h.test.end; test = h.test.test; operands = lazy_operands; is = rw (all_, enough, place, word_of r.words (i + 1) v wv) refl })
+        at_instruction opcode.MIN_REPEAT_ONE (Running LazyRun) refl w (record { low = low; high = word r.words (i + 3); end = h.test.end; test = h.test.test; operands = lazy_operands; is = rw (all_, enough, place, word_of r.words (i + 1) v wv) refl })
 
     pub lazy_both : (b : BoardValue) (all : List Way) (limit : ℕ) → Goes r all limit (Instruction i) c b → GoesBoth r all limit (spot (Instruction (i + 1 + v)) after b) (spot (Longer i low) after b) after b.choices
     lazy_both b all limit g = turn_splits r (Instruction i) c b (spot (Instruction (i + 1 + v)) after b) (spot (Longer i low) after b) after (lazy_moves b.frames b.marks) there all limit g

@@ -3,7 +3,7 @@ use Rattle.std.specs.Prelude.{ℕ, suc, ◌+◌, ◌-◌, ◌≡◌, ◌≤◌, 
 use Rattle.std.specs.List.{filter}
 use Rattle.sre_chars.specs.declared.constants.SreOpcode.{SreOpcode}
 use Rattle.sre_chars.specs.declared.string.StringCursor.{StringCursor}
-use Rattle.sre_model.specs.Tree.{Tree, Order, Sign, GreedyRun, LazyRun, PossessiveRun}
+use Rattle.sre_model.specs.Tree.{Tree, Order, RunKind, Sign}
 use Rattle.sre_model.specs.Roles.{Role, ToFail, ToEnd, ToTest, ToStand, ToMark, ToBranch, ToJump, ToRun, ToRepeat, ToLoop, ToGroup, ToLook, role}
 use Rattle.sre_model.specs.Marks.{Marks, no_marks}
 use Rattle.sre_model.specs.Subject.{Subject}
@@ -16,7 +16,7 @@ use Rattle.sre_model.specs.declared.Region.{Region}
 use Rattle.sre_model.specs.declared.Point.TheVariants.{Instruction, Alternatives, Shorter, Longer, Inside}
 use Rattle.sre_model.specs.declared.Point.{Point}
 use Rattle.sre_model.specs.Moves.{Spot, spot_at, Move, Stop, End, Go, Split, Enter, closed, to_point, TestMove, AtMove, MarkMove, JumpMove, AlternativesMove}
-use Rattle.sre_model.specs.MovesInRuns.{RunMove, LongestRunMove, ShorterMove, LazyRunMove, LongerMove}
+use Rattle.sre_model.specs.MovesInRuns.{RunMove, ShorterMove, LongerMove}
 use Rattle.sre_model.specs.MovesInLoops.{RepeatMove, UntilMove}
 use Rattle.sre_model.specs.MovesInRegions.{AtomicMove, LookMove}
 use Rattle.sre_model.specs.declared.Next.{Next}
@@ -31,9 +31,7 @@ pub data Family : Type 0 where
   Marking : Family
   Branching : Family
   Jumping : Family
-  Running : Family
-  RunningLazily : Family
-  RunningLongest : Family
+  Running : RunKind → Family
   Repeating : Family
   Looping : Order → Family
   Grouping : Family
@@ -49,9 +47,7 @@ family_of ToStand = Standing
 family_of ToMark = Marking
 family_of ToBranch = Branching
 family_of ToJump = Jumping
-family_of (ToRun GreedyRun) = Running
-family_of (ToRun LazyRun) = RunningLazily
-family_of (ToRun PossessiveRun) = RunningLongest
+family_of (ToRun kind) = Running kind
 family_of ToRepeat = Repeating
 family_of (ToLoop order) = Looping order
 family_of ToGroup = Grouping
@@ -70,9 +66,7 @@ InFamily ws s Standing i x mv = AtMove ws s i x mv
 InFamily ws s Marking i x mv = MarkMove ws i x mv
 InFamily ws s Branching i x mv = mv ≡ Go (to_point x (Alternatives (i + 1)))
 InFamily ws s Jumping i x mv = JumpMove ws i x mv
-InFamily ws s Running i x mv = RunMove ws s i x mv
-InFamily ws s RunningLazily i x mv = LazyRunMove ws s i x mv
-InFamily ws s RunningLongest i x mv = LongestRunMove ws s i x mv
+InFamily ws s (Running kind) i x mv = RunMove ws s kind i x mv
 InFamily ws s Repeating i x mv = RepeatMove ws i x mv
 InFamily ws s (Looping o) i x mv = UntilMove ws o i x mv
 InFamily ws s Grouping i x mv = AtomicMove ws i x mv

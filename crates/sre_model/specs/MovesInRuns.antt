@@ -1,6 +1,6 @@
 -- What the machine does in one turn at a run of one test.
 use Rattle.std.specs.Prelude.{ℕ, ◌+◌, ◌-◌, ◌≡◌, ◌≤◌, ◌&&◌, ◌||◌, cond, nat_eq, nat_lt, List}
-use Rattle.sre_model.specs.Tree.{Test}
+use Rattle.sre_model.specs.Tree.{Test, RunKind, GreedyRun, LazyRun, PossessiveRun}
 use Rattle.sre_model.specs.Subject.{Subject, passes}
 use Rattle.sre_model.specs.Ways.{unlimited, run_length, longest_run}
 use Rattle.sre_model.specs.Grammar.{Word, skip}
@@ -14,41 +14,33 @@ pub record RunOperands (ws : List ℕ) (i low high end : ℕ) (test : Test) : Ty
   pub highest : Word ws (i + 3) high
   pub stands : TestStands ws (i + 4) end test
 
--- REPEAT_ONE: the longest run, and then the shorter ones
-pub record RunMove (ws : List ℕ) (s : Subject) (i : ℕ) (x : Spot) (mv : Move) : Type 0 where
-  pub low : ℕ
-  pub high : ℕ
-  pub end : ℕ
-  pub test : Test
-  pub operands : RunOperands ws i low high end test
-  pub is : mv ≡
-      let k = longest_run s test high x.position in
-      cond (nat_lt k low) Stop (Split (to_place x (Instruction (skip ws (i + 1))) (x.position + k)) (to_place x (Shorter (skip ws (i + 1)) (k - low)) (x.position + k)))
+-- what comes of a run at i whose tail is at t: the longest run, and then the shorter ones; the least count, and then the
+-- longer ones; or the longest run alone
+abbrev pub run_turn : RunKind → Subject → ℕ → ℕ → ℕ → ℕ → Test → Spot → Move
+run_turn GreedyRun s i t low high test x =
+    let k = longest_run s test high x.position in
+    cond (nat_lt k low) Stop
+    (Split (to_place x (Instruction t) (x.position + k)) (to_place x (Shorter t (k - low)) (x.position + k)))
+run_turn LazyRun s i t low high test x =
+    cond (nat_lt (run_length s test low x.position) low) Stop
+    (Split (to_place x (Instruction t) (x.position + low)) (to_place x (Longer i low) (x.position + low)))
+run_turn PossessiveRun s i t low high test x =
+    let k = longest_run s test high x.position in
+    cond (nat_lt k low) Stop (Go (to_place x (Instruction t) (x.position + k)))
 
--- POSSESSIVE_REPEAT_ONE: the longest run alone
-pub record LongestRunMove (ws : List ℕ) (s : Subject) (i : ℕ) (x : Spot) (mv : Move) : Type 0 where
+-- REPEAT_ONE, MIN_REPEAT_ONE or POSSESSIVE_REPEAT_ONE
+pub record RunMove (ws : List ℕ) (s : Subject) (kind : RunKind) (i : ℕ) (x : Spot) (mv : Move) : Type 0 where
   pub low : ℕ
   pub high : ℕ
   pub end : ℕ
   pub test : Test
   pub operands : RunOperands ws i low high end test
-  pub is : mv ≡
-      let k = longest_run s test high x.position in
-      cond (nat_lt k low) Stop (Go (to_place x (Instruction (skip ws (i + 1))) (x.position + k)))
+  pub is : mv ≡ run_turn kind s i (skip ws (i + 1)) low high test x
 
 -- the shorter counts of a run, so many of them
 pub record ShorterMove (t k : ℕ) (x : Spot) (mv : Move) : Type 0 where
   pub past : k ≤ x.position
   pub is : mv ≡ cond (nat_eq k 0) Stop (Split (to_place x (Instruction t) (x.position - 1)) (to_place x (Shorter t (k - 1)) (x.position - 1)))
-
--- MIN_REPEAT_ONE: the least count, and then the longer ones
-pub record LazyRunMove (ws : List ℕ) (s : Subject) (i : ℕ) (x : Spot) (mv : Move) : Type 0 where
-  pub low : ℕ
-  pub high : ℕ
-  pub end : ℕ
-  pub test : Test
-  pub operands : RunOperands ws i low high end test
-  pub is : mv ≡ cond (nat_lt (run_length s test low x.position) low) Stop (Split (to_place x (Instruction (skip ws (i + 1))) (x.position + low)) (to_place x (Longer i low) (x.position + low)))
 
 -- the longer counts of the run at i, behind n characters of it: one test more
 pub record LongerMove (ws : List ℕ) (s : Subject) (i n : ℕ) (x : Spot) (mv : Move) : Type 0 where
