@@ -1,5 +1,6 @@
 //! Lists that are refused and lists that are taken, lookups, std's table, and refused requests for memory.
 
+use super::UniError::{AsciiEntry, NotScalar, Unsorted};
 use super::lists::{Lists, checked_lists, std_lists};
 use super::{UniError, UniTable, lower_ascii, lower_unicode, upper_ascii, upper_unicode};
 use crate::category::category;
@@ -22,116 +23,68 @@ fn refusal(
 #[test]
 fn lists_have_faults(rt: HostRuntime) {
     let alloc = rt.alloc();
+    let entries = [(128, 65), (129, 0), (57344, 55295), (1114111, 1114111)];
     for (map, fault) in [
         ([].as_slice(), None),
-        (
-            [
-                (128, 65),
-                (129, 0),
-                (55295, 57344),
-                (57344, 55295),
-                (1114111, 1114111),
-            ]
-            .as_slice(),
-            None,
-        ),
-        ([(65, 97)].as_slice(), Some(UniError::AsciiEntry)),
-        ([(127, 200)].as_slice(), Some(UniError::AsciiEntry)),
-        (
-            [(201, 233), (65, 97)].as_slice(),
-            Some(UniError::AsciiEntry),
-        ),
-        ([(200, 1), (200, 2)].as_slice(), Some(UniError::Unsorted)),
-        ([(201, 1), (200, 2)].as_slice(), Some(UniError::Unsorted)),
-        ([(55296, 200)].as_slice(), Some(UniError::NotScalar)),
-        ([(57343, 200)].as_slice(), Some(UniError::NotScalar)),
-        ([(200, 55296)].as_slice(), Some(UniError::NotScalar)),
-        ([(200, 57343)].as_slice(), Some(UniError::NotScalar)),
-        ([(1114112, 200)].as_slice(), Some(UniError::NotScalar)),
-        ([(200, 4294967295)].as_slice(), Some(UniError::NotScalar)),
-        (
-            [(201, 233), (65, 55296)].as_slice(),
-            Some(UniError::NotScalar),
-        ),
-        (
-            [(201, 233), (201, 55296)].as_slice(),
-            Some(UniError::NotScalar),
-        ),
-        (
-            [(201, 233), (200, 1), (65, 97), (55296, 1)].as_slice(),
-            Some(UniError::Unsorted),
-        ),
-        (
-            [(201, 233), (65, 97), (200, 1), (55296, 1)].as_slice(),
-            Some(UniError::AsciiEntry),
-        ),
+        (entries.as_slice(), None),
+        ([(65, 97)].as_slice(), Some(AsciiEntry)),
+        ([(127, 200)].as_slice(), Some(AsciiEntry)),
+        ([(201, 233), (65, 97)].as_slice(), Some(AsciiEntry)),
+        ([(200, 1), (200, 2)].as_slice(), Some(Unsorted)),
+        ([(201, 1), (200, 2)].as_slice(), Some(Unsorted)),
+        ([(55296, 200)].as_slice(), Some(NotScalar)),
+        ([(57343, 200)].as_slice(), Some(NotScalar)),
+        ([(200, 55296)].as_slice(), Some(NotScalar)),
+        ([(200, 57343)].as_slice(), Some(NotScalar)),
+        ([(1114112, 200)].as_slice(), Some(NotScalar)),
+        ([(200, 4294967295)].as_slice(), Some(NotScalar)),
+        ([(201, 233), (65, 55296)].as_slice(), Some(NotScalar)),
+        ([(201, 233), (201, 55296)].as_slice(), Some(NotScalar)),
+        ([(201, 1), (200, 1), (65, 1)].as_slice(), Some(Unsorted)),
+        ([(201, 1), (65, 1), (200, 1)].as_slice(), Some(AsciiEntry)),
     ] {
         assert_eq!(rt; refusal(alloc, map, &[], &[]), fault);
         assert_eq!(rt; refusal(alloc, &[], map, &[]), fault);
     }
+    let runs = [(128, 128), (129, 55295), (57344, 57344), (1114111, 1114111)];
     for (ranges, fault) in [
-        (
-            [
-                (128, 128),
-                (129, 200),
-                (202, 55295),
-                (57344, 57344),
-                (1114111, 1114111),
-            ]
-            .as_slice(),
-            None,
-        ),
-        ([(48, 57)].as_slice(), Some(UniError::AsciiEntry)),
-        ([(127, 200)].as_slice(), Some(UniError::AsciiEntry)),
-        ([(100, 99)].as_slice(), Some(UniError::AsciiEntry)),
-        ([(200, 100)].as_slice(), Some(UniError::Unsorted)),
-        ([(128, 127)].as_slice(), Some(UniError::Unsorted)),
-        ([(1641, 1632)].as_slice(), Some(UniError::Unsorted)),
-        ([(60000, 50000)].as_slice(), Some(UniError::Unsorted)),
-        (
-            [(200, 210), (205, 220)].as_slice(),
-            Some(UniError::Unsorted),
-        ),
-        (
-            [(200, 210), (210, 220)].as_slice(),
-            Some(UniError::Unsorted),
-        ),
-        (
-            [(200, 210), (150, 160)].as_slice(),
-            Some(UniError::Unsorted),
-        ),
-        (
-            [(200, 210), (205, 100)].as_slice(),
-            Some(UniError::Unsorted),
-        ),
-        ([(55295, 57344)].as_slice(), Some(UniError::NotScalar)),
-        ([(55295, 55296)].as_slice(), Some(UniError::NotScalar)),
-        ([(57343, 57344)].as_slice(), Some(UniError::NotScalar)),
-        ([(100, 60000)].as_slice(), Some(UniError::NotScalar)),
-        ([(1114111, 1114112)].as_slice(), Some(UniError::NotScalar)),
-        (
-            [(200, 210), (55296, 100)].as_slice(),
-            Some(UniError::NotScalar),
-        ),
-        (
-            [(200, 210), (220, 57343), (205, 1)].as_slice(),
-            Some(UniError::NotScalar),
-        ),
+        (runs.as_slice(), None),
+        ([(48, 57)].as_slice(), Some(AsciiEntry)),
+        ([(127, 200)].as_slice(), Some(AsciiEntry)),
+        ([(100, 99)].as_slice(), Some(AsciiEntry)),
+        ([(200, 100)].as_slice(), Some(Unsorted)),
+        ([(128, 127)].as_slice(), Some(Unsorted)),
+        ([(60000, 50000)].as_slice(), Some(Unsorted)),
+        ([(200, 210), (205, 220)].as_slice(), Some(Unsorted)),
+        ([(200, 210), (210, 220)].as_slice(), Some(Unsorted)),
+        ([(200, 210), (150, 160)].as_slice(), Some(Unsorted)),
+        ([(200, 210), (205, 100)].as_slice(), Some(Unsorted)),
+        ([(55295, 57344)].as_slice(), Some(NotScalar)),
+        ([(55295, 55296)].as_slice(), Some(NotScalar)),
+        ([(57343, 57344)].as_slice(), Some(NotScalar)),
+        ([(100, 60000)].as_slice(), Some(NotScalar)),
+        ([(1114111, 1114112)].as_slice(), Some(NotScalar)),
+        ([(200, 210), (55296, 100)].as_slice(), Some(NotScalar)),
+        ([(200, 210), (57343, 1)].as_slice(), Some(NotScalar)),
     ] {
         assert_eq!(rt; refusal(alloc, &[], &[], ranges), fault);
     }
+}
+
+#[test]
+fn the_first_list_with_a_fault_is_answered(rt: HostRuntime) {
     let lawful = [(201, 233)].as_slice();
     let ascii = [(65, 97)].as_slice();
     let unsorted = [(201, 233), (201, 234)].as_slice();
     let surrogate = [(55296, 200)].as_slice();
     for (lower, upper, alnum, fault) in [
-        (unsorted, ascii, surrogate, UniError::Unsorted),
-        (ascii, unsorted, surrogate, UniError::AsciiEntry),
-        (lawful, ascii, surrogate, UniError::AsciiEntry),
-        (lawful, unsorted, ascii, UniError::Unsorted),
-        (lawful, lawful, surrogate, UniError::NotScalar),
+        (unsorted, ascii, surrogate, Unsorted),
+        (ascii, unsorted, surrogate, AsciiEntry),
+        (lawful, ascii, surrogate, AsciiEntry),
+        (lawful, unsorted, ascii, Unsorted),
+        (lawful, lawful, surrogate, NotScalar),
     ] {
-        assert_eq!(rt; refusal(alloc, lower, upper, alnum), Some(fault));
+        assert_eq!(rt; refusal(rt.alloc(), lower, upper, alnum), Some(fault));
     }
 }
 
@@ -306,7 +259,7 @@ fn new_fails_where_a_request_is_refused(rt: HostRuntime) -> Result<(), Fail> {
     // The lists are checked before.
     let heap = Refusing::new(rt.alloc(), 1);
     let fault = checked_lists(&heap, &lower, &upper, &[(48, 57)]).err();
-    assert_eq!(rt; fault, Some(UniError::AsciiEntry));
+    assert_eq!(rt; fault, Some(AsciiEntry));
     assert_eq!(rt; heap.left(), 1);
     Ok(())
 }

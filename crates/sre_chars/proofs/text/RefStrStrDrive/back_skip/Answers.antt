@@ -23,7 +23,8 @@ pub returns : goal.returns
 returns c =
     let bytes = c.as_bytes-bytes.ensures in
     let from = place_in _ _ _ _ bytes.value bytes.utf8 (c.offset.ensures ∙ c.requires.at.1) c.requires.at.2 in
-    let to = place_at _ _ _ (c.args.cursor.now.position - c.args.n) bytes.value bytes.utf8 c.pass_bytes_back-start.ensures.at
-    (omega (arith, from.begun_before, c.pass_blocks_back-offset.ensures.passed, c.pass_bytes_back-start.ensures.passed))
+    let start = c.pass_bytes_back-start.ensures in
+    let to = place_at _ _ _ (c.args.cursor.now.position - c.args.n) bytes.value bytes.utf8 start.at
+    (omega (arith, from.begun_before, c.pass_blocks_back-offset.ensures.passed, start.passed))
     in
     (omega arith, c.new.ensures.offset ∙ to.0, to.1)
