@@ -1,4 +1,5 @@
 -- The trail: the marks now, and what they were before each change that can be taken back.
+-- Words of private contracts: the value of a board is `Board` of sre_model.
 use Rattle.std.specs.Prelude.{ℕ, List, [], ◌∷◌, ◌++◌, Option, Some, None, take, slice_set}
 use Rattle.sre_model.specs.Marks.{Marks, index_of}
 use Rattle.sre_board.specs.declared.marks.Former.{Former}

@@ -1,4 +1,5 @@
 -- What a code shows.
+-- Public clauses rest on it.
 use Rattle.std.specs.Prelude.{ℕ, List}
 use Rattle.sre_chars.specs.Tables.{Table}
 use Rattle.sre_code.specs.declared.code.Hints.{Hints}

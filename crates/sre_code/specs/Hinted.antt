@@ -1,4 +1,5 @@
 -- What is known of a code.
+-- Public clauses rest on it.
 use Rattle.std.specs.Prelude.{◌≡◌, ℕ, List, false, None}
 use Rattle.sre_model.specs.Tree.{Tree}
 use Rattle.sre_code.specs.declared.code.Hints.{Hints}

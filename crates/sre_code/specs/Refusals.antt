@@ -1,4 +1,5 @@
 -- Refusals of words: their numbers and places.
+-- Public clauses rest on it.
 use Rattle.std.specs.Prelude.{ℕ}
 use Rattle.sre_code.specs.declared.code.error.CodeError.{CodeError}
 use Rattle.sre_code.specs.declared.code.error.CodeError.TheVariants.{Memory, Truncated, UnknownOpcode, UnknownAt, UnknownCategory, BadSkip, BadCounts, BadItem, BadSet, BadInfo, TrailingWords}

@@ -1,4 +1,5 @@
 -- The grammar: which words are a tree's.
+-- Of the meaning: what sre_engine makes public rests on it.
 use Rattle.std.specs.Prelude.{ℕ, ◌+◌, ◌*◌, ◌-◌, ◌/◌, ◌%◌, ◌≡◌, ◌<◌, ◌≤◌, List, [], ◌∷◌, length, Some, slice_get, slice_index, slice_range, EachIndex}
 use Rattle.std.specs.List.{flat_map}
 use Rattle.sre_chars.specs.Numbers.{opcode_number, at_number, category_number}

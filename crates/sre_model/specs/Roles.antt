@@ -1,4 +1,5 @@
 -- Roles: what each opcode is for, in one table.
+-- For the machine and the proofs; what sre_engine makes public does not rest on it.
 use Rattle.sre_chars.specs.declared.constants.SreOpcode.{SreOpcode}
 use Rattle.sre_chars.specs.declared.constants.SreOpcode.TheVariants as opcode
 use Rattle.sre_model.specs.Tree.{Order, Greedy, Lazy, RunKind, GreedyRun, LazyRun, PossessiveRun, Sign, Positive, Negative}

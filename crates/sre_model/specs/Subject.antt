@@ -1,4 +1,5 @@
 -- What stays fixed while a code is matched, and what is asked of a place in it.
+-- Of the meaning: what sre_engine makes public rests on it.
 use Rattle.std.specs.Prelude.{ℕ, zero, suc, ◌+◌, ◌-◌, Bool, true, not, ◌&&◌, ◌||◌, cond, List, nat_eq, nat_lt, slice_index}
 use Rattle.sre_chars.specs.Tables.{Table}
 use Rattle.sre_chars.specs.Categories.{is_word, is_unicode_word, is_linebreak}

@@ -1,4 +1,5 @@
 -- What a request asks.
+-- Public clauses rest on it; `run_of` is for the machine.
 use Rattle.std.specs.Prelude.{ℕ, Bool}
 use Rattle.sre_chars.specs.declared.string.StrDrive.{Ghosts}
 use Rattle.sre_chars.specs.declared.string.StringCursor.{StringCursor}
