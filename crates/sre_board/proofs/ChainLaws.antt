@@ -59,6 +59,31 @@ get_some [] k d h = absurd (omega arith)
 get_some (x ∷ xs) zero d h = refl
 get_some (x ∷ xs) (suc k) d h = get_some xs k d (omega arith)
 
+-- the empty chain is the first, and the others are not empty
+pub first_empty : (ns : List Node) (t : Table) (id : ℕ) → table ns ≡ t → id ≡ 0 → slice_index_or t id [] ≡ []
+first_empty ns t id e z =
+    let first : slice_index_or t 0 [] ≡ [] = ap (λ (x : Table). slice_index_or x 0 []) (sym e) ∙ grown_before ns ([] ∷ []) 0 (omega arith) in
+    rw z first
+
+pub later_some : (ns : List Node) (t : Table) (id : ℕ) → table ns ≡ t → Based ns → 1 ≤ id → id < length t
+    → 0 < length (slice_index_or t id [])
+later_some ns t id e b l h =
+    let l1 : 1 + (id - 1) ≡ id = omega (arith, l) in
+    let there : id - 1 < length ns = omega (arith, h, l, ap (λ (x : Table). length x) e, length-grown ns ([] ∷ [])) in
+    let found = get_within ns (id - 1) there in
+    let low : found.0.parent ≤ id - 1 = b (id - 1) found.0 found.1 in
+    let a : slice_index_or (table ns) (1 + (id - 1)) [] ≡ frame_of found.0 ∷ slice_index_or (table ns) found.0.parent [] =
+    grown_at (id - 1) ns ([] ∷ []) found.0 found.1 (omega (arith, low)) in
+    let same : slice_index_or t (1 + (id - 1)) [] ≡ slice_index_or (table ns) (1 + (id - 1)) [] =
+    ap (λ (x : Table). slice_index_or x (1 + (id - 1)) []) (sym e) in
+    let moved : slice_index_or t id [] ≡ slice_index_or t (1 + (id - 1)) [] = ap (λ n. slice_index_or t n []) (sym l1) in
+    omega (arith, ap (λ (x : List Frame). length x) (moved ∙ same ∙ a))
+  where
+    get_within : (xs : List Node) (k : ℕ) → k < length xs → (n : Node) × (slice_get xs k ≡ Some n)
+    get_within [] k h = absurd (omega arith)
+    get_within (x ∷ xs) zero h = (x, refl)
+    get_within (x ∷ xs) (suc k) h = get_within xs k (omega arith)
+
 pub in_table : (ns : List Node) (t : Table) (id : ℕ) → table ns ≡ t → 0 < length (slice_index_or t id []) → (1 ≤ id) × (id - 1 < length ns)
 in_table ns t zero e h = let z : slice_index_or t 0 [] ≡ [] = ap (λ (x : Table). slice_index_or x 0 []) (sym e) ∙ grown_before ns ([] ∷ []) 0 (omega arith) in absurd (omega (arith, ap (λ (x : List Frame). length x) z))
 in_table ns t (suc k) e h = (omega arith, inside (nat_lt k (length ns)) refl)

@@ -52,6 +52,11 @@ enter_held b t chains chains' frame frame' saved f e fit ec ef =
 pub pushed_in : (t t' : Table) (x : List Frame) (id : ℕ) → id ≡ length t → t' ≡ t ++ x ∷ [] → id < length t'
 pushed_in t t' x id e f = omega (arith, e, ap (λ (y : Table). length y) f, length-append t (x ∷ []))
 
+-- no loop is left
+pub left_none : (b : BoardValue) (t : Trail) (chains : Table) (frame : ℕ) (saved : List Saved) → board_of t chains frame saved ≡ b
+    → slice_index_or chains frame [] ≡ [] → board_of t chains frame saved ≡ record b { frames = drop 1 b.frames }
+left_none b t chains frame saved e n = rw (← e, n) refl
+
 -- a loop is left, and the later chains are kept
 pub leave_held : (b : BoardValue) (t : Trail) (chains : Table) (frame parent : ℕ) (saved : List Saved) (f : Frame) → board_of t chains frame saved ≡ b → slice_index_or chains frame [] ≡ f ∷ slice_index_or chains parent [] → board_of t chains parent saved ≡ record b { frames = drop 1 b.frames }
 leave_held b t chains frame parent saved f e n = rw (← e, n) refl

@@ -196,13 +196,15 @@ impl<A: Allocator> Board<A> {
         frame_of(self.chains.node(self.frame))
     }
 
-    /// Leaves the innermost loop. Its chain is forgotten where no choice needs it.
+    /// Leaves the innermost loop, if there is one. Its chain is forgotten where no choice needs it.
     #[inline(always)]
     pub fn leave(&mut self)
-        requires { 0 < length self.old.frames }
         ensures { self.new ≡ record self.old { frames = drop 1 self.old.frames } }
     {
         let id = self.frame;
+        if self.chains.is_empty(id) {
+            return;
+        }
         self.frame = self.chains.node(id).parent;
         if kept(&self.choices) < id {
             self.chains.cut(id - 1);

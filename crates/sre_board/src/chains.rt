@@ -2,7 +2,7 @@
 //!
 //! A chain has a number, so a choice that remembers its loops remembers a number alone.
 
-ghost use Rattle.std.specs.Prelude.{◌≡◌, ◌+◌, ◌<◌, ◌≤◌, ◌++◌, ◌∷◌, [], length, take, IfOk, slice_index_or};
+ghost use Rattle.std.specs.Prelude.{true, false, ◌≡◌, ◌+◌, ◌<◌, ◌≤◌, ◌++◌, ◌∷◌, [], length, take, IfOk, slice_index_or};
 ghost use Rattle.sre_board.specs.Chains.{frame_of};
 
 use sre_growth::Refusal;
@@ -97,6 +97,18 @@ impl<A: Allocator> Chains<A> {
         ensures { length self.now ≡ result + 1 }
     {
         self.nodes.len()
+    }
+
+    /// Whether a chain is the empty one.
+    #[inline(always)]
+    pub(crate) fn is_empty(&self, id: usize) -> bool
+        requires { id < length self.now }
+        ensures empty { result ≡ true → slice_index_or self.now id [] ≡ [] }
+        ensures other { result ≡ false → 0 < length (slice_index_or self.now id []) }
+    {
+        // a read of the nodes, without which the proof sees no chains
+        let _nodes = self.nodes.len();
+        id == 0
     }
 
     /// The newest node of a chain that is not empty.

@@ -4,7 +4,7 @@ use Rattle.sre_chars.specs.Numbers.{opcode_number, at_number}
 use Rattle.sre_chars.specs.declared.constants.SreOpcode.{SreOpcode}
 use Rattle.sre_chars.specs.declared.constants.SreOpcode.TheVariants as opcode
 use Rattle.sre_chars.specs.declared.constants.SreAtCode.{SreAtCode}
-use Rattle.sre_model.specs.Tree.{Item, Fail, One, At, Mark, Branch, Run, Test, GreedyRun, LazyRun, Loop, Atomic, Look, Positive, Negative, PossessiveRun}
+use Rattle.sre_model.specs.Tree.{Item, Fail, One, At, Mark, Branch, Run, Test, GreedyRun, LazyRun, Loop, PossessiveLoop, Atomic, Look, Positive, Negative, PossessiveRun}
 use Rattle.sre_model.specs.Grammar.{Opcode, Word, word, item_opcode, ReadsItem}
 use Rattle.sre_model.specs.Width.{item_width}
 use Rattle.sre_code.specs.Reading.{NoCode, ReadsTest, TestExactly, NoTest}
@@ -51,24 +51,25 @@ pub mark_cut : (ws : List ℕ) (i : ℕ) → Opcode ws i opcode.MARK → length 
 mark_cut ws i h le = record { none = λ j w x. let f = is_mark ws i j x.0 (mark_here ws i h) x.1 in omega (arith, word_within ws (i + 1) f.0 f.2.1.0) }
 
 -- another opcode begins a test, if it begins an item that is built
-other_item : (ws : List ℕ) (i j : ℕ) (o : SreOpcode) (x : Item) → Opcode ws i o → o ≢ opcode.FAILURE → o ≢ opcode.AT → o ≢ opcode.MARK → o ≢ opcode.BRANCH → o ≢ opcode.REPEAT_ONE → o ≢ opcode.MIN_REPEAT_ONE → o ≢ opcode.POSSESSIVE_REPEAT_ONE → o ≢ opcode.REPEAT → o ≢ opcode.ATOMIC_GROUP → o ≢ opcode.ASSERT → o ≢ opcode.ASSERT_NOT → ReadsItem ws i j x → (t : Test) × (x ≡ One t) × ReadsTest ws i j t
-other_item ws i j o Fail h fail at mark branch run lazy possessive loop atomic ahead not_ahead r = absurd (fail (same_opcode ws i o opcode.FAILURE h r.0))
-other_item ws i j o (One t) h fail at mark branch run lazy possessive loop atomic ahead not_ahead r = (t, refl, (r.0, r.1))
-other_item ws i j o (At a) h fail at mark branch run lazy possessive loop atomic ahead not_ahead r = absurd (at (same_opcode ws i o opcode.AT h r.0))
-other_item ws i j o (Mark n) h fail at mark branch run lazy possessive loop atomic ahead not_ahead r = absurd (mark (same_opcode ws i o opcode.MARK h r.0))
-other_item ws i j o (Branch ts) h fail at mark branch run lazy possessive loop atomic ahead not_ahead r = absurd (branch (same_opcode ws i o opcode.BRANCH h r.0))
-other_item ws i j o (Run GreedyRun low high t) h fail at mark branch run lazy possessive loop atomic ahead not_ahead r = absurd (run (same_opcode ws i o opcode.REPEAT_ONE h r.0))
-other_item ws i j o (Run LazyRun low high t) h fail at mark branch run lazy possessive loop atomic ahead not_ahead r = absurd (lazy (same_opcode ws i o opcode.MIN_REPEAT_ONE h r.0))
-other_item ws i j o (Run PossessiveRun low high t) h fail at mark branch run lazy possessive loop atomic ahead not_ahead r = absurd (possessive (same_opcode ws i o opcode.POSSESSIVE_REPEAT_ONE h r.0))
-other_item ws i j o (Loop q low high body) h fail at mark branch run lazy possessive loop atomic ahead not_ahead r = absurd (loop (same_opcode ws i o opcode.REPEAT h r.0))
-other_item ws i j o (Atomic body) h fail at mark branch run lazy possessive loop atomic ahead not_ahead r = absurd (atomic (same_opcode ws i o opcode.ATOMIC_GROUP h r.0))
-other_item ws i j o (Look Positive back body) h fail at mark branch run lazy possessive loop atomic ahead not_ahead r = absurd (ahead (same_opcode ws i o opcode.ASSERT h r.0))
-other_item ws i j o (Look Negative back body) h fail at mark branch run lazy possessive loop atomic ahead not_ahead r = absurd (not_ahead (same_opcode ws i o opcode.ASSERT_NOT h r.0))
-other_item ws i j o x h fail at mark branch run lazy possessive loop atomic ahead not_ahead r = absurd r.2
+other_item : (ws : List ℕ) (i j : ℕ) (o : SreOpcode) (x : Item) → Opcode ws i o → o ≢ opcode.FAILURE → o ≢ opcode.AT → o ≢ opcode.MARK → o ≢ opcode.BRANCH → o ≢ opcode.REPEAT_ONE → o ≢ opcode.MIN_REPEAT_ONE → o ≢ opcode.POSSESSIVE_REPEAT_ONE → o ≢ opcode.REPEAT → o ≢ opcode.ATOMIC_GROUP → o ≢ opcode.ASSERT → o ≢ opcode.ASSERT_NOT → o ≢ opcode.POSSESSIVE_REPEAT → ReadsItem ws i j x → (t : Test) × (x ≡ One t) × ReadsTest ws i j t
+other_item ws i j o Fail h fail at mark branch run lazy possessive loop atomic ahead not_ahead repeated r = absurd (fail (same_opcode ws i o opcode.FAILURE h r.0))
+other_item ws i j o (One t) h fail at mark branch run lazy possessive loop atomic ahead not_ahead repeated r = (t, refl, (r.0, r.1))
+other_item ws i j o (At a) h fail at mark branch run lazy possessive loop atomic ahead not_ahead repeated r = absurd (at (same_opcode ws i o opcode.AT h r.0))
+other_item ws i j o (Mark n) h fail at mark branch run lazy possessive loop atomic ahead not_ahead repeated r = absurd (mark (same_opcode ws i o opcode.MARK h r.0))
+other_item ws i j o (Branch ts) h fail at mark branch run lazy possessive loop atomic ahead not_ahead repeated r = absurd (branch (same_opcode ws i o opcode.BRANCH h r.0))
+other_item ws i j o (Run GreedyRun low high t) h fail at mark branch run lazy possessive loop atomic ahead not_ahead repeated r = absurd (run (same_opcode ws i o opcode.REPEAT_ONE h r.0))
+other_item ws i j o (Run LazyRun low high t) h fail at mark branch run lazy possessive loop atomic ahead not_ahead repeated r = absurd (lazy (same_opcode ws i o opcode.MIN_REPEAT_ONE h r.0))
+other_item ws i j o (Run PossessiveRun low high t) h fail at mark branch run lazy possessive loop atomic ahead not_ahead repeated r = absurd (possessive (same_opcode ws i o opcode.POSSESSIVE_REPEAT_ONE h r.0))
+other_item ws i j o (Loop q low high body) h fail at mark branch run lazy possessive loop atomic ahead not_ahead repeated r = absurd (loop (same_opcode ws i o opcode.REPEAT h r.0))
+other_item ws i j o (PossessiveLoop low high body) h fail at mark branch run lazy possessive loop atomic ahead not_ahead repeated r = absurd (repeated (same_opcode ws i o opcode.POSSESSIVE_REPEAT h r.0))
+other_item ws i j o (Atomic body) h fail at mark branch run lazy possessive loop atomic ahead not_ahead repeated r = absurd (atomic (same_opcode ws i o opcode.ATOMIC_GROUP h r.0))
+other_item ws i j o (Look Positive back body) h fail at mark branch run lazy possessive loop atomic ahead not_ahead repeated r = absurd (ahead (same_opcode ws i o opcode.ASSERT h r.0))
+other_item ws i j o (Look Negative back body) h fail at mark branch run lazy possessive loop atomic ahead not_ahead repeated r = absurd (not_ahead (same_opcode ws i o opcode.ASSERT_NOT h r.0))
+other_item ws i j o x h fail at mark branch run lazy possessive loop atomic ahead not_ahead repeated r = absurd r.2
 
-pub one_exactly : (ws : List ℕ) (i e : ℕ) (o : SreOpcode) → Opcode ws i o → o ≢ opcode.FAILURE → o ≢ opcode.AT → o ≢ opcode.MARK → o ≢ opcode.BRANCH → o ≢ opcode.REPEAT_ONE → o ≢ opcode.MIN_REPEAT_ONE → o ≢ opcode.POSSESSIVE_REPEAT_ONE → o ≢ opcode.REPEAT → o ≢ opcode.ATOMIC_GROUP → o ≢ opcode.ASSERT → o ≢ opcode.ASSERT_NOT → TestExactly ws i e → Exactly ws (Past e 1) (ItemAt ws i)
-one_exactly ws i e o h fail at mark branch run lazy possessive loop atomic ahead not_ahead x =
-    past ws i e 1 (One x.test) (x.reads.0, x.reads.1, tt) refl (λ j y r. let f = other_item ws i j o y h fail at mark branch run lazy possessive loop atomic ahead not_ahead r in (x.only j f.0 f.2, ap item_width f.1))
+pub one_exactly : (ws : List ℕ) (i e : ℕ) (o : SreOpcode) → Opcode ws i o → o ≢ opcode.FAILURE → o ≢ opcode.AT → o ≢ opcode.MARK → o ≢ opcode.BRANCH → o ≢ opcode.REPEAT_ONE → o ≢ opcode.MIN_REPEAT_ONE → o ≢ opcode.POSSESSIVE_REPEAT_ONE → o ≢ opcode.REPEAT → o ≢ opcode.ATOMIC_GROUP → o ≢ opcode.ASSERT → o ≢ opcode.ASSERT_NOT → o ≢ opcode.POSSESSIVE_REPEAT → TestExactly ws i e → Exactly ws (Past e 1) (ItemAt ws i)
+one_exactly ws i e o h fail at mark branch run lazy possessive loop atomic ahead not_ahead repeated x =
+    past ws i e 1 (One x.test) (x.reads.0, x.reads.1, tt) refl (λ j y r. let f = other_item ws i j o y h fail at mark branch run lazy possessive loop atomic ahead not_ahead repeated r in (x.only j f.0 f.2, ap item_width f.1))
 
-pub one_nowhere : (ws : List ℕ) (i : ℕ) (o : SreOpcode) → Opcode ws i o → o ≢ opcode.FAILURE → o ≢ opcode.AT → o ≢ opcode.MARK → o ≢ opcode.BRANCH → o ≢ opcode.REPEAT_ONE → o ≢ opcode.MIN_REPEAT_ONE → o ≢ opcode.POSSESSIVE_REPEAT_ONE → o ≢ opcode.REPEAT → o ≢ opcode.ATOMIC_GROUP → o ≢ opcode.ASSERT → o ≢ opcode.ASSERT_NOT → NoTest ws i → Nowhere (ItemAt ws i)
-one_nowhere ws i o h fail at mark branch run lazy possessive loop atomic ahead not_ahead n = record { none = λ j w y. let f = other_item ws i j o y.0 h fail at mark branch run lazy possessive loop atomic ahead not_ahead y.1 in n.none j f.0 f.2 }
+pub one_nowhere : (ws : List ℕ) (i : ℕ) (o : SreOpcode) → Opcode ws i o → o ≢ opcode.FAILURE → o ≢ opcode.AT → o ≢ opcode.MARK → o ≢ opcode.BRANCH → o ≢ opcode.REPEAT_ONE → o ≢ opcode.MIN_REPEAT_ONE → o ≢ opcode.POSSESSIVE_REPEAT_ONE → o ≢ opcode.REPEAT → o ≢ opcode.ATOMIC_GROUP → o ≢ opcode.ASSERT → o ≢ opcode.ASSERT_NOT → o ≢ opcode.POSSESSIVE_REPEAT → NoTest ws i → Nowhere (ItemAt ws i)
+one_nowhere ws i o h fail at mark branch run lazy possessive loop atomic ahead not_ahead repeated n = record { none = λ j w y. let f = other_item ws i j o y.0 h fail at mark branch run lazy possessive loop atomic ahead not_ahead repeated y.1 in n.none j f.0 f.2 }

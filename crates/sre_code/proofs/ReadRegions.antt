@@ -1,9 +1,9 @@
--- Bodies of atomic groups and looks: what the check reads of them is what the grammar says.
+-- Bodies of possessive loops, atomic groups and looks: what the check reads of them is what the grammar says.
 use Rattle.std.proofs.Common.{ℕ, ◌+◌, ◌-◌, ◌*◌, ◌≡◌, ◌≢◌, ◌<◌, ◌≤◌, List, length, refl, sym, ◌∙◌, ap, arith}
 use Rattle.sre_chars.specs.Numbers.{opcode_number}
 use Rattle.sre_chars.specs.declared.constants.SreOpcode.{SreOpcode}
 use Rattle.sre_chars.specs.declared.constants.SreOpcode.TheVariants as opcode
-use Rattle.sre_model.specs.Tree.{Tree, Atomic, Look, Sign, Positive, Negative}
+use Rattle.sre_model.specs.Tree.{Tree, PossessiveLoop, Atomic, Look, Sign, Positive, Negative}
 use Rattle.sre_model.specs.Grammar.{Opcode, word, skip, look_opcode}
 use Rattle.sre_model.specs.Width.{held, width, item_width}
 use Rattle.sre_code.specs.Reading.{NoCode, Within}
@@ -11,10 +11,10 @@ use Rattle.sre_code.specs.Steps.{ItemAt, LookAt, Closes, Unclosed, Exactly, Nowh
 use Rattle.sre_code.specs.declared.code.error.CodeError.{CodeError}
 use Rattle.sre_code.specs.declared.code.step.Part.TheVariants.{Region}
 use Rattle.sre_code.specs.declared.code.step.Step.TheVariants.{Past, Opens}
-use Rattle.sre_model.proofs.Words.{word_within, word_there, opcode_moved, opcode_within, same_opcode}
+use Rattle.sre_model.proofs.Words.{word_of, word_within, word_there, opcode_moved, opcode_within, same_opcode}
 use Rattle.sre_model.proofs.Places.{reads_moved, reads_nothing, reads_within}
 use Rattle.sre_model.proofs.Widths.{width_held}
-use Rattle.sre_model.proofs.Families.{HasKind, OfAtomic, OfLook, is_atomic, is_look}
+use Rattle.sre_model.proofs.Families.{HasKind, OfPossessiveLoop, OfAtomic, OfLook, is_possessive, is_atomic, is_look}
 
 -- SUCCESS behind a body
 pub region_inside : (ws : List ℕ) (end least i : ℕ) → i ≢ end → IsInside ws (Region end least) i
@@ -43,6 +43,50 @@ region_open ws end least i u o e same h other le = record {
 pub region_cut : (ws : List ℕ) (end least i u : ℕ) (e : CodeError) → i ≡ end → NoCode opcode_number ws i →
     Within ws e → Unclosed ws (Region end least) i u e
 region_cut ws end least i u e same n le = record { end = region_end ws end least i same; nowhere = record { none = λ j w c. n.none opcode.SUCCESS c.1 }; within = le }
+
+-- POSSESSIVE_REPEAT
+possessive_here : (ws : List ℕ) (i : ℕ) → Opcode ws i opcode.POSSESSIVE_REPEAT → HasKind ws i OfPossessiveLoop
+possessive_here ws i h = record { code = opcode.POSSESSIVE_REPEAT; there = h; begins = refl }
+
+-- the width of a body, as the descent adds it up
+body_width : (t : Tree) → held (0 + width t) ≡ width t
+body_width t = omega (arith, width_held t)
+
+pub possessive_exactly : (ws : List ℕ) (i end low high : ℕ) → Opcode ws i opcode.POSSESSIVE_REPEAT → end ≡ skip ws (i + 1)
+    → low ≡ word ws (i + 2) → high ≡ word ws (i + 3) → i + 3 < length ws → low ≤ high
+    → Exactly ws (Opens (Region end low) (i + 4)) (ItemAt ws i)
+possessive_exactly ws i end low high h ends lowest highest there le = record {
+  sound = λ j w f.
+      let c = f.1.2 in
+      let at : f.0 ≡ skip ws (i + 1) = c.0 ∙ ends in (
+        PossessiveLoop (word ws (i + 2)) (word ws (i + 3)) f.1.0,
+        (h, (word_there ws (i + 2) (omega arith), word_there ws (i + 3) there, omega arith, reads_moved ws (i + 4) (i + 4) f.0 (skip ws (i + 1)) f.1.0 refl at f.1.1, opcode_moved ws f.0 (skip ws (i + 1)) opcode.SUCCESS at c.1, c.2 ∙ ap (λ n. n + 1) at), tt),
+        c.3 ∙ ap (λ n. held (n * held (0 + width f.1.0))) lowest ∙ ap (λ n. held (word ws (i + 2) * n)) (body_width f.1.0),
+      );
+  complete = λ j w y.
+      let f = is_possessive ws i j y.0 (possessive_here ws i h) y.1 in
+      let r = f.4.1 in
+      let same : f.0 ≡ low = sym (word_of ws (i + 2) f.0 r.0) ∙ sym lowest in (
+        skip ws (i + 1),
+        (f.2, r.3, (sym ends, r.4, r.5, y.2 ∙ ap item_width f.3 ∙ ap (λ n. held (n * width f.2)) same ∙ ap (λ n. held (low * n)) (sym (body_width f.2)))),
+      );
+}
+
+pub possessive_cut : (ws : List ℕ) (i : ℕ) → Opcode ws i opcode.POSSESSIVE_REPEAT → length ws ≤ i + 3 → Nowhere (ItemAt ws i)
+possessive_cut ws i h le = record {
+  none = λ j w y. let f = is_possessive ws i j y.0 (possessive_here ws i h) y.1 in omega (arith, word_within ws (i + 3) f.1 f.4.1.1);
+}
+
+pub possessive_counts : (ws : List ℕ) (i low high : ℕ) → Opcode ws i opcode.POSSESSIVE_REPEAT → low ≡ word ws (i + 2)
+    → high ≡ word ws (i + 3) → high < low → Nowhere (ItemAt ws i)
+possessive_counts ws i low high h lowest highest lt = record {
+  none = λ j w y.
+      let f = is_possessive ws i j y.0 (possessive_here ws i h) y.1 in
+      omega (arith, word_of ws (i + 2) f.0 f.4.1.0, word_of ws (i + 3) f.1 f.4.1.1, f.4.1.2);
+}
+
+-- what `possessive_repeat` answers
+pub ruleset possessive_repeat_laws = (possessive_exactly, possessive_cut, possessive_counts)
 
 -- ATOMIC_GROUP
 atomic_here : (ws : List ℕ) (i : ℕ) → Opcode ws i opcode.ATOMIC_GROUP → HasKind ws i OfAtomic

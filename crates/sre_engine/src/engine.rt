@@ -3,6 +3,7 @@
 mod lazy_runs;
 mod loops;
 mod machine;
+mod possessive_loops;
 mod possessive_runs;
 mod regions;
 mod state;

@@ -1,6 +1,6 @@
 -- How many turns the machine takes for a tree, given how many it takes for what follows.
 use Rattle.std.proofs.Common.{ℕ, zero, suc, ◌+◌, ◌-◌, cond, nat_lt, List, [], ◌∷◌, Option, Some, None}
-use Rattle.sre_model.specs.Tree.{Tree, Empty, Then, Item, One, At, Mark, Branch, Loop, Run, GreedyRun, LazyRun, PossessiveRun, Atomic, Look, Sign, Positive, Negative, Trees, Only, Or}
+use Rattle.sre_model.specs.Tree.{Tree, Empty, Then, Item, One, At, Mark, Branch, Loop, Run, GreedyRun, LazyRun, PossessiveRun, PossessiveLoop, Atomic, Look, Sign, Positive, Negative, Trees, Only, Or}
 use Rattle.sre_model.specs.Marks.{Marks, set_mark}
 use Rattle.sre_model.specs.Subject.{Subject, passes, holds_at}
 use Rattle.sre_model.specs.Ways.{Way, Body, longest_run, may_repeat, ways}
@@ -47,6 +47,23 @@ abbrev pub atomic_cost : Costs → List Way → ℕ
 atomic_cost C [] = 1
 atomic_cost C (w ∷ _) = suc (C w.stop w.marks)
 
+-- the bodies of a possessive loop below its least count
+abbrev pub owed_cost : (Costs → Costs) → Body → Costs → ℕ → Costs
+owed_cost body W rest zero p m = rest p m
+owed_cost body W rest (suc owed) p m = suc (body ending p m + atomic_cost (λ q k. owed_cost body W rest owed q k) (W p m))
+
+-- behind a further body of a possessive loop, from where it began
+abbrev pub further_cost : Costs → Costs → ℕ → Marks → List Way → ℕ
+further_cost C again p m [] = suc (C p m)
+further_cost C again p m (w ∷ _) = suc (again w.stop w.marks)
+
+-- a possessive loop from its least count on
+abbrev pub possessive_cost : ℕ → (Costs → Costs) → Body → Costs → ℕ → ℕ → Option ℕ → Costs
+possessive_cost high body W C zero count last p m = suc (C p m)
+possessive_cost high body W C (suc fuel) count last p m =
+    let again : Costs = λ q k. possessive_cost high body W C fuel (count + 1) (Some p) q k in
+    cond (may_repeat high count last p) (suc (body ending p m + further_cost C again p m (W p m))) (suc (C p m))
+
 -- behind a look, from where it began
 abbrev pub look_cost : Sign → Costs → ℕ → Marks → List Way → ℕ
 look_cost Positive C p m [] = 1
@@ -72,6 +89,9 @@ abbrev mutual
   item_cost s (Run GreedyRun low high t) C p m = run_cost low (longest_run s t high p) C p m
   item_cost s (Run LazyRun low high t) C p m = lazy_run_cost low (longest_run s t high p) C p m
   item_cost s (Run PossessiveRun low high t) C p m = longest_run_cost low (longest_run s t high p) C p m
+  item_cost s (PossessiveLoop low high body) C p m =
+      suc (owed_cost (λ D q k. cost s body D q k) (λ q k. ways s body q k)
+      (λ q k. possessive_cost high (λ D a b. cost s body D a b) (λ a b. ways s body a b) C (s.end + 1 - q) low None q k) low p m)
   item_cost s (Atomic body) C p m = suc (cost s body ending p m + atomic_cost C (ways s body p m))
   item_cost s (Look sign back body) C p m = looked_cost sign back (λ D q k. cost s body D q k) (λ q k. ways s body q k) C p m
   item_cost s _ C p m = 1

@@ -6,7 +6,7 @@ use Rattle.sre_model.specs.Board.{Else, Keep, choice, BoardValue}
 use Rattle.sre_model.specs.declared.Region.{Region}
 use Rattle.sre_model.specs.declared.Point.TheVariants.{Inside}
 use Rattle.sre_model.specs.declared.Point.{Point}
-use Rattle.sre_model.specs.Machine.{Run, Waits, outermost, otherwise, Goes, Backs, Stands, Later, without_outcome}
+use Rattle.sre_model.specs.Machine.{Run, Waits, outermost, otherwise, Goes, Backs, Stands, Later, without_outcome, without_loop}
 use Rattle.sre_model.specs.declared.Next.{Next}
 use Rattle.sre_model.specs.declared.Next.TheVariants as next
 use Rattle.sre_model.proofs.StepsInRegions.{region_back}
@@ -31,14 +31,17 @@ back_at r b b' pt pt' c e same is all limit g =
     back_goes r b b' pt' c (found ∙ ap (λ x. x ∷ b'.choices) is) all limit g
 
 -- a region whose body has no outcome
-pub back_region : (r : Run) (b b' : BoardValue) (pt : Point) (g : Region) (c : StringCursor) (n : Next) → b.choices ≡ choice pt b'.frames c b'.marks ∷ b'.choices → pt ≡ Inside g → n ≡ without_outcome g c → (all : List Way) (limit : ℕ) → Backs r all limit b → Later r all limit n b'
-back_region r b b' pt g c n e same is all limit k =
+pub back_region : (r : Run) (b b' b'' : BoardValue) (pt : Point) (g : Region) (c : StringCursor) (n : Next) → b.choices ≡ choice pt b'.frames c b'.marks ∷ b'.choices → pt ≡ Inside g → n ≡ without_outcome g c → b'' ≡ without_loop g b' → (all : List Way) (limit : ℕ) → Backs r all limit b → Later r all limit n b''
+back_region r b b' b'' pt g c n e same is left all limit k =
     let found : b.choices ≡ Keep g b'.frames c b'.marks ∷ b'.choices = e ∙ rw same refl in
-    subst (λ x. Later r all limit x b') (sym is) (region_back r c b' g all limit k.later (subst (λ x. Waits r x [] all k.later) found k.waits) k.within)
+    let kept : Waits r (Keep g b'.frames c b'.marks ∷ b'.choices) [] all k.later = subst (λ x. Waits r x [] all k.later) found k.waits in
+    let back : Later r all limit (without_outcome g c) (without_loop g b') = region_back r c b' g all limit k.later kept k.within in
+    subst (λ x. Later r all limit x b'') (sym is) (subst (λ y. Later r all limit (without_outcome g c) y) (sym left) back)
 
 -- a state within a limit is one within a greater limit
 pub stands_wider : (r : Run) (all : List Way) (limit more : ℕ) (n : Next) (b : BoardValue) → limit ≤ more → Stands r all limit n b → Stands r all more n b
 stands_wider r all limit more (next.At i c) b l g = record { now = g.now; turns = g.turns; later = g.later; stands = g.stands; runs = g.runs; waits = g.waits; within = omega (arith, g.within, l) }
+stands_wider r all limit more (next.Again c) b l g = record { now = g.now; turns = g.turns; later = g.later; stands = g.stands; runs = g.runs; waits = g.waits; within = omega (arith, g.within, l) }
 stands_wider r all limit more next.Back b l g = record { later = g.later; waits = g.waits; within = omega (arith, g.within, l) }
 stands_wider r all limit more (next.Done c) b l g = record { later = g.later; stands = g.stands; waits = g.waits; within = omega (arith, g.within, l) }
 

@@ -25,11 +25,13 @@ pub mod StepsInBranches
 pub mod StepsInRuns
 pub mod StepsInLoops
 pub mod StepsInRegions
+pub mod StepsInPossessiveLoops
 pub mod Outcomes
 pub mod RanAtItems
 pub mod RanInRuns
 pub mod RanInLoops
 pub mod RanInRegions
+pub mod RanInPossessiveLoops
 pub mod Ran
 pub mod TreeOf
 mod ReaderRows

@@ -11,13 +11,13 @@ use Rattle.sre_model.specs.Grammar.{Word, Opcode, skip}
 use Rattle.sre_model.specs.Board.{Choice, Else, Keep, choice, from_region, BoardValue}
 use Rattle.sre_model.specs.declared.Frame.{Frame}
 use Rattle.sre_model.specs.declared.Region.{Region}
-use Rattle.sre_model.specs.declared.Point.TheVariants.{Instruction, Alternatives, Shorter, Longer, Inside}
+use Rattle.sre_model.specs.declared.Point.TheVariants.{Instruction, Alternatives, Shorter, Longer, Inside, Again}
 use Rattle.sre_model.specs.declared.Point.{Point}
 use Rattle.sre_model.specs.Moves.{Spot, spot_at, Move, Stop, End, Go, Split, Enter, TestMove, AtMove, MarkMove, AlternativesMove}
 use Rattle.sre_model.specs.MovesInRuns.{RunOperands, run_turn, RunMove, LongerMove}
-use Rattle.sre_model.specs.MovesInLoops.{UntilMove}
+use Rattle.sre_model.specs.MovesInLoops.{UntilMove, AgainMove}
 use Rattle.sre_model.specs.MovesInRegions.{LookMove}
-use Rattle.sre_model.specs.Machine.{Family, family, Failing, Ending, Testing, Standing, Marking, Branching, Jumping, Running, Repeating, Looping, Grouping, Looking, Unbuilt, InFamily, Moves, MovesAt, Runs, turns, Comes, stops, ends, goes, splits, enters, Run, Waits, otherwise, kept, Goes, GoesBoth, Later, spot, HasRun, IsAt, Refuses}
+use Rattle.sre_model.specs.Machine.{Family, family, Failing, Ending, Testing, Standing, Marking, Branching, Jumping, Running, Repeating, Looping, RepeatingPossessively, Grouping, Looking, Unbuilt, InFamily, Moves, MovesAt, Runs, turns, Comes, stops, ends, goes, splits, enters, Run, Waits, otherwise, kept, Goes, GoesBoth, Later, spot, HasRun, IsAt, Refuses}
 use Rattle.sre_model.specs.declared.Next.TheVariants as next
 use Rattle.sre_model.proofs.Words.{same_word, same_opcode, same_at}
 use Rattle.sre_model.proofs.Unique.{test_same}
@@ -67,6 +67,15 @@ same_until ws o u x a b h k =
     let high : h.high ≡ k.high = same_word ws (k.frame.repeat + 3) h.high k.high (subst (λ f. Word ws (f.repeat + 3) h.high) frame h.highest) k.highest in
     h.is ∙ rw (low, high, frame, outer) (sym k.is)
 
+same_again : (ws : List ℕ) (x : Spot) (a b : Move) → AgainMove ws x a → AgainMove ws x b → a ≡ b
+same_again ws x a b h k =
+    let frames : h.frame ∷ h.outer ≡ k.frame ∷ k.outer = sym h.inside ∙ k.inside in
+    let frame : h.frame ≡ k.frame = cc in
+    let outer : h.outer ≡ k.outer = cc in
+    let low : h.low ≡ k.low = same_word ws (k.frame.repeat + 2) h.low k.low (subst (λ f. Word ws (f.repeat + 2) h.low) frame h.lowest) k.lowest in
+    let high : h.high ≡ k.high = same_word ws (k.frame.repeat + 3) h.high k.high (subst (λ f. Word ws (f.repeat + 3) h.high) frame h.highest) k.highest in
+    h.is ∙ rw (low, high, frame, outer) (sym k.is)
+
 same_look : (ws : List ℕ) (g : Sign) (i : ℕ) (x : Spot) (a b : Move) → LookMove ws g i x a → LookMove ws g i x b → a ≡ b
 same_look ws g i x a b h k = h.is ∙ rw (same_word ws (i + 2) h.back k.back h.there k.there) (sym k.is)
 
@@ -81,6 +90,7 @@ same_in ws s Jumping i x a b h k = h.is ∙ sym k.is
 same_in ws s (Running kind) i x a b h k = same_run ws s kind i x a b h k
 same_in ws s Repeating i x a b h k = h.is ∙ sym k.is
 same_in ws s (Looping o) i x a b h k = same_until ws o i x a b h k
+same_in ws s RepeatingPossessively i x a b h k = h ∙ sym k
 same_in ws s Grouping i x a b h k = h.is ∙ sym k.is
 same_in ws s (Looking g) i x a b h k = same_look ws g i x a b h k
 same_in ws s Unbuilt i x a b h k = absurd h
@@ -94,6 +104,7 @@ moves_same ws s (Alternatives q) x a b h k = same_alternatives ws q x a b h k
 moves_same ws s (Shorter t n) x a b h k = h.is ∙ sym k.is
 moves_same ws s (Longer i n) x a b h k = same_longer ws s i n x a b h k
 moves_same ws s (Inside g) x a b h k = absurd h
+moves_same ws s Again x a b h k = same_again ws x a b h k
 
 -- so what comes of a spot comes of the one turn there
 pub comes : {ws : List ℕ} {s : Subject} {x : Spot} {os : List Way} {n : ℕ} (mv : Move) → Moves ws s x mv → Runs ws s x os n → Comes ws s x mv os n
@@ -195,6 +206,7 @@ both_choose r i (Instruction j) c b b' eb all limit g = both_other r i (Instruct
 both_choose r i (Alternatives q) c b b' eb all limit g = both_other r i (Alternatives q) c b b' eb all limit g
 both_choose r i (Shorter j n) c b b' eb all limit g = both_other r i (Shorter j n) c b b' eb all limit g
 both_choose r i (Longer j n) c b b' eb all limit g = both_other r i (Longer j n) c b b' eb all limit g
+both_choose r i Again c b b' eb all limit g = both_other r i Again c b b' eb all limit g
 
 -- a spot of which nothing comes
 abbrev pub Barren : Run → Spot → Type 0
@@ -216,12 +228,24 @@ pub both_last : (r : Run) (i : ℕ) (z : Spot) (c : StringCursor) (b : BoardValu
 both_last r i z c b none = both_first r z i c b b.choices (λ os n x. run_nothing none x) refl
 
 -- a region is entered: what comes of it waits on the board, and the machine goes on at its body
-pub turn_enters : (r : Run) (i j : ℕ) (g : Region) (c c' : StringCursor) (b b' : BoardValue) → Moves r.words r.subject (spot (Instruction i) c b) (Enter g (spot (Instruction j) c' b')) → r.stands c' c'.position → b'.choices ≡ Keep g b.frames c b.marks ∷ b.choices → (all : List Way) (limit : ℕ) → Goes r all limit (Instruction i) c b → Later r all limit (next.At j c') b'
-turn_enters r i j g c c' b b' h there e all limit st = go (comes (Enter g (spot (Instruction j) c' b')) h st.runs) st.waits st.within
+pub turn_enters : (r : Run) (pt : Point) (fs : List Frame) (j : ℕ) (g : Region) (c c' : StringCursor) (b b' : BoardValue)
+    → Moves r.words r.subject (spot pt c b) (Enter g (spot_at pt fs c.position b.marks) (spot (Instruction j) c' b'))
+    → r.stands c' c'.position → b'.choices ≡ Keep g fs c b.marks ∷ b.choices
+    → (all : List Way) (limit : ℕ) → Goes r all limit pt c b → Later r all limit (next.At j c') b'
+turn_enters r pt fs j g c c' b b' h there e all limit st = go (comes (Enter g y z) h st.runs) st.waits st.within
   where
-    go : {os : List Way} {n k : ℕ} → Comes r.words r.subject (spot (Instruction i) c b) (Enter g (spot (Instruction j) c' b')) os n → Waits r b.choices os all k → n + k ≤ limit → Later r all limit (next.At j c') b'
+    y : Spot
+    y = spot_at pt fs c.position b.marks
+
+    z : Spot
+    z = spot (Instruction j) c' b'
+
+    go : {os : List Way} {n k : ℕ} → Comes r.words r.subject (spot pt c b) (Enter g y z) os n
+        → Waits r b.choices os all k → n + k ≤ limit → Later r all limit (next.At j c') b'
     go {os} {n} {k} (enters {now = now} {n₁ = n₁} {n₂ = n₂} d f) wt l =
-        (omega arith, record { now = now; turns = n₁; later = n₂ + k; stands = there; runs = d; waits = subst (λ x. Waits r x now all (n₂ + k)) (sym e) (kept st.stands f wt); within = omega arith })
+        let behind : Waits r (Keep g fs c b.marks ∷ b.choices) now all (n₂ + k) = kept {pt = pt} st.stands f wt in
+        let later : Waits r b'.choices now all (n₂ + k) = subst (λ x. Waits r x now all (n₂ + k)) (sym e) behind in
+        (omega arith, record { now = now; turns = n₁; later = n₂ + k; stands = there; runs = d; waits = later; within = omega arith })
 
 -- of a region that has an outcome, the other choices inside it do not matter
 pub cut_waits : (r : Run) (cs rest : List Choice) (g : Region) (fs : List Frame) (c : StringCursor) (m : Marks) (w : Way) (ws all : List Way) (k : ℕ) → from_region cs ≡ Keep g fs c m ∷ rest → Waits r cs (w ∷ ws) all k → (us : List Way) × (j : ℕ) × (j ≤ k) × Waits r (Keep g fs c m ∷ rest) (w ∷ us) all j

@@ -25,7 +25,7 @@ next-between s body b p m =
 pub first_of_body-all : (s : Subject) (body : Body) (p : ℕ) (m : Marks) → Bounded s body → p ≤ s.end → first_of_body s body p m ≡ first (body p m)
 first_of_body-all s body p m b h = ap (first {A = Way}) (within-all s p (body p m) (b p m h))
 
-first-bounded : (s : Subject) (body : Body) → Bounded s (first_of_body s body)
+pub first-bounded : (s : Subject) (body : Body) → Bounded s (first_of_body s body)
 first-bounded s body p m h = each-first (Between s p) (within s p (body p m)) (within-each s p (body p m))
 
 module _ (s : Subject) (low high : ℕ) (body : Body) where

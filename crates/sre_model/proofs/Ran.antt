@@ -2,7 +2,7 @@
 use Rattle.std.proofs.Common.{ℕ, suc, ◌+◌, ◌-◌, ◌<◌, ◌≤◌, List, length, refl, sym, arith}
 use Rattle.std.proofs.lemmas.Grind.{flat_map-append}
 use Rattle.sre_chars.specs.declared.constants.SreOpcode.TheVariants as opcode
-use Rattle.sre_model.specs.Tree.{Tree, Atomic, Look, Positive, Negative, Empty, Then, Item, Fail, One, At, Mark, Branch, Run, GreedyRun, Trees, Only, Or, Loop, LazyRun, PossessiveRun}
+use Rattle.sre_model.specs.Tree.{Tree, Atomic, Look, Positive, Negative, Empty, Then, Item, Fail, One, At, Mark, Branch, Run, GreedyRun, Trees, Only, Or, Loop, LazyRun, PossessiveRun, PossessiveLoop}
 use Rattle.sre_model.specs.Marks.{Marks}
 use Rattle.sre_model.specs.Subject.{Subject}
 use Rattle.sre_model.specs.Ways.{Way, Body, ways, item_ways, branch_ways}
@@ -22,6 +22,7 @@ use Rattle.sre_model.proofs.Outcomes.{followed, Follows, Ran, moved, alone}
 use Rattle.sre_model.proofs.RanAtItems.{one-ran, at-ran, mark-ran, alternative-ran, last_alternative, skip_there, jump-ran}
 use Rattle.sre_model.proofs.RanInRuns.{run-ran, lazy-run-ran, longest-run-ran}
 use Rattle.sre_model.proofs.RanInLoops.{loop-ran}
+use Rattle.sre_model.proofs.RanInPossessiveLoops.{possessive-ran}
 use Rattle.sre_model.proofs.RanInRegions.{atomic-ran, ahead-ran, not_ahead-ran}
 
 mutual
@@ -40,6 +41,10 @@ mutual
   item-ran ws s i j (Run GreedyRun low high t) v h fs K C p m e f = run-ran ws s i j low high t h.0 h.1.0 h.1.1 h.1.2 h.1.4 h.1.5 fs K C p m e f
   item-ran ws s i j (Loop o low high body) v h fs K C p m e f =
       loop-ran ws s i (skip ws (i + 1)) low high o (λ q k. ways s body q k) (λ D q k. cost s body D q k) (ways-bounded s body) (v.fits (i + 3) high h.1.1) h.1.2 h.1.0 h.1.1 (ran ws s (i + 4) (skip ws (i + 1)) body v h.1.3) h.1.4 h.0 refl fs K C p m e (λ q' k' l' g'. moved h.1.5 (f q' k' l' g'))
+  item-ran ws s i j (PossessiveLoop low high body) v h fs K C p m e f =
+      possessive-ran ws s i (skip ws (i + 1)) low high (λ q k. ways s body q k) (λ D q k. cost s body D q k)
+      (ways-bounded s body) (v.fits (i + 3) high h.1.1) h.1.2 h.1.0 h.1.1 (ran ws s (i + 4) (skip ws (i + 1)) body v h.1.3)
+      h.1.4 refl h.0 fs K C p m e (λ q' k' l' g'. moved h.1.5 (f q' k' l' g'))
   item-ran ws s i j (Run LazyRun low high t) v h fs K C p m e f = lazy-run-ran ws s i j low high t h.0 h.1.0 h.1.1 h.1.2 h.1.3 h.1.4 h.1.5 fs K C p m e f
   item-ran ws s i j (Run PossessiveRun low high t) v h fs K C p m e f =
       let b = h.1 in

@@ -24,7 +24,7 @@ use Rattle.sre_model.proofs.Cost.{Costs, least_cost, more_cost}
 use Rattle.sre_model.proofs.Outcomes.{followed, Follows, Ran, alone}
 
 -- counts that are held at the greatest word decide alike
-may_repeat-held : (high n c p : ℕ) (last : Option ℕ) → high ≤ unlimited → n ≡ min c unlimited → may_repeat high n last p ≡ may_repeat high c last p
+pub may_repeat-held : (high n c p : ℕ) (last : Option ℕ) → high ≤ unlimited → n ≡ min c unlimited → may_repeat high n last p ≡ may_repeat high c last p
 may_repeat-held high n c p last h e = go last (ap (λ b. nat_eq high unlimited || b) same)
   where
     same : nat_lt n high ≡ nat_lt c high
@@ -33,6 +33,19 @@ may_repeat-held high n c p last h e = go last (ap (λ b. nat_eq high unlimited |
     go : (last : Option ℕ) → (nat_eq high unlimited || nat_lt n high) ≡ (nat_eq high unlimited || nat_lt c high) → may_repeat high n last p ≡ may_repeat high c last p
     go None e = e
     go (Some l) e = ap (λ b. b && not (nat_eq l p)) e
+
+-- fuel that reaches past the window's end, or a body that stayed
+abbrev pub Room : Subject → ℕ → ℕ → Option ℕ → Type 0
+Room s fuel p last = (s.end + 1 ≤ p + fuel) ⊎ (last ≡ Some p)
+
+pub room_left : (s : Subject) (high fuel c p q : ℕ) (last : Option ℕ) → p ≤ q → Room s (suc fuel) p last → may_repeat high c last p ≡ true
+    → Room s fuel q (Some p)
+room_left s high fuel c p q last l (inr same) t = let no_ : may_repeat high c last p ≡ false = rw same (stays high c p p refl) in absurd (cc)
+room_left s high fuel c p q last l (inl room) t = go (nat_lt p q) refl
+  where
+    go : (y : Bool) → nat_lt p q ≡ y → Room s fuel q (Some p)
+    go true y = let k : p < q = grind (arith, nat_tests) in inl (omega arith)
+    go false y = let k : p ≡ q = grind (arith, nat_tests) in inr (ap (λ z. Some z) k)
 
 ordered_all : (K : Body) (o : Order) (a b : List Way) → followed K (ordered o a b) ≡ ordered o (followed K a) (followed K b)
 ordered_all K Greedy a b = flat_map-append (λ (w : Way). K w.stop w.marks) a b
@@ -95,24 +108,12 @@ module _ (ws : List ℕ) (s : Subject) (i u low high : ℕ) (o : Order) (W : Bod
       subst (λ y. Runs ws s (in_loop n last fs p m) y (suc (C p m))) (sym eq)
       (until_ends n last fs p m (K p m) (C p m) (omega arith) (may_repeat-held high n c p last highest en ∙ x) (f p m (omega arith) e))
 
-  -- fuel that reaches past the window's end, or a body that stayed
-  abbrev Room : ℕ → ℕ → Option ℕ → Type 0
-  Room fuel p last = (s.end + 1 ≤ p + fuel) ⊎ (last ≡ Some p)
-
-  room_left : (fuel c p q : ℕ) (last : Option ℕ) → p ≤ q → Room (suc fuel) p last → may_repeat high c last p ≡ true → Room fuel q (Some p)
-  room_left fuel c p q last l (inr same) t = let no_ : may_repeat high c last p ≡ false = rw same (stays high c p p refl) in absurd (cc)
-  room_left fuel c p q last l (inl room) t = go (nat_lt p q) refl
-    where
-      go : (y : Bool) → nat_lt p q ≡ y → Room fuel q (Some p)
-      go true y = let k : p < q = grind (arith, nat_tests) in inl (omega arith)
-      go false y = let k : p ≡ q = grind (arith, nat_tests) in inr (ap (λ z. Some z) k)
-
-  more-ran : (fuel n c p : ℕ) (last : Option ℕ) (m : Marks) (fs : List Frame) (K : Body) (C : Costs) → n ≡ min c unlimited → low ≤ c → p ≤ s.end → Room fuel p last → Follows ws s p (Instruction (u + 1)) fs K C → Runs ws s (in_loop n last fs p m) (followed K (more s o high W fuel c last p m)) (more_cost high counted C fuel c last p m)
+  more-ran : (fuel n c p : ℕ) (last : Option ℕ) (m : Marks) (fs : List Frame) (K : Body) (C : Costs) → n ≡ min c unlimited → low ≤ c → p ≤ s.end → Room s fuel p last → Follows ws s p (Instruction (u + 1)) fs K C → Runs ws s (in_loop n last fs p m) (followed K (more s o high W fuel c last p m)) (more_cost high counted C fuel c last p m)
   more-ran zero n c p last m fs K C en l e room f =
       let same : last ≡ Some p = elim room [ inl x ↦ absurd (omega arith) | inr x ↦ x ] in
       let no_ : may_repeat high n last p ≡ false = rw same (stays high n p p refl) in
       until_ends n last fs p m (K p m ++ []) (C p m) (omega arith) no_ (alone (f p m (omega arith) e))
-  more-ran (suc fuel) n c p last m fs K C en l e room f = more_step fuel n c p last m fs K C en l e f (λ t q k l' g'. more-ran fuel (min (n + 1) unlimited) (c + 1) q (Some p) k fs K C (omega arith) (omega arith) g' (room_left fuel c p q last l' room t) (λ q' k' l'' g''. f q' k' (omega arith) g'')) (may_repeat high c last p) refl
+  more-ran (suc fuel) n c p last m fs K C en l e room f = more_step fuel n c p last m fs K C en l e f (λ t q k l' g'. more-ran fuel (min (n + 1) unlimited) (c + 1) q (Some p) k fs K C (omega arith) (omega arith) g' (room_left s high fuel c p q last l' room t) (λ q' k' l'' g''. f q' k' (omega arith) g'')) (may_repeat high c last p) refl
 
   abbrev rest : Body
   rest q k = more s o high W (s.end + 1 - q) low None q k

@@ -27,8 +27,8 @@ pub only_built : (r : Run) (i : ℕ) (c : StringCursor) (o : SreOpcode) → HasR
 only_built r i c o x w e = (in_family o Unbuilt e w x.runs).1
 
 -- an opcode that is none of those that are built
-pub unbuilt : (o : SreOpcode) → o ≢ opcode.FAILURE → o ≢ opcode.SUCCESS → o ≢ opcode.ANY → o ≢ opcode.ANY_ALL → o ≢ opcode.AT → o ≢ opcode.BRANCH → o ≢ opcode.CATEGORY → o ≢ opcode.IN → o ≢ opcode.JUMP → o ≢ opcode.LITERAL → o ≢ opcode.MARK → o ≢ opcode.NOT_LITERAL → o ≢ opcode.REPEAT_ONE → o ≢ opcode.MIN_REPEAT_ONE → o ≢ opcode.REPEAT → o ≢ opcode.MAX_UNTIL → o ≢ opcode.MIN_UNTIL → o ≢ opcode.POSSESSIVE_REPEAT_ONE → o ≢ opcode.ATOMIC_GROUP → o ≢ opcode.ASSERT → o ≢ opcode.ASSERT_NOT → o ≢ opcode.IN_IGNORE → o ≢ opcode.LITERAL_IGNORE → o ≢ opcode.NOT_LITERAL_IGNORE → o ≢ opcode.IN_LOC_IGNORE → o ≢ opcode.LITERAL_LOC_IGNORE → o ≢ opcode.NOT_LITERAL_LOC_IGNORE → o ≢ opcode.IN_UNI_IGNORE → o ≢ opcode.LITERAL_UNI_IGNORE → o ≢ opcode.NOT_LITERAL_UNI_IGNORE → family o ≡ Unbuilt
-unbuilt o n0 n1 n2 n3 n4 n5 n6 n7 n8 n9 n10 n11 n12 n13 n14 n15 n16 n17 n18 n19 n20 n21 n22 n23 n24 n25 n26 n27 n28 n29 = grind (arith)
+pub unbuilt : (o : SreOpcode) → o ≢ opcode.FAILURE → o ≢ opcode.SUCCESS → o ≢ opcode.ANY → o ≢ opcode.ANY_ALL → o ≢ opcode.AT → o ≢ opcode.BRANCH → o ≢ opcode.CATEGORY → o ≢ opcode.IN → o ≢ opcode.JUMP → o ≢ opcode.LITERAL → o ≢ opcode.MARK → o ≢ opcode.NOT_LITERAL → o ≢ opcode.REPEAT_ONE → o ≢ opcode.MIN_REPEAT_ONE → o ≢ opcode.REPEAT → o ≢ opcode.MAX_UNTIL → o ≢ opcode.MIN_UNTIL → o ≢ opcode.POSSESSIVE_REPEAT_ONE → o ≢ opcode.ATOMIC_GROUP → o ≢ opcode.ASSERT → o ≢ opcode.ASSERT_NOT → o ≢ opcode.POSSESSIVE_REPEAT → o ≢ opcode.IN_IGNORE → o ≢ opcode.LITERAL_IGNORE → o ≢ opcode.NOT_LITERAL_IGNORE → o ≢ opcode.IN_LOC_IGNORE → o ≢ opcode.LITERAL_LOC_IGNORE → o ≢ opcode.NOT_LITERAL_LOC_IGNORE → o ≢ opcode.IN_UNI_IGNORE → o ≢ opcode.LITERAL_UNI_IGNORE → o ≢ opcode.NOT_LITERAL_UNI_IGNORE → family o ≡ Unbuilt
+unbuilt o n0 n1 n2 n3 n4 n5 n6 n7 n8 n9 n10 n11 n12 n13 n14 n15 n16 n17 n18 n19 n20 n21 n22 n23 n24 n25 n26 n27 n28 n29 n30 = grind (arith)
 
 -- FAILURE
 pub failure_step : (r : Run) (i : ℕ) (c : StringCursor) (b : BoardValue) → Opcode r.words i opcode.FAILURE → (all : List Way) (limit : ℕ) → Goes r all limit (Instruction i) c b → Later r all limit next.Back b

@@ -1,5 +1,5 @@
 -- Turns at a region: ATOMIC_GROUP, the looks, and the end of a body.
-use Rattle.std.proofs.Common.{◌≡◌, ℕ, ◌+◌, ◌-◌, ◌<◌, ◌≤◌, true, false, nat_lt, List, [], ◌∷◌, length, refl, sym, subst, arith}
+use Rattle.std.proofs.Common.{◌≡◌, ℕ, ◌+◌, ◌-◌, ◌<◌, ◌≤◌, true, false, nat_lt, List, [], ◌∷◌, length, drop, refl, sym, subst, arith}
 use Rattle.std.proofs.lemmas.Bool.Decides.{nat_tests}
 use Rattle.sre_chars.specs.declared.constants.SreOpcode.TheVariants as opcode
 use Rattle.sre_chars.specs.declared.string.StringCursor.{StringCursor}
@@ -8,12 +8,14 @@ use Rattle.sre_model.specs.Marks.{Marks}
 use Rattle.sre_model.specs.Ways.{Way}
 use Rattle.sre_model.specs.Grammar.{Word, Opcode, look_opcode}
 use Rattle.sre_model.specs.Board.{Keep, Cuts, BoardValue}
-use Rattle.sre_model.specs.declared.Region.TheVariants.{AtomicGroup, Ahead, NotAhead}
+use Rattle.sre_model.specs.declared.Region.TheVariants.{AtomicGroup, Ahead, NotAhead, Owed, Further}
 use Rattle.sre_model.specs.declared.Region.{Region}
-use Rattle.sre_model.specs.declared.Point.TheVariants.{Instruction}
+use Rattle.sre_model.specs.declared.Point.TheVariants.{Instruction, Again}
+use Rattle.sre_model.specs.declared.Point.{Point}
+use Rattle.sre_model.specs.declared.Frame.{Frame}
 use Rattle.sre_model.specs.Moves.{Spot, spot_at, Stop, Go, Enter, closed}
 use Rattle.sre_model.specs.MovesInRegions.{look}
-use Rattle.sre_model.specs.Machine.{family, Grouping, Looking, Moves, Runs, Comes, stops, goes, Run, Waits, kept, Goes, Ends, Later, spot, HasRun, after_outcome, without_outcome}
+use Rattle.sre_model.specs.Machine.{family, Grouping, Looking, Moves, Runs, Comes, stops, goes, Run, Waits, kept, Goes, Ends, Later, spot, HasRun, after_outcome, without_outcome, without_loop}
 use Rattle.sre_model.specs.declared.Next.TheVariants as next
 use Rattle.sre_model.proofs.Words.{word_of, word_within}
 use Rattle.sre_model.proofs.Moving.{in_family, at_instruction, turn_stops, turn_goes, turn_enters, cut_waits}
@@ -33,9 +35,9 @@ pub atomic_step : (r : Run) (i v : ℕ) (c : StringCursor) (b b' : BoardValue) �
 atomic_step r i v c b b' w wv eb all limit g =
     let group : Region = AtomicGroup (i + 1 + v) in
     let body : Spot = spot (Instruction (i + 2)) c b in
-    let move : Moves r.words r.subject (spot (Instruction i) c b) (Enter group body) =
+    let move : Moves r.words r.subject (spot (Instruction i) c b) (Enter group (spot (Instruction i) c b) body) =
     at_instruction opcode.ATOMIC_GROUP Grouping refl w (record { there = word_within r.words (i + 1) v wv; is = rw (word_of r.words (i + 1) v wv) refl }) in
-    subst (λ x. Later r all limit (next.At (i + 2) c) x) (sym eb) (turn_enters r i (i + 2) group c c b (entered group c b) move g.stands refl all limit g)
+    subst (λ x. Later r all limit (next.At (i + 2) c) x) (sym eb) (turn_enters r (Instruction i) b.frames (i + 2) group c c b (entered group c b) move g.stands refl all limit g)
 
 -- ASSERT, ASSERT_NOT
 look_family : (sign : Sign) → family (look_opcode sign) ≡ Looking sign
@@ -78,9 +80,9 @@ pub look_step : (r : Run) (sign : Sign) (i v back : ℕ) (c c' : StringCursor) (
 look_step r sign i v back c c' b b' h l place there eb all limit g =
     let region : Region = look sign (i + 1 + v) in
     let late : nat_lt c.position back ≡ false = grind (arith, nat_tests) in
-    let move : Moves r.words r.subject (spot (Instruction i) c b) (Enter region (spot (Instruction (i + 3)) c' b)) =
+    let move : Moves r.words r.subject (spot (Instruction i) c b) (Enter region (spot (Instruction i) c b) (spot (Instruction (i + 3)) c' b)) =
     at_instruction (look_opcode sign) (Looking sign) (look_family sign) h.code (record { back = back; there = h.there; is = rw (word_of r.words (i + 1) v h.leads, late, place) refl }) in
-    subst (λ x. Later r all limit (next.At (i + 3) c') x) (sym eb) (turn_enters r i (i + 3) region c c' b (entered region c b) move there refl all limit g)
+    subst (λ x. Later r all limit (next.At (i + 3) c') x) (sym eb) (turn_enters r (Instruction i) b.frames (i + 3) region c c' b (entered region c b) move there refl all limit g)
 
 -- a body has an outcome at a cursor: what comes of the region that is cut
 module _ (r : Run) (c d : StringCursor) (b b' : BoardValue) where
@@ -90,21 +92,25 @@ module _ (r : Run) (c d : StringCursor) (b b' : BoardValue) where
   ends_stop stops wt e l m = (omega arith, record { later = _; waits = wt; within = omega arith })
 
   -- it goes on at a cursor
-  ends_go : {x : Spot} {all os : List Way} {limit n k j later : ℕ} (t : ℕ) (at : StringCursor) →
+  ends_go : {x : Spot} {all os : List Way} {limit n k j later : ℕ} (pt : Point) (at : StringCursor) →
       r.stands at at.position → b'.marks ≡ b.marks →
-      Comes r.words r.subject x (Go (spot_at (Instruction t) b'.frames at.position b.marks)) os n →
-      Waits r b'.choices os all k → n + k ≤ j → j ≤ later → later + 1 ≤ limit → Later r all limit (next.At t at) b'
-  ends_go {x} {all} {os} {limit} {n} {k} t at there em (goes {n = n'} e) wt same l m =
-      let moved : Runs r.words r.subject (spot (Instruction t) at b') os n' = subst (λ ms. Runs r.words r.subject (spot_at (Instruction t) b'.frames at.position ms) os n') (sym em) e in
+      Comes r.words r.subject x (Go (spot_at pt b'.frames at.position b.marks)) os n →
+      Waits r b'.choices os all k → n + k ≤ j → j ≤ later → later + 1 ≤ limit →
+      (1 ≤ limit) × Goes r all (limit - 1) pt at b'
+  ends_go {x} {all} {os} {limit} {n} {k} pt at there em (goes {n = n'} e) wt same l m =
+      let moved : Runs r.words r.subject (spot pt at b') os n' =
+      subst (λ ms. Runs r.words r.subject (spot_at pt b'.frames at.position ms) os n') (sym em) e in
       (omega arith, record { now = os; turns = n'; later = k; stands = there; runs = moved; waits = wt; within = omega arith })
 
   region_ends : (g : Region) (m : Marks) (us all : List Way) (limit j later : ℕ) → b'.marks ≡ b.marks →
       r.stands c c.position →
       Waits r (Keep g b'.frames d m ∷ b'.choices) (record { stop = c.position; marks = b.marks } ∷ us) all j →
       j ≤ later → later + 1 ≤ limit → Later r all limit (after_outcome g c d) b'
-  region_ends (AtomicGroup t) m us all limit j later em there (kept at f wt) l k = ends_go t c there em f wt (omega arith) l k
-  region_ends (Ahead t) m us all limit j later em there (kept at f wt) l k = ends_go t d at em f wt (omega arith) l k
+  region_ends (AtomicGroup t) m us all limit j later em there (kept at f wt) l k = ends_go (Instruction t) c there em f wt (omega arith) l k
+  region_ends (Ahead t) m us all limit j later em there (kept at f wt) l k = ends_go (Instruction t) d at em f wt (omega arith) l k
   region_ends (NotAhead t) m us all limit j later em there (kept at f wt) l k = ends_stop f wt (omega arith) l k
+  region_ends Owed m us all limit j later em there (kept at f wt) l k = ends_go Again c there em f wt (omega arith) l k
+  region_ends (Further t) m us all limit j later em there (kept at f wt) l k = ends_go Again c there em f wt (omega arith) l k
 
   pub region_closes : (g : Region) → Cuts b g d b' → (all : List Way) (limit : ℕ) → Ends r all limit c b →
       Later r all limit (after_outcome g c d) b'
@@ -118,14 +124,16 @@ module _ (r : Run) (c : StringCursor) (b' : BoardValue) where
       Waits r b'.choices os all k → n + k ≤ limit → Later r all limit next.Back b'
   back_stop stops wt l = (omega arith, record { later = _; waits = wt; within = omega arith })
 
-  back_go : {x : Spot} {all os : List Way} {limit n k : ℕ} (t : ℕ) → r.stands c c.position →
-      Comes r.words r.subject x (Go (spot (Instruction t) c b')) os n → Waits r b'.choices os all k → n + k ≤ limit →
-      Later r all limit (next.At t c) b'
-  back_go t there (goes e) wt l = (omega arith, record { now = _; turns = _; later = _; stands = there; runs = e; waits = wt; within = omega arith })
+  back_go : {x : Spot} {all os : List Way} {limit n k : ℕ} (t : ℕ) (fs : List Frame) → r.stands c c.position →
+      Comes r.words r.subject x (Go (spot_at (Instruction t) fs c.position b'.marks)) os n →
+      Waits r b'.choices os all k → n + k ≤ limit → Later r all limit (next.At t c) (record b' { frames = fs })
+  back_go t fs there (goes e) wt l = (omega arith, record { now = _; turns = _; later = _; stands = there; runs = e; waits = wt; within = omega arith })
 
   pub region_back : (g : Region) (all : List Way) (limit k : ℕ) →
       Waits r (Keep g b'.frames c b'.marks ∷ b'.choices) [] all k → k ≤ limit →
-      Later r all limit (without_outcome g c) b'
+      Later r all limit (without_outcome g c) (without_loop g b')
   region_back (AtomicGroup t) all limit k (kept at f wt) l = back_stop f wt l
   region_back (Ahead t) all limit k (kept at f wt) l = back_stop f wt l
-  region_back (NotAhead t) all limit k (kept at f wt) l = back_go t at f wt l
+  region_back (NotAhead t) all limit k (kept at f wt) l = back_go t b'.frames at f wt l
+  region_back Owed all limit k (kept at f wt) l = back_stop f wt l
+  region_back (Further t) all limit k (kept at f wt) l = back_go t (drop 1 b'.frames) at f wt l

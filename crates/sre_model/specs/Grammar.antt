@@ -130,6 +130,7 @@ IsBuilt (Mark n) = Unit {0}
 IsBuilt (Branch ts) = Unit {0}
 IsBuilt (Loop o low high body) = Unit {0}
 IsBuilt (Run kind low high t) = Unit {0}
+IsBuilt (PossessiveLoop low high body) = Unit {0}
 IsBuilt (Atomic body) = Unit {0}
 IsBuilt (Look sign back body) = Unit {0}
 IsBuilt _ = ⊥

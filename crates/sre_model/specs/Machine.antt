@@ -1,24 +1,24 @@
 -- The machine: what standing at a point of the words means, and what a turn keeps.
 -- Words of the machine's contracts; what sre_engine makes public does not rest on it.
-use Rattle.std.specs.Prelude.{ℕ, suc, ◌+◌, ◌-◌, ◌≡◌, ◌≤◌, Bool, List, [], ◌∷◌, ◌++◌, Option, Some, None}
+use Rattle.std.specs.Prelude.{ℕ, suc, ◌+◌, ◌-◌, ◌≡◌, ◌≤◌, Bool, List, [], ◌∷◌, ◌++◌, drop, Option, Some, None}
 use Rattle.std.specs.List.{filter}
 use Rattle.sre_chars.specs.declared.constants.SreOpcode.{SreOpcode}
 use Rattle.sre_chars.specs.declared.string.StringCursor.{StringCursor}
 use Rattle.sre_model.specs.Tree.{Tree, Order, RunKind, Sign}
-use Rattle.sre_model.specs.Roles.{Role, ToFail, ToEnd, ToTest, ToStand, ToMark, ToBranch, ToJump, ToRun, ToRepeat, ToLoop, ToGroup, ToLook, role}
+use Rattle.sre_model.specs.Roles.{Role, ToFail, ToEnd, ToTest, ToStand, ToMark, ToBranch, ToJump, ToRun, ToRepeat, ToLoop, ToRepeatPossessively, ToGroup, ToLook, role}
 use Rattle.sre_model.specs.Marks.{Marks, no_marks}
 use Rattle.sre_model.specs.Subject.{Subject}
 use Rattle.sre_model.specs.Ways.{Way, here, ways}
 use Rattle.sre_model.specs.Grammar.{Opcode}
 use Rattle.sre_model.specs.Board.{Choice, Else, Keep, BoardValue}
 use Rattle.sre_model.specs.declared.Frame.{Frame}
-use Rattle.sre_model.specs.declared.Region.TheVariants.{AtomicGroup, Ahead, NotAhead}
+use Rattle.sre_model.specs.declared.Region.TheVariants.{AtomicGroup, Ahead, NotAhead, Owed, Further}
 use Rattle.sre_model.specs.declared.Region.{Region}
-use Rattle.sre_model.specs.declared.Point.TheVariants.{Instruction, Alternatives, Shorter, Longer, Inside}
+use Rattle.sre_model.specs.declared.Point.TheVariants.{Instruction, Alternatives, Shorter, Longer, Inside, Again}
 use Rattle.sre_model.specs.declared.Point.{Point}
 use Rattle.sre_model.specs.Moves.{Spot, spot_at, Move, Stop, End, Go, Split, Enter, closed, to_point, TestMove, AtMove, MarkMove, JumpMove, AlternativesMove}
 use Rattle.sre_model.specs.MovesInRuns.{RunMove, ShorterMove, LongerMove}
-use Rattle.sre_model.specs.MovesInLoops.{RepeatMove, UntilMove}
+use Rattle.sre_model.specs.MovesInLoops.{first_frame, RepeatMove, UntilMove, AgainMove}
 use Rattle.sre_model.specs.MovesInRegions.{AtomicMove, LookMove}
 use Rattle.sre_model.specs.declared.Next.{Next}
 use Rattle.sre_model.specs.declared.Next.TheVariants as next
@@ -35,6 +35,7 @@ pub data Family : Type 0 where
   Running : RunKind → Family
   Repeating : Family
   Looping : Order → Family
+  RepeatingPossessively : Family
   Grouping : Family
   Looking : Sign → Family
   Unbuilt : Family
@@ -51,6 +52,7 @@ family_of ToJump = Jumping
 family_of (ToRun kind) = Running kind
 family_of ToRepeat = Repeating
 family_of (ToLoop order) = Looping order
+family_of ToRepeatPossessively = RepeatingPossessively
 family_of ToGroup = Grouping
 family_of (ToLook sign) = Looking sign
 family_of _ = Unbuilt
@@ -70,6 +72,7 @@ InFamily ws s Jumping i x mv = JumpMove ws i x mv
 InFamily ws s (Running kind) i x mv = RunMove ws s kind i x mv
 InFamily ws s Repeating i x mv = RepeatMove ws i x mv
 InFamily ws s (Looping o) i x mv = UntilMove ws o i x mv
+InFamily ws s RepeatingPossessively i x mv = mv ≡ Go (record x { point = Again; frames = first_frame i ∷ x.frames })
 InFamily ws s Grouping i x mv = AtomicMove ws i x mv
 InFamily ws s (Looking sign) i x mv = LookMove ws sign i x mv
 InFamily ws s Unbuilt i x mv = ⊥
@@ -81,6 +84,7 @@ MovesAt ws s (Alternatives q) x mv = AlternativesMove ws q x mv
 MovesAt ws s (Shorter t k) x mv = ShorterMove t k x mv
 MovesAt ws s (Longer i n) x mv = LongerMove ws s i n x mv
 MovesAt ws s (Inside g) x mv = ⊥
+MovesAt ws s Again x mv = AgainMove ws x mv
 
 abbrev pub Moves : List ℕ → Subject → Spot → Move → Type 0
 Moves ws s x mv = MovesAt ws s x.point x mv
@@ -96,7 +100,7 @@ mutual
     ends : {x : Spot} → Comes ws s x End (here x.position x.marks) 2
     goes : {x y : Spot} {os : List Way} {n : ℕ} → Runs ws s y os n → Comes ws s x (Go y) os (suc n)
     splits : {x y z : Spot} {os₁ os₂ : List Way} {n₁ n₂ : ℕ} → Runs ws s y os₁ n₁ → Runs ws s z os₂ n₂ → Comes ws s x (Split y z) (os₁ ++ os₂) (suc (suc (n₁ + n₂)))
-    enters : {x y : Spot} {g : Region} {now os : List Way} {n₁ n₂ : ℕ} → Runs ws s y now n₁ → Comes ws s x (closed g x now) os n₂ → Comes ws s x (Enter g y) os (suc (n₁ + n₂))
+    enters : {x y z : Spot} {g : Region} {now os : List Way} {n₁ n₂ : ℕ} → Runs ws s z now n₁ → Comes ws s y (closed g y now) os n₂ → Comes ws s x (Enter g y z) os (suc (n₁ + n₂))
 
 -- what a run is about: the words, the subject, which cursors stand at which position, and which outcomes are accepted
 pub record Run : Type 1 where
@@ -109,7 +113,7 @@ pub record Run : Type 1 where
 pub data Waits (r : Run) : List Choice → List Way → List Way → ℕ → Type 0 where
   outermost : {now : List Way} → Waits r [] now (filter r.accepts now) 0
   otherwise : {pt : Point} {fs : List Frame} {c : StringCursor} {n k : ℕ} {m : Marks} {os now all : List Way} {cs : List Choice} → r.stands c c.position → Runs r.words r.subject (spot_at pt fs c.position m) os n → Waits r cs (now ++ os) all k → Waits r (Else pt fs c m ∷ cs) now all (suc (n + k))
-  kept : {g : Region} {i : ℕ} {fs : List Frame} {c : StringCursor} {n k : ℕ} {m : Marks} {os now all : List Way} {cs : List Choice} → r.stands c c.position → Comes r.words r.subject (spot_at (Instruction i) fs c.position m) (closed g (spot_at (Instruction i) fs c.position m) now) os n → Waits r cs os all k → Waits r (Keep g fs c m ∷ cs) now all (n + k)
+  kept : {g : Region} {pt : Point} {fs : List Frame} {c : StringCursor} {n k : ℕ} {m : Marks} {os now all : List Way} {cs : List Choice} → r.stands c c.position → Comes r.words r.subject (spot_at pt fs c.position m) (closed g (spot_at pt fs c.position m) now) os n → Waits r cs os all k → Waits r (Keep g fs c m ∷ cs) now all (n + k)
 
 -- where the machine stands at a point and a cursor
 abbrev pub spot : Point → StringCursor → BoardValue → Spot
@@ -153,6 +157,7 @@ pub record Ends (r : Run) (all : List Way) (limit : ℕ) (c : StringCursor) (b :
 
 abbrev pub Stands : Run → List Way → ℕ → Next → BoardValue → Type 0
 Stands r all limit (next.At i c) b = Goes r all limit (Instruction i) c b
+Stands r all limit (next.Again c) b = Goes r all limit Again c b
 Stands r all limit next.Back b = Backs r all limit b
 Stands r all limit (next.Done c) b = Ends r all limit c b
 
@@ -181,12 +186,21 @@ abbrev pub after_outcome : Region → StringCursor → StringCursor → Next
 after_outcome (AtomicGroup t) c d = next.At t c
 after_outcome (Ahead t) c d = next.At t d
 after_outcome (NotAhead t) c d = next.Back
+after_outcome Owed c d = next.Again c
+after_outcome (Further t) c d = next.Again c
 
 -- what comes of one that was entered at a cursor, where its body has none
 abbrev pub without_outcome : Region → StringCursor → Next
 without_outcome (AtomicGroup t) c = next.Back
 without_outcome (Ahead t) c = next.Back
 without_outcome (NotAhead t) c = next.At t c
+without_outcome Owed c = next.Back
+without_outcome (Further t) c = next.At t c
+
+-- a possessive loop is left where a further body has none
+abbrev pub without_loop : Region → BoardValue → BoardValue
+without_loop (Further t) b = record b { frames = drop 1 b.frames }
+without_loop g b = b
 
 -- there are outcomes, perhaps none, of standing at a point and a cursor
 pub record HasRun (r : Run) (pt : Point) (c : StringCursor) : Type 0 where

@@ -1,6 +1,6 @@
 -- Moves: what the machine does in one turn, by the family of the opcode. Nothing here is recursive.
 -- Words of the machine's contracts; what sre_engine makes public does not rest on it.
-use Rattle.std.specs.Prelude.{ℕ, ◌+◌, ◌≡◌, ◌<◌, length, cond, nat_eq, List, [], ◌∷◌}
+use Rattle.std.specs.Prelude.{ℕ, ◌+◌, ◌≡◌, ◌<◌, length, drop, cond, nat_eq, List, [], ◌∷◌}
 use Rattle.sre_chars.specs.Numbers.{at_number}
 use Rattle.sre_chars.specs.declared.constants.SreAtCode.{SreAtCode}
 use Rattle.sre_model.specs.Tree.{Test}
@@ -9,9 +9,9 @@ use Rattle.sre_model.specs.Subject.{Subject, passes, holds_at}
 use Rattle.sre_model.specs.Grammar.{Word, skip}
 use Rattle.sre_model.specs.Standing.{TestStands}
 use Rattle.sre_model.specs.declared.Frame.{Frame}
-use Rattle.sre_model.specs.declared.Region.TheVariants.{AtomicGroup, Ahead, NotAhead}
+use Rattle.sre_model.specs.declared.Region.TheVariants.{AtomicGroup, Ahead, NotAhead, Owed, Further}
 use Rattle.sre_model.specs.declared.Region.{Region}
-use Rattle.sre_model.specs.declared.Point.TheVariants.{Instruction, Alternatives}
+use Rattle.sre_model.specs.declared.Point.TheVariants.{Instruction, Alternatives, Again}
 use Rattle.sre_model.specs.declared.Point.{Point}
 use Rattle.sre_model.specs.Ways.{Way}
 
@@ -26,13 +26,13 @@ abbrev pub spot_at : Point → List Frame → ℕ → Marks → Spot
 spot_at pt fs p m = record { point = pt; frames = fs; position = p; marks = m }
 
 -- a turn: nothing comes of the spot; its region ends there; it comes to another spot; to one, and then to another; or
--- to a region, whose body begins at that spot
+-- to a region that is entered at a spot, and whose body begins at another
 pub data Move : Type 0 where
   Stop : Move
   End : Move
   Go : Spot → Move
   Split : Spot → Spot → Move
-  Enter : Region → Spot → Move
+  Enter : Region → Spot → Spot → Move
 
 -- another point, all else alike
 abbrev pub to_point : Spot → Point → Spot
@@ -50,6 +50,10 @@ closed (Ahead t) x [] = Stop
 closed (Ahead t) x (w ∷ ws) = Go (record x { point = Instruction t; marks = w.marks })
 closed (NotAhead t) x [] = Go (to_point x (Instruction t))
 closed (NotAhead t) x (w ∷ ws) = Stop
+closed Owed x [] = Stop
+closed Owed x (w ∷ ws) = Go (record x { point = Again; position = w.stop; marks = w.marks })
+closed (Further t) x [] = Go (record x { point = Instruction t; frames = drop 1 x.frames })
+closed (Further t) x (w ∷ ws) = Go (record x { point = Again; position = w.stop; marks = w.marks })
 
 -- a test of one character
 pub record TestMove (ws : List ℕ) (s : Subject) (i : ℕ) (x : Spot) (mv : Move) : Type 0 where

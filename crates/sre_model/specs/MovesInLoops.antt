@@ -1,4 +1,5 @@
--- What the machine does in one turn at a loop: REPEAT skip least greatest body, and then MAX_UNTIL or MIN_UNTIL.
+-- What the machine does in one turn at a loop: REPEAT skip least greatest body, and then MAX_UNTIL or MIN_UNTIL; and
+-- POSSESSIVE_REPEAT skip least greatest body SUCCESS, whose bodies are regions.
 -- Words of the machine's contracts; what sre_engine makes public does not rest on it.
 use Rattle.std.specs.Prelude.{ℕ, ◌+◌, ◌≡◌, ◌<◌, length, min, cond, nat_lt, List, ◌∷◌, Option, Some, None}
 use Rattle.sre_model.specs.Tree.{Order, Greedy, Lazy}
@@ -6,7 +7,9 @@ use Rattle.sre_model.specs.Ways.{unlimited, may_repeat}
 use Rattle.sre_model.specs.Grammar.{Word, skip}
 use Rattle.sre_model.specs.declared.Frame.{Frame}
 use Rattle.sre_model.specs.declared.Point.TheVariants.{Instruction}
-use Rattle.sre_model.specs.Moves.{Spot, Move, Go, Split}
+use Rattle.sre_model.specs.declared.Region.{Region}
+use Rattle.sre_model.specs.declared.Region.TheVariants.{Owed, Further}
+use Rattle.sre_model.specs.Moves.{Spot, Move, Go, Split, Enter}
 
 -- a loop that has had no body
 abbrev pub first_frame : ℕ → Frame
@@ -50,3 +53,25 @@ pub record UntilMove (ws : List ℕ) (o : Order) (u : ℕ) (x : Spot) (mv : Move
   pub lowest : Word ws (frame.repeat + 2) low
   pub highest : Word ws (frame.repeat + 3) high
   pub is : mv ≡ until_move o low high u frame outer x
+
+-- a body of a possessive loop is entered, and counted before it begins
+abbrev pub enter_body : Region → Frame → Option ℕ → List Frame → Spot → Move
+enter_body g f last outer x = Enter g (record x { frames = next_frame f last ∷ outer }) (at_body f last outer x)
+
+-- below the least count a body is owed; from it on a further one is tried where one may be, and else the loop ends
+abbrev pub again_move : ℕ → ℕ → ℕ → Frame → List Frame → Spot → Move
+again_move low high u f outer x =
+    cond (nat_lt f.count low) (enter_body Owed f f.last outer x)
+    (cond (may_repeat high f.count f.last x.position) (enter_body (Further (u + 1)) f (Some x.position) outer x)
+    (Go (behind u outer x)))
+
+-- at a possessive loop
+pub record AgainMove (ws : List ℕ) (x : Spot) (mv : Move) : Type 0 where
+  pub frame : Frame
+  pub outer : List Frame
+  pub low : ℕ
+  pub high : ℕ
+  pub inside : x.frames ≡ frame ∷ outer
+  pub lowest : Word ws (frame.repeat + 2) low
+  pub highest : Word ws (frame.repeat + 3) high
+  pub is : mv ≡ again_move low high (skip ws (frame.repeat + 1)) frame outer x

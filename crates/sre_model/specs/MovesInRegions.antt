@@ -11,7 +11,7 @@ use Rattle.sre_model.specs.Moves.{Spot, to_point, to_place, Move, Enter, closed}
 -- ATOMIC_GROUP
 pub record AtomicMove (ws : List ℕ) (i : ℕ) (x : Spot) (mv : Move) : Type 0 where
   pub there : i + 1 < length ws
-  pub is : mv ≡ Enter (AtomicGroup (skip ws (i + 1))) (to_point x (Instruction (i + 2)))
+  pub is : mv ≡ Enter (AtomicGroup (skip ws (i + 1))) x (to_point x (Instruction (i + 2)))
 
 -- a look, by where one goes on behind it
 abbrev pub look : Sign → ℕ → Region
@@ -24,4 +24,4 @@ pub record LookMove (ws : List ℕ) (sign : Sign) (i : ℕ) (x : Spot) (mv : Mov
   pub there : Word ws (i + 2) back
   pub is : mv ≡
       let g = look sign (skip ws (i + 1)) in
-      cond (nat_lt x.position back) (closed g x []) (Enter g (to_place x (Instruction (i + 3)) (x.position - back)))
+      cond (nat_lt x.position back) (closed g x []) (Enter g x (to_place x (Instruction (i + 3)) (x.position - back)))

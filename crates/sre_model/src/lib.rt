@@ -7,7 +7,7 @@
 
 use sre_chars::string::StringCursor;
 
-/// A region whose body is in progress, by the place behind the region.
+/// A region whose body is in progress, by the place behind it where one is gone on there.
 #[derive(Clone, Copy, PartialEq, Eq, Debug)]
 pub enum Region {
     /// An atomic group.
@@ -16,6 +16,10 @@ pub enum Region {
     Ahead(usize),
     /// A look whose body must not match.
     NotAhead(usize),
+    /// A body of a possessive loop that is owed below its least count.
+    Owed,
+    /// A body of a possessive loop beyond its least count.
+    Further(usize),
 }
 
 /// Where the machine can go on. Places count words.
@@ -31,6 +35,8 @@ pub enum Point {
     Longer(usize, usize),
     /// Behind a region whose body is in progress.
     Inside(Region),
+    /// At the innermost loop, a possessive one, before a body or its end.
+    Again,
 }
 
 /// A loop in progress: the place of its REPEAT, its bodies so far, held at 4294967295, and the position at which the last
@@ -42,10 +48,12 @@ pub struct Frame {
     pub last: Option<usize>,
 }
 
-/// What comes after a turn: an instruction, the newest choice, or the end of the innermost region.
+/// What comes after a turn: an instruction, a body or the end of a possessive loop, the newest choice, or the end of the
+/// innermost region.
 #[derive(Clone, Copy)]
 pub enum Next {
     At(usize, StringCursor),
+    Again(StringCursor),
     Back,
     Done(StringCursor),
 }

@@ -78,6 +78,7 @@ pub fn item(words: &[u32], place: usize) -> Result<Step, CodeError>
         SreOpcode::MIN_REPEAT_ONE => run(words, place),
         SreOpcode::POSSESSIVE_REPEAT_ONE => run(words, place),
         SreOpcode::REPEAT => repeat::repeat(words, place),
+        SreOpcode::POSSESSIVE_REPEAT => region::possessive_repeat(words, place),
         SreOpcode::ATOMIC_GROUP => region::atomic_group(words, place),
         SreOpcode::ASSERT => region::look(words, place),
         SreOpcode::ASSERT_NOT => region::look(words, place),

@@ -1,5 +1,6 @@
 //! `<ATOMIC_GROUP> <skip> <items> <SUCCESS>`, and `<ASSERT> <skip> <back> <items> <SUCCESS>` and ASSERT_NOT alike; the
-//! skip leads behind the SUCCESS.
+//! skip leads behind the SUCCESS. `<POSSESSIVE_REPEAT> <skip> <least count> <greatest count> <items> <SUCCESS>`; its skip
+//! leads to the SUCCESS.
 
 ghost use Rattle.sre_model.specs.Grammar.{Opcode};
 ghost use Rattle.sre_code.specs.Steps.{Gives, ItemAt, LookAt, Closing};
@@ -25,6 +26,24 @@ pub fn atomic_group(words: &[u32], place: usize) -> Result<Step, CodeError>
             least: 1,
         },
         place: place + 2,
+    })
+}
+
+/// The item, which opens its body; that stands for its least count.
+#[tactic(auto, using(crate::proofs::ReadRegions::possessive_repeat_laws))]
+pub fn possessive_repeat(words: &[u32], place: usize) -> Result<Step, CodeError>
+    requires { Opcode words.now place SreOpcode.POSSESSIVE_REPEAT }
+    ensures { Gives words.now place (ItemAt words.now place) result }
+{
+    let end = words::skip(words, place + 1)?;
+    let least = words::operand(words, place + 2)?;
+    let greatest = words::operand(words, place + 3)?;
+    if least > greatest {
+        return Err(CodeError::BadCounts(place + 2));
+    }
+    Ok(Step::Opens {
+        part: Part::Region { end, least },
+        place: place + 4,
     })
 }
 

@@ -20,9 +20,9 @@ use sre_model::{Frame, Next, Point};
 use sre_request::Request;
 use std::alloc::Allocator;
 
-// Whether a further body may be tried at a cursor.
+/// Whether a further body may be tried at a cursor.
 #[inline(always)]
-fn may_repeat(greatest: u32, frame: Frame, cursor: StringCursor) -> bool
+pub(super) fn may_repeat(greatest: u32, frame: Frame, cursor: StringCursor) -> bool
     ensures { result ≡ may_repeat greatest frame.count frame.last cursor.position }
 {
     let is_below = greatest == u32::MAX || frame.count < greatest;
@@ -32,9 +32,9 @@ fn may_repeat(greatest: u32, frame: Frame, cursor: StringCursor) -> bool
     }
 }
 
-// The frame with one body more, as far as is counted.
+/// The frame with one body more, as far as is counted.
 #[inline(always)]
-fn next_frame(frame: Frame, last: Option<usize>) -> Frame
+pub(super) fn next_frame(frame: Frame, last: Option<usize>) -> Frame
     ensures { result ≡ next_frame frame last }
 {
     Frame {

@@ -16,6 +16,7 @@ ghost use Rattle.sre_request.specs.Requests.{end_of, run_of};
 
 use crate::engine::lazy_runs::{longer, min_repeat_one};
 use crate::engine::loops::{max_until, min_until, repeat};
+use crate::engine::possessive_loops::possessive_repeat;
 use crate::engine::possessive_runs::possessive_repeat_one;
 use crate::engine::regions::{assert, assert_not, atomic_group, without_outcome};
 use sre_board::Board;
@@ -316,7 +317,8 @@ pub(super) fn back<S: StrDrive, A: Allocator>(
             Point::Alternatives(place) => Ok(Some(alternatives(req, board, place, choice.1)?)),
             Point::Shorter(tail, count) => Ok(Some(shorter(req, board, tail, count, choice.1)?)),
             Point::Longer(place, count) => Ok(Some(longer(req, board, place, count, choice.1)?)),
-            Point::Inside(region) => Ok(Some(without_outcome(region, choice.1))),
+            Point::Again => Ok(Some(Next::Again(choice.1))),
+            Point::Inside(region) => Ok(Some(without_outcome(board, region, choice.1))),
         },
     }
 }
@@ -365,6 +367,7 @@ pub(super) fn instruction<S: StrDrive, A: Allocator>(
                 SreOpcode::REPEAT => repeat(req, board, place, cursor),
                 SreOpcode::MAX_UNTIL => max_until(req, board, place, cursor),
                 SreOpcode::MIN_UNTIL => min_until(req, board, place, cursor),
+                SreOpcode::POSSESSIVE_REPEAT => possessive_repeat(req, board, place, cursor),
                 SreOpcode::ATOMIC_GROUP => atomic_group(req, board, place, cursor),
                 SreOpcode::ASSERT => assert(req, board, place, cursor),
                 SreOpcode::ASSERT_NOT => assert_not(req, board, place, cursor),

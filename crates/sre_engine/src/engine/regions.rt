@@ -7,7 +7,7 @@ ghost use Rattle.std.specs.Prelude.{◌≡◌, ◌-◌, ◌≤◌, [], IfOk, Mat
 ghost use Rattle.sre_model.specs.Grammar.{Opcode};
 ghost use Rattle.sre_model.specs.Board.{from_region};
 ghost use Rattle.sre_model.specs.declared.Point.TheVariants.{Instruction};
-ghost use Rattle.sre_model.specs.Machine.{HasRun, Advances, Closes, after_outcome, without_outcome};
+ghost use Rattle.sre_model.specs.Machine.{HasRun, Advances, Closes, after_outcome, without_outcome, without_loop};
 ghost use Rattle.sre_request.specs.Requests.{run_of};
 
 use crate::engine::machine::operand;
@@ -111,17 +111,28 @@ fn after_outcome(region: Region, cursor: StringCursor, entered: StringCursor) ->
         Region::AtomicGroup(tail) => Next::At(tail, cursor),
         Region::Ahead(tail) => Next::At(tail, entered),
         Region::NotAhead(_) => Next::Back,
+        Region::Owed | Region::Further(_) => Next::Again(cursor),
     }
 }
 
-/// What comes of a region whose body has no outcome.
+/// What comes of a region whose body has no outcome. A possessive loop is left where a further body has none.
 #[inline(always)]
-pub(super) fn without_outcome(region: Region, entered: StringCursor) -> Next
-    ensures { result ≡ without_outcome region entered }
+pub(super) fn without_outcome<A: Allocator>(
+    board: &mut Board<A>,
+    region: Region,
+    entered: StringCursor,
+) -> Next
+    ensures next { result ≡ without_outcome region entered }
+    ensures board { board.new ≡ without_loop region board.old }
 {
     match region {
         Region::AtomicGroup(_) => Next::Back,
         Region::Ahead(_) => Next::Back,
         Region::NotAhead(tail) => Next::At(tail, entered),
+        Region::Owed => Next::Back,
+        Region::Further(tail) => {
+            board.leave();
+            Next::At(tail, entered)
+        }
     }
 }

@@ -10,6 +10,7 @@ ghost use Rattle.sre_model.specs.Machine.{Stands, SaysAccepted, Decides, outcome
 ghost use Rattle.sre_request.specs.Requests.{end_of, run_of};
 
 use crate::engine::machine::{back, instruction};
+use crate::engine::possessive_loops::again;
 use crate::engine::regions::end;
 use sre_board::Board;
 use sre_chars::string::{StrDrive, StringCursor};
@@ -85,6 +86,7 @@ fn turns<L: Ledger, K: Plan, S: StrDrive, A: Allocator>(
         turned.tick();
         match next {
             Next::At(place, cursor) => next = instruction(req, board, place, cursor)?,
+            Next::Again(cursor) => next = again(req, board, cursor)?,
             Next::Back => match back(req, board)? {
                 Some(after) => next = after,
                 None => return Ok(None),

@@ -1,5 +1,5 @@
 use Rattle.std.proofs.Common.{◌-◌, refl}
-use Rattle.sre_model.specs.declared.Point.TheVariants.{Instruction, Alternatives, Shorter, Longer}
+use Rattle.sre_model.specs.declared.Point.TheVariants.{Instruction, Alternatives, Shorter, Longer, Again}
 use Rattle.sre_request.specs.Requests.{run_of}
 use Rattle.sre_model.proofs.GoingBack.{back_none, back_at, back_region, later_again}
 use Rattle.sre_engine.proofs.engine.machine.back.Goals as goal
@@ -26,4 +26,9 @@ returns-in_ok-longer-in-Longer g c = λ all limit x.
     later_again (run_of c.args.req.now) all limit _ _ s.0 (c.in_ok-longer-in-Longer.ensures all (limit - 1) s.1)
 
 pub returns-in-Inside : goal.returns-in-Inside
-returns-in-Inside g c = back_region (run_of c.args.req.now) c.args.board.now c.back.new.self c.in-Some.choice.0 c.in-Inside.region c.in-Some.choice.1 c.without_outcome.result c.in-Some.ensures c.in-Inside.is c.without_outcome.ensures
+returns-in-Inside g c =
+    let left = c.without_outcome.ensures in
+    back_region (run_of c.args.req.now) c.args.board.now c.back.new.self c.without_outcome.new.board c.in-Some.choice.0 c.in-Inside.region c.in-Some.choice.1 c.without_outcome.result c.in-Some.ensures c.in-Inside.is left.next left.board
+
+pub returns-in-Again : goal.returns-in-Again
+returns-in-Again g c = back_at (run_of c.args.req.now) c.args.board.now c.back.new.self c.in-Some.choice.0 Again c.in-Some.choice.1 c.in-Some.ensures c.in-Again.is refl
