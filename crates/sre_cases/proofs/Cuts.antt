@@ -29,7 +29,8 @@ pub uncut : (at : ℕ) (xs ys zs : List ℕ) → ¬ (Contains zs at) → xs ++ a
 uncut at [] ys [] none is = cc
 uncut at [] ys (z ∷ zs) none is = head_differs at z zs none cc
 uncut at (x ∷ xs) ys [] none is = cc
-uncut at (x ∷ xs) ys (z ∷ zs) none is = let tails : xs ++ at ∷ ys ≡ zs = cc in uncut at xs ys zs (tail_lacks at z zs none) tails
+uncut at (x ∷ xs) ys (z ∷ zs) none is =
+    let tails : xs ++ at ∷ ys ≡ zs = cc in uncut at xs ys zs (tail_lacks at z zs none) tails
 
 equal_itself : (xs : List ℕ) → pointwise eqb xs xs ≡ true
 equal_itself [] = refl

@@ -1,5 +1,6 @@
 pub mod Cuts
 pub mod FileLines
+pub mod Flushed
 pub mod Numbers
 pub mod Pairs
 pub mod Words

@@ -1,5 +1,6 @@
 -- Bytes and their pairs of hexadecimal digits.
-use Rattle.std.proofs.Common.{◌≡◌, ◌≢◌, ℕ, ◌+◌, ◌*◌, ◌/◌, ◌%◌, ◌<◌, false, List, [], ◌∷◌, ◌++◌, length, get_or, take, zero, suc, arith, refl, sym, ap, ◌∙◌, append_assoc, add-one}
+use Rattle.std.proofs.Common.{◌≡◌, ◌≢◌, ℕ, ◌+◌, ◌*◌, ◌/◌, ◌%◌, ◌<◌, false, List, [], ◌∷◌, ◌++◌, length, get_or, take}
+use Rattle.std.proofs.Common.{zero, suc, arith, refl, sym, ap, ◌∙◌, append_assoc, add-one}
 use Rattle.std.specs.Prelude.{All}
 use Rattle.std.proofs.lemmas.Bool.Decides.{nat_tests}
 use Rattle.std.proofs.lemmas.List.Elements.{All-get_or, All-head, All-tail}
@@ -29,10 +30,20 @@ one_pair_more bs digits b i so_far within high low =
     let first : 2 * i < length digits = omega arith in
     let second : suc (2 * i) < length digits = omega arith in
     let low_at : get_or digits (suc (2 * i)) 0 ≡ digit_glyph false (b % 16) = rw add-one at low in
-    rw (hex_text-append bs (b ∷ []), two_more, take-suc digits (suc (2 * i)) 0 second, take-suc digits (2 * i) 0 first, high, low_at, so_far, append_assoc) refl
+    rw (
+      hex_text-append bs (b ∷ []),
+      two_more,
+      take-suc digits (suc (2 * i)) 0 second,
+      take-suc digits (2 * i) 0 first,
+      high,
+      low_at,
+      so_far,
+      append_assoc,
+    ) refl
 
 pair_at : (bs : List ℕ) (i : ℕ) → i < length bs
-    → (get_or (hex_text bs) (2 * i) 0 ≡ digit_glyph false (get_or bs i 0 / 16)) × (get_or (hex_text bs) (2 * i + 1) 0 ≡ digit_glyph false (get_or bs i 0 % 16))
+    → (get_or (hex_text bs) (2 * i) 0 ≡ digit_glyph false (get_or bs i 0 / 16))
+    × (get_or (hex_text bs) (2 * i + 1) 0 ≡ digit_glyph false (get_or bs i 0 % 16))
 pair_at [] i within = absurd (omega arith)
 pair_at (b ∷ bs) zero within = (refl, refl)
 pair_at (b ∷ bs) (suc i) within =
@@ -43,7 +54,8 @@ pair_at (b ∷ bs) (suc i) within =
 
 -- two digits that no byte is written as, at the place of a pair
 pub no_pair_is_no_text : (digits : List ℕ) (i : ℕ) → 2 * i + 1 < length digits
-    → ((b : ℕ) → b < 256 → get_or digits (2 * i) 0 ≡ digit_glyph false (b / 16) → get_or digits (2 * i + 1) 0 ≢ digit_glyph false (b % 16))
+    → ((b : ℕ) → b < 256 → get_or digits (2 * i) 0 ≡ digit_glyph false (b / 16)
+    → get_or digits (2 * i + 1) 0 ≢ digit_glyph false (b % 16))
     → (bs : List ℕ) → All (λ b. b < 256) bs → hex_text bs ≢ digits
 no_pair_is_no_text digits i within none bs small is =
     let twice : length digits ≡ 2 * length bs = sym (ap length is) ∙ length-hex_text bs in
@@ -55,7 +67,8 @@ no_pair_is_no_text digits i within none bs small is =
 glyph_once : (d e : ℕ) → d < 16 → e < 16 → digit_glyph false d ≡ digit_glyph false e → d ≡ e
 glyph_once d e small small' is = grind (arith, nat_tests)
 
-byte_once : (b c : ℕ) → b < 256 → c < 256 → digit_glyph false (b / 16) ≡ digit_glyph false (c / 16) → digit_glyph false (b % 16) ≡ digit_glyph false (c % 16) → b ≡ c
+byte_once : (b c : ℕ) → b < 256 → c < 256 → digit_glyph false (b / 16) ≡ digit_glyph false (c / 16)
+    → digit_glyph false (b % 16) ≡ digit_glyph false (c % 16) → b ≡ c
 byte_once b c small small' high low =
     let highs : b / 16 ≡ c / 16 = glyph_once (b / 16) (c / 16) (omega arith) (omega arith) high in
     let lows : b % 16 ≡ c % 16 = glyph_once (b % 16) (c % 16) (omega arith) (omega arith) low in
@@ -70,6 +83,11 @@ bytes_once (b ∷ bs) (c ∷ cs) small small' is =
     let high : digit_glyph false (b / 16) ≡ digit_glyph false (c / 16) = cc in
     let low : digit_glyph false (b % 16) ≡ digit_glyph false (c % 16) = cc in
     let rest : hex_text bs ≡ hex_text cs = cc in
-    let first : b ≡ c = byte_once b c (All-head (λ b. b < 256) b bs small) (All-head (λ b. b < 256) c cs small') high low in
-    let others : bs ≡ cs = bytes_once bs cs (All-tail (λ b. b < 256) b bs small) (All-tail (λ b. b < 256) c cs small') rest in
+    let first : b ≡ c = byte_once b c (All-head (λ b. b < 256) b bs small)
+    (All-head (λ b. b < 256) c cs small') high low in
+    let others : bs ≡ cs =
+    bytes_once bs cs (All-tail (λ b. b < 256) b bs small) (All-tail (λ b. b < 256) c cs small') rest in
     rw (first, others) refl
+
+-- where digits are refused, and where a pair of them is read
+pub ruleset hex_pairs = (odd_is_no_text, no_pair_is_no_text, one_pair_more)

@@ -27,7 +27,13 @@ pub record IsLeft (words left field : List ℕ) : Type 0 where
 first_words : (field : List ℕ) → field ≢ codes "-" → (ws : List ℕ) → AreWords ws → words_text ws ≡ field → WordsOf field
 first_words field no_dash [] all is = absurd (no_dash (sym is))
 first_words field no_dash (w ∷ ws) all is =
-    record { word = w; more = ws; fits = All-head (λ w. w < 2 ^ 32) w ws all; all_fit = All-tail (λ w. w < 2 ^ 32) w ws all; text = is }
+    record {
+      word = w;
+      more = ws;
+      fits = All-head (λ w. w < 2 ^ 32) w ws all;
+      all_fit = All-tail (λ w. w < 2 ^ 32) w ws all;
+      text = is;
+    }
 
 -- at first the whole field is left
 pub all_left : (field : List ℕ) → field ≢ codes "-" → IsLeft [] field field
@@ -41,14 +47,25 @@ parts_of : (w : ℕ) (more digits others : List ℕ) → w < 2 ^ 32 → AreWords
     → numbers_text (w ∷ more) ≡ digits ++ 44 ∷ others → (decimal w ≡ digits) × WordsOf others
 parts_of w [] digits others fits all none is = absurd (uncut 44 digits others (decimal w) (no_comma w fits) (sym is))
 parts_of w (v ∷ more) digits others fits all none is =
-    let parts = cut_once 44 (decimal w) (numbers_text (v ∷ more)) digits others (no_comma w fits) none is in
-    (parts.0, record { word = v; more = more; fits = All-head (λ w. w < 2 ^ 32) v more all; all_fit = All-tail (λ w. w < 2 ^ 32) v more all; text = parts.1 })
+    let parts = cut_once 44 (decimal w) (numbers_text (v ∷ more)) digits others (no_comma w fits) none is in (
+      parts.0,
+      record {
+        word = v;
+        more = more;
+        fits = All-head (λ w. w < 2 ^ 32) v more all;
+        all_fit = All-tail (λ w. w < 2 ^ 32) v more all;
+        text = parts.1;
+      },
+    )
 
-first_part : (left digits others : List ℕ) → digits ++ 44 ∷ others ≡ left → ¬ (Contains digits 44) → (of : WordsOf left) → (decimal of.word ≡ digits) × WordsOf others
-first_part left digits others cut none of = parts_of of.word of.more digits others of.fits of.all_fit none (of.text ∙ sym cut)
+first_part : (left digits others : List ℕ) → digits ++ 44 ∷ others ≡ left → ¬ (Contains digits 44) → (of : WordsOf left)
+    → (decimal of.word ≡ digits) × WordsOf others
+first_part left digits others cut none of =
+    parts_of of.word of.more digits others of.fits of.all_fit none (of.text ∙ sym cut)
 
 -- a word read, and the others left
-pub others_left : (words left field digits others : List ℕ) (n : ℕ) → IsLeft words left field → digits ++ 44 ∷ others ≡ left → ¬ (Contains digits 44)
+pub others_left : (words left field digits others : List ℕ) (n : ℕ) → IsLeft words left field
+    → digits ++ 44 ∷ others ≡ left → ¬ (Contains digits 44)
     → decimal n ≡ digits → IsLeft (words ++ n ∷ []) others field
 others_left words left field digits others n is_left cut none written = record {
   read = λ w ws is.
@@ -58,13 +75,15 @@ others_left words left field digits others n is_left cut none written = record {
 }
 
 -- a first part that is no word
-pub no_first_word : (words left field digits others : List ℕ) → IsLeft words left field → digits ++ 44 ∷ others ≡ left → ¬ (Contains digits 44)
+pub no_first_word : (words left field digits others : List ℕ) → IsLeft words left field → digits ++ 44 ∷ others ≡ left
+    → ¬ (Contains digits 44)
     → ((w : ℕ) → w < 2 ^ 32 → decimal w ≢ digits) → (ws : List ℕ) → AreWords ws → words_text ws ≢ field
 no_first_word words left field digits others is_left cut none no_word ws all is =
     let of = is_left.whole ws all is in
     no_word of.word of.fits (first_part left digits others cut none of).0
 
-only_word : (left : List ℕ) (w : ℕ) (more : List ℕ) → ¬ (Contains left 44) → numbers_text (w ∷ more) ≡ left → decimal w ≡ left
+only_word : (left : List ℕ) (w : ℕ) (more : List ℕ) → ¬ (Contains left 44) → numbers_text (w ∷ more) ≡ left
+    → decimal w ≡ left
 only_word left w [] none is = is
 only_word left w (v ∷ more) none is = absurd (uncut 44 (decimal w) (numbers_text (v ∷ more)) left none is)
 

@@ -59,8 +59,11 @@ match_text (Some m) =
 
 -- the answer to a case whose words are a tree's
 abbrev pub IsAnswerOf : Tree → Table → Case → List ℕ → List ℕ → List ℕ → Type 0
-IsAnswerOf t table Check words text answer = (hints : Hints) × Confirmed words t hints × (answer ≡ hints_text hints.width hints.prefix hints.literal hints.first_set)
-IsAnswerOf t table (Find finding subject) words text answer = answer ≡ match_text (match_of finding (asked subject words table (characters subject.text text)) t)
+IsAnswerOf t table Check words text answer =
+    (hints : Hints) × Confirmed words t hints
+    × (answer ≡ hints_text hints.width hints.prefix hints.literal hints.first_set)
+IsAnswerOf t table (Find finding subject) words text answer =
+    answer ≡ match_text (match_of finding (asked subject words table (characters subject.text text)) t)
 
 -- the answer to a case: that of its words' tree, `refused` where they have none, or `memory`
 abbrev pub IsAnswer : Table → Case → List ℕ → List ℕ → List ℕ → Type 0

@@ -1,5 +1,6 @@
 -- What the fields of a case are written as.
-use Rattle.std.specs.Prelude.{ℕ, ◌≡◌, ◌≤◌, ◌<◌, ◌/◌, ◌%◌, ◌^◌, Bool, true, false, List, [], ◌∷◌, ◌++◌, map, codes, length, slice_index, All}
+use Rattle.std.specs.Prelude.{ℕ, ◌≡◌, ◌≤◌, ◌<◌, ◌/◌, ◌%◌, ◌^◌, Bool, true, false, List, [], ◌∷◌, ◌++◌, map, codes}
+use Rattle.std.specs.Prelude.{length, slice_index, All}
 use Rattle.std.specs.Fmt.{decimal, digit_glyph}
 use Rattle.std.specs.List.{join_with_byte}
 use Rattle.std.specs.Str.{IsUtf8}
@@ -68,7 +69,8 @@ IsText Utf8 bytes = IsUtf8 bytes
 
 -- the text, the window and the flags of a case, each behind a space
 abbrev pub subject_text : Subject → List ℕ → List ℕ
-subject_text subject text = 32 ∷ bytes_text subject.text text ++ (32 ∷ window_text subject.window ++ (32 ∷ flags_text subject.flags))
+subject_text subject text =
+    32 ∷ bytes_text subject.text text ++ (32 ∷ window_text subject.window ++ (32 ∷ flags_text subject.flags))
 
 -- the verb that a case begins with
 abbrev pub verb_text : Verb → List ℕ

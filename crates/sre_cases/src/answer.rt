@@ -41,7 +41,8 @@ pub fn push_match<A: Allocator>(
     last_index: isize,
     marks: &[Option<usize>],
 ) -> Result<(), AllocError>
-    ensures { OnOk result (string_bytes answer.new ≡ string_bytes answer.old ++ (codes "yes " ++ decimal start ++ codes ".."
+    ensures { OnOk result
+        (string_bytes answer.new ≡ string_bytes answer.old ++ (codes "yes " ++ decimal start ++ codes ".."
         ++ decimal end ++ codes " last " ++ signed_decimal last_index ++ codes " marks " ++ marks_text marks.now)) }
 {
     write!(answer, "yes {start}..{end} last {last_index} marks ")?;

@@ -1,6 +1,6 @@
 //! The cases of a file, and their answers.
 
-ghost use Rattle.std.specs.Prelude.{◌≡◌, ◌≢◌, ◌≤◌, ◌++◌, ◌∷◌, [], ℕ, List, IfErr, OnOk, string_bytes};
+ghost use Rattle.std.specs.Prelude.{◌≡◌, ◌≢◌, ◌≤◌, ◌++◌, ◌∷◌, [], ℕ, List, IfErr, OnErr, OnOk, string_bytes};
 ghost use Rattle.std.specs.Io.KnownBytes.{Appends};
 ghost use Rattle.sre_cases.specs.Answers.{fault_text, IsFaultOfCases};
 ghost use Rattle.sre_chars.specs.Tables.{ascii_table};
@@ -10,12 +10,13 @@ ghost use Rattle.sre_engine.specs.Codes.{words_of, uni_of};
 ghost use Rattle.sre_engine.specs.Requests.{asked_of, code_of};
 ghost use Rattle.sre_cases.specs.Cases.{IsAnswer, IsAnswerOf, asked, match_of, match_text};
 ghost use Rattle.sre_cases.specs.Fields.{IsCase};
-ghost use Rattle.sre_cases.specs.Lines.{lines_of, Answered, IsNoCase, StopsAt};
+ghost use Rattle.sre_cases.specs.Lines.{lines_of, Answered, IsNoCase, IsBegun, StopsAt};
 
 use crate::answer::{push_hints, push_match};
 use crate::line::{
     Case, Finding, LineFault, Operands, Subject, TextForm, Window, read_case, split_once,
 };
+use crate::output::write_whole;
 use sre_engine::code::CodeError;
 use sre_engine::engine::{SreError, State};
 use sre_engine::{Code, Request, StrDrive, UniTable};
@@ -41,12 +42,12 @@ pub enum CaseFault {
 /// one where that byte is missing; empty lines and those that begin with `#` are no cases.
 ///
 /// The faults are `NotACase`, `NoMemory` and `OutputFailed`. The answers to earlier lines are written
-/// then; a refusal of memory to a case itself is its answer `memory`.
+/// then, and after a failed write perhaps a part of the next one, with nothing behind it. A refusal of
+/// memory to a case itself is its answer `memory`.
 pub fn run_cases<W: Write>(alloc: Global, file: &[u8], out: &mut W) -> Result<(), CaseFault>
     ensures answers { OnOk result (Answered (W.contents out.old) (W.contents out.new) (lines_of file.now)) }
     ensures faults { IfErr result IsFaultOfCases }
-    ensures stopped { IfErr result (λ fault. fault ≢ CaseFault.OutputFailed
-        → StopsAt (W.contents out.old) (W.contents out.new) (lines_of file.now) fault) }
+    ensures stopped { IfErr result (StopsAt (W.contents out.old) (W.contents out.new) (lines_of file.now)) }
 {
     answer_lines(alloc, alloc, file, out)
 }
@@ -60,8 +61,7 @@ fn answer_lines<A: Allocator + Copy, W: Write>(
 ) -> Result<(), CaseFault>
     ensures answers { OnOk result (Answered (W.contents out.old) (W.contents out.new) (lines_of file.now)) }
     ensures faults { IfErr result IsFaultOfCases }
-    ensures stopped { IfErr result (λ fault. fault ≢ CaseFault.OutputFailed
-        → StopsAt (W.contents out.old) (W.contents out.new) (lines_of file.now) fault) }
+    ensures stopped { IfErr result (StopsAt (W.contents out.old) (W.contents out.new) (lines_of file.now)) }
 {
     let mut desk = Desk {
         alloc,
@@ -110,8 +110,10 @@ fn answer_line<A: Allocator + Copy, W: Write>(
     ensures table { desk.new.table ≡ ascii_table }
     ensures answers { OnOk result (Answered (W.contents out.old) (W.contents out.new) (line.now ∷ [])) }
     ensures faults { IfErr result IsFaultOfCases }
-    ensures unanswered { IfErr result (λ fault. fault ≢ CaseFault.OutputFailed → Answered (W.contents out.old) (W.contents out.new) []) }
-    ensures no_case { IfErr result (λ fault. (n : ℕ) → fault ≡ CaseFault.NotACase n → (n ≡ number) × IsNoCase line.now) }
+    ensures begun { IfErr result (λ fault. (part : List ℕ) × IsBegun fault line.now part
+        × Appends (W.contents out.old) (W.contents out.new) part) }
+    ensures no_case { IfErr result
+        (λ fault. (n : ℕ) → fault ≡ CaseFault.NotACase n → (n ≡ number) × IsNoCase line.now) }
 {
     if line.is_empty() || line[0] == b'#' {
         return Ok(());
@@ -135,8 +137,12 @@ fn write_answer<A: Allocator + Copy, W: Write>(
 ) -> io::Result<()>
     requires { IsCase case desk.old.operands.words.items desk.old.operands.text.items }
     ensures table { desk.new.table ≡ desk.old.table }
-    ensures answer { OnOk result ((said : List ℕ) × IsAnswer desk.old.table case desk.old.operands.words.items desk.old.operands.text.items said
+    ensures answer { OnOk result ((said : List ℕ)
+        × IsAnswer desk.old.table case desk.old.operands.words.items desk.old.operands.text.items said
         × Appends (W.contents out.old) (W.contents out.new) (said ++ 10 ∷ [])) }
+    ensures part { OnErr result ((said part rest : List ℕ)
+        × IsAnswer desk.old.table case desk.old.operands.words.items desk.old.operands.text.items said
+        × (part ++ rest ≡ said ++ 10 ∷ []) × Appends (W.contents out.old) (W.contents out.new) part) }
 {
     desk.answer.clear();
     let answered = push_answer(
@@ -148,8 +154,8 @@ fn write_answer<A: Allocator + Copy, W: Write>(
         &mut desk.answer,
     );
     match answered {
-        Ok(()) => out.write_all(desk.answer.as_bytes()),
-        Err(AllocError) => out.write_all(b"memory\n"),
+        Ok(()) => write_whole(desk.answer.as_bytes(), out),
+        Err(AllocError) => write_whole(b"memory\n", out),
     }
 }
 
@@ -163,7 +169,8 @@ fn push_answer<A: Allocator + Copy>(
     answer: &mut String<A>,
 ) -> Result<(), AllocError>
     requires { IsCase case operands.now.words.items operands.now.text.items }
-    ensures { OnOk result ((said : List ℕ) × IsAnswer table.now case operands.now.words.items operands.now.text.items said
+    ensures { OnOk result
+        ((said : List ℕ) × IsAnswer table.now case operands.now.words.items operands.now.text.items said
         × (string_bytes answer.new ≡ string_bytes answer.old ++ (said ++ 10 ∷ []))) }
 {
     push_verdict(alloc, table, case, operands, state, answer)?;
@@ -180,7 +187,8 @@ fn push_verdict<A: Allocator + Copy>(
     answer: &mut String<A>,
 ) -> Result<(), AllocError>
     requires { IsCase case operands.now.words.items operands.now.text.items }
-    ensures { OnOk result ((said : List ℕ) × IsAnswer table.now case operands.now.words.items operands.now.text.items said
+    ensures { OnOk result
+        ((said : List ℕ) × IsAnswer table.now case operands.now.words.items operands.now.text.items said
         × (string_bytes answer.new ≡ string_bytes answer.old ++ said)) }
 {
     match Code::check(alloc, operands.words.as_slice(), table) {
@@ -239,7 +247,8 @@ fn push_found<S: StrDrive, A: Allocator + Copy>(
     answer: &mut String<A>,
 ) -> Result<(), AllocError>
     ensures { (t : Tree) → Whole (words_of (code_of request.entry)) t
-        → OnOk result (string_bytes answer.new ≡ string_bytes answer.old ++ match_text (match_of finding (asked_of request.entry) t)) }
+        → OnOk result (string_bytes answer.new ≡ string_bytes answer.old ++ match_text
+        (match_of finding (asked_of request.entry) t)) }
 {
     let found = match finding {
         Finding::Match => state.pymatch(&request),
@@ -258,7 +267,8 @@ fn push_found<S: StrDrive, A: Allocator + Copy>(
 
 /// Writes the line that tells a fault, with `name` where the file is named.
 pub fn write_fault<W: Write>(fault: &CaseFault, name: &str, out: &mut W) -> Result<(), CaseFault>
-    ensures line { OnOk result (Appends (W.contents out.old) (W.contents out.new) (fault_text fault.now name.now ++ 10 ∷ [])) }
+    ensures line { OnOk result (Appends (W.contents out.old) (W.contents out.new)
+        (fault_text fault.now name.now ++ 10 ∷ [])) }
     ensures failed { IfErr result (λ failure. failure ≡ CaseFault.OutputFailed) }
 {
     match write_line(fault, name, out) {
@@ -269,7 +279,8 @@ pub fn write_fault<W: Write>(fault: &CaseFault, name: &str, out: &mut W) -> Resu
 
 // Writes the line that tells a fault.
 fn write_line<W: Write>(fault: &CaseFault, name: &str, out: &mut W) -> io::Result<()>
-    ensures { OnOk result (Appends (W.contents out.old) (W.contents out.new) (fault_text fault.now name.now ++ 10 ∷ [])) }
+    ensures { OnOk result (Appends (W.contents out.old) (W.contents out.new)
+        (fault_text fault.now name.now ++ 10 ∷ [])) }
 {
     match fault {
         CaseFault::Usage => writeln!(out, "usage: sre_cases FILE"),

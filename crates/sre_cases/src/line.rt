@@ -3,9 +3,11 @@
 //! A case is `check WORDS`, or `match` or `search` with WORDS TEXT WINDOW FLAGS, its fields divided by single spaces.
 //! A line is read whole before its words are checked, and any other line is refused.
 
-ghost use Rattle.std.specs.Prelude.{◌≡◌, ◌≢◌, ℕ, ◌^◌, ◌<◌, ◌++◌, ◌∷◌, List, All, Contains, IfSome, IfNone, IfOk, OnOk, [], IsTrue, ◌↔◌};
+ghost use Rattle.std.specs.Prelude.{◌≡◌, ◌≢◌, ℕ, ◌^◌, ◌<◌, ◌++◌, ◌∷◌, List, All, Contains, IfSome, IfNone, IfOk, OnOk};
+ghost use Rattle.std.specs.Prelude.{[], IsTrue, ◌↔◌};
 ghost use Rattle.std.specs.Fmt.{decimal};
-ghost use Rattle.sre_cases.specs.Fields.{verb_text, words_text, window_text, IsWindow, flags_text, form_text, bytes_text, subject_text, case_text, IsText, AreWords, IsSubject, IsCase};
+ghost use Rattle.sre_cases.specs.Fields.{verb_text, words_text, window_text, IsWindow, flags_text, form_text};
+ghost use Rattle.sre_cases.specs.Fields.{bytes_text, subject_text, case_text, IsText, AreWords, IsSubject, IsCase};
 
 use crate::number::{decimal_number, read_hex};
 use std::alloc::{AllocFailed, Allocator};
@@ -188,7 +190,8 @@ fn read_words<A: Allocator>(field: &[u8], words: &mut Vec<u32, A>) -> Result<(),
 
 // Reads one word more.
 fn push_word<A: Allocator>(digits: &[u8], words: &mut Vec<u32, A>) -> Result<(), LineFault>
-    ensures read { OnOk result ((w : ℕ) × (decimal w ≡ digits.now) × (words.new.items ≡ words.old.items ++ w ∷ []) × (w < 2 ^ 32)) }
+    ensures read { OnOk result
+        ((w : ℕ) × (decimal w ≡ digits.now) × (words.new.items ≡ words.old.items ++ w ∷ []) × (w < 2 ^ 32)) }
     ensures refused { result ≡ Err LineFault.NotACase → (w : ℕ) → w < 2 ^ 32 → decimal w ≢ digits.now }
 {
     let Some(word) = word_of(digits) else {

@@ -1,6 +1,7 @@
 //! Numbers and bytes as the digits of a case's fields.
 
-ghost use Rattle.std.specs.Prelude.{◌≡◌, ◌≢◌, ℕ, ◌+◌, ◌*◌, ◌/◌, ◌%◌, ◌^◌, ◌<◌, List, All, IfSome, IfNone, OnOk, false, IsTrue, ◌↔◌};
+ghost use Rattle.std.specs.Prelude.{◌≡◌, ◌≢◌, ℕ, ◌+◌, ◌*◌, ◌/◌, ◌%◌, ◌^◌, ◌<◌, List, All, IfSome, IfNone, OnOk, false};
+ghost use Rattle.std.specs.Prelude.{IsTrue, ◌↔◌};
 ghost use Rattle.std.specs.Fmt.{decimal, digit_glyph};
 ghost use Rattle.sre_cases.specs.Fields.{hex_text, BeginsAsNumber};
 
@@ -36,11 +37,12 @@ fn begins_as_number(digits: &[u8]) -> bool
 }
 
 /// Reads pairs of lower-case hexadecimal digits, perhaps none, in place of what `bytes` held.
-#[tactic(auto, using(crate::proofs::Pairs::odd_is_no_text, crate::proofs::Pairs::no_pair_is_no_text, crate::proofs::Pairs::one_pair_more))]
+#[tactic(auto, using(crate::proofs::Pairs::hex_pairs))]
 pub fn read_hex<A: Allocator>(digits: &[u8], bytes: &mut Vec<u8, A>) -> Result<(), LineFault>
     ensures read { OnOk result (hex_text bytes.new.items ≡ digits.now) }
     ensures fit { OnOk result (All (λ b. b < 256) bytes.new.items) }
-    ensures refused { result ≡ Err LineFault.NotACase → (bs : List ℕ) → All (λ b. b < 256) bs → hex_text bs ≢ digits.now }
+    ensures refused { result ≡ Err LineFault.NotACase → (bs : List ℕ) → All (λ b. b < 256) bs
+        → hex_text bs ≢ digits.now }
 {
     bytes.clear();
     if digits.len() % 2 != 0 {
@@ -58,7 +60,8 @@ pub fn read_hex<A: Allocator>(digits: &[u8], bytes: &mut Vec<u8, A>) -> Result<(
 // The byte that a pair of digits writes.
 fn hex_byte(high: u8, low: u8) -> Option<u8>
     ensures read { IfSome result (λ b. (high ≡ digit_glyph false (b / 16)) × (low ≡ digit_glyph false (b % 16))) }
-    ensures refused { IfNone result ((b : ℕ) → b < 256 → high ≡ digit_glyph false (b / 16) → low ≢ digit_glyph false (b % 16)) }
+    ensures refused { IfNone result
+        ((b : ℕ) → b < 256 → high ≡ digit_glyph false (b / 16) → low ≢ digit_glyph false (b % 16)) }
 {
     Some(16 * hex_digit(high)? + hex_digit(low)?)
 }

@@ -1,30 +1,94 @@
-//! Worked cases with their answers.
+//! Worked cases with their answers, where memory is ample and where a request for it is refused.
 
 use super::*;
 use sre_refusing::Refusing;
 use std::test::Fail;
 
 // Lines and their answers, by the definition of the engine's matches.
-const ROWS: [(&str, &str); 45] = [
+const ROWS: [(&str, &str); 67] = [
     (
         "match 17,0,16,97,17,1,16,98,1 b:6162 all -",
         "yes 0..2 last 1 marks 0,1",
     ),
+    (
+        "match 23,19,2,2,7,5,16,97,15,11,9,16,97,16,97,16,98,15,2,0,18,16,99,1 b:61616263 all -",
+        "no",
+    ),
+    (
+        "match 7,15,17,0,16,97,17,1,5,5,0,16,98,1,15,7,5,16,97,15,2,0,16,98,1 b:6162 all -",
+        "yes 0..2 last -1 marks none",
+    ),
+    (
+        "match 23,14,1,4294967295,23,7,1,4294967295,16,97,16,98,18,16,99,19,16,100,1 b:61626361626364 all -",
+        "yes 0..7 last -1 marks none",
+    ),
+    (
+        "search 24,6,0,4294967295,16,97,1,1 b:62 all a",
+        "yes 1..1 last -1 marks none",
+    ),
+    (
+        "match 4,5,1,16,97,1,16,98,1 b:6162 1..2 -",
+        "yes 1..2 last -1 marks none",
+    ),
+    (
+        "match 5,5,1,16,97,1,16,98,1 b:62 all -",
+        "yes 0..1 last -1 marks none",
+    ),
+    ("match 6,3,1 b: all -", "no"),
+    ("match 6,4,1 b: all -", "no"),
+    ("match 16,233,1 s:c3a9 all -", "yes 0..1 last -1 marks none"),
+    ("match 16,233,1 b:c3a9 all -", "no"),
+    (
+        "match 35,4,16,97,0,1 b:41 all -",
+        "yes 0..1 last -1 marks none",
+    ),
+    (
+        "match 27,4,16,97,1,16,98,1 b:6162 all f",
+        "yes 0..2 last -1 marks none",
+    ),
+    (
+        "match 27,9,24,6,0,4294967295,16,97,1,1,16,97,1 b:616161 all -",
+        "no",
+    ),
+    (
+        "match 13,8,16,97,21,22,97,98,0,1 b:61 all -",
+        "yes 0..1 last -1 marks none",
+    ),
+    ("match 13,8,16,97,21,22,97,98,0,1 b:62 all -", "no"),
+    (
+        "match 13,8,16,97,21,22,97,98,0,1 b:63 all -",
+        "yes 0..1 last -1 marks none",
+    ),
+    (
+        "match 23,10,0,4294967295,24,6,0,4294967295,16,97,1,18,1 b:62 all -",
+        "yes 0..0 last -1 marks none",
+    ),
+    (
+        "match 23,10,0,4294967295,24,6,0,4294967295,16,97,1,18,1 b:616162 all -",
+        "yes 0..2 last -1 marks none",
+    ),
+    (
+        "match 23,3,3,3,18,1 b: all -",
+        "yes 0..0 last -1 marks none",
+    ),
+    ("match 17,0,1 b:61 all -", "yes 0..0 last -1 marks 0"),
+    (
+        "match 16,97,6,5,1 b:610a62 0..2 -",
+        "yes 0..1 last -1 marks none",
+    ),
+    ("search 6,0,16,97,1 b:6261 1..2 -", "no"),
+    ("check -", "refused"),
+    ("check 16", "refused"),
+    ("check 43,1", "refused"),
+    ("check 25,1", "refused"),
+    ("check 26,6,2,1,16,97,1,1", "refused"),
+    ("check 16,97,1,1", "refused"),
     ("match 1 b: all -", "yes 0..0 last -1 marks none"),
     ("match 1 b:61 all a", "no"),
     ("match 17,3,1 b:61 all -", "yes 0..0 last 2 marks -,-,-,0"),
-    ("match 17,0,1 b:61 all -", "yes 0..0 last -1 marks 0"),
     ("match 16,97,1 b:6162 all f", "no"),
     ("match 16,98,1 b:6162 1..9 -", "yes 1..2 last -1 marks none"),
-    ("match 16,97,1 b:61 1..1 -", "no"),
-    (
-        "match 1 b: 18446744073709551615..18446744073709551615 -",
-        "yes 0..0 last -1 marks none",
-    ),
     ("check 16,97,1", "ok width - prefix - literal no set no"),
-    ("check -", "refused"),
-    ("check 16,97,1,1", "refused"),
-    ("match 16,97,1,1 b:61 all -", "refused"),
     (
         "match 24,6,0,4294967295,16,97,1,1 b:616162 all -",
         "yes 0..2 last -1 marks none",
@@ -46,135 +110,199 @@ const ROWS: [(&str, &str); 45] = [
         "search 16,97,1 b:626261 all -",
         "yes 2..3 last -1 marks none",
     ),
-    (
-        "search 17,0,16,97,17,1,1 b:6261 all -",
-        "yes 1..2 last 1 marks 1,2",
-    ),
-    ("search 16,97,1 b:6161 all f", "yes 1..2 last -1 marks none"),
-    (
-        "search 16,97,1 b:616261 1..9 -",
-        "yes 2..3 last -1 marks none",
-    ),
-    ("search 16,97,1 b:6261 0..1 -", "no"),
-    ("search 1 b:61 all -", "yes 0..0 last -1 marks none"),
-    ("search 1 b:61 all a", "yes 1..1 last -1 marks none"),
-    ("search 1 b: all a", "no"),
-    ("search 16,97,1,1 b:61 all -", "refused"),
+    ("check 7,0,1", "refused"),
+    ("check 8,18,1", "refused"),
+    ("check 6,12,1", "refused"),
     ("match 16,233,1 b:e9 all -", "yes 0..1 last -1 marks none"),
-    ("match 16,233,1 s:c3a9 all -", "yes 0..1 last -1 marks none"),
-    ("match 16,233,1 b:c3a9 all -", "no"),
-    ("match 1 s: all -", "yes 0..0 last -1 marks none"),
-    (
-        "search 17,0,16,8364,17,1,1 s:61c3a9e282ac62 1..3 -",
-        "yes 2..3 last 1 marks 2,3",
-    ),
-    (
-        "search 24,5,0,4294967295,3,1,1 s:61c3a9f09f9880 all f",
-        "yes 0..3 last -1 marks none",
-    ),
     ("match 32,97,1 b:41 all -", "yes 0..1 last -1 marks none"),
     ("match 32,65,1 b:41 all -", "no"),
     ("match 36,65,1 b:61 all -", "yes 0..1 last -1 marks none"),
     ("match 33,97,1 b:41 all -", "no"),
     (
-        "match 35,4,16,97,0,1 b:41 all -",
-        "yes 0..1 last -1 marks none",
+        "match 26,5,0,4294967295,2,1,16,98,1 b:61626162 all -",
+        "yes 0..2 last -1 marks none",
     ),
     (
-        "match 13,5,42,65,90,0,1 s:61 all -",
-        "yes 0..1 last -1 marks none",
+        "match 26,6,1,2,16,97,1,16,98,1 b:616162 all -",
+        "yes 0..3 last -1 marks none",
     ),
-    // the table knows no case past ASCII
-    ("match 40,233,1 s:c389 all -", "no"),
-    ("check 7,0,1", "refused"),
-    ("check 43,1", "refused"),
-    ("check 25,1", "refused"),
-    ("check 8,18,1", "refused"),
-    ("check 6,12,1", "refused"),
+    ("match 26,6,1,2,16,97,1,16,98,1 b:61616162 all -", "no"),
+    (
+        "match 29,6,0,4294967295,16,97,1,16,97,1 b:616161 all -",
+        "no",
+    ),
+    (
+        "match 23,10,0,4294967295,24,6,0,4294967295,16,97,1,19,16,98,1 b:616162 all -",
+        "yes 0..3 last -1 marks none",
+    ),
+    (
+        "match 23,10,0,4294967295,24,6,0,4294967295,16,97,1,19,16,98,1 b:616163 all -",
+        "no",
+    ),
+    (
+        "match 4,9,0,17,0,16,97,17,1,1,1 b:61 all -",
+        "yes 0..0 last 1 marks 0,1",
+    ),
+    (
+        "match 5,9,0,17,0,16,97,17,1,1,1 b:62 all -",
+        "yes 0..0 last -1 marks none",
+    ),
+    ("search 6,0,16,97,1 b:78787878 all -", "no"),
+    (
+        "search 16,97,1 b:626161 all -",
+        "yes 1..2 last -1 marks none",
+    ),
+    ("check 27,5,16,97,1,16,98,1", "refused"),
+    ("check 27,3,16,97,1,16,98,1", "refused"),
+    ("check 23,4294967295,0,1,18,1", "refused"),
+    (
+        "match 1 b: 18446744073709551615..18446744073709551615 -",
+        "yes 0..0 last -1 marks none",
+    ),
+    ("match 16,97,1 b:61 1..1 -", "no"),
+    ("match 6,4,1 b:61 0..0 -", "no"),
+    (
+        "check 7,3,15,7,5,16,97,15,2,0,1",
+        "ok width - prefix - literal no set no",
+    ),
+    ("match 8,10,1 s:d9a3 all -", "no"),
 ];
+
+// Whether a file is answered so.
+fn gives(alloc: Global, file: &str, answers: &str) -> bool {
+    let mut out = Vec::new(alloc);
+    run_cases(alloc, file.as_bytes(), &mut out) == Ok(()) && out.as_slice() == answers.as_bytes()
+}
 
 #[test]
 fn rows_are_answered(rt: HostRuntime) -> Result<(), Fail> {
     let mut file = String::new(rt.alloc());
     let mut answers = String::new(rt.alloc());
     for (line, answer) in ROWS {
-        let mut out = Vec::new(rt.alloc());
-        assert!(rt;
-            run_cases(rt.alloc(), line.as_bytes(), &mut out) == Ok(()),
-            "{line}"
-        );
-        out.pop();
-        assert!(rt; out.as_slice() == answer.as_bytes(), "{line}");
+        let whole = format!(in rt.alloc(); "{answer}\n")?;
+        assert!(rt; gives(rt.alloc(), line, whole.as_str()), "{line}");
         writeln!(file, "{line}\n# a note\n")?;
         writeln!(answers, "{answer}")?;
     }
     // one run over all of them, in which a case leaves nothing to the next
-    let mut out = Vec::new(rt.alloc());
-    assert!(rt; run_cases(rt.alloc(), file.as_bytes(), &mut out) == Ok(()));
-    assert!(rt; out.as_slice() == answers.as_bytes());
+    assert!(rt; gives(rt.alloc(), file.as_str(), answers.as_str()));
     Ok(())
 }
 
+// How many requests for memory are made to read a line.
+fn requests_of_reading(alloc: Global, line: &str) -> Result<u64, Fail> {
+    let most = 1000;
+    let heap = Refusing::new(alloc, most);
+    let mut operands = Operands {
+        words: Vec::new(&heap),
+        text: Vec::new(&heap),
+    };
+    read_case(line.as_bytes(), &mut operands)?;
+    Ok(most.saturating_sub(heap.left()))
+}
+
 #[test]
-fn a_refused_request_is_the_answer_or_the_fault(rt: HostRuntime) -> Result<(), Fail> {
+fn a_refused_request_is_the_fault_up_to_reading_and_then_the_answer(
+    rt: HostRuntime,
+) -> Result<(), Fail> {
     for (line, answer) in ROWS {
+        let reading = requests_of_reading(rt.alloc(), line)?;
         let whole = format!(in rt.alloc(); "{answer}\n")?;
         for refused in 1..40u64 {
             let heap = Refusing::new(rt.alloc(), refused);
             let mut out = Vec::new(rt.alloc());
             let ran = answer_lines(rt.alloc(), &heap, line.as_bytes(), &mut out);
-            let kept = match ran {
-                Ok(()) => out.as_slice() == whole.as_bytes()
-                    || out.as_slice() == b"memory\n".as_slice(),
-                Err(fault) => fault == CaseFault::NoMemory && out.is_empty(),
+            let (end, answers) = if heap.left() != 0 {
+                (Ok(()), whole.as_str())
+            } else if refused <= reading {
+                (Err(CaseFault::NoMemory), "")
+            } else {
+                (Ok(()), "memory\n")
             };
+            let kept = ran == end && out.as_slice() == answers.as_bytes();
             assert!(rt; kept, "{line} without request {refused}");
+            // the answer itself takes memory
+            let made = heap.left() == 0;
+            assert!(rt; made || refused > reading.saturating_add(1), "{line}");
         }
     }
     Ok(())
 }
 
-// The words of a set of characters in blocks: the first word of block numbers, then `zeros` words up to the last block,
-// which has every character.
-fn push_blocks(
-    words: &mut String,
-    skip: u32,
-    count: u32,
-    first: u32,
-    zeros: u32,
-) -> Result<(), Fail> {
-    write!(words, "13,{skip},10,{count},{first}")?;
-    for _ in 0..zeros {
-        words.push_str(",0")?;
+#[test]
+fn refusals_between_lines(rt: HostRuntime) -> Result<(), Fail> {
+    let no_memory = Err(CaseFault::NoMemory);
+    for (file, refused, left, ran, answers) in [
+        // a line that is no case whatever memory there is
+        ("match 1 b:61 all x", 1, 1, Err(CaseFault::NotACase(1)), ""),
+        // a text that is none
+        ("match - s:ff all -", 1, 0, no_memory, ""),
+        ("match - s:ff all -", 2, 1, Err(CaseFault::NotACase(1)), ""),
+        // the lines before and behind are answered
+        ("check -\ncheck -", 1, 0, Ok(()), "memory\nrefused\n"),
+        ("check -\ncheck 1", 2, 0, no_memory, "refused\n"),
+    ] {
+        let heap = Refusing::new(rt.alloc(), refused);
+        let mut out = Vec::new(rt.alloc());
+        let answered = answer_lines(rt.alloc(), &heap, file.as_bytes(), &mut out);
+        let kept = answered == ran && out.as_slice() == answers.as_bytes() && heap.left() == left;
+        assert!(rt; kept, "{file:?} without request {refused}");
     }
-    for _ in 0..8 {
-        words.push_str(",4294967295")?;
-    }
-    words.push_str(",0,1")?;
     Ok(())
 }
 
-#[test]
-fn characters_are_looked_up_by_blocks(rt: HostRuntime) -> Result<(), Fail> {
-    let mut words = String::new(rt.alloc());
-    // the second block number is 1, the least significant byte comes first
-    push_blocks(&mut words, 84, 2, 256, 71)?;
-    for (text, answer) in [
-        ("s:c481", "yes 0..1 last -1 marks none\n"),
-        ("b:61", "no\n"),
-        ("s:f0908080", "no\n"),
-    ] {
-        let line = format!(in rt.alloc(); "match {words} {text} all -")?;
-        let mut out = Vec::new(rt.alloc());
-        assert!(rt; run_cases(rt.alloc(), line.as_bytes(), &mut out) == Ok(()));
-        assert!(rt; out.as_slice() == answer.as_bytes(), "{text}");
+// (?:(?:a|b)*c|a)
+const LOOP_OR_A: &str =
+    "7,22,23,15,0,4294967295,7,5,16,97,15,7,5,16,98,15,2,0,18,16,99,15,7,5,16,97,15,2,0,1";
+
+// A part, so many times.
+fn times(alloc: Global, count: u32, part: &str) -> Result<String, Fail> {
+    let mut text = String::new(alloc);
+    for _ in 0..count {
+        text.push_str(part)?;
     }
-    // one block, and a block number of 1
-    let mut refused = String::new(rt.alloc());
-    push_blocks(&mut refused, 76, 1, 1, 63)?;
-    let line = format!(in rt.alloc(); "check {refused}")?;
-    let mut out = Vec::new(rt.alloc());
-    assert!(rt; run_cases(rt.alloc(), line.as_bytes(), &mut out) == Ok(()));
-    assert!(rt; out.as_slice() == b"refused\n".as_slice());
+    Ok(text)
+}
+
+// Atomic groups around a, one in the other.
+fn nested(alloc: Global, depth: u32) -> Result<String, Fail> {
+    let mut words = String::new(alloc);
+    for group in 0..depth {
+        let skip = depth
+            .saturating_sub(group)
+            .saturating_mul(3)
+            .saturating_add(1);
+        write!(words, "27,{skip},")?;
+    }
+    let ends = times(alloc, depth, "1,")?;
+    write!(words, "16,97,{ends}1")?;
+    Ok(words)
+}
+
+#[test]
+fn large_cases_are_answered(rt: HostRuntime) -> Result<(), Fail> {
+    let alloc = rt.alloc();
+    // lines
+    let lines = times(alloc, 1000, "check -\n")?;
+    let refused = times(alloc, 1000, "refused\n")?;
+    assert!(rt; gives(alloc, lines.as_str(), refused.as_str()));
+    // a line, whose text goes back step by step
+    let text = times(alloc, 100_000, "61")?;
+    let back = format!(in alloc; "match {LOOP_OR_A} b:{text} all -")?;
+    assert!(rt; gives(alloc, back.as_str(), "yes 0..1 last -1 marks none\n"));
+    let whole = format!(in alloc; "match {LOOP_OR_A} s:{text}63 all f")?;
+    assert!(rt; gives(alloc, whole.as_str(), "yes 0..100001 last -1 marks none\n"));
+    // words
+    let words = times(alloc, 5000, "16,97,")?;
+    let literals = format!(in alloc; "search {words}1 b:62{text} all -")?;
+    assert!(rt; gives(alloc, literals.as_str(), "yes 1..5001 last -1 marks none\n"));
+    // an answer
+    let unset = times(alloc, 10_000, "-,")?;
+    let marks = format!(in alloc; "yes 0..0 last -1 marks {unset}0\n")?;
+    assert!(rt; gives(alloc, "match 17,10000,1 b: all -", marks.as_str()));
+    // open groups
+    let groups = nested(alloc, 1000)?;
+    let deep = format!(in alloc; "match {groups} b:61 all -")?;
+    assert!(rt; gives(alloc, deep.as_str(), "yes 0..1 last -1 marks none\n"));
     Ok(())
 }

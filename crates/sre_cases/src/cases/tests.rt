@@ -1,32 +1,11 @@
-//! What needs no answer of the machine: the syntax of lines, the faults, and refusals of memory.
+//! What needs no answer of the machine: the syntax of lines, failed writes, and what faults and answers are written as.
 
 use super::*;
+use crate::fakes::FailsOnce;
 use crate::line::Flags;
 use sre_engine::code::Hints;
-use sre_refusing::Refusing;
+use std::io::ErrorKind;
 use std::test::Fail;
-
-// A writer whose writes fail after some that are taken.
-#[derive(Drop)]
-struct FailsAfter {
-    left: u32,
-    bytes: Vec<u8>,
-}
-
-impl Write for FailsAfter {
-    fn write(&mut self, buf: &[u8]) -> io::Result<usize> {
-        if self.left == 0 {
-            return Err(io::Error::from(io::ErrorKind::Other));
-        }
-        self.left -= 1;
-        self.bytes.extend_from_slice(buf)?;
-        Ok(buf.len())
-    }
-
-    fn flush(&mut self) -> io::Result<()> {
-        Ok(())
-    }
-}
 
 #[test]
 fn lines_that_are_no_cases(rt: HostRuntime) -> Result<(), Fail> {
@@ -271,51 +250,23 @@ fn files_without_a_fault(rt: HostRuntime) -> Result<(), Fail> {
     Ok(())
 }
 
+// A writer that fails after any number of bytes, within an answer too, holds these and nothing behind them; an
+// interrupted write is tried again.
 #[test]
-fn answers_before_a_failed_write_are_kept(rt: HostRuntime) -> Result<(), Fail> {
-    for writes in 0..3u32 {
-        let mut out = FailsAfter {
-            left: writes,
-            bytes: Vec::new(rt.alloc()),
-        };
-        let ran = run_cases(
-            rt.alloc(),
-            b"check -\ncheck -\n\ncheck -\nnothing\n",
-            &mut out,
-        );
-        assert!(rt; ran == Err(CaseFault::OutputFailed), "after {writes}");
-        let mut kept = String::new(rt.alloc());
-        for _ in 0..writes {
-            kept.push_str("refused\n")?;
+fn nothing_is_written_after_a_failed_write(rt: HostRuntime) -> Result<(), Fail> {
+    let file = b"check -\ncheck -\n\ncheck -\nnothing\n".as_slice();
+    let answers = b"refused\nrefused\nrefused\n".as_slice();
+    for room in 0..answers.len() {
+        for fault in [ErrorKind::Other, ErrorKind::WriteZero] {
+            let mut out = FailsOnce::new(rt.alloc(), room, fault);
+            let ran = run_cases(rt.alloc(), file, &mut out);
+            assert!(rt; ran == Err(CaseFault::OutputFailed), "after {room}");
+            assert!(rt; out.bytes() == &answers[..room], "after {room}");
         }
-        assert!(rt; out.bytes.as_slice() == kept.as_bytes(), "after {writes}");
-    }
-    Ok(())
-}
-
-#[test]
-fn refusals_in_a_line_and_in_a_case(rt: HostRuntime) -> Result<(), Fail> {
-    for (file, refused, ran, answers) in [
-        // the words, and the text
-        ("check 1", 1, Err(CaseFault::NoMemory), ""),
-        ("match - b:61 all -", 1, Err(CaseFault::NoMemory), ""),
-        // a line that is no case whatever memory there is
-        ("match 1 b:61 all x", 1, Err(CaseFault::NotACase(1)), ""),
-        // a text that is none
-        ("match - s:ff all -", 1, Err(CaseFault::NoMemory), ""),
-        ("match - s:ff all -", 2, Err(CaseFault::NotACase(1)), ""),
-        // the answer
-        ("check -\ncheck -", 1, Ok(()), "memory\nrefused\n"),
-        ("check -\ncheck 1", 2, Err(CaseFault::NoMemory), "refused\n"),
-    ] {
-        let heap = Refusing::new(rt.alloc(), refused);
-        let mut out = Vec::new(rt.alloc());
-        let answered = answer_lines(rt.alloc(), &heap, file.as_bytes(), &mut out);
-        assert!(rt; answered == ran, "{file:?} without request {refused}");
-        assert!(rt;
-            out.as_slice() == answers.as_bytes(),
-            "{file:?} without request {refused}"
-        );
+        let mut out = FailsOnce::new(rt.alloc(), room, ErrorKind::Interrupted);
+        let ran = run_cases(rt.alloc(), file, &mut out);
+        assert!(rt; ran == Err(CaseFault::NotACase(5)), "after {room}");
+        assert!(rt; out.bytes() == answers, "after {room}");
     }
     Ok(())
 }
@@ -336,14 +287,12 @@ fn lines_of_faults(rt: HostRuntime) -> Result<(), Fail> {
         let mut out = Vec::new(rt.alloc());
         assert!(rt; write_fault(&fault, "x", &mut out) == Ok(()), "{line}");
         assert!(rt; out.as_slice() == line.as_bytes(), "{line}");
-        let mut full = FailsAfter {
-            left: 0,
-            bytes: Vec::new(rt.alloc()),
-        };
-        assert!(rt;
-            write_fault(&fault, "x", &mut full) == Err(CaseFault::OutputFailed),
-            "{line}"
-        );
+        for room in 0..line.len() {
+            let mut full = FailsOnce::new(rt.alloc(), room, ErrorKind::Other);
+            let failure = write_fault(&fault, "x", &mut full);
+            assert!(rt; failure == Err(CaseFault::OutputFailed), "{line}");
+            assert!(rt; full.bytes() == &line.as_bytes()[..room], "{line}");
+        }
     }
     Ok(())
 }

@@ -1,0 +1,30 @@
+//! Writes of which a part may fail.
+
+ghost use Rattle.std.specs.Prelude.{◌≡◌, ◌++◌, ℕ, List, OnErr, OnOk};
+ghost use Rattle.std.specs.Io.KnownBytes.{Appends};
+
+use std::io::{self, Write};
+
+/// Writes bytes, all of them; after an error a part of them stands there, and nothing is written behind it.
+pub fn write_whole<W: Write>(bytes: &[u8], out: &mut W) -> io::Result<()>
+    ensures whole { OnOk result (Appends (W.contents out.old) (W.contents out.new) bytes.now) }
+    ensures part { OnErr result ((part rest : List ℕ) × (part ++ rest ≡ bytes.now)
+        × Appends (W.contents out.old) (W.contents out.new) part) }
+{
+    let mut left = bytes;
+    'writes: for _ in 0..u64::MAX {
+        if left.is_empty() {
+            return Ok(());
+        }
+        match out.write(left) {
+            Ok(0) => return Err(io::Error::from(io::ErrorKind::WriteZero)),
+            Ok(count) => left = left.split_at(count).1,
+            Err(error) => {
+                if error.kind() != io::ErrorKind::Interrupted {
+                    return Err(error);
+                }
+            }
+        }
+    }
+    Err(io::Error::from(io::ErrorKind::Interrupted))
+}
