@@ -33,11 +33,10 @@ abbrev pub window_start : Window → ℕ → ℕ
 window_start Whole-Text n = 0
 window_start (Span start end) n = min start (min end n)
 
--- what a case asks of words, a table and the characters of its text
-abbrev pub asked : Subject → List ℕ → Table → List ℕ → Asked
-asked subject words table text = record {
+-- what a case asks of a table and the characters of its text
+abbrev pub asked : Subject → Table → List ℕ → Asked
+asked subject table text = record {
   text = text;
-  words = words;
   table = table;
   start = window_start subject.window (length text);
   end = window_end subject.window (length text);
@@ -63,7 +62,7 @@ IsAnswerOf t table Check words text answer =
     (hints : Hints) × Confirmed words t hints
     × (answer ≡ hints_text hints.width hints.prefix hints.literal hints.first_set)
 IsAnswerOf t table (Find finding subject) words text answer =
-    answer ≡ match_text (match_of finding (asked subject words table (characters subject.text text)) t)
+    answer ≡ match_text (match_of finding (asked subject table (characters subject.text text)) t)
 
 -- the answer to a case: that of its words' tree, `refused` where they have none, or `memory`
 abbrev pub IsAnswer : Table → Case → List ℕ → List ℕ → List ℕ → Type 0

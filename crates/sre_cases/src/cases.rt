@@ -227,7 +227,7 @@ fn push_code_answer<A: Allocator + Copy>(
 
 // What a case asks of its text.
 fn request<'a, S: StrDrive>(text: S, subject: Subject, code: Code<'a>) -> Request<'a, S>
-    ensures asked { asked_of result ≡ asked subject (words_of code.entry) (uni_of code.entry) (S.text text) }
+    ensures asked { asked_of result ≡ asked subject (uni_of code.entry) (S.text text) }
     ensures code { code_of result ≡ code.entry }
 {
     let (start, end) = match subject.window {
