@@ -28,33 +28,46 @@ grown-append (n ∷ ns) ms t = grown-append ns ms (with_node t n)
 -- earlier chains stay
 grown_more : (ns : List Node) (t : Table) → (rest : Table) × (grown t ns ≡ t ++ rest)
 grown_more [] t = ([], sym (append-nil t))
-grown_more (n ∷ ns) t = let ih = grown_more ns (with_node t n) in ((frame_of n ∷ slice_index_or t n.parent []) ∷ ih.0, ih.1 ∙ append_assoc t ((frame_of n ∷ slice_index_or t n.parent []) ∷ []) ih.0)
+grown_more (n ∷ ns) t =
+    let ih = grown_more ns (with_node t n) in (
+      (frame_of n ∷ slice_index_or t n.parent []) ∷ ih.0,
+      ih.1 ∙ append_assoc t ((frame_of n ∷ slice_index_or t n.parent []) ∷ []) ih.0,
+    )
 
-pub grown_before : (ns : List Node) (t : Table) (i : ℕ) → i < length t → slice_index_or (grown t ns) i [] ≡ slice_index_or t i []
+pub grown_before : (ns : List Node) (t : Table) (i : ℕ) → i < length t
+    → slice_index_or (grown t ns) i [] ≡ slice_index_or t i []
 grown_before ns t i h = let m = grown_more ns t in rw m.1 (get_or-append t m.0 [] i h)
 
-pub grown_taken : (k : ℕ) (ns : List Node) (t : Table) → k ≤ length ns → take (length t + k) (grown t ns) ≡ grown t (take k ns)
+pub grown_taken : (k : ℕ) (ns : List Node) (t : Table) → k ≤ length ns
+    → take (length t + k) (grown t ns) ≡ grown t (take k ns)
 grown_taken k ns t h =
     let m = grown_more (drop k ns) (grown t (take k ns)) in
-    let whole : grown t ns ≡ grown t (take k ns) ++ m.0 = ap (λ x. grown t x) (sym (take-append-drop k ns)) ∙ grown-append (take k ns) (drop k ns) t ∙ m.1 in
-    let l : length t + k ≡ length (grown t (take k ns)) = omega (arith, length-grown (take k ns) t, length-take-le k ns h) in
+    let whole : grown t ns ≡ grown t (take k ns) ++ m.0 =
+    ap (λ x. grown t x) (sym (take-append-drop k ns)) ∙ grown-append (take k ns) (drop k ns) t ∙ m.1 in
+    let l : length t + k ≡ length (grown t (take k ns)) =
+    omega (arith, length-grown (take k ns) t, length-take-le k ns h) in
     rw (whole, l) (take-append_seam (grown t (take k ns)) m.0)
 
 -- the chain of a node
-pub grown_at : (k : ℕ) (ns : List Node) (t : Table) (n : Node) → slice_get ns k ≡ Some n → n.parent < length t + k → slice_index_or (grown t ns) (length t + k) [] ≡ frame_of n ∷ slice_index_or (grown t ns) n.parent []
+pub grown_at : (k : ℕ) (ns : List Node) (t : Table) (n : Node) → slice_get ns k ≡ Some n → n.parent < length t + k
+    → slice_index_or (grown t ns) (length t + k) [] ≡ frame_of n ∷ slice_index_or (grown t ns) n.parent []
 grown_at k [] t n e h = cc
 grown_at zero (x ∷ ns) t n e h =
     let same : x ≡ n = cc in
     let below : n.parent < length t = omega arith in
     let l : length t < length (with_node t x) = omega (arith, length-with t x) in
-    let a : slice_index_or (grown (with_node t x) ns) (length t) [] ≡ frame_of x ∷ slice_index_or t x.parent [] = grown_before ns (with_node t x) (length t) l ∙ get_or-append_seam t (frame_of x ∷ slice_index_or t x.parent []) [] [] in
-    let b : slice_index_or (grown (with_node t x) ns) n.parent [] ≡ slice_index_or t n.parent [] = grown_before ns (with_node t x) n.parent (omega (arith, l)) ∙ get_or-append t _ [] n.parent below in
+    let a : slice_index_or (grown (with_node t x) ns) (length t) [] ≡ frame_of x ∷ slice_index_or t x.parent [] =
+    grown_before ns (with_node t x) (length t) l
+    ∙ get_or-append_seam t (frame_of x ∷ slice_index_or t x.parent []) [] [] in
+    let b : slice_index_or (grown (with_node t x) ns) n.parent [] ≡ slice_index_or t n.parent [] =
+    grown_before ns (with_node t x) n.parent (omega (arith, l)) ∙ get_or-append t _ [] n.parent below in
     rw (add-zero, b) (a ∙ ap (λ (y : Node). frame_of y ∷ slice_index_or t y.parent []) same)
 grown_at (suc k) (x ∷ ns) t n e h =
     let l : length (with_node t x) + k ≡ length t + suc k = omega (arith, length-with t x) in
     rw (← l) (grown_at k ns (with_node t x) n e (omega (arith, l)))
 
-pub get_some : {X : Type 0} (xs : List X) (k : ℕ) (d : X) → k < length xs → slice_get xs k ≡ Some (slice_index_or xs k d)
+pub get_some : {X : Type 0} (xs : List X) (k : ℕ) (d : X) → k < length xs
+    → slice_get xs k ≡ Some (slice_index_or xs k d)
 get_some [] k d h = absurd (omega arith)
 get_some (x ∷ xs) zero d h = refl
 get_some (x ∷ xs) (suc k) d h = get_some xs k d (omega arith)
@@ -62,7 +75,8 @@ get_some (x ∷ xs) (suc k) d h = get_some xs k d (omega arith)
 -- the empty chain is the first, and the others are not empty
 pub first_empty : (ns : List Node) (t : Table) (id : ℕ) → table ns ≡ t → id ≡ 0 → slice_index_or t id [] ≡ []
 first_empty ns t id e z =
-    let first : slice_index_or t 0 [] ≡ [] = ap (λ (x : Table). slice_index_or x 0 []) (sym e) ∙ grown_before ns ([] ∷ []) 0 (omega arith) in
+    let first : slice_index_or t 0 [] ≡ [] =
+    ap (λ (x : Table). slice_index_or x 0 []) (sym e) ∙ grown_before ns ([] ∷ []) 0 (omega arith) in
     rw z first
 
 pub later_some : (ns : List Node) (t : Table) (id : ℕ) → table ns ≡ t → Based ns → 1 ≤ id → id < length t
@@ -72,11 +86,13 @@ later_some ns t id e b l h =
     let there : id - 1 < length ns = omega (arith, h, l, ap (λ (x : Table). length x) e, length-grown ns ([] ∷ [])) in
     let found = get_within ns (id - 1) there in
     let low : found.0.parent ≤ id - 1 = b (id - 1) found.0 found.1 in
-    let a : slice_index_or (table ns) (1 + (id - 1)) [] ≡ frame_of found.0 ∷ slice_index_or (table ns) found.0.parent [] =
+    let a : slice_index_or (table ns) (1 + (id - 1)) []
+    ≡ frame_of found.0 ∷ slice_index_or (table ns) found.0.parent [] =
     grown_at (id - 1) ns ([] ∷ []) found.0 found.1 (omega (arith, low)) in
     let same : slice_index_or t (1 + (id - 1)) [] ≡ slice_index_or (table ns) (1 + (id - 1)) [] =
     ap (λ (x : Table). slice_index_or x (1 + (id - 1)) []) (sym e) in
-    let moved : slice_index_or t id [] ≡ slice_index_or t (1 + (id - 1)) [] = ap (λ n. slice_index_or t n []) (sym l1) in
+    let moved : slice_index_or t id [] ≡ slice_index_or t (1 + (id - 1)) [] =
+    ap (λ n. slice_index_or t n []) (sym l1) in
     omega (arith, ap (λ (x : List Frame). length x) (moved ∙ same ∙ a))
   where
     get_within : (xs : List Node) (k : ℕ) → k < length xs → (n : Node) × (slice_get xs k ≡ Some n)
@@ -84,8 +100,12 @@ later_some ns t id e b l h =
     get_within (x ∷ xs) zero h = (x, refl)
     get_within (x ∷ xs) (suc k) h = get_within xs k (omega arith)
 
-pub in_table : (ns : List Node) (t : Table) (id : ℕ) → table ns ≡ t → 0 < length (slice_index_or t id []) → (1 ≤ id) × (id - 1 < length ns)
-in_table ns t zero e h = let z : slice_index_or t 0 [] ≡ [] = ap (λ (x : Table). slice_index_or x 0 []) (sym e) ∙ grown_before ns ([] ∷ []) 0 (omega arith) in absurd (omega (arith, ap (λ (x : List Frame). length x) z))
+pub in_table : (ns : List Node) (t : Table) (id : ℕ) → table ns ≡ t → 0 < length (slice_index_or t id [])
+    → (1 ≤ id) × (id - 1 < length ns)
+in_table ns t zero e h =
+    let z : slice_index_or t 0 [] ≡ [] =
+    ap (λ (x : Table). slice_index_or x 0 []) (sym e) ∙ grown_before ns ([] ∷ []) 0 (omega arith) in
+    absurd (omega (arith, ap (λ (x : List Frame). length x) z))
 in_table ns t (suc k) e h = (omega arith, inside (nat_lt k (length ns)) refl)
   where
     inside : (b : Bool) → nat_lt k (length ns) ≡ b → suc k - 1 < length ns
@@ -96,32 +116,46 @@ in_table ns t (suc k) e h = (omega arith, inside (nat_lt k (length ns)) refl)
         let z : slice_index_or t (suc k) [] ≡ [] = get_or_past t (suc k) [] out in
         absurd (omega (arith, ap (λ (x : List Frame). length x) z))
 
-pub node_law : (ns : List Node) (t : Table) (id : ℕ) (n : Node) → table ns ≡ t → Based ns → 0 < length (slice_index_or t id []) → n ≡ slice_index_or ns (id - 1) n → (slice_index_or t id [] ≡ frame_of n ∷ slice_index_or t n.parent []) × (n.parent < id) × (id < length t)
+pub node_law : (ns : List Node) (t : Table) (id : ℕ) (n : Node) → table ns ≡ t → Based ns
+    → 0 < length (slice_index_or t id []) → n ≡ slice_index_or ns (id - 1) n
+    → (slice_index_or t id [] ≡ frame_of n ∷ slice_index_or t n.parent []) × (n.parent < id) × (id < length t)
 node_law ns t id n e b h is =
     let at = in_table ns t id e h in
     let found : slice_get ns (id - 1) ≡ Some n = get_some ns (id - 1) n at.1 ∙ ap (λ (x : Node). Some x) (sym is) in
     let low : n.parent ≤ id - 1 = b (id - 1) n found in
     let l : 1 + (id - 1) ≡ id = omega (arith, at.0) in
-    let a : slice_index_or (table ns) (1 + (id - 1)) [] ≡ frame_of n ∷ slice_index_or (table ns) n.parent [] = grown_at (id - 1) ns ([] ∷ []) n found (omega (arith, low)) in
-    (rw (← e, ← l) a, omega (arith, low, at.0), omega (arith, at.0, at.1, ap (λ (x : Table). length x) e, length-grown ns ([] ∷ [])))
+    let a : slice_index_or (table ns) (1 + (id - 1)) [] ≡ frame_of n ∷ slice_index_or (table ns) n.parent [] =
+    grown_at (id - 1) ns ([] ∷ []) n found (omega (arith, low)) in (
+      rw (← e, ← l) a,
+      omega (arith, low, at.0),
+      omega (arith, at.0, at.1, ap (λ (x : Table). length x) e, length-grown ns ([] ∷ [])),
+    )
 
-pub cut_law : (ns ms : List Node) (t : Table) (keep : ℕ) → table ns ≡ t → ms ≡ take keep ns → keep < length t → table ms ≡ take (keep + 1) t
+pub cut_law : (ns ms : List Node) (t : Table) (keep : ℕ) → table ns ≡ t → ms ≡ take keep ns → keep < length t
+    → table ms ≡ take (keep + 1) t
 cut_law ns ms t keep e m h =
     let l : keep ≤ length ns = omega (arith, h, ap (λ (x : Table). length x) e, length-grown ns ([] ∷ [])) in
     let one : 1 + keep ≡ keep + 1 = omega arith in
     rw (m, ← e, ← one) (sym (grown_taken keep ns ([] ∷ []) l))
 
-pub push_law : (ns ms : List Node) (t : Table) (n : Node) (f : Frame) (p : ℕ) → table ns ≡ t → ms ≡ ns ++ n ∷ [] → frame_of n ≡ f → n.parent ≡ p → table ms ≡ t ++ (f ∷ slice_index_or t p []) ∷ []
+pub push_law : (ns ms : List Node) (t : Table) (n : Node) (f : Frame) (p : ℕ) → table ns ≡ t → ms ≡ ns ++ n ∷ []
+    → frame_of n ≡ f → n.parent ≡ p → table ms ≡ t ++ (f ∷ slice_index_or t p []) ∷ []
 push_law ns ms t n f p e m ef ep = rw (m, ← e, ← ef, ← ep) (grown-append ns (n ∷ []) ([] ∷ []))
 
 pub count_law : (ns : List Node) (t : Table) → table ns ≡ t → length t ≡ length ns + 1
 count_law ns t e = rw (← e) (omega (arith, length-grown ns ([] ∷ [])))
 
-got_pushed : (ns : List Node) (n : Node) (k : ℕ) (x : Node) → slice_get (ns ++ n ∷ []) k ≡ Some x → (slice_get ns k ≡ Some x) ⊎ ((k ≡ length ns) × (n ≡ x))
+got_pushed : (ns : List Node) (n : Node) (k : ℕ) (x : Node) → slice_get (ns ++ n ∷ []) k ≡ Some x
+    → (slice_get ns k ≡ Some x) ⊎ ((k ≡ length ns) × (n ≡ x))
 got_pushed [] n zero x e = inr (refl, cc)
 got_pushed [] n (suc k) x e = inl e
 got_pushed (y ∷ ns) n zero x e = inl e
 got_pushed (y ∷ ns) n (suc k) x e = elim (got_pushed ns n k x e) [ inl l ↦ inl l | inr r ↦ inr (ap suc r.0, r.1) ]
 
-pub based_push : (ns ms : List Node) (t : Table) (n : Node) (p : ℕ) → table ns ≡ t → ms ≡ ns ++ n ∷ [] → Based ns → n.parent ≡ p → p < length t → Based ms
-based_push ns ms t n p e m b ep h = λ k x g. elim (got_pushed ns n k x (ap (λ (l : List Node). slice_get l k) (sym m) ∙ g)) [ inl l ↦ b k x l | inr r ↦ omega (arith, r.0, h, ep, count_law ns t e, ap (λ (y : Node). y.parent) r.1) ]
+pub based_push : (ns ms : List Node) (t : Table) (n : Node) (p : ℕ) → table ns ≡ t → ms ≡ ns ++ n ∷ [] → Based ns
+    → n.parent ≡ p → p < length t → Based ms
+based_push ns ms t n p e m b ep h = λ k x g.
+    elim (got_pushed ns n k x (ap (λ (l : List Node). slice_get l k) (sym m) ∙ g)) [
+      | inl l ↦ b k x l
+      | inr r ↦ omega (arith, r.0, h, ep, count_law ns t e, ap (λ (y : Node). y.parent) r.1)
+    ]

@@ -26,76 +26,133 @@ pub fits-more : (ss : List Saved) (n n' c c' : ℕ) → n ≤ n' → c ≤ c' �
 fits-more [] n n' c c' h k f = tt
 fits-more (s ∷ ss) n n' c c' h k f = (omega (arith, f.0), omega (arith, f.1), f.2, f.3)
 
-pub same_choices : (ss : List Saved) (t u : Table) (a b : List Marks) (n c : ℕ) → Fits ss n c → Agree t u n → SameUpTo a b c → map (choice_of u b) ss ≡ map (choice_of t a) ss
+pub same_choices : (ss : List Saved) (t u : Table) (a b : List Marks) (n c : ℕ) → Fits ss n c → Agree t u n
+    → SameUpTo a b c → map (choice_of u b) ss ≡ map (choice_of t a) ss
 same_choices [] t u a b n c f g h = refl
 same_choices (s ∷ ss) t u a b n c f g h =
     let one : choice_of u b s ≡ choice_of t a s = rw (g s.frame (omega (arith, f.0, f.2)), h s.changes f.1) refl in
-    let rest : map (choice_of u b) ss ≡ map (choice_of t a) ss = same_choices ss t u a b (s.chains + 1) s.changes f.3 (λ i l. g i (omega (arith, f.0))) (λ i l. h i (omega (arith, f.1))) in
+    let rest : map (choice_of u b) ss ≡ map (choice_of t a) ss =
+    same_choices ss t u a b (s.chains + 1) s.changes f.3 (λ i l. g i (omega (arith, f.0)))
+    (λ i l. h i (omega (arith, f.1))) in
     rw (one, rest) refl
 
-same_more : (past : List Marks) (now next : Marks) → SameUpTo (past ++ now ∷ []) ((past ++ now ∷ []) ++ next ∷ []) (length past)
-same_more past now next = λ i h. get_or-append (past ++ now ∷ []) (next ∷ []) no_marks i (omega (arith, length-append past (now ∷ [])))
+same_more : (past : List Marks) (now next : Marks)
+    → SameUpTo (past ++ now ∷ []) ((past ++ now ∷ []) ++ next ∷ []) (length past)
+same_more past now next = λ i h.
+    get_or-append (past ++ now ∷ []) (next ∷ []) no_marks i (omega (arith, length-append past (now ∷ [])))
 
 -- a mark is set
-pub set_held : (b : BoardValue) (t t' : Trail) (chains : Table) (frame : ℕ) (saved : List Saved) (n p : ℕ) → board_of t chains frame saved ≡ b → Fits (reverse saved) (length chains) (length t.past) → t' ≡ record { past = states t; now = set_mark t.now n p } → board_of t' chains frame saved ≡ record b { marks = set_mark b.marks n p }
+pub set_held : (b : BoardValue) (t t' : Trail) (chains : Table) (frame : ℕ) (saved : List Saved) (n p : ℕ)
+    → board_of t chains frame saved ≡ b → Fits (reverse saved) (length chains) (length t.past)
+    → t' ≡ record { past = states t; now = set_mark t.now n p }
+    → board_of t' chains frame saved ≡ record b { marks = set_mark b.marks n p }
 set_held b t t' chains frame saved n p e f et =
-    rw (et, ← e, same_choices (reverse saved) chains chains (states t) (states t ++ set_mark t.now n p ∷ []) (length chains) (length t.past) f (λ i l. refl) (same_more t.past t.now (set_mark t.now n p))) refl
+    rw (
+      et,
+      ← e,
+      same_choices (reverse saved) chains chains (states t) (states t ++ set_mark t.now n p ∷ []) (length chains)
+          (length t.past) f (λ i l. refl) (same_more t.past t.now (set_mark t.now n p)),
+    ) refl
 
 -- a loop begins
-pub enter_held : (b : BoardValue) (t : Trail) (chains chains' : Table) (frame frame' : ℕ) (saved : List Saved) (f : Frame) → board_of t chains frame saved ≡ b → Fits (reverse saved) (length chains) (length t.past) → chains' ≡ chains ++ (f ∷ slice_index_or chains frame []) ∷ [] → frame' ≡ length chains → board_of t chains' frame' saved ≡ record b { frames = f ∷ b.frames }
+pub enter_held : (b : BoardValue) (t : Trail) (chains chains' : Table) (frame frame' : ℕ) (saved : List Saved)
+    (f : Frame)
+    → board_of t chains frame saved ≡ b → Fits (reverse saved) (length chains) (length t.past)
+    → chains' ≡ chains ++ (f ∷ slice_index_or chains frame []) ∷ [] → frame' ≡ length chains
+    → board_of t chains' frame' saved ≡ record b { frames = f ∷ b.frames }
 enter_held b t chains chains' frame frame' saved f e fit ec ef =
     let more : Table = chains ++ (f ∷ slice_index_or chains frame []) ∷ [] in
-    let same = same_choices (reverse saved) chains more (states t) (states t) (length chains) (length t.past) fit (λ i h. get_or-append chains ((f ∷ slice_index_or chains frame []) ∷ []) [] i h) (λ i h. refl) in
-    let new : slice_index_or more (length chains) [] ≡ f ∷ slice_index_or chains frame [] = get_or-append_seam chains (f ∷ slice_index_or chains frame []) [] [] in
+    let same = same_choices (reverse saved) chains more (states t) (states t) (length chains) (length t.past) fit
+    (λ i h. get_or-append chains ((f ∷ slice_index_or chains frame []) ∷ []) [] i h) (λ i h. refl) in
+    let new : slice_index_or more (length chains) [] ≡ f ∷ slice_index_or chains frame [] =
+    get_or-append_seam chains (f ∷ slice_index_or chains frame []) [] [] in
     rw (ec, ef, ← e, same, new) refl
 
 pub pushed_in : (t t' : Table) (x : List Frame) (id : ℕ) → id ≡ length t → t' ≡ t ++ x ∷ [] → id < length t'
 pushed_in t t' x id e f = omega (arith, e, ap (λ (y : Table). length y) f, length-append t (x ∷ []))
 
 -- no loop is left
-pub left_none : (b : BoardValue) (t : Trail) (chains : Table) (frame : ℕ) (saved : List Saved) → board_of t chains frame saved ≡ b
+pub left_none : (b : BoardValue) (t : Trail) (chains : Table) (frame : ℕ) (saved : List Saved)
+    → board_of t chains frame saved ≡ b
     → slice_index_or chains frame [] ≡ [] → board_of t chains frame saved ≡ record b { frames = drop 1 b.frames }
 left_none b t chains frame saved e n = rw (← e, n) refl
 
 -- a loop is left, and the later chains are kept
-pub leave_held : (b : BoardValue) (t : Trail) (chains : Table) (frame parent : ℕ) (saved : List Saved) (f : Frame) → board_of t chains frame saved ≡ b → slice_index_or chains frame [] ≡ f ∷ slice_index_or chains parent [] → board_of t chains parent saved ≡ record b { frames = drop 1 b.frames }
+pub leave_held : (b : BoardValue) (t : Trail) (chains : Table) (frame parent : ℕ) (saved : List Saved) (f : Frame)
+    → board_of t chains frame saved ≡ b → slice_index_or chains frame [] ≡ f ∷ slice_index_or chains parent []
+    → board_of t chains parent saved ≡ record b { frames = drop 1 b.frames }
 leave_held b t chains frame parent saved f e n = rw (← e, n) refl
 
 -- a loop is left, and the later chains are forgotten
-pub forget_held : (b : BoardValue) (t : Trail) (chains chains' : Table) (frame parent keep : ℕ) (saved : List Saved) (f : Frame) → board_of t chains frame saved ≡ b → slice_index_or chains frame [] ≡ f ∷ slice_index_or chains parent [] → parent ≤ keep → chains' ≡ take (keep + 1) chains → Fits (reverse saved) (keep + 1) (length t.past) → board_of t chains' parent saved ≡ record b { frames = drop 1 b.frames }
+pub forget_held : (b : BoardValue) (t : Trail) (chains chains' : Table) (frame parent keep : ℕ) (saved : List Saved)
+    (f : Frame)
+    → board_of t chains frame saved ≡ b → slice_index_or chains frame [] ≡ f ∷ slice_index_or chains parent []
+    → parent ≤ keep → chains' ≡ take (keep + 1) chains → Fits (reverse saved) (keep + 1) (length t.past)
+    → board_of t chains' parent saved ≡ record b { frames = drop 1 b.frames }
 forget_held b t chains chains' frame parent keep saved f e n l ec fit =
     let cut : Agree chains (take (keep + 1) chains) (keep + 1) = λ i h. get_or-take (keep + 1) chains i [] h in
-    let same = same_choices (reverse saved) chains (take (keep + 1) chains) (states t) (states t) (keep + 1) (length t.past) fit cut (λ i h. refl) in
+    let same = same_choices (reverse saved) chains (take (keep + 1) chains) (states t) (states t) (keep + 1)
+    (length t.past) fit cut (λ i h. refl) in
     rw (ec, ← e, same, cut parent (omega arith), n) refl
 
 reversed : (old new : List Saved) (s : Saved) → old ≡ new ++ s ∷ [] → reverse old ≡ s ∷ reverse new
 reversed old new s e = ap (λ (x : List Saved). reverse x) e ∙ reverse-append new (s ∷ [])
 
 -- the newest choice is within the trail and the table
-fits_newest : (old new : List Saved) (s : Saved) (n c : ℕ) → old ≡ new ++ s ∷ [] → Fits (reverse old) n c → Fits (s ∷ reverse new) n c
+fits_newest : (old new : List Saved) (s : Saved) (n c : ℕ) → old ≡ new ++ s ∷ [] → Fits (reverse old) n c
+    → Fits (s ∷ reverse new) n c
 fits_newest old new s n c e f = subst (λ (x : List Saved). Fits x n c) (reversed old new s e) f
 
 length-back : (t t' : Trail) (k : ℕ) → k ≤ length t.past → states t' ≡ take (k + 1) (states t) → length t'.past ≡ k
-length-back t t' k h e = omega (arith, length-append t.past (t.now ∷ []), length-append t'.past (t'.now ∷ []), ap (λ (x : List Marks). length x) e, length-take-le (k + 1) (states t))
+length-back t t' k h e = omega (
+  arith,
+  length-append t.past (t.now ∷ []),
+  length-append t'.past (t'.now ∷ []),
+  ap (λ (x : List Marks). length x) e,
+  length-take-le (k + 1) (states t),
+)
 
 -- the newest choice is taken
-pub back_held : (b : BoardValue) (t t' : Trail) (chains chains' : Table) (frame : ℕ) (old new : List Saved) (s : Saved) → board_of t chains frame old ≡ b → Fits (reverse old) (length chains) (length t.past) → old ≡ new ++ s ∷ [] → states t' ≡ take (s.changes + 1) (states t) → chains' ≡ take (s.chains + 1) chains → b.choices ≡ choice s.point (slice_index_or chains' s.frame []) s.cursor t'.now ∷ (board_of t' chains' s.frame new).choices
+pub back_held : (b : BoardValue) (t t' : Trail) (chains chains' : Table) (frame : ℕ) (old new : List Saved) (s : Saved)
+    → board_of t chains frame old ≡ b → Fits (reverse old) (length chains) (length t.past) → old ≡ new ++ s ∷ []
+    → states t' ≡ take (s.changes + 1) (states t) → chains' ≡ take (s.chains + 1) chains
+    → b.choices
+    ≡ choice s.point (slice_index_or chains' s.frame []) s.cursor t'.now ∷ (board_of t' chains' s.frame new).choices
 back_held b t t' chains chains' frame old new s e f eo et ec =
     let fits = fits_newest old new s (length chains) (length t.past) eo f in
-    let same : SameUpTo (states t) (states t') s.changes = λ i h. ap (λ (x : List Marks). slice_index_or x i no_marks) et ∙ get_or-take (s.changes + 1) (states t) i no_marks (omega arith) in
-    let cut : Agree chains (take (s.chains + 1) chains) (s.chains + 1) = λ i h. get_or-take (s.chains + 1) chains i [] h in
-    let now : slice_index_or (states t) s.changes no_marks ≡ t'.now = sym (same s.changes (omega arith)) ∙ ap (λ i. slice_index_or (states t') i no_marks) (sym (length-back t t' s.changes fits.1 et)) ∙ get_or-append_seam t'.past t'.now [] no_marks in
-    let frames : slice_index_or (take (s.chains + 1) chains) s.frame [] ≡ slice_index_or chains s.frame [] = cut s.frame (omega (arith, fits.2)) in
+    let same : SameUpTo (states t) (states t') s.changes =
+    λ i h. ap (λ (x : List Marks). slice_index_or x i no_marks) et
+    ∙ get_or-take (s.changes + 1) (states t) i no_marks (omega arith) in
+    let cut : Agree chains (take (s.chains + 1) chains) (s.chains + 1) =
+    λ i h. get_or-take (s.chains + 1) chains i [] h in
+    let now : slice_index_or (states t) s.changes no_marks ≡ t'.now =
+    sym (same s.changes (omega arith))
+    ∙ ap (λ i. slice_index_or (states t') i no_marks) (sym (length-back t t' s.changes fits.1 et))
+    ∙ get_or-append_seam t'.past t'.now [] no_marks in
+    let frames : slice_index_or (take (s.chains + 1) chains) s.frame [] ≡ slice_index_or chains s.frame [] =
+    cut s.frame (omega (arith, fits.2)) in
     let was : map (choice_of chains (states t)) (reverse old) ≡ b.choices = ap (λ (x : BoardValue). x.choices) e in
-    sym was ∙ rw (ec, reversed old new s eo, frames, now, same_choices (reverse new) chains (take (s.chains + 1) chains) (states t) (states t') (s.chains + 1) s.changes fits.3 cut same) refl
+    sym was ∙ rw (
+      ec,
+      reversed old new s eo,
+      frames,
+      now,
+      same_choices (reverse new) chains (take (s.chains + 1) chains) (states t) (states t') (s.chains + 1) s.changes
+          fits.3 cut same,
+    ) refl
 
 -- choices fit each table that is longer than the newest one needs
-pub fits_kept : (saved : List Saved) (s : Saved) (n more c : ℕ) → 0 < length saved → s ≡ slice_index_or saved (length saved - 1) s → s.chains < n → Fits (reverse saved) more c → Fits (reverse saved) n c
+pub fits_kept : (saved : List Saved) (s : Saved) (n more c : ℕ) → 0 < length saved
+    → s ≡ slice_index_or saved (length saved - 1) s → s.chains < n → Fits (reverse saved) more c
+    → Fits (reverse saved) n c
 fits_kept saved s n more c l e h f =
     let all : take (length saved - 1 + 1) saved ≡ saved = take_all (length saved - 1 + 1) saved (omega arith) in
-    let split : saved ≡ take (length saved - 1) saved ++ s ∷ [] = sym all ∙ take_more saved (length saved - 1) s (omega arith) ∙ ap (λ (x : Saved). take (length saved - 1) saved ++ x ∷ []) (sym e) in
+    let split : saved ≡ take (length saved - 1) saved ++ s ∷ [] =
+    sym all ∙ take_more saved (length saved - 1) s (omega arith)
+    ∙ ap (λ (x : Saved). take (length saved - 1) saved ++ x ∷ []) (sym e) in
     let g = fits_newest saved (take (length saved - 1) saved) s more c split f in
-    subst (λ (x : List Saved). Fits x n c) (sym (reversed saved (take (length saved - 1) saved) s split)) (h, g.1, g.2, g.3)
+    subst (λ (x : List Saved). Fits x n c) (sym (reversed saved (take (length saved - 1) saved) s split))
+    (h, g.1, g.2, g.3)
 
 pub fits_none : (saved : List Saved) (n c : ℕ) → length saved ≡ 0 → Fits (reverse saved) n c
 fits_none [] n c e = tt

@@ -16,8 +16,8 @@ module _ (t : Table) (ms : List Marks) where
   abbrev chosen : List Saved → List Choice
   chosen ss = map (choice_of t ms) ss
 
-  down_step : (s : Saved) (ss : List Saved) → from_region (chosen ss) ≡ chosen (down_to_region ss) → (pt : Point) →
-      s.point ≡ pt → from_region (chosen (s ∷ ss)) ≡ chosen (down_to_region (s ∷ ss))
+  down_step : (s : Saved) (ss : List Saved) → from_region (chosen ss) ≡ chosen (down_to_region ss) → (pt : Point)
+      → s.point ≡ pt → from_region (chosen (s ∷ ss)) ≡ chosen (down_to_region (s ∷ ss))
   down_step s ss ih (Instruction i) e = rw e ih
   down_step s ss ih (Alternatives q) e = rw e ih
   down_step s ss ih (Shorter j n) e = rw e ih
@@ -60,36 +60,43 @@ none_in (s ∷ ss) e = elim (region_or_not s.point) [
 ]
 
 -- above the innermost region there is none
-down_counts : (ss : List Saved) (t : Saved) (rest : List Saved) → down_to_region ss ≡ t ∷ rest →
-    regions_in ss ≡ regions_in rest + regions_of t.point
+down_counts : (ss : List Saved) (t : Saved) (rest : List Saved) → down_to_region ss ≡ t ∷ rest
+    → regions_in ss ≡ regions_in rest + regions_of t.point
 down_counts [] t rest e = absurd (cc)
 down_counts (s ∷ ss) t rest e = elim (region_or_not s.point) [
   | (inl k) ↦ let same : s ∷ ss ≡ t ∷ rest = sym (down_here s ss k) ∙ e in ap (λ (xs : List Saved). regions_in xs) same
   | (inr k) ↦ omega (arith, k, down_counts ss t rest (sym (down_below s ss k) ∙ e))
 ]
 
-down_fits : (ss : List Saved) (t : Saved) (rest : List Saved) (n c : ℕ) → down_to_region ss ≡ t ∷ rest → Fits ss n c →
-    Fits (t ∷ rest) n c
+down_fits : (ss : List Saved) (t : Saved) (rest : List Saved) (n c : ℕ) → down_to_region ss ≡ t ∷ rest → Fits ss n c
+    → Fits (t ∷ rest) n c
 down_fits [] t rest n c e f = absurd (cc)
 down_fits (s ∷ ss) t rest n c e f = elim (region_or_not s.point) [
-  | (inl k) ↦ let same : s ∷ ss ≡ t ∷ rest = sym (down_here s ss k) ∙ e in subst (λ (xs : List Saved). Fits xs n c) same f
+  | (inl k) ↦
+      let same : s ∷ ss ≡ t ∷ rest = sym (down_here s ss k) ∙ e in
+      subst (λ (xs : List Saved). Fits xs n c) same f
   | (inr k) ↦
-      let lower : Fits (t ∷ rest) (s.chains + 1) s.changes = down_fits ss t rest (s.chains + 1) s.changes (sym (down_below s ss k) ∙ e) f.3 in
+      let lower : Fits (t ∷ rest) (s.chains + 1) s.changes =
+      down_fits ss t rest (s.chains + 1) s.changes (sym (down_below s ss k) ∙ e) f.3 in
       fits-more (t ∷ rest) (s.chains + 1) n s.changes c (omega (arith, f.0)) f.1 lower
 ]
 
 -- the innermost region ends
 pub cut_held : (b : BoardValue) (t : Trail) (chains chains' : Table) (frame : ℕ) (old new : List Saved) (s : Saved)
-    (g : Region) → board_of t chains frame old ≡ b → Fits (reverse old) (length chains) (length t.past) →
-    s.point ≡ Inside g → down_to_region (reverse old) ≡ s ∷ reverse new → chains' ≡ take (s.chains + 1) chains →
-    Cuts b g s.cursor (board_of t chains' s.frame new)
+    (g : Region) → board_of t chains frame old ≡ b → Fits (reverse old) (length chains) (length t.past)
+    → s.point ≡ Inside g → down_to_region (reverse old) ≡ s ∷ reverse new → chains' ≡ take (s.chains + 1) chains
+    → Cuts b g s.cursor (board_of t chains' s.frame new)
 cut_held b t chains chains' frame old new s g e f es d ec =
     let fits = down_fits (reverse old) s (reverse new) (length chains) (length t.past) d f in
-    let cut : Agree chains (take (s.chains + 1) chains) (s.chains + 1) = λ i h. get_or-take (s.chains + 1) chains i [] h in
-    let frames : slice_index_or (take (s.chains + 1) chains) s.frame [] ≡ slice_index_or chains s.frame [] = cut s.frame (omega (arith, fits.2)) in
+    let cut : Agree chains (take (s.chains + 1) chains) (s.chains + 1) =
+    λ i h. get_or-take (s.chains + 1) chains i [] h in
+    let frames : slice_index_or (take (s.chains + 1) chains) s.frame [] ≡ slice_index_or chains s.frame [] =
+    cut s.frame (omega (arith, fits.2)) in
     let was : from_region b.choices ≡ map (choice_of chains (states t)) (s ∷ reverse new) =
-    ap (λ (x : BoardValue). from_region x.choices) (sym e) ∙ from_down chains (states t) (reverse old) ∙ ap (λ (xs : List Saved). map (choice_of chains (states t)) xs) d in
-    let same = same_choices (reverse new) chains (take (s.chains + 1) chains) (states t) (states t) (s.chains + 1) s.changes fits.3 cut (λ i h. refl) in
+    ap (λ (x : BoardValue). from_region x.choices) (sym e) ∙ from_down chains (states t) (reverse old)
+    ∙ ap (λ (xs : List Saved). map (choice_of chains (states t)) xs) d in
+    let same = same_choices (reverse new) chains (take (s.chains + 1) chains) (states t) (states t) (s.chains + 1)
+    s.changes fits.3 cut (λ i h. refl) in
     record {
       entered = slice_index_or (states t) s.changes no_marks;
       region = was ∙ rw (ec, frames, same, es) refl;
@@ -97,10 +104,11 @@ cut_held b t chains chains' frame old new s g e f es d ec =
     }
 
 -- no region is there
-pub no_region : (b : BoardValue) (t : Trail) (chains : Table) (frame : ℕ) (saved : List Saved) →
-    board_of t chains frame saved ≡ b → regions_in (reverse saved) ≡ 0 → from_region b.choices ≡ []
+pub no_region : (b : BoardValue) (t : Trail) (chains : Table) (frame : ℕ) (saved : List Saved)
+    → board_of t chains frame saved ≡ b → regions_in (reverse saved) ≡ 0 → from_region b.choices ≡ []
 no_region b t chains frame saved e z =
-    ap (λ (x : BoardValue). from_region x.choices) (sym e) ∙ from_down chains (states t) (reverse saved) ∙ ap (λ (xs : List Saved). map (choice_of chains (states t)) xs) (none_there (reverse saved) z)
+    ap (λ (x : BoardValue). from_region x.choices) (sym e) ∙ from_down chains (states t) (reverse saved)
+    ∙ ap (λ (xs : List Saved). map (choice_of chains (states t)) xs) (none_there (reverse saved) z)
 
 pub regions_few : (pt : Point) → regions_of pt ≤ 1
 regions_few (Inside g) = omega arith
@@ -116,21 +124,25 @@ regions_fit [] = omega arith
 regions_fit (s ∷ ss) = omega (arith, regions_fit ss, regions_few s.point)
 
 -- a board that counts a region has one
-pub never_none : (saved : List Saved) (n : ℕ) → n ≡ regions_in (reverse saved) → (n ≡ 0 → ⊥) →
-    down_to_region (reverse saved) ≡ [] → ⊥
+pub never_none : (saved : List Saved) (n : ℕ) → n ≡ regions_in (reverse saved) → (n ≡ 0 → ⊥)
+    → down_to_region (reverse saved) ≡ [] → ⊥
 never_none saved n e some none = some (e ∙ none_in (reverse saved) none)
 
 -- what is left is within the trail and the table that the region needs
-pub cut_fits : (old new : List Saved) (s : Saved) (n c : ℕ) → down_to_region (reverse old) ≡ s ∷ reverse new →
-    Fits (reverse old) n c → Fits (s ∷ reverse new) n c
+pub cut_fits : (old new : List Saved) (s : Saved) (n c : ℕ) → down_to_region (reverse old) ≡ s ∷ reverse new
+    → Fits (reverse old) n c → Fits (s ∷ reverse new) n c
 cut_fits old new s n c d f = down_fits (reverse old) s (reverse new) n c d f
 
-pub cut_invariant : (old new : List Saved) (s : Saved) (g : Region) (chains chains' : Table) (c n : ℕ) →
-    s.point ≡ Inside g → down_to_region (reverse old) ≡ s ∷ reverse new → Fits (reverse old) (length chains) c →
-    chains' ≡ take (s.chains + 1) chains → n ≡ regions_in (reverse old) → (s.frame < length chains') × Fits
+pub cut_invariant : (old new : List Saved) (s : Saved) (g : Region) (chains chains' : Table) (c n : ℕ)
+    → s.point ≡ Inside g → down_to_region (reverse old) ≡ s ∷ reverse new → Fits (reverse old) (length chains) c
+    → chains' ≡ take (s.chains + 1) chains → n ≡ regions_in (reverse old) → (s.frame < length chains') × Fits
     (reverse new) (length chains') c × (n - 1 ≡ regions_in (reverse new))
 cut_invariant old new s g chains chains' c n es d f ec en =
     let fits = cut_fits old new s (length chains) c d f in
-    let long : length chains' ≡ s.chains + 1 = omega (arith, ap (λ (x : Table). length x) ec, length-take-le (s.chains + 1) chains, fits.0) in
-    let one : regions_of s.point ≡ 1 = ap (λ p. regions_of p) es in
-    (omega (arith, fits.2), fits-more (reverse new) (s.chains + 1) (length chains') s.changes c (omega arith) fits.1 fits.3, omega (arith, down_counts (reverse old) s (reverse new) d, one))
+    let long : length chains' ≡ s.chains + 1 =
+    omega (arith, ap (λ (x : Table). length x) ec, length-take-le (s.chains + 1) chains, fits.0) in
+    let one : regions_of s.point ≡ 1 = ap (λ p. regions_of p) es in (
+      omega (arith, fits.2),
+      fits-more (reverse new) (s.chains + 1) (length chains') s.changes c (omega arith) fits.1 fits.3,
+      omega (arith, down_counts (reverse old) s (reverse new) d, one),
+    )

@@ -11,7 +11,8 @@ use Rattle.sre_board.specs.declared.board.Saved.{Saved}
 
 -- a choice, whose marks are found on the trail and whose loops in the table
 abbrev pub choice_of : List (List Frame) → List Marks → Saved → Choice
-choice_of chains marks s = choice s.point (slice_index_or chains s.frame []) s.cursor (slice_index_or marks s.changes no_marks)
+choice_of chains marks s =
+    choice s.point (slice_index_or chains s.frame []) s.cursor (slice_index_or marks s.changes no_marks)
 
 abbrev pub board_of : Trail → List (List Frame) → ℕ → List Saved → BoardValue
 board_of t chains frame saved = record {

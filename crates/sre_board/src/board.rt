@@ -50,13 +50,16 @@ impl<A: Allocator> Model for Board<A> {
 
     ghost view = { λ b. board_of b.trail b.chains b.frame b.choices.items };
 
-    ghost invariant = { λ b. (b.frame < length b.chains) × Fits (reverse b.choices.items) (length b.chains) (length b.trail.past) × (b.regions ≡ regions_in (reverse b.choices.items)) };
+    ghost invariant = { λ b.
+        (b.frame < length b.chains) × Fits (reverse b.choices.items) (length b.chains) (length b.trail.past)
+        × (b.regions ≡ regions_in (reverse b.choices.items)) };
 }
 
 // How many chains the choices need.
 #[inline(always)]
 fn kept(saved: &[Saved]) -> usize
-    ensures { (n more changes : ℕ) → result < n → Fits (reverse saved.now) more changes → Fits (reverse saved.now) n changes }
+    ensures { (n more changes : ℕ) → result < n → Fits (reverse saved.now) more changes
+        → Fits (reverse saved.now) n changes }
 {
     if saved.is_empty() {
         return 0;
@@ -80,7 +83,8 @@ fn regions_of(point: Point) -> usize
 fn innermost<A: Allocator>(choices: &mut Vec<Saved, A>) -> Option<(Region, Saved)>
     ensures { MatchOption result
         (down_to_region (reverse choices.old.items) ≡ [])
-        (λ x. (x.1.point ≡ Inside x.0) × (down_to_region (reverse choices.old.items) ≡ x.1 ∷ reverse choices.new.items)) }
+        (λ x.
+        (x.1.point ≡ Inside x.0) × (down_to_region (reverse choices.old.items) ≡ x.1 ∷ reverse choices.new.items)) }
 {
     'choice: loop {
         let saved = choices.pop()?;
@@ -141,7 +145,9 @@ impl<A: Allocator> Board<A> {
     /// Adds a choice: to go on at a point and a cursor, with the marks as they are now.
     #[inline(always)]
     pub fn save(&mut self, point: Point, cursor: StringCursor) -> Result<(), Refusal>
-        ensures { IfOk result (λ _. self.new ≡ record self.old { choices = choice point self.old.frames cursor self.old.marks ∷ self.old.choices }) }
+        ensures { IfOk result (λ _. self.new ≡ record self.old {
+          choices = choice point self.old.frames cursor self.old.marks ∷ self.old.choices;
+        }) }
     {
         let saved = Saved {
             point,

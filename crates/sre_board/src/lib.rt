@@ -1,5 +1,5 @@
-//! What a run of the machine holds beside its place and position: the loops in progress, the marks, and what is still to
-//! be tried.
+//! What a run of the machine holds beside its place and position: the loops in progress, the marks,
+//! and what is still to be tried.
 //!
 //! All choices share one list of marks with a trail of its changes, and one table of loops. So a choice is a record of
 //! one size, and to go back takes no memory.

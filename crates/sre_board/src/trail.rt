@@ -69,7 +69,8 @@ impl<A: Allocator> Trail<A> {
     /// Sets mark `n` to `position`.
     #[inline(always)]
     pub(crate) fn set(&mut self, n: u32, position: usize) -> Result<(), Refusal>
-        ensures set { IfOk result (λ _. self.new ≡ record { past = states self.old; now = set_mark self.old.now n position }) }
+        ensures set { IfOk result
+            (λ _. self.new ≡ record { past = states self.old; now = set_mark self.old.now n position }) }
         ensures kept { length self.old.past ≤ length self.new.past }
     {
         sre_growth::push(&mut self.changes, self.marks.change(n))?;

@@ -13,5 +13,6 @@ pub code_tree : (ws : List ℕ) (hints : Hints) → ∥ ((t : Tree) × Whole ws 
 code_tree ws hints c = kept_tree ws (∥∥₁_map c (λ x. (x.0, x.1)))
 
 -- it is the one that the reader gives
-pub whole_of : (ws : List ℕ) (hints : Hints) → ∥ ((t : Tree) × Whole ws t × Confirmed ws t hints) ∥₁ → Whole ws (tree_of ws)
+pub whole_of : (ws : List ℕ) (hints : Hints) → ∥ ((t : Tree) × Whole ws t × Confirmed ws t hints) ∥₁
+    → Whole ws (tree_of ws)
 whole_of ws hints c = let k = code_tree ws hints c in subst (λ t. Whole ws t) (sym (whole-read ws k.0 k.1)) k.1

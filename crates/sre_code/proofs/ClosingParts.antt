@@ -21,23 +21,31 @@ whole_inside ws i o h ne = record { none = λ u j w c. ne (same_opcode ws i o op
 -- no item begins with SUCCESS
 success_first : (ws : List ℕ) (i k : ℕ) (t : Tree) → Opcode ws i opcode.SUCCESS → Reads ws i k t → t ≡ Empty
 success_first ws i k Empty h r = refl
-success_first ws i k (Then x t) h r = absurd (no_item ws i r.0 x (record { code = opcode.SUCCESS; there = h; begins = refl }) r.1)
+success_first ws i k (Then x t) h r =
+    absurd (no_item ws i r.0 x (record { code = opcode.SUCCESS; there = h; begins = refl }) r.1)
 
 pub whole_end : (ws : List ℕ) (i : ℕ) → Opcode ws i opcode.SUCCESS → IsEnd ws Whole i
 whole_end ws i h = record { only = λ k u j w t r c. success_first ws i k t h r }
 
-pub whole_exactly : (ws : List ℕ) (u i : ℕ) → Opcode ws i opcode.SUCCESS → i + 1 ≡ length ws → Exactly ws (Past (i + 1) u) (Closes ws Whole i u)
+pub whole_exactly : (ws : List ℕ) (u i : ℕ) → Opcode ws i opcode.SUCCESS → i + 1 ≡ length ws
+    → Exactly ws (Past (i + 1) u) (Closes ws Whole i u)
 whole_exactly ws u i h last = record { sound = λ j w r. (h, last, r.0, r.1); complete = λ j w c. (c.2, c.3) }
 
-pub whole_trails : (ws : List ℕ) (u i : ℕ) → Opcode ws i opcode.SUCCESS → i + 1 ≢ length ws → Unclosed ws Whole i u (TrailingWords (i + 1))
-whole_trails ws u i h ne = record { end = whole_end ws i h; nowhere = record { none = λ j w c. ne c.1 }; within = omega (arith, opcode_within ws i opcode.SUCCESS h) }
+pub whole_trails : (ws : List ℕ) (u i : ℕ) → Opcode ws i opcode.SUCCESS → i + 1 ≢ length ws
+    → Unclosed ws Whole i u (TrailingWords (i + 1))
+whole_trails ws u i h ne = record {
+  end = whole_end ws i h;
+  nowhere = record { none = λ j w c. ne c.1 };
+  within = omega (arith, opcode_within ws i opcode.SUCCESS h);
+}
 
 -- where no opcode is, no item begins and nothing is closed
 no_first : (ws : List ℕ) (i k : ℕ) (t : Tree) → NoCode opcode_number ws i → Reads ws i k t → t ≡ Empty
 no_first ws i k Empty n r = refl
 no_first ws i k (Then x t) n r = absurd (n.none (item_opcode x) r.1.0)
 
-pub whole_cut : (ws : List ℕ) (u i : ℕ) (e : CodeError) → NoCode opcode_number ws i → Within ws e → Unclosed ws Whole i u e
+pub whole_cut : (ws : List ℕ) (u i : ℕ) (e : CodeError) → NoCode opcode_number ws i → Within ws e
+    → Unclosed ws Whole i u e
 whole_cut ws u i e n le = record {
   end = record { only = λ k v j w t r c. no_first ws i k t n r };
   nowhere = record { none = λ j w c. n.none opcode.SUCCESS c.0 };

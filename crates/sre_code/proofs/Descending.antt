@@ -23,16 +23,21 @@ use Rattle.sre_model.proofs.Words.{opcode_within, opcode_moved}
 use Rattle.sre_model.proofs.Places.{reads_moved}
 use Rattle.sre_model.proofs.Widths.{width_held}
 
-rest_moved : (ws : List ℕ) (i i2 d d2 W : ℕ) (fs fs2 : List Open) → i ≡ i2 → d ≡ d2 → fs ≡ fs2 → Rest ws i d fs W → Rest ws i2 d2 fs2 W
+rest_moved : (ws : List ℕ) (i i2 d d2 W : ℕ) (fs fs2 : List Open) → i ≡ i2 → d ≡ d2 → fs ≡ fs2 → Rest ws i d fs W
+    → Rest ws i2 d2 fs2 W
 rest_moved ws i i2 d d2 W fs fs2 e f g r =
-    let P : ℕ → Type 0 = λ n. Rest ws n d fs W in let Q : ℕ → Type 0 = λ n. Rest ws i2 n fs W in let S : List Open → Type 0 = λ xs. Rest ws i2 d2 xs W in
+    let P : ℕ → Type 0 = λ n. Rest ws n d fs W in
+    let Q : ℕ → Type 0 = λ n. Rest ws i2 n fs W in
+    let S : List Open → Type 0 = λ xs. Rest ws i2 d2 xs W in
     subst S g (subst Q f (subst P e r))
 
-after_from : (ws : List ℕ) (s : Step) (fs : List Open) (W j w : ℕ) → Remains ws s j w → Rest ws j w fs W → After ws s fs W
+after_from : (ws : List ℕ) (s : Step) (fs : List Open) (W j w : ℕ) → Remains ws s j w → Rest ws j w fs W
+    → After ws s fs W
 after_from ws (Past p v) fs W j w e r = rest_moved ws j p w v W fs fs e.0 e.1 refl r
 after_from ws (Opens part p) fs W j w m r = (j, w, m, r)
 
-after_to : (ws : List ℕ) (s : Step) (fs : List Open) (W : ℕ) → After ws s fs W → (j : ℕ) × (w : ℕ) × Remains ws s j w × Rest ws j w fs W
+after_to : (ws : List ℕ) (s : Step) (fs : List Open) (W : ℕ) → After ws s fs W
+    → (j : ℕ) × (w : ℕ) × Remains ws s j w × Rest ws j w fs W
 after_to ws (Past p v) fs W r = (p, v, (refl, refl), r)
 after_to ws (Opens part p) fs W r = r
 
@@ -47,54 +52,98 @@ closes_wide : (ws : List ℕ) (part : Part) (k u u2 j w : ℕ) → u ≡ u2 → 
 closes_wide ws part k u u2 j w e c = let P : ℕ → Type 0 = λ n. Closes ws part k n j w in subst P e c
 
 -- the item comes first, and then the rest of the part
-item_first : (ws : List ℕ) (s : Step) (part : Part) (a : ℕ) (fs : List Open) (W i j w k : ℕ) (t : Tree) → IsInside ws part i → Exactly ws s (ItemAt ws i) → Reads ws i k t → Closes ws part k (held (a + width t)) j w → Rest ws j w fs W → After ws s (record { part = part; width = a } ∷ fs) W
+item_first : (ws : List ℕ) (s : Step) (part : Part) (a : ℕ) (fs : List Open) (W i j w k : ℕ) (t : Tree)
+    → IsInside ws part i → Exactly ws s (ItemAt ws i) → Reads ws i k t → Closes ws part k (held (a + width t)) j w
+    → Rest ws j w fs W → After ws s (record { part = part; width = a } ∷ fs) W
 item_first ws s part a fs W i j w k Empty inside x r c rest =
     let P : ℕ → Type 0 = λ n. Closes ws part n (held (a + 0)) j w in absurd (inside.none _ j w (subst P (sym r) c))
 item_first ws s part a fs W i j w k (Then it t) inside x r c rest =
-    after_from ws s (record { part = part; width = a } ∷ fs) W r.0 (item_width it) (x.complete r.0 (item_width it) (it, r.1, refl))
+    after_from ws s (record { part = part; width = a } ∷ fs) W r.0 (item_width it)
+    (x.complete r.0 (item_width it) (it, r.1, refl))
     (j, w, (k, (t, r.2, closes_wide ws part k _ _ j w (sums a (item_width it) (width t)) c)), rest)
 
-item_turns : (ws : List ℕ) (s : Step) (a : ℕ) (top : Open) (d : ℕ) (fs : List Open) (i : ℕ) → a ≡ held (top.width + d) → IsInside ws top.part i → Exactly ws s (ItemAt ws i) → Same (Rest ws i d (top ∷ fs)) (After ws s (record { part = top.part; width = a } ∷ fs))
+item_turns : (ws : List ℕ) (s : Step) (a : ℕ) (top : Open) (d : ℕ) (fs : List Open) (i : ℕ)
+    → a ≡ held (top.width + d) → IsInside ws top.part i → Exactly ws s (ItemAt ws i)
+    → Same (Rest ws i d (top ∷ fs)) (After ws s (record { part = top.part; width = a } ∷ fs))
 item_turns ws s a top d fs i ae inside x = record {
-  to = λ W r. item_first ws s top.part a fs W i r.0 r.1 r.2.0 r.2.1.0 inside x r.2.1.1 (closes_wide ws top.part _ _ _ _ _ (ap (λ n. held (n + width r.2.1.0)) (sym ae)) r.2.1.2) r.3;
+  to = λ W r.
+      item_first ws s top.part a fs W i r.0 r.1 r.2.0 r.2.1.0 inside x r.2.1.1
+      (closes_wide ws top.part _ _ _ _ _ (ap (λ n. held (n + width r.2.1.0)) (sym ae)) r.2.1.2) r.3;
   from = λ W y.
       let b = after_to ws s (record { part = top.part; width = a } ∷ fs) W y in
       let it = x.sound b.0 b.1 b.2 in
       let sum : held (held (a + b.1) + width b.3.2.1.0) ≡ held (held (top.width + d) + width (Then it.0 b.3.2.1.0)) =
-      ap (λ n. held (held (a + n) + width b.3.2.1.0)) it.2 ∙ sym (sums a (item_width it.0) (width b.3.2.1.0)) ∙ ap (λ n. held (n + width (Then it.0 b.3.2.1.0))) ae in
-      (b.3.0, b.3.1, (b.3.2.0, (Then it.0 b.3.2.1.0, (b.0, it.1, b.3.2.1.1), closes_wide ws top.part b.3.2.0 _ _ b.3.0 b.3.1 sum b.3.2.1.2)), b.3.3);
+      ap (λ n. held (held (a + n) + width b.3.2.1.0)) it.2 ∙ sym (sums a (item_width it.0) (width b.3.2.1.0))
+      ∙ ap (λ n. held (n + width (Then it.0 b.3.2.1.0))) ae in (
+        b.3.0,
+        b.3.1,
+        (
+          b.3.2.0,
+          (Then it.0 b.3.2.1.0, (b.0, it.1, b.3.2.1.1), closes_wide ws top.part b.3.2.0 _ _ b.3.0 b.3.1 sum b.3.2.1.2),
+        ),
+        b.3.3,
+      );
 }
 
-item_refuses : (ws : List ℕ) (part : Part) (i k u j w : ℕ) (t : Tree) → IsInside ws part i → Nowhere (ItemAt ws i) → Reads ws i k t → Closes ws part k u j w → ⊥
-item_refuses ws part i k u j w Empty inside n r c = let P : ℕ → Type 0 = λ n. Closes ws part n u j w in inside.none u j w (subst P (sym r) c)
+item_refuses : (ws : List ℕ) (part : Part) (i k u j w : ℕ) (t : Tree) → IsInside ws part i → Nowhere (ItemAt ws i)
+    → Reads ws i k t → Closes ws part k u j w → ⊥
+item_refuses ws part i k u j w Empty inside n r c =
+    let P : ℕ → Type 0 = λ n. Closes ws part n u j w in
+    inside.none u j w (subst P (sym r) c)
 item_refuses ws part i k u j w (Then it t) inside n r c = n.none r.0 (item_width it) (it, r.1, refl)
 
-item_stops : (ws : List ℕ) (top : Open) (d : ℕ) (fs : List Open) (i : ℕ) → IsInside ws top.part i → Nowhere (ItemAt ws i) → Never (Rest ws i d (top ∷ fs))
-item_stops ws top d fs i inside n = record { none = λ W r. item_refuses ws top.part i r.2.0 _ r.0 r.1 r.2.1.0 inside n r.2.1.1 r.2.1.2 }
+item_stops : (ws : List ℕ) (top : Open) (d : ℕ) (fs : List Open) (i : ℕ) → IsInside ws top.part i
+    → Nowhere (ItemAt ws i) → Never (Rest ws i d (top ∷ fs))
+item_stops ws top d fs i inside n =
+    record { none = λ W r. item_refuses ws top.part i r.2.0 _ r.0 r.1 r.2.1.0 inside n r.2.1.1 r.2.1.2 }
 
 -- the part ends here, and its width is the sum so far
-closed_here : (ws : List ℕ) (top : Open) (d a : ℕ) (fs : List Open) (W i : ℕ) → a ≡ held (top.width + d) → IsEnd ws top.part i → Rest ws i d (top ∷ fs) W → (j : ℕ) × (w : ℕ) × Closes ws top.part i a j w × Rest ws j w fs W
+closed_here : (ws : List ℕ) (top : Open) (d a : ℕ) (fs : List Open) (W i : ℕ) → a ≡ held (top.width + d)
+    → IsEnd ws top.part i → Rest ws i d (top ∷ fs) W → (j : ℕ) × (w : ℕ) × Closes ws top.part i a j w × Rest ws j w fs W
 closed_here ws top d a fs W i ae end r =
     let empty : r.2.1.0 ≡ Empty = end.only r.2.0 _ r.0 r.1 r.2.1.0 r.2.1.1 r.2.1.2 in
     let at : i ≡ r.2.0 = let P : Tree → Type 0 = λ t. Reads ws i r.2.0 t in subst P empty r.2.1.1 in
-    let P : ℕ → Type 0 = λ n. Closes ws top.part n a r.0 r.1 in
-    (r.0, r.1, subst P (sym at) (closes_wide ws top.part r.2.0 _ a r.0 r.1 (ap (λ t. held (held (top.width + d) + width t)) empty ∙ no_more (top.width + d) a ae) r.2.1.2), r.3)
+    let P : ℕ → Type 0 = λ n. Closes ws top.part n a r.0 r.1 in (
+      r.0,
+      r.1,
+      subst P (sym at)
+          (closes_wide ws top.part r.2.0 _ a r.0 r.1
+          (ap (λ t. held (held (top.width + d) + width t)) empty ∙ no_more (top.width + d) a ae) r.2.1.2),
+      r.3,
+    )
 
-close_turns : (ws : List ℕ) (s : Step) (top : Open) (d a : ℕ) (fs : List Open) (i : ℕ) → a ≡ held (top.width + d) → IsEnd ws top.part i → Exactly ws s (Closes ws top.part i a) → Same (Rest ws i d (top ∷ fs)) (After ws s fs)
+close_turns : (ws : List ℕ) (s : Step) (top : Open) (d a : ℕ) (fs : List Open) (i : ℕ) → a ≡ held (top.width + d)
+    → IsEnd ws top.part i → Exactly ws s (Closes ws top.part i a) → Same (Rest ws i d (top ∷ fs)) (After ws s fs)
 close_turns ws s top d a fs i ae end x = record {
-  to = λ W r. let here = closed_here ws top d a fs W i ae end r in after_from ws s fs W here.0 here.1 (x.complete here.0 here.1 here.2) here.3;
-  from = λ W y. let b = after_to ws s fs W y in
-      (b.0, b.1, (i, (Empty, refl, closes_wide ws top.part i a _ b.0 b.1 (sym (no_more (top.width + d) a ae)) (x.sound b.0 b.1 b.2))), b.3);
+  to = λ W r.
+      let here = closed_here ws top d a fs W i ae end r in
+      after_from ws s fs W here.0 here.1 (x.complete here.0 here.1 here.2) here.3;
+  from = λ W y. let b = after_to ws s fs W y in (
+    b.0,
+    b.1,
+    (
+      i,
+      (
+        Empty,
+        refl,
+        closes_wide ws top.part i a _ b.0 b.1 (sym (no_more (top.width + d) a ae)) (x.sound b.0 b.1 b.2),
+      ),
+    ),
+    b.3,
+  );
 }
 
-close_stops : (ws : List ℕ) (top : Open) (d a : ℕ) (fs : List Open) (i : ℕ) → a ≡ held (top.width + d) → IsEnd ws top.part i → Nowhere (Closes ws top.part i a) → Never (Rest ws i d (top ∷ fs))
-close_stops ws top d a fs i ae end n = record { none = λ W r. let here = closed_here ws top d a fs W i ae end r in n.none here.0 here.1 here.2 }
+close_stops : (ws : List ℕ) (top : Open) (d a : ℕ) (fs : List Open) (i : ℕ) → a ≡ held (top.width + d)
+    → IsEnd ws top.part i → Nowhere (Closes ws top.part i a) → Never (Rest ws i d (top ∷ fs))
+close_stops ws top d a fs i ae end n =
+    record { none = λ W r. let here = closed_here ws top d a fs W i ae end r in n.none here.0 here.1 here.2 }
 
 -- what a step leaves is on the stack
 reverse_push : (fs : List Open) (f : Open) → reverse (fs ++ f ∷ []) ≡ f ∷ reverse fs
 reverse_push fs f = reverse-append fs (f ∷ [])
 
-pushed : (ws : List ℕ) (s : Step) (old new : List Open) (q : Reached) → Pushes s old new (Ok q) → Same (After ws s (reverse old)) (StackRest ws q.place q.width new)
+pushed : (ws : List ℕ) (s : Step) (old new : List Open) (q : Reached) → Pushes s old new (Ok q)
+    → Same (After ws s (reverse old)) (StackRest ws q.place q.width new)
 pushed ws (Past p v) old new q e = record {
   to = λ W r. rest_moved ws p q.place v q.width W _ _ (sym e.0) (sym e.1) (ap reverse (sym e.2)) r;
   from = λ W r. rest_moved ws q.place p q.width v W _ _ e.0 e.1 (ap reverse e.2) r;
@@ -108,87 +157,137 @@ pushed ws (Opens part p) old new q e =
 same_then : (A B C : ℕ → Type 0) → Same A B → Same B C → Same A C
 same_then A B C x y = record { to = λ W a. y.to W (x.to W a); from = λ W d. x.from W (y.from W d) }
 
-falls_closing : (ws : List ℕ) (s : Step) (i : ℕ) (q : Reached) (old new : List Open) → Leaves ws i s → Pushes s old new (Ok q) → work ws q.place new < work ws i old + 1
+falls_closing : (ws : List ℕ) (s : Step) (i : ℕ) (q : Reached) (old new : List Open) → Leaves ws i s
+    → Pushes s old new (Ok q) → work ws q.place new < work ws i old + 1
 falls_closing ws (Past p v) i q old new l e = omega (arith, ap length e.2)
 falls_closing ws (Opens part p) i q old new l e = omega (arith, ap length e.2, length-append old (opened part ∷ []))
 
-falls_item : (ws : List ℕ) (s : Step) (f : Open) (i : ℕ) (q : Reached) (old new : List Open) → i < next s → i < length ws → Pushes s (old ++ f ∷ []) new (Ok q) → work ws q.place new < work ws i old + 1
+falls_item : (ws : List ℕ) (s : Step) (f : Open) (i : ℕ) (q : Reached) (old new : List Open) → i < next s
+    → i < length ws → Pushes s (old ++ f ∷ []) new (Ok q) → work ws q.place new < work ws i old + 1
 falls_item ws (Past p v) f i q old new l there e = omega (arith, ap length e.2, length-append old (f ∷ []))
-falls_item ws (Opens part p) f i q old new l there e = omega (arith, ap length e.2, length-append (old ++ f ∷ []) (opened part ∷ []), length-append old (f ∷ []))
+falls_item ws (Opens part p) f i q old new l there e =
+    omega (arith, ap length e.2, length-append (old ++ f ∷ []) (opened part ∷ []), length-append old (f ∷ []))
 
 memory : (ws : List ℕ) (A : ℕ → Type 0) (e : CodeError) → (e ≡ Memory) × Refused → Fails ws A e
 memory ws A e m = record { never = λ ne. absurd (ne m.0); grows = λ W a. m.1; within = omega (arith, ap place_of m.0) }
 
-push_fails : (ws : List ℕ) (A : ℕ → Type 0) (s : Step) (old new : List Open) (e : CodeError) → Pushes s old new (Err e) → Fails ws A e
+push_fails : (ws : List ℕ) (A : ℕ → Type 0) (s : Step) (old new : List Open) (e : CodeError) → Pushes s old new (Err e)
+    → Fails ws A e
 push_fails ws A (Past p v) old new e m = memory ws A e m
 push_fails ws A (Opens part p) old new e m = memory ws A e m
 
 -- one turn
-pub step_closes : (ws : List ℕ) (r : Reached) (a : ℕ) (top : Open) (s : Step) (old new : List Open) (q : Result Reached CodeError) → a ≡ held (top.width + r.width) → IsEnd ws top.part r.place → Leaves ws r.place s → Exactly ws s (Closes ws top.part r.place a) → Pushes s old new q → ReadsOn ws r top old new q
-step_closes ws r a top s old new (Ok q) ae end l x e =
-    (same_then _ _ _ (close_turns ws s top r.width a (reverse old) r.place ae end x) (pushed ws s old new q e), falls_closing ws s r.place q old new l e)
+pub step_closes : (ws : List ℕ) (r : Reached) (a : ℕ) (top : Open) (s : Step) (old new : List Open)
+    (q : Result Reached CodeError)
+    → a ≡ held (top.width + r.width) → IsEnd ws top.part r.place → Leaves ws r.place s
+    → Exactly ws s (Closes ws top.part r.place a) → Pushes s old new q → ReadsOn ws r top old new q
+step_closes ws r a top s old new (Ok q) ae end l x e = (
+  same_then _ _ _ (close_turns ws s top r.width a (reverse old) r.place ae end x) (pushed ws s old new q e),
+  falls_closing ws s r.place q old new l e,
+)
 step_closes ws r a top s old new (Err e) ae end l x m = push_fails ws _ s old new e m
 
-item_pushed : (ws : List ℕ) (s : Step) (f : Open) (old new : List Open) (q : Reached) → Pushes s (old ++ f ∷ []) new (Ok q) → Same (After ws s (f ∷ reverse old)) (StackRest ws q.place q.width new)
+item_pushed : (ws : List ℕ) (s : Step) (f : Open) (old new : List Open) (q : Reached)
+    → Pushes s (old ++ f ∷ []) new (Ok q) → Same (After ws s (f ∷ reverse old)) (StackRest ws q.place q.width new)
 item_pushed ws s f old new q e =
     let P : List Open → Type 0 = λ xs. Same (After ws s xs) (StackRest ws q.place q.width new) in
     subst P (reverse_push old f) (pushed ws s (old ++ f ∷ []) new q e)
 
-pub step_reads : (ws : List ℕ) (r : Reached) (a : ℕ) (top : Open) (s : Step) (old new : List Open) (q : Result Reached CodeError) → a ≡ held (top.width + r.width) → IsInside ws top.part r.place → r.place < length ws → r.place < next s → Exactly ws s (ItemAt ws r.place) → Pushes s (old ++ record { part = top.part; width = a } ∷ []) new q → ReadsOn ws r top old new q
-step_reads ws r a top s old new (Ok q) ae inside there lt x e =
-    (same_then _ _ _ (item_turns ws s a top r.width (reverse old) r.place ae inside x) (item_pushed ws s (record { part = top.part; width = a }) old new q e), falls_item ws s (record { part = top.part; width = a }) r.place q old new lt there e)
-step_reads ws r a top s old new (Err e) ae inside there lt x m = push_fails ws _ s (old ++ record { part = top.part; width = a } ∷ []) new e m
+pub step_reads : (ws : List ℕ) (r : Reached) (a : ℕ) (top : Open) (s : Step) (old new : List Open)
+    (q : Result Reached CodeError)
+    → a ≡ held (top.width + r.width) → IsInside ws top.part r.place → r.place < length ws → r.place < next s
+    → Exactly ws s (ItemAt ws r.place) → Pushes s (old ++ record { part = top.part; width = a } ∷ []) new q
+    → ReadsOn ws r top old new q
+step_reads ws r a top s old new (Ok q) ae inside there lt x e = (
+  same_then _ _ _ (item_turns ws s a top r.width (reverse old) r.place ae inside x)
+      (item_pushed ws s (record { part = top.part; width = a }) old new q e),
+  falls_item ws s (record { part = top.part; width = a }) r.place q old new lt there e,
+)
+step_reads ws r a top s old new (Err e) ae inside there lt x m =
+    push_fails ws _ s (old ++ record { part = top.part; width = a } ∷ []) new e m
 
-pub step_no_close : (ws : List ℕ) (i d a : ℕ) (top : Open) (old : List Open) (e : CodeError) → a ≡ held (top.width + d) → Unclosed ws top.part i a e → Fails ws (Rest ws i d (top ∷ reverse old)) e
-step_no_close ws i d a top old e ae x = let stops = close_stops ws top d a (reverse old) i ae x.end x.nowhere in record { never = λ ne. stops; grows = λ W r. absurd (stops.none W r); within = x.within }
+pub step_no_close : (ws : List ℕ) (i d a : ℕ) (top : Open) (old : List Open) (e : CodeError) → a ≡ held (top.width + d)
+    → Unclosed ws top.part i a e → Fails ws (Rest ws i d (top ∷ reverse old)) e
+step_no_close ws i d a top old e ae x =
+    let stops = close_stops ws top d a (reverse old) i ae x.end x.nowhere in
+    record { never = λ ne. stops; grows = λ W r. absurd (stops.none W r); within = x.within }
 
-pub step_no_item : (ws : List ℕ) (i d : ℕ) (top : Open) (old : List Open) (e : CodeError) → IsInside ws top.part i → Nowhere (ItemAt ws i) → Within ws e → Fails ws (Rest ws i d (top ∷ reverse old)) e
-step_no_item ws i d top old e inside x le = let stops = item_stops ws top d (reverse old) i inside x in record { never = λ ne. stops; grows = λ W r. absurd (stops.none W r); within = le }
+pub step_no_item : (ws : List ℕ) (i d : ℕ) (top : Open) (old : List Open) (e : CodeError) → IsInside ws top.part i
+    → Nowhere (ItemAt ws i) → Within ws e → Fails ws (Rest ws i d (top ∷ reverse old)) e
+step_no_item ws i d top old e inside x le =
+    let stops = item_stops ws top d (reverse old) i inside x in
+    record { never = λ ne. stops; grows = λ W r. absurd (stops.none W r); within = le }
 
 -- the descent
 body_from : (ws : List ℕ) (i W : ℕ) → WholeFrom ws i W → Rest ws i 0 (opened Whole ∷ []) W
 body_from ws i W b =
-    let last : length ws - 1 + 1 ≡ length ws = omega (arith, opcode_within ws (length ws - 1) opcode.SUCCESS b.1) in
-    (length ws - 1 + 1, W, (length ws - 1, (b.0.0, b.0.1, (b.1, last, refl, omega (arith, b.0.2, width_held b.0.0)))), refl)
+    let last : length ws - 1 + 1 ≡ length ws = omega (arith, opcode_within ws (length ws - 1) opcode.SUCCESS b.1) in (
+      length ws - 1 + 1,
+      W,
+      (length ws - 1, (b.0.0, b.0.1, (b.1, last, refl, omega (arith, b.0.2, width_held b.0.0)))),
+      refl,
+    )
 
 body_to : (ws : List ℕ) (i W : ℕ) → Rest ws i 0 (opened Whole ∷ []) W → WholeFrom ws i W
 body_to ws i W r =
     let c = r.2.1.2 in
-    let last : r.2.0 ≡ length ws - 1 = omega (arith, c.1) in
-    ((r.2.1.0, reads_moved ws i i r.2.0 (length ws - 1) r.2.1.0 refl last r.2.1.1, omega (arith, c.3, r.3, width_held r.2.1.0)), opcode_moved ws r.2.0 (length ws - 1) opcode.SUCCESS last c.0)
+    let last : r.2.0 ≡ length ws - 1 = omega (arith, c.1) in (
+      (
+        r.2.1.0,
+        reads_moved ws i i r.2.0 (length ws - 1) r.2.1.0 refl last r.2.1.1,
+        omega (arith, c.3, r.3, width_held r.2.1.0),
+      ),
+      opcode_moved ws r.2.0 (length ws - 1) opcode.SUCCESS last c.0,
+    )
 
-pub descent_starts : (ws : List ℕ) (i : ℕ) (q : Reached) (items : List Open) → q.place ≡ i → q.width ≡ 0 → items ≡ [] ++ opened Whole ∷ [] → Same (WholeFrom ws i) (StackRest ws q.place q.width items)
+pub descent_starts : (ws : List ℕ) (i : ℕ) (q : Reached) (items : List Open) → q.place ≡ i → q.width ≡ 0
+    → items ≡ [] ++ opened Whole ∷ [] → Same (WholeFrom ws i) (StackRest ws q.place q.width items)
 descent_starts ws i q items p v e = record {
   to = λ W b. rest_moved ws i q.place 0 q.width W _ _ (sym p) (sym v) (sym (ap reverse e)) (body_from ws i W b);
   from = λ W r. body_to ws i W (rest_moved ws q.place i q.width 0 W _ _ p v (ap reverse e) r);
 }
 
-popped : (ws : List ℕ) (i d : ℕ) (top : Open) (items old : List Open) → items ≡ old ++ top ∷ [] → Same (StackRest ws i d items) (Rest ws i d (top ∷ reverse old))
+popped : (ws : List ℕ) (i d : ℕ) (top : Open) (items old : List Open) → items ≡ old ++ top ∷ []
+    → Same (StackRest ws i d items) (Rest ws i d (top ∷ reverse old))
 popped ws i d top items old e =
     let same : reverse items ≡ top ∷ reverse old = ap reverse e ∙ reverse_push old top in record {
       to = λ W r. rest_moved ws i i d d W _ _ refl refl same r;
       from = λ W r. rest_moved ws i i d d W _ _ refl refl (sym same) r;
     }
 
-pub descent_goes_on : (ws : List ℕ) (start : ℕ) (r q : Reached) (top : Open) (items old new : List Open) → Same (WholeFrom ws start) (StackRest ws r.place r.width items) → items ≡ old ++ top ∷ [] → ReadsOn ws r top old new (Ok q) → Same (WholeFrom ws start) (StackRest ws q.place q.width new)
+pub descent_goes_on : (ws : List ℕ) (start : ℕ) (r q : Reached) (top : Open) (items old new : List Open)
+    → Same (WholeFrom ws start) (StackRest ws r.place r.width items) → items ≡ old ++ top ∷ []
+    → ReadsOn ws r top old new (Ok q) → Same (WholeFrom ws start) (StackRest ws q.place q.width new)
 descent_goes_on ws start r q top items old new inv e t =
     same_then _ _ _ inv (same_then _ _ _ (popped ws r.place r.width top items old e) t.0)
 
-pub descent_falls : (ws : List ℕ) (r q : Reached) (top : Open) (items old new : List Open) → items ≡ old ++ top ∷ [] → ReadsOn ws r top old new (Ok q) → work ws q.place new < work ws r.place items
+pub descent_falls : (ws : List ℕ) (r q : Reached) (top : Open) (items old new : List Open) → items ≡ old ++ top ∷ []
+    → ReadsOn ws r top old new (Ok q) → work ws q.place new < work ws r.place items
 descent_falls ws r q top items old new e t = omega (arith, t.1, ap length e, length-append old (top ∷ []))
 
-pub descent_stops : (ws : List ℕ) (start i d : ℕ) (top : Open) (items old : List Open) (e : CodeError) → Same (WholeFrom ws start) (StackRest ws i d items) → items ≡ old ++ top ∷ [] → Fails ws (Rest ws i d (top ∷ reverse old)) e → Fails ws (WholeFrom ws start) e
+pub descent_stops : (ws : List ℕ) (start i d : ℕ) (top : Open) (items old : List Open) (e : CodeError)
+    → Same (WholeFrom ws start) (StackRest ws i d items) → items ≡ old ++ top ∷ []
+    → Fails ws (Rest ws i d (top ∷ reverse old)) e → Fails ws (WholeFrom ws start) e
 descent_stops ws start i d top items old e inv same t =
-    record { never = λ ne. record { none = λ W b. (t.never ne).none W ((popped ws i d top items old same).to W (inv.to W b)) }; grows = λ W b. t.grows W ((popped ws i d top items old same).to W (inv.to W b)); within = t.within }
+    record {
+      never = λ ne. record { none = λ W b. (t.never ne).none W ((popped ws i d top items old same).to W (inv.to W b)) };
+      grows = λ W b. t.grows W ((popped ws i d top items old same).to W (inv.to W b));
+      within = t.within;
+    }
 
-pub descent_ends : (ws : List ℕ) (start : ℕ) (r : Reached) (items : List Open) → Same (WholeFrom ws start) (StackRest ws r.place r.width items) → items ≡ [] → HasWhole ws start r.width
-descent_ends ws start r items inv e = record { body = inv.from r.width (rest_moved ws r.place r.place r.width r.width r.width [] _ refl refl (sym (ap reverse e)) refl) }
+pub descent_ends : (ws : List ℕ) (start : ℕ) (r : Reached) (items : List Open)
+    → Same (WholeFrom ws start) (StackRest ws r.place r.width items) → items ≡ [] → HasWhole ws start r.width
+descent_ends ws start r items inv e = record {
+  body =
+      inv.from r.width (rest_moved ws r.place r.place r.width r.width r.width [] _ refl refl (sym (ap reverse e)) refl);
+}
 
 -- what the descent says of the words
 pub descent_code : (ws : List ℕ) (W : ℕ) → HasWhole ws 0 W → IsCode ws
 descent_code ws W b = (b.body.0.0, (b.body.0.1, b.body.1))
 
-pub descent_refused : (ws : List ℕ) (e : CodeError) (t : Tree) → Fails ws (WholeFrom ws 0) e → e ≢ Memory → ¬ (IsWhole ws t)
+pub descent_refused : (ws : List ℕ) (e : CodeError) (t : Tree) → Fails ws (WholeFrom ws 0) e → e ≢ Memory
+    → ¬ (IsWhole ws t)
 descent_refused ws e t x ne w = (x.never ne).none (width t) ((t, w.0, refl), w.1)
 
 -- words that have a tree are refused only where a growth was

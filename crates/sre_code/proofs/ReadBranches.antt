@@ -18,9 +18,12 @@ use Rattle.sre_model.proofs.Places.{reads_within, alternative_long, reads_moved,
 use Rattle.sre_model.proofs.Widths.{width_held, least_held}
 use Rattle.sre_model.proofs.Families.{HasKind, OfBranch, is_branch}
 
-branch_moved : (ws : List ℕ) (q q2 j j2 : ℕ) (ts : Trees) → q ≡ q2 → j ≡ j2 → ReadsBranch ws q j ts → ReadsBranch ws q2 j2 ts
+branch_moved : (ws : List ℕ) (q q2 j j2 : ℕ) (ts : Trees) → q ≡ q2 → j ≡ j2 → ReadsBranch ws q j ts
+    → ReadsBranch ws q2 j2 ts
 branch_moved ws q q2 j j2 ts e f r =
-    let P : ℕ → Type 0 = λ n. ReadsBranch ws n j ts in let Q : ℕ → Type 0 = λ n. ReadsBranch ws q2 n ts in subst Q f (subst P e r)
+    let P : ℕ → Type 0 = λ n. ReadsBranch ws n j ts in
+    let Q : ℕ → Type 0 = λ n. ReadsBranch ws q2 n ts in
+    subst Q f (subst P e r)
 
 jump_moved : (ws : List ℕ) (k k2 j : ℕ) → k ≡ k2 → JumpsTo ws k j → JumpsTo ws k2 j
 jump_moved ws k k2 j e r = let P : ℕ → Type 0 = λ n. JumpsTo ws n j in subst P e r
@@ -33,21 +36,46 @@ abbrev Later : List ℕ → ℕ → ℕ → ℕ → ℕ → Type 0
 Later ws q tail least w = (ts : Trees) × ReadsBranch ws q tail ts × (w ≡ min least (least_width ts))
 
 -- alternatives, by the bounds of the first
-trees_remain : (ws : List ℕ) (q e tail least j w : ℕ) (ts : Trees) → e ≡ skip ws q → q + 3 ≤ e → tail ≡ skip ws (e - 1) → ReadsBranch ws q j ts → w ≡ min least (least_width ts) → Remains ws (Opens (Alternative (e - 2) tail least) (q + 1)) j w
+trees_remain : (ws : List ℕ) (q e tail least j w : ℕ) (ts : Trees) → e ≡ skip ws q → q + 3 ≤ e → tail ≡ skip ws (e - 1)
+    → ReadsBranch ws q j ts → w ≡ min least (least_width ts)
+    → Remains ws (Opens (Alternative (e - 2) tail least) (q + 1)) j w
 trees_remain ws q e tail least j w (Only t) ee le te r wide =
     let same : skip ws q - 2 ≡ e - 2 = omega arith in
     let at : e - 2 + 1 ≡ e - 1 = omega arith in
     let jump : JumpsTo ws (e - 2) j = jump_moved ws _ (e - 2) j same r.1 in
-    let ends : j ≡ tail = jump.1 ∙ (ap (λ n. n + word ws n) at ∙ sym te) in
-    (e - 2, (t, reads_moved ws (q + 1) (q + 1) _ (e - 2) t refl same r.0, (refl, (jump.0, sym ends ∙ jump.1), inl (word_moved ws _ (e - 2 + 2) 0 (omega arith) r.2, omega arith, omega (arith, wide, width_held t)), ends)))
+    let ends : j ≡ tail = jump.1 ∙ (ap (λ n. n + word ws n) at ∙ sym te) in (
+      e - 2,
+      (
+        t,
+        reads_moved ws (q + 1) (q + 1) _ (e - 2) t refl same r.0,
+        (
+          refl,
+          (jump.0, sym ends ∙ jump.1),
+          inl (word_moved ws _ (e - 2 + 2) 0 (omega arith) r.2, omega arith, omega (arith, wide, width_held t)),
+          ends,
+        ),
+      ),
+    )
 trees_remain ws q e tail least j w (Or t ts) ee le te r wide =
     let same : skip ws q - 2 ≡ e - 2 = omega arith in
     let at : e - 2 + 1 ≡ e - 1 = omega arith in
     let jump : JumpsTo ws (e - 2) j = jump_moved ws _ (e - 2) j same r.1 in
-    let ends : j ≡ tail = jump.1 ∙ (ap (λ n. n + word ws n) at ∙ sym te) in
-    (e - 2, (t, reads_moved ws (q + 1) (q + 1) _ (e - 2) t refl same r.0, (refl, (jump.0, sym ends ∙ jump.1), inr (ts, branch_moved ws _ (e - 2 + 2) j tail ts (omega arith) ends r.2, omega (arith, wide, width_held t)), ends)))
+    let ends : j ≡ tail = jump.1 ∙ (ap (λ n. n + word ws n) at ∙ sym te) in (
+      e - 2,
+      (
+        t,
+        reads_moved ws (q + 1) (q + 1) _ (e - 2) t refl same r.0,
+        (
+          refl,
+          (jump.0, sym ends ∙ jump.1),
+          inr (ts, branch_moved ws _ (e - 2 + 2) j tail ts (omega arith) ends r.2, omega (arith, wide, width_held t)),
+          ends,
+        ),
+      ),
+    )
 
-trees_exactly : (ws : List ℕ) (q e tail least : ℕ) → e ≡ skip ws q → q + 3 ≤ e → tail ≡ skip ws (e - 1) → Exactly ws (Opens (Alternative (e - 2) tail least) (q + 1)) (TreesAt ws q least)
+trees_exactly : (ws : List ℕ) (q e tail least : ℕ) → e ≡ skip ws q → q + 3 ≤ e → tail ≡ skip ws (e - 1)
+    → Exactly ws (Opens (Alternative (e - 2) tail least) (q + 1)) (TreesAt ws q least)
 trees_exactly ws q e tail least ee le te = record {
   sound = λ j w r.
       let same : r.0 ≡ skip ws q - 2 = omega arith in
@@ -55,15 +83,31 @@ trees_exactly ws q e tail least ee le te = record {
       let jump : JumpsTo ws r.0 j = (r.1.2.1.0, r.1.2.3 ∙ r.1.2.1.1) in
       let least_now : ℕ = min least (held (0 + width r.1.0)) in
       ⊎_elim
-      (λ (last : Last ws (r.0 + 2) tail least_now w).
-      (Only r.1.0, (reads_moved ws (q + 1) (q + 1) r.0 _ r.1.0 refl same r.1.1, jump_moved ws r.0 _ j same jump, word_moved ws (r.0 + 2) _ 0 next last.0, omega arith), omega (arith, last.2, width_held r.1.0)))
-      (λ (more : Later ws (r.0 + 2) tail least_now w).
-      (Or r.1.0 more.0, (reads_moved ws (q + 1) (q + 1) r.0 _ r.1.0 refl same r.1.1, jump_moved ws r.0 _ j same jump, branch_moved ws (r.0 + 2) _ tail j more.0 next (sym r.1.2.3) more.1), omega (arith, more.2, width_held r.1.0)))
+      (λ (last : Last ws (r.0 + 2) tail least_now w). (
+        Only r.1.0,
+        (
+          reads_moved ws (q + 1) (q + 1) r.0 _ r.1.0 refl same r.1.1,
+          jump_moved ws r.0 _ j same jump,
+          word_moved ws (r.0 + 2) _ 0 next last.0,
+          omega arith,
+        ),
+        omega (arith, last.2, width_held r.1.0),
+      ))
+      (λ (more : Later ws (r.0 + 2) tail least_now w). (
+        Or r.1.0 more.0,
+        (
+          reads_moved ws (q + 1) (q + 1) r.0 _ r.1.0 refl same r.1.1,
+          jump_moved ws r.0 _ j same jump,
+          branch_moved ws (r.0 + 2) _ tail j more.0 next (sym r.1.2.3) more.1,
+        ),
+        omega (arith, more.2, width_held r.1.0),
+      ))
       r.1.2.2;
   complete = λ j w x. trees_remain ws q e tail least j w x.0 ee le te x.1 x.2;
 }
 
-pub bounds_exactly : (ws : List ℕ) (q e tail : ℕ) → e ≡ skip ws q → q + 3 ≤ e → tail ≡ skip ws (e - 1) → BoundsExactly ws q (record { end = e - 2; tail = tail })
+pub bounds_exactly : (ws : List ℕ) (q e tail : ℕ) → e ≡ skip ws q → q + 3 ≤ e → tail ≡ skip ws (e - 1)
+    → BoundsExactly ws q (record { end = e - 2; tail = tail })
 bounds_exactly ws q e tail ee le te = record { opens = λ least. trees_exactly ws q e tail least ee le te }
 
 pub trees_short : (ws : List ℕ) (q e : ℕ) → e ≡ skip ws q → e < q + 3 → NoTrees ws q
@@ -74,7 +118,12 @@ trees_past ws q le = trees_short ws q (skip ws q) refl (omega (arith, word_past 
 
 alternative_there : (ws : List ℕ) (q j : ℕ) (ts : Trees) → ReadsBranch ws q j ts → skip ws q - 1 < length ws
 alternative_there ws q j (Only t) r = omega (arith, reads_within t ws (q + 1) _ r.0, word_within ws (skip ws q) 0 r.2)
-alternative_there ws q j (Or t ts) r = omega (arith, reads_within t ws (q + 1) _ r.0, alternative_there ws (skip ws q) j ts r.2, alternative_long ws (skip ws q) j ts r.2)
+alternative_there ws q j (Or t ts) r = omega (
+  arith,
+  reads_within t ws (q + 1) _ r.0,
+  alternative_there ws (skip ws q) j ts r.2,
+  alternative_long ws (skip ws q) j ts r.2,
+)
 
 pub trees_cut : (ws : List ℕ) (q e : ℕ) → e ≡ skip ws q → length ws ≤ e - 1 → NoTrees ws q
 trees_cut ws q e ee le = record { none = λ j ts r. omega (arith, alternative_there ws q j ts r) }
@@ -83,7 +132,8 @@ trees_cut ws q e ee le = record { none = λ j ts r. omega (arith, alternative_th
 branch_here : (ws : List ℕ) (i : ℕ) → Opcode ws i opcode.BRANCH → HasKind ws i OfBranch
 branch_here ws i h = record { code = opcode.BRANCH; there = h; begins = refl }
 
-pub branch_exactly : (ws : List ℕ) (i : ℕ) (b : Bounds) → Opcode ws i opcode.BRANCH → BoundsExactly ws (i + 1) b → Exactly ws (Opens (Alternative b.end b.tail 4294967295) (i + 2)) (ItemAt ws i)
+pub branch_exactly : (ws : List ℕ) (i : ℕ) (b : Bounds) → Opcode ws i opcode.BRANCH → BoundsExactly ws (i + 1) b
+    → Exactly ws (Opens (Alternative b.end b.tail 4294967295) (i + 2)) (ItemAt ws i)
 branch_exactly ws i b h x =
     let e = x.opens 4294967295 in
     let P : ℕ → Type 0 = λ n. Exactly ws (Opens (Alternative b.end b.tail 4294967295) n) (ItemAt ws i) in
@@ -91,11 +141,13 @@ branch_exactly ws i b h x =
     subst P at (record {
       sound = λ j w r. let ts = e.sound j w r in (Branch ts.0, (h, ts.1, tt), omega (arith, ts.2, least_held ts.0));
       complete = λ j w y. let f = is_branch ws i j y.0 (branch_here ws i h) y.1 in
-          let wide : w ≡ least_width f.0 = y.2 ∙ ap item_width f.1 in e.complete j w (f.0, f.2.1, omega (arith, wide, least_held f.0));
+          let wide : w ≡ least_width f.0 = y.2 ∙ ap item_width f.1 in
+          e.complete j w (f.0, f.2.1, omega (arith, wide, least_held f.0));
     })
 
 pub branch_nowhere : (ws : List ℕ) (i : ℕ) → Opcode ws i opcode.BRANCH → NoTrees ws (i + 1) → Nowhere (ItemAt ws i)
-branch_nowhere ws i h n = record { none = λ j w y. let f = is_branch ws i j y.0 (branch_here ws i h) y.1 in n.none j f.0 f.2.1 }
+branch_nowhere ws i h n =
+    record { none = λ j w y. let f = is_branch ws i j y.0 (branch_here ws i h) y.1 in n.none j f.0 f.2.1 }
 
 -- what comes after an alternative
 pub more_short : (ws : List ℕ) (q tail least : ℕ) → length ws ≤ q → Nowhere (MoreAt ws q tail least)
@@ -106,7 +158,8 @@ more_short ws q tail least le = record {
       c.0;
 }
 
-pub more_last : (ws : List ℕ) (q tail least : ℕ) → q < length ws → word ws q ≡ 0 → tail ≡ q + 1 → Exactly ws (Past tail least) (MoreAt ws q tail least)
+pub more_last : (ws : List ℕ) (q tail least : ℕ) → q < length ws → word ws q ≡ 0 → tail ≡ q + 1
+    → Exactly ws (Past tail least) (MoreAt ws q tail least)
 more_last ws q tail least there z e = record {
   sound = λ j w r. (inl (word_at ws q 0 there z, e, r.1), r.0);
   complete = λ j w c. (
@@ -126,7 +179,8 @@ more_unlike ws q tail least z ne = record {
       c.0;
 }
 
-pub more_next : (ws : List ℕ) (q tail least : ℕ) (b : Bounds) → word ws q ≢ 0 → BoundsExactly ws q b → b.tail ≡ tail → Exactly ws (Opens (Alternative b.end tail least) (q + 1)) (MoreAt ws q tail least)
+pub more_next : (ws : List ℕ) (q tail least : ℕ) (b : Bounds) → word ws q ≢ 0 → BoundsExactly ws q b → b.tail ≡ tail
+    → Exactly ws (Opens (Alternative b.end tail least) (q + 1)) (MoreAt ws q tail least)
 more_next ws q tail least b ne bounds same =
     let Q : ℕ → Type 0 = λ n. Exactly ws (Opens (Alternative b.end n least) (q + 1)) (TreesAt ws q least) in
     let x = subst Q same (bounds.opens least) in record {
@@ -146,7 +200,8 @@ more_nowhere ws q tail least ne n = record {
       c.0;
 }
 
-pub more_wrong : (ws : List ℕ) (q tail least : ℕ) (b : Bounds) → word ws q ≢ 0 → BoundsExactly ws q b → b.tail ≢ tail → Nowhere (MoreAt ws q tail least)
+pub more_wrong : (ws : List ℕ) (q tail least : ℕ) (b : Bounds) → word ws q ≢ 0 → BoundsExactly ws q b → b.tail ≢ tail
+    → Nowhere (MoreAt ws q tail least)
 more_wrong ws q tail least b ne bounds unlike = record {
   none = λ j w c. ⊎_elim
       (λ (last : Last ws q tail least w). ne (word_of ws q 0 last.0))
@@ -161,32 +216,42 @@ alternative_inside ws e tail least i ne = record { none = λ u j w c. ne c.0 }
 pub alternative_end : (ws : List ℕ) (e tail least i : ℕ) → i ≡ e → IsEnd ws (Alternative e tail least) i
 alternative_end ws e tail least i same = record { only = λ k u j w t r c. reads_nothing ws i k t r (c.0 ∙ sym same) }
 
-jump_exactly : (ws : List ℕ) (e tail least u i : ℕ) (s : Step) → i ≡ e → Opcode ws i opcode.JUMP → tail ≡ skip ws (i + 1) → Exactly ws s (MoreAt ws (i + 2) tail (min least u)) → Exactly ws s (Closes ws (Alternative e tail least) i u)
+jump_exactly : (ws : List ℕ) (e tail least u i : ℕ) (s : Step) → i ≡ e → Opcode ws i opcode.JUMP
+    → tail ≡ skip ws (i + 1) → Exactly ws s (MoreAt ws (i + 2) tail (min least u))
+    → Exactly ws s (Closes ws (Alternative e tail least) i u)
 jump_exactly ws e tail least u i s same h te x = record {
   sound = λ j y r. let m = x.sound j y r in (same, (h, te), m.0, m.1);
   complete = λ j y c. x.complete j y (c.2, c.3);
 }
 
-jump_nowhere : (ws : List ℕ) (e tail least u i : ℕ) → Nowhere (MoreAt ws (i + 2) tail (min least u)) → Nowhere (Closes ws (Alternative e tail least) i u)
+jump_nowhere : (ws : List ℕ) (e tail least u i : ℕ) → Nowhere (MoreAt ws (i + 2) tail (min least u))
+    → Nowhere (Closes ws (Alternative e tail least) i u)
 jump_nowhere ws e tail least u i n = record { none = λ j y c. n.none j y (c.2, c.3) }
 
-pub jump_past : (ws : List ℕ) (e tail least u i : ℕ) → NoCode opcode_number ws i → Nowhere (Closes ws (Alternative e tail least) i u)
+pub jump_past : (ws : List ℕ) (e tail least u i : ℕ) → NoCode opcode_number ws i
+    → Nowhere (Closes ws (Alternative e tail least) i u)
 jump_past ws e tail least u i n = record { none = λ j y c. n.none opcode.JUMP c.1.0 }
 
-pub jump_wrong : (ws : List ℕ) (e tail least u i : ℕ) (o : SreOpcode) → Opcode ws i o → o ≢ opcode.JUMP → Nowhere (Closes ws (Alternative e tail least) i u)
+pub jump_wrong : (ws : List ℕ) (e tail least u i : ℕ) (o : SreOpcode) → Opcode ws i o → o ≢ opcode.JUMP
+    → Nowhere (Closes ws (Alternative e tail least) i u)
 jump_wrong ws e tail least u i o h ne = record { none = λ j y c. ne (same_opcode ws i o opcode.JUMP h c.1.0) }
 
-pub jump_cut : (ws : List ℕ) (e tail least u i : ℕ) → length ws ≤ i + 1 → Nowhere (Closes ws (Alternative e tail least) i u)
-jump_cut ws e tail least u i le = jump_nowhere ws e tail least u i (more_short ws (i + 2) tail (min least u) (omega arith))
+pub jump_cut : (ws : List ℕ) (e tail least u i : ℕ) → length ws ≤ i + 1
+    → Nowhere (Closes ws (Alternative e tail least) i u)
+jump_cut ws e tail least u i le =
+    jump_nowhere ws e tail least u i (more_short ws (i + 2) tail (min least u) (omega arith))
 
-pub jump_skip : (ws : List ℕ) (e tail least u i t : ℕ) → t ≡ skip ws (i + 1) → t ≢ tail → Nowhere (Closes ws (Alternative e tail least) i u)
+pub jump_skip : (ws : List ℕ) (e tail least u i t : ℕ) → t ≡ skip ws (i + 1) → t ≢ tail
+    → Nowhere (Closes ws (Alternative e tail least) i u)
 jump_skip ws e tail least u i t te ne = record { none = λ j y c. ne (te ∙ sym c.1.1) }
 
 leaves_before : (ws : List ℕ) (i k : ℕ) (s : Step) → i ≤ k → Leaves ws k s → Leaves ws i s
 leaves_before ws i k (Past p v) le l = omega arith
 leaves_before ws i k (Opens part p) le l = (omega arith, omega arith)
 
-pub jump_gives : (ws : List ℕ) (e tail least u m i : ℕ) (r : Result Step CodeError) → m ≡ min least u → i ≡ e → Opcode ws i opcode.JUMP → tail ≡ skip ws (i + 1) → EndGives ws (i + 2) (MoreAt ws (i + 2) tail m) r → EndGives ws i (Closes ws (Alternative e tail least) i u) r
+pub jump_gives : (ws : List ℕ) (e tail least u m i : ℕ) (r : Result Step CodeError) → m ≡ min least u → i ≡ e
+    → Opcode ws i opcode.JUMP → tail ≡ skip ws (i + 1) → EndGives ws (i + 2) (MoreAt ws (i + 2) tail m) r
+    → EndGives ws i (Closes ws (Alternative e tail least) i u) r
 jump_gives ws e tail least u m i (Ok s) me same h te x =
     let P : ℕ → Type 0 = λ n. Exactly ws s (MoreAt ws (i + 2) tail n) in
     (leaves_before ws i (i + 2) s (omega arith) x.0, jump_exactly ws e tail least u i s same h te (subst P me x.1))

@@ -16,35 +16,49 @@ use Rattle.sre_model.proofs.Families.{HasTestKind, test_here, is_any, is_any_all
 
 -- ANY and ANY_ALL
 pub any_exactly : (ws : List ℕ) (i : ℕ) → Opcode ws i opcode.ANY → TestExactly ws i (i + 1)
-any_exactly ws i h = record { test = Any; reads = (h, refl); only = λ k t r. (is_any ws i k t (test_here ws i Any h) r.0 r.1).1 }
+any_exactly ws i h =
+    record { test = Any; reads = (h, refl); only = λ k t r. (is_any ws i k t (test_here ws i Any h) r.0 r.1).1 }
 
 pub any_all_exactly : (ws : List ℕ) (i : ℕ) → Opcode ws i opcode.ANY_ALL → TestExactly ws i (i + 1)
-any_all_exactly ws i h = record { test = AnyAll; reads = (h, refl); only = λ k t r. (is_any_all ws i k t (test_here ws i AnyAll h) r.0 r.1).1 }
+any_all_exactly ws i h = record {
+  test = AnyAll;
+  reads = (h, refl);
+  only = λ k t r. (is_any_all ws i k t (test_here ws i AnyAll h) r.0 r.1).1;
+}
 
 -- CATEGORY
 category_here : (ws : List ℕ) (i : ℕ) → Opcode ws i opcode.CATEGORY → HasTestKind ws i OfCategory
 category_here ws i h = record { code = opcode.CATEGORY; there = h; begins = refl }
 
-pub category_exactly : (ws : List ℕ) (i : ℕ) (c : SreCatCode) → Opcode ws i opcode.CATEGORY → Word ws (i + 1) (category_number c) → TestExactly ws i (i + 2)
-category_exactly ws i c h w = record { test = InCategory c; reads = (h, (w, refl)); only = λ k t r. (is_category ws i k t (category_here ws i h) r.0 r.1).2.1 }
+pub category_exactly : (ws : List ℕ) (i : ℕ) (c : SreCatCode) → Opcode ws i opcode.CATEGORY
+    → Word ws (i + 1) (category_number c) → TestExactly ws i (i + 2)
+category_exactly ws i c h w = record {
+  test = InCategory c;
+  reads = (h, (w, refl));
+  only = λ k t r. (is_category ws i k t (category_here ws i h) r.0 r.1).2.1;
+}
 
 pub category_cut : (ws : List ℕ) (i : ℕ) → Opcode ws i opcode.CATEGORY → NoCode category_number ws (i + 1) → NoTest ws i
-category_cut ws i h n = record { none = λ k t r. let f = is_category ws i k t (category_here ws i h) r.0 r.1 in n.none f.0 f.2.0 }
+category_cut ws i h n =
+    record { none = λ k t r. let f = is_category ws i k t (category_here ws i h) r.0 r.1 in n.none f.0 f.2.0 }
 
 -- one of the opcodes of a form is that of a folding
 abbrev IsFolded : (Fold → SreOpcode) → SreOpcode → Type 0
 IsFolded f o = (o ≡ f Plain) ⊎ ((o ≡ f Ascii) ⊎ ((o ≡ f Locale) ⊎ (o ≡ f Unicode)))
 
-folded_at : (f : Fold → SreOpcode) (ws : List ℕ) (i : ℕ) (o : SreOpcode) → Opcode ws i o → IsFolded f o → FoldedAt f ws i
+folded_at : (f : Fold → SreOpcode) (ws : List ℕ) (i : ℕ) (o : SreOpcode) → Opcode ws i o → IsFolded f o
+    → FoldedAt f ws i
 folded_at f ws i o h (inl e) = record { fold = Plain; there = subst (Opcode ws i) e h }
 folded_at f ws i o h (inr (inl e)) = record { fold = Ascii; there = subst (Opcode ws i) e h }
 folded_at f ws i o h (inr (inr (inl e))) = record { fold = Locale; there = subst (Opcode ws i) e h }
 folded_at f ws i o h (inr (inr (inr e))) = record { fold = Unicode; there = subst (Opcode ws i) e h }
 
-pub literal_at : (ws : List ℕ) (i : ℕ) (o : SreOpcode) → Opcode ws i o → IsFolded literal_opcode o → FoldedAt literal_opcode ws i
+pub literal_at : (ws : List ℕ) (i : ℕ) (o : SreOpcode) → Opcode ws i o → IsFolded literal_opcode o
+    → FoldedAt literal_opcode ws i
 literal_at ws i o h e = folded_at literal_opcode ws i o h e
 
-pub not_literal_at : (ws : List ℕ) (i : ℕ) (o : SreOpcode) → Opcode ws i o → IsFolded not_literal_opcode o → FoldedAt not_literal_opcode ws i
+pub not_literal_at : (ws : List ℕ) (i : ℕ) (o : SreOpcode) → Opcode ws i o → IsFolded not_literal_opcode o
+    → FoldedAt not_literal_opcode ws i
 not_literal_at ws i o h e = folded_at not_literal_opcode ws i o h e
 
 pub set_at : (ws : List ℕ) (i : ℕ) (o : SreOpcode) → Opcode ws i o → IsFolded set_opcode o → FoldedAt set_opcode ws i
@@ -54,7 +68,8 @@ set_at ws i o h e = folded_at set_opcode ws i o h e
 literal_here : (ws : List ℕ) (i : ℕ) → FoldedAt literal_opcode ws i → HasTestKind ws i OfLiteral
 literal_here ws i h = test_here ws i (Literal h.fold 0) h.there
 
-pub literal_exactly : (ws : List ℕ) (i : ℕ) → FoldedAt literal_opcode ws i → i + 1 < length ws → TestExactly ws i (i + 2)
+pub literal_exactly : (ws : List ℕ) (i : ℕ) → FoldedAt literal_opcode ws i → i + 1 < length ws
+    → TestExactly ws i (i + 2)
 literal_exactly ws i h there = record {
   test = Literal h.fold (word ws (i + 1));
   reads = (h.there, (word_there ws (i + 1) there, refl));
@@ -62,12 +77,17 @@ literal_exactly ws i h there = record {
 }
 
 pub literal_cut : (ws : List ℕ) (i : ℕ) → FoldedAt literal_opcode ws i → length ws ≤ i + 1 → NoTest ws i
-literal_cut ws i h le = record { none = λ k t r. let f = is_literal ws i k t (literal_here ws i h) r.0 r.1 in omega (arith, word_within ws (i + 1) f.1 f.3.0) }
+literal_cut ws i h le = record {
+  none = λ k t r.
+      let f = is_literal ws i k t (literal_here ws i h) r.0 r.1 in
+      omega (arith, word_within ws (i + 1) f.1 f.3.0);
+}
 
 not_literal_here : (ws : List ℕ) (i : ℕ) → FoldedAt not_literal_opcode ws i → HasTestKind ws i OfNotLiteral
 not_literal_here ws i h = test_here ws i (NotLiteral h.fold 0) h.there
 
-pub not_literal_exactly : (ws : List ℕ) (i : ℕ) → FoldedAt not_literal_opcode ws i → i + 1 < length ws → TestExactly ws i (i + 2)
+pub not_literal_exactly : (ws : List ℕ) (i : ℕ) → FoldedAt not_literal_opcode ws i → i + 1 < length ws
+    → TestExactly ws i (i + 2)
 not_literal_exactly ws i h there = record {
   test = NotLiteral h.fold (word ws (i + 1));
   reads = (h.there, (word_there ws (i + 1) there, refl));
@@ -75,7 +95,11 @@ not_literal_exactly ws i h there = record {
 }
 
 pub not_literal_cut : (ws : List ℕ) (i : ℕ) → FoldedAt not_literal_opcode ws i → length ws ≤ i + 1 → NoTest ws i
-not_literal_cut ws i h le = record { none = λ k t r. let f = is_not_literal ws i k t (not_literal_here ws i h) r.0 r.1 in omega (arith, word_within ws (i + 1) f.1 f.3.0) }
+not_literal_cut ws i h le = record {
+  none = λ k t r.
+      let f = is_not_literal ws i k t (not_literal_here ws i h) r.0 r.1 in
+      omega (arith, word_within ws (i + 1) f.1 f.3.0);
+}
 
 -- IN, under each folding: what is read of a test there
 record SetHere (ws : List ℕ) (i k : ℕ) : Type 0 where
@@ -89,30 +113,55 @@ set_here ws i k t h r =
     let f = is_set ws i k t (test_here ws i (In h.fold []) h.there) r.0 r.1 in
     record { set = f.1; ends = f.3.0; reads = f.3.1; closed = f.3.2 }
 
-pub set_exactly : (ws : List ℕ) (i t : ℕ) → FoldedAt set_opcode ws i → t ≡ skip ws (i + 1) → Opcode ws (t - 1) opcode.FAILURE → IsSet ws (i + 2) (t - 1) → TestExactly ws i t
-set_exactly ws i t h e closed s = record { test = In h.fold s.set.0; reads = (h.there, (e, s.set.1, closed)); only = λ k x r. (set_here ws i k x h r).ends ∙ sym e }
+pub set_exactly : (ws : List ℕ) (i t : ℕ) → FoldedAt set_opcode ws i → t ≡ skip ws (i + 1)
+    → Opcode ws (t - 1) opcode.FAILURE → IsSet ws (i + 2) (t - 1) → TestExactly ws i t
+set_exactly ws i t h e closed s = record {
+  test = In h.fold s.set.0;
+  reads = (h.there, (e, s.set.1, closed));
+  only = λ k x r. (set_here ws i k x h r).ends ∙ sym e;
+}
 
-pub set_wrong : (ws : List ℕ) (i t : ℕ) → FoldedAt set_opcode ws i → t ≡ skip ws (i + 1) → NoSet ws (i + 2) (t - 1) → NoTest ws i
-set_wrong ws i t h e n = record { none = λ k x r. let f = set_here ws i k x h r in n.none (f.set, set_moved ws (i + 2) (i + 2) (k - 1) (t - 1) f.set refl (ap (λ m. m - 1) (f.ends ∙ sym e)) f.reads) }
+pub set_wrong : (ws : List ℕ) (i t : ℕ) → FoldedAt set_opcode ws i → t ≡ skip ws (i + 1)
+    → NoSet ws (i + 2) (t - 1) → NoTest ws i
+set_wrong ws i t h e n = record {
+  none = λ k x r.
+      let f = set_here ws i k x h r in
+      n.none (
+        f.set,
+        set_moved ws (i + 2) (i + 2) (k - 1) (t - 1) f.set refl (ap (λ m. m - 1) (f.ends ∙ sym e)) f.reads,
+      );
+}
 
-set_closed : (ws : List ℕ) (i t k : ℕ) (x : Test) → FoldedAt set_opcode ws i → t ≡ skip ws (i + 1) → ReadsTest ws i k x → Opcode ws (t - 1) opcode.FAILURE
-set_closed ws i t k x h e r = let f = set_here ws i k x h r in opcode_moved ws (k - 1) (t - 1) opcode.FAILURE (ap (λ m. m - 1) (f.ends ∙ sym e)) f.closed
+set_closed : (ws : List ℕ) (i t k : ℕ) (x : Test) → FoldedAt set_opcode ws i → t ≡ skip ws (i + 1) → ReadsTest ws i k x
+    → Opcode ws (t - 1) opcode.FAILURE
+set_closed ws i t k x h e r =
+    let f = set_here ws i k x h r in
+    opcode_moved ws (k - 1) (t - 1) opcode.FAILURE (ap (λ m. m - 1) (f.ends ∙ sym e)) f.closed
 
-pub set_open : (ws : List ℕ) (i t : ℕ) (o : SreOpcode) → FoldedAt set_opcode ws i → t ≡ skip ws (i + 1) → Opcode ws (t - 1) o → o ≢ opcode.FAILURE → NoTest ws i
-set_open ws i t o h e there ne = record { none = λ k x r. ne (same_opcode ws (t - 1) o opcode.FAILURE there (set_closed ws i t k x h e r)) }
+pub set_open : (ws : List ℕ) (i t : ℕ) (o : SreOpcode) → FoldedAt set_opcode ws i → t ≡ skip ws (i + 1)
+    → Opcode ws (t - 1) o → o ≢ opcode.FAILURE → NoTest ws i
+set_open ws i t o h e there ne =
+    record { none = λ k x r. ne (same_opcode ws (t - 1) o opcode.FAILURE there (set_closed ws i t k x h e r)) }
 
-pub set_ends_cut : (ws : List ℕ) (i t : ℕ) → FoldedAt set_opcode ws i → t ≡ skip ws (i + 1) → NoCode opcode_number ws (t - 1) → NoTest ws i
+pub set_ends_cut : (ws : List ℕ) (i t : ℕ) → FoldedAt set_opcode ws i → t ≡ skip ws (i + 1)
+    → NoCode opcode_number ws (t - 1) → NoTest ws i
 set_ends_cut ws i t h e n = record { none = λ k x r. n.none opcode.FAILURE (set_closed ws i t k x h e r) }
 
 pub set_empty : (ws : List ℕ) (i t : ℕ) → FoldedAt set_opcode ws i → t ≡ skip ws (i + 1) → t < i + 3 → NoTest ws i
-set_empty ws i t h e lt = record { none = λ k x r. let f = set_here ws i k x h r in omega (arith, f.ends, set_within ws (i + 2) (k - 1) f.set f.reads) }
+set_empty ws i t h e lt = record {
+  none = λ k x r. let f = set_here ws i k x h r in omega (arith, f.ends, set_within ws (i + 2) (k - 1) f.set f.reads);
+}
 
 pub set_cut : (ws : List ℕ) (i : ℕ) → FoldedAt set_opcode ws i → length ws ≤ i + 1 → NoTest ws i
 set_cut ws i h le = set_empty ws i (skip ws (i + 1)) h refl (omega (arith, word_past ws (i + 1) le))
 
 -- where no test is
-pub no_test : (ws : List ℕ) (i : ℕ) (o : SreOpcode) → Opcode ws i o → (HasTest ws i → ⊥) → TestEnds ws i (Err (BadItem i))
-no_test ws i o h none = (record { none = λ k t r. none (record { end = k; test = t; stands = record { code = r.0; operands = r.1 } }) }, omega (arith, opcode_within ws i o h))
+pub no_test : (ws : List ℕ) (i : ℕ) (o : SreOpcode) → Opcode ws i o → (HasTest ws i → ⊥)
+    → TestEnds ws i (Err (BadItem i))
+no_test ws i o h none = (
+  record { none = λ k t r. none (record { end = k; test = t; stands = record { code = r.0; operands = r.1 } }) },
+  omega (arith, opcode_within ws i o h),
+)
 
 -- what `not_literal` answers
 pub ruleset not_literal_laws = (not_literal_exactly, not_literal_cut)

@@ -23,26 +23,30 @@ region_inside ws end least i ne = record { none = λ u j w c. ne c.0 }
 region_end : (ws : List ℕ) (end least i : ℕ) → i ≡ end → IsEnd ws (Region end least) i
 region_end ws end least i same = record { only = λ k u j w t r c. reads_nothing ws i k t r (c.0 ∙ sym same) }
 
-pub region_closed : (ws : List ℕ) (end least i u v : ℕ) → i ≡ end → Opcode ws i opcode.SUCCESS →
-    v ≡ held (least * u) →
-    IsEnd ws (Region end least) i × (i ≤ i + 1) × Exactly ws (Past (i + 1) v) (Closes ws (Region end least) i u)
+pub region_closed : (ws : List ℕ) (end least i u v : ℕ) → i ≡ end → Opcode ws i opcode.SUCCESS
+    → v ≡ held (least * u)
+    → IsEnd ws (Region end least) i × (i ≤ i + 1) × Exactly ws (Past (i + 1) v) (Closes ws (Region end least) i u)
 region_closed ws end least i u v same h e = (
   region_end ws end least i same,
   omega arith,
   record { sound = λ j w r. (same, h, r.0, r.1 ∙ e); complete = λ j w c. (c.2, c.3 ∙ sym e) },
 )
 
-pub region_open : (ws : List ℕ) (end least i u : ℕ) (o : SreOpcode) (e : CodeError) → i ≡ end → Opcode ws i o →
-    o ≢ opcode.SUCCESS → Within ws e → Unclosed ws (Region end least) i u e
+pub region_open : (ws : List ℕ) (end least i u : ℕ) (o : SreOpcode) (e : CodeError) → i ≡ end → Opcode ws i o
+    → o ≢ opcode.SUCCESS → Within ws e → Unclosed ws (Region end least) i u e
 region_open ws end least i u o e same h other le = record {
   end = region_end ws end least i same;
   nowhere = record { none = λ j w c. other (same_opcode ws i o opcode.SUCCESS h c.1) };
   within = le;
 }
 
-pub region_cut : (ws : List ℕ) (end least i u : ℕ) (e : CodeError) → i ≡ end → NoCode opcode_number ws i →
-    Within ws e → Unclosed ws (Region end least) i u e
-region_cut ws end least i u e same n le = record { end = region_end ws end least i same; nowhere = record { none = λ j w c. n.none opcode.SUCCESS c.1 }; within = le }
+pub region_cut : (ws : List ℕ) (end least i u : ℕ) (e : CodeError) → i ≡ end → NoCode opcode_number ws i
+    → Within ws e → Unclosed ws (Region end least) i u e
+region_cut ws end least i u e same n le = record {
+  end = region_end ws end least i same;
+  nowhere = record { none = λ j w c. n.none opcode.SUCCESS c.1 };
+  within = le;
+}
 
 -- POSSESSIVE_REPEAT
 possessive_here : (ws : List ℕ) (i : ℕ) → Opcode ws i opcode.POSSESSIVE_REPEAT → HasKind ws i OfPossessiveLoop
@@ -52,29 +56,54 @@ possessive_here ws i h = record { code = opcode.POSSESSIVE_REPEAT; there = h; be
 body_width : (t : Tree) → held (0 + width t) ≡ width t
 body_width t = omega (arith, width_held t)
 
-pub possessive_exactly : (ws : List ℕ) (i end low high : ℕ) → Opcode ws i opcode.POSSESSIVE_REPEAT → end ≡ skip ws (i + 1)
-    → low ≡ word ws (i + 2) → high ≡ word ws (i + 3) → i + 3 < length ws → low ≤ high
+pub possessive_exactly : (ws : List ℕ) (i end low high : ℕ) → Opcode ws i opcode.POSSESSIVE_REPEAT
+    → end ≡ skip ws (i + 1) → low ≡ word ws (i + 2) → high ≡ word ws (i + 3) → i + 3 < length ws → low ≤ high
     → Exactly ws (Opens (Region end low) (i + 4)) (ItemAt ws i)
 possessive_exactly ws i end low high h ends lowest highest there le = record {
   sound = λ j w f.
       let c = f.1.2 in
       let at : f.0 ≡ skip ws (i + 1) = c.0 ∙ ends in (
         PossessiveLoop (word ws (i + 2)) (word ws (i + 3)) f.1.0,
-        (h, (word_there ws (i + 2) (omega arith), word_there ws (i + 3) there, omega arith, reads_moved ws (i + 4) (i + 4) f.0 (skip ws (i + 1)) f.1.0 refl at f.1.1, opcode_moved ws f.0 (skip ws (i + 1)) opcode.SUCCESS at c.1, c.2 ∙ ap (λ n. n + 1) at), tt),
-        c.3 ∙ ap (λ n. held (n * held (0 + width f.1.0))) lowest ∙ ap (λ n. held (word ws (i + 2) * n)) (body_width f.1.0),
+        (
+          h,
+          (
+            word_there ws (i + 2) (omega arith),
+            word_there ws (i + 3) there,
+            omega arith,
+            reads_moved ws (i + 4) (i + 4) f.0 (skip ws (i + 1)) f.1.0 refl at f.1.1,
+            opcode_moved ws f.0 (skip ws (i + 1)) opcode.SUCCESS at c.1,
+            c.2 ∙ ap (λ n. n + 1) at,
+          ),
+          tt,
+        ),
+        c.3 ∙ ap (λ n. held (n * held (0 + width f.1.0))) lowest
+            ∙ ap (λ n. held (word ws (i + 2) * n)) (body_width f.1.0),
       );
   complete = λ j w y.
       let f = is_possessive ws i j y.0 (possessive_here ws i h) y.1 in
       let r = f.4.1 in
       let same : f.0 ≡ low = sym (word_of ws (i + 2) f.0 r.0) ∙ sym lowest in (
         skip ws (i + 1),
-        (f.2, r.3, (sym ends, r.4, r.5, y.2 ∙ ap item_width f.3 ∙ ap (λ n. held (n * width f.2)) same ∙ ap (λ n. held (low * n)) (sym (body_width f.2)))),
+        (
+          f.2,
+          r.3,
+          (
+            sym ends,
+            r.4,
+            r.5,
+            y.2 ∙ ap item_width f.3 ∙ ap (λ n. held (n * width f.2)) same
+                ∙ ap (λ n. held (low * n)) (sym (body_width f.2)),
+          ),
+        ),
       );
 }
 
-pub possessive_cut : (ws : List ℕ) (i : ℕ) → Opcode ws i opcode.POSSESSIVE_REPEAT → length ws ≤ i + 3 → Nowhere (ItemAt ws i)
+pub possessive_cut : (ws : List ℕ) (i : ℕ) → Opcode ws i opcode.POSSESSIVE_REPEAT → length ws ≤ i + 3
+    → Nowhere (ItemAt ws i)
 possessive_cut ws i h le = record {
-  none = λ j w y. let f = is_possessive ws i j y.0 (possessive_here ws i h) y.1 in omega (arith, word_within ws (i + 3) f.1 f.4.1.1);
+  none = λ j w y.
+      let f = is_possessive ws i j y.0 (possessive_here ws i h) y.1 in
+      omega (arith, word_within ws (i + 3) f.1 f.4.1.1);
 }
 
 pub possessive_counts : (ws : List ℕ) (i low high : ℕ) → Opcode ws i opcode.POSSESSIVE_REPEAT → low ≡ word ws (i + 2)
@@ -96,14 +125,22 @@ atomic_here ws i h = record { code = opcode.ATOMIC_GROUP; there = h; begins = re
 once : (t : Tree) → held (1 * held (0 + width t)) ≡ width t
 once t = omega (arith, width_held t)
 
-pub atomic_exactly : (ws : List ℕ) (i tail : ℕ) → Opcode ws i opcode.ATOMIC_GROUP → tail ≡ skip ws (i + 1) →
-    i + 3 ≤ tail → Exactly ws (Opens (Region (tail - 1) 1) (i + 2)) (ItemAt ws i)
+pub atomic_exactly : (ws : List ℕ) (i tail : ℕ) → Opcode ws i opcode.ATOMIC_GROUP → tail ≡ skip ws (i + 1)
+    → i + 3 ≤ tail → Exactly ws (Opens (Region (tail - 1) 1) (i + 2)) (ItemAt ws i)
 atomic_exactly ws i tail h leads long = record {
   sound = λ j w f.
       let c = f.1.2 in
       let at : f.0 ≡ j - 1 = omega (arith, c.2) in (
         Atomic f.1.0,
-        (h, (omega (arith, c.0, c.2), reads_moved ws (i + 2) (i + 2) f.0 (j - 1) f.1.0 refl at f.1.1, opcode_moved ws f.0 (j - 1) opcode.SUCCESS at c.1), tt),
+        (
+          h,
+          (
+            omega (arith, c.0, c.2),
+            reads_moved ws (i + 2) (i + 2) f.0 (j - 1) f.1.0 refl at f.1.1,
+            opcode_moved ws f.0 (j - 1) opcode.SUCCESS at c.1,
+          ),
+          tt,
+        ),
         c.3 ∙ once f.1.0,
       );
   complete = λ j w y.
@@ -114,12 +151,20 @@ atomic_exactly ws i tail h leads long = record {
       );
 }
 
-pub atomic_short : (ws : List ℕ) (i tail : ℕ) → Opcode ws i opcode.ATOMIC_GROUP → tail ≡ skip ws (i + 1) →
-    tail < i + 3 → Nowhere (ItemAt ws i)
-atomic_short ws i tail h leads short = record { none = λ j w y. let f = is_atomic ws i j y.0 (atomic_here ws i h) y.1 in omega (arith, f.2.1.0, reads_within f.0 ws (i + 2) (j - 1) f.2.1.1) }
+pub atomic_short : (ws : List ℕ) (i tail : ℕ) → Opcode ws i opcode.ATOMIC_GROUP → tail ≡ skip ws (i + 1)
+    → tail < i + 3 → Nowhere (ItemAt ws i)
+atomic_short ws i tail h leads short = record {
+  none = λ j w y.
+      let f = is_atomic ws i j y.0 (atomic_here ws i h) y.1 in
+      omega (arith, f.2.1.0, reads_within f.0 ws (i + 2) (j - 1) f.2.1.1);
+}
 
 pub atomic_cut : (ws : List ℕ) (i : ℕ) → Opcode ws i opcode.ATOMIC_GROUP → length ws ≤ i + 1 → Nowhere (ItemAt ws i)
-atomic_cut ws i h past = record { none = λ j w y. let f = is_atomic ws i j y.0 (atomic_here ws i h) y.1 in omega (arith, reads_within f.0 ws (i + 2) (j - 1) f.2.1.1, opcode_within ws (j - 1) opcode.SUCCESS f.2.1.2) }
+atomic_cut ws i h past = record {
+  none = λ j w y.
+      let f = is_atomic ws i j y.0 (atomic_here ws i h) y.1 in
+      omega (arith, reads_within f.0 ws (i + 2) (j - 1) f.2.1.1, opcode_within ws (j - 1) opcode.SUCCESS f.2.1.2);
+}
 
 -- ASSERT, ASSERT_NOT
 look_kind : (ws : List ℕ) (i : ℕ) (sign : Sign) → Opcode ws i (look_opcode sign) → HasKind ws i OfLook
@@ -136,30 +181,56 @@ assert_not_there ws i h = record { sign = Negative; there = h }
 never_counts : (n : ℕ) → held (0 * n) ≡ 0
 never_counts n = omega arith
 
-pub look_exactly : (ws : List ℕ) (i tail : ℕ) → LookAt ws i → tail ≡ skip ws (i + 1) → i + 4 ≤ tail →
-    Exactly ws (Opens (Region (tail - 1) 0) (i + 3)) (ItemAt ws i)
+pub look_exactly : (ws : List ℕ) (i tail : ℕ) → LookAt ws i → tail ≡ skip ws (i + 1) → i + 4 ≤ tail
+    → Exactly ws (Opens (Region (tail - 1) 0) (i + 3)) (ItemAt ws i)
 look_exactly ws i tail h leads long = record {
   sound = λ j w f.
       let c = f.1.2 in
       let at : f.0 ≡ j - 1 = omega (arith, c.2) in (
         Look h.sign (word ws (i + 2)) f.1.0,
-        (h.there, (omega (arith, c.0, c.2), word_there ws (i + 2) (omega (arith, c.0, opcode_within ws f.0 opcode.SUCCESS c.1)), reads_moved ws (i + 3) (i + 3) f.0 (j - 1) f.1.0 refl at f.1.1, opcode_moved ws f.0 (j - 1) opcode.SUCCESS at c.1), tt),
+        (
+          h.there,
+          (
+            omega (arith, c.0, c.2),
+            word_there ws (i + 2) (omega (arith, c.0, opcode_within ws f.0 opcode.SUCCESS c.1)),
+            reads_moved ws (i + 3) (i + 3) f.0 (j - 1) f.1.0 refl at f.1.1,
+            opcode_moved ws f.0 (j - 1) opcode.SUCCESS at c.1,
+          ),
+          tt,
+        ),
         c.3 ∙ never_counts (held (0 + width f.1.0)),
       );
   complete = λ j w y.
       let f = is_look ws i j y.0 (look_kind ws i h.sign h.there) y.1 in
       let r = f.4.1 in (
         j - 1,
-        (f.2, r.2, (omega (arith, r.0), r.3, omega (arith, r.0), y.2 ∙ ap item_width f.3 ∙ sym (never_counts (held (0 + width f.2))))),
+        (
+          f.2,
+          r.2,
+          (
+            omega (arith, r.0),
+            r.3,
+            omega (arith, r.0),
+            y.2 ∙ ap item_width f.3 ∙ sym (never_counts (held (0 + width f.2))),
+          ),
+        ),
       );
 }
 
-pub look_short : (ws : List ℕ) (i tail : ℕ) → LookAt ws i → tail ≡ skip ws (i + 1) → tail < i + 4 →
-    Nowhere (ItemAt ws i)
-look_short ws i tail h leads short = record { none = λ j w y. let f = is_look ws i j y.0 (look_kind ws i h.sign h.there) y.1 in omega (arith, f.4.1.0, reads_within f.2 ws (i + 3) (j - 1) f.4.1.2) }
+pub look_short : (ws : List ℕ) (i tail : ℕ) → LookAt ws i → tail ≡ skip ws (i + 1) → tail < i + 4
+    → Nowhere (ItemAt ws i)
+look_short ws i tail h leads short = record {
+  none = λ j w y.
+      let f = is_look ws i j y.0 (look_kind ws i h.sign h.there) y.1 in
+      omega (arith, f.4.1.0, reads_within f.2 ws (i + 3) (j - 1) f.4.1.2);
+}
 
 pub look_cut : (ws : List ℕ) (i : ℕ) → LookAt ws i → length ws ≤ i + 1 → Nowhere (ItemAt ws i)
-look_cut ws i h past = record { none = λ j w y. let f = is_look ws i j y.0 (look_kind ws i h.sign h.there) y.1 in omega (arith, word_within ws (i + 2) f.1 f.4.1.1) }
+look_cut ws i h past = record {
+  none = λ j w y.
+      let f = is_look ws i j y.0 (look_kind ws i h.sign h.there) y.1 in
+      omega (arith, word_within ws (i + 2) f.1 f.4.1.1);
+}
 
 -- what `atomic_group` answers
 pub ruleset atomic_group_laws = (atomic_exactly, atomic_short, atomic_cut)

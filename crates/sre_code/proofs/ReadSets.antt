@@ -20,33 +20,49 @@ single_item ws i h there = record {
 }
 
 pub single_cut : (ws : List ℕ) (i : ℕ) → Opcode ws i opcode.LITERAL → length ws ≤ i + 1 → NoSetItem ws i
-single_cut ws i h le = record { none = λ j lt s. let f = is_single ws i j s.0 h lt s.1 in omega (arith, word_within ws (i + 1) f.0 f.3.1) }
+single_cut ws i h le =
+    record { none = λ j lt s. let f = is_single ws i j s.0 h lt s.1 in omega (arith, word_within ws (i + 1) f.0 f.3.1) }
 
-pub range_there : (ws : List ℕ) (i : ℕ) (o : SreOpcode) → Opcode ws i o → (o ≡ opcode.RANGE) ⊎ (o ≡ opcode.RANGE_UNI_IGNORE) → Opcode ws i opcode.RANGE ⊎ Opcode ws i opcode.RANGE_UNI_IGNORE
+pub range_there : (ws : List ℕ) (i : ℕ) (o : SreOpcode) → Opcode ws i o
+    → (o ≡ opcode.RANGE) ⊎ (o ≡ opcode.RANGE_UNI_IGNORE)
+    → Opcode ws i opcode.RANGE ⊎ Opcode ws i opcode.RANGE_UNI_IGNORE
 range_there ws i o h (inl e) = inl (subst (Opcode ws i) e h)
 range_there ws i o h (inr e) = inr (subst (Opcode ws i) e h)
 
-pub range_item : (ws : List ℕ) (i : ℕ) → Opcode ws i opcode.RANGE ⊎ Opcode ws i opcode.RANGE_UNI_IGNORE → i + 2 < length ws → SetItemExactly ws i (i + 3)
+pub range_item : (ws : List ℕ) (i : ℕ) → Opcode ws i opcode.RANGE ⊎ Opcode ws i opcode.RANGE_UNI_IGNORE
+    → i + 2 < length ws → SetItemExactly ws i (i + 3)
 range_item ws i (inl h) there = record {
-  sound = λ j s. (Range (word ws (i + 1)) (word ws (i + 2)) ∷ s.0, (h, word_there ws (i + 1) (omega arith), word_there ws (i + 2) there, s.1));
+  sound = λ j s. (
+    Range (word ws (i + 1)) (word ws (i + 2)) ∷ s.0,
+    (h, word_there ws (i + 1) (omega arith), word_there ws (i + 2) there, s.1),
+  );
   complete = λ j lt s. let f = is_range ws i j s.0 h lt s.1 in (f.2, f.4.3);
 }
 range_item ws i (inr h) there = record {
-  sound = λ j s. (RangeUniIgnore (word ws (i + 1)) (word ws (i + 2)) ∷ s.0, (h, word_there ws (i + 1) (omega arith), word_there ws (i + 2) there, s.1));
+  sound = λ j s. (
+    RangeUniIgnore (word ws (i + 1)) (word ws (i + 2)) ∷ s.0,
+    (h, word_there ws (i + 1) (omega arith), word_there ws (i + 2) there, s.1),
+  );
   complete = λ j lt s. let f = is_folded_range ws i j s.0 h lt s.1 in (f.2, f.4.3);
 }
 
-pub range_cut : (ws : List ℕ) (i : ℕ) → Opcode ws i opcode.RANGE ⊎ Opcode ws i opcode.RANGE_UNI_IGNORE → length ws ≤ i + 2 → NoSetItem ws i
-range_cut ws i (inl h) le = record { none = λ j lt s. let f = is_range ws i j s.0 h lt s.1 in omega (arith, word_within ws (i + 2) f.1 f.4.2) }
-range_cut ws i (inr h) le = record { none = λ j lt s. let f = is_folded_range ws i j s.0 h lt s.1 in omega (arith, word_within ws (i + 2) f.1 f.4.2) }
+pub range_cut : (ws : List ℕ) (i : ℕ) → Opcode ws i opcode.RANGE ⊎ Opcode ws i opcode.RANGE_UNI_IGNORE
+    → length ws ≤ i + 2 → NoSetItem ws i
+range_cut ws i (inl h) le =
+    record { none = λ j lt s. let f = is_range ws i j s.0 h lt s.1 in omega (arith, word_within ws (i + 2) f.1 f.4.2) }
+range_cut ws i (inr h) le = record {
+  none = λ j lt s. let f = is_folded_range ws i j s.0 h lt s.1 in omega (arith, word_within ws (i + 2) f.1 f.4.2);
+}
 
-pub category_item : (ws : List ℕ) (i : ℕ) (c : SreCatCode) → Opcode ws i opcode.CATEGORY → Word ws (i + 1) (category_number c) → SetItemExactly ws i (i + 2)
+pub category_item : (ws : List ℕ) (i : ℕ) (c : SreCatCode) → Opcode ws i opcode.CATEGORY
+    → Word ws (i + 1) (category_number c) → SetItemExactly ws i (i + 2)
 category_item ws i c h w = record {
   sound = λ j s. (Category c ∷ s.0, (h, w, s.1));
   complete = λ j lt s. let f = is_set_category ws i j s.0 h lt s.1 in (f.1, f.3.2);
 }
 
-pub category_cut : (ws : List ℕ) (i : ℕ) → Opcode ws i opcode.CATEGORY → NoCode category_number ws (i + 1) → NoSetItem ws i
+pub category_cut : (ws : List ℕ) (i : ℕ) → Opcode ws i opcode.CATEGORY → NoCode category_number ws (i + 1)
+    → NoSetItem ws i
 category_cut ws i h n = record { none = λ j lt s. let f = is_set_category ws i j s.0 h lt s.1 in n.none f.0 f.3.1 }
 
 pub charset_item : (ws : List ℕ) (i : ℕ) → Opcode ws i opcode.CHARSET → i + 8 < length ws → SetItemExactly ws i (i + 9)
@@ -58,18 +74,25 @@ charset_item ws i h there = record {
 pub charset_cut : (ws : List ℕ) (i : ℕ) → Opcode ws i opcode.CHARSET → length ws ≤ i + 8 → NoSetItem ws i
 charset_cut ws i h le = record { none = λ j lt s. let f = is_charset ws i j s.0 h lt s.1 in omega (arith, f.3.2) }
 
-pub big_exactly : (ws : List ℕ) (i e : ℕ) → Opcode ws i opcode.BIGCHARSET → BlocksBelow (word ws (i + 1)) (slice_range ws (i + 2) (i + 66)) → e ≡ i + 66 + word ws (i + 1) * 8 → e ≤ length ws → SetItemExactly ws i e
+pub big_exactly : (ws : List ℕ) (i e : ℕ) → Opcode ws i opcode.BIGCHARSET
+    → BlocksBelow (word ws (i + 1)) (slice_range ws (i + 2) (i + 66)) → e ≡ i + 66 + word ws (i + 1) * 8 → e ≤ length ws
+    → SetItemExactly ws i e
 big_exactly ws i e h below ee le = record {
-  sound = λ j s. let P : ℕ → Type 0 = λ n. ReadsSet ws n j s.0 in
-      (BigCharset (flat_map bytes_of (slice_range ws (i + 2) (i + 66))) (slice_range ws (i + 66) (i + 66 + word ws (i + 1) * 8)) ∷ s.0, (h, refl, below, refl, omega arith, subst P ee s.1));
+  sound = λ j s. let P : ℕ → Type 0 = λ n. ReadsSet ws n j s.0 in (
+    BigCharset (flat_map bytes_of (slice_range ws (i + 2) (i + 66)))
+        (slice_range ws (i + 66) (i + 66 + word ws (i + 1) * 8)) ∷ s.0,
+    (h, refl, below, refl, omega arith, subst P ee s.1),
+  );
   complete = λ j lt s. let f = is_big_charset ws i j s.0 h lt s.1 in let P : ℕ → Type 0 = λ n. ReadsSet ws n j f.2 in
       (f.2, subst P (sym ee) f.4.5);
 }
 
-pub big_blocks : (ws : List ℕ) (i : ℕ) → Opcode ws i opcode.BIGCHARSET → (BlocksBelow (word ws (i + 1)) (slice_range ws (i + 2) (i + 66)) → ⊥) → NoSetItem ws i
+pub big_blocks : (ws : List ℕ) (i : ℕ) → Opcode ws i opcode.BIGCHARSET
+    → (BlocksBelow (word ws (i + 1)) (slice_range ws (i + 2) (i + 66)) → ⊥) → NoSetItem ws i
 big_blocks ws i h above = record { none = λ j lt s. let f = is_big_charset ws i j s.0 h lt s.1 in above f.4.2 }
 
-pub big_cut : (ws : List ℕ) (i : ℕ) → Opcode ws i opcode.BIGCHARSET → length ws < i + 66 + word ws (i + 1) * 8 → NoSetItem ws i
+pub big_cut : (ws : List ℕ) (i : ℕ) → Opcode ws i opcode.BIGCHARSET → length ws < i + 66 + word ws (i + 1) * 8
+    → NoSetItem ws i
 big_cut ws i h short = record { none = λ j lt s. let f = is_big_charset ws i j s.0 h lt s.1 in omega (arith, f.4.4) }
 
 pub big_short : (ws : List ℕ) (i : ℕ) → Opcode ws i opcode.BIGCHARSET → length ws < i + 66 → NoSetItem ws i
@@ -89,29 +112,47 @@ no_opcode ws i n = record { none = λ j lt s. unread s.0 j lt s.1 }
     unread [] j lt r = omega arith
     unread (x ∷ rest) j lt r = n.none (set_item_opcode x) (first x rest ws i j r)
 
-other_item : (ws : List ℕ) (i j : ℕ) (o : SreOpcode) (s : List SetItem) → Opcode ws i o → o ≢ opcode.LITERAL → o ≢ opcode.RANGE → o ≢ opcode.RANGE_UNI_IGNORE → o ≢ opcode.CATEGORY → o ≢ opcode.CHARSET → o ≢ opcode.BIGCHARSET → o ≢ opcode.NEGATE → i < j → ReadsSet ws i j s → ⊥
+other_item : (ws : List ℕ) (i j : ℕ) (o : SreOpcode) (s : List SetItem) → Opcode ws i o → o ≢ opcode.LITERAL
+    → o ≢ opcode.RANGE → o ≢ opcode.RANGE_UNI_IGNORE → o ≢ opcode.CATEGORY → o ≢ opcode.CHARSET → o ≢ opcode.BIGCHARSET
+    → o ≢ opcode.NEGATE → i < j → ReadsSet ws i j s → ⊥
 other_item ws i j o [] h single range folded category charset big negate lt r = omega arith
-other_item ws i j o (Single v ∷ rest) h single range folded category charset big negate lt r = single (same_opcode ws i o opcode.LITERAL h r.0)
-other_item ws i j o (Range low high ∷ rest) h single range folded category charset big negate lt r = range (same_opcode ws i o opcode.RANGE h r.0)
-other_item ws i j o (RangeUniIgnore low high ∷ rest) h single range folded category charset big negate lt r = folded (same_opcode ws i o opcode.RANGE_UNI_IGNORE h r.0)
-other_item ws i j o (Category c ∷ rest) h single range folded category charset big negate lt r = category (same_opcode ws i o opcode.CATEGORY h r.0)
-other_item ws i j o (Charset bits ∷ rest) h single range folded category charset big negate lt r = charset (same_opcode ws i o opcode.CHARSET h r.0)
-other_item ws i j o (BigCharset numbers bits ∷ rest) h single range folded category charset big negate lt r = big (same_opcode ws i o opcode.BIGCHARSET h r.0)
-other_item ws i j o (Negate ∷ rest) h single range folded category charset big negate lt r = negate (same_opcode ws i o opcode.NEGATE h r.0)
+other_item ws i j o (Single v ∷ rest) h single range folded category charset big negate lt r =
+    single (same_opcode ws i o opcode.LITERAL h r.0)
+other_item ws i j o (Range low high ∷ rest) h single range folded category charset big negate lt r =
+    range (same_opcode ws i o opcode.RANGE h r.0)
+other_item ws i j o (RangeUniIgnore low high ∷ rest) h single range folded category charset big negate lt r =
+    folded (same_opcode ws i o opcode.RANGE_UNI_IGNORE h r.0)
+other_item ws i j o (Category c ∷ rest) h single range folded category charset big negate lt r =
+    category (same_opcode ws i o opcode.CATEGORY h r.0)
+other_item ws i j o (Charset bits ∷ rest) h single range folded category charset big negate lt r =
+    charset (same_opcode ws i o opcode.CHARSET h r.0)
+other_item ws i j o (BigCharset numbers bits ∷ rest) h single range folded category charset big negate lt r =
+    big (same_opcode ws i o opcode.BIGCHARSET h r.0)
+other_item ws i j o (Negate ∷ rest) h single range folded category charset big negate lt r =
+    negate (same_opcode ws i o opcode.NEGATE h r.0)
 
-pub no_item : (ws : List ℕ) (i : ℕ) (o : SreOpcode) → Opcode ws i o → o ≢ opcode.LITERAL → o ≢ opcode.RANGE → o ≢ opcode.RANGE_UNI_IGNORE → o ≢ opcode.CATEGORY → o ≢ opcode.CHARSET → o ≢ opcode.BIGCHARSET → o ≢ opcode.NEGATE → SetItemEnds ws i (Err (BadSet i))
-no_item ws i o h single range folded category charset big negate =
-    (record { none = λ j lt s. other_item ws i j o s.0 h single range folded category charset big negate lt s.1 }, omega (arith, opcode_within ws i o h))
+pub no_item : (ws : List ℕ) (i : ℕ) (o : SreOpcode) → Opcode ws i o → o ≢ opcode.LITERAL → o ≢ opcode.RANGE
+    → o ≢ opcode.RANGE_UNI_IGNORE → o ≢ opcode.CATEGORY → o ≢ opcode.CHARSET → o ≢ opcode.BIGCHARSET → o ≢ opcode.NEGATE
+    → SetItemEnds ws i (Err (BadSet i))
+no_item ws i o h single range folded category charset big negate = (
+  record { none = λ j lt s. other_item ws i j o s.0 h single range folded category charset big negate lt s.1 },
+  omega (arith, opcode_within ws i o h),
+)
 
 -- the items one after the other
-pub set_stops : (ws : List ℕ) (start place end : ℕ) → SameSets ws start place end → place < end → NoSetItem ws place → NoSet ws start end
+pub set_stops : (ws : List ℕ) (start place end : ℕ) → SameSets ws start place end → place < end → NoSetItem ws place
+    → NoSet ws start end
 set_stops ws start place end inv lt n = record { none = λ s. n.none end lt (inv.to s) }
 
-pub set_goes_on : (ws : List ℕ) (start place next end : ℕ) → SameSets ws start place end → place < end → SetItemExactly ws place next → SameSets ws start next end
-set_goes_on ws start place next end inv lt x = record { to = λ s. x.complete end lt (inv.to s); from = λ s. inv.from (x.sound end s) }
+pub set_goes_on : (ws : List ℕ) (start place next end : ℕ) → SameSets ws start place end → place < end
+    → SetItemExactly ws place next → SameSets ws start next end
+set_goes_on ws start place next end inv lt x =
+    record { to = λ s. x.complete end lt (inv.to s); from = λ s. inv.from (x.sound end s) }
 
-pub set_past : (ws : List ℕ) (start place end : ℕ) → SameSets ws start place end → end ≤ place → place ≢ end → NoSet ws start end
-set_past ws start place end inv le ne = record { none = λ s. let t = inv.to s in ne (omega (arith, set_within ws place end t.0 t.1)) }
+pub set_past : (ws : List ℕ) (start place end : ℕ) → SameSets ws start place end → end ≤ place → place ≢ end
+    → NoSet ws start end
+set_past ws start place end inv le ne =
+    record { none = λ s. let t = inv.to s in ne (omega (arith, set_within ws place end t.0 t.1)) }
 
 pub set_ends : (ws : List ℕ) (start place end : ℕ) → SameSets ws start place end → place ≡ end → IsSet ws start end
 set_ends ws start place end inv e = record { set = inv.from ([], e) }

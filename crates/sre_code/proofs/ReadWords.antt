@@ -18,7 +18,8 @@ pub at_unknown : (ws : List ℕ) (i v : ℕ) → v ≡ word ws i → 12 ≤ v �
 at_unknown ws i v e le = record { none = λ o a. omega (arith, word_of ws i (at_number o) a, at_low o) }
 
 pub category_unknown : (ws : List ℕ) (i v : ℕ) → v ≡ word ws i → 18 ≤ v → NoCode category_number ws i
-category_unknown ws i v e le = record { none = λ o a. omega (arith, word_of ws i (category_number o) a, category_low o) }
+category_unknown ws i v e le =
+    record { none = λ o a. omega (arith, word_of ws i (category_number o) a, category_low o) }
 
 -- what `opcode` answers
 pub ruleset opcode_laws = (number_there, code_past, opcode_unknown)

@@ -24,7 +24,8 @@ opened part = record { part = part; width = 0 }
 -- d is the width of the item that ends at i
 abbrev pub Rest : List ℕ → ℕ → ℕ → List Open → ℕ → Type 0
 Rest ws i d [] W = W ≡ d
-Rest ws i d (top ∷ below) W = (j : ℕ) × (w : ℕ) × Finishes ws top.part (held (top.width + d)) i j w × Rest ws j w below W
+Rest ws i d (top ∷ below) W =
+    (j : ℕ) × (w : ℕ) × Finishes ws top.part (held (top.width + d)) i j w × Rest ws j w below W
 
 -- the same, with the innermost part last, as the stack keeps them
 abbrev pub StackRest : List ℕ → ℕ → ℕ → List Open → ℕ → Type 0
@@ -62,12 +63,15 @@ Pushes s old new (Err e) = (e ≡ Memory) × Refused
 
 -- one step, in which the top was the innermost part over the old ones: what is left stays the same, and the work falls
 abbrev pub ReadsOn : List ℕ → Reached → Open → List Open → List Open → Result Reached CodeError → Type 0
-ReadsOn ws r top old new (Ok q) = Same (Rest ws r.place r.width (top ∷ reverse old)) (StackRest ws q.place q.width new) × (work ws q.place new < work ws r.place old + 1)
+ReadsOn ws r top old new (Ok q) =
+    Same (Rest ws r.place r.width (top ∷ reverse old)) (StackRest ws q.place q.width new)
+    × (work ws q.place new < work ws r.place old + 1)
 ReadsOn ws r top old new (Err e) = Fails ws (Rest ws r.place r.width (top ∷ reverse old)) e
 
 -- the words from start on are the items of a tree of width W, and SUCCESS as the last word
 abbrev pub WholeFrom : List ℕ → ℕ → ℕ → Type 0
-WholeFrom ws start W = ((t : Tree) × Reads ws start (length ws - 1) t × (W ≡ width t)) × Opcode ws (length ws - 1) opcode.SUCCESS
+WholeFrom ws start W =
+    ((t : Tree) × Reads ws start (length ws - 1) t × (W ≡ width t)) × Opcode ws (length ws - 1) opcode.SUCCESS
 
 pub record HasWhole (ws : List ℕ) (start W : ℕ) : Type 0 where
   pub body : WholeFrom ws start W

@@ -29,18 +29,22 @@ ItemAt ws i j w = (item : Item) × ReadsItem ws i j item × (w ≡ item_width it
 
 -- after an alternative of a branch with that tail, from the next length word on; the least width so far becomes w
 abbrev pub More : List ℕ → ℕ → ℕ → ℕ → ℕ → Type 0
-More ws q tail least w = (Word ws q 0 × (tail ≡ q + 1) × (w ≡ least)) ⊎ ((ts : Trees) × ReadsBranch ws q tail ts × (w ≡ min least (least_width ts)))
+More ws q tail least w =
+    (Word ws q 0 × (tail ≡ q + 1) × (w ≡ least))
+    ⊎ ((ts : Trees) × ReadsBranch ws q tail ts × (w ≡ min least (least_width ts)))
 
 -- MAX_UNTIL or MIN_UNTIL is at k
 abbrev pub IsUntil : List ℕ → ℕ → Type 0
 IsUntil ws k = (o : Order) × Opcode ws k (until_opcode o)
 
--- a part whose items have been read up to k and have width u is closed there; what it belongs to ends at j and has width w
+-- a part whose items have been read up to k and have width u is closed there;
+-- what it belongs to ends at j and has width w
 abbrev pub Closes : List ℕ → Part → ℕ → ℕ → ℕ → ℕ → Type 0
 Closes ws Whole k u j w = Opcode ws k opcode.SUCCESS × (k + 1 ≡ length ws) × (j ≡ k + 1) × (w ≡ u)
 Closes ws (Body end least) k u j w = (k ≡ end) × IsUntil ws k × (j ≡ k + 1) × (w ≡ held (least * u))
 Closes ws (Region end least) k u j w = (k ≡ end) × Opcode ws k opcode.SUCCESS × (j ≡ k + 1) × (w ≡ held (least * u))
-Closes ws (Alternative end tail least) k u j w = (k ≡ end) × JumpsTo ws k tail × More ws (k + 2) tail (min least u) w × (j ≡ tail)
+Closes ws (Alternative end tail least) k u j w =
+    (k ≡ end) × JumpsTo ws k tail × More ws (k + 2) tail (min least u) w × (j ≡ tail)
 
 -- the words from i on are what is left of a part whose items so far have width a
 abbrev pub Finishes : List ℕ → Part → ℕ → ℕ → ℕ → ℕ → Type 0

@@ -58,8 +58,8 @@ impl<'a> Code<'a> {
 
     /// Checks words against the grammar.
     ///
-    /// The words are refused exactly where the grammar relates no tree to them, or where memory was refused: then a growth
-    /// of the check's stack was. Which cause is named where several stand is open.
+    /// The words are refused exactly where the grammar relates no tree to them, or where memory was refused:
+    /// then a growth of the check's stack was. Which cause is named where several stand is open.
     pub fn check(alloc: Global, words: &'a [u32], uni: &'a UniTable) -> Result<Code<'a>, CodeError>
         ensures words { IfOk result (λ code. words_of code ≡ words.now) }
         ensures uni { IfOk result (λ code. uni_of code ≡ uni.now) }

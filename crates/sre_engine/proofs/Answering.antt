@@ -16,11 +16,15 @@ abbrev run_for : Asked → (StringCursor → ℕ → Type 0) → Run
 run_for a stands = record { words = []; subject = subject_of a; stands = stands; accepts = is_accepted a }
 
 -- what a run decides is the match from its start
-module _ (stands : StringCursor → ℕ → Type 0) (a : Asked) (t : Tree) (p : ℕ) (decided : Option StringCursor) (m : Marks) (d : Decides (run_for a stands) (outcomes (run_for a stands) t p) decided m) where
+module _ (stands : StringCursor → ℕ → Type 0) (a : Asked) (t : Tree) (p : ℕ) (decided : Option StringCursor) (m : Marks)
+    (d : Decides (run_for a stands) (outcomes (run_for a stands) t p) decided m) where
   pub none_at : decided ≡ None → at_start a t p ≡ None
-  none_at is = first_accepted-filter a p (ways (subject_of a) t p no_marks) ∙ ap (match_of_first p) (subst (λ x. Decides (run_for a stands) (outcomes (run_for a stands) t p) x m) is d)
+  none_at is =
+      first_accepted-filter a p (ways (subject_of a) t p no_marks)
+      ∙ ap (match_of_first p) (subst (λ x. Decides (run_for a stands) (outcomes (run_for a stands) t p) x m) is d)
 
-  pub some_at : (end : StringCursor) → decided ≡ Some end → stands end end.position × (at_start a t p ≡ Some (record { start = p; end = end.position; marks = m }))
+  pub some_at : (end : StringCursor) → decided ≡ Some end
+      → stands end end.position × (at_start a t p ≡ Some (record { start = p; end = end.position; marks = m }))
   some_at end is =
       let e = subst (λ x. Decides (run_for a stands) (outcomes (run_for a stands) t p) x m) is d in
       (e.0, first_accepted-filter a p (ways (subject_of a) t p no_marks) ∙ ap (match_of_first p) e.1.1)
@@ -30,23 +34,39 @@ module _ (stands : StringCursor → ℕ → Type 0) (a : Asked) (t : Tree) (p : 
   span_at inside end is = let from = at_start-is a t p _ inside (some_at end is).1 in (from.order, from.end)
 
 -- an answer yes, with the match that the state shows
-pub answers_yes : (stands : StringCursor → ℕ → Type 0) (match : Option Match) (p : ℕ) (end : StringCursor) (shown : Shown) → shown.start ≡ p → shown.cursor ≡ end → stands end end.position → match ≡ Some (record { start = p; end = end.position; marks = shown.marks }) → Answers stands match true shown
-answers_yes stands match p end shown start cursor there some = rw some (refl, record { start = start; at = ap (λ x. x.position) cursor; end = subst (λ x. stands x end.position) (sym cursor) there; marks = refl })
+pub answers_yes : (stands : StringCursor → ℕ → Type 0) (match : Option Match) (p : ℕ) (end : StringCursor)
+    (shown : Shown)
+    → shown.start ≡ p → shown.cursor ≡ end → stands end end.position
+    → match ≡ Some (record { start = p; end = end.position; marks = shown.marks }) → Answers stands match true shown
+answers_yes stands match p end shown start cursor there some = rw some (
+  refl,
+  record {
+    start = start;
+    at = ap (λ x. x.position) cursor;
+    end = subst (λ x. stands x end.position) (sym cursor) there;
+    marks = refl;
+  },
+)
 
 -- an answer no
-pub answers_no : (stands : StringCursor → ℕ → Type 0) (match : Option Match) (shown : Shown) → match ≡ None → Answers stands match false shown
+pub answers_no : (stands : StringCursor → ℕ → Type 0) (match : Option Match) (shown : Shown) → match ≡ None
+    → Answers stands match false shown
 answers_no stands match shown none = rw none refl
 
 -- an answer is the model's match
-given-answer : (stands : StringCursor → ℕ → Type 0) (match : Option Match) (b : Bool) (shown : Shown) → Answers stands match b shown → given b shown ≡ match
+given-answer : (stands : StringCursor → ℕ → Type 0) (match : Option Match) (b : Bool) (shown : Shown)
+    → Answers stands match b shown → given b shown ≡ match
 given-answer stands None b shown none = rw none refl
 given-answer stands (Some m) b shown some = rw (some.0, some.1.start, some.1.at, some.1.marks) refl
 
 -- and so it is that of each other request that asks the same
-pub answers_alike : (model : Asked → Option Match) (asked : Asked) (stands : StringCursor → ℕ → Type 0) (b : Bool) (shown : Shown) → Answers stands (model asked) b shown → AnswersAlike model asked b shown
+pub answers_alike : (model : Asked → Option Match) (asked : Asked)
+    (stands : StringCursor → ℕ → Type 0) (b : Bool) (shown : Shown)
+    → Answers stands (model asked) b shown → AnswersAlike model asked b shown
 answers_alike model asked stands b shown answer = record {
   alike = λ other c u same told.
-      given-answer (λ _ _. ⊤) (model other) c u told ∙ ap model same ∙ sym (given-answer stands (model asked) b shown answer);
+      given-answer (λ _ _. ⊤) (model other) c u told ∙ ap model same
+      ∙ sym (given-answer stands (model asked) b shown answer);
 }
 
 -- an answer tells its match
@@ -60,7 +80,8 @@ told stands (Some m) b shown some =
 abbrev pub NoneBefore : Asked → Tree → ℕ → Type 0
 NoneBefore a t p = (s : ℕ) → a.start ≤ s → s < p → at_start a t s ≡ None
 
-pub none_further : (a : Asked) (t : Tree) (p q : ℕ) → NoneBefore a t p → at_start a t p ≡ None → q ≡ p + 1 → NoneBefore a t q
+pub none_further : (a : Asked) (t : Tree) (p q : ℕ) → NoneBefore a t p → at_start a t p ≡ None → q ≡ p + 1
+    → NoneBefore a t q
 none_further a t p q before here next s from less = by_place (nat_eq s p) refl
   where
     by_place : (c : Bool) → nat_eq s p ≡ c → at_start a t s ≡ None
@@ -68,9 +89,17 @@ none_further a t p q before here next s from less = by_place (nat_eq s p) refl
     by_place false n = before s from (grind (arith, nat_tests))
 
 -- none of the window's starts has a match
-pub found_none : (a : Asked) (t : Tree) (p : ℕ) → NoneBefore a t p → at_start a t p ≡ None → a.end ≤ p → found a t ≡ None
-found_none a t p before here past = none-found a t (λ s from to. none_further a t p (p + 1) before here refl s from (omega arith))
+pub found_none : (a : Asked) (t : Tree) (p : ℕ) → NoneBefore a t p → at_start a t p ≡ None → a.end ≤ p
+    → found a t ≡ None
+found_none a t p before here past =
+    none-found a t (λ s from to. none_further a t p (p + 1) before here refl s from (omega arith))
 
 -- the first that has one
-pub found_first : (a : Asked) (t : Tree) (p : ℕ) (m : Match) → NoneBefore a t p → at_start a t p ≡ Some m → a.start ≤ p → p ≤ a.end → m.start ≡ p → found a t ≡ Some m
-found_first a t p m before here from to start = least-found a t m (record { from = omega arith; to = omega arith; here = subst (λ q. at_start a t q ≡ Some m) (sym start) here; least = λ r l k. before r l (omega arith) })
+pub found_first : (a : Asked) (t : Tree) (p : ℕ) (m : Match) → NoneBefore a t p → at_start a t p ≡ Some m → a.start ≤ p
+    → p ≤ a.end → m.start ≡ p → found a t ≡ Some m
+found_first a t p m before here from to start = least-found a t m (record {
+  from = omega arith;
+  to = omega arith;
+  here = subst (λ q. at_start a t q ≡ Some m) (sym start) here;
+  least = λ r l k. before r l (omega arith);
+})

@@ -38,7 +38,8 @@ given false s = None
 abbrev pub Tells : Option Match → Bool → Shown → Type 0
 Tells m b s = Answers (λ c p. ⊤) m b s
 
--- another request, in a text of whatever type, that asks the same of a code of the same tree is answered alike: of equal
--- characters, tables, windows and flags the same match or none; c and u are its answer and what a state then shows
+-- another request, in a text of whatever type, that asks the same of a code of the same tree is answered alike:
+-- of equal characters, tables, windows and flags the same match or none;
+-- c and u are its answer and what a state then shows
 pub record AnswersAlike (model : Asked → Option Match) (asked : Asked) (b : Bool) (s : Shown) : Type 0 where
   pub alike : (other : Asked) (c : Bool) (u : Shown) → other ≡ asked → Tells (model other) c u → given c u ≡ given b s

@@ -28,10 +28,13 @@ four_each [] = refl
 four_each (x ∷ xs) = omega (arith, four_each xs)
 
 -- a block's number: byte r of word q of the numbers
-number_at : (xs : List ℕ) (q r : ℕ) → q < length xs → r < 4 → slice_index (flat_map bytes_of xs) (4 * q + r) ≡ slice_index xs q / 2 ^ (8 * r) % 256
+number_at : (xs : List ℕ) (q r : ℕ) → q < length xs → r < 4
+    → slice_index (flat_map bytes_of xs) (4 * q + r) ≡ slice_index xs q / 2 ^ (8 * r) % 256
 number_at xs q r l k =
-    let e : length (flat_map bytes_of (take q xs)) ≡ 4 * q = four_each (take q xs) ∙ ap (λ n. 4 * n) (length-take-le q xs (omega arith)) in
-    let f : slice_index (flat_map bytes_of xs) (length (flat_map bytes_of (take q xs)) + r) ≡ slice_index (bytes_of (slice_index xs q)) r = get_or-flat_map bytes_of xs q r 0 0 l k in
+    let e : length (flat_map bytes_of (take q xs)) ≡ 4 * q =
+    four_each (take q xs) ∙ ap (λ n. 4 * n) (length-take-le q xs (omega arith)) in
+    let f : slice_index (flat_map bytes_of xs) (length (flat_map bytes_of (take q xs)) + r)
+    ≡ slice_index (bytes_of (slice_index xs q)) r = get_or-flat_map bytes_of xs q r 0 0 l k in
     ap (λ n. slice_index (flat_map bytes_of xs) (n + r)) (sym e) ∙ f ∙ sym (byte_of (slice_index xs q) r k)
 
 -- the 64 words of numbers
@@ -40,20 +43,26 @@ numbers_room ws i room =
     let enough : i + 66 - (i + 2) ≤ length (drop (i + 2) ws) = omega (arith, length-drop (i + 2) ws) in
     length-take-le (i + 66 - (i + 2)) (drop (i + 2) ws) enough ∙ omega arith
 
-pub block_number : (ws : List ℕ) (i c : ℕ) → c < 65536 → i + 66 ≤ length ws → slice_index ws (i + 2 + c / 256 / 4) / 2 ^ (8 * (c / 256 % 4)) % 256 ≡ slice_index (flat_map bytes_of (slice_range ws (i + 2) (i + 66))) (c / 256)
+pub block_number : (ws : List ℕ) (i c : ℕ) → c < 65536 → i + 66 ≤ length ws
+    → slice_index ws (i + 2 + c / 256 / 4) / 2 ^ (8 * (c / 256 % 4)) % 256
+    ≡ slice_index (flat_map bytes_of (slice_range ws (i + 2) (i + 66))) (c / 256)
 block_number ws i c l room =
     let q : ℕ = c / 256 / 4 in
     let xs : List ℕ = slice_range ws (i + 2) (i + 66) in
     let there : q < length xs = omega (arith, numbers_room ws i room) in
     let split : 4 * q + c / 256 % 4 ≡ c / 256 = omega arith in
     let e : slice_index xs q ≡ slice_index ws (i + 2 + q) = part_at ws (i + 2) (i + 66) q (omega arith) in
-    sym (ap (λ n. slice_index (flat_map bytes_of xs) n) (sym split) ∙ number_at xs q (c / 256 % 4) there (omega arith) ∙ ap (λ w. w / 2 ^ (8 * (c / 256 % 4)) % 256) e)
+    sym (ap (λ n. slice_index (flat_map bytes_of xs) n) (sym split) ∙ number_at xs q (c / 256 % 4) there (omega arith)
+    ∙ ap (λ w. w / 2 ^ (8 * (c / 256 % 4)) % 256) e)
 
-pub block_below : (ws : List ℕ) (i c count : ℕ) → c < 65536 → i + 66 ≤ length ws → BlocksBelow count (slice_range ws (i + 2) (i + 66)) → slice_index ws (i + 2 + c / 256 / 4) / 2 ^ (8 * (c / 256 % 4)) % 256 < count
+pub block_below : (ws : List ℕ) (i c count : ℕ) → c < 65536
+    → i + 66 ≤ length ws → BlocksBelow count (slice_range ws (i + 2) (i + 66))
+    → slice_index ws (i + 2 + c / 256 / 4) / 2 ^ (8 * (c / 256 % 4)) % 256 < count
 block_below ws i c count l room b =
     let q : ℕ = c / 256 / 4 in
     let xs : List ℕ = slice_range ws (i + 2) (i + 66) in
     let there : q < length xs = omega (arith, numbers_room ws i room) in
     let e : slice_index xs q ≡ slice_index ws (i + 2 + q) = part_at ws (i + 2) (i + 66) q (omega arith) in
-    let below : slice_index (bytes_of (slice_index xs q)) (c / 256 % 4) < count = byte_below count (slice_index xs q) (c / 256 % 4) (b q there) (omega arith) in
+    let below : slice_index (bytes_of (slice_index xs q)) (c / 256 % 4) < count =
+    byte_below count (slice_index xs q) (c / 256 % 4) (b q there) (omega arith) in
     omega (arith, byte_of (slice_index xs q) (c / 256 % 4) (omega arith), ap (λ w. w / 2 ^ (8 * (c / 256 % 4)) % 256) e)

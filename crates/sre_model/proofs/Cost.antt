@@ -40,7 +40,9 @@ least_cost body rest (suc owed) p m = suc (body (λ q k. least_cost body rest ow
 -- a loop from its least count on
 abbrev pub more_cost : ℕ → (Costs → Costs) → Costs → ℕ → ℕ → Option ℕ → Costs
 more_cost high body C zero count last p m = suc (C p m)
-more_cost high body C (suc fuel) count last p m = cond (may_repeat high count last p) (suc (suc (body (λ q k. more_cost high body C fuel (count + 1) (Some p) q k) p m + C p m))) (suc (C p m))
+more_cost high body C (suc fuel) count last p m =
+    cond (may_repeat high count last p)
+    (suc (suc (body (λ q k. more_cost high body C fuel (count + 1) (Some p) q k) p m + C p m))) (suc (C p m))
 
 -- behind an atomic group whose body has these ways
 abbrev pub atomic_cost : Costs → List Way → ℕ
@@ -50,7 +52,8 @@ atomic_cost C (w ∷ _) = suc (C w.stop w.marks)
 -- the bodies of a possessive loop below its least count
 abbrev pub owed_cost : (Costs → Costs) → Body → Costs → ℕ → Costs
 owed_cost body W rest zero p m = rest p m
-owed_cost body W rest (suc owed) p m = suc (body ending p m + atomic_cost (λ q k. owed_cost body W rest owed q k) (W p m))
+owed_cost body W rest (suc owed) p m =
+    suc (body ending p m + atomic_cost (λ q k. owed_cost body W rest owed q k) (W p m))
 
 -- behind a further body of a possessive loop, from where it began
 abbrev pub further_cost : Costs → Costs → ℕ → Marks → List Way → ℕ
@@ -73,7 +76,9 @@ look_cost Negative C p m (w ∷ _) = 1
 
 -- a look and what is behind it
 abbrev pub looked_cost : Sign → ℕ → (Costs → Costs) → Body → Costs → Costs
-looked_cost sign back body W C p m = cond (nat_lt p back) (look_cost sign C p m []) (suc (body ending (p - back) m + look_cost sign C p m (W (p - back) m)))
+looked_cost sign back body W C p m =
+    cond (nat_lt p back) (look_cost sign C p m [])
+    (suc (body ending (p - back) m + look_cost sign C p m (W (p - back) m)))
 
 abbrev mutual
   pub cost : Subject → Tree → Costs → Costs
@@ -85,15 +90,19 @@ abbrev mutual
   item_cost s (At a) C p m = cond (holds_at s a p) (suc (C p m)) 1
   item_cost s (Mark n) C p m = suc (C p (set_mark m n p))
   item_cost s (Branch ts) C p m = suc (branch_cost s ts (λ q k. suc (C q k)) p m)
-  item_cost s (Loop o low high body) C p m = suc (least_cost (λ D q k. cost s body D q k) (λ q k. more_cost high (λ D a b. cost s body D a b) C (s.end + 1 - q) low None q k) low p m)
+  item_cost s (Loop o low high body) C p m =
+      suc (least_cost (λ D q k. cost s body D q k)
+      (λ q k. more_cost high (λ D a b. cost s body D a b) C (s.end + 1 - q) low None q k) low p m)
   item_cost s (Run GreedyRun low high t) C p m = run_cost low (longest_run s t high p) C p m
   item_cost s (Run LazyRun low high t) C p m = lazy_run_cost low (longest_run s t high p) C p m
   item_cost s (Run PossessiveRun low high t) C p m = longest_run_cost low (longest_run s t high p) C p m
   item_cost s (PossessiveLoop low high body) C p m =
       suc (owed_cost (λ D q k. cost s body D q k) (λ q k. ways s body q k)
-      (λ q k. possessive_cost high (λ D a b. cost s body D a b) (λ a b. ways s body a b) C (s.end + 1 - q) low None q k) low p m)
+      (λ q k. possessive_cost high (λ D a b. cost s body D a b) (λ a b. ways s body a b) C (s.end + 1 - q) low None q k)
+      low p m)
   item_cost s (Atomic body) C p m = suc (cost s body ending p m + atomic_cost C (ways s body p m))
-  item_cost s (Look sign back body) C p m = looked_cost sign back (λ D q k. cost s body D q k) (λ q k. ways s body q k) C p m
+  item_cost s (Look sign back body) C p m =
+      looked_cost sign back (λ D q k. cost s body D q k) (λ q k. ways s body q k) C p m
   item_cost s _ C p m = 1
 
   pub branch_cost : Subject → Trees → Costs → Costs

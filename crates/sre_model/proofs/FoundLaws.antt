@@ -44,15 +44,19 @@ either None = inl refl
 either (Some x) = inr (x, refl)
 
 -- the first accepted way is the first of the accepted ways
-pub first_accepted-filter : (a : Asked) (s : ℕ) (ws : List Way) → first_accepted a s ws ≡ match_of_first s (filter (is_accepted a) ws)
+pub first_accepted-filter : (a : Asked) (s : ℕ) (ws : List Way)
+    → first_accepted a s ws ≡ match_of_first s (filter (is_accepted a) ws)
 first_accepted-filter a s [] = refl
 first_accepted-filter a s (w ∷ ws) = by_test (is_accepted a w) (first_accepted-filter a s ws)
   where
-    by_test : (c : Bool) → first_accepted a s ws ≡ match_of_first s (filter (is_accepted a) ws) → cond c (Some (match_of s w)) (first_accepted a s ws) ≡ match_of_first s (cond c (w ∷ filter (is_accepted a) ws) (filter (is_accepted a) ws))
+    by_test : (c : Bool) → first_accepted a s ws ≡ match_of_first s (filter (is_accepted a) ws)
+        → cond c (Some (match_of s w)) (first_accepted a s ws)
+        ≡ match_of_first s (cond c (w ∷ filter (is_accepted a) ws) (filter (is_accepted a) ws))
     by_test true later = refl
     by_test false later = later
 
-first_accepted-is : (a : Asked) (s : ℕ) (m : Match) (ws : List Way) → EachBetween (subject_of a) s ws → first_accepted a s ws ≡ Some m → IsFrom a s m
+first_accepted-is : (a : Asked) (s : ℕ) (m : Match) (ws : List Way) → EachBetween (subject_of a) s ws
+    → first_accepted a s ws ≡ Some m → IsFrom a s m
 first_accepted-is a s m [] b e = absurd (cc)
 first_accepted-is a s m (w ∷ ws) b e = by_test (is_accepted a w) refl (first_accepted-is a s m ws b.1)
   where
@@ -65,37 +69,55 @@ first_accepted-is a s m (w ∷ ws) b e = by_test (is_accepted a w) refl (first_a
 
 -- the match from s begins there, ends between s and the window's end, and is accepted
 pub at_start-is : (a : Asked) (t : Tree) (s : ℕ) (m : Match) → s ≤ a.end → at_start a t s ≡ Some m → IsFrom a s m
-at_start-is a t s m h e = first_accepted-is a s m (ways (subject_of a) t s no_marks) (ways-bounded (subject_of a) t s no_marks h) e
+at_start-is a t s m h e =
+    first_accepted-is a s m (ways (subject_of a) t s no_marks) (ways-bounded (subject_of a) t s no_marks h) e
 
 -- no match at s, and none later on
-after_none : (a : Asked) (t : Tree) (s n r : ℕ) → at_start a t s ≡ None → ((r : ℕ) → s + 1 ≤ r → r < n → at_start a t r ≡ None) → s ≤ r → r < n → at_start a t r ≡ None
+after_none : (a : Asked) (t : Tree) (s n r : ℕ) → at_start a t s ≡ None
+    → ((r : ℕ) → s + 1 ≤ r → r < n → at_start a t r ≡ None) → s ≤ r → r < n → at_start a t r ≡ None
 after_none a t s n r none later l k = by_place (nat_eq s r) refl
   where
     by_place : (c : Bool) → nat_eq s r ≡ c → at_start a t r ≡ None
     by_place true y = let is : s ≡ r = grind (arith, nat_tests) in subst (λ q. at_start a t q ≡ None) is none
     by_place false y = later r (grind (arith, nat_tests)) k
 
-found_from-least : (n : ℕ) (a : Asked) (t : Tree) (s : ℕ) (m : Match) → s + n ≤ a.end + 1 → found_from n a t s ≡ Some m → IsLeast a t s m
+found_from-least : (n : ℕ) (a : Asked) (t : Tree) (s : ℕ) (m : Match) → s + n ≤ a.end + 1 → found_from n a t s ≡ Some m
+    → IsLeast a t s m
 found_from-least zero a t s m h e = absurd (cc)
-found_from-least (suc n) a t s m h e = by_match (either (at_start a t s)) (found_from-least n a t (s + 1) m (omega arith))
+found_from-least (suc n) a t s m h e =
+    by_match (either (at_start a t s)) (found_from-least n a t (s + 1) m (omega arith))
   where
     by_match : Either (at_start a t s) → (found_from n a t (s + 1) ≡ Some m → IsLeast a t (s + 1) m) → IsLeast a t s m
     by_match (inl none) later =
         let rest = later (rw (none, found_from) at e) in
-        record { from = omega (arith, rest.from); to = rest.to; here = rest.here; least = λ r l k. after_none a t s m.start r none rest.least l k }
+        record {
+          from = omega (arith, rest.from);
+          to = rest.to;
+          here = rest.here;
+          least = λ r l k. after_none a t s m.start r none rest.least l k;
+        }
     by_match (inr (x, some)) later =
         let same : Some x ≡ Some m = rw (some, found_from) at e in
         let is : x ≡ m = cc in
         let at_s : at_start a t s ≡ Some m = some ∙ same in
         let start : m.start ≡ s = (at_start-is a t s m (omega arith) at_s).start in
-        record { from = omega arith; to = omega arith; here = subst (λ q. at_start a t q ≡ Some m) (sym start) at_s; least = λ r l k. absurd (omega arith) }
+        record {
+          from = omega arith;
+          to = omega arith;
+          here = subst (λ q. at_start a t q ≡ Some m) (sym start) at_s;
+          least = λ r l k. absurd (omega arith);
+        }
 
-found_from-none : (n : ℕ) (a : Asked) (t : Tree) (s : ℕ) → found_from n a t s ≡ None → (r : ℕ) → s ≤ r → r < s + n → at_start a t r ≡ None
+found_from-none : (n : ℕ) (a : Asked) (t : Tree) (s : ℕ) → found_from n a t s ≡ None → (r : ℕ) → s ≤ r → r < s + n
+    → at_start a t r ≡ None
 found_from-none zero a t s e r l k = absurd (omega arith)
 found_from-none (suc n) a t s e r l k = by_match (either (at_start a t s)) (found_from-none n a t (s + 1))
   where
-    by_match : Either (at_start a t s) → (found_from n a t (s + 1) ≡ None → (r : ℕ) → s + 1 ≤ r → r < (s + 1) + n → at_start a t r ≡ None) → at_start a t r ≡ None
-    by_match (inl none) later = after_none a t s (s + suc n) r none (λ q l k. later (rw (none, found_from) at e) q l (omega arith)) l k
+    by_match : Either (at_start a t s)
+        → (found_from n a t (s + 1) ≡ None → (r : ℕ) → s + 1 ≤ r → r < (s + 1) + n → at_start a t r ≡ None)
+        → at_start a t r ≡ None
+    by_match (inl none) later =
+        after_none a t s (s + suc n) r none (λ q l k. later (rw (none, found_from) at e) q l (omega arith)) l k
     by_match (inr (x, some)) later = let never : Some x ≡ None = rw (some, found_from) at e in absurd (cc)
 
 -- what is found is the match of the least start in the window
@@ -104,7 +126,10 @@ found-least a t m e = by_window (nat_le a.start (a.end + 1)) refl
   where
     by_window : (c : Bool) → nat_le a.start (a.end + 1) ≡ c → IsLeast a t a.start m
     by_window true y = found_from-least (a.end + 1 - a.start) a t a.start m (grind (arith, nat_tests)) e
-    by_window false n = let none : a.end + 1 - a.start ≡ 0 = grind (arith, nat_tests) in let never : None ≡ Some m = rw none at e in absurd (cc)
+    by_window false n =
+        let none : a.end + 1 - a.start ≡ 0 = grind (arith, nat_tests) in
+        let never : None ≡ Some m = rw none at e in
+        absurd (cc)
 
 -- where nothing is found no start in the window has a match
 pub found-none : (a : Asked) (t : Tree) → found a t ≡ None → (s : ℕ) → a.start ≤ s → s ≤ a.end → at_start a t s ≡ None
@@ -115,7 +140,9 @@ not_before : (a : Asked) (t : Tree) (s : ℕ) (m x : Match) → IsLeast a t s m 
 not_before a t s m x is other = by_test (nat_lt x.start m.start) refl
   where
     by_test : (c : Bool) → nat_lt x.start m.start ≡ c → m.start ≤ x.start
-    by_test true y = let never : None ≡ Some x = sym (is.least x.start other.from (grind (arith, nat_tests))) ∙ other.here in absurd (cc)
+    by_test true y =
+        let never : None ≡ Some x = sym (is.least x.start other.from (grind (arith, nat_tests))) ∙ other.here in
+        absurd (cc)
     by_test false n = grind (arith, nat_tests)
 
 -- the match of the least start is what is found
@@ -123,10 +150,13 @@ pub least-found : (a : Asked) (t : Tree) (m : Match) → IsLeast a t a.start m �
 least-found a t m is = by_match (either (found a t))
   where
     by_match : Either (found a t) → found a t ≡ Some m
-    by_match (inl none) = let never = found-none a t none m.start is.from is.to in absurd (let e : None ≡ Some m = sym never ∙ is.here in cc)
+    by_match (inl none) =
+        let never = found-none a t none m.start is.from is.to in
+        absurd (let e : None ≡ Some m = sym never ∙ is.here in cc)
     by_match (inr (x, some)) =
         let other = found-least a t x some in
-        let start : x.start ≡ m.start = omega (arith, not_before a t a.start m x is other, not_before a t a.start x m other is) in
+        let start : x.start ≡ m.start =
+        omega (arith, not_before a t a.start m x is other, not_before a t a.start x m other is) in
         some ∙ (sym other.here ∙ (ap (at_start a t) start ∙ is.here))
 
 -- where no start in the window has a match nothing is found
@@ -135,7 +165,10 @@ none-found a t h = by_match (either (found a t))
   where
     by_match : Either (found a t) → found a t ≡ None
     by_match (inl none) = none
-    by_match (inr (x, some)) = let is = found-least a t x some in let e : Some x ≡ None = sym is.here ∙ h x.start is.from is.to in absurd (cc)
+    by_match (inr (x, some)) =
+        let is = found-least a t x some in
+        let e : Some x ≡ None = sym is.here ∙ h x.start is.from is.to in
+        absurd (cc)
 
 -- what is found begins and ends in the window, in this order, and is accepted
 pub found-is : (a : Asked) (t : Tree) (m : Match) → found a t ≡ Some m → IsFrom a m.start m

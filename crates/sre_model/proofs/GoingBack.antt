@@ -12,39 +12,74 @@ use Rattle.sre_model.specs.declared.Next.TheVariants as next
 use Rattle.sre_model.proofs.StepsInRegions.{region_back}
 
 -- a choice is resumed
-pub back_none : (r : Run) (b : BoardValue) → b.choices ≡ [] → (all : List Way) (limit : ℕ) → Backs r all limit b → all ≡ []
+pub back_none : (r : Run) (b : BoardValue) → b.choices ≡ [] → (all : List Way) (limit : ℕ)
+    → Backs r all limit b → all ≡ []
 back_none r b e all limit g = go (subst (λ x. Waits r x [] all g.later) e g.waits)
   where
     go : {xs : List Way} {k : ℕ} → Waits r [] [] xs k → xs ≡ []
     go outermost = refl
 
-pub back_goes : (r : Run) (b b' : BoardValue) (pt : Point) (c : StringCursor) → b.choices ≡ Else pt b'.frames c b'.marks ∷ b'.choices → (all : List Way) (limit : ℕ) → Backs r all limit b → (1 ≤ limit) × Goes r all (limit - 1) pt c b'
+pub back_goes : (r : Run) (b b' : BoardValue) (pt : Point) (c : StringCursor)
+    → b.choices ≡ Else pt b'.frames c b'.marks ∷ b'.choices → (all : List Way) (limit : ℕ) → Backs r all limit b
+    → (1 ≤ limit) × Goes r all (limit - 1) pt c b'
 back_goes r b b' pt c e all limit g = go (subst (λ x. Waits r x [] all g.later) e g.waits) g.within
   where
-    go : {xs : List Way} {k : ℕ} → Waits r (Else pt b'.frames c b'.marks ∷ b'.choices) [] xs k → k ≤ limit → (1 ≤ limit) × Goes r xs (limit - 1) pt c b'
-    go (otherwise there x wt) l = (omega arith, record { now = _; turns = _; later = _; stands = there; runs = x; waits = wt; within = omega arith })
+    go : {xs : List Way} {k : ℕ} → Waits r (Else pt b'.frames c b'.marks ∷ b'.choices) [] xs k → k ≤ limit
+        → (1 ≤ limit) × Goes r xs (limit - 1) pt c b'
+    go (otherwise there x wt) l = (
+      omega arith,
+      record { now = _; turns = _; later = _; stands = there; runs = x; waits = wt; within = omega arith },
+    )
 
 -- the same for a point that is known
-pub back_at : (r : Run) (b b' : BoardValue) (pt pt' : Point) (c : StringCursor) → b.choices ≡ choice pt b'.frames c b'.marks ∷ b'.choices → pt ≡ pt' → choice pt' b'.frames c b'.marks ≡ Else pt' b'.frames c b'.marks → (all : List Way) (limit : ℕ) → Backs r all limit b → (1 ≤ limit) × Goes r all (limit - 1) pt' c b'
+pub back_at : (r : Run) (b b' : BoardValue) (pt pt' : Point) (c : StringCursor)
+    → b.choices ≡ choice pt b'.frames c b'.marks ∷ b'.choices → pt ≡ pt'
+    → choice pt' b'.frames c b'.marks ≡ Else pt' b'.frames c b'.marks → (all : List Way) (limit : ℕ)
+    → Backs r all limit b → (1 ≤ limit) × Goes r all (limit - 1) pt' c b'
 back_at r b b' pt pt' c e same is all limit g =
     let found : b.choices ≡ choice pt' b'.frames c b'.marks ∷ b'.choices = e ∙ rw same refl in
     back_goes r b b' pt' c (found ∙ ap (λ x. x ∷ b'.choices) is) all limit g
 
 -- a region whose body has no outcome
-pub back_region : (r : Run) (b b' b'' : BoardValue) (pt : Point) (g : Region) (c : StringCursor) (n : Next) → b.choices ≡ choice pt b'.frames c b'.marks ∷ b'.choices → pt ≡ Inside g → n ≡ without_outcome g c → b'' ≡ without_loop g b' → (all : List Way) (limit : ℕ) → Backs r all limit b → Later r all limit n b''
+pub back_region : (r : Run) (b b' b'' : BoardValue) (pt : Point) (g : Region) (c : StringCursor) (n : Next)
+    → b.choices ≡ choice pt b'.frames c b'.marks ∷ b'.choices → pt ≡ Inside g → n ≡ without_outcome g c
+    → b'' ≡ without_loop g b' → (all : List Way) (limit : ℕ) → Backs r all limit b → Later r all limit n b''
 back_region r b b' b'' pt g c n e same is left all limit k =
     let found : b.choices ≡ Keep g b'.frames c b'.marks ∷ b'.choices = e ∙ rw same refl in
-    let kept : Waits r (Keep g b'.frames c b'.marks ∷ b'.choices) [] all k.later = subst (λ x. Waits r x [] all k.later) found k.waits in
-    let back : Later r all limit (without_outcome g c) (without_loop g b') = region_back r c b' g all limit k.later kept k.within in
-    subst (λ x. Later r all limit x b'') (sym is) (subst (λ y. Later r all limit (without_outcome g c) y) (sym left) back)
+    let kept : Waits r (Keep g b'.frames c b'.marks ∷ b'.choices) [] all k.later =
+    subst (λ x. Waits r x [] all k.later) found k.waits in
+    let back : Later r all limit (without_outcome g c) (without_loop g b') =
+    region_back r c b' g all limit k.later kept k.within in
+    subst (λ x. Later r all limit x b'') (sym is)
+    (subst (λ y. Later r all limit (without_outcome g c) y) (sym left) back)
 
 -- a state within a limit is one within a greater limit
-pub stands_wider : (r : Run) (all : List Way) (limit more : ℕ) (n : Next) (b : BoardValue) → limit ≤ more → Stands r all limit n b → Stands r all more n b
-stands_wider r all limit more (next.At i c) b l g = record { now = g.now; turns = g.turns; later = g.later; stands = g.stands; runs = g.runs; waits = g.waits; within = omega (arith, g.within, l) }
-stands_wider r all limit more (next.Again c) b l g = record { now = g.now; turns = g.turns; later = g.later; stands = g.stands; runs = g.runs; waits = g.waits; within = omega (arith, g.within, l) }
-stands_wider r all limit more next.Back b l g = record { later = g.later; waits = g.waits; within = omega (arith, g.within, l) }
-stands_wider r all limit more (next.Done c) b l g = record { later = g.later; stands = g.stands; waits = g.waits; within = omega (arith, g.within, l) }
+pub stands_wider : (r : Run) (all : List Way) (limit more : ℕ) (n : Next) (b : BoardValue) → limit ≤ more
+    → Stands r all limit n b → Stands r all more n b
+stands_wider r all limit more (next.At i c) b l g = record {
+  now = g.now;
+  turns = g.turns;
+  later = g.later;
+  stands = g.stands;
+  runs = g.runs;
+  waits = g.waits;
+  within = omega (arith, g.within, l);
+}
+stands_wider r all limit more (next.Again c) b l g = record {
+  now = g.now;
+  turns = g.turns;
+  later = g.later;
+  stands = g.stands;
+  runs = g.runs;
+  waits = g.waits;
+  within = omega (arith, g.within, l);
+}
+stands_wider r all limit more next.Back b l g =
+    record { later = g.later; waits = g.waits; within = omega (arith, g.within, l) }
+stands_wider r all limit more (next.Done c) b l g =
+    record { later = g.later; stands = g.stands; waits = g.waits; within = omega (arith, g.within, l) }
 
 -- two turns are more than one
-pub later_again : (r : Run) (all : List Way) (limit : ℕ) (n : Next) (b : BoardValue) → 1 ≤ limit → Later r all (limit - 1) n b → Later r all limit n b
+pub later_again : (r : Run) (all : List Way) (limit : ℕ) (n : Next) (b : BoardValue) → 1 ≤ limit
+    → Later r all (limit - 1) n b → Later r all limit n b
 later_again r all limit n b l k = (l, stands_wider r all (limit - 1 - 1) (limit - 1) n b (omega arith) k.1)

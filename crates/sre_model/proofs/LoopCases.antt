@@ -24,9 +24,11 @@ pub followed-all : (s : Subject) (body rest : Body) (p : ℕ) (m : Marks) → Bo
 followed-all s body rest p m b h = ap (flat_map (λ w. rest w.stop w.marks)) (within-all s p (body p m) (b p m h))
 
 -- what is followed is the same where what follows it is
-pub followed-same : (s : Subject) (body f g : Body) (p : ℕ) (m : Marks) → ((w : Way) → Between s p w → f w.stop w.marks ≡ g w.stop w.marks)
-    → followed s body f p m ≡ followed s body g p m
-followed-same s body f g p m e = flat_map_each (Between s p) (λ w. f w.stop w.marks) (λ w. g w.stop w.marks) e (within s p (body p m)) (within-each s p (body p m))
+pub followed-same : (s : Subject) (body f g : Body) (p : ℕ) (m : Marks)
+    → ((w : Way) → Between s p w → f w.stop w.marks ≡ g w.stop w.marks) → followed s body f p m ≡ followed s body g p m
+followed-same s body f g p m e =
+    flat_map_each (Between s p) (λ w. f w.stop w.marks) (λ w. g w.stop w.marks) e (within s p (body p m))
+    (within-each s p (body p m))
 
 -- an equation that holds where a body stayed, and where it moved on
 pub by_progress : {X : Type 0} {x y : X} (p q : ℕ) → p ≤ q → (p ≡ q → x ≡ y) → (p < q → x ≡ y) → x ≡ y
@@ -58,26 +60,32 @@ module _ (s : Subject) (o : Order) (low high : ℕ) (body : Body) where
   abbrev loop : ℕ → Option ℕ → Body
   loop = loop_from s o low high body
 
-  fuelled-past : (fuel count : ℕ) (last : Option ℕ) (p : ℕ) (m : Marks) → s.end < p → fuelled fuel count last p m ≡ here p m
+  fuelled-past : (fuel count : ℕ) (last : Option ℕ) (p : ℕ) (m : Marks) → s.end < p
+      → fuelled fuel count last p m ≡ here p m
   fuelled-past zero count last p m h = refl
-  fuelled-past (suc fuel) count last p m h = rw (none-past s p (body p m) h) (rw (cond-same {X = List Way} (may_repeat high count last p) []) (alone o p m))
+  fuelled-past (suc fuel) count last p m h =
+      rw (none-past s p (body p m) h) (rw (cond-same {X = List Way} (may_repeat high count last p) []) (alone o p m))
 
   fuelled-stays : (fuel count p q : ℕ) (m : Marks) → p ≡ q → fuelled fuel count (Some p) q m ≡ here q m
   fuelled-stays zero count p q m e = refl
   fuelled-stays (suc fuel) count p q m e = rw (stays high count p q e) (alone o q m)
 
   -- fuel that reaches past the window's end is enough
-  fuelled-enough : (a b count : ℕ) (last : Option ℕ) (p : ℕ) (m : Marks) → s.end < p + a → s.end < p + b → fuelled a count last p m ≡ fuelled b count last p m
+  fuelled-enough : (a b count : ℕ) (last : Option ℕ) (p : ℕ) (m : Marks) → s.end < p + a → s.end < p + b
+      → fuelled a count last p m ≡ fuelled b count last p m
   fuelled-enough zero b count last p m h k = sym (fuelled-past b count last p m (omega arith))
   fuelled-enough (suc a) zero count last p m h k = fuelled-past (suc a) count last p m (omega arith)
   fuelled-enough (suc a) (suc b) count last p m h k =
-      let each : (w : Way) → Between s p w → fuelled a (count + 1) (Some p) w.stop w.marks ≡ fuelled b (count + 1) (Some p) w.stop w.marks = λ w l.
+      let each : (w : Way) → Between s p w
+      → fuelled a (count + 1) (Some p) w.stop w.marks ≡ fuelled b (count + 1) (Some p) w.stop w.marks = λ w l.
       by_progress p w.stop l.0
       (λ e. fuelled-stays a (count + 1) p w.stop w.marks e ∙ sym (fuelled-stays b (count + 1) p w.stop w.marks e))
       (λ n. fuelled-enough a b (count + 1) (Some p) w.stop w.marks (omega arith) (omega arith)) in
-      ap (λ l. ordered o (cond (may_repeat high count last p) l []) (here p m)) (followed-same s body (fuelled a (count + 1) (Some p)) (fuelled b (count + 1) (Some p)) p m each)
+      ap (λ l. ordered o (cond (may_repeat high count last p) l []) (here p m))
+      (followed-same s body (fuelled a (count + 1) (Some p)) (fuelled b (count + 1) (Some p)) p m each)
 
-  owed-none : (count : ℕ) (last : Option ℕ) (p : ℕ) (m : Marks) → low ≤ count → loop count last p m ≡ fuelled (s.end + 1 - p) count last p m
+  owed-none : (count : ℕ) (last : Option ℕ) (p : ℕ) (m : Marks) → low ≤ count
+      → loop count last p m ≡ fuelled (s.end + 1 - p) count last p m
   owed-none count last p m h =
       let owed : low - count ≡ 0 = omega arith in
       let done : max low count ≡ count = omega arith in
@@ -91,17 +99,21 @@ module _ (s : Subject) (o : Order) (low high : ℕ) (body : Body) where
       let done : max low count ≡ max low (count + 1) = omega arith in
       ap (λ c. least s body (λ q k. more s o high body (s.end + 1 - q) c last q k) (low - count) p m) done ∙ rw owed
 
-  -- from it on the loop may end here; what follows a further body, where one may be tried, comes before that or after it
+  -- from it on the loop may end here; what follows a further body, where one may be tried,
+  -- comes before that or after it
   pub loop-beyond : (count : ℕ) (last : Option ℕ) (p : ℕ) (m : Marks) → low ≤ count
-      → loop count last p m ≡ ordered o (cond (may_repeat high count last p) (followed s body (loop (count + 1) (Some p)) p m) []) (here p m)
+      → loop count last p m
+      ≡ ordered o (cond (may_repeat high count last p) (followed s body (loop (count + 1) (Some p)) p m) []) (here p m)
   loop-beyond count last p m h =
       let fuel : ℕ = s.end + 1 - p in
-      let each : (w : Way) → Between s p w → fuelled fuel (count + 1) (Some p) w.stop w.marks ≡ loop (count + 1) (Some p) w.stop w.marks = λ w l.
+      let each : (w : Way) → Between s p w
+      → fuelled fuel (count + 1) (Some p) w.stop w.marks ≡ loop (count + 1) (Some p) w.stop w.marks = λ w l.
       fuelled-enough fuel (s.end + 1 - w.stop) (count + 1) (Some p) w.stop w.marks (omega arith) (omega arith)
       ∙ sym (owed-none (count + 1) (Some p) w.stop w.marks (omega arith)) in
       owed-none count last p m h
       ∙ fuelled-enough fuel (suc fuel) count last p m (omega arith) (omega arith)
-      ∙ ap (λ l. ordered o (cond (may_repeat high count last p) l []) (here p m)) (followed-same s body (fuelled fuel (count + 1) (Some p)) (loop (count + 1) (Some p)) p m each)
+      ∙ ap (λ l. ordered o (cond (may_repeat high count last p) l []) (here p m))
+      (followed-same s body (fuelled fuel (count + 1) (Some p)) (loop (count + 1) (Some p)) p m each)
 
   -- a loop's ways are those after no body
   pub loop-ways : (p : ℕ) (m : Marks) → loop_ways s o low high body p m ≡ loop 0 None p m
@@ -113,10 +125,13 @@ module _ (s : Subject) (o : Order) (low high : ℕ) (body : Body) where
   -- the same two cases over all ways of a body, where these lie between
   pub loop-below-all : Bounded s body → (count : ℕ) (last : Option ℕ) (p : ℕ) (m : Marks) → p ≤ s.end → count < low
       → loop count last p m ≡ flat_map (λ w. loop (count + 1) last w.stop w.marks) (body p m)
-  loop-below-all b count last p m l h = loop-below count last p m h ∙ followed-all s body (loop (count + 1) last) p m b l
+  loop-below-all b count last p m l h =
+      loop-below count last p m h ∙ followed-all s body (loop (count + 1) last) p m b l
 
   pub loop-beyond-all : Bounded s body → (count : ℕ) (last : Option ℕ) (p : ℕ) (m : Marks) → p ≤ s.end → low ≤ count
-      → loop count last p m ≡ ordered o (cond (may_repeat high count last p) (flat_map (λ w. loop (count + 1) (Some p) w.stop w.marks) (body p m)) []) (here p m)
+      → loop count last p m ≡ ordered o (cond (may_repeat high count last p)
+      (flat_map (λ w. loop (count + 1) (Some p) w.stop w.marks) (body p m)) []) (here p m)
   loop-beyond-all b count last p m l h =
       loop-beyond count last p m h
-      ∙ ap (λ l. ordered o (cond (may_repeat high count last p) l []) (here p m)) (followed-all s body (loop (count + 1) (Some p)) p m b l)
+      ∙ ap (λ l. ordered o (cond (may_repeat high count last p) l []) (here p m))
+      (followed-all s body (loop (count + 1) (Some p)) p m b l)

@@ -24,28 +24,34 @@ use Rattle.sre_model.proofs.Unique.{test_same}
 
 -- a turn is determined, family by family
 
-same_test : (ws : List ℕ) (s : Subject) (i : ℕ) (x : Spot) (a b : Move) → TestMove ws s i x a → TestMove ws s i x b → a ≡ b
+same_test : (ws : List ℕ) (s : Subject) (i : ℕ) (x : Spot) (a b : Move) → TestMove ws s i x a
+    → TestMove ws s i x b → a ≡ b
 same_test ws s i x a b h k =
-    let same = test_same h.test k.test ws i h.end k.end h.stands.code h.stands.operands k.stands.code k.stands.operands in
+    let same =
+    test_same h.test k.test ws i h.end k.end h.stands.code h.stands.operands k.stands.code k.stands.operands in
     h.is ∙ rw (same.0, same.1) (sym k.is)
 
-same_at_code : (ws : List ℕ) (s : Subject) (i : ℕ) (x : Spot) (a b : Move) → AtMove ws s i x a → AtMove ws s i x b → a ≡ b
+same_at_code : (ws : List ℕ) (s : Subject) (i : ℕ) (x : Spot) (a b : Move) → AtMove ws s i x a
+    → AtMove ws s i x b → a ≡ b
 same_at_code ws s i x a b h k = h.is ∙ rw (same_at ws (i + 1) h.code k.code h.there k.there) (sym k.is)
 
 same_mark : (ws : List ℕ) (i : ℕ) (x : Spot) (a b : Move) → MarkMove ws i x a → MarkMove ws i x b → a ≡ b
 same_mark ws i x a b h k = h.is ∙ rw (same_word ws (i + 1) h.number k.number h.there k.there) (sym k.is)
 
-same_alternatives : (ws : List ℕ) (q : ℕ) (x : Spot) (a b : Move) → AlternativesMove ws q x a → AlternativesMove ws q x b → a ≡ b
+same_alternatives : (ws : List ℕ) (q : ℕ) (x : Spot) (a b : Move) → AlternativesMove ws q x a
+    → AlternativesMove ws q x b → a ≡ b
 same_alternatives ws q x a b h k = h.is ∙ rw (same_word ws q h.value k.value h.there k.there) (sym k.is)
 
-same_operands : (ws : List ℕ) (i low high end low' high' end' : ℕ) (t u : Test) → RunOperands ws i low high end t → RunOperands ws i low' high' end' u → (low ≡ low') × (high ≡ high') × (t ≡ u)
+same_operands : (ws : List ℕ) (i low high end low' high' end' : ℕ) (t u : Test) → RunOperands ws i low high end t
+    → RunOperands ws i low' high' end' u → (low ≡ low') × (high ≡ high') × (t ≡ u)
 same_operands ws i low high end low' high' end' t u h k = (
   same_word ws (i + 2) low low' h.lowest k.lowest,
   same_word ws (i + 3) high high' h.highest k.highest,
   (test_same t u ws (i + 4) end end' h.stands.code h.stands.operands k.stands.code k.stands.operands).0,
 )
 
-same_run : (ws : List ℕ) (s : Subject) (kind : RunKind) (i : ℕ) (x : Spot) (a b : Move) → RunMove ws s kind i x a → RunMove ws s kind i x b → a ≡ b
+same_run : (ws : List ℕ) (s : Subject) (kind : RunKind) (i : ℕ) (x : Spot) (a b : Move) → RunMove ws s kind i x a
+    → RunMove ws s kind i x b → a ≡ b
 same_run ws s kind i x a b h k =
     let same = same_operands ws i h.low h.high h.end k.low k.high k.end h.test k.test h.operands k.operands in
     let turn = λ (low high : ℕ) (t : Test). run_turn kind s i (skip ws (i + 1)) low high t x in
@@ -53,18 +59,23 @@ same_run ws s kind i x a b h k =
     let high : turn k.low h.high h.test ≡ turn k.low k.high h.test = ap (λ n. turn k.low n h.test) same.1 in
     h.is ∙ low ∙ high ∙ ap (λ t. turn k.low k.high t) same.2 ∙ sym k.is
 
-same_longer : (ws : List ℕ) (s : Subject) (i n : ℕ) (x : Spot) (a b : Move) → LongerMove ws s i n x a → LongerMove ws s i n x b → a ≡ b
+same_longer : (ws : List ℕ) (s : Subject) (i n : ℕ) (x : Spot) (a b : Move) → LongerMove ws s i n x a
+    → LongerMove ws s i n x b → a ≡ b
 same_longer ws s i n x a b h k =
     let same = same_operands ws i h.low h.high h.end k.low k.high k.end h.test k.test h.operands k.operands in
     h.is ∙ rw (same.1, same.2) (sym k.is)
 
-same_until : (ws : List ℕ) (o : Order) (u : ℕ) (x : Spot) (a b : Move) → UntilMove ws o u x a → UntilMove ws o u x b → a ≡ b
+same_until : (ws : List ℕ) (o : Order) (u : ℕ) (x : Spot) (a b : Move) → UntilMove ws o u x a
+    → UntilMove ws o u x b → a ≡ b
 same_until ws o u x a b h k =
     let frames : h.frame ∷ h.outer ≡ k.frame ∷ k.outer = sym h.inside ∙ k.inside in
     let frame : h.frame ≡ k.frame = cc in
     let outer : h.outer ≡ k.outer = cc in
-    let low : h.low ≡ k.low = same_word ws (k.frame.repeat + 2) h.low k.low (subst (λ f. Word ws (f.repeat + 2) h.low) frame h.lowest) k.lowest in
-    let high : h.high ≡ k.high = same_word ws (k.frame.repeat + 3) h.high k.high (subst (λ f. Word ws (f.repeat + 3) h.high) frame h.highest) k.highest in
+    let low : h.low ≡ k.low =
+    same_word ws (k.frame.repeat + 2) h.low k.low (subst (λ f. Word ws (f.repeat + 2) h.low) frame h.lowest) k.lowest in
+    let high : h.high ≡ k.high =
+    same_word ws (k.frame.repeat + 3) h.high k.high
+    (subst (λ f. Word ws (f.repeat + 3) h.high) frame h.highest) k.highest in
     h.is ∙ rw (low, high, frame, outer) (sym k.is)
 
 same_again : (ws : List ℕ) (x : Spot) (a b : Move) → AgainMove ws x a → AgainMove ws x b → a ≡ b
@@ -72,14 +83,18 @@ same_again ws x a b h k =
     let frames : h.frame ∷ h.outer ≡ k.frame ∷ k.outer = sym h.inside ∙ k.inside in
     let frame : h.frame ≡ k.frame = cc in
     let outer : h.outer ≡ k.outer = cc in
-    let low : h.low ≡ k.low = same_word ws (k.frame.repeat + 2) h.low k.low (subst (λ f. Word ws (f.repeat + 2) h.low) frame h.lowest) k.lowest in
-    let high : h.high ≡ k.high = same_word ws (k.frame.repeat + 3) h.high k.high (subst (λ f. Word ws (f.repeat + 3) h.high) frame h.highest) k.highest in
+    let low : h.low ≡ k.low =
+    same_word ws (k.frame.repeat + 2) h.low k.low (subst (λ f. Word ws (f.repeat + 2) h.low) frame h.lowest) k.lowest in
+    let high : h.high ≡ k.high =
+    same_word ws (k.frame.repeat + 3) h.high k.high
+    (subst (λ f. Word ws (f.repeat + 3) h.high) frame h.highest) k.highest in
     h.is ∙ rw (low, high, frame, outer) (sym k.is)
 
 same_look : (ws : List ℕ) (g : Sign) (i : ℕ) (x : Spot) (a b : Move) → LookMove ws g i x a → LookMove ws g i x b → a ≡ b
 same_look ws g i x a b h k = h.is ∙ rw (same_word ws (i + 2) h.back k.back h.there k.there) (sym k.is)
 
-same_in : (ws : List ℕ) (s : Subject) (f : Family) (i : ℕ) (x : Spot) (a b : Move) → InFamily ws s f i x a → InFamily ws s f i x b → a ≡ b
+same_in : (ws : List ℕ) (s : Subject) (f : Family) (i : ℕ) (x : Spot) (a b : Move) → InFamily ws s f i x a
+    → InFamily ws s f i x b → a ≡ b
 same_in ws s Failing i x a b h k = h ∙ sym k
 same_in ws s Ending i x a b h k = h ∙ sym k
 same_in ws s Testing i x a b h k = same_test ws s i x a b h k
@@ -96,7 +111,8 @@ same_in ws s (Looking g) i x a b h k = same_look ws g i x a b h k
 same_in ws s Unbuilt i x a b h k = absurd h
 
 -- a turn is determined
-pub moves_same : (ws : List ℕ) (s : Subject) (pt : Point) (x : Spot) (a b : Move) → MovesAt ws s pt x a → MovesAt ws s pt x b → a ≡ b
+pub moves_same : (ws : List ℕ) (s : Subject) (pt : Point) (x : Spot) (a b : Move) → MovesAt ws s pt x a
+    → MovesAt ws s pt x b → a ≡ b
 moves_same ws s (Instruction i) x a b h k =
     let same : family h.0 ≡ family k.0 = ap (λ o. family o) (same_opcode ws i h.0 k.0 h.1 k.1) in
     same_in ws s (family k.0) i x a b (subst (λ f. InFamily ws s f i x a) same h.2) k.2
@@ -107,16 +123,25 @@ moves_same ws s (Inside g) x a b h k = absurd h
 moves_same ws s Again x a b h k = same_again ws x a b h k
 
 -- so what comes of a spot comes of the one turn there
-pub comes : {ws : List ℕ} {s : Subject} {x : Spot} {os : List Way} {n : ℕ} (mv : Move) → Moves ws s x mv → Runs ws s x os n → Comes ws s x mv os n
-comes {ws} {s} {x} {os} {n} mv h (turns mv' h' d) = subst (λ z. Comes ws s x z os n) (moves_same ws s x.point x mv' mv h' h) d
+pub comes : {ws : List ℕ} {s : Subject} {x : Spot} {os : List Way} {n : ℕ} (mv : Move) → Moves ws s x mv
+    → Runs ws s x os n → Comes ws s x mv os n
+comes {ws} {s} {x} {os} {n} mv h (turns mv' h' d) =
+    subst (λ z. Comes ws s x z os n) (moves_same ws s x.point x mv' mv h' h) d
 
 -- what stands at an instruction
-pub in_family : {ws : List ℕ} {s : Subject} {i p n : ℕ} {fs : List Frame} {m : Marks} {os : List Way} (o : SreOpcode) (f : Family) → family o ≡ f → Opcode ws i o → Runs ws s (spot_at (Instruction i) fs p m) os n → (mv : Move) × InFamily ws s f i (spot_at (Instruction i) fs p m) mv
-in_family {ws} {s} {i} {p} {n} {fs} {m} o f e w (turns mv h d) =
-    (mv, subst (λ z. InFamily ws s z i (spot_at (Instruction i) fs p m) mv) (ap (λ z. family z) (same_opcode ws i h.0 o h.1 w) ∙ e) h.2)
+pub in_family : {ws : List ℕ} {s : Subject} {i p n : ℕ} {fs : List Frame} {m : Marks} {os : List Way} (o : SreOpcode)
+    (f : Family)
+    → family o ≡ f → Opcode ws i o → Runs ws s (spot_at (Instruction i) fs p m) os n
+    → (mv : Move) × InFamily ws s f i (spot_at (Instruction i) fs p m) mv
+in_family {ws} {s} {i} {p} {n} {fs} {m} o f e w (turns mv h d) = (
+  mv,
+  subst (λ z. InFamily ws s z i (spot_at (Instruction i) fs p m) mv)
+      (ap (λ z. family z) (same_opcode ws i h.0 o h.1 w) ∙ e) h.2,
+)
 
 -- a turn at an instruction whose family is known
-pub at_instruction : {ws : List ℕ} {s : Subject} {i : ℕ} {x : Spot} {mv : Move} (o : SreOpcode) (f : Family) → family o ≡ f → Opcode ws i o → InFamily ws s f i x mv → MovesAt ws s (Instruction i) x mv
+pub at_instruction : {ws : List ℕ} {s : Subject} {i : ℕ} {x : Spot} {mv : Move} (o : SreOpcode) (f : Family)
+    → family o ≡ f → Opcode ws i o → InFamily ws s f i x mv → MovesAt ws s (Instruction i) x mv
 at_instruction {ws} {s} {i} {x} {mv} o f e w h = (o, w, subst (λ z. InFamily ws s z i x mv) (sym e) h)
 
 -- there are outcomes, perhaps none, of a spot
@@ -125,79 +150,154 @@ pub record CanRun (ws : List ℕ) (s : Subject) (x : Spot) : Type 0 where
   pub turns : ℕ
   pub runs : Runs ws s x outcomes turns
 
-pub run_nothing : {ws : List ℕ} {s : Subject} {x : Spot} {os : List Way} {n : ℕ} → Moves ws s x Stop → Runs ws s x os n → os ≡ []
+pub run_nothing : {ws : List ℕ} {s : Subject} {x : Spot} {os : List Way} {n : ℕ} → Moves ws s x Stop
+    → Runs ws s x os n → os ≡ []
 run_nothing {ws} {s} {x} h d = go (comes Stop h d)
   where
     go : {os : List Way} {n : ℕ} → Comes ws s x Stop os n → os ≡ []
     go stops = refl
 
-pub run_goes : {ws : List ℕ} {s : Subject} {x : Spot} {os : List Way} {n : ℕ} (y : Spot) → Moves ws s x (Go y) → Runs ws s x os n → CanRun ws s y
+pub run_goes : {ws : List ℕ} {s : Subject} {x : Spot} {os : List Way} {n : ℕ} (y : Spot) → Moves ws s x (Go y)
+    → Runs ws s x os n → CanRun ws s y
 run_goes {ws} {s} {x} y h d = go (comes (Go y) h d)
   where
     go : {os : List Way} {n : ℕ} → Comes ws s x (Go y) os n → CanRun ws s y
     go (goes e) = record { outcomes = _; turns = _; runs = e }
 
-pub run_splits : {ws : List ℕ} {s : Subject} {x : Spot} {os : List Way} {n : ℕ} (y z : Spot) → Moves ws s x (Split y z) → Runs ws s x os n → CanRun ws s y × CanRun ws s z
+pub run_splits : {ws : List ℕ} {s : Subject} {x : Spot} {os : List Way} {n : ℕ} (y z : Spot) → Moves ws s x (Split y z)
+    → Runs ws s x os n → CanRun ws s y × CanRun ws s z
 run_splits {ws} {s} {x} y z h d = go (comes (Split y z) h d)
   where
     go : {os : List Way} {n : ℕ} → Comes ws s x (Split y z) os n → CanRun ws s y × CanRun ws s z
     go (splits e f) = (record { outcomes = _; turns = _; runs = e }, record { outcomes = _; turns = _; runs = f })
 
 -- a spot on a board, at a cursor that stands
-pub has_run : (r : Run) (pt : Point) (fs : List Frame) (m : Marks) (c : StringCursor) → r.stands c c.position → CanRun r.words r.subject (spot_at pt fs c.position m) → HasRun r pt c
-has_run r pt fs m c there x = record { frames = fs; marks = m; outcomes = x.outcomes; turns = x.turns; stands = there; runs = x.runs }
+pub has_run : (r : Run) (pt : Point) (fs : List Frame) (m : Marks) (c : StringCursor) → r.stands c c.position
+    → CanRun r.words r.subject (spot_at pt fs c.position m) → HasRun r pt c
+has_run r pt fs m c there x =
+    record { frames = fs; marks = m; outcomes = x.outcomes; turns = x.turns; stands = there; runs = x.runs }
 
 pub on_board : (r : Run) (pt : Point) (c : StringCursor) (b : BoardValue) → IsAt r pt c b → HasRun r pt c
-on_board r pt c b x = record { frames = b.frames; marks = b.marks; outcomes = x.outcomes; turns = x.turns; stands = x.stands; runs = x.runs }
+on_board r pt c b x = record {
+  frames = b.frames;
+  marks = b.marks;
+  outcomes = x.outcomes;
+  turns = x.turns;
+  stands = x.stands;
+  runs = x.runs;
+}
 
-pub goes_there : (r : Run) (all : List Way) (limit : ℕ) (pt : Point) (c : StringCursor) (b : BoardValue) → Goes r all limit pt c b → IsAt r pt c b
+pub goes_there : (r : Run) (all : List Way) (limit : ℕ) (pt : Point) (c : StringCursor) (b : BoardValue)
+    → Goes r all limit pt c b → IsAt r pt c b
 goes_there r all limit pt c b g = record { outcomes = _; turns = _; stands = g.stands; runs = g.runs }
 
 -- what one turn keeps
 module _ (r : Run) (pt : Point) (c : StringCursor) (b : BoardValue) where
-  pub turn_stops : Moves r.words r.subject (spot pt c b) Stop → (all : List Way) (limit : ℕ) → Goes r all limit pt c b → Later r all limit next.Back b
+  pub turn_stops : Moves r.words r.subject (spot pt c b) Stop → (all : List Way) (limit : ℕ) → Goes r all limit pt c b
+      → Later r all limit next.Back b
   turn_stops h all limit g = go (comes Stop h g.runs) g.waits g.within
     where
-      go : {os : List Way} {n k : ℕ} → Comes r.words r.subject (spot pt c b) Stop os n → Waits r b.choices os all k → n + k ≤ limit → Later r all limit next.Back b
+      go : {os : List Way} {n k : ℕ} → Comes r.words r.subject (spot pt c b) Stop os n → Waits r b.choices os all k
+          → n + k ≤ limit → Later r all limit next.Back b
       go stops wt l = (omega arith, record { later = _; waits = wt; within = omega arith })
 
-  pub turn_ends : Moves r.words r.subject (spot pt c b) End → (all : List Way) (limit : ℕ) → Goes r all limit pt c b → Later r all limit (next.Done c) b
+  pub turn_ends : Moves r.words r.subject (spot pt c b) End → (all : List Way) (limit : ℕ) → Goes r all limit pt c b
+      → Later r all limit (next.Done c) b
   turn_ends h all limit g = go (comes End h g.runs) g.waits g.within
     where
-      go : {os : List Way} {n k : ℕ} → Comes r.words r.subject (spot pt c b) End os n → Waits r b.choices os all k → n + k ≤ limit → Later r all limit (next.Done c) b
+      go : {os : List Way} {n k : ℕ} → Comes r.words r.subject (spot pt c b) End os n → Waits r b.choices os all k
+          → n + k ≤ limit → Later r all limit (next.Done c) b
       go ends wt l = (omega arith, record { later = _; stands = g.stands; waits = wt; within = omega arith })
 
-  pub turn_goes : (pt' : Point) (c' : StringCursor) (b' : BoardValue) → Moves r.words r.subject (spot pt c b) (Go (spot pt' c' b')) → r.stands c' c'.position → b'.choices ≡ b.choices → (all : List Way) (limit : ℕ) → Goes r all limit pt c b → (1 ≤ limit) × Goes r all (limit - 1) pt' c' b'
+  pub turn_goes : (pt' : Point) (c' : StringCursor) (b' : BoardValue)
+      → Moves r.words r.subject (spot pt c b) (Go (spot pt' c' b')) → r.stands c' c'.position → b'.choices ≡ b.choices
+      → (all : List Way) (limit : ℕ) → Goes r all limit pt c b → (1 ≤ limit) × Goes r all (limit - 1) pt' c' b'
   turn_goes pt' c' b' h there e all limit g = go (comes (Go (spot pt' c' b')) h g.runs) g.waits g.within
     where
-      go : {os : List Way} {n k : ℕ} → Comes r.words r.subject (spot pt c b) (Go (spot pt' c' b')) os n → Waits r b.choices os all k → n + k ≤ limit → (1 ≤ limit) × Goes r all (limit - 1) pt' c' b'
-      go {os} {n} {k} (goes d) wt l = (omega arith, record { now = _; turns = _; later = _; stands = there; runs = d; waits = subst (λ x. Waits r x os all k) (sym e) wt; within = omega arith })
+      go : {os : List Way} {n k : ℕ} → Comes r.words r.subject (spot pt c b) (Go (spot pt' c' b')) os n
+          → Waits r b.choices os all k → n + k ≤ limit → (1 ≤ limit) × Goes r all (limit - 1) pt' c' b'
+      go {os} {n} {k} (goes d) wt l = (
+        omega arith,
+        record {
+          now = _;
+          turns = _;
+          later = _;
+          stands = there;
+          runs = d;
+          waits = subst (λ x. Waits r x os all k) (sym e) wt;
+          within = omega arith;
+        },
+      )
 
   -- two spots come of it, at another cursor perhaps
-  pub turn_splits : (y z : Spot) (c' : StringCursor) → Moves r.words r.subject (spot pt c b) (Split y z) → r.stands c' c'.position → (all : List Way) (limit : ℕ) → Goes r all limit pt c b → GoesBoth r all limit y z c' b.choices
+  pub turn_splits : (y z : Spot) (c' : StringCursor) → Moves r.words r.subject (spot pt c b) (Split y z)
+      → r.stands c' c'.position → (all : List Way) (limit : ℕ) → Goes r all limit pt c b
+      → GoesBoth r all limit y z c' b.choices
   turn_splits y z c' h there all limit g = go (comes (Split y z) h g.runs) g.waits g.within
     where
-      go : {os : List Way} {n k : ℕ} → Comes r.words r.subject (spot pt c b) (Split y z) os n → Waits r b.choices os all k → n + k ≤ limit → GoesBoth r all limit y z c' b.choices
-      go (splits d e) wt l = record { now = _; next = _; turns = _; further = _; later = _; stands = there; runs = d; others = e; waits = wt; within = omega arith }
+      go : {os : List Way} {n k : ℕ} → Comes r.words r.subject (spot pt c b) (Split y z) os n
+          → Waits r b.choices os all k → n + k ≤ limit → GoesBoth r all limit y z c' b.choices
+      go (splits d e) wt l = record {
+        now = _;
+        next = _;
+        turns = _;
+        further = _;
+        later = _;
+        stands = there;
+        runs = d;
+        others = e;
+        waits = wt;
+        within = omega arith;
+      }
 
 -- of two spots, the first comes to nothing
-pub both_pass : (r : Run) (i : ℕ) (second : Point) (c : StringCursor) (b : BoardValue) → Refuses r i c.position → (all : List Way) (limit : ℕ) → GoesBoth r all limit (spot (Instruction i) c b) (spot second c b) c b.choices → Goes r all limit second c b
+pub both_pass : (r : Run) (i : ℕ) (second : Point) (c : StringCursor) (b : BoardValue) → Refuses r i c.position
+    → (all : List Way) (limit : ℕ) → GoesBoth r all limit (spot (Instruction i) c b) (spot second c b) c b.choices
+    → Goes r all limit second c b
 both_pass r i second c b no_ all limit g =
-    record { now = g.next; turns = g.further; later = g.later; stands = g.stands; runs = g.others; waits = subst (λ x. Waits r b.choices (x ++ g.next) all g.later) (no_ b.frames b.marks g.now g.turns g.runs) g.waits; within = omega (arith, g.within) }
+    record {
+      now = g.next;
+      turns = g.further;
+      later = g.later;
+      stands = g.stands;
+      runs = g.others;
+      waits =
+          subst (λ x. Waits r b.choices (x ++ g.next) all g.later) (no_ b.frames b.marks g.now g.turns g.runs) g.waits;
+      within = omega (arith, g.within);
+    }
 
 -- the second waits on the board, and the machine goes on at the first
-pub both_wait : (r : Run) (i : ℕ) (z : Spot) (c : StringCursor) (b b' : BoardValue) (cs : List Choice) → z.position ≡ c.position → b'.choices ≡ Else z.point z.frames c z.marks ∷ cs → (all : List Way) (limit : ℕ) → GoesBoth r all limit (spot (Instruction i) c b') z c cs → Later r all limit (next.At i c) b'
+pub both_wait : (r : Run) (i : ℕ) (z : Spot) (c : StringCursor) (b b' : BoardValue) (cs : List Choice)
+    → z.position ≡ c.position → b'.choices ≡ Else z.point z.frames c z.marks ∷ cs → (all : List Way) (limit : ℕ)
+    → GoesBoth r all limit (spot (Instruction i) c b') z c cs → Later r all limit (next.At i c) b'
 both_wait r i z c b b' cs same_place eb all limit g =
-    let others : Runs r.words r.subject (spot_at z.point z.frames c.position z.marks) g.next g.further = subst (λ p. Runs r.words r.subject (spot_at z.point z.frames p z.marks) g.next g.further) same_place g.others in
-    (omega (arith, g.within), record { now = g.now; turns = g.turns; later = suc (g.further + g.later); stands = g.stands; runs = g.runs; waits = subst (λ x. Waits r x g.now all (suc (g.further + g.later))) (sym eb) (otherwise g.stands others g.waits); within = omega (arith, g.within) })
+    let others : Runs r.words r.subject (spot_at z.point z.frames c.position z.marks) g.next g.further =
+    subst (λ p. Runs r.words r.subject (spot_at z.point z.frames p z.marks) g.next g.further) same_place g.others in (
+      omega (arith, g.within),
+      record {
+        now = g.now;
+        turns = g.turns;
+        later = suc (g.further + g.later);
+        stands = g.stands;
+        runs = g.runs;
+        waits =
+            subst (λ x. Waits r x g.now all (suc (g.further + g.later))) (sym eb) (otherwise g.stands others g.waits);
+        within = omega (arith, g.within);
+      },
+    )
 
-both_other : (r : Run) (i : ℕ) (second : Point) (c : StringCursor) (b b' : BoardValue) → b' ≡ record b { choices = Else second b.frames c b.marks ∷ b.choices } → (all : List Way) (limit : ℕ) → GoesBoth r all limit (spot (Instruction i) c b) (spot second c b) c b.choices → Later r all limit (next.At i c) b'
+both_other : (r : Run) (i : ℕ) (second : Point) (c : StringCursor) (b b' : BoardValue)
+    → b' ≡ record b { choices = Else second b.frames c b.marks ∷ b.choices } → (all : List Way) (limit : ℕ)
+    → GoesBoth r all limit (spot (Instruction i) c b) (spot second c b) c b.choices → Later r all limit (next.At i c) b'
 both_other r i second c b b' eb all limit g =
     let waiting : BoardValue = record b { choices = Else second b.frames c b.marks ∷ b.choices } in
-    subst (λ x. Later r all limit (next.At i c) x) (sym eb) (both_wait r i (spot second c b) c b waiting b.choices refl refl all limit g)
+    subst (λ x. Later r all limit (next.At i c) x) (sym eb)
+    (both_wait r i (spot second c b) c b waiting b.choices refl refl all limit g)
 
 -- the second is any point; nobody stands inside a region
-pub both_choose : (r : Run) (i : ℕ) (second : Point) (c : StringCursor) (b b' : BoardValue) → b' ≡ record b { choices = choice second b.frames c b.marks ∷ b.choices } → (all : List Way) (limit : ℕ) → GoesBoth r all limit (spot (Instruction i) c b) (spot second c b) c b.choices → Later r all limit (next.At i c) b'
+pub both_choose : (r : Run) (i : ℕ) (second : Point) (c : StringCursor) (b b' : BoardValue)
+    → b' ≡ record b { choices = choice second b.frames c b.marks ∷ b.choices } → (all : List Way) (limit : ℕ)
+    → GoesBoth r all limit (spot (Instruction i) c b) (spot second c b) c b.choices → Later r all limit (next.At i c) b'
 both_choose r i (Inside h) c b b' eb all limit g = absurd (nowhere g.others)
   where
     nowhere : {os : List Way} {n : ℕ} → Runs r.words r.subject (spot (Inside h) c b) os n → ⊥
@@ -213,22 +313,49 @@ abbrev pub Barren : Run → Spot → Type 0
 Barren r x = (os : List Way) (n : ℕ) → Runs r.words r.subject x os n → os ≡ []
 
 -- nothing comes of the first of two spots, or of the second: the machine goes on at the other
-pub both_second : (r : Run) (y : Spot) (i : ℕ) (c : StringCursor) (b : BoardValue) (cs : List Choice) → Barren r y → b.choices ≡ cs → (all : List Way) (limit : ℕ) → GoesBoth r all limit y (spot (Instruction i) c b) c cs → Later r all limit (next.At i c) b
+pub both_second : (r : Run) (y : Spot) (i : ℕ) (c : StringCursor) (b : BoardValue) (cs : List Choice) → Barren r y
+    → b.choices ≡ cs → (all : List Way) (limit : ℕ) → GoesBoth r all limit y (spot (Instruction i) c b) c cs
+    → Later r all limit (next.At i c) b
 both_second r y i c b cs none e all limit g =
-    let same : g.now ++ g.next ≡ g.next = ap (λ x. x ++ g.next) (none g.now g.turns g.runs) in
-    (omega (arith, g.within), record { now = g.next; turns = g.further; later = g.later; stands = g.stands; runs = g.others; waits = subst (λ x. Waits r x g.next all g.later) (sym e) (subst (λ x. Waits r cs x all g.later) same g.waits); within = omega (arith, g.within) })
+    let same : g.now ++ g.next ≡ g.next = ap (λ x. x ++ g.next) (none g.now g.turns g.runs) in (
+      omega (arith, g.within),
+      record {
+        now = g.next;
+        turns = g.further;
+        later = g.later;
+        stands = g.stands;
+        runs = g.others;
+        waits = subst (λ x. Waits r x g.next all g.later) (sym e) (subst (λ x. Waits r cs x all g.later) same g.waits);
+        within = omega (arith, g.within);
+      },
+    )
 
-pub both_first : (r : Run) (z : Spot) (i : ℕ) (c : StringCursor) (b : BoardValue) (cs : List Choice) → Barren r z → b.choices ≡ cs → (all : List Way) (limit : ℕ) → GoesBoth r all limit (spot (Instruction i) c b) z c cs → Later r all limit (next.At i c) b
+pub both_first : (r : Run) (z : Spot) (i : ℕ) (c : StringCursor) (b : BoardValue) (cs : List Choice) → Barren r z
+    → b.choices ≡ cs → (all : List Way) (limit : ℕ) → GoesBoth r all limit (spot (Instruction i) c b) z c cs
+    → Later r all limit (next.At i c) b
 both_first r z i c b cs none e all limit g =
-    let same : g.now ++ g.next ≡ g.now = ap (λ x. g.now ++ x) (none g.next g.further g.others) ∙ append-nil g.now in
-    (omega (arith, g.within), record { now = g.now; turns = g.turns; later = g.later; stands = g.stands; runs = g.runs; waits = subst (λ x. Waits r x g.now all g.later) (sym e) (subst (λ x. Waits r cs x all g.later) same g.waits); within = omega (arith, g.within) })
+    let same : g.now ++ g.next ≡ g.now = ap (λ x. g.now ++ x) (none g.next g.further g.others) ∙ append-nil g.now in (
+      omega (arith, g.within),
+      record {
+        now = g.now;
+        turns = g.turns;
+        later = g.later;
+        stands = g.stands;
+        runs = g.runs;
+        waits = subst (λ x. Waits r x g.now all g.later) (sym e) (subst (λ x. Waits r cs x all g.later) same g.waits);
+        within = omega (arith, g.within);
+      },
+    )
 
 -- where the second can make no turn but the last
-pub both_last : (r : Run) (i : ℕ) (z : Spot) (c : StringCursor) (b : BoardValue) → Moves r.words r.subject z Stop → (all : List Way) (limit : ℕ) → GoesBoth r all limit (spot (Instruction i) c b) z c b.choices → Later r all limit (next.At i c) b
+pub both_last : (r : Run) (i : ℕ) (z : Spot) (c : StringCursor) (b : BoardValue) → Moves r.words r.subject z Stop
+    → (all : List Way) (limit : ℕ) → GoesBoth r all limit (spot (Instruction i) c b) z c b.choices
+    → Later r all limit (next.At i c) b
 both_last r i z c b none = both_first r z i c b b.choices (λ os n x. run_nothing none x) refl
 
 -- a region is entered: what comes of it waits on the board, and the machine goes on at its body
-pub turn_enters : (r : Run) (pt : Point) (fs : List Frame) (j : ℕ) (g : Region) (c c' : StringCursor) (b b' : BoardValue)
+pub turn_enters : (r : Run) (pt : Point) (fs : List Frame) (j : ℕ) (g : Region) (c c' : StringCursor)
+    (b b' : BoardValue)
     → Moves r.words r.subject (spot pt c b) (Enter g (spot_at pt fs c.position b.marks) (spot (Instruction j) c' b'))
     → r.stands c' c'.position → b'.choices ≡ Keep g fs c b.marks ∷ b.choices
     → (all : List Way) (limit : ℕ) → Goes r all limit pt c b → Later r all limit (next.At j c') b'
@@ -244,12 +371,26 @@ turn_enters r pt fs j g c c' b b' h there e all limit st = go (comes (Enter g y 
         → Waits r b.choices os all k → n + k ≤ limit → Later r all limit (next.At j c') b'
     go {os} {n} {k} (enters {now = now} {n₁ = n₁} {n₂ = n₂} d f) wt l =
         let behind : Waits r (Keep g fs c b.marks ∷ b.choices) now all (n₂ + k) = kept {pt = pt} st.stands f wt in
-        let later : Waits r b'.choices now all (n₂ + k) = subst (λ x. Waits r x now all (n₂ + k)) (sym e) behind in
-        (omega arith, record { now = now; turns = n₁; later = n₂ + k; stands = there; runs = d; waits = later; within = omega arith })
+        let later : Waits r b'.choices now all (n₂ + k) = subst (λ x. Waits r x now all (n₂ + k)) (sym e) behind in (
+          omega arith,
+          record {
+            now = now;
+            turns = n₁;
+            later = n₂ + k;
+            stands = there;
+            runs = d;
+            waits = later;
+            within = omega arith;
+          },
+        )
 
 -- of a region that has an outcome, the other choices inside it do not matter
-pub cut_waits : (r : Run) (cs rest : List Choice) (g : Region) (fs : List Frame) (c : StringCursor) (m : Marks) (w : Way) (ws all : List Way) (k : ℕ) → from_region cs ≡ Keep g fs c m ∷ rest → Waits r cs (w ∷ ws) all k → (us : List Way) × (j : ℕ) × (j ≤ k) × Waits r (Keep g fs c m ∷ rest) (w ∷ us) all j
+pub cut_waits : (r : Run) (cs rest : List Choice) (g : Region) (fs : List Frame) (c : StringCursor) (m : Marks)
+    (w : Way) (ws all : List Way) (k : ℕ)
+    → from_region cs ≡ Keep g fs c m ∷ rest → Waits r cs (w ∷ ws) all k
+    → (us : List Way) × (j : ℕ) × (j ≤ k) × Waits r (Keep g fs c m ∷ rest) (w ∷ us) all j
 cut_waits r [] rest g fs c m w ws all k e wt = absurd (cc)
 cut_waits r (Else pt gs d l ∷ cs) rest g fs c m w ws all k e (otherwise {n = n} {k = k'} {os = os} there x wt) =
     let u = cut_waits r cs rest g fs c m w (ws ++ os) all k' e wt in (u.0, u.1, omega (arith, u.2), u.3)
-cut_waits r (Keep h gs d l ∷ cs) rest g fs c m w ws all k e wt = (ws, k, omega arith, subst (λ x. Waits r x (w ∷ ws) all k) e wt)
+cut_waits r (Keep h gs d l ∷ cs) rest g fs c m w ws all k e wt =
+    (ws, k, omega arith, subst (λ x. Waits r x (w ∷ ws) all k) e wt)

@@ -11,8 +11,14 @@ use Rattle.sre_model.proofs.Words.{word_of, same_opcode}
 use Rattle.sre_model.proofs.Members.{one_item_member}
 
 -- an opcode other than those of tests is not reached
-pub only_tests : (ws : List ℕ) (i : ℕ) (o : SreOpcode) → HasTest ws i → Opcode ws i o → o ≢ opcode.ANY → o ≢ opcode.ANY_ALL → o ≢ opcode.CATEGORY → o ≢ opcode.LITERAL → o ≢ opcode.LITERAL_IGNORE → o ≢ opcode.LITERAL_LOC_IGNORE → o ≢ opcode.LITERAL_UNI_IGNORE → o ≢ opcode.NOT_LITERAL → o ≢ opcode.NOT_LITERAL_IGNORE → o ≢ opcode.NOT_LITERAL_LOC_IGNORE → o ≢ opcode.NOT_LITERAL_UNI_IGNORE → o ≢ opcode.IN → o ≢ opcode.IN_IGNORE → o ≢ opcode.IN_LOC_IGNORE → o ≢ opcode.IN_UNI_IGNORE → ⊥
-only_tests ws i o h w any any_all category literal literal_ignore literal_loc_ignore literal_uni_ignore not_literal not_literal_ignore not_literal_loc_ignore not_literal_uni_ignore in_plain in_ignore in_loc_ignore in_uni_ignore = go h.test h.stands.code
+pub only_tests : (ws : List ℕ) (i : ℕ) (o : SreOpcode) → HasTest ws i → Opcode ws i o
+    → o ≢ opcode.ANY → o ≢ opcode.ANY_ALL → o ≢ opcode.CATEGORY → o ≢ opcode.LITERAL → o ≢ opcode.LITERAL_IGNORE
+    → o ≢ opcode.LITERAL_LOC_IGNORE → o ≢ opcode.LITERAL_UNI_IGNORE → o ≢ opcode.NOT_LITERAL
+    → o ≢ opcode.NOT_LITERAL_IGNORE → o ≢ opcode.NOT_LITERAL_LOC_IGNORE → o ≢ opcode.NOT_LITERAL_UNI_IGNORE
+    → o ≢ opcode.IN → o ≢ opcode.IN_IGNORE → o ≢ opcode.IN_LOC_IGNORE → o ≢ opcode.IN_UNI_IGNORE → ⊥
+only_tests ws i o h w any any_all category literal literal_ignore literal_loc_ignore literal_uni_ignore not_literal
+    not_literal_ignore not_literal_loc_ignore not_literal_uni_ignore in_plain in_ignore in_loc_ignore in_uni_ignore =
+    go h.test h.stands.code
   where
     go : (t : Test) → Opcode ws i (test_opcode t) → ⊥
     go Any x = any (same_opcode ws i o opcode.ANY w x)
@@ -32,7 +38,8 @@ only_tests ws i o h w any any_all category literal literal_ignore literal_loc_ig
     go (In Unicode set) x = in_uni_ignore (same_opcode ws i o opcode.IN_UNI_IGNORE w x)
 
 -- a test where ANY_ALL is takes each character
-pub any_all_takes : (ws : List ℕ) (table : Table) (i j c : ℕ) (t : Test) → Opcode ws i opcode.ANY_ALL → TestStands ws i j t → holds table t c ≡ true
+pub any_all_takes : (ws : List ℕ) (table : Table) (i j c : ℕ) (t : Test) → Opcode ws i opcode.ANY_ALL
+    → TestStands ws i j t → holds table t c ≡ true
 any_all_takes ws table i j c t w s = go t (same_opcode ws i opcode.ANY_ALL (test_opcode t) w s.code)
   where
     go : (u : Test) → opcode.ANY_ALL ≡ test_opcode u → holds table u c ≡ true
@@ -43,15 +50,19 @@ abbrev pub IsSetOpcode : SreOpcode → Type 0
 IsSetOpcode o = (o ≡ opcode.IN) ⊎ ((o ≡ opcode.IN_IGNORE) ⊎ ((o ≡ opcode.IN_LOC_IGNORE) ⊎ (o ≡ opcode.IN_UNI_IGNORE)))
 
 -- where a test ends: behind its set, or behind its one operand
-pub set_test_end : (ws : List ℕ) (i j v : ℕ) (o : SreOpcode) (t : Test) → Opcode ws i o → IsSetOpcode o → Word ws (i + 1) v → TestStands ws i j t → i + 1 + v ≡ j
+pub set_test_end : (ws : List ℕ) (i j v : ℕ) (o : SreOpcode) (t : Test) → Opcode ws i o → IsSetOpcode o
+    → Word ws (i + 1) v → TestStands ws i j t → i + 1 + v ≡ j
 set_test_end ws i j v o t w e r s = go t e (same_opcode ws i o (test_opcode t) w s.code) s.operands
   where
     go : (u : Test) → IsSetOpcode o → o ≡ test_opcode u → TestOperands ws i j u → i + 1 + v ≡ j
     go (In f set) x y h = omega (arith, word_of ws (i + 1) v r)
     go u x y h = grind arith
 
-pub short_test_end : (ws : List ℕ) (i j : ℕ) (o : SreOpcode) (t : Test) → Opcode ws i o → o ≢ opcode.ANY → o ≢ opcode.ANY_ALL → o ≢ opcode.IN → o ≢ opcode.IN_IGNORE → o ≢ opcode.IN_LOC_IGNORE → o ≢ opcode.IN_UNI_IGNORE → TestStands ws i j t → i + 2 ≡ j
-short_test_end ws i j o t w any any_all plain ascii locale unicode s = go t (same_opcode ws i o (test_opcode t) w s.code) s.operands
+pub short_test_end : (ws : List ℕ) (i j : ℕ) (o : SreOpcode) (t : Test) → Opcode ws i o → o ≢ opcode.ANY
+    → o ≢ opcode.ANY_ALL → o ≢ opcode.IN → o ≢ opcode.IN_IGNORE → o ≢ opcode.IN_LOC_IGNORE → o ≢ opcode.IN_UNI_IGNORE
+    → TestStands ws i j t → i + 2 ≡ j
+short_test_end ws i j o t w any any_all plain ascii locale unicode s =
+    go t (same_opcode ws i o (test_opcode t) w s.code) s.operands
   where
     go : (u : Test) → o ≡ test_opcode u → TestOperands ws i j u → i + 2 ≡ j
     go Any e h = absurd (any e)
@@ -65,20 +76,26 @@ short_test_end ws i j o t w any any_all plain ascii locale unicode s = go t (sam
     go (NotLiteral fold v) e h = sym h.1
 
 -- an IN whose set is one item takes what the item holds for, in words that are read of a request
-pub one_item_takes : (ws read : List ℕ) (table : Table) (i j c skip n : ℕ) (b : Bool) (t : Test) → read ≡ ws → Opcode ws i opcode.IN → Word read (i + 1) skip → n ≡ i + skip → ItemSays read table (i + 2) c b n → TestStands ws i j t → b ≡ holds table t c
-one_item_takes ws read table i j c skip n b t same w k e x s = go t (same_opcode ws i opcode.IN (test_opcode t) w s.code) s.operands
+pub one_item_takes : (ws read : List ℕ) (table : Table) (i j c skip n : ℕ) (b : Bool) (t : Test) → read ≡ ws
+    → Opcode ws i opcode.IN → Word read (i + 1) skip → n ≡ i + skip → ItemSays read table (i + 2) c b n
+    → TestStands ws i j t → b ≡ holds table t c
+one_item_takes ws read table i j c skip n b t same w k e x s =
+    go t (same_opcode ws i opcode.IN (test_opcode t) w s.code) s.operands
   where
     go : (u : Test) → opcode.IN ≡ test_opcode u → TestOperands ws i j u → b ≡ holds table u c
     go (In Plain set) y h =
         let there : Word ws (i + 1) skip = subst (λ r. Word r (i + 1) skip) same k in
         let at : j - 1 ≡ n = omega (arith, word_of ws (i + 1) skip there) in
-        let stands : SetStands ws (i + 2) n set = subst (λ m. SetStands ws (i + 2) m set) at (record { items = h.1; ends = h.2 }) in
+        let stands : SetStands ws (i + 2) n set =
+        subst (λ m. SetStands ws (i + 2) m set) at (record { items = h.1; ends = h.2 }) in
         sym (one_item_member ws table (i + 2) n c b set stands (subst (λ r. ItemSays r table (i + 2) c b n) same x))
     go u y h = grind arith
 
 -- the set of an IN
 pub set_stands : (ws read : List ℕ) (i : ℕ) → read ≡ ws → Opcode ws i opcode.IN → HasTest ws i → HasSet read (i + 2)
-set_stands ws read i same w t = subst (λ r. HasSet r (i + 2)) (sym same) (go t.test (same_opcode ws i opcode.IN (test_opcode t.test) w t.stands.code) t.stands.operands)
+set_stands ws read i same w t =
+    subst (λ r. HasSet r (i + 2)) (sym same)
+    (go t.test (same_opcode ws i opcode.IN (test_opcode t.test) w t.stands.code) t.stands.operands)
   where
     go : (u : Test) → opcode.IN ≡ test_opcode u → TestOperands ws i t.end u → HasSet ws (i + 2)
     go (In f set) y h = record { end = t.end - 1; set = set; stands = record { items = h.1; ends = h.2 } }

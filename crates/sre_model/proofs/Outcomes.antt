@@ -25,10 +25,12 @@ Follows ws s p pt fs K C = (q : ℕ) (m : Marks) → p ≤ q → q ≤ s.end →
 
 -- from a point the outcomes are the ways W and what follows each of them at j
 abbrev pub Ran : List ℕ → Subject → Point → ℕ → Body → (Costs → Costs) → Type 0
-Ran ws s pt j W counted = (fs : List Frame) (K : Body) (C : Costs) (p : ℕ) (m : Marks) → p ≤ s.end → Follows ws s p (Instruction j) fs K C → Runs ws s (spot_at pt fs p m) (followed K (W p m)) (counted C p m)
+Ran ws s pt j W counted =
+    (fs : List Frame) (K : Body) (C : Costs) (p : ℕ) (m : Marks) → p ≤ s.end → Follows ws s p (Instruction j) fs K C
+    → Runs ws s (spot_at pt fs p m) (followed K (W p m)) (counted C p m)
 
-pub moved : {ws : List ℕ} {s : Subject} {fs : List Frame} {p n i j : ℕ} {m : Marks} {os : List Way} → j ≡ i →
-    Runs ws s (spot_at (Instruction j) fs p m) os n → Runs ws s (spot_at (Instruction i) fs p m) os n
+pub moved : {ws : List ℕ} {s : Subject} {fs : List Frame} {p n i j : ℕ} {m : Marks} {os : List Way} → j ≡ i
+    → Runs ws s (spot_at (Instruction j) fs p m) os n → Runs ws s (spot_at (Instruction i) fs p m) os n
 moved {ws} {s} {fs} {p} {n} {i} {j} {m} {os} e h = subst (λ x. Runs ws s (spot_at (Instruction x) fs p m) os n) e h
 
 -- one way alone
@@ -40,7 +42,9 @@ singles [] = refl
 singles (w ∷ os) = ap (λ l. w ∷ l) (singles os)
 
 -- a region, whose last word is SUCCESS
-pub region : (ws : List ℕ) (s : Subject) (i k : ℕ) (W : Body) (counted : Costs → Costs) →
-    Ran ws s (Instruction i) k W counted → Opcode ws k opcode.SUCCESS → (fs : List Frame) (p : ℕ) (m : Marks) →
-    p ≤ s.end → Runs ws s (spot_at (Instruction i) fs p m) (W p m) (counted ending p m)
-region ws s i k W counted r w fs p m e = subst (λ x. Runs ws s (spot_at (Instruction i) fs p m) x (counted ending p m)) (singles (W p m)) (r fs here ending p m e (λ q l _ _. turns End (at_instruction opcode.SUCCESS Ending refl w refl) ends))
+pub region : (ws : List ℕ) (s : Subject) (i k : ℕ) (W : Body) (counted : Costs → Costs)
+    → Ran ws s (Instruction i) k W counted → Opcode ws k opcode.SUCCESS → (fs : List Frame) (p : ℕ) (m : Marks)
+    → p ≤ s.end → Runs ws s (spot_at (Instruction i) fs p m) (W p m) (counted ending p m)
+region ws s i k W counted r w fs p m e =
+    subst (λ x. Runs ws s (spot_at (Instruction i) fs p m) x (counted ending p m)) (singles (W p m))
+    (r fs here ending p m e (λ q l _ _. turns End (at_instruction opcode.SUCCESS Ending refl w refl) ends))

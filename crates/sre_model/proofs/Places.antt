@@ -10,7 +10,8 @@ set_within ws i j (Range low high ∷ rest) r = omega (arith, set_within ws (i +
 set_within ws i j (RangeUniIgnore low high ∷ rest) r = omega (arith, set_within ws (i + 3) j rest r.3)
 set_within ws i j (Category c ∷ rest) r = omega (arith, set_within ws (i + 2) j rest r.2)
 set_within ws i j (Charset bits ∷ rest) r = omega (arith, set_within ws (i + 9) j rest r.3)
-set_within ws i j (BigCharset numbers bits ∷ rest) r = omega (arith, set_within ws (i + 66 + word ws (i + 1) * 8) j rest r.5)
+set_within ws i j (BigCharset numbers bits ∷ rest) r =
+    omega (arith, set_within ws (i + 66 + word ws (i + 1) * 8) j rest r.5)
 set_within ws i j (Negate ∷ rest) r = omega (arith, set_within ws (i + 1) j rest r.1)
 
 pub test_past : (t : Test) (ws : List ℕ) (i j : ℕ) → TestOperands ws i j t → i < j
@@ -39,7 +40,8 @@ mutual
   operands_past (Look sign back body) ws i j r = omega arith
   operands_past (Reference fold g) ws i j r = omega arith
   operands_past (Exists g there) ws i j r = omega arith
-  operands_past (ExistsElse g there absent) ws i j r = omega (arith, reads_within absent ws (i + 1 + word ws (i + 2)) j r.3)
+  operands_past (ExistsElse g there absent) ws i j r =
+      omega (arith, reads_within absent ws (i + 1 + word ws (i + 2)) j r.3)
 
   pub branch_past : (ts : Trees) (ws : List ℕ) (q j : ℕ) → ReadsBranch ws q j ts → q < j
   branch_past (Only t) ws q j r = omega arith
@@ -51,12 +53,20 @@ alternative_long ws q j (Only t) r = omega (arith, reads_within t ws (q + 1) (sk
 alternative_long ws q j (Or t ts) r = omega (arith, reads_within t ws (q + 1) (skip ws q - 2) r.0)
 
 pub reads_moved : (ws : List ℕ) (i i2 j j2 : ℕ) (t : Tree) → i ≡ i2 → j ≡ j2 → Reads ws i j t → Reads ws i2 j2 t
-reads_moved ws i i2 j j2 t e f r = let P : ℕ → Type 0 = λ n. Reads ws n j t in let Q : ℕ → Type 0 = λ n. Reads ws i2 n t in subst Q f (subst P e r)
+reads_moved ws i i2 j j2 t e f r =
+    let P : ℕ → Type 0 = λ n. Reads ws n j t in
+    let Q : ℕ → Type 0 = λ n. Reads ws i2 n t in
+    subst Q f (subst P e r)
 
-pub set_moved : (ws : List ℕ) (i i2 j j2 : ℕ) (s : List SetItem) → i ≡ i2 → j ≡ j2 → ReadsSet ws i j s → ReadsSet ws i2 j2 s
-set_moved ws i i2 j j2 s e f r = let P : ℕ → Type 0 = λ n. ReadsSet ws n j s in let Q : ℕ → Type 0 = λ n. ReadsSet ws i2 n s in subst Q f (subst P e r)
+pub set_moved : (ws : List ℕ) (i i2 j j2 : ℕ) (s : List SetItem) → i ≡ i2 → j ≡ j2 → ReadsSet ws i j s
+    → ReadsSet ws i2 j2 s
+set_moved ws i i2 j j2 s e f r =
+    let P : ℕ → Type 0 = λ n. ReadsSet ws n j s in
+    let Q : ℕ → Type 0 = λ n. ReadsSet ws i2 n s in
+    subst Q f (subst P e r)
 
 -- a reading that ends where it begins is empty
 pub reads_nothing : (ws : List ℕ) (i k : ℕ) (t : Tree) → Reads ws i k t → k ≡ i → t ≡ Empty
 reads_nothing ws i k Empty r e = refl
-reads_nothing ws i k (Then x t) r e = absurd (omega (arith, operands_past x ws i r.0 r.1.1, reads_within t ws r.0 k r.2))
+reads_nothing ws i k (Then x t) r e =
+    absurd (omega (arith, operands_past x ws i r.0 r.1.1, reads_within t ws r.0 k r.2))

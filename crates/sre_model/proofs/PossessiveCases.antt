@@ -9,20 +9,23 @@ use Rattle.sre_model.proofs.Each.{each-first, each-cond}
 use Rattle.sre_model.proofs.Bounds.{Between, EachBetween, Bounded, within-each, within-all}
 use Rattle.sre_model.proofs.LoopCases.{none-past, followed-all, by_progress, cond-same, stays}
 
-or_here-same : (s : Subject) (p : ℕ) (m : Marks) (f g : Body) → ((w : Way) → Between s p w → f w.stop w.marks ≡ g w.stop w.marks) → (ws : List Way) → EachBetween s p ws
+or_here-same : (s : Subject) (p : ℕ) (m : Marks) (f g : Body)
+    → ((w : Way) → Between s p w → f w.stop w.marks ≡ g w.stop w.marks) → (ws : List Way) → EachBetween s p ws
     → or_here f p m ws ≡ or_here g p m ws
 or_here-same s p m f g e [] b = refl
 or_here-same s p m f g e (w ∷ ws) b = e w b.0
 
 -- the way that may be gone on from lies between
-next-between : (s : Subject) (body : Body) (b : Bool) (p : ℕ) (m : Marks) → EachBetween s p (cond b (first_of_body s body p m) [])
+next-between : (s : Subject) (body : Body) (b : Bool) (p : ℕ) (m : Marks)
+    → EachBetween s p (cond b (first_of_body s body p m) [])
 next-between s body b p m =
     each-cond (Between s p) b (first_of_body s body p m) []
     (λ _. each-first (Between s p) (within s p (body p m)) (within-each s p (body p m)))
     (λ _. tt)
 
 -- of a body whose ways lie between, the first is the body's own
-pub first_of_body-all : (s : Subject) (body : Body) (p : ℕ) (m : Marks) → Bounded s body → p ≤ s.end → first_of_body s body p m ≡ first (body p m)
+pub first_of_body-all : (s : Subject) (body : Body) (p : ℕ) (m : Marks) → Bounded s body → p ≤ s.end
+    → first_of_body s body p m ≡ first (body p m)
 first_of_body-all s body p m b h = ap (first {A = Way}) (within-all s p (body p m) (b p m h))
 
 pub first-bounded : (s : Subject) (body : Body) → Bounded s (first_of_body s body)
@@ -41,10 +44,12 @@ module _ (s : Subject) (low high : ℕ) (body : Body) where
   abbrev next : ℕ → Option ℕ → Body
   next count last p m = cond (may_repeat high count last p) (first_of_body s body p m) []
 
-  fuelled-past : (fuel count : ℕ) (last : Option ℕ) (p : ℕ) (m : Marks) → s.end < p → fuelled fuel count last p m ≡ here p m
+  fuelled-past : (fuel count : ℕ) (last : Option ℕ) (p : ℕ) (m : Marks) → s.end < p
+      → fuelled fuel count last p m ≡ here p m
   fuelled-past zero count last p m h = refl
   fuelled-past (suc fuel) count last p m h =
-      let none : next count last p m ≡ [] = rw (none-past s p (body p m) h) (cond-same {X = List Way} (may_repeat high count last p) []) in
+      let none : next count last p m ≡ [] =
+      rw (none-past s p (body p m) h) (cond-same {X = List Way} (may_repeat high count last p) []) in
       ap (or_here (fuelled fuel (count + 1) (Some p)) p m) none
 
   fuelled-stays : (fuel count p q : ℕ) (m : Marks) → p ≡ q → fuelled fuel count (Some p) q m ≡ here q m
@@ -54,17 +59,21 @@ module _ (s : Subject) (low high : ℕ) (body : Body) where
       ap (or_here (fuelled fuel (count + 1) (Some q)) q m) none
 
   -- fuel that reaches past the window's end is enough
-  fuelled-enough : (a b count : ℕ) (last : Option ℕ) (p : ℕ) (m : Marks) → s.end < p + a → s.end < p + b → fuelled a count last p m ≡ fuelled b count last p m
+  fuelled-enough : (a b count : ℕ) (last : Option ℕ) (p : ℕ) (m : Marks) → s.end < p + a → s.end < p + b
+      → fuelled a count last p m ≡ fuelled b count last p m
   fuelled-enough zero b count last p m h k = sym (fuelled-past b count last p m (omega arith))
   fuelled-enough (suc a) zero count last p m h k = fuelled-past (suc a) count last p m (omega arith)
   fuelled-enough (suc a) (suc b) count last p m h k =
-      let each : (w : Way) → Between s p w → fuelled a (count + 1) (Some p) w.stop w.marks ≡ fuelled b (count + 1) (Some p) w.stop w.marks = λ w l.
+      let each : (w : Way) → Between s p w
+      → fuelled a (count + 1) (Some p) w.stop w.marks ≡ fuelled b (count + 1) (Some p) w.stop w.marks = λ w l.
       by_progress p w.stop l.0
       (λ e. fuelled-stays a (count + 1) p w.stop w.marks e ∙ sym (fuelled-stays b (count + 1) p w.stop w.marks e))
       (λ n. fuelled-enough a b (count + 1) (Some p) w.stop w.marks (omega arith) (omega arith)) in
-      or_here-same s p m (fuelled a (count + 1) (Some p)) (fuelled b (count + 1) (Some p)) each (next count last p m) (next-between s body (may_repeat high count last p) p m)
+      or_here-same s p m (fuelled a (count + 1) (Some p)) (fuelled b (count + 1) (Some p)) each (next count last p m)
+      (next-between s body (may_repeat high count last p) p m)
 
-  owed-none : (count : ℕ) (last : Option ℕ) (p : ℕ) (m : Marks) → low ≤ count → loop count last p m ≡ fuelled (s.end + 1 - p) count last p m
+  owed-none : (count : ℕ) (last : Option ℕ) (p : ℕ) (m : Marks) → low ≤ count
+      → loop count last p m ≡ fuelled (s.end + 1 - p) count last p m
   owed-none count last p m h =
       let owed : low - count ≡ 0 = omega arith in
       let done : max low count ≡ count = omega arith in
@@ -76,19 +85,24 @@ module _ (s : Subject) (low high : ℕ) (body : Body) where
   possessive-below count last p m h =
       let owed : low - count ≡ suc (low - (count + 1)) = omega arith in
       let done : max low count ≡ max low (count + 1) = omega arith in
-      ap (λ c. least s (first_of_body s body) (λ q k. possessive_more s high body (s.end + 1 - q) c last q k) (low - count) p m) done ∙ rw owed
+      ap (λ c. least s (first_of_body s body) (λ q k. possessive_more s high body (s.end + 1 - q) c last q k)
+      (low - count) p m) done ∙ rw owed
 
-  -- from it on the loop goes on from the first way of a further body, where one may be tried and has a way; else it ends here
+  -- from it on the loop goes on from the first way of a further body, where one may be tried and has a way;
+  -- else it ends here
   pub possessive-beyond : (count : ℕ) (last : Option ℕ) (p : ℕ) (m : Marks) → low ≤ count
-      → loop count last p m ≡ or_here (loop (count + 1) (Some p)) p m (cond (may_repeat high count last p) (first_of_body s body p m) [])
+      → loop count last p m
+      ≡ or_here (loop (count + 1) (Some p)) p m (cond (may_repeat high count last p) (first_of_body s body p m) [])
   possessive-beyond count last p m h =
       let fuel : ℕ = s.end + 1 - p in
-      let each : (w : Way) → Between s p w → fuelled fuel (count + 1) (Some p) w.stop w.marks ≡ loop (count + 1) (Some p) w.stop w.marks = λ w l.
+      let each : (w : Way) → Between s p w
+      → fuelled fuel (count + 1) (Some p) w.stop w.marks ≡ loop (count + 1) (Some p) w.stop w.marks = λ w l.
       fuelled-enough fuel (s.end + 1 - w.stop) (count + 1) (Some p) w.stop w.marks (omega arith) (omega arith)
       ∙ sym (owed-none (count + 1) (Some p) w.stop w.marks (omega arith)) in
       owed-none count last p m h
       ∙ fuelled-enough fuel (suc fuel) count last p m (omega arith) (omega arith)
-      ∙ or_here-same s p m (fuelled fuel (count + 1) (Some p)) (loop (count + 1) (Some p)) each (next count last p m) (next-between s body (may_repeat high count last p) p m)
+      ∙ or_here-same s p m (fuelled fuel (count + 1) (Some p)) (loop (count + 1) (Some p)) each (next count last p m)
+      (next-between s body (may_repeat high count last p) p m)
 
   -- a possessive loop's ways are those after no body
   pub possessive-ways : (p : ℕ) (m : Marks) → possessive_ways s low high body p m ≡ loop 0 None p m
@@ -98,15 +112,17 @@ module _ (s : Subject) (low high : ℕ) (body : Body) where
       rw (owed, done)
 
   -- the same two cases over all ways of a body, where these lie between
-  pub possessive-below-all : Bounded s body → (count : ℕ) (last : Option ℕ) (p : ℕ) (m : Marks) → p ≤ s.end → count < low
-      → loop count last p m ≡ flat_map (λ w. loop (count + 1) last w.stop w.marks) (first (body p m))
+  pub possessive-below-all : Bounded s body → (count : ℕ) (last : Option ℕ) (p : ℕ) (m : Marks) → p ≤ s.end
+      → count < low → loop count last p m ≡ flat_map (λ w. loop (count + 1) last w.stop w.marks) (first (body p m))
   possessive-below-all b count last p m l h =
       possessive-below count last p m h
       ∙ followed-all s (first_of_body s body) (loop (count + 1) last) p m (first-bounded s body) l
       ∙ ap (flat_map (λ w. loop (count + 1) last w.stop w.marks)) (first_of_body-all s body p m b l)
 
-  pub possessive-beyond-all : Bounded s body → (count : ℕ) (last : Option ℕ) (p : ℕ) (m : Marks) → p ≤ s.end → low ≤ count
-      → loop count last p m ≡ or_here (loop (count + 1) (Some p)) p m (cond (may_repeat high count last p) (first (body p m)) [])
+  pub possessive-beyond-all : Bounded s body → (count : ℕ) (last : Option ℕ) (p : ℕ) (m : Marks) → p ≤ s.end
+      → low ≤ count → loop count last p m
+      ≡ or_here (loop (count + 1) (Some p)) p m (cond (may_repeat high count last p) (first (body p m)) [])
   possessive-beyond-all b count last p m l h =
       possessive-beyond count last p m h
-      ∙ ap (λ ws. or_here (loop (count + 1) (Some p)) p m (cond (may_repeat high count last p) ws [])) (first_of_body-all s body p m b l)
+      ∙ ap (λ ws. or_here (loop (count + 1) (Some p)) p m (cond (may_repeat high count last p) ws []))
+      (first_of_body-all s body p m b l)

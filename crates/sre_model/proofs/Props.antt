@@ -9,10 +9,15 @@ use Rattle.sre_model.specs.Grammar.{IsCode}
 use Rattle.sre_model.proofs.Unique.{item_same, whole_same}
 
 -- the place between two readings is determined
-between : (A B : ℕ → Type 0) → ((k m : ℕ) → A k → A m → k ≡ m) → ((k : ℕ) → IsProp (A k)) → ((k : ℕ) → IsProp (B k)) → IsProp ((k : ℕ) × A k × B k)
+between : (A B : ℕ → Type 0) → ((k m : ℕ) → A k → A m → k ≡ m) → ((k : ℕ) → IsProp (A k)) → ((k : ℕ) → IsProp (B k))
+    → IsProp ((k : ℕ) × A k × B k)
 between A B one pa pb x y =
     let p : x.0 ≡ y.0 = one x.0 y.0 x.1 y.1 in
-    λ i. (p i, is_prop→PathP (λ j. A (p j)) (λ j. pa (p j)) x.1 y.1 i, is_prop→PathP (λ j. B (p j)) (λ j. pb (p j)) x.2 y.2 i)
+    λ i. (
+      p i,
+      is_prop→PathP (λ j. A (p j)) (λ j. pa (p j)) x.1 y.1 i,
+      is_prop→PathP (λ j. B (p j)) (λ j. pb (p j)) x.2 y.2 i,
+    )
 
 built_prop : (x : Item) → IsProp (IsBuilt x)
 built_prop (Run kind low high t) = hlevel props
@@ -44,18 +49,28 @@ mutual
   item_prop (At a) ws i j = hlevel (props, built_prop (At a))
   item_prop (Mark n) ws i j = hlevel (props, built_prop (Mark n))
   item_prop (Branch ts) ws i j = hlevel (props, branch_prop ts ws (i + 1) j, built_prop (Branch ts))
-  item_prop (Loop o low high body) ws i j = hlevel (props, reads_prop body ws (i + 4) (skip ws (i + 1)), built_prop (Loop o low high body))
-  item_prop (Run kind low high t) ws i j = hlevel (props, test_prop t ws (i + 4) (j - 1), built_prop (Run kind low high t))
-  item_prop (PossessiveLoop low high body) ws i j = hlevel (props, reads_prop body ws (i + 4) (skip ws (i + 1)), built_prop (PossessiveLoop low high body))
+  item_prop (Loop o low high body) ws i j =
+      hlevel (props, reads_prop body ws (i + 4) (skip ws (i + 1)), built_prop (Loop o low high body))
+  item_prop (Run kind low high t) ws i j =
+      hlevel (props, test_prop t ws (i + 4) (j - 1), built_prop (Run kind low high t))
+  item_prop (PossessiveLoop low high body) ws i j =
+      hlevel (props, reads_prop body ws (i + 4) (skip ws (i + 1)), built_prop (PossessiveLoop low high body))
   item_prop (Atomic body) ws i j = hlevel (props, reads_prop body ws (i + 2) (j - 1), built_prop (Atomic body))
-  item_prop (Look sign back body) ws i j = hlevel (props, reads_prop body ws (i + 3) (j - 1), built_prop (Look sign back body))
+  item_prop (Look sign back body) ws i j =
+      hlevel (props, reads_prop body ws (i + 3) (j - 1), built_prop (Look sign back body))
   item_prop (Reference fold g) ws i j = hlevel (props, built_prop (Reference fold g))
   item_prop (Exists g a) ws i j = hlevel (props, reads_prop a ws (i + 3) j, built_prop (Exists g a))
-  item_prop (ExistsElse g a b) ws i j = hlevel (props, reads_prop a ws (i + 3) (i + 1 + word ws (i + 2) - 2), reads_prop b ws (i + 1 + word ws (i + 2)) j, built_prop (ExistsElse g a b))
+  item_prop (ExistsElse g a b) ws i j = hlevel (
+    props,
+    reads_prop a ws (i + 3) (i + 1 + word ws (i + 2) - 2),
+    reads_prop b ws (i + 1 + word ws (i + 2)) j,
+    built_prop (ExistsElse g a b),
+  )
 
   branch_prop : (ts : Trees) (ws : List ℕ) (q j : ℕ) → IsProp (ReadsBranch ws q j ts)
   branch_prop (Only t) ws q j = hlevel (props, reads_prop t ws (q + 1) (skip ws q - 2))
-  branch_prop (Or t ts) ws q j = hlevel (props, reads_prop t ws (q + 1) (skip ws q - 2), branch_prop ts ws (skip ws q) j)
+  branch_prop (Or t ts) ws q j =
+      hlevel (props, reads_prop t ws (q + 1) (skip ws q - 2), branch_prop ts ws (skip ws q) j)
 
 pub whole_prop : (ws : List ℕ) (t : Tree) → IsProp (Whole ws t)
 whole_prop ws t = hlevel (props, reads_prop t ws 0 (length ws - 1))

@@ -26,7 +26,8 @@ use Rattle.sre_model.proofs.RanInLoops.{may_repeat-held, Room, room_left}
 
 module _ (ws : List ℕ) (s : Subject) (i u low high : ℕ) (W : Body) (counted : Costs → Costs) (b : Bounded s W)
     (highest : high ≤ unlimited) (counts : low ≤ high) (wl : Word ws (i + 2) low) (wh : Word ws (i + 3) high)
-    (r : Ran ws s (Instruction (i + 4)) u W counted) (wu : Opcode ws u opcode.SUCCESS) (leads : u ≡ skip ws (i + 1)) where
+    (r : Ran ws s (Instruction (i + 4)) u W counted) (wu : Opcode ws u opcode.SUCCESS)
+    (leads : u ≡ skip ws (i + 1)) where
   abbrev frame : ℕ → Option ℕ → Frame
   frame n last = record { repeat = i; count = n; last = last }
 
@@ -38,8 +39,18 @@ module _ (ws : List ℕ) (s : Subject) (i u low high : ℕ) (W : Body) (counted 
       → mv ≡ again_move low high u (frame n last) fs (at_loop n last fs p m) → Moves ws s (at_loop n last fs p m) mv
   loop_turn n last fs p m mv e =
       let x : Spot = at_loop n last fs p m in
-      let is : mv ≡ again_move low high (skip ws (i + 1)) (frame n last) fs x = e ∙ ap (λ v. again_move low high v (frame n last) fs x) leads in
-      record { frame = frame n last; outer = fs; low = low; high = high; inside = refl; lowest = wl; highest = wh; is = is }
+      let is : mv ≡ again_move low high (skip ws (i + 1)) (frame n last) fs x =
+      e ∙ ap (λ v. again_move low high v (frame n last) fs x) leads in
+      record {
+        frame = frame n last;
+        outer = fs;
+        low = low;
+        high = high;
+        inside = refl;
+        lowest = wl;
+        highest = wh;
+        is = is;
+      }
 
   loop_ends : (n : ℕ) (last : Option ℕ) (fs : List Frame) (p : ℕ) (m : Marks) (os : List Way) (k : ℕ) → low ≤ n
       → may_repeat high n last p ≡ false → Runs ws s (spot_at (Instruction (u + 1)) fs p m) os k
@@ -52,7 +63,8 @@ module _ (ws : List ℕ) (s : Subject) (i u low high : ℕ) (W : Body) (counted 
   -- a further body, where it has some ways
   further-closed : (fs : List Frame) (f : Frame) (K K' : Body) (C C' : Costs) (p : ℕ) (m : Marks) (os : List Way)
       → EachBetween s p os → Runs ws s (spot_at (Instruction (u + 1)) fs p m) (K p m) (C p m)
-      → ((w : Way) → Between s p w → Runs ws s (spot_at Again (f ∷ fs) w.stop w.marks) (followed K (K' w.stop w.marks)) (C' w.stop w.marks))
+      → ((w : Way) → Between s p w
+      → Runs ws s (spot_at Again (f ∷ fs) w.stop w.marks) (followed K (K' w.stop w.marks)) (C' w.stop w.marks))
       → Comes ws s (spot_at Again (f ∷ fs) p m) (closed (Further (u + 1)) (spot_at Again (f ∷ fs) p m) os)
       (followed K (or_here K' p m (first os))) (further_cost C C' p m os)
   further-closed fs f K K' C C' p m [] bs d ih = goes (alone d)
@@ -61,22 +73,25 @@ module _ (ws : List ℕ) (s : Subject) (i u low high : ℕ) (W : Body) (counted 
   -- one that is owed
   owed-closed : (fs : List Frame) (f : Frame) (K K' : Body) (C' : Costs) (p : ℕ) (m : Marks) (os : List Way)
       → EachBetween s p os
-      → ((w : Way) → Between s p w → Runs ws s (spot_at Again (f ∷ fs) w.stop w.marks) (followed K (K' w.stop w.marks)) (C' w.stop w.marks))
+      → ((w : Way) → Between s p w
+      → Runs ws s (spot_at Again (f ∷ fs) w.stop w.marks) (followed K (K' w.stop w.marks)) (C' w.stop w.marks))
       → Comes ws s (spot_at Again (f ∷ fs) p m) (closed Owed (spot_at Again (f ∷ fs) p m) os)
       (followed K (flat_map (λ (w : Way). K' w.stop w.marks) (first os))) (atomic_cost C' os)
   owed-closed fs f K K' C' p m [] bs ih = stops
   owed-closed fs f K K' C' p m (w ∷ os) bs ih = goes (rw append-nil (ih w bs.0))
 
-  more_step : (fuel n c p : ℕ) (last : Option ℕ) (m : Marks) (fs : List Frame) (K : Body) (C : Costs) → n ≡ min c unlimited
-      → low ≤ c → p ≤ s.end → Follows ws s p (Instruction (u + 1)) fs K C
+  more_step : (fuel n c p : ℕ) (last : Option ℕ) (m : Marks) (fs : List Frame) (K : Body) (C : Costs)
+      → n ≡ min c unlimited → low ≤ c → p ≤ s.end → Follows ws s p (Instruction (u + 1)) fs K C
       → (may_repeat high c last p ≡ true → (w : Way) → Between s p w
       → Runs ws s (spot_at Again (frame (min (n + 1) unlimited) (Some p) ∷ fs) w.stop w.marks)
       (followed K (possessive_more s high W fuel (c + 1) (Some p) w.stop w.marks))
       (possessive_cost high counted W C fuel (c + 1) (Some p) w.stop w.marks))
       → (x : Bool) → may_repeat high c last p ≡ x
       → Runs ws s (at_loop n last fs p m)
-      (followed K (or_here (λ q k. possessive_more s high W fuel (c + 1) (Some p) q k) p m (cond x (first_of_body s W p m) [])))
-      (cond x (suc (counted ending p m + further_cost C (λ q k. possessive_cost high counted W C fuel (c + 1) (Some p) q k) p m (W p m))) (suc (C p m)))
+      (followed K
+      (or_here (λ q k. possessive_more s high W fuel (c + 1) (Some p) q k) p m (cond x (first_of_body s W p m) [])))
+      (cond x (suc (counted ending p m
+      + further_cost C (λ q k. possessive_cost high counted W C fuel (c + 1) (Some p) q k) p m (W p m))) (suc (C p m)))
   more_step fuel n c p last m fs K C en l e f ih true x =
       let K' : Body = λ q k. possessive_more s high W fuel (c + 1) (Some p) q k in
       let C' : Costs = λ q k. possessive_cost high counted W C fuel (c + 1) (Some p) q k in
@@ -87,24 +102,29 @@ module _ (ws : List ℕ) (s : Subject) (i u low high : ℕ) (W : Body) (counted 
       let body : Spot = spot_at (Instruction (i + 4)) (g ∷ fs) p m in
       let mv : Move = Enter (Further (u + 1)) entered body in
       let move : Moves ws s (at_loop n last fs p m) mv = loop_turn n last fs p m mv (rw (beyond, allowed) refl) in
-      let behind : Comes ws s entered (closed (Further (u + 1)) entered (W p m)) (followed K (or_here K' p m (first (W p m)))) (further_cost C C' p m (W p m)) =
+      let behind : Comes ws s entered (closed (Further (u + 1)) entered (W p m))
+      (followed K (or_here K' p m (first (W p m)))) (further_cost C C' p m (W p m)) =
       further-closed fs g K K' C C' p m (W p m) (b p m e) (f p m (omega arith) e) (ih x) in
-      subst (λ y. Runs ws s (at_loop n last fs p m) (followed K (or_here K' p m y)) (suc (counted ending p m + further_cost C C' p m (W p m))))
+      subst (λ y. Runs ws s (at_loop n last fs p m) (followed K (or_here K' p m y))
+      (suc (counted ending p m + further_cost C C' p m (W p m))))
       (sym (first_of_body-all s W p m b e))
       (turns mv move (enters (region ws s (i + 4) u W counted r wu (g ∷ fs) p m e) behind))
   more_step fuel n c p last m fs K C en l e f ih false x =
-      loop_ends n last fs p m (followed K (here p m)) (C p m) (omega arith) (may_repeat-held high n c p last highest en ∙ x) (alone (f p m (omega arith) e))
+      loop_ends n last fs p m (followed K (here p m)) (C p m) (omega arith)
+      (may_repeat-held high n c p last highest en ∙ x) (alone (f p m (omega arith) e))
 
-  more-ran : (fuel n c p : ℕ) (last : Option ℕ) (m : Marks) (fs : List Frame) (K : Body) (C : Costs) → n ≡ min c unlimited
-      → low ≤ c → p ≤ s.end → Room s fuel p last → Follows ws s p (Instruction (u + 1)) fs K C
-      → Runs ws s (at_loop n last fs p m) (followed K (possessive_more s high W fuel c last p m)) (possessive_cost high counted W C fuel c last p m)
+  more-ran : (fuel n c p : ℕ) (last : Option ℕ) (m : Marks) (fs : List Frame) (K : Body) (C : Costs)
+      → n ≡ min c unlimited → low ≤ c → p ≤ s.end → Room s fuel p last → Follows ws s p (Instruction (u + 1)) fs K C
+      → Runs ws s (at_loop n last fs p m) (followed K (possessive_more s high W fuel c last p m))
+      (possessive_cost high counted W C fuel c last p m)
   more-ran zero n c p last m fs K C en l e room f =
       let same : last ≡ Some p = elim room [ inl x ↦ absurd (omega arith) | inr x ↦ x ] in
       let no_ : may_repeat high n last p ≡ false = rw same (stays high n p p refl) in
       loop_ends n last fs p m (followed K (here p m)) (C p m) (omega arith) no_ (alone (f p m (omega arith) e))
   more-ran (suc fuel) n c p last m fs K C en l e room f =
       more_step fuel n c p last m fs K C en l e f
-      (λ t w between. more-ran fuel (min (n + 1) unlimited) (c + 1) w.stop (Some p) w.marks fs K C (omega arith) (omega arith) between.1
+      (λ t w between.
+      more-ran fuel (min (n + 1) unlimited) (c + 1) w.stop (Some p) w.marks fs K C (omega arith) (omega arith) between.1
       (room_left s high fuel c p w.stop last between.0 room t) (λ q k from to. f q k (omega arith) to))
       (may_repeat high c last p) refl
 
@@ -118,7 +138,8 @@ module _ (ws : List ℕ) (s : Subject) (i u low high : ℕ) (W : Body) (counted 
       → Follows ws s p (Instruction (u + 1)) fs K C
       → Runs ws s (at_loop n None fs p m) (followed K (least s (first_of_body s W) (λ q k. rest q k) left p m))
       (owed_cost counted W (λ q k. rest_cost C q k) left p m)
-  owed-ran zero n p m fs K C en e f = more-ran (s.end + 1 - p) n low p None m fs K C (omega arith) (omega arith) e (inl (omega arith)) f
+  owed-ran zero n p m fs K C en e f =
+      more-ran (s.end + 1 - p) n low p None m fs K C (omega arith) (omega arith) e (inl (omega arith)) f
   owed-ran (suc left) n p m fs K C en e f =
       let K' : Body = λ q k. least s (first_of_body s W) (λ a d. rest a d) left q k in
       let C' : Costs = λ q k. owed_cost counted W (λ a d. rest_cost C a d) left q k in
@@ -128,12 +149,16 @@ module _ (ws : List ℕ) (s : Subject) (i u low high : ℕ) (W : Body) (counted 
       let body : Spot = spot_at (Instruction (i + 4)) (g ∷ fs) p m in
       let mv : Move = Enter Owed entered body in
       let move : Moves ws s (at_loop n None fs p m) mv = loop_turn n None fs p m mv (rw below refl) in
-      let ih : (w : Way) → Between s p w → Runs ws s (spot_at Again (g ∷ fs) w.stop w.marks) (followed K (K' w.stop w.marks)) (C' w.stop w.marks) =
-      λ w between. owed-ran left (min (n + 1) unlimited) w.stop w.marks fs K C (omega arith) between.1 (λ q k from to. f q k (omega arith) to) in
-      let firsts : within s p (first_of_body s W p m) ≡ first (W p m) = within-all s p (first_of_body s W p m) (first-bounded s W p m e) ∙ first_of_body-all s W p m b e in
-      subst (λ y. Runs ws s (at_loop n None fs p m) (followed K (flat_map (λ (w : Way). K' w.stop w.marks) y)) (suc (counted ending p m + atomic_cost C' (W p m))))
-      (sym firsts)
-      (turns mv move (enters (region ws s (i + 4) u W counted r wu (g ∷ fs) p m e) (owed-closed fs g K K' C' p m (W p m) (b p m e) ih)))
+      let ih : (w : Way) → Between s p w
+      → Runs ws s (spot_at Again (g ∷ fs) w.stop w.marks) (followed K (K' w.stop w.marks)) (C' w.stop w.marks) =
+      λ w between. owed-ran left (min (n + 1) unlimited) w.stop w.marks fs K C (omega arith) between.1
+      (λ q k from to. f q k (omega arith) to) in
+      let firsts : within s p (first_of_body s W p m) ≡ first (W p m) =
+      within-all s p (first_of_body s W p m) (first-bounded s W p m e) ∙ first_of_body-all s W p m b e in
+      subst (λ y. Runs ws s (at_loop n None fs p m) (followed K (flat_map (λ (w : Way). K' w.stop w.marks) y))
+      (suc (counted ending p m + atomic_cost C' (W p m)))) (sym firsts)
+      (turns mv move (enters (region ws s (i + 4) u W counted r wu (g ∷ fs) p m e)
+      (owed-closed fs g K K' C' p m (W p m) (b p m e) ih)))
 
   pub possessive-ran : Opcode ws i opcode.POSSESSIVE_REPEAT
       → Ran ws s (Instruction i) (u + 1) (λ p m. possessive_ways s low high W p m)

@@ -17,7 +17,8 @@ set_item_opcode (Charset bits) = opcode.CHARSET
 set_item_opcode (BigCharset numbers bits) = opcode.BIGCHARSET
 set_item_opcode Negate = opcode.NEGATE
 
-pub first : (x : SetItem) (rest : List SetItem) (ws : List ℕ) (i j : ℕ) → ReadsSet ws i j (x ∷ rest) → Opcode ws i (set_item_opcode x)
+pub first : (x : SetItem) (rest : List SetItem) (ws : List ℕ) (i j : ℕ) → ReadsSet ws i j (x ∷ rest)
+    → Opcode ws i (set_item_opcode x)
 first (Single v) rest ws i j r = r.0
 first (Range low high) rest ws i j r = r.0
 first (RangeUniIgnore low high) rest ws i j r = r.0
@@ -26,40 +27,68 @@ first (Charset bits) rest ws i j r = r.0
 first (BigCharset numbers bits) rest ws i j r = r.0
 first Negate rest ws i j r = r.0
 
-pub begins : (ws : List ℕ) (i j : ℕ) (o : SreOpcode) (x : SetItem) (rest : List SetItem) → Opcode ws i o → ReadsSet ws i j (x ∷ rest) → o ≡ set_item_opcode x
+pub begins : (ws : List ℕ) (i j : ℕ) (o : SreOpcode) (x : SetItem) (rest : List SetItem) → Opcode ws i o
+    → ReadsSet ws i j (x ∷ rest) → o ≡ set_item_opcode x
 begins ws i j o x rest h r = same_opcode ws i o (set_item_opcode x) h (first x rest ws i j r)
 
-pub is_single : (ws : List ℕ) (i j : ℕ) (s : List SetItem) → Opcode ws i opcode.LITERAL → i < j → ReadsSet ws i j s → (v : ℕ) × (rest : List SetItem) × (s ≡ Single v ∷ rest) × ReadsSet ws i j (Single v ∷ rest)
+pub is_single : (ws : List ℕ) (i j : ℕ) (s : List SetItem) → Opcode ws i opcode.LITERAL → i < j → ReadsSet ws i j s
+    → (v : ℕ) × (rest : List SetItem) × (s ≡ Single v ∷ rest) × ReadsSet ws i j (Single v ∷ rest)
 is_single ws i j [] h lt r = absurd (omega arith)
 is_single ws i j (Single v ∷ rest) h lt r = (v, rest, refl, r)
-is_single ws i j (x ∷ rest) h lt r = let e : opcode.LITERAL ≡ set_item_opcode x = begins ws i j opcode.LITERAL x rest h r in absurd (cc)
+is_single ws i j (x ∷ rest) h lt r =
+    let e : opcode.LITERAL ≡ set_item_opcode x = begins ws i j opcode.LITERAL x rest h r in
+    absurd (cc)
 
-pub is_range : (ws : List ℕ) (i j : ℕ) (s : List SetItem) → Opcode ws i opcode.RANGE → i < j → ReadsSet ws i j s → (low : ℕ) × (high : ℕ) × (rest : List SetItem) × (s ≡ Range low high ∷ rest) × ReadsSet ws i j (Range low high ∷ rest)
+pub is_range : (ws : List ℕ) (i j : ℕ) (s : List SetItem) → Opcode ws i opcode.RANGE → i < j → ReadsSet ws i j s
+    → (low : ℕ) × (high : ℕ) × (rest : List SetItem) × (s ≡ Range low high ∷ rest)
+    × ReadsSet ws i j (Range low high ∷ rest)
 is_range ws i j [] h lt r = absurd (omega arith)
 is_range ws i j (Range low high ∷ rest) h lt r = (low, high, rest, refl, r)
-is_range ws i j (x ∷ rest) h lt r = let e : opcode.RANGE ≡ set_item_opcode x = begins ws i j opcode.RANGE x rest h r in absurd (cc)
+is_range ws i j (x ∷ rest) h lt r =
+    let e : opcode.RANGE ≡ set_item_opcode x = begins ws i j opcode.RANGE x rest h r in
+    absurd (cc)
 
-pub is_folded_range : (ws : List ℕ) (i j : ℕ) (s : List SetItem) → Opcode ws i opcode.RANGE_UNI_IGNORE → i < j → ReadsSet ws i j s → (low : ℕ) × (high : ℕ) × (rest : List SetItem) × (s ≡ RangeUniIgnore low high ∷ rest) × ReadsSet ws i j (RangeUniIgnore low high ∷ rest)
+pub is_folded_range : (ws : List ℕ) (i j : ℕ) (s : List SetItem) → Opcode ws i opcode.RANGE_UNI_IGNORE → i < j
+    → ReadsSet ws i j s
+    → (low : ℕ) × (high : ℕ) × (rest : List SetItem) × (s ≡ RangeUniIgnore low high ∷ rest)
+    × ReadsSet ws i j (RangeUniIgnore low high ∷ rest)
 is_folded_range ws i j [] h lt r = absurd (omega arith)
 is_folded_range ws i j (RangeUniIgnore low high ∷ rest) h lt r = (low, high, rest, refl, r)
-is_folded_range ws i j (x ∷ rest) h lt r = let e : opcode.RANGE_UNI_IGNORE ≡ set_item_opcode x = begins ws i j opcode.RANGE_UNI_IGNORE x rest h r in absurd (cc)
+is_folded_range ws i j (x ∷ rest) h lt r =
+    let e : opcode.RANGE_UNI_IGNORE ≡ set_item_opcode x = begins ws i j opcode.RANGE_UNI_IGNORE x rest h r in
+    absurd (cc)
 
-pub is_set_category : (ws : List ℕ) (i j : ℕ) (s : List SetItem) → Opcode ws i opcode.CATEGORY → i < j → ReadsSet ws i j s → (c : SreCatCode) × (rest : List SetItem) × (s ≡ Category c ∷ rest) × ReadsSet ws i j (Category c ∷ rest)
+pub is_set_category : (ws : List ℕ) (i j : ℕ) (s : List SetItem)
+    → Opcode ws i opcode.CATEGORY → i < j → ReadsSet ws i j s
+    → (c : SreCatCode) × (rest : List SetItem) × (s ≡ Category c ∷ rest) × ReadsSet ws i j (Category c ∷ rest)
 is_set_category ws i j [] h lt r = absurd (omega arith)
 is_set_category ws i j (Category c ∷ rest) h lt r = (c, rest, refl, r)
-is_set_category ws i j (x ∷ rest) h lt r = let e : opcode.CATEGORY ≡ set_item_opcode x = begins ws i j opcode.CATEGORY x rest h r in absurd (cc)
+is_set_category ws i j (x ∷ rest) h lt r =
+    let e : opcode.CATEGORY ≡ set_item_opcode x = begins ws i j opcode.CATEGORY x rest h r in
+    absurd (cc)
 
-pub is_charset : (ws : List ℕ) (i j : ℕ) (s : List SetItem) → Opcode ws i opcode.CHARSET → i < j → ReadsSet ws i j s → (bits : List ℕ) × (rest : List SetItem) × (s ≡ Charset bits ∷ rest) × ReadsSet ws i j (Charset bits ∷ rest)
+pub is_charset : (ws : List ℕ) (i j : ℕ) (s : List SetItem) → Opcode ws i opcode.CHARSET → i < j → ReadsSet ws i j s
+    → (bits : List ℕ) × (rest : List SetItem) × (s ≡ Charset bits ∷ rest) × ReadsSet ws i j (Charset bits ∷ rest)
 is_charset ws i j [] h lt r = absurd (omega arith)
 is_charset ws i j (Charset bits ∷ rest) h lt r = (bits, rest, refl, r)
-is_charset ws i j (x ∷ rest) h lt r = let e : opcode.CHARSET ≡ set_item_opcode x = begins ws i j opcode.CHARSET x rest h r in absurd (cc)
+is_charset ws i j (x ∷ rest) h lt r =
+    let e : opcode.CHARSET ≡ set_item_opcode x = begins ws i j opcode.CHARSET x rest h r in
+    absurd (cc)
 
-pub is_big_charset : (ws : List ℕ) (i j : ℕ) (s : List SetItem) → Opcode ws i opcode.BIGCHARSET → i < j → ReadsSet ws i j s → (numbers : List ℕ) × (bits : List ℕ) × (rest : List SetItem) × (s ≡ BigCharset numbers bits ∷ rest) × ReadsSet ws i j (BigCharset numbers bits ∷ rest)
+pub is_big_charset : (ws : List ℕ) (i j : ℕ) (s : List SetItem) → Opcode ws i opcode.BIGCHARSET → i < j
+    → ReadsSet ws i j s
+    → (numbers : List ℕ) × (bits : List ℕ) × (rest : List SetItem) × (s ≡ BigCharset numbers bits ∷ rest)
+    × ReadsSet ws i j (BigCharset numbers bits ∷ rest)
 is_big_charset ws i j [] h lt r = absurd (omega arith)
 is_big_charset ws i j (BigCharset numbers bits ∷ rest) h lt r = (numbers, bits, rest, refl, r)
-is_big_charset ws i j (x ∷ rest) h lt r = let e : opcode.BIGCHARSET ≡ set_item_opcode x = begins ws i j opcode.BIGCHARSET x rest h r in absurd (cc)
+is_big_charset ws i j (x ∷ rest) h lt r =
+    let e : opcode.BIGCHARSET ≡ set_item_opcode x = begins ws i j opcode.BIGCHARSET x rest h r in
+    absurd (cc)
 
-pub is_negate : (ws : List ℕ) (i j : ℕ) (s : List SetItem) → Opcode ws i opcode.NEGATE → i < j → ReadsSet ws i j s → (rest : List SetItem) × (s ≡ Negate ∷ rest) × ReadsSet ws i j (Negate ∷ rest)
+pub is_negate : (ws : List ℕ) (i j : ℕ) (s : List SetItem) → Opcode ws i opcode.NEGATE → i < j → ReadsSet ws i j s
+    → (rest : List SetItem) × (s ≡ Negate ∷ rest) × ReadsSet ws i j (Negate ∷ rest)
 is_negate ws i j [] h lt r = absurd (omega arith)
 is_negate ws i j (Negate ∷ rest) h lt r = (rest, refl, r)
-is_negate ws i j (x ∷ rest) h lt r = let e : opcode.NEGATE ≡ set_item_opcode x = begins ws i j opcode.NEGATE x rest h r in absurd (cc)
+is_negate ws i j (x ∷ rest) h lt r =
+    let e : opcode.NEGATE ≡ set_item_opcode x = begins ws i j opcode.NEGATE x rest h r in
+    absurd (cc)

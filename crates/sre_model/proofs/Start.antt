@@ -17,35 +17,48 @@ use Rattle.sre_model.proofs.Outcomes.{region}
 use Rattle.sre_model.proofs.Ran.{ran}
 
 -- a run from a cursor has the tree's accepted ways
-pub started : (r : Run) (t : Tree) (c : StringCursor) (b : BoardValue) → AreWords r.words → Whole r.words t → r.stands c c.position → c.position ≤ r.subject.end → b ≡ bare no_marks → Goes r (outcomes r t c.position) (cost r.subject t ending c.position no_marks) (Instruction 0) c b
+pub started : (r : Run) (t : Tree) (c : StringCursor) (b : BoardValue) → AreWords r.words → Whole r.words t
+    → r.stands c c.position → c.position ≤ r.subject.end → b ≡ bare no_marks
+    → Goes r (outcomes r t c.position) (cost r.subject t ending c.position no_marks) (Instruction 0) c b
 started r t c b v whole stands inside fresh =
-    subst (λ x. Goes r (outcomes r t c.position) (cost r.subject t ending c.position no_marks) (Instruction 0) c x) (sym fresh)
+    subst (λ x. Goes r (outcomes r t c.position) (cost r.subject t ending c.position no_marks) (Instruction 0) c x)
+    (sym fresh)
     (record {
       now = ways r.subject t c.position no_marks;
       turns = cost r.subject t ending c.position no_marks;
       later = 0;
       stands = stands;
-      runs = region r.words r.subject 0 _ (λ q k. ways r.subject t q k) (λ C q k. cost r.subject t C q k) (ran r.words r.subject 0 _ t v whole.0) whole.1 [] c.position no_marks inside;
+      runs =
+          region r.words r.subject 0 _ (λ q k. ways r.subject t q k) (λ C q k. cost r.subject t C q k)
+          (ran r.words r.subject 0 _ t v whole.0) whole.1 [] c.position no_marks inside;
       waits = outermost;
       within = omega arith;
     })
 
 -- outside all regions the first outcome, if it is accepted, is the first of all
-first_waits : (r : Run) (cs : List Choice) (w : Way) (rest : List Way) {all : List Way} {k : ℕ} → from_region cs ≡ [] → r.accepts w ≡ true → Waits r cs (w ∷ rest) all k → (others : List Way) × (all ≡ w ∷ others)
+first_waits : (r : Run) (cs : List Choice) (w : Way) (rest : List Way) {all : List Way} {k : ℕ} → from_region cs ≡ []
+    → r.accepts w ≡ true → Waits r cs (w ∷ rest) all k → (others : List Way) × (all ≡ w ∷ others)
 first_waits r [] w rest none y outermost = rw y (filter r.accepts rest, refl)
-first_waits r (Else pt fs c m ∷ cs) w rest none y (otherwise {os = os} there d wt) = first_waits r cs w (rest ++ os) none y wt
+first_waits r (Else pt fs c m ∷ cs) w rest none y (otherwise {os = os} there d wt) =
+    first_waits r cs w (rest ++ os) none y wt
 first_waits r (Keep g fs c m ∷ cs) w rest none y wt = absurd (cc)
 
 -- and else it is passed over
-refused_waits : (r : Run) (cs : List Choice) (w : Way) (rest : List Way) {all : List Way} {k : ℕ} → from_region cs ≡ [] → r.accepts w ≡ false → Waits r cs (w ∷ rest) all k → Waits r cs rest all k
+refused_waits : (r : Run) (cs : List Choice) (w : Way) (rest : List Way) {all : List Way} {k : ℕ} → from_region cs ≡ []
+    → r.accepts w ≡ false → Waits r cs (w ∷ rest) all k → Waits r cs rest all k
 refused_waits r [] w rest none n outermost = rw n outermost
-refused_waits r (Else pt fs c m ∷ cs) w rest none n (otherwise {os = os} there d wt) = otherwise there d (refused_waits r cs w (rest ++ os) none n wt)
+refused_waits r (Else pt fs c m ∷ cs) w rest none n (otherwise {os = os} there d wt) =
+    otherwise there d (refused_waits r cs w (rest ++ os) none n wt)
 refused_waits r (Keep g fs c m ∷ cs) w rest none n wt = absurd (cc)
 
 -- the machine stands at the end of the whole
-module _ (r : Run) (all : List Way) (limit p : ℕ) (n : Next) (c : StringCursor) (old b : BoardValue) (accepted : Bool) (done : n ≡ next.Done c) (at : p ≡ c.position) (says : SaysAccepted r p accepted) (outside : (from_region old.choices ≡ []) × (b ≡ old)) (stands : Stands r all limit n old) where
+module _ (r : Run) (all : List Way) (limit p : ℕ) (n : Next) (c : StringCursor) (old b : BoardValue) (accepted : Bool)
+    (done : n ≡ next.Done c) (at : p ≡ c.position) (says : SaysAccepted r p accepted)
+    (outside : (from_region old.choices ≡ []) × (b ≡ old)) (stands : Stands r all limit n old) where
   ends : Ends r all limit c b
-  ends = let done_ : Ends r all limit c old = subst (λ x. Stands r all limit x old) done stands in subst (λ x. Ends r all limit c x) (sym outside.1) done_
+  ends =
+      let done_ : Ends r all limit c old = subst (λ x. Stands r all limit x old) done stands in
+      subst (λ x. Ends r all limit c x) (sym outside.1) done_
 
   none : from_region b.choices ≡ []
   none = ap (λ (x : BoardValue). from_region x.choices) outside.1 ∙ outside.0
@@ -54,13 +67,24 @@ module _ (r : Run) (all : List Way) (limit p : ℕ) (n : Next) (c : StringCursor
   said = subst (λ x. SaysAccepted r x accepted) at says b.marks
 
   -- an outcome that is accepted is the first
-  pub accepted_first : accepted ≡ true → r.stands c c.position × ((rest : List Way) × (all ≡ record { stop = c.position; marks = b.marks } ∷ rest))
+  pub accepted_first : accepted ≡ true
+      → r.stands c c.position × ((rest : List Way) × (all ≡ record { stop = c.position; marks = b.marks } ∷ rest))
   accepted_first taken = (ends.stands, first_waits r b.choices _ [] none (sym said ∙ taken) ends.waits)
 
   -- one that is not is passed over
   pub refused_over : accepted ≡ false → Later r all limit next.Back b
-  refused_over left = (omega (arith, ends.within), record { later = ends.later; waits = refused_waits r b.choices _ [] none (sym said ∙ left) ends.waits; within = omega (arith, ends.within) })
+  refused_over left = (
+    omega (arith, ends.within),
+    record {
+      later = ends.later;
+      waits = refused_waits r b.choices _ [] none (sym said ∙ left) ends.waits;
+      within = omega (arith, ends.within);
+    },
+  )
 
 -- an instruction or a choice is one turn
-pub one_turn : (r : Run) (all : List Way) (limit turned : ℕ) (n : Next) (b : BoardValue) → Later r all (limit - turned) n b → Stands r all (limit - (turned + 1)) n b
-one_turn r all limit turned n b l = let e : limit - turned - 1 ≡ limit - (turned + 1) = omega arith in subst (λ x. Stands r all x n b) e l.1
+pub one_turn : (r : Run) (all : List Way) (limit turned : ℕ) (n : Next) (b : BoardValue)
+    → Later r all (limit - turned) n b → Stands r all (limit - (turned + 1)) n b
+one_turn r all limit turned n b l =
+    let e : limit - turned - 1 ≡ limit - (turned + 1) = omega arith in
+    subst (λ x. Stands r all x n b) e l.1

@@ -23,97 +23,172 @@ use Rattle.sre_model.proofs.Passing.{past_end, read_passes, stands_at_own}
 use Rattle.sre_model.proofs.Families.{is_literal}
 
 -- no opcode that isn't built is reached
-pub only_built : (r : Run) (i : ℕ) (c : StringCursor) (o : SreOpcode) → HasRun r (Instruction i) c → Opcode r.words i o → family o ≡ Unbuilt → ⊥
+pub only_built : (r : Run) (i : ℕ) (c : StringCursor) (o : SreOpcode) → HasRun r (Instruction i) c → Opcode r.words i o
+    → family o ≡ Unbuilt → ⊥
 only_built r i c o x w e = (in_family o Unbuilt e w x.runs).1
 
 -- an opcode that is none of those that are built
-pub unbuilt : (o : SreOpcode) → o ≢ opcode.FAILURE → o ≢ opcode.SUCCESS → o ≢ opcode.ANY → o ≢ opcode.ANY_ALL → o ≢ opcode.AT → o ≢ opcode.BRANCH → o ≢ opcode.CATEGORY → o ≢ opcode.IN → o ≢ opcode.JUMP → o ≢ opcode.LITERAL → o ≢ opcode.MARK → o ≢ opcode.NOT_LITERAL → o ≢ opcode.REPEAT_ONE → o ≢ opcode.MIN_REPEAT_ONE → o ≢ opcode.REPEAT → o ≢ opcode.MAX_UNTIL → o ≢ opcode.MIN_UNTIL → o ≢ opcode.POSSESSIVE_REPEAT_ONE → o ≢ opcode.ATOMIC_GROUP → o ≢ opcode.ASSERT → o ≢ opcode.ASSERT_NOT → o ≢ opcode.POSSESSIVE_REPEAT → o ≢ opcode.IN_IGNORE → o ≢ opcode.LITERAL_IGNORE → o ≢ opcode.NOT_LITERAL_IGNORE → o ≢ opcode.IN_LOC_IGNORE → o ≢ opcode.LITERAL_LOC_IGNORE → o ≢ opcode.NOT_LITERAL_LOC_IGNORE → o ≢ opcode.IN_UNI_IGNORE → o ≢ opcode.LITERAL_UNI_IGNORE → o ≢ opcode.NOT_LITERAL_UNI_IGNORE → family o ≡ Unbuilt
-unbuilt o n0 n1 n2 n3 n4 n5 n6 n7 n8 n9 n10 n11 n12 n13 n14 n15 n16 n17 n18 n19 n20 n21 n22 n23 n24 n25 n26 n27 n28 n29 n30 = grind (arith)
+pub unbuilt : (o : SreOpcode) → o ≢ opcode.FAILURE → o ≢ opcode.SUCCESS → o ≢ opcode.ANY
+    → o ≢ opcode.ANY_ALL → o ≢ opcode.AT → o ≢ opcode.BRANCH → o ≢ opcode.CATEGORY → o ≢ opcode.IN → o ≢ opcode.JUMP
+    → o ≢ opcode.LITERAL → o ≢ opcode.MARK → o ≢ opcode.NOT_LITERAL → o ≢ opcode.REPEAT_ONE → o ≢ opcode.MIN_REPEAT_ONE
+    → o ≢ opcode.REPEAT → o ≢ opcode.MAX_UNTIL → o ≢ opcode.MIN_UNTIL → o ≢ opcode.POSSESSIVE_REPEAT_ONE
+    → o ≢ opcode.ATOMIC_GROUP → o ≢ opcode.ASSERT → o ≢ opcode.ASSERT_NOT → o ≢ opcode.POSSESSIVE_REPEAT
+    → o ≢ opcode.IN_IGNORE → o ≢ opcode.LITERAL_IGNORE → o ≢ opcode.NOT_LITERAL_IGNORE → o ≢ opcode.IN_LOC_IGNORE
+    → o ≢ opcode.LITERAL_LOC_IGNORE → o ≢ opcode.NOT_LITERAL_LOC_IGNORE → o ≢ opcode.IN_UNI_IGNORE
+    → o ≢ opcode.LITERAL_UNI_IGNORE → o ≢ opcode.NOT_LITERAL_UNI_IGNORE → family o ≡ Unbuilt
+unbuilt o n0 n1 n2 n3 n4 n5 n6 n7 n8 n9 n10 n11 n12 n13 n14 n15 n16 n17 n18 n19 n20 n21 n22 n23 n24 n25 n26 n27 n28 n29
+    n30 = grind (arith)
 
 -- FAILURE
-pub failure_step : (r : Run) (i : ℕ) (c : StringCursor) (b : BoardValue) → Opcode r.words i opcode.FAILURE → (all : List Way) (limit : ℕ) → Goes r all limit (Instruction i) c b → Later r all limit next.Back b
+pub failure_step : (r : Run) (i : ℕ) (c : StringCursor) (b : BoardValue) → Opcode r.words i opcode.FAILURE
+    → (all : List Way) (limit : ℕ) → Goes r all limit (Instruction i) c b → Later r all limit next.Back b
 failure_step r i c b w = turn_stops r (Instruction i) c b (at_instruction opcode.FAILURE Failing refl w refl)
 
 -- SUCCESS
-pub success_step : (r : Run) (i : ℕ) (c : StringCursor) (b : BoardValue) → Opcode r.words i opcode.SUCCESS → (all : List Way) (limit : ℕ) → Goes r all limit (Instruction i) c b → Later r all limit (next.Done c) b
+pub success_step : (r : Run) (i : ℕ) (c : StringCursor) (b : BoardValue) → Opcode r.words i opcode.SUCCESS
+    → (all : List Way) (limit : ℕ) → Goes r all limit (Instruction i) c b → Later r all limit (next.Done c) b
 success_step r i c b w = turn_ends r (Instruction i) c b (at_instruction opcode.SUCCESS Ending refl w refl)
 
 -- a test of one character stands where its opcode does
-pub test_there : (r : Run) (i : ℕ) (c : StringCursor) (o : SreOpcode) → Opcode r.words i o → family o ≡ Testing → HasRun r (Instruction i) c → HasTest r.words i
-test_there r i c o w f x = let h = (in_family o Testing f w x.runs).1 in record { end = h.end; test = h.test; stands = h.stands }
+pub test_there : (r : Run) (i : ℕ) (c : StringCursor) (o : SreOpcode) → Opcode r.words i o → family o ≡ Testing
+    → HasRun r (Instruction i) c → HasTest r.words i
+test_there r i c o w f x =
+    let h = (in_family o Testing f w x.runs).1 in
+    record { end = h.end; test = h.test; stands = h.stands }
 
-module _ (r : Run) (i : ℕ) (c : StringCursor) (b : BoardValue) (o : SreOpcode) (w : Opcode r.words i o) (f : family o ≡ Testing) (j : ℕ) (t : Test) (stands : TestStands r.words i j t) where
-  test_taken : (after : StringCursor) → passes r.subject t c.position ≡ true → r.stands after after.position → after.position ≡ c.position + 1 → (all : List Way) (limit : ℕ) → Goes r all limit (Instruction i) c b → Later r all limit (next.At j after) b
+module _ (r : Run) (i : ℕ) (c : StringCursor) (b : BoardValue) (o : SreOpcode) (w : Opcode r.words i o)
+    (f : family o ≡ Testing) (j : ℕ) (t : Test) (stands : TestStands r.words i j t) where
+  test_taken : (after : StringCursor) → passes r.subject t c.position ≡ true → r.stands after after.position
+      → after.position ≡ c.position + 1 → (all : List Way) (limit : ℕ) → Goes r all limit (Instruction i) c b
+      → Later r all limit (next.At j after) b
   test_taken after taken there moved_on =
-      turn_goes r (Instruction i) c b (Instruction j) after b (at_instruction o Testing f w (record { end = j; test = t; stands = stands; is = rw (taken, moved_on) refl })) there refl
+      turn_goes r (Instruction i) c b (Instruction j) after b
+      (at_instruction o Testing f w (record { end = j; test = t; stands = stands; is = rw (taken, moved_on) refl }))
+      there refl
 
-  test_refused : passes r.subject t c.position ≡ false → (all : List Way) (limit : ℕ) → Goes r all limit (Instruction i) c b → Later r all limit next.Back b
-  test_refused left = turn_stops r (Instruction i) c b (at_instruction o Testing f w (record { end = j; test = t; stands = stands; is = rw left refl }))
+  test_refused : passes r.subject t c.position ≡ false → (all : List Way) (limit : ℕ)
+      → Goes r all limit (Instruction i) c b → Later r all limit next.Back b
+  test_refused left =
+      turn_stops r (Instruction i) c b
+      (at_instruction o Testing f w (record { end = j; test = t; stands = stands; is = rw left refl }))
 
 -- the same, for the character that was read
-pub test_read : (r : Run) (i j ch : ℕ) (o : SreOpcode) (t : Test) (c after : StringCursor) (b : BoardValue) (takes : Bool) → Opcode r.words i o → family o ≡ Testing → TestStands r.words i j t → c.position < r.subject.end → ch ≡ char_at r.subject c.position → takes ≡ holds r.subject.table t ch → r.stands after (c.position + 1) → after.position ≡ c.position + 1 → takes ≡ true → (all : List Way) (limit : ℕ) → Goes r all limit (Instruction i) c b → Later r all limit (next.At j after) b
-test_read r i j ch o t c after b takes w f st l e h there moved_on y = test_taken r i c b o w f j t st after (read_passes r.subject t c.position ch takes l e h ∙ y) (stands_at_own r.stands after (c.position + 1) moved_on there) moved_on
+pub test_read : (r : Run) (i j ch : ℕ) (o : SreOpcode) (t : Test) (c after : StringCursor)
+    (b : BoardValue) (takes : Bool)
+    → Opcode r.words i o → family o ≡ Testing → TestStands r.words i j t → c.position < r.subject.end
+    → ch ≡ char_at r.subject c.position → takes ≡ holds r.subject.table t ch → r.stands after (c.position + 1)
+    → after.position ≡ c.position + 1 → takes ≡ true → (all : List Way) (limit : ℕ)
+    → Goes r all limit (Instruction i) c b → Later r all limit (next.At j after) b
+test_read r i j ch o t c after b takes w f st l e h there moved_on y =
+    test_taken r i c b o w f j t st after (read_passes r.subject t c.position ch takes l e h ∙ y)
+    (stands_at_own r.stands after (c.position + 1) moved_on there) moved_on
 
-pub test_unlike : (r : Run) (i j ch : ℕ) (o : SreOpcode) (t : Test) (c : StringCursor) (b : BoardValue) (takes : Bool) → Opcode r.words i o → family o ≡ Testing → TestStands r.words i j t → c.position < r.subject.end → ch ≡ char_at r.subject c.position → takes ≡ holds r.subject.table t ch → takes ≡ false → (all : List Way) (limit : ℕ) → Goes r all limit (Instruction i) c b → Later r all limit next.Back b
-test_unlike r i j ch o t c b takes w f st l e h n = test_refused r i c b o w f j t st (read_passes r.subject t c.position ch takes l e h ∙ n)
+pub test_unlike : (r : Run) (i j ch : ℕ) (o : SreOpcode) (t : Test) (c : StringCursor) (b : BoardValue) (takes : Bool)
+    → Opcode r.words i o → family o ≡ Testing → TestStands r.words i j t → c.position < r.subject.end
+    → ch ≡ char_at r.subject c.position → takes ≡ holds r.subject.table t ch → takes ≡ false
+    → (all : List Way) (limit : ℕ) → Goes r all limit (Instruction i) c b → Later r all limit next.Back b
+test_unlike r i j ch o t c b takes w f st l e h n =
+    test_refused r i c b o w f j t st (read_passes r.subject t c.position ch takes l e h ∙ n)
 
-pub test_past : (r : Run) (i : ℕ) (o : SreOpcode) (c : StringCursor) (b : BoardValue) → Opcode r.words i o → family o ≡ Testing → HasTest r.words i → r.subject.end ≤ c.position → (all : List Way) (limit : ℕ) → Goes r all limit (Instruction i) c b → Later r all limit next.Back b
+pub test_past : (r : Run) (i : ℕ) (o : SreOpcode) (c : StringCursor) (b : BoardValue) → Opcode r.words i o
+    → family o ≡ Testing → HasTest r.words i → r.subject.end ≤ c.position → (all : List Way) (limit : ℕ)
+    → Goes r all limit (Instruction i) c b → Later r all limit next.Back b
 test_past r i o c b w f t l = test_refused r i c b o w f t.end t.test t.stands (past_end r.subject t.test c.position l)
 
 -- AT
-pub at_there : (r : Run) (i : ℕ) (c : StringCursor) → Opcode r.words i opcode.AT → HasRun r (Instruction i) c → (a : SreAtCode) × Word r.words (i + 1) (at_number a)
+pub at_there : (r : Run) (i : ℕ) (c : StringCursor) → Opcode r.words i opcode.AT → HasRun r (Instruction i) c
+    → (a : SreAtCode) × Word r.words (i + 1) (at_number a)
 at_there r i c w x = let h = (in_family opcode.AT Standing refl w x.runs).1 in (h.code, h.there)
 
-pub at_operand : (r : Run) (i : ℕ) (c : StringCursor) → Opcode r.words i opcode.AT → HasRun r (Instruction i) c → i + 1 < length r.words
+pub at_operand : (r : Run) (i : ℕ) (c : StringCursor) → Opcode r.words i opcode.AT → HasRun r (Instruction i) c
+    → i + 1 < length r.words
 at_operand r i c w x = let a = at_there r i c w x in word_within r.words (i + 1) (at_number a.0) a.1
 
 -- each position code is known
-pub at_known : (r : Run) (i v : ℕ) (c : StringCursor) → Opcode r.words i opcode.AT → HasRun r (Instruction i) c → Word r.words (i + 1) v → 12 ≤ v → ⊥
-at_known r i v c w x wv l = let a = at_there r i c w x in omega (arith, at_low a.0, same_word r.words (i + 1) v (at_number a.0) wv a.1)
+pub at_known : (r : Run) (i v : ℕ) (c : StringCursor) → Opcode r.words i opcode.AT → HasRun r (Instruction i) c
+    → Word r.words (i + 1) v → 12 ≤ v → ⊥
+at_known r i v c w x wv l =
+    let a = at_there r i c w x in
+    omega (arith, at_low a.0, same_word r.words (i + 1) v (at_number a.0) wv a.1)
 
-pub at_step : (r : Run) (i : ℕ) (a : SreAtCode) (c : StringCursor) (b : BoardValue) → Opcode r.words i opcode.AT → Word r.words (i + 1) (at_number a) → holds_at r.subject a c.position ≡ true → (all : List Way) (limit : ℕ) → Goes r all limit (Instruction i) c b → Later r all limit (next.At (i + 2) c) b
-at_step r i a c b w wa y all limit g = turn_goes r (Instruction i) c b (Instruction (i + 2)) c b (at_instruction opcode.AT Standing refl w (record { code = a; there = wa; is = rw y refl })) g.stands refl all limit g
+pub at_step : (r : Run) (i : ℕ) (a : SreAtCode) (c : StringCursor) (b : BoardValue) → Opcode r.words i opcode.AT
+    → Word r.words (i + 1) (at_number a) → holds_at r.subject a c.position ≡ true → (all : List Way) (limit : ℕ)
+    → Goes r all limit (Instruction i) c b → Later r all limit (next.At (i + 2) c) b
+at_step r i a c b w wa y all limit g =
+    turn_goes r (Instruction i) c b (Instruction (i + 2)) c b
+    (at_instruction opcode.AT Standing refl w (record { code = a; there = wa; is = rw y refl }))
+    g.stands refl all limit g
 
-pub at_refused : (r : Run) (i : ℕ) (a : SreAtCode) (c : StringCursor) (b : BoardValue) → Opcode r.words i opcode.AT → Word r.words (i + 1) (at_number a) → holds_at r.subject a c.position ≡ false → (all : List Way) (limit : ℕ) → Goes r all limit (Instruction i) c b → Later r all limit next.Back b
-at_refused r i a c b w wa n = turn_stops r (Instruction i) c b (at_instruction opcode.AT Standing refl w (record { code = a; there = wa; is = rw n refl }))
+pub at_refused : (r : Run) (i : ℕ) (a : SreAtCode) (c : StringCursor) (b : BoardValue) → Opcode r.words i opcode.AT
+    → Word r.words (i + 1) (at_number a) → holds_at r.subject a c.position ≡ false → (all : List Way) (limit : ℕ)
+    → Goes r all limit (Instruction i) c b → Later r all limit next.Back b
+at_refused r i a c b w wa n =
+    turn_stops r (Instruction i) c b
+    (at_instruction opcode.AT Standing refl w (record { code = a; there = wa; is = rw n refl }))
 
 -- MARK
-pub mark_operand : (r : Run) (i : ℕ) (c : StringCursor) → Opcode r.words i opcode.MARK → HasRun r (Instruction i) c → i + 1 < length r.words
-mark_operand r i c w x = let h = (in_family opcode.MARK Marking refl w x.runs).1 in word_within r.words (i + 1) h.number h.there
+pub mark_operand : (r : Run) (i : ℕ) (c : StringCursor) → Opcode r.words i opcode.MARK → HasRun r (Instruction i) c
+    → i + 1 < length r.words
+mark_operand r i c w x =
+    let h = (in_family opcode.MARK Marking refl w x.runs).1 in
+    word_within r.words (i + 1) h.number h.there
 
-pub mark_step : (r : Run) (i v p : ℕ) (c : StringCursor) (b b' : BoardValue) → Opcode r.words i opcode.MARK → Word r.words (i + 1) v → p ≡ c.position → b' ≡ record b { marks = set_mark b.marks v p } → (all : List Way) (limit : ℕ) → Goes r all limit (Instruction i) c b → Later r all limit (next.At (i + 2) c) b'
+pub mark_step : (r : Run) (i v p : ℕ) (c : StringCursor) (b b' : BoardValue) → Opcode r.words i opcode.MARK
+    → Word r.words (i + 1) v → p ≡ c.position → b' ≡ record b { marks = set_mark b.marks v p }
+    → (all : List Way) (limit : ℕ) → Goes r all limit (Instruction i) c b → Later r all limit (next.At (i + 2) c) b'
 mark_step r i v p c b b' w wv same_place eb all limit g =
     let set : BoardValue = record b { marks = set_mark b.marks v c.position } in
-    subst (λ x. Later r all limit (next.At (i + 2) c) x) (sym (eb ∙ ap (λ q. record b { marks = set_mark b.marks v q }) same_place))
-    (turn_goes r (Instruction i) c b (Instruction (i + 2)) c set (at_instruction opcode.MARK Marking refl w (record { number = v; there = wv; is = refl })) g.stands refl all limit g)
+    subst (λ x. Later r all limit (next.At (i + 2) c) x)
+    (sym (eb ∙ ap (λ q. record b { marks = set_mark b.marks v q }) same_place))
+    (turn_goes r (Instruction i) c b (Instruction (i + 2)) c set
+    (at_instruction opcode.MARK Marking refl w (record { number = v; there = wv; is = refl }))
+    g.stands refl all limit g)
 
 -- JUMP
-pub jump_operand : (r : Run) (i : ℕ) (c : StringCursor) → Opcode r.words i opcode.JUMP → HasRun r (Instruction i) c → i + 1 < length r.words
+pub jump_operand : (r : Run) (i : ℕ) (c : StringCursor) → Opcode r.words i opcode.JUMP → HasRun r (Instruction i) c
+    → i + 1 < length r.words
 jump_operand r i c w x = (in_family opcode.JUMP Jumping refl w x.runs).1.there
 
-pub jump_step : (r : Run) (i v : ℕ) (c : StringCursor) (b : BoardValue) → Opcode r.words i opcode.JUMP → Word r.words (i + 1) v → (all : List Way) (limit : ℕ) → Goes r all limit (Instruction i) c b → Later r all limit (next.At (i + 1 + v) c) b
+pub jump_step : (r : Run) (i v : ℕ) (c : StringCursor) (b : BoardValue) → Opcode r.words i opcode.JUMP
+    → Word r.words (i + 1) v → (all : List Way) (limit : ℕ) → Goes r all limit (Instruction i) c b
+    → Later r all limit (next.At (i + 1 + v) c) b
 jump_step r i v c b w wv all limit g =
-    turn_goes r (Instruction i) c b (Instruction (i + 1 + v)) c b (at_instruction opcode.JUMP Jumping refl w (record { there = word_within r.words (i + 1) v wv; is = rw (word_of r.words (i + 1) v wv) refl })) g.stands refl all limit g
+    turn_goes r (Instruction i) c b (Instruction (i + 1 + v)) c b
+    (at_instruction opcode.JUMP Jumping refl w
+    (record { there = word_within r.words (i + 1) v wv; is = rw (word_of r.words (i + 1) v wv) refl }))
+    g.stands refl all limit g
 
 -- a LITERAL that is not the character, or that stands at the window's end
-pub literal_there : (ws : List ℕ) (i v : ℕ) → Opcode ws i opcode.LITERAL → Word ws (i + 1) v → TestStands ws i (i + 2) (Literal Plain v)
+pub literal_there : (ws : List ℕ) (i v : ℕ) → Opcode ws i opcode.LITERAL → Word ws (i + 1) v
+    → TestStands ws i (i + 2) (Literal Plain v)
 literal_there ws i v w wv = record { code = w; operands = (wv, refl) }
 
-pub literal_operand : (r : Run) (i : ℕ) (c : StringCursor) → Opcode r.words i opcode.LITERAL → HasRun r (Instruction i) c → i + 1 < length r.words
+pub literal_operand : (r : Run) (i : ℕ) (c : StringCursor) → Opcode r.words i opcode.LITERAL
+    → HasRun r (Instruction i) c → i + 1 < length r.words
 literal_operand r i c w x =
     let t = test_there r i c opcode.LITERAL w refl x in
-    let l = is_literal r.words i t.end t.test (record { code = opcode.LITERAL; there = w; begins = refl }) t.stands.code t.stands.operands in
+    let l = is_literal r.words i t.end t.test (record { code = opcode.LITERAL; there = w; begins = refl })
+    t.stands.code t.stands.operands in
     word_within r.words (i + 1) l.1 l.3.0
 
-refuses_test : (r : Run) (i j p : ℕ) (t : Test) (o : SreOpcode) → Opcode r.words i o → family o ≡ Testing → TestStands r.words i j t → passes r.subject t p ≡ false → Refuses r i p
-refuses_test r i j p t o w f st n fs m os k x = run_nothing (at_instruction o Testing f w (record { end = j; test = t; stands = st; is = rw n refl })) x
+refuses_test : (r : Run) (i j p : ℕ) (t : Test) (o : SreOpcode) → Opcode r.words i o → family o ≡ Testing
+    → TestStands r.words i j t → passes r.subject t p ≡ false → Refuses r i p
+refuses_test r i j p t o w f st n fs m os k x =
+    run_nothing (at_instruction o Testing f w (record { end = j; test = t; stands = st; is = rw n refl })) x
 
 -- a literal that is not the character refuses, and so does each at the window's end
-pub literal_refuses : (r : Run) (i v ch : ℕ) (c : StringCursor) → Opcode r.words i opcode.LITERAL → Word r.words (i + 1) v → c.position < r.subject.end → ch ≡ char_at r.subject c.position → ch ≢ v → Refuses r i c.position
-literal_refuses r i v ch c w wv l e unlike = refuses_test r i (i + 2) c.position (Literal Plain v) opcode.LITERAL w refl (literal_there r.words i v w wv) (read_passes r.subject (Literal Plain v) c.position ch false l e (sym (other v ch (λ x. unlike (sym x)))))
+pub literal_refuses : (r : Run) (i v ch : ℕ) (c : StringCursor) → Opcode r.words i opcode.LITERAL
+    → Word r.words (i + 1) v → c.position < r.subject.end → ch ≡ char_at r.subject c.position → ch ≢ v
+    → Refuses r i c.position
+literal_refuses r i v ch c w wv l e unlike =
+    refuses_test r i (i + 2) c.position (Literal Plain v) opcode.LITERAL w refl (literal_there r.words i v w wv)
+    (read_passes r.subject (Literal Plain v) c.position ch false l e (sym (other v ch (λ x. unlike (sym x)))))
   where
     other : (v ch : ℕ) → v ≢ ch → nat_eq v ch ≡ false
     other v ch ne = grind (arith, nat_tests)
 
-pub literal_past : (r : Run) (i : ℕ) (c : StringCursor) → Opcode r.words i opcode.LITERAL → HasRun r (Instruction i) c → r.subject.end ≤ c.position → Refuses r i c.position
-literal_past r i c w x l = let t = test_there r i c opcode.LITERAL w refl x in refuses_test r i t.end c.position t.test opcode.LITERAL w refl t.stands (past_end r.subject t.test c.position l)
+pub literal_past : (r : Run) (i : ℕ) (c : StringCursor) → Opcode r.words i opcode.LITERAL → HasRun r (Instruction i) c
+    → r.subject.end ≤ c.position → Refuses r i c.position
+literal_past r i c w x l =
+    let t = test_there r i c opcode.LITERAL w refl x in
+    refuses_test r i t.end c.position t.test opcode.LITERAL w refl t.stands (past_end r.subject t.test c.position l)

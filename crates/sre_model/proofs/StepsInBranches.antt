@@ -19,38 +19,65 @@ positive zero no_ = absurd (no_ refl)
 positive (suc n) no_ = omega arith
 
 -- BRANCH
-branch_moves : (ws : List ℕ) (s : Subject) (i : ℕ) (x : Spot) → x.point ≡ Instruction i → Opcode ws i opcode.BRANCH → Moves ws s x (Go (to_point x (Alternatives (i + 1))))
+branch_moves : (ws : List ℕ) (s : Subject) (i : ℕ) (x : Spot) → x.point ≡ Instruction i → Opcode ws i opcode.BRANCH
+    → Moves ws s x (Go (to_point x (Alternatives (i + 1))))
 branch_moves ws s i x e w = rw e (at_instruction opcode.BRANCH Branching refl w refl)
 
-pub branch_step : (r : Run) (i : ℕ) (c : StringCursor) (b : BoardValue) → Opcode r.words i opcode.BRANCH → (all : List Way) (limit : ℕ) → Goes r all limit (Instruction i) c b → (1 ≤ limit) × Goes r all (limit - 1) (Alternatives (i + 1)) c b
-branch_step r i c b w all limit g = turn_goes r (Instruction i) c b (Alternatives (i + 1)) c b (branch_moves r.words r.subject i (spot (Instruction i) c b) refl w) g.stands refl all limit g
+pub branch_step : (r : Run) (i : ℕ) (c : StringCursor) (b : BoardValue)
+    → Opcode r.words i opcode.BRANCH → (all : List Way) (limit : ℕ) → Goes r all limit (Instruction i) c b
+    → (1 ≤ limit) × Goes r all (limit - 1) (Alternatives (i + 1)) c b
+branch_step r i c b w all limit g =
+    turn_goes r (Instruction i) c b (Alternatives (i + 1)) c b
+    (branch_moves r.words r.subject i (spot (Instruction i) c b) refl w) g.stands refl all limit g
 
-pub branch_run : (r : Run) (i : ℕ) (c : StringCursor) → Opcode r.words i opcode.BRANCH → HasRun r (Instruction i) c → HasRun r (Alternatives (i + 1)) c
-branch_run r i c w x = has_run r (Alternatives (i + 1)) x.frames x.marks c x.stands (run_goes _ (branch_moves r.words r.subject i _ refl w) x.runs)
+pub branch_run : (r : Run) (i : ℕ) (c : StringCursor) → Opcode r.words i opcode.BRANCH → HasRun r (Instruction i) c
+    → HasRun r (Alternatives (i + 1)) c
+branch_run r i c w x =
+    has_run r (Alternatives (i + 1)) x.frames x.marks c x.stands
+    (run_goes _ (branch_moves r.words r.subject i _ refl w) x.runs)
 
 -- alternatives
-alternatives_move : (ws : List ℕ) (s : Subject) (q v : ℕ) (x : Spot) → x.point ≡ Alternatives q → Word ws q v → 0 < v → Moves ws s x (Split (to_point x (Instruction (q + 1))) (to_point x (Alternatives (q + v))))
-alternatives_move ws s q v x e w l = let more : nat_eq v 0 ≡ false = grind (arith, nat_tests) in rw e (record { value = v; there = w; is = rw more refl })
+alternatives_move : (ws : List ℕ) (s : Subject) (q v : ℕ) (x : Spot) → x.point ≡ Alternatives q → Word ws q v → 0 < v
+    → Moves ws s x (Split (to_point x (Instruction (q + 1))) (to_point x (Alternatives (q + v))))
+alternatives_move ws s q v x e w l =
+    let more : nat_eq v 0 ≡ false = grind (arith, nat_tests) in
+    rw e (record { value = v; there = w; is = rw more refl })
 
-alternatives_stop : (ws : List ℕ) (s : Subject) (q v : ℕ) (x : Spot) → x.point ≡ Alternatives q → Word ws q v → v ≡ 0 → Moves ws s x Stop
+alternatives_stop : (ws : List ℕ) (s : Subject) (q v : ℕ) (x : Spot) → x.point ≡ Alternatives q → Word ws q v → v ≡ 0
+    → Moves ws s x Stop
 alternatives_stop ws s q v x e w z = rw e (record { value = v; there = w; is = rw z refl })
 
 pub alternatives_there : (r : Run) (q : ℕ) (c : StringCursor) → HasRun r (Alternatives q) c → q < length r.words
 alternatives_there r q c x = go x.runs
   where
-    go : {os : List Way} {n : ℕ} → Runs r.words r.subject (spot_at (Alternatives q) x.frames c.position x.marks) os n → q < length r.words
+    go : {os : List Way} {n : ℕ} → Runs r.words r.subject (spot_at (Alternatives q) x.frames c.position x.marks) os n
+        → q < length r.words
     go (turns mv h d) = word_within r.words q h.value h.there
 
-pub alternatives_none : (r : Run) (q : ℕ) (c : StringCursor) (b : BoardValue) {v : ℕ} → Word r.words q v → v ≡ 0 → (all : List Way) (limit : ℕ) → Goes r all limit (Alternatives q) c b → Later r all limit next.Back b
-alternatives_none r q c b {v} w e = turn_stops r (Alternatives q) c b (alternatives_stop r.words r.subject q v (spot (Alternatives q) c b) refl w e)
+pub alternatives_none : (r : Run) (q : ℕ) (c : StringCursor) (b : BoardValue) {v : ℕ} → Word r.words q v → v ≡ 0
+    → (all : List Way) (limit : ℕ) → Goes r all limit (Alternatives q) c b → Later r all limit next.Back b
+alternatives_none r q c b {v} w e =
+    turn_stops r (Alternatives q) c b (alternatives_stop r.words r.subject q v (spot (Alternatives q) c b) refl w e)
 
-pub alternatives_both : (r : Run) (q v : ℕ) (c : StringCursor) (b : BoardValue) → Word r.words q v → 0 < v → (all : List Way) (limit : ℕ) → Goes r all limit (Alternatives q) c b → GoesBoth r all limit (spot (Instruction (q + 1)) c b) (spot (Alternatives (q + v)) c b) c b.choices
-alternatives_both r q v c b w l all limit g = turn_splits r (Alternatives q) c b (spot (Instruction (q + 1)) c b) (spot (Alternatives (q + v)) c b) c (alternatives_move r.words r.subject q v (spot (Alternatives q) c b) refl w l) g.stands all limit g
+pub alternatives_both : (r : Run) (q v : ℕ) (c : StringCursor) (b : BoardValue) → Word r.words q v → 0 < v
+    → (all : List Way) (limit : ℕ) → Goes r all limit (Alternatives q) c b
+    → GoesBoth r all limit (spot (Instruction (q + 1)) c b) (spot (Alternatives (q + v)) c b) c b.choices
+alternatives_both r q v c b w l all limit g =
+    turn_splits r (Alternatives q) c b (spot (Instruction (q + 1)) c b) (spot (Alternatives (q + v)) c b) c
+    (alternatives_move r.words r.subject q v (spot (Alternatives q) c b) refl w l) g.stands all limit g
 
-pub alternatives_run : (r : Run) (q v : ℕ) (c : StringCursor) → Word r.words q v → 0 < v → HasRun r (Alternatives q) c → HasRun r (Instruction (q + 1)) c × HasRun r (Alternatives (q + v)) c
+pub alternatives_run : (r : Run) (q v : ℕ) (c : StringCursor) → Word r.words q v → 0 < v → HasRun r (Alternatives q) c
+    → HasRun r (Instruction (q + 1)) c × HasRun r (Alternatives (q + v)) c
 alternatives_run r q v c w l x =
-    let t = run_splits _ _ (alternatives_move r.words r.subject q v _ refl w l) x.runs in
-    (has_run r (Instruction (q + 1)) x.frames x.marks c x.stands t.0, has_run r (Alternatives (q + v)) x.frames x.marks c x.stands t.1)
+    let t = run_splits _ _ (alternatives_move r.words r.subject q v _ refl w l) x.runs in (
+      has_run r (Instruction (q + 1)) x.frames x.marks c x.stands t.0,
+      has_run r (Alternatives (q + v)) x.frames x.marks c x.stands t.1,
+    )
 
-pub alternatives_last : (r : Run) (i q : ℕ) (c : StringCursor) (b : BoardValue) {v : ℕ} → Word r.words q v → v ≡ 0 → (all : List Way) (limit : ℕ) → GoesBoth r all limit (spot (Instruction i) c b) (spot (Alternatives q) c b) c b.choices → Later r all limit (next.At i c) b
-alternatives_last r i q c b {v} w e = both_last r i (spot (Alternatives q) c b) c b (alternatives_stop r.words r.subject q v (spot (Alternatives q) c b) refl w e)
+pub alternatives_last : (r : Run) (i q : ℕ) (c : StringCursor) (b : BoardValue) {v : ℕ} → Word r.words q v → v ≡ 0
+    → (all : List Way) (limit : ℕ)
+    → GoesBoth r all limit (spot (Instruction i) c b) (spot (Alternatives q) c b) c b.choices
+    → Later r all limit (next.At i c) b
+alternatives_last r i q c b {v} w e =
+    both_last r i (spot (Alternatives q) c b) c b
+    (alternatives_stop r.words r.subject q v (spot (Alternatives q) c b) refl w e)

@@ -17,14 +17,19 @@ use Rattle.sre_model.proofs.Words.{word_of, word_within}
 use Rattle.sre_model.proofs.Moving.{in_family, at_instruction, has_run, run_splits, turn_goes, turn_splits, both_wait, both_first, both_second}
 
 -- REPEAT
-pub repeat_operand : (r : Run) (i : ℕ) (c : StringCursor) → Opcode r.words i opcode.REPEAT → HasRun r (Instruction i) c → i + 1 < length r.words
+pub repeat_operand : (r : Run) (i : ℕ) (c : StringCursor) → Opcode r.words i opcode.REPEAT → HasRun r (Instruction i) c
+    → i + 1 < length r.words
 repeat_operand r i c w x = (in_family opcode.REPEAT Repeating refl w x.runs).1.there
 
-pub repeat_step : (r : Run) (i v : ℕ) (c : StringCursor) (b b' : BoardValue) → Opcode r.words i opcode.REPEAT → Word r.words (i + 1) v → b' ≡ record b { frames = first_frame i ∷ b.frames } → (all : List Way) (limit : ℕ) → Goes r all limit (Instruction i) c b → Later r all limit (next.At (i + 1 + v) c) b'
+pub repeat_step : (r : Run) (i v : ℕ) (c : StringCursor) (b b' : BoardValue) → Opcode r.words i opcode.REPEAT
+    → Word r.words (i + 1) v → b' ≡ record b { frames = first_frame i ∷ b.frames } → (all : List Way) (limit : ℕ)
+    → Goes r all limit (Instruction i) c b → Later r all limit (next.At (i + 1 + v) c) b'
 repeat_step r i v c b b' w wv eb all limit g =
     let entered : BoardValue = record b { frames = first_frame i ∷ b.frames } in
     subst (λ x. Later r all limit (next.At (i + 1 + v) c) x) (sym eb)
-    (turn_goes r (Instruction i) c b (Instruction (i + 1 + v)) c entered (at_instruction opcode.REPEAT Repeating refl w (record { there = word_within r.words (i + 1) v wv; is = rw (word_of r.words (i + 1) v wv) refl })) g.stands refl all limit g)
+    (turn_goes r (Instruction i) c b (Instruction (i + 1 + v)) c entered (at_instruction opcode.REPEAT Repeating refl w
+    (record { there = word_within r.words (i + 1) v wv; is = rw (word_of r.words (i + 1) v wv) refl }))
+    g.stands refl all limit g)
 
 until_family : (o : Order) → family (until_opcode o) ≡ Looping o
 until_family Greedy = refl
@@ -38,34 +43,68 @@ pub record InLoop (r : Run) (o : Order) (u low high : ℕ) (b : BoardValue) (f :
   pub highest : Word r.words (f.repeat + 3) high
 
 -- there is one where its end is reached
-pub until_frames : (r : Run) (o : Order) (u : ℕ) (c : StringCursor) (b : BoardValue) → Opcode r.words u (until_opcode o) → IsAt r (Instruction u) c b → 0 < length b.frames
-until_frames r o u c b w x = let h = (in_family (until_opcode o) (Looping o) (until_family o) w x.runs).1 in rw h.inside (omega arith)
+pub until_frames : (r : Run) (o : Order) (u : ℕ) (c : StringCursor) (b : BoardValue) → Opcode r.words u (until_opcode o)
+    → IsAt r (Instruction u) c b → 0 < length b.frames
+until_frames r o u c b w x =
+    let h = (in_family (until_opcode o) (Looping o) (until_family o) w x.runs).1 in
+    rw h.inside (omega arith)
 
-pub until_there : (r : Run) (o : Order) (u : ℕ) (c : StringCursor) (b : BoardValue) (f : Frame) → Opcode r.words u (until_opcode o) → IsAt r (Instruction u) c b → b.frames ≡ f ∷ drop 1 b.frames → (low : ℕ) × (high : ℕ) × InLoop r o u low high b f
+pub until_there : (r : Run) (o : Order) (u : ℕ) (c : StringCursor) (b : BoardValue) (f : Frame)
+    → Opcode r.words u (until_opcode o) → IsAt r (Instruction u) c b → b.frames ≡ f ∷ drop 1 b.frames
+    → (low : ℕ) × (high : ℕ) × InLoop r o u low high b f
 until_there r o u c b f w x e =
     let h = (in_family (until_opcode o) (Looping o) (until_family o) w x.runs).1 in
     let frames : h.frame ∷ h.outer ≡ f ∷ drop 1 b.frames = sym h.inside ∙ e in
-    let frame : h.frame ≡ f = cc in
-    (h.low, h.high, record { code = w; inside = e; lowest = subst (λ g. Word r.words (g.repeat + 2) h.low) frame h.lowest; highest = subst (λ g. Word r.words (g.repeat + 3) h.high) frame h.highest })
+    let frame : h.frame ≡ f = cc in (
+      h.low,
+      h.high,
+      record {
+        code = w;
+        inside = e;
+        lowest = subst (λ g. Word r.words (g.repeat + 2) h.low) frame h.lowest;
+        highest = subst (λ g. Word r.words (g.repeat + 3) h.high) frame h.highest;
+      },
+    )
 
-until_at : (r : Run) (o : Order) (u low high : ℕ) (c : StringCursor) (b : BoardValue) (f : Frame) (mv : Move) → InLoop r o u low high b f → mv ≡ until_move o low high u f (drop 1 b.frames) (spot (Instruction u) c b) → Moves r.words r.subject (spot (Instruction u) c b) mv
-until_at r o u low high c b f mv h e = at_instruction (until_opcode o) (Looping o) (until_family o) h.code (record { frame = f; outer = drop 1 b.frames; low = low; high = high; inside = h.inside; lowest = h.lowest; highest = h.highest; is = e })
+until_at : (r : Run) (o : Order) (u low high : ℕ) (c : StringCursor) (b : BoardValue) (f : Frame) (mv : Move)
+    → InLoop r o u low high b f → mv ≡ until_move o low high u f (drop 1 b.frames) (spot (Instruction u) c b)
+    → Moves r.words r.subject (spot (Instruction u) c b) mv
+until_at r o u low high c b f mv h e = at_instruction (until_opcode o) (Looping o) (until_family o) h.code (record {
+  frame = f;
+  outer = drop 1 b.frames;
+  low = low;
+  high = high;
+  inside = h.inside;
+  lowest = h.lowest;
+  highest = h.highest;
+  is = e;
+})
 
 -- below the least count a further body is tried
-pub until_below : (r : Run) (o : Order) (u low high : ℕ) (c : StringCursor) (b b' : BoardValue) (f : Frame) → InLoop r o u low high b f → f.count < low → b' ≡ record b { frames = next_frame f f.last ∷ drop 1 b.frames } → (all : List Way) (limit : ℕ) → Goes r all limit (Instruction u) c b → Later r all limit (next.At (f.repeat + 4) c) b'
+pub until_below : (r : Run) (o : Order) (u low high : ℕ) (c : StringCursor) (b b' : BoardValue) (f : Frame)
+    → InLoop r o u low high b f → f.count < low → b' ≡ record b { frames = next_frame f f.last ∷ drop 1 b.frames }
+    → (all : List Way) (limit : ℕ) → Goes r all limit (Instruction u) c b
+    → Later r all limit (next.At (f.repeat + 4) c) b'
 until_below r o u low high c b b' f h l eb all limit g =
     let entered : BoardValue = record b { frames = next_frame f f.last ∷ drop 1 b.frames } in
     let below : nat_lt f.count low ≡ true = grind (arith, nat_tests) in
     subst (λ x. Later r all limit (next.At (f.repeat + 4) c) x) (sym eb)
-    (turn_goes r (Instruction u) c b (Instruction (f.repeat + 4)) c entered (until_at r o u low high c b f (Go (spot (Instruction (f.repeat + 4)) c entered)) h (rw below refl)) g.stands refl all limit g)
+    (turn_goes r (Instruction u) c b (Instruction (f.repeat + 4)) c entered
+    (until_at r o u low high c b f (Go (spot (Instruction (f.repeat + 4)) c entered)) h (rw below refl))
+    g.stands refl all limit g)
 
 -- the loop ends where no further one may be tried
-pub until_done : (r : Run) (o : Order) (u low high : ℕ) (c : StringCursor) (b b' : BoardValue) (f : Frame) → InLoop r o u low high b f → low ≤ f.count → may_repeat high f.count f.last c.position ≡ false → b' ≡ record b { frames = drop 1 b.frames } → (all : List Way) (limit : ℕ) → Goes r all limit (Instruction u) c b → Later r all limit (next.At (u + 1) c) b'
+pub until_done : (r : Run) (o : Order) (u low high : ℕ) (c : StringCursor) (b b' : BoardValue) (f : Frame)
+    → InLoop r o u low high b f → low ≤ f.count → may_repeat high f.count f.last c.position ≡ false
+    → b' ≡ record b { frames = drop 1 b.frames } → (all : List Way) (limit : ℕ) → Goes r all limit (Instruction u) c b
+    → Later r all limit (next.At (u + 1) c) b'
 until_done r o u low high c b b' f h l no_ eb all limit g =
     let left : BoardValue = record b { frames = drop 1 b.frames } in
     let beyond : nat_lt f.count low ≡ false = grind (arith, nat_tests) in
     subst (λ x. Later r all limit (next.At (u + 1) c) x) (sym eb)
-    (turn_goes r (Instruction u) c b (Instruction (u + 1)) c left (until_at r o u low high c b f (Go (spot (Instruction (u + 1)) c left)) h (rw (beyond, no_) refl)) g.stands refl all limit g)
+    (turn_goes r (Instruction u) c b (Instruction (u + 1)) c left
+    (until_at r o u low high c b f (Go (spot (Instruction (u + 1)) c left)) h (rw (beyond, no_) refl))
+    g.stands refl all limit g)
 
 -- else there are two spots, in order
 abbrev body_spot : ℕ → StringCursor → BoardValue → Frame → Spot
@@ -74,13 +113,17 @@ body_spot u c b f = at_body f (Some c.position) (drop 1 b.frames) (spot (Instruc
 abbrev end_spot : ℕ → StringCursor → BoardValue → Spot
 end_spot u c b = behind u (drop 1 b.frames) (spot (Instruction u) c b)
 
-until_splits : (r : Run) (o : Order) (u low high : ℕ) (c : StringCursor) (b : BoardValue) (f : Frame) → InLoop r o u low high b f → low ≤ f.count → may_repeat high f.count f.last c.position ≡ true → Moves r.words r.subject (spot (Instruction u) c b) (in_order o (body_spot u c b f) (end_spot u c b))
+until_splits : (r : Run) (o : Order) (u low high : ℕ) (c : StringCursor) (b : BoardValue) (f : Frame)
+    → InLoop r o u low high b f → low ≤ f.count → may_repeat high f.count f.last c.position ≡ true
+    → Moves r.words r.subject (spot (Instruction u) c b) (in_order o (body_spot u c b f) (end_spot u c b))
 until_splits r o u low high c b f h l y =
     let beyond : nat_lt f.count low ≡ false = grind (arith, nat_tests) in
     until_at r o u low high c b f (in_order o (body_spot u c b f) (end_spot u c b)) h (rw (beyond, y) refl)
 
 -- both can be reached
-pub until_runs : (r : Run) (o : Order) (u low high : ℕ) (c : StringCursor) (b : BoardValue) (f : Frame) → InLoop r o u low high b f → low ≤ f.count → may_repeat high f.count f.last c.position ≡ true → IsAt r (Instruction u) c b → HasRun r (Instruction (f.repeat + 4)) c × HasRun r (Instruction (u + 1)) c
+pub until_runs : (r : Run) (o : Order) (u low high : ℕ) (c : StringCursor) (b : BoardValue) (f : Frame)
+    → InLoop r o u low high b f → low ≤ f.count → may_repeat high f.count f.last c.position ≡ true
+    → IsAt r (Instruction u) c b → HasRun r (Instruction (f.repeat + 4)) c × HasRun r (Instruction (u + 1)) c
 until_runs r Greedy u low high c b f h l y x =
     let t = run_splits _ _ (until_splits r Greedy u low high c b f h l y) x.runs in
     (has_run r (Instruction (f.repeat + 4)) _ _ c x.stands t.0, has_run r (Instruction (u + 1)) _ _ c x.stands t.1)
@@ -89,40 +132,90 @@ until_runs r Lazy u low high c b f h l y x =
     (has_run r (Instruction (f.repeat + 4)) _ _ c x.stands t.1, has_run r (Instruction (u + 1)) _ _ c x.stands t.0)
 
 -- nothing comes of the body
-pub until_refused : (r : Run) (o : Order) (u low high : ℕ) (c : StringCursor) (b b' : BoardValue) (f : Frame) → InLoop r o u low high b f → low ≤ f.count → may_repeat high f.count f.last c.position ≡ true → Refuses r (f.repeat + 4) c.position → b' ≡ record b { frames = drop 1 b.frames } → (all : List Way) (limit : ℕ) → Goes r all limit (Instruction u) c b → Later r all limit (next.At (u + 1) c) b'
+pub until_refused : (r : Run) (o : Order) (u low high : ℕ) (c : StringCursor) (b b' : BoardValue) (f : Frame)
+    → InLoop r o u low high b f → low ≤ f.count → may_repeat high f.count f.last c.position ≡ true
+    → Refuses r (f.repeat + 4) c.position → b' ≡ record b { frames = drop 1 b.frames } → (all : List Way) (limit : ℕ)
+    → Goes r all limit (Instruction u) c b → Later r all limit (next.At (u + 1) c) b'
 until_refused r Greedy u low high c b b' f h l y no_ eb all limit g =
     subst (λ x. Later r all limit (next.At (u + 1) c) x) (sym eb)
-    (both_second r (body_spot u c b f) (u + 1) c (record b { frames = drop 1 b.frames }) b.choices (λ os n x. no_ _ _ os n x) refl all limit (turn_splits r (Instruction u) c b _ _ c (until_splits r Greedy u low high c b f h l y) g.stands all limit g))
+    (both_second r (body_spot u c b f) (u + 1) c
+    (record b { frames = drop 1 b.frames }) b.choices (λ os n x. no_ _ _ os n x) refl all limit
+    (turn_splits r (Instruction u) c b _ _ c (until_splits r Greedy u low high c b f h l y) g.stands all limit g))
 until_refused r Lazy u low high c b b' f h l y no_ eb all limit g =
     subst (λ x. Later r all limit (next.At (u + 1) c) x) (sym eb)
-    (both_first r (body_spot u c b f) (u + 1) c (record b { frames = drop 1 b.frames }) b.choices (λ os n x. no_ _ _ os n x) refl all limit (turn_splits r (Instruction u) c b _ _ c (until_splits r Lazy u low high c b f h l y) g.stands all limit g))
+    (both_first r (body_spot u c b f) (u + 1) c
+    (record b { frames = drop 1 b.frames }) b.choices (λ os n x. no_ _ _ os n x) refl all limit
+    (turn_splits r (Instruction u) c b _ _ c (until_splits r Lazy u low high c b f h l y) g.stands all limit g))
 
 -- nothing comes of the loop's end
-pub until_alone : (r : Run) (o : Order) (u low high : ℕ) (c : StringCursor) (b b' : BoardValue) (f : Frame) → InLoop r o u low high b f → low ≤ f.count → may_repeat high f.count f.last c.position ≡ true → Refuses r (u + 1) c.position → b' ≡ record b { frames = next_frame f (Some c.position) ∷ drop 1 b.frames } → (all : List Way) (limit : ℕ) → Goes r all limit (Instruction u) c b → Later r all limit (next.At (f.repeat + 4) c) b'
+pub until_alone : (r : Run) (o : Order) (u low high : ℕ) (c : StringCursor) (b b' : BoardValue) (f : Frame)
+    → InLoop r o u low high b f → low ≤ f.count → may_repeat high f.count f.last c.position ≡ true
+    → Refuses r (u + 1) c.position → b' ≡ record b { frames = next_frame f (Some c.position) ∷ drop 1 b.frames }
+    → (all : List Way) (limit : ℕ) → Goes r all limit (Instruction u) c b
+    → Later r all limit (next.At (f.repeat + 4) c) b'
 until_alone r Greedy u low high c b b' f h l y no_ eb all limit g =
     subst (λ x. Later r all limit (next.At (f.repeat + 4) c) x) (sym eb)
-    (both_first r (end_spot u c b) (f.repeat + 4) c (record b { frames = next_frame f (Some c.position) ∷ drop 1 b.frames }) b.choices (λ os n x. no_ _ _ os n x) refl all limit (turn_splits r (Instruction u) c b _ _ c (until_splits r Greedy u low high c b f h l y) g.stands all limit g))
+    (both_first r (end_spot u c b) (f.repeat + 4) c
+    (record b { frames = next_frame f (Some c.position) ∷ drop 1 b.frames })
+    b.choices (λ os n x. no_ _ _ os n x) refl all limit
+    (turn_splits r (Instruction u) c b _ _ c (until_splits r Greedy u low high c b f h l y) g.stands all limit g))
 until_alone r Lazy u low high c b b' f h l y no_ eb all limit g =
     subst (λ x. Later r all limit (next.At (f.repeat + 4) c) x) (sym eb)
-    (both_second r (end_spot u c b) (f.repeat + 4) c (record b { frames = next_frame f (Some c.position) ∷ drop 1 b.frames }) b.choices (λ os n x. no_ _ _ os n x) refl all limit (turn_splits r (Instruction u) c b _ _ c (until_splits r Lazy u low high c b f h l y) g.stands all limit g))
+    (both_second r (end_spot u c b) (f.repeat + 4) c
+    (record b { frames = next_frame f (Some c.position) ∷ drop 1 b.frames })
+    b.choices (λ os n x. no_ _ _ os n x) refl all limit
+    (turn_splits r (Instruction u) c b _ _ c (until_splits r Lazy u low high c b f h l y) g.stands all limit g))
 
 -- the other waits on the board
-pub until_greedy : (r : Run) (u low high : ℕ) (c : StringCursor) (b b' : BoardValue) (f : Frame) → InLoop r Greedy u low high b f → low ≤ f.count → may_repeat high f.count f.last c.position ≡ true → b' ≡ record b { frames = next_frame f (Some c.position) ∷ drop 1 b.frames; choices = Else (Instruction (u + 1)) (drop 1 b.frames) c b.marks ∷ b.choices } → (all : List Way) (limit : ℕ) → Goes r all limit (Instruction u) c b → Later r all limit (next.At (f.repeat + 4) c) b'
+pub until_greedy : (r : Run) (u low high : ℕ) (c : StringCursor) (b b' : BoardValue) (f : Frame)
+    → InLoop r Greedy u low high b f → low ≤ f.count → may_repeat high f.count f.last c.position ≡ true
+    → b' ≡ record b {
+      frames = next_frame f (Some c.position) ∷ drop 1 b.frames;
+      choices = Else (Instruction (u + 1)) (drop 1 b.frames) c b.marks ∷ b.choices;
+    } → (all : List Way) (limit : ℕ) → Goes r all limit (Instruction u) c b
+    → Later r all limit (next.At (f.repeat + 4) c) b'
 until_greedy r u low high c b b' f h l y eb all limit g =
     subst (λ x. Later r all limit (next.At (f.repeat + 4) c) x) (sym eb)
-    (both_wait r (f.repeat + 4) (end_spot u c b) c b (record b { frames = next_frame f (Some c.position) ∷ drop 1 b.frames; choices = Else (Instruction (u + 1)) (drop 1 b.frames) c b.marks ∷ b.choices }) b.choices refl refl all limit (turn_splits r (Instruction u) c b _ _ c (until_splits r Greedy u low high c b f h l y) g.stands all limit g))
+    (both_wait r (f.repeat + 4) (end_spot u c b) c b (record b {
+      frames = next_frame f (Some c.position) ∷ drop 1 b.frames;
+      choices = Else (Instruction (u + 1)) (drop 1 b.frames) c b.marks ∷ b.choices;
+    }) b.choices refl refl all limit
+    (turn_splits r (Instruction u) c b _ _ c (until_splits r Greedy u low high c b f h l y) g.stands all limit g))
 
-pub until_lazy : (r : Run) (u low high : ℕ) (c : StringCursor) (b b' : BoardValue) (f : Frame) → InLoop r Lazy u low high b f → low ≤ f.count → may_repeat high f.count f.last c.position ≡ true → b' ≡ record b { frames = drop 1 b.frames; choices = Else (Instruction (f.repeat + 4)) (next_frame f (Some c.position) ∷ drop 1 b.frames) c b.marks ∷ b.choices } → (all : List Way) (limit : ℕ) → Goes r all limit (Instruction u) c b → Later r all limit (next.At (u + 1) c) b'
+pub until_lazy : (r : Run) (u low high : ℕ) (c : StringCursor) (b b' : BoardValue) (f : Frame)
+    → InLoop r Lazy u low high b f → low ≤ f.count → may_repeat high f.count f.last c.position ≡ true → b' ≡ record b {
+      frames = drop 1 b.frames;
+      choices =
+          Else (Instruction (f.repeat + 4)) (next_frame f (Some c.position) ∷ drop 1 b.frames) c b.marks ∷ b.choices;
+    } → (all : List Way) (limit : ℕ) → Goes r all limit (Instruction u) c b → Later r all limit (next.At (u + 1) c) b'
 until_lazy r u low high c b b' f h l y eb all limit g =
     subst (λ x. Later r all limit (next.At (u + 1) c) x) (sym eb)
-    (both_wait r (u + 1) (body_spot u c b f) c b (record b { frames = drop 1 b.frames; choices = Else (Instruction (f.repeat + 4)) (next_frame f (Some c.position) ∷ drop 1 b.frames) c b.marks ∷ b.choices }) b.choices refl refl all limit (turn_splits r (Instruction u) c b _ _ c (until_splits r Lazy u low high c b f h l y) g.stands all limit g))
+    (both_wait r (u + 1) (body_spot u c b f) c b (record b {
+      frames = drop 1 b.frames;
+      choices =
+          Else (Instruction (f.repeat + 4)) (next_frame f (Some c.position) ∷ drop 1 b.frames) c b.marks ∷ b.choices;
+    }) b.choices refl refl all limit
+    (turn_splits r (Instruction u) c b _ _ c (until_splits r Lazy u low high c b f h l y) g.stands all limit g))
 
 -- boards, as they are changed
-pub entered_board : (b left entered : BoardValue) (f g : Frame) → left ≡ record b { frames = drop 1 b.frames } → entered ≡ record left { frames = g ∷ left.frames } → g ≡ f → entered ≡ record b { frames = f ∷ drop 1 b.frames }
+pub entered_board : (b left entered : BoardValue) (f g : Frame) → left ≡ record b { frames = drop 1 b.frames }
+    → entered ≡ record left { frames = g ∷ left.frames } → g ≡ f → entered ≡ record b { frames = f ∷ drop 1 b.frames }
 entered_board b left entered f g el ee eg = rw (ee, el, eg) refl
 
-pub saved_board : (b left saved entered : BoardValue) (f g : Frame) (i : ℕ) (c : StringCursor) → left ≡ record b { frames = drop 1 b.frames } → saved ≡ record left { choices = Else (Instruction i) left.frames c left.marks ∷ left.choices } → entered ≡ record saved { frames = g ∷ saved.frames } → g ≡ f → entered ≡ record b { frames = f ∷ drop 1 b.frames; choices = Else (Instruction i) (drop 1 b.frames) c b.marks ∷ b.choices }
+pub saved_board : (b left saved entered : BoardValue) (f g : Frame) (i : ℕ) (c : StringCursor)
+    → left ≡ record b { frames = drop 1 b.frames }
+    → saved ≡ record left { choices = Else (Instruction i) left.frames c left.marks ∷ left.choices }
+    → entered ≡ record saved { frames = g ∷ saved.frames } → g ≡ f → entered ≡ record b {
+      frames = f ∷ drop 1 b.frames;
+      choices = Else (Instruction i) (drop 1 b.frames) c b.marks ∷ b.choices;
+    }
 saved_board b left saved entered f g i c el es ee eg = rw (ee, es, el, eg) refl
 
-pub lazy_board : (b left entered saved again : BoardValue) (f g : Frame) (i : ℕ) (c : StringCursor) → left ≡ record b { frames = drop 1 b.frames } → entered ≡ record left { frames = g ∷ left.frames } → saved ≡ record entered { choices = Else (Instruction i) entered.frames c entered.marks ∷ entered.choices } → again ≡ record saved { frames = drop 1 saved.frames } → g ≡ f → again ≡ record b { frames = drop 1 b.frames; choices = Else (Instruction i) (f ∷ drop 1 b.frames) c b.marks ∷ b.choices }
+pub lazy_board : (b left entered saved again : BoardValue) (f g : Frame) (i : ℕ) (c : StringCursor)
+    → left ≡ record b { frames = drop 1 b.frames } → entered ≡ record left { frames = g ∷ left.frames }
+    → saved ≡ record entered { choices = Else (Instruction i) entered.frames c entered.marks ∷ entered.choices }
+    → again ≡ record saved { frames = drop 1 saved.frames } → g ≡ f → again ≡ record b {
+      frames = drop 1 b.frames;
+      choices = Else (Instruction i) (f ∷ drop 1 b.frames) c b.marks ∷ b.choices;
+    }
 lazy_board b left entered saved again f g i c el ee es ea eg = rw (ea, es, ee, el, eg) refl

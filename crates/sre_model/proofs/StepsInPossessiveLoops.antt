@@ -18,13 +18,14 @@ use Rattle.sre_model.proofs.Words.{word_of, word_within}
 use Rattle.sre_model.proofs.Moving.{at_instruction, turn_goes, turn_enters}
 
 -- POSSESSIVE_REPEAT
-pub possessive_step : (r : Run) (i : ℕ) (c : StringCursor) (b b' : BoardValue) → Opcode r.words i opcode.POSSESSIVE_REPEAT
-    → b' ≡ record b { frames = first_frame i ∷ b.frames } → (all : List Way) (limit : ℕ)
-    → Goes r all limit (Instruction i) c b → Later r all limit (next.Again c) b'
+pub possessive_step : (r : Run) (i : ℕ) (c : StringCursor) (b b' : BoardValue)
+    → Opcode r.words i opcode.POSSESSIVE_REPEAT → b' ≡ record b { frames = first_frame i ∷ b.frames }
+    → (all : List Way) (limit : ℕ) → Goes r all limit (Instruction i) c b → Later r all limit (next.Again c) b'
 possessive_step r i c b b' w eb all limit g =
     let begun : BoardValue = record b { frames = first_frame i ∷ b.frames } in
     subst (λ x. Later r all limit (next.Again c) x) (sym eb)
-    (turn_goes r (Instruction i) c b Again c begun (at_instruction opcode.POSSESSIVE_REPEAT RepeatingPossessively refl w refl) g.stands refl all limit g)
+    (turn_goes r (Instruction i) c b Again c begun
+    (at_instruction opcode.POSSESSIVE_REPEAT RepeatingPossessively refl w refl) g.stands refl all limit g)
 
 -- the innermost loop, and its counts
 pub record InPossessiveLoop (r : Run) (v low high : ℕ) (b : BoardValue) (f : Frame) : Type 0 where
@@ -41,8 +42,8 @@ again_frames r c b x = go x.runs
     go (turns mv h d) = rw h.inside (omega arith)
 
 -- and its operands are there
-pub again_operands : (r : Run) (c : StringCursor) (b : BoardValue) (f : Frame) → IsAt r Again c b → b.frames ≡ f ∷ drop 1 b.frames
-    → f.repeat + 3 < length r.words
+pub again_operands : (r : Run) (c : StringCursor) (b : BoardValue) (f : Frame) → IsAt r Again c b
+    → b.frames ≡ f ∷ drop 1 b.frames → f.repeat + 3 < length r.words
 again_operands r c b f x e = go x.runs
   where
     go : {os : List Way} {n : ℕ} → Runs r.words r.subject (spot Again c b) os n → f.repeat + 3 < length r.words
@@ -51,53 +52,75 @@ again_operands r c b f x e = go x.runs
         let frame : h.frame ≡ f = cc in
         word_within r.words (f.repeat + 3) h.high (subst (λ g. Word r.words (g.repeat + 3) h.high) frame h.highest)
 
-again_at : (r : Run) (v low high : ℕ) (c : StringCursor) (b : BoardValue) (f : Frame) (mv : Move) → InPossessiveLoop r v low high b f
-    → mv ≡ again_move low high (f.repeat + 1 + v) f (drop 1 b.frames) (spot Again c b) → Moves r.words r.subject (spot Again c b) mv
+again_at : (r : Run) (v low high : ℕ) (c : StringCursor) (b : BoardValue) (f : Frame) (mv : Move)
+    → InPossessiveLoop r v low high b f
+    → mv ≡ again_move low high (f.repeat + 1 + v) f (drop 1 b.frames) (spot Again c b)
+    → Moves r.words r.subject (spot Again c b) mv
 again_at r v low high c b f mv h e =
-    record { frame = f; outer = drop 1 b.frames; low = low; high = high; inside = h.inside; lowest = h.lowest; highest = h.highest; is = rw (word_of r.words (f.repeat + 1) v h.leads) e }
+    record {
+      frame = f;
+      outer = drop 1 b.frames;
+      low = low;
+      high = high;
+      inside = h.inside;
+      lowest = h.lowest;
+      highest = h.highest;
+      is = rw (word_of r.words (f.repeat + 1) v h.leads) e;
+    }
 
 -- the loop ends where no further body may be tried
-pub again_done : (r : Run) (v low high : ℕ) (c : StringCursor) (b b' : BoardValue) (f : Frame) → InPossessiveLoop r v low high b f
-    → low ≤ f.count → may_repeat high f.count f.last c.position ≡ false → b' ≡ record b { frames = drop 1 b.frames }
-    → (all : List Way) (limit : ℕ) → Goes r all limit Again c b → Later r all limit (next.At (f.repeat + 1 + v + 1) c) b'
+pub again_done : (r : Run) (v low high : ℕ) (c : StringCursor) (b b' : BoardValue) (f : Frame)
+    → InPossessiveLoop r v low high b f → low ≤ f.count → may_repeat high f.count f.last c.position ≡ false
+    → b' ≡ record b { frames = drop 1 b.frames } → (all : List Way) (limit : ℕ) → Goes r all limit Again c b
+    → Later r all limit (next.At (f.repeat + 1 + v + 1) c) b'
 again_done r v low high c b b' f h l no_ eb all limit g =
     let left : BoardValue = record b { frames = drop 1 b.frames } in
     let beyond : nat_lt f.count low ≡ false = grind (arith, nat_tests) in
     let end : Move = Go (spot (Instruction (f.repeat + 1 + v + 1)) c left) in
     subst (λ x. Later r all limit (next.At (f.repeat + 1 + v + 1) c) x) (sym eb)
-    (turn_goes r Again c b (Instruction (f.repeat + 1 + v + 1)) c left (again_at r v low high c b f end h (rw (beyond, no_) refl)) g.stands refl all limit g)
+    (turn_goes r Again c b (Instruction (f.repeat + 1 + v + 1)) c left
+    (again_at r v low high c b f end h (rw (beyond, no_) refl)) g.stands refl all limit g)
 
 -- a body is entered, counted on the board
 abbrev begun : Region → Frame → Option ℕ → StringCursor → BoardValue → BoardValue
-begun k f last c b = record b { frames = next_frame f last ∷ drop 1 b.frames; choices = Keep k (next_frame f last ∷ drop 1 b.frames) c b.marks ∷ b.choices }
+begun k f last c b = record b {
+  frames = next_frame f last ∷ drop 1 b.frames;
+  choices = Keep k (next_frame f last ∷ drop 1 b.frames) c b.marks ∷ b.choices;
+}
 
 again_enters : (r : Run) (k : Region) (last : Option ℕ) (c : StringCursor) (b b' : BoardValue) (f : Frame)
-    → Moves r.words r.subject (spot Again c b) (enter_body k f last (drop 1 b.frames) (spot Again c b)) → b' ≡ begun k f last c b
+    → Moves r.words r.subject (spot Again c b) (enter_body k f last (drop 1 b.frames) (spot Again c b))
+    → b' ≡ begun k f last c b
     → (all : List Way) (limit : ℕ) → Goes r all limit Again c b → Later r all limit (next.At (f.repeat + 4) c) b'
 again_enters r k last c b b' f h eb all limit g =
     subst (λ x. Later r all limit (next.At (f.repeat + 4) c) x) (sym eb)
-    (turn_enters r Again (next_frame f last ∷ drop 1 b.frames) (f.repeat + 4) k c c b (begun k f last c b) h g.stands refl all limit g)
+    (turn_enters r Again
+    (next_frame f last ∷ drop 1 b.frames) (f.repeat + 4) k c c b (begun k f last c b) h g.stands refl all limit g)
 
 -- below the least count one is owed
-pub again_owed : (r : Run) (v low high : ℕ) (c : StringCursor) (b b' : BoardValue) (f : Frame) → InPossessiveLoop r v low high b f
-    → f.count < low → b' ≡ begun Owed f f.last c b
+pub again_owed : (r : Run) (v low high : ℕ) (c : StringCursor) (b b' : BoardValue) (f : Frame)
+    → InPossessiveLoop r v low high b f → f.count < low → b' ≡ begun Owed f f.last c b
     → (all : List Way) (limit : ℕ) → Goes r all limit Again c b → Later r all limit (next.At (f.repeat + 4) c) b'
 again_owed r v low high c b b' f h l eb =
     let below : nat_lt f.count low ≡ true = grind (arith, nat_tests) in
-    again_enters r Owed f.last c b b' f (again_at r v low high c b f (enter_body Owed f f.last (drop 1 b.frames) (spot Again c b)) h (rw below refl)) eb
+    again_enters r Owed f.last c b b' f
+    (again_at r v low high c b f (enter_body Owed f f.last (drop 1 b.frames) (spot Again c b)) h (rw below refl)) eb
 
 -- from it on a further one is tried
-pub again_further : (r : Run) (v low high : ℕ) (c : StringCursor) (b b' : BoardValue) (f : Frame) → InPossessiveLoop r v low high b f
-    → low ≤ f.count → may_repeat high f.count f.last c.position ≡ true → b' ≡ begun (Further (f.repeat + 1 + v + 1)) f (Some c.position) c b
+pub again_further : (r : Run) (v low high : ℕ) (c : StringCursor) (b b' : BoardValue) (f : Frame)
+    → InPossessiveLoop r v low high b f → low ≤ f.count → may_repeat high f.count f.last c.position ≡ true
+    → b' ≡ begun (Further (f.repeat + 1 + v + 1)) f (Some c.position) c b
     → (all : List Way) (limit : ℕ) → Goes r all limit Again c b → Later r all limit (next.At (f.repeat + 4) c) b'
 again_further r v low high c b b' f h l y eb =
     let k : Region = Further (f.repeat + 1 + v + 1) in
     let beyond : nat_lt f.count low ≡ false = grind (arith, nat_tests) in
-    again_enters r k (Some c.position) c b b' f (again_at r v low high c b f (enter_body k f (Some c.position) (drop 1 b.frames) (spot Again c b)) h (rw (beyond, y) refl)) eb
+    again_enters r k (Some c.position) c b b' f
+    (again_at r v low high c b f (enter_body k f (Some c.position) (drop 1 b.frames) (spot Again c b))
+    h (rw (beyond, y) refl)) eb
 
 -- the board, as it is changed
 pub begun_board : (b left counted saved : BoardValue) (k : Region) (f g : Frame) (last : Option ℕ) (c : StringCursor)
     → left ≡ record b { frames = drop 1 b.frames } → counted ≡ record left { frames = g ∷ left.frames }
-    → saved ≡ record counted { choices = Keep k counted.frames c counted.marks ∷ counted.choices } → g ≡ next_frame f last
-    → saved ≡ begun k f last c b
+    → saved ≡ record counted { choices = Keep k counted.frames c counted.marks ∷ counted.choices }
+    → g ≡ next_frame f last → saved ≡ begun k f last c b
 begun_board b left counted saved k f g last c el ec es eg = rw (es, ec, el, eg) refl

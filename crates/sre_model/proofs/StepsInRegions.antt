@@ -21,32 +21,36 @@ use Rattle.sre_model.proofs.Words.{word_of, word_within}
 use Rattle.sre_model.proofs.Moving.{in_family, at_instruction, turn_stops, turn_goes, turn_enters, cut_waits}
 
 -- ATOMIC_GROUP
-pub atomic_operand : (r : Run) (i : ℕ) (c : StringCursor) → Opcode r.words i opcode.ATOMIC_GROUP →
-    HasRun r (Instruction i) c → i + 1 < length r.words
+pub atomic_operand : (r : Run) (i : ℕ) (c : StringCursor) → Opcode r.words i opcode.ATOMIC_GROUP
+    → HasRun r (Instruction i) c → i + 1 < length r.words
 atomic_operand r i c w x = (in_family opcode.ATOMIC_GROUP Grouping refl w x.runs).1.there
 
 -- a region is entered at a cursor
 abbrev pub entered : Region → StringCursor → BoardValue → BoardValue
 entered g c b = record b { choices = Keep g b.frames c b.marks ∷ b.choices }
 
-pub atomic_step : (r : Run) (i v : ℕ) (c : StringCursor) (b b' : BoardValue) → Opcode r.words i opcode.ATOMIC_GROUP →
-    Word r.words (i + 1) v → b' ≡ entered (AtomicGroup (i + 1 + v)) c b → (all : List Way) (limit : ℕ) →
-    Goes r all limit (Instruction i) c b → Later r all limit (next.At (i + 2) c) b'
+pub atomic_step : (r : Run) (i v : ℕ) (c : StringCursor) (b b' : BoardValue) → Opcode r.words i opcode.ATOMIC_GROUP
+    → Word r.words (i + 1) v → b' ≡ entered (AtomicGroup (i + 1 + v)) c b → (all : List Way) (limit : ℕ)
+    → Goes r all limit (Instruction i) c b → Later r all limit (next.At (i + 2) c) b'
 atomic_step r i v c b b' w wv eb all limit g =
     let group : Region = AtomicGroup (i + 1 + v) in
     let body : Spot = spot (Instruction (i + 2)) c b in
     let move : Moves r.words r.subject (spot (Instruction i) c b) (Enter group (spot (Instruction i) c b) body) =
-    at_instruction opcode.ATOMIC_GROUP Grouping refl w (record { there = word_within r.words (i + 1) v wv; is = rw (word_of r.words (i + 1) v wv) refl }) in
-    subst (λ x. Later r all limit (next.At (i + 2) c) x) (sym eb) (turn_enters r (Instruction i) b.frames (i + 2) group c c b (entered group c b) move g.stands refl all limit g)
+    at_instruction opcode.ATOMIC_GROUP Grouping refl w
+    (record { there = word_within r.words (i + 1) v wv; is = rw (word_of r.words (i + 1) v wv) refl }) in
+    subst (λ x. Later r all limit (next.At (i + 2) c) x) (sym eb)
+    (turn_enters r (Instruction i) b.frames (i + 2) group c c b (entered group c b) move g.stands refl all limit g)
 
 -- ASSERT, ASSERT_NOT
 look_family : (sign : Sign) → family (look_opcode sign) ≡ Looking sign
 look_family Positive = refl
 look_family Negative = refl
 
-pub look_operand : (r : Run) (sign : Sign) (i : ℕ) (c : StringCursor) → Opcode r.words i (look_opcode sign) →
-    HasRun r (Instruction i) c → i + 2 < length r.words
-look_operand r sign i c w x = let h = (in_family (look_opcode sign) (Looking sign) (look_family sign) w x.runs).1 in word_within r.words (i + 2) h.back h.there
+pub look_operand : (r : Run) (sign : Sign) (i : ℕ) (c : StringCursor) → Opcode r.words i (look_opcode sign)
+    → HasRun r (Instruction i) c → i + 2 < length r.words
+look_operand r sign i c w x =
+    let h = (in_family (look_opcode sign) (Looking sign) (look_family sign) w x.runs).1 in
+    word_within r.words (i + 2) h.back h.there
 
 -- what is at a look
 pub record AtLook (r : Run) (sign : Sign) (i v back : ℕ) : Type 0 where
@@ -55,83 +59,98 @@ pub record AtLook (r : Run) (sign : Sign) (i v back : ℕ) : Type 0 where
   pub there : Word r.words (i + 2) back
 
 -- fewer characters stand before
-look_early : (r : Run) (sign : Sign) (i v back : ℕ) (c : StringCursor) (b : BoardValue) → AtLook r sign i v back →
-    c.position < back →
-    Moves r.words r.subject (spot (Instruction i) c b) (closed (look sign (i + 1 + v)) (spot (Instruction i) c b) [])
+look_early : (r : Run) (sign : Sign) (i v back : ℕ) (c : StringCursor) (b : BoardValue) → AtLook r sign i v back
+    → c.position < back
+    → Moves r.words r.subject (spot (Instruction i) c b) (closed (look sign (i + 1 + v)) (spot (Instruction i) c b) [])
 look_early r sign i v back c b h l =
     let early : nat_lt c.position back ≡ true = grind (arith, nat_tests) in
-    at_instruction (look_opcode sign) (Looking sign) (look_family sign) h.code (record { back = back; there = h.there; is = rw (word_of r.words (i + 1) v h.leads, early) refl })
+    at_instruction (look_opcode sign) (Looking sign) (look_family sign) h.code
+    (record { back = back; there = h.there; is = rw (word_of r.words (i + 1) v h.leads, early) refl })
 
-pub ahead_early : (r : Run) (i v back : ℕ) (c : StringCursor) (b : BoardValue) → AtLook r Positive i v back →
-    c.position < back → (all : List Way) (limit : ℕ) → Goes r all limit (Instruction i) c b →
-    Later r all limit next.Back b
+pub ahead_early : (r : Run) (i v back : ℕ) (c : StringCursor) (b : BoardValue) → AtLook r Positive i v back
+    → c.position < back → (all : List Way) (limit : ℕ) → Goes r all limit (Instruction i) c b
+    → Later r all limit next.Back b
 ahead_early r i v back c b h l = turn_stops r (Instruction i) c b (look_early r Positive i v back c b h l)
 
-pub not_ahead_early : (r : Run) (i v back : ℕ) (c : StringCursor) (b : BoardValue) → AtLook r Negative i v back →
-    c.position < back → (all : List Way) (limit : ℕ) → Goes r all limit (Instruction i) c b →
-    Later r all limit (next.At (i + 1 + v) c) b
-not_ahead_early r i v back c b h l all limit g = turn_goes r (Instruction i) c b (Instruction (i + 1 + v)) c b (look_early r Negative i v back c b h l) g.stands refl all limit g
+pub not_ahead_early : (r : Run) (i v back : ℕ) (c : StringCursor) (b : BoardValue) → AtLook r Negative i v back
+    → c.position < back → (all : List Way) (limit : ℕ) → Goes r all limit (Instruction i) c b
+    → Later r all limit (next.At (i + 1 + v) c) b
+not_ahead_early r i v back c b h l all limit g =
+    turn_goes r (Instruction i) c b (Instruction (i + 1 + v)) c b
+    (look_early r Negative i v back c b h l) g.stands refl all limit g
 
 -- else its body is tried
-pub look_step : (r : Run) (sign : Sign) (i v back : ℕ) (c c' : StringCursor) (b b' : BoardValue) →
-    AtLook r sign i v back → back ≤ c.position → c'.position ≡ c.position - back → r.stands c' c'.position →
-    b' ≡ entered (look sign (i + 1 + v)) c b → (all : List Way) (limit : ℕ) → Goes r all limit (Instruction i) c b →
-    Later r all limit (next.At (i + 3) c') b'
+pub look_step : (r : Run) (sign : Sign) (i v back : ℕ) (c c' : StringCursor) (b b' : BoardValue)
+    → AtLook r sign i v back → back ≤ c.position → c'.position ≡ c.position - back → r.stands c' c'.position
+    → b' ≡ entered (look sign (i + 1 + v)) c b → (all : List Way) (limit : ℕ) → Goes r all limit (Instruction i) c b
+    → Later r all limit (next.At (i + 3) c') b'
 look_step r sign i v back c c' b b' h l place there eb all limit g =
     let region : Region = look sign (i + 1 + v) in
     let late : nat_lt c.position back ≡ false = grind (arith, nat_tests) in
-    let move : Moves r.words r.subject (spot (Instruction i) c b) (Enter region (spot (Instruction i) c b) (spot (Instruction (i + 3)) c' b)) =
-    at_instruction (look_opcode sign) (Looking sign) (look_family sign) h.code (record { back = back; there = h.there; is = rw (word_of r.words (i + 1) v h.leads, late, place) refl }) in
-    subst (λ x. Later r all limit (next.At (i + 3) c') x) (sym eb) (turn_enters r (Instruction i) b.frames (i + 3) region c c' b (entered region c b) move there refl all limit g)
+    let move : Moves r.words r.subject (spot (Instruction i) c b)
+    (Enter region (spot (Instruction i) c b) (spot (Instruction (i + 3)) c' b)) =
+    at_instruction (look_opcode sign) (Looking sign) (look_family sign) h.code
+    (record { back = back; there = h.there; is = rw (word_of r.words (i + 1) v h.leads, late, place) refl }) in
+    subst (λ x. Later r all limit (next.At (i + 3) c') x) (sym eb)
+    (turn_enters r (Instruction i) b.frames (i + 3) region c c' b (entered region c b) move there refl all limit g)
 
 -- a body has an outcome at a cursor: what comes of the region that is cut
 module _ (r : Run) (c d : StringCursor) (b b' : BoardValue) where
   -- nothing comes of it
-  ends_stop : {x : Spot} {all os : List Way} {limit n k j later : ℕ} → Comes r.words r.subject x Stop os n →
-      Waits r b'.choices os all k → n + k ≤ j → j ≤ later → later + 1 ≤ limit → Later r all limit next.Back b'
+  ends_stop : {x : Spot} {all os : List Way} {limit n k j later : ℕ} → Comes r.words r.subject x Stop os n
+      → Waits r b'.choices os all k → n + k ≤ j → j ≤ later → later + 1 ≤ limit → Later r all limit next.Back b'
   ends_stop stops wt e l m = (omega arith, record { later = _; waits = wt; within = omega arith })
 
   -- it goes on at a cursor
-  ends_go : {x : Spot} {all os : List Way} {limit n k j later : ℕ} (pt : Point) (at : StringCursor) →
-      r.stands at at.position → b'.marks ≡ b.marks →
-      Comes r.words r.subject x (Go (spot_at pt b'.frames at.position b.marks)) os n →
-      Waits r b'.choices os all k → n + k ≤ j → j ≤ later → later + 1 ≤ limit →
-      (1 ≤ limit) × Goes r all (limit - 1) pt at b'
+  ends_go : {x : Spot} {all os : List Way} {limit n k j later : ℕ} (pt : Point) (at : StringCursor)
+      → r.stands at at.position → b'.marks ≡ b.marks
+      → Comes r.words r.subject x (Go (spot_at pt b'.frames at.position b.marks)) os n
+      → Waits r b'.choices os all k → n + k ≤ j → j ≤ later → later + 1 ≤ limit
+      → (1 ≤ limit) × Goes r all (limit - 1) pt at b'
   ends_go {x} {all} {os} {limit} {n} {k} pt at there em (goes {n = n'} e) wt same l m =
       let moved : Runs r.words r.subject (spot pt at b') os n' =
-      subst (λ ms. Runs r.words r.subject (spot_at pt b'.frames at.position ms) os n') (sym em) e in
-      (omega arith, record { now = os; turns = n'; later = k; stands = there; runs = moved; waits = wt; within = omega arith })
+      subst (λ ms. Runs r.words r.subject (spot_at pt b'.frames at.position ms) os n') (sym em) e in (
+        omega arith,
+        record { now = os; turns = n'; later = k; stands = there; runs = moved; waits = wt; within = omega arith },
+      )
 
-  region_ends : (g : Region) (m : Marks) (us all : List Way) (limit j later : ℕ) → b'.marks ≡ b.marks →
-      r.stands c c.position →
-      Waits r (Keep g b'.frames d m ∷ b'.choices) (record { stop = c.position; marks = b.marks } ∷ us) all j →
-      j ≤ later → later + 1 ≤ limit → Later r all limit (after_outcome g c d) b'
-  region_ends (AtomicGroup t) m us all limit j later em there (kept at f wt) l k = ends_go (Instruction t) c there em f wt (omega arith) l k
-  region_ends (Ahead t) m us all limit j later em there (kept at f wt) l k = ends_go (Instruction t) d at em f wt (omega arith) l k
+  region_ends : (g : Region) (m : Marks) (us all : List Way) (limit j later : ℕ) → b'.marks ≡ b.marks
+      → r.stands c c.position
+      → Waits r (Keep g b'.frames d m ∷ b'.choices) (record { stop = c.position; marks = b.marks } ∷ us) all j
+      → j ≤ later → later + 1 ≤ limit → Later r all limit (after_outcome g c d) b'
+  region_ends (AtomicGroup t) m us all limit j later em there (kept at f wt) l k =
+      ends_go (Instruction t) c there em f wt (omega arith) l k
+  region_ends (Ahead t) m us all limit j later em there (kept at f wt) l k =
+      ends_go (Instruction t) d at em f wt (omega arith) l k
   region_ends (NotAhead t) m us all limit j later em there (kept at f wt) l k = ends_stop f wt (omega arith) l k
   region_ends Owed m us all limit j later em there (kept at f wt) l k = ends_go Again c there em f wt (omega arith) l k
-  region_ends (Further t) m us all limit j later em there (kept at f wt) l k = ends_go Again c there em f wt (omega arith) l k
+  region_ends (Further t) m us all limit j later em there (kept at f wt) l k =
+      ends_go Again c there em f wt (omega arith) l k
 
-  pub region_closes : (g : Region) → Cuts b g d b' → (all : List Way) (limit : ℕ) → Ends r all limit c b →
-      Later r all limit (after_outcome g c d) b'
+  pub region_closes : (g : Region) → Cuts b g d b' → (all : List Way) (limit : ℕ) → Ends r all limit c b
+      → Later r all limit (after_outcome g c d) b'
   region_closes g cut all limit e =
-      let u = cut_waits r b.choices b'.choices g b'.frames d cut.entered (record { stop = c.position; marks = b.marks }) [] all e.later cut.region e.waits in
+      let u = cut_waits r b.choices b'.choices g b'.frames d cut.entered
+      (record { stop = c.position; marks = b.marks }) [] all e.later cut.region e.waits in
       region_ends g cut.entered u.0 all limit u.1 e.later cut.marks e.stands u.3 u.2 e.within
 
 -- a body has no outcome
 module _ (r : Run) (c : StringCursor) (b' : BoardValue) where
-  back_stop : {x : Spot} {all os : List Way} {limit n k : ℕ} → Comes r.words r.subject x Stop os n →
-      Waits r b'.choices os all k → n + k ≤ limit → Later r all limit next.Back b'
+  back_stop : {x : Spot} {all os : List Way} {limit n k : ℕ} → Comes r.words r.subject x Stop os n
+      → Waits r b'.choices os all k → n + k ≤ limit → Later r all limit next.Back b'
   back_stop stops wt l = (omega arith, record { later = _; waits = wt; within = omega arith })
 
-  back_go : {x : Spot} {all os : List Way} {limit n k : ℕ} (t : ℕ) (fs : List Frame) → r.stands c c.position →
-      Comes r.words r.subject x (Go (spot_at (Instruction t) fs c.position b'.marks)) os n →
-      Waits r b'.choices os all k → n + k ≤ limit → Later r all limit (next.At t c) (record b' { frames = fs })
-  back_go t fs there (goes e) wt l = (omega arith, record { now = _; turns = _; later = _; stands = there; runs = e; waits = wt; within = omega arith })
+  back_go : {x : Spot} {all os : List Way} {limit n k : ℕ} (t : ℕ) (fs : List Frame) → r.stands c c.position
+      → Comes r.words r.subject x (Go (spot_at (Instruction t) fs c.position b'.marks)) os n
+      → Waits r b'.choices os all k → n + k ≤ limit → Later r all limit (next.At t c) (record b' { frames = fs })
+  back_go t fs there (goes e) wt l = (
+    omega arith,
+    record { now = _; turns = _; later = _; stands = there; runs = e; waits = wt; within = omega arith },
+  )
 
-  pub region_back : (g : Region) (all : List Way) (limit k : ℕ) →
-      Waits r (Keep g b'.frames c b'.marks ∷ b'.choices) [] all k → k ≤ limit →
-      Later r all limit (without_outcome g c) (without_loop g b')
+  pub region_back : (g : Region) (all : List Way) (limit k : ℕ)
+      → Waits r (Keep g b'.frames c b'.marks ∷ b'.choices) [] all k → k ≤ limit
+      → Later r all limit (without_outcome g c) (without_loop g b')
   region_back (AtomicGroup t) all limit k (kept at f wt) l = back_stop f wt l
   region_back (Ahead t) all limit k (kept at f wt) l = back_stop f wt l
   region_back (NotAhead t) all limit k (kept at f wt) l = back_go t b'.frames at f wt l

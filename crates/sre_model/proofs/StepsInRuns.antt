@@ -23,36 +23,50 @@ use Rattle.sre_model.proofs.Longest.{goes_on, run_at_most, run_inside}
 use Rattle.sre_model.proofs.Moving.{in_family, at_instruction, has_run, run_splits, turn_stops, turn_splits, both_last, turn_goes}
 
 -- shorter counts
-shorter_stop : (r : Run) (t k p : ℕ) (fs : List Frame) (m : Marks) → k ≡ 0 → Moves r.words r.subject (spot_at (Shorter t k) fs p m) Stop
+shorter_stop : (r : Run) (t k p : ℕ) (fs : List Frame) (m : Marks) → k ≡ 0
+    → Moves r.words r.subject (spot_at (Shorter t k) fs p m) Stop
 shorter_stop r t k p fs m e = record { past = omega arith; is = rw e refl }
 
-shorter_moves : (r : Run) (t k j p q : ℕ) (fs : List Frame) (m : Marks) → k ≡ suc j → p ≡ q + 1 → k ≤ p → Moves r.words r.subject (spot_at (Shorter t k) fs p m) (Split (spot_at (Instruction t) fs q m) (spot_at (Shorter t j) fs q m))
+shorter_moves : (r : Run) (t k j p q : ℕ) (fs : List Frame) (m : Marks) → k ≡ suc j → p ≡ q + 1 → k ≤ p
+    → Moves r.words r.subject (spot_at (Shorter t k) fs p m)
+    (Split (spot_at (Instruction t) fs q m) (spot_at (Shorter t j) fs q m))
 shorter_moves r t k j p q fs m e place l =
     let more : nat_eq k 0 ≡ false = grind (arith, nat_tests) in
     let less : k - 1 ≡ j = omega arith in
     let before : p - 1 ≡ q = omega arith in
     record { past = l; is = rw (more, less, before) refl }
 
-shorter_within : (r : Run) {t k p n : ℕ} {fs : List Frame} {m : Marks} {os : List Way} → Runs r.words r.subject (spot_at (Shorter t k) fs p m) os n → k ≤ p
+shorter_within : (r : Run) {t k p n : ℕ} {fs : List Frame} {m : Marks} {os : List Way}
+    → Runs r.words r.subject (spot_at (Shorter t k) fs p m) os n → k ≤ p
 shorter_within r (turns mv h d) = h.past
 
-pub shorter_none : (r : Run) (t k : ℕ) (c : StringCursor) (b : BoardValue) → k ≡ 0 → (all : List Way) (limit : ℕ) → Goes r all limit (Shorter t k) c b → Later r all limit next.Back b
+pub shorter_none : (r : Run) (t k : ℕ) (c : StringCursor) (b : BoardValue) → k ≡ 0 → (all : List Way) (limit : ℕ)
+    → Goes r all limit (Shorter t k) c b → Later r all limit next.Back b
 shorter_none r t k c b e = turn_stops r (Shorter t k) c b (shorter_stop r t k c.position b.frames b.marks e)
 
 pub shorter_past : (r : Run) (t k : ℕ) (c : StringCursor) → 0 < k → HasRun r (Shorter t k) c → 1 ≤ c.position
 shorter_past r t k c l x = omega (arith, shorter_within r x.runs)
 
-pub shorter_both : (r : Run) (t k j : ℕ) (c c' : StringCursor) (b : BoardValue) → k ≡ suc j → c.position ≡ c'.position + 1 → r.stands c' c'.position → (all : List Way) (limit : ℕ) → Goes r all limit (Shorter t k) c b → GoesBoth r all limit (spot (Instruction t) c' b) (spot (Shorter t j) c' b) c' b.choices
+pub shorter_both : (r : Run) (t k j : ℕ) (c c' : StringCursor) (b : BoardValue) → k ≡ suc j
+    → c.position ≡ c'.position + 1 → r.stands c' c'.position → (all : List Way) (limit : ℕ)
+    → Goes r all limit (Shorter t k) c b
+    → GoesBoth r all limit (spot (Instruction t) c' b) (spot (Shorter t j) c' b) c' b.choices
 shorter_both r t k j c c' b e place there all limit g =
-    turn_splits r (Shorter t k) c b (spot (Instruction t) c' b) (spot (Shorter t j) c' b) c' (shorter_moves r t k j c.position c'.position b.frames b.marks e place (shorter_within r g.runs)) there all limit g
+    turn_splits r (Shorter t k) c b (spot (Instruction t) c' b) (spot (Shorter t j) c' b) c'
+    (shorter_moves r t k j c.position c'.position b.frames b.marks e place (shorter_within r g.runs)) there all limit g
 
-pub shorter_run : (r : Run) (t k j : ℕ) (c c' : StringCursor) → k ≡ suc j → c.position ≡ c'.position + 1 → r.stands c' c'.position → HasRun r (Shorter t k) c → HasRun r (Instruction t) c' × HasRun r (Shorter t j) c'
+pub shorter_run : (r : Run) (t k j : ℕ) (c c' : StringCursor) → k ≡ suc j → c.position ≡ c'.position + 1
+    → r.stands c' c'.position → HasRun r (Shorter t k) c → HasRun r (Instruction t) c' × HasRun r (Shorter t j) c'
 shorter_run r t k j c c' e place there x =
-    let s = run_splits _ _ (shorter_moves r t k j c.position c'.position x.frames x.marks e place (shorter_within r x.runs)) x.runs in
+    let s = run_splits _ _
+    (shorter_moves r t k j c.position c'.position x.frames x.marks e place (shorter_within r x.runs)) x.runs in
     (has_run r (Instruction t) x.frames x.marks c' there s.0, has_run r (Shorter t j) x.frames x.marks c' there s.1)
 
-pub shorter_last : (r : Run) (i t k : ℕ) (c : StringCursor) (b : BoardValue) → k ≡ 0 → (all : List Way) (limit : ℕ) → GoesBoth r all limit (spot (Instruction i) c b) (spot (Shorter t k) c b) c b.choices → Later r all limit (next.At i c) b
-shorter_last r i t k c b e = both_last r i (spot (Shorter t k) c b) c b (shorter_stop r t k c.position b.frames b.marks e)
+pub shorter_last : (r : Run) (i t k : ℕ) (c : StringCursor) (b : BoardValue) → k ≡ 0 → (all : List Way) (limit : ℕ)
+    → GoesBoth r all limit (spot (Instruction i) c b) (spot (Shorter t k) c b) c b.choices
+    → Later r all limit (next.At i c) b
+shorter_last r i t k c b e =
+    both_last r i (spot (Shorter t k) c b) c b (shorter_stop r t k c.position b.frames b.marks e)
 
 -- a run: the words that stand behind its opcode
 pub record RunWords (ws : List ℕ) (i : ℕ) : Type 0 where
@@ -64,7 +78,8 @@ run_family GreedyRun = refl
 run_family LazyRun = refl
 run_family PossessiveRun = refl
 
-pub run_there : (r : Run) (kind : RunKind) (i : ℕ) (c : StringCursor) → Opcode r.words i (run_opcode kind) → HasRun r (Instruction i) c → RunWords r.words i
+pub run_there : (r : Run) (kind : RunKind) (i : ℕ) (c : StringCursor) → Opcode r.words i (run_opcode kind)
+    → HasRun r (Instruction i) c → RunWords r.words i
 run_there r kind i c w x =
     let h = (in_family (run_opcode kind) (Running kind) (run_family kind) w x.runs).1 in
     let test : HasTest r.words (i + 4) = record { end = h.end; test = h.test; stands = h.operands.stands } in
@@ -72,28 +87,59 @@ run_there r kind i c w x =
 
 -- how long the run is, whatever test stands there
 abbrev pub CountsRun : Run → ℕ → ℕ → ℕ → ℕ → Type 0
-CountsRun r i high p count = (j : ℕ) (t : Test) → TestStands r.words (i + 4) j t → count ≡ longest_run r.subject t high p
+CountsRun r i high p count =
+    (j : ℕ) (t : Test) → TestStands r.words (i + 4) j t → count ≡ longest_run r.subject t high p
 
-pub run_short : (r : Run) (i low high count : ℕ) (c : StringCursor) (b : BoardValue) → Opcode r.words i opcode.REPEAT_ONE → HasTest r.words (i + 4) → Word r.words (i + 2) low → Word r.words (i + 3) high → CountsRun r i high c.position count → count < low → (all : List Way) (limit : ℕ) → Goes r all limit (Instruction i) c b → Later r all limit next.Back b
+pub run_short : (r : Run) (i low high count : ℕ) (c : StringCursor) (b : BoardValue)
+    → Opcode r.words i opcode.REPEAT_ONE → HasTest r.words (i + 4) → Word r.words (i + 2) low
+    → Word r.words (i + 3) high → CountsRun r i high c.position count → count < low → (all : List Way) (limit : ℕ)
+    → Goes r all limit (Instruction i) c b → Later r all limit next.Back b
 run_short r i low high count c b w t wl wh k l =
     let longest : longest_run r.subject t.test high c.position ≡ count = sym (k t.end t.test t.stands) in
     let short : nat_lt count low ≡ true = grind (arith, nat_tests) in
-    turn_stops r (Instruction i) c b (at_instruction opcode.REPEAT_ONE (Running GreedyRun) refl w (record { low = low; high = high; end = t.end; test = t.test; operands = record { lowest = wl; highest = wh; stands = t.stands }; is = rw (longest, short) refl }))
+    turn_stops r (Instruction i) c b (at_instruction opcode.REPEAT_ONE (Running GreedyRun) refl w (record {
+      low = low;
+      high = high;
+      end = t.end;
+      test = t.test;
+      operands = record { lowest = wl; highest = wh; stands = t.stands };
+      is = rw (longest, short) refl;
+    }))
 
-module _ (r : Run) (i v low high count : ℕ) (c after : StringCursor) (w : Opcode r.words i opcode.REPEAT_ONE) (t : HasTest r.words (i + 4)) (wv : Word r.words (i + 1) v) (wl : Word r.words (i + 2) low) (wh : Word r.words (i + 3) high) (k : CountsRun r i high c.position count) (l : low ≤ count) (moved_on : after.position ≡ c.position + count) (there : r.stands after after.position) where
-  run_moves : (fs : List Frame) (m : Marks) → Moves r.words r.subject (spot_at (Instruction i) fs c.position m) (Split (spot_at (Instruction (i + 1 + v)) fs after.position m) (spot_at (Shorter (i + 1 + v) (count - low)) fs after.position m))
+module _ (r : Run) (i v low high count : ℕ) (c after : StringCursor) (w : Opcode r.words i opcode.REPEAT_ONE)
+    (t : HasTest r.words (i + 4)) (wv : Word r.words (i + 1) v) (wl : Word r.words (i + 2) low)
+    (wh : Word r.words (i + 3) high) (k : CountsRun r i high c.position count) (l : low ≤ count)
+    (moved_on : after.position ≡ c.position + count) (there : r.stands after after.position) where
+  run_moves : (fs : List Frame) (m : Marks)
+      → Moves r.words r.subject (spot_at (Instruction i) fs c.position m)
+      (Split (spot_at (Instruction (i + 1 + v)) fs after.position m)
+      (spot_at (Shorter (i + 1 + v) (count - low)) fs after.position m))
   run_moves fs m =
       let longest : longest_run r.subject t.test high c.position ≡ count = sym (k t.end t.test t.stands) in
       let enough : nat_lt count low ≡ false = grind (arith, nat_tests) in
-      at_instruction opcode.REPEAT_ONE (Running GreedyRun) refl w (record { low = low; high = high; end = t.end; test = t.test; operands = record { lowest = wl; highest = wh; stands = t.stands }; is = rw (longest, enough, moved_on, word_of r.words (i + 1) v wv) refl })
+      at_instruction opcode.REPEAT_ONE (Running GreedyRun) refl w (record {
+        low = low;
+        high = high;
+        end = t.end;
+        test = t.test;
+        operands = record { lowest = wl; highest = wh; stands = t.stands };
+        is = rw (longest, enough, moved_on, word_of r.words (i + 1) v wv) refl;
+      })
 
-  pub run_both : (b : BoardValue) (all : List Way) (limit : ℕ) → Goes r all limit (Instruction i) c b → GoesBoth r all limit (spot (Instruction (i + 1 + v)) after b) (spot (Shorter (i + 1 + v) (count - low)) after b) after b.choices
-  run_both b all limit g = turn_splits r (Instruction i) c b (spot (Instruction (i + 1 + v)) after b) (spot (Shorter (i + 1 + v) (count - low)) after b) after (run_moves b.frames b.marks) there all limit g
+  pub run_both : (b : BoardValue) (all : List Way) (limit : ℕ) → Goes r all limit (Instruction i) c b
+      → GoesBoth r all limit (spot (Instruction (i + 1 + v)) after b) (spot (Shorter (i + 1 + v) (count - low)) after b)
+      after b.choices
+  run_both b all limit g =
+      turn_splits r (Instruction i) c b (spot (Instruction (i + 1 + v)) after b)
+      (spot (Shorter (i + 1 + v) (count - low)) after b) after (run_moves b.frames b.marks) there all limit g
 
-  pub run_runs : HasRun r (Instruction i) c → HasRun r (Instruction (i + 1 + v)) after × HasRun r (Shorter (i + 1 + v) (count - low)) after
+  pub run_runs : HasRun r (Instruction i) c
+      → HasRun r (Instruction (i + 1 + v)) after × HasRun r (Shorter (i + 1 + v) (count - low)) after
   run_runs x =
-      let s = run_splits _ _ (run_moves x.frames x.marks) x.runs in
-      (has_run r (Instruction (i + 1 + v)) x.frames x.marks after there s.0, has_run r (Shorter (i + 1 + v) (count - low)) x.frames x.marks after there s.1)
+      let s = run_splits _ _ (run_moves x.frames x.marks) x.runs in (
+        has_run r (Instruction (i + 1 + v)) x.frames x.marks after there s.0,
+        has_run r (Shorter (i + 1 + v) (count - low)) x.frames x.marks after there s.1,
+      )
 
 -- POSSESSIVE_REPEAT_ONE
 module _ (r : Run) (i low high count : ℕ) (c : StringCursor) (b : BoardValue)
@@ -105,16 +151,24 @@ module _ (r : Run) (i low high count : ℕ) (c : StringCursor) (b : BoardValue)
   longest_operands : RunOperands r.words i low high t.end t.test
   longest_operands = record { lowest = wl; highest = wh; stands = t.stands }
 
-  pub longest_short : count < low → (all : List Way) (limit : ℕ) → Goes r all limit (Instruction i) c b →
-      Later r all limit next.Back b
+  pub longest_short : count < low → (all : List Way) (limit : ℕ) → Goes r all limit (Instruction i) c b
+      → Later r all limit next.Back b
   longest_short l =
       let short : nat_lt count low ≡ true = grind (arith, nat_tests) in
       turn_stops r (Instruction i) c b (at_instruction opcode.POSSESSIVE_REPEAT_ONE (Running PossessiveRun) refl w
-      (record { low = low; high = high; end = t.end; test = t.test; operands = longest_operands; is = rw (longest_is, short) refl }))
+      (record {
+        low = low;
+        high = high;
+        end = t.end;
+        test = t.test;
+        operands = longest_operands;
+        is = rw (longest_is, short) refl;
+      }))
 
-  pub longest_step : (v : ℕ) (after : StringCursor) → Word r.words (i + 1) v → low ≤ count →
-      after.position ≡ c.position + count → r.stands after after.position →
-      (all : List Way) (limit : ℕ) → Goes r all limit (Instruction i) c b → Later r all limit (next.At (i + 1 + v) after) b
+  pub longest_step : (v : ℕ) (after : StringCursor) → Word r.words (i + 1) v → low ≤ count
+      → after.position ≡ c.position + count → r.stands after after.position
+      → (all : List Way) (limit : ℕ) → Goes r all limit (Instruction i) c b
+      → Later r all limit (next.At (i + 1 + v) after) b
   longest_step v after wv l moved_on there all limit g =
       let enough : nat_lt count low ≡ false = grind (arith, nat_tests) in
       let move : Moves r.words r.subject (spot (Instruction i) c b) (Go (spot (Instruction (i + 1 + v)) after b)) =
@@ -129,48 +183,87 @@ module _ (r : Run) (i low high count : ℕ) (c : StringCursor) (b : BoardValue)
       turn_goes r (Instruction i) c b (Instruction (i + 1 + v)) after b move there refl all limit g
 
 -- MIN_REPEAT_ONE
-operands_of : (ws : List ℕ) (i low high : ℕ) (t : HasTest ws (i + 4)) → Word ws (i + 2) low → Word ws (i + 3) high → RunOperands ws i low high t.end t.test
+operands_of : (ws : List ℕ) (i low high : ℕ) (t : HasTest ws (i + 4)) → Word ws (i + 2) low → Word ws (i + 3) high
+    → RunOperands ws i low high t.end t.test
 operands_of ws i low high t wl wh = record { lowest = wl; highest = wh; stands = t.stands }
 
 -- how many of the first characters pass, whatever test stands there
 abbrev pub CountsUpTo : Run → ℕ → ℕ → ℕ → ℕ → Type 0
-CountsUpTo r i most p count = (j : ℕ) (t : Test) → TestStands r.words (i + 4) j t → count ≡ run_length r.subject t most p
+CountsUpTo r i most p count =
+    (j : ℕ) (t : Test) → TestStands r.words (i + 4) j t → count ≡ run_length r.subject t most p
 
-module _ (r : Run) (i low : ℕ) (c : StringCursor) (w : Opcode r.words i opcode.MIN_REPEAT_ONE) (h : RunWords r.words i) (wl : Word r.words (i + 2) low) where
+module _ (r : Run) (i low : ℕ) (c : StringCursor) (w : Opcode r.words i opcode.MIN_REPEAT_ONE) (h : RunWords r.words i)
+    (wl : Word r.words (i + 2) low) where
   lazy_operands : RunOperands r.words i low (word r.words (i + 3)) h.test.end h.test.test
-  lazy_operands = operands_of r.words i low (word r.words (i + 3)) h.test wl (word_there r.words (i + 3) (omega (arith, h.operands)))
+  lazy_operands =
+      operands_of r.words i low (word r.words (i + 3)) h.test wl
+      (word_there r.words (i + 3) (omega (arith, h.operands)))
 
-  lazy_stops : (b : BoardValue) → run_length r.subject h.test.test low c.position < low → (all : List Way) (limit : ℕ) → Goes r all limit (Instruction i) c b → Later r all limit next.Back b
+  lazy_stops : (b : BoardValue) → run_length r.subject h.test.test low c.position < low → (all : List Way) (limit : ℕ)
+      → Goes r all limit (Instruction i) c b → Later r all limit next.Back b
   lazy_stops b l =
       let short : nat_lt (run_length r.subject h.test.test low c.position) low ≡ true = grind (arith, nat_tests) in
-      turn_stops r (Instruction i) c b (at_instruction opcode.MIN_REPEAT_ONE (Running LazyRun) refl w (record { low = low; high = word r.words (i + 3); end = h.test.end; test = h.test.test; operands = lazy_operands; is = rw short refl }))
+      turn_stops r (Instruction i) c b (at_instruction opcode.MIN_REPEAT_ONE (Running LazyRun) refl w (record {
+        low = low;
+        high = word r.words (i + 3);
+        end = h.test.end;
+        test = h.test.test;
+        operands = lazy_operands;
+        is = rw short refl;
+      }))
 
   -- the window is too short, or a character does not pass
-  pub lazy_cut : (b : BoardValue) → r.subject.end - c.position < low → (all : List Way) (limit : ℕ) → Goes r all limit (Instruction i) c b → Later r all limit next.Back b
+  pub lazy_cut : (b : BoardValue) → r.subject.end - c.position < low → (all : List Way) (limit : ℕ)
+      → Goes r all limit (Instruction i) c b → Later r all limit next.Back b
   lazy_cut b l = lazy_stops b (omega (arith, run_inside r.subject h.test.test low c.position))
 
-  pub lazy_short : (b : BoardValue) (count : ℕ) → CountsUpTo r i low c.position count → count < low → (all : List Way) (limit : ℕ) → Goes r all limit (Instruction i) c b → Later r all limit next.Back b
+  pub lazy_short : (b : BoardValue) (count : ℕ) → CountsUpTo r i low c.position count → count < low
+      → (all : List Way) (limit : ℕ) → Goes r all limit (Instruction i) c b → Later r all limit next.Back b
   lazy_short b count k l = lazy_stops b (omega (arith, k h.test.end h.test.test h.test.stands))
 
-  module _ (v count : ℕ) (after : StringCursor) (wv : Word r.words (i + 1) v) (k : CountsUpTo r i low c.position count) (l : low ≤ count) (moved_on : after.position ≡ c.position + count) (there : r.stands after after.position) where
-    lazy_moves : (fs : List Frame) (m : Marks) → Moves r.words r.subject (spot_at (Instruction i) fs c.position m) (Split (spot_at (Instruction (i + 1 + v)) fs after.position m) (spot_at (Longer i low) fs after.position m))
+  module _ (v count : ℕ) (after : StringCursor) (wv : Word r.words (i + 1) v) (k : CountsUpTo r i low c.position count)
+      (l : low ≤ count) (moved_on : after.position ≡ c.position + count) (there : r.stands after after.position) where
+    lazy_moves : (fs : List Frame) (m : Marks)
+        → Moves r.words r.subject (spot_at (Instruction i) fs c.position m)
+        (Split (spot_at (Instruction (i + 1 + v)) fs after.position m) (spot_at (Longer i low) fs after.position m))
     lazy_moves fs m =
-        let all_ : run_length r.subject h.test.test low c.position ≡ low = omega (arith, k h.test.end h.test.test h.test.stands, run_at_most r.subject h.test.test low c.position) in
+        let all_ : run_length r.subject h.test.test low c.position ≡ low =
+        omega (arith, k h.test.end h.test.test h.test.stands, run_at_most r.subject h.test.test low c.position) in
         let enough : nat_lt low low ≡ false = grind (arith, nat_tests) in
         let place : after.position ≡ c.position + low = omega (arith, all_, k h.test.end h.test.test h.test.stands) in
-        at_instruction opcode.MIN_REPEAT_ONE (Running LazyRun) refl w (record { low = low; high = word r.words (i + 3); end = h.test.end; test = h.test.test; operands = lazy_operands; is = rw (all_, enough, place, word_of r.words (i + 1) v wv) refl })
+        at_instruction opcode.MIN_REPEAT_ONE (Running LazyRun) refl w (record {
+          low = low;
+          high = word r.words (i + 3);
+          end = h.test.end;
+          test = h.test.test;
+          operands = lazy_operands;
+          is = rw (all_, enough, place, word_of r.words (i + 1) v wv) refl;
+        })
 
-    pub lazy_both : (b : BoardValue) (all : List Way) (limit : ℕ) → Goes r all limit (Instruction i) c b → GoesBoth r all limit (spot (Instruction (i + 1 + v)) after b) (spot (Longer i low) after b) after b.choices
-    lazy_both b all limit g = turn_splits r (Instruction i) c b (spot (Instruction (i + 1 + v)) after b) (spot (Longer i low) after b) after (lazy_moves b.frames b.marks) there all limit g
+    pub lazy_both : (b : BoardValue) (all : List Way) (limit : ℕ) → Goes r all limit (Instruction i) c b
+        → GoesBoth r all limit (spot (Instruction (i + 1 + v)) after b) (spot (Longer i low) after b) after b.choices
+    lazy_both b all limit g =
+        turn_splits r (Instruction i) c b (spot (Instruction (i + 1 + v)) after b) (spot (Longer i low) after b) after
+        (lazy_moves b.frames b.marks) there all limit g
 
-    pub lazy_runs : HasRun r (Instruction i) c → HasRun r (Instruction (i + 1 + v)) after × HasRun r (Longer i low) after
+    pub lazy_runs : HasRun r (Instruction i) c
+        → HasRun r (Instruction (i + 1 + v)) after × HasRun r (Longer i low) after
     lazy_runs x =
-        let s = run_splits _ _ (lazy_moves x.frames x.marks) x.runs in
-        (has_run r (Instruction (i + 1 + v)) x.frames x.marks after there s.0, has_run r (Longer i low) x.frames x.marks after there s.1)
+        let s = run_splits _ _ (lazy_moves x.frames x.marks) x.runs in (
+          has_run r (Instruction (i + 1 + v)) x.frames x.marks after there s.0,
+          has_run r (Longer i low) x.frames x.marks after there s.1,
+        )
 
 -- longer counts
-longer_within : (r : Run) {i n p k : ℕ} {fs : List Frame} {m : Marks} {os : List Way} → Runs r.words r.subject (spot_at (Longer i n) fs p m) os k → RunWords r.words i × (n ≤ p)
-longer_within r {i = i} (turns mv h d) = (record { operands = opcode_within r.words (i + 4) (test_opcode h.test) h.operands.stands.code; test = record { end = h.end; test = h.test; stands = h.operands.stands } }, h.past)
+longer_within : (r : Run) {i n p k : ℕ} {fs : List Frame} {m : Marks} {os : List Way}
+    → Runs r.words r.subject (spot_at (Longer i n) fs p m) os k → RunWords r.words i × (n ≤ p)
+longer_within r {i = i} (turns mv h d) = (
+  record {
+    operands = opcode_within r.words (i + 4) (test_opcode h.test) h.operands.stands.code;
+    test = record { end = h.end; test = h.test; stands = h.operands.stands };
+  },
+  h.past,
+)
 
 pub longer_there : (r : Run) (i n : ℕ) (c : StringCursor) → HasRun r (Longer i n) c → RunWords r.words i
 longer_there r i n c x = (longer_within r x.runs).0
@@ -178,43 +271,81 @@ longer_there r i n c x = (longer_within r x.runs).0
 pub longer_past : (r : Run) (i n : ℕ) (c : StringCursor) → HasRun r (Longer i n) c → n ≤ c.position
 longer_past r i n c x = (longer_within r x.runs).1
 
-module _ (r : Run) (i n high : ℕ) (c : StringCursor) (h : RunWords r.words i) (past : n ≤ c.position) (wh : Word r.words (i + 3) high) where
+module _ (r : Run) (i n high : ℕ) (c : StringCursor) (h : RunWords r.words i) (past : n ≤ c.position)
+    (wh : Word r.words (i + 3) high) where
   longer_operands : RunOperands r.words i (word r.words (i + 2)) high h.test.end h.test.test
-  longer_operands = operands_of r.words i (word r.words (i + 2)) high h.test (word_there r.words (i + 2) (omega (arith, h.operands))) wh
+  longer_operands =
+      operands_of r.words i (word r.words (i + 2)) high h.test
+      (word_there r.words (i + 2) (omega (arith, h.operands))) wh
 
-  longer_stops : (b : BoardValue) → goes_on r.subject h.test.test high n c.position ≡ false → (all : List Way) (limit : ℕ) → Goes r all limit (Longer i n) c b → Later r all limit next.Back b
-  longer_stops b e = turn_stops r (Longer i n) c b (record { low = word r.words (i + 2); high = high; end = h.test.end; test = h.test.test; operands = longer_operands; past = past; is = rw e refl })
+  longer_stops : (b : BoardValue) → goes_on r.subject h.test.test high n c.position ≡ false
+      → (all : List Way) (limit : ℕ) → Goes r all limit (Longer i n) c b → Later r all limit next.Back b
+  longer_stops b e = turn_stops r (Longer i n) c b (record {
+    low = word r.words (i + 2);
+    high = high;
+    end = h.test.end;
+    test = h.test.test;
+    operands = longer_operands;
+    past = past;
+    is = rw e refl;
+  })
 
   -- the greatest count is reached, or the window's end, or a character does not pass
-  pub longer_full : (b : BoardValue) → (nat_eq high unlimited || nat_lt n high) ≡ false → (all : List Way) (limit : ℕ) → Goes r all limit (Longer i n) c b → Later r all limit next.Back b
+  pub longer_full : (b : BoardValue) → (nat_eq high unlimited || nat_lt n high) ≡ false → (all : List Way) (limit : ℕ)
+      → Goes r all limit (Longer i n) c b → Later r all limit next.Back b
   longer_full b e = longer_stops b (rw e refl)
 
-  pub longer_end : (b : BoardValue) → r.subject.end ≤ c.position → (all : List Way) (limit : ℕ) → Goes r all limit (Longer i n) c b → Later r all limit next.Back b
-  longer_end b l = longer_stops b (rw (past_end r.subject h.test.test c.position l) (and_false (nat_eq high unlimited || nat_lt n high)))
+  pub longer_end : (b : BoardValue) → r.subject.end ≤ c.position → (all : List Way) (limit : ℕ)
+      → Goes r all limit (Longer i n) c b → Later r all limit next.Back b
+  longer_end b l =
+      longer_stops b
+      (rw (past_end r.subject h.test.test c.position l) (and_false (nat_eq high unlimited || nat_lt n high)))
     where
       and_false : (a : Bool) → (a && false) ≡ false
       and_false true = refl
       and_false false = refl
 
-  pub longer_unlike : (b : BoardValue) → passes r.subject h.test.test c.position ≡ false → (all : List Way) (limit : ℕ) → Goes r all limit (Longer i n) c b → Later r all limit next.Back b
+  pub longer_unlike : (b : BoardValue) → passes r.subject h.test.test c.position ≡ false → (all : List Way) (limit : ℕ)
+      → Goes r all limit (Longer i n) c b → Later r all limit next.Back b
   longer_unlike b e = longer_stops b (rw e (and_false (nat_eq high unlimited || nat_lt n high)))
     where
       and_false : (a : Bool) → (a && false) ≡ false
       and_false true = refl
       and_false false = refl
 
-  module _ (tail : ℕ) (after : StringCursor) (leads : tail ≡ skip r.words (i + 1)) (more : (nat_eq high unlimited || nat_lt n high) ≡ true) (taken : passes r.subject h.test.test c.position ≡ true) (moved_on : after.position ≡ c.position + 1) (there : r.stands after after.position) where
-    longer_moves : (fs : List Frame) (m : Marks) → Moves r.words r.subject (spot_at (Longer i n) fs c.position m) (Split (spot_at (Instruction tail) fs after.position m) (spot_at (Longer i (n + 1)) fs after.position m))
-    longer_moves fs m = record { low = word r.words (i + 2); high = high; end = h.test.end; test = h.test.test; operands = longer_operands; past = past; is = rw (more, taken, moved_on, leads) refl }
+  module _ (tail : ℕ) (after : StringCursor) (leads : tail ≡ skip r.words (i + 1))
+      (more : (nat_eq high unlimited || nat_lt n high) ≡ true) (taken : passes r.subject h.test.test c.position ≡ true)
+      (moved_on : after.position ≡ c.position + 1) (there : r.stands after after.position) where
+    longer_moves : (fs : List Frame) (m : Marks)
+        → Moves r.words r.subject (spot_at (Longer i n) fs c.position m)
+        (Split (spot_at (Instruction tail) fs after.position m) (spot_at (Longer i (n + 1)) fs after.position m))
+    longer_moves fs m = record {
+      low = word r.words (i + 2);
+      high = high;
+      end = h.test.end;
+      test = h.test.test;
+      operands = longer_operands;
+      past = past;
+      is = rw (more, taken, moved_on, leads) refl;
+    }
 
-    pub longer_both : (b : BoardValue) (all : List Way) (limit : ℕ) → Goes r all limit (Longer i n) c b → GoesBoth r all limit (spot (Instruction tail) after b) (spot (Longer i (n + 1)) after b) after b.choices
-    longer_both b all limit g = turn_splits r (Longer i n) c b (spot (Instruction tail) after b) (spot (Longer i (n + 1)) after b) after (longer_moves b.frames b.marks) there all limit g
+    pub longer_both : (b : BoardValue) (all : List Way) (limit : ℕ) → Goes r all limit (Longer i n) c b
+        → GoesBoth r all limit (spot (Instruction tail) after b) (spot (Longer i (n + 1)) after b) after b.choices
+    longer_both b all limit g =
+        turn_splits r (Longer i n) c b (spot (Instruction tail) after b) (spot (Longer i (n + 1)) after b) after
+        (longer_moves b.frames b.marks) there all limit g
 
     pub longer_runs : HasRun r (Longer i n) c → HasRun r (Instruction tail) after × HasRun r (Longer i (n + 1)) after
     longer_runs x =
-        let s = run_splits _ _ (longer_moves x.frames x.marks) x.runs in
-        (has_run r (Instruction tail) x.frames x.marks after there s.0, has_run r (Longer i (n + 1)) x.frames x.marks after there s.1)
+        let s = run_splits _ _ (longer_moves x.frames x.marks) x.runs in (
+          has_run r (Instruction tail) x.frames x.marks after there s.0,
+          has_run r (Longer i (n + 1)) x.frames x.marks after there s.1,
+        )
 
 -- what was read tells whether the test passes
-pub longer_passes : (r : Run) (i ch : ℕ) (takes : Bool) (c : StringCursor) (h : RunWords r.words i) → c.position < r.subject.end → ch ≡ char_at r.subject c.position → ((j : ℕ) (t : Test) → TestStands r.words (i + 4) j t → takes ≡ holds r.subject.table t ch) → passes r.subject h.test.test c.position ≡ takes
-longer_passes r i ch takes c h l e k = read_passes r.subject h.test.test c.position ch takes l e (k h.test.end h.test.test h.test.stands)
+pub longer_passes : (r : Run) (i ch : ℕ) (takes : Bool) (c : StringCursor) (h : RunWords r.words i)
+    → c.position < r.subject.end → ch ≡ char_at r.subject c.position
+    → ((j : ℕ) (t : Test) → TestStands r.words (i + 4) j t → takes ≡ holds r.subject.table t ch)
+    → passes r.subject h.test.test c.position ≡ takes
+longer_passes r i ch takes c h l e k =
+    read_passes r.subject h.test.test c.position ch takes l e (k h.test.end h.test.test h.test.stands)

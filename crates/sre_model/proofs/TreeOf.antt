@@ -41,7 +41,8 @@ set_item_by o ws i = (Negate, i + 1)
 -- the set items from i to j
 unfoldable pub set_at : ℕ → List ℕ → ℕ → ℕ → List SetItem
 set_at zero ws i j = []
-set_at (suc f) ws i j = elim (nat_lt i j) [ true ↦ let x = set_item_by (opcode_at ws i) ws i in x.0 ∷ set_at f ws x.1 j | false ↦ [] ]
+set_at (suc f) ws i j =
+    elim (nat_lt i j) [ true ↦ let x = set_item_by (opcode_at ws i) ws i in x.0 ∷ set_at f ws x.1 j | false ↦ [] ]
 
 abbrev pub in_at : Fold → List ℕ → ℕ → Test × ℕ
 in_at fold ws i =
@@ -83,7 +84,8 @@ trees_at (suc f) read ws q =
     elim (nat_eq (word ws (skip ws q)) 0) [ true ↦ (Only t, skip ws q + 1) | false ↦ (Or t rest.0, rest.1) ]
 
 abbrev pub run_at : RunKind → List ℕ → ℕ → Item × ℕ
-run_at kind ws i = (Run kind (word ws (i + 2)) (word ws (i + 3)) (test_by (opcode_at ws (i + 4)) ws (i + 4)).0, skip ws (i + 1))
+run_at kind ws i =
+    (Run kind (word ws (i + 2)) (word ws (i + 3)) (test_by (opcode_at ws (i + 4)) ws (i + 4)).0, skip ws (i + 1))
 
 abbrev pub look_at : Sign → Reader → List ℕ → ℕ → Item × ℕ
 look_at sign read ws i =
@@ -93,7 +95,8 @@ look_at sign read ws i =
 abbrev pub reference_at : Fold → List ℕ → ℕ → Item × ℕ
 reference_at fold ws i = (Reference fold (word ws (i + 1)), i + 2)
 
--- by whether the yes part, read item by item, goes on up to the tail: the word of a JUMP two words before it may be an operand
+-- by whether the yes part, read item by item, goes on up to the tail:
+-- the word of a JUMP two words before it may be an operand
 abbrev pub exists_by : Bool → Reader → List ℕ → ℕ → ℕ → Tree → Item × ℕ
 exists_by true read ws group tail there = (Exists group there, tail)
 exists_by false read ws group tail there =
@@ -144,7 +147,10 @@ items_after rest i (Some x) =
 -- the items from i to j or to a JUMP, and where they stop
 unfoldable pub items_at : ℕ → List ℕ → ℕ → ℕ → Tree × ℕ
 items_at zero ws i j = (Empty, i)
-items_at (suc f) ws i j = elim (nat_lt i j) [ true ↦ items_after (λ k. items_at f ws k j) i (item_by (opcode_at ws i) f (items_at f ws) ws i) | false ↦ (Empty, i) ]
+items_at (suc f) ws i j = elim (nat_lt i j) [
+  | true ↦ items_after (λ k. items_at f ws k j) i (item_by (opcode_at ws i) f (items_at f ws) ws i)
+  | false ↦ (Empty, i)
+]
 
 -- the tree of words that are in the grammar
 unfoldable pub tree_of : List ℕ → Tree
@@ -153,13 +159,15 @@ tree_of ws = (items_at (length ws) ws 0 (length ws - 1)).0
 -- What they answer where the words are in the grammar
 
 opcode-read : (ws : List ℕ) (i : ℕ) (o : SreOpcode) → Opcode ws i o → opcode_at ws i ≡ o
-opcode-read ws i o h = ap (λ n. slice_index_or opcodes n opcode.FAILURE) (word_of ws i (opcode_number o) h) ∙ opcode_back o
+opcode-read ws i o h =
+    ap (λ n. slice_index_or opcodes n opcode.FAILURE) (word_of ws i (opcode_number o) h) ∙ opcode_back o
 
 at_code-read : (ws : List ℕ) (i : ℕ) (a : SreAtCode) → Word ws i (at_number a) → at_code_at ws i ≡ a
 at_code-read ws i a h = ap (λ n. slice_index_or at_codes n at.BEGINNING) (word_of ws i (at_number a) h) ∙ at_back a
 
 category-read : (ws : List ℕ) (i : ℕ) (c : SreCatCode) → Word ws i (category_number c) → category_at ws i ≡ c
-category-read ws i c h = ap (λ n. slice_index_or categories n category.DIGIT) (word_of ws i (category_number c) h) ∙ category_back c
+category-read ws i c h =
+    ap (λ n. slice_index_or categories n category.DIGIT) (word_of ws i (category_number c) h) ∙ category_back c
 
 -- a set item is not empty
 set_past : (x : SetItem) (rest : List SetItem) (ws : List ℕ) (i j : ℕ) → ReadsSet ws i j (x ∷ rest) → i < j
@@ -168,10 +176,12 @@ set_past (Range low high) rest ws i j r = omega (arith, set_within ws (i + 3) j 
 set_past (RangeUniIgnore low high) rest ws i j r = omega (arith, set_within ws (i + 3) j rest r.3)
 set_past (Category c) rest ws i j r = omega (arith, set_within ws (i + 2) j rest r.2)
 set_past (Charset bits) rest ws i j r = omega (arith, set_within ws (i + 9) j rest r.3)
-set_past (BigCharset numbers bits) rest ws i j r = omega (arith, set_within ws (i + 66 + word ws (i + 1) * 8) j rest r.5)
+set_past (BigCharset numbers bits) rest ws i j r =
+    omega (arith, set_within ws (i + 66 + word ws (i + 1) * 8) j rest r.5)
 set_past Negate rest ws i j r = omega (arith, set_within ws (i + 1) j rest r.1)
 
-set-first : (f : ℕ) (ws : List ℕ) (i j k : ℕ) (x : SetItem) (rest : List SetItem) → ReadsSet ws i j (x ∷ rest) → set_item_by (opcode_at ws i) ws i ≡ (x, k) → set_at f ws k j ≡ rest → set_at (suc f) ws i j ≡ x ∷ rest
+set-first : (f : ℕ) (ws : List ℕ) (i j k : ℕ) (x : SetItem) (rest : List SetItem) → ReadsSet ws i j (x ∷ rest)
+    → set_item_by (opcode_at ws i) ws i ≡ (x, k) → set_at f ws k j ≡ rest → set_at (suc f) ws i j ≡ x ∷ rest
 unfolding set_at
 set-first f ws i j k x rest r first after =
     let past : i < j = set_past x rest ws i j r in
@@ -186,21 +196,34 @@ set-read [] (suc f) ws i j r l =
     rw (t, set_at) refl
 set-read (x ∷ rest) zero ws i j r l = absurd (omega (arith, set_past x rest ws i j r))
 set-read (Single v ∷ rest) (suc f) ws i j r l =
-    set-first f ws i j (i + 2) (Single v) rest r (rw (opcode-read ws i opcode.LITERAL r.0, word_of ws (i + 1) v r.1) refl) (set-read rest f ws (i + 2) j r.2 (omega arith))
+    set-first f ws i j (i + 2) (Single v) rest r
+    (rw (opcode-read ws i opcode.LITERAL r.0, word_of ws (i + 1) v r.1) refl)
+    (set-read rest f ws (i + 2) j r.2 (omega arith))
 set-read (Range low high ∷ rest) (suc f) ws i j r l =
-    set-first f ws i j (i + 3) (Range low high) rest r (rw (opcode-read ws i opcode.RANGE r.0, word_of ws (i + 1) low r.1, word_of ws (i + 2) high r.2) refl) (set-read rest f ws (i + 3) j r.3 (omega arith))
+    set-first f ws i j (i + 3) (Range low high) rest r
+    (rw (opcode-read ws i opcode.RANGE r.0, word_of ws (i + 1) low r.1, word_of ws (i + 2) high r.2) refl)
+    (set-read rest f ws (i + 3) j r.3 (omega arith))
 set-read (RangeUniIgnore low high ∷ rest) (suc f) ws i j r l =
-    set-first f ws i j (i + 3) (RangeUniIgnore low high) rest r (rw (opcode-read ws i opcode.RANGE_UNI_IGNORE r.0, word_of ws (i + 1) low r.1, word_of ws (i + 2) high r.2) refl) (set-read rest f ws (i + 3) j r.3 (omega arith))
+    set-first f ws i j (i + 3) (RangeUniIgnore low high) rest r
+    (rw (opcode-read ws i opcode.RANGE_UNI_IGNORE r.0, word_of ws (i + 1) low r.1, word_of ws (i + 2) high r.2) refl)
+    (set-read rest f ws (i + 3) j r.3 (omega arith))
 set-read (Category c ∷ rest) (suc f) ws i j r l =
-    set-first f ws i j (i + 2) (Category c) rest r (rw (opcode-read ws i opcode.CATEGORY r.0, category-read ws (i + 1) c r.1) refl) (set-read rest f ws (i + 2) j r.2 (omega arith))
+    set-first f ws i j (i + 2) (Category c) rest r
+    (rw (opcode-read ws i opcode.CATEGORY r.0, category-read ws (i + 1) c r.1) refl)
+    (set-read rest f ws (i + 2) j r.2 (omega arith))
 set-read (Charset bits ∷ rest) (suc f) ws i j r l =
-    set-first f ws i j (i + 9) (Charset bits) rest r (rw (opcode-read ws i opcode.CHARSET r.0, r.1) refl) (set-read rest f ws (i + 9) j r.3 (omega arith))
+    set-first f ws i j (i + 9) (Charset bits) rest r (rw (opcode-read ws i opcode.CHARSET r.0, r.1) refl)
+    (set-read rest f ws (i + 9) j r.3 (omega arith))
 set-read (BigCharset numbers bits ∷ rest) (suc f) ws i j r l =
-    set-first f ws i j (i + 66 + word ws (i + 1) * 8) (BigCharset numbers bits) rest r (rw (opcode-read ws i opcode.BIGCHARSET r.0, r.1, r.3) refl) (set-read rest f ws (i + 66 + word ws (i + 1) * 8) j r.5 (omega arith))
+    set-first f ws i j (i + 66 + word ws (i + 1) * 8) (BigCharset numbers bits) rest r
+    (rw (opcode-read ws i opcode.BIGCHARSET r.0, r.1, r.3) refl)
+    (set-read rest f ws (i + 66 + word ws (i + 1) * 8) j r.5 (omega arith))
 set-read (Negate ∷ rest) (suc f) ws i j r l =
-    set-first f ws i j (i + 1) Negate rest r (rw (opcode-read ws i opcode.NEGATE r.0) refl) (set-read rest f ws (i + 1) j r.1 (omega arith))
+    set-first f ws i j (i + 1) Negate rest r (rw (opcode-read ws i opcode.NEGATE r.0) refl)
+    (set-read rest f ws (i + 1) j r.1 (omega arith))
 
-in-read : (fold : Fold) (set : List SetItem) (ws : List ℕ) (i j : ℕ) → TestOperands ws i j (In fold set) → in_at fold ws i ≡ (In fold set, j)
+in-read : (fold : Fold) (set : List SetItem) (ws : List ℕ) (i j : ℕ) → TestOperands ws i j (In fold set)
+    → in_at fold ws i ≡ (In fold set, j)
 in-read fold set ws i j r = rw (← r.0, set-read set (j - i) ws (i + 2) (j - 1) r.1 (omega arith)) refl
 
 test-read : (t : Test) (ws : List ℕ) (i j : ℕ) → TestOperands ws i j t → test_by (test_opcode t) ws i ≡ (t, j)
@@ -233,11 +256,13 @@ length_word ws q j ts r =
     let z : 0 < word ws q = omega arith in
     grind (arith, nat_tests)
 
-trees-read : (ts : Trees) (f : ℕ) (read : Reader) (ws : List ℕ) (q j : ℕ) → IsReader ws f read → ReadsBranch ws q j ts → j ≤ q + f → trees_at f read ws q ≡ (ts, j)
+trees-read : (ts : Trees) (f : ℕ) (read : Reader) (ws : List ℕ) (q j : ℕ) → IsReader ws f read → ReadsBranch ws q j ts
+    → j ≤ q + f → trees_at f read ws q ≡ (ts, j)
 unfolding trees_at
 trees-read ts zero read ws q j h r l = absurd (omega (arith, branch_past ts ws q j r))
 trees-read (Only t) (suc f) read ws q j h r l =
-    let x : read (q + 1) (skip ws q - 2) ≡ (t, skip ws q - 2) = h (q + 1) (skip ws q - 2) (skip ws q - 2) t r.0 (inl refl) (omega arith) in
+    let x : read (q + 1) (skip ws q - 2) ≡ (t, skip ws q - 2) =
+    h (q + 1) (skip ws q - 2) (skip ws q - 2) t r.0 (inl refl) (omega arith) in
     let z : nat_eq (word ws (skip ws q)) 0 ≡ true = rw (word_of ws (skip ws q) 0 r.2) refl in
     rw (z, trees_at) (rw (x, r.3) refl)
 trees-read (Or t ts) (suc f) read ws q j h r l =
@@ -246,16 +271,20 @@ trees-read (Or t ts) (suc f) read ws q j h r l =
     let x : read (q + 1) (k - 2) ≡ (t, k - 2) = h (q + 1) (k - 2) (k - 2) t r.0 (inl refl) (omega arith) in
     let z : nat_eq (word ws k) 0 ≡ false = length_word ws k j ts r.2 in
     let a : q + 1 ≤ k - 2 = reads_within t ws (q + 1) (k - 2) r.0 in
-    let y : trees_at f read ws k ≡ (ts, j) = trees-read ts f read ws k j (λ i v m u reads stops below. h i v m u reads stops (omega arith)) r.2 (omega arith) in
+    let y : trees_at f read ws k ≡ (ts, j) =
+    trees-read ts f read ws k j (λ i v m u reads stops below. h i v m u reads stops (omega arith)) r.2 (omega arith) in
     rw (z, trees_at) (rw (x, y) refl)
 
-items-first : (f : ℕ) (ws : List ℕ) (i j k n : ℕ) (x : Item) (rest : Tree) → i < j → item_by (opcode_at ws i) f (items_at f ws) ws i ≡ Some (x, k) → items_at f ws k j ≡ (rest, n) → items_at (suc f) ws i j ≡ (Then x rest, n)
+items-first : (f : ℕ) (ws : List ℕ) (i j k n : ℕ) (x : Item) (rest : Tree) → i < j
+    → item_by (opcode_at ws i) f (items_at f ws) ws i ≡ Some (x, k) → items_at f ws k j ≡ (rest, n)
+    → items_at (suc f) ws i j ≡ (Then x rest, n)
 unfolding items_at
 items-first f ws i j k n x rest l first after =
     let t : nat_lt i j ≡ true = grind (arith, nat_tests) in
     rw (t, items_at) (rw (first, after) refl)
 
-item-test : (t : Test) (f : ℕ) (read : Reader) (ws : List ℕ) (i : ℕ) → let r = test_by (test_opcode t) ws i in item_by (test_opcode t) f read ws i ≡ Some (One r.0, r.1)
+item-test : (t : Test) (f : ℕ) (read : Reader) (ws : List ℕ) (i : ℕ)
+    → let r = test_by (test_opcode t) ws i in item_by (test_opcode t) f read ws i ≡ Some (One r.0, r.1)
 item-test (Literal Plain v) f read ws i = refl
 item-test (Literal fold v) f read ws i = refl
 item-test (NotLiteral Plain v) f read ws i = refl
@@ -268,16 +297,25 @@ order-read : (o : Order) (ws : List ℕ) (u : ℕ) → Opcode ws u (until_opcode
 order-read Greedy ws u h = rw (opcode-read ws u opcode.MAX_UNTIL h) refl
 order-read Lazy ws u h = rw (opcode-read ws u opcode.MIN_UNTIL h) refl
 
-run-read : (kind : RunKind) (low high : ℕ) (t : Test) (ws : List ℕ) (i j : ℕ) → Operands ws i j (Run kind low high t) → run_at kind ws i ≡ (Run kind low high t, j)
+run-read : (kind : RunKind) (low high : ℕ) (t : Test) (ws : List ℕ) (i j : ℕ) → Operands ws i j (Run kind low high t)
+    → run_at kind ws i ≡ (Run kind low high t, j)
 run-read kind low high t ws i j r =
-    rw (← r.0, word_of ws (i + 2) low r.1, word_of ws (i + 3) high r.2, opcode-read ws (i + 4) (test_opcode t) r.4, test-read t ws (i + 4) (j - 1) r.5) refl
+    rw (
+      ← r.0,
+      word_of ws (i + 2) low r.1,
+      word_of ws (i + 3) high r.2,
+      opcode-read ws (i + 4) (test_opcode t) r.4,
+      test-read t ws (i + 4) (j - 1) r.5,
+    ) refl
 
-look-read : (sign : Sign) (back : ℕ) (body : Tree) (f : ℕ) (read : Reader) (ws : List ℕ) (i j : ℕ) → IsReader ws f read → Operands ws i j (Look sign back body) → j ≤ i + suc f → look_at sign read ws i ≡ (Look sign back body, j)
+look-read : (sign : Sign) (back : ℕ) (body : Tree) (f : ℕ) (read : Reader) (ws : List ℕ) (i j : ℕ) → IsReader ws f read
+    → Operands ws i j (Look sign back body) → j ≤ i + suc f → look_at sign read ws i ≡ (Look sign back body, j)
 look-read sign back body f read ws i j h r l =
     let x : read (i + 3) (j - 1) ≡ (body, j - 1) = h (i + 3) (j - 1) (j - 1) body r.2 (inl refl) (omega arith) in
     rw (← r.0, word_of ws (i + 2) back r.1, x) refl
 
-item-read : (x : Item) (f : ℕ) (read : Reader) (ws : List ℕ) (i j : ℕ) → IsReader ws f read → Operands ws i j x → j ≤ i + suc f → item_by (item_opcode x) f read ws i ≡ Some (x, j)
+item-read : (x : Item) (f : ℕ) (read : Reader) (ws : List ℕ) (i j : ℕ) → IsReader ws f read → Operands ws i j x
+    → j ≤ i + suc f → item_by (item_opcode x) f read ws i ≡ Some (x, j)
 item-read Fail f read ws i j h r l = rw r refl
 item-read (One t) f read ws i j h r l = rw (item-test t f read ws i, test-read t ws i j r) refl
 item-read (At a) f read ws i j h r l = rw (at_code-read ws (i + 1) a r.0, r.1) refl
@@ -308,7 +346,8 @@ item-read (ExistsElse g there absent) f read ws i j h r l =
     let tail = i + 1 + word ws (i + 2) in
     let a : i + 3 ≤ tail - 2 = reads_within there ws (i + 3) (tail - 2) r.1 in
     let b : tail ≤ j = reads_within absent ws tail j r.3 in
-    let x : read (i + 3) tail ≡ (there, tail - 2) = h (i + 3) tail (tail - 2) there r.1 (inr (omega arith, r.2.0)) (omega arith) in
+    let x : read (i + 3) tail ≡ (there, tail - 2) =
+    h (i + 3) tail (tail - 2) there r.1 (inr (omega arith, r.2.0)) (omega arith) in
     let z : nat_eq (tail - 2) tail ≡ false = grind (arith, nat_tests) in
     let y : read tail j ≡ (absent, j) = h tail j j absent r.3 (inl refl) (omega arith) in
     rw (word_of ws (i + 1) g r.0, x, z, ← r.2.1, y) refl
@@ -329,7 +368,8 @@ items-read (suc f) ws i j k (Then x rest) r s l =
     let b : m ≤ k = reads_within rest ws m k r.2 in
     let c : k ≤ j = stops_within ws k j s in
     let first : item_by (opcode_at ws i) f (items_at f ws) ws i ≡ Some (x, m) =
-    rw (opcode-read ws i (item_opcode x) r.1.0) (item-read x f (items_at f ws) ws i m (items-read f ws) r.1.1 (omega arith)) in
+    rw (opcode-read ws i (item_opcode x) r.1.0)
+    (item-read x f (items_at f ws) ws i m (items-read f ws) r.1.1 (omega arith)) in
     items-first f ws i j m k x rest (omega arith) first (items-read f ws m j k rest r.2 s (omega arith))
 
 pub whole-read : (ws : List ℕ) (t : Tree) → Whole ws t → tree_of ws ≡ t

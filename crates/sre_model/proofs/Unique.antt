@@ -74,8 +74,10 @@ order_back Greedy = refl
 order_back o = refl
 
 -- a word that tells its opcode back tells which of a family it is
-same_member : {A : Type 0} (family : A → SreOpcode) (member : SreOpcode → A) → ((a : A) → member (family a) ≡ a) → (ws : List ℕ) (i : ℕ) (a b : A) → Opcode ws i (family a) → Opcode ws i (family b) → a ≡ b
-same_member family member back ws i a b x y = sym (back a) ∙ ap member (same_opcode ws i (family a) (family b) x y) ∙ back b
+same_member : {A : Type 0} (family : A → SreOpcode) (member : SreOpcode → A) → ((a : A) → member (family a) ≡ a)
+    → (ws : List ℕ) (i : ℕ) (a b : A) → Opcode ws i (family a) → Opcode ws i (family b) → a ≡ b
+same_member family member back ws i a b x y =
+    sym (back a) ∙ ap member (same_opcode ws i (family a) (family b) x y) ∙ back b
 
 -- sets
 longer : (ws : List ℕ) (i p j : ℕ) (s : List SetItem) → i < p → ReadsSet ws p j s → i < j
@@ -88,7 +90,8 @@ set_same [] (Range l h ∷ b) ws i j r s = absurd (omega (arith, r, set_within w
 set_same [] (RangeUniIgnore l h ∷ b) ws i j r s = absurd (omega (arith, r, set_within ws (i + 3) j b s.3))
 set_same [] (Category n ∷ b) ws i j r s = absurd (omega (arith, r, set_within ws (i + 2) j b s.2))
 set_same [] (Charset bits ∷ b) ws i j r s = absurd (omega (arith, r, set_within ws (i + 9) j b s.3))
-set_same [] (BigCharset n bits ∷ b) ws i j r s = absurd (omega (arith, r, set_within ws (i + 66 + word ws (i + 1) * 8) j b s.5))
+set_same [] (BigCharset n bits ∷ b) ws i j r s =
+    absurd (omega (arith, r, set_within ws (i + 66 + word ws (i + 1) * 8) j b s.5))
 set_same [] (Negate ∷ b) ws i j r s = absurd (omega (arith, r, set_within ws (i + 1) j b s.1))
 set_same (Single v ∷ a) b ws i j r s =
     let f = is_single ws i j b r.0 (longer ws i (i + 2) j a (omega arith) r.2) s in
@@ -120,27 +123,34 @@ set_same (Negate ∷ a) b ws i j r s =
 test_moved : (ws : List ℕ) (i : ℕ) (t u : Test) → t ≡ u → Opcode ws i (test_opcode t) → Opcode ws i (test_opcode u)
 test_moved ws i t u e x = let P : Test → Type 0 = λ y. Opcode ws i (test_opcode y) in subst P e x
 
-pub test_same : (t u : Test) (ws : List ℕ) (i j k : ℕ) → Opcode ws i (test_opcode t) → TestOperands ws i j t → Opcode ws i (test_opcode u) → TestOperands ws i k u → (t ≡ u) × (j ≡ k)
+pub test_same : (t u : Test) (ws : List ℕ) (i j k : ℕ) → Opcode ws i (test_opcode t) → TestOperands ws i j t
+    → Opcode ws i (test_opcode u) → TestOperands ws i k u → (t ≡ u) × (j ≡ k)
 test_same Any u ws i j k w r x s = let f = is_any ws i k u (test_here ws i Any w) x s in (sym f.0, r ∙ sym f.1)
-test_same AnyAll u ws i j k w r x s = let f = is_any_all ws i k u (test_here ws i AnyAll w) x s in (sym f.0, r ∙ sym f.1)
+test_same AnyAll u ws i j k w r x s =
+    let f = is_any_all ws i k u (test_here ws i AnyAll w) x s in
+    (sym f.0, r ∙ sym f.1)
 test_same (InCategory c) u ws i j k w r x s =
     let f = is_category ws i k u (test_here ws i (InCategory c) w) x s in
     (ap InCategory (same_category ws (i + 1) c f.0 r.0 f.2.0) ∙ sym f.1, r.1 ∙ sym f.2.1)
 test_same (Literal g v) u ws i j k w r x s =
     let f = is_literal ws i k u (test_here ws i (Literal g v) w) x s in
-    let gs : g ≡ f.0 = same_member literal_opcode fold_of literal_back ws i g f.0 w (test_moved ws i u (Literal f.0 f.1) f.2 x) in
+    let gs : g ≡ f.0 =
+    same_member literal_opcode fold_of literal_back ws i g f.0 w (test_moved ws i u (Literal f.0 f.1) f.2 x) in
     let vs : v ≡ f.1 = same_word ws (i + 1) v f.1 r.0 f.3.0 in
     (cc f.2, r.1 ∙ sym f.3.1)
 test_same (NotLiteral g v) u ws i j k w r x s =
     let f = is_not_literal ws i k u (test_here ws i (NotLiteral g v) w) x s in
-    let gs : g ≡ f.0 = same_member not_literal_opcode fold_of not_literal_back ws i g f.0 w (test_moved ws i u (NotLiteral f.0 f.1) f.2 x) in
+    let gs : g ≡ f.0 = same_member not_literal_opcode fold_of not_literal_back ws i g f.0 w
+    (test_moved ws i u (NotLiteral f.0 f.1) f.2 x) in
     let vs : v ≡ f.1 = same_word ws (i + 1) v f.1 r.0 f.3.0 in
     (cc f.2, r.1 ∙ sym f.3.1)
 test_same (In g set) u ws i j k w r x s =
     let f = is_set ws i k u (test_here ws i (In g set) w) x s in
     let gs : g ≡ f.0 = same_member set_opcode fold_of set_back ws i g f.0 w (test_moved ws i u (In f.0 f.1) f.2 x) in
     let ends : j ≡ k = r.0 ∙ sym f.3.0 in
-    let sets : set ≡ f.1 = set_same set f.1 ws (i + 2) (j - 1) r.1 (set_moved ws (i + 2) (i + 2) (k - 1) (j - 1) f.1 refl (ap (λ n. n - 1) (sym ends)) f.3.1) in
+    let sets : set ≡ f.1 =
+    set_same set f.1 ws (i + 2) (j - 1) r.1
+    (set_moved ws (i + 2) (i + 2) (k - 1) (j - 1) f.1 refl (ap (λ n. n - 1) (sym ends)) f.3.1) in
     (cc f.2, ends)
 
 -- items
@@ -156,24 +166,29 @@ then_same x y a b e f = cc
 mutual
   pub tree_same : (a b : Tree) (ws : List ℕ) (i j : ℕ) → Reads ws i j a → Reads ws i j b → a ≡ b
   tree_same Empty Empty ws i j r s = refl
-  tree_same Empty (Then y b) ws i j r s = absurd (omega (arith, r, operands_past y ws i s.0 s.1.1, reads_within b ws s.0 j s.2))
-  tree_same (Then x a) Empty ws i j r s = absurd (omega (arith, s, operands_past x ws i r.0 r.1.1, reads_within a ws r.0 j r.2))
+  tree_same Empty (Then y b) ws i j r s =
+      absurd (omega (arith, r, operands_past y ws i s.0 s.1.1, reads_within b ws s.0 j s.2))
+  tree_same (Then x a) Empty ws i j r s =
+      absurd (omega (arith, s, operands_past x ws i r.0 r.1.1, reads_within a ws r.0 j r.2))
   tree_same (Then x a) (Then y b) ws i j r s =
       let u = item_same x y ws i r.0 s.0 r.1 s.1 in
       then_same x y a b u.0 (tree_same a b ws r.0 j r.2 (reads_moved ws s.0 r.0 j j b (sym u.1) refl s.2))
 
   -- a reading that stops at a JUMP isn't the front of a longer one
-  no_longer : (a b : Tree) (ws : List ℕ) (i j k : ℕ) → Reads ws i j a → Reads ws i k b → k < j → Opcode ws k opcode.JUMP → ⊥
+  no_longer : (a b : Tree) (ws : List ℕ) (i j k : ℕ) → Reads ws i j a → Reads ws i k b → k < j
+      → Opcode ws k opcode.JUMP → ⊥
   no_longer Empty b ws i j k r s lt w = omega (arith, r, reads_within b ws i k s)
   no_longer (Then x a) Empty ws i j k r s lt w = no_jump ws i r.0 x (jump_moved ws k i (sym s) w) r.1
   no_longer (Then x a) (Then y b) ws i j k r s lt w =
       let u = item_same x y ws i r.0 s.0 r.1 s.1 in
       no_longer a b ws r.0 j k r.2 (reads_moved ws s.0 r.0 k k b (sym u.1) refl s.2) lt w
 
-  no_shorter : (b a : Tree) (ws : List ℕ) (i j k : ℕ) → Reads ws i j a → Reads ws i k b → k < j → Opcode ws k opcode.JUMP → ⊥
+  no_shorter : (b a : Tree) (ws : List ℕ) (i j k : ℕ) → Reads ws i j a → Reads ws i k b → k < j
+      → Opcode ws k opcode.JUMP → ⊥
   no_shorter Empty Empty ws i j k r s lt w = omega (arith, r, s)
   no_shorter Empty (Then x a) ws i j k r s lt w = no_jump ws i r.0 x (jump_moved ws k i (sym s) w) r.1
-  no_shorter (Then y b) Empty ws i j k r s lt w = omega (arith, r, operands_past y ws i s.0 s.1.1, reads_within b ws s.0 k s.2)
+  no_shorter (Then y b) Empty ws i j k r s lt w =
+      omega (arith, r, operands_past y ws i s.0 s.1.1, reads_within b ws s.0 k s.2)
   no_shorter (Then y b) (Then x a) ws i j k r s lt w =
       let u = item_same y x ws i s.0 r.0 s.1 r.1 in
       no_shorter b a ws s.0 j k (reads_moved ws r.0 s.0 j j a (sym u.1) refl r.2) s.2 lt w
@@ -218,12 +233,14 @@ mutual
   item_same (Atomic body) y ws i j k r s =
       let f = is_atomic ws i k y (item_here ws i j (Atomic body) r) s in
       let ends : j ≡ k = r.1.0 ∙ sym f.2.1.0 in
-      let b = tree_same body f.0 ws (i + 2) (j - 1) r.1.1 (reads_moved ws _ _ (k - 1) (j - 1) f.0 refl (ap (λ n. n - 1) (sym ends)) f.2.1.1) in
+      let b = tree_same body f.0 ws (i + 2) (j - 1) r.1.1
+      (reads_moved ws _ _ (k - 1) (j - 1) f.0 refl (ap (λ n. n - 1) (sym ends)) f.2.1.1) in
       (ap Atomic b ∙ sym f.1, ends)
   item_same (Look sign back body) y ws i j k r s =
       let f = is_look ws i k y (item_here ws i j (Look sign back body) r) s in
       let ends : j ≡ k = r.1.0 ∙ sym f.4.1.0 in
-      let b = tree_same body f.2 ws (i + 3) (j - 1) r.1.2 (reads_moved ws _ _ (k - 1) (j - 1) f.2 refl (ap (λ n. n - 1) (sym ends)) f.4.1.2) in
+      let b = tree_same body f.2 ws (i + 3) (j - 1) r.1.2
+      (reads_moved ws _ _ (k - 1) (j - 1) f.2 refl (ap (λ n. n - 1) (sym ends)) f.4.1.2) in
       let bs = same_word ws (i + 2) back f.1 r.1.1 f.4.1.1 in
       let signs : sign ≡ f.0 = same_member look_opcode sign_of look_back ws i sign f.0 r.0 f.4.0 in
       (cc f.3, ends)
@@ -239,23 +256,29 @@ mutual
       let there : a ≡ f.1 = tree_same a f.1 ws (i + 3) j r.1.2 (reads_moved ws _ _ k j f.1 refl (sym ends) f.3.1.2) in
       (cc f.2, ends))
       (λ (f : (h : ℕ) × (c : Tree) × (d : Tree) × (y ≡ ExistsElse h c d) × ReadsItem ws i k (ExistsElse h c d)).
-      absurd (no_longer a f.1 ws (i + 3) j (i + 1 + word ws (i + 2) - 2) r.1.2 f.4.1.1 (omega (arith, r.1.1, reads_within a ws (i + 3) j r.1.2)) f.4.1.2.0))
+      absurd (no_longer a f.1 ws (i + 3) j (i + 1 + word ws (i + 2) - 2) r.1.2 f.4.1.1
+      (omega (arith, r.1.1, reads_within a ws (i + 3) j r.1.2)) f.4.1.2.0))
       (is_exists ws i k y (item_here ws i j (Exists g a) r) s)
   item_same (ExistsElse g a b) y ws i j k r s = ⊎_elim
       (λ (f : (h : ℕ) × (c : Tree) × (y ≡ Exists h c) × ReadsItem ws i k (Exists h c)).
-      absurd (no_shorter a f.1 ws (i + 3) k (i + 1 + word ws (i + 2) - 2) f.3.1.2 r.1.1 (omega (arith, f.3.1.1, reads_within f.1 ws (i + 3) k f.3.1.2)) r.1.2.0))
+      absurd (no_shorter a f.1 ws (i + 3) k (i + 1 + word ws (i + 2) - 2) f.3.1.2 r.1.1
+      (omega (arith, f.3.1.1, reads_within f.1 ws (i + 3) k f.3.1.2)) r.1.2.0))
       (λ (f : (h : ℕ) × (c : Tree) × (d : Tree) × (y ≡ ExistsElse h c d) × ReadsItem ws i k (ExistsElse h c d)).
       let ends : j ≡ k = r.1.2.1 ∙ sym f.4.1.2.1 in
       let gs : g ≡ f.0 = same_word ws (i + 1) g f.0 r.1.0 f.4.1.0 in
       let there : a ≡ f.1 = tree_same a f.1 ws (i + 3) _ r.1.1 f.4.1.1 in
-      let bs : b ≡ f.2 = tree_same b f.2 ws (i + 1 + word ws (i + 2)) j r.1.3 (reads_moved ws _ _ k j f.2 refl (sym ends) f.4.1.3) in
+      let bs : b ≡ f.2 =
+      tree_same b f.2 ws (i + 1 + word ws (i + 2)) j r.1.3 (reads_moved ws _ _ k j f.2 refl (sym ends) f.4.1.3) in
       (cc f.3, ends))
       (is_exists ws i k y (item_here ws i j (ExistsElse g a b) r) s)
 
-  trees_same : (ts us : Trees) (ws : List ℕ) (q j k : ℕ) → ReadsBranch ws q j ts → ReadsBranch ws q k us → (ts ≡ us) × (j ≡ k)
+  trees_same : (ts us : Trees) (ws : List ℕ) (q j k : ℕ) → ReadsBranch ws q j ts → ReadsBranch ws q k us
+      → (ts ≡ us) × (j ≡ k)
   trees_same (Only t) (Only u) ws q j k r s = (ap Only (tree_same t u ws (q + 1) _ r.0 s.0), r.1.1 ∙ sym s.1.1)
-  trees_same (Only t) (Or u us) ws q j k r s = absurd (omega (arith, word_of ws (skip ws q) 0 r.2, alternative_long ws (skip ws q) k us s.2))
-  trees_same (Or t ts) (Only u) ws q j k r s = absurd (omega (arith, word_of ws (skip ws q) 0 s.2, alternative_long ws (skip ws q) j ts r.2))
+  trees_same (Only t) (Or u us) ws q j k r s =
+      absurd (omega (arith, word_of ws (skip ws q) 0 r.2, alternative_long ws (skip ws q) k us s.2))
+  trees_same (Or t ts) (Only u) ws q j k r s =
+      absurd (omega (arith, word_of ws (skip ws q) 0 s.2, alternative_long ws (skip ws q) j ts r.2))
   trees_same (Or t ts) (Or u us) ws q j k r s =
       let rest = trees_same ts us ws (skip ws q) j k r.2 s.2 in
       let a : t ≡ u = tree_same t u ws (q + 1) _ r.0 s.0 in let b : ts ≡ us = rest.0 in (cc, rest.1)

@@ -8,15 +8,19 @@ use Rattle.sre_model.specs.WalkBounds.{most_matches, AreInOrder}
 use Rattle.sre_model.proofs.FoundLaws.{Either, either, found-least, found-is}
 
 -- after a match that is accepted fewer matches can come: an empty one must not come again at its place
-fewer : (start end from to : ℕ) (advance : Bool) → start ≤ from → from ≤ to → to ≤ end → (not advance || not (nat_eq to start)) ≡ true → 2 * (end - to) + cond (nat_eq to from) 0 1 < 2 * (end - start) + cond advance 0 1
+fewer : (start end from to : ℕ) (advance : Bool) → start ≤ from → from ≤ to → to ≤ end
+    → (not advance || not (nat_eq to start)) ≡ true
+    → 2 * (end - to) + cond (nat_eq to from) 0 1 < 2 * (end - start) + cond advance 0 1
 fewer start end from to true l k h e = grind (arith, nat_tests)
 fewer start end from to false l k h e = grind (arith, nat_tests)
 
 -- the bound on the matches to come falls at each match
-pub most_matches-falls : (a : Asked) (t : Tree) (m : Match) → found a t ≡ Some m → most_matches (asked_after a m) < most_matches a
+pub most_matches-falls : (a : Asked) (t : Tree) (m : Match) → found a t ≡ Some m
+    → most_matches (asked_after a m) < most_matches a
 most_matches-falls a t m e =
     let is = found-is a t m e in
-    let advances = (and_parts (not a.match_all || nat_eq m.end a.end) (not a.must_advance || not (nat_eq m.end a.start)) is.accepted).1 in
+    let advances = (and_parts (not a.match_all || nat_eq m.end a.end) (not a.must_advance || not (nat_eq m.end a.start))
+    is.accepted).1 in
     fewer a.start a.end m.start m.end a.must_advance (found-least a t m e).from is.order is.end advances
 
 -- where nothing can be found any more, nothing is
@@ -32,18 +36,25 @@ walk_of-none : (n : ℕ) (a : Asked) (t : Tree) → found a t ≡ None → walk_
 walk_of-none zero a t e = refl
 walk_of-none (suc n) a t e = rw (e, walk_of)
 
-walk_of-some : (n : ℕ) (a : Asked) (t : Tree) (m : Match) → found a t ≡ Some m → walk_of (suc n) a t ≡ m ∷ walk_of n (asked_after a m) t
+walk_of-some : (n : ℕ) (a : Asked) (t : Tree) (m : Match) → found a t ≡ Some m
+    → walk_of (suc n) a t ≡ m ∷ walk_of n (asked_after a m) t
 walk_of-some n a t m e = rw (e, walk_of)
 
 -- more steps than the bound change nothing
-walk_of-steps : (n k : ℕ) (a : Asked) (t : Tree) → most_matches a ≤ n → most_matches a ≤ k → walk_of n a t ≡ walk_of k a t
+walk_of-steps : (n k : ℕ) (a : Asked) (t : Tree) → most_matches a ≤ n → most_matches a ≤ k
+    → walk_of n a t ≡ walk_of k a t
 walk_of-steps zero k a t h l = sym (walk_of-none k a t (none-left a t (omega arith)))
 walk_of-steps (suc n) zero a t h l = walk_of-none (suc n) a t (none-left a t (omega arith))
-walk_of-steps (suc n) (suc k) a t h l = by_match (either (found a t)) (λ m e. let less = most_matches-falls a t m e in walk_of-steps n k (asked_after a m) t (omega arith) (omega arith))
+walk_of-steps (suc n) (suc k) a t h l =
+    by_match (either (found a t)) (λ m e.
+    let less = most_matches-falls a t m e in walk_of-steps n k (asked_after a m) t (omega arith) (omega arith))
   where
-    by_match : Either (found a t) → ((m : Match) → found a t ≡ Some m → walk_of n (asked_after a m) t ≡ walk_of k (asked_after a m) t) → walk_of (suc n) a t ≡ walk_of (suc k) a t
+    by_match : Either (found a t)
+        → ((m : Match) → found a t ≡ Some m → walk_of n (asked_after a m) t ≡ walk_of k (asked_after a m) t)
+        → walk_of (suc n) a t ≡ walk_of (suc k) a t
     by_match (inl none) later = walk_of-none (suc n) a t none ∙ sym (walk_of-none (suc k) a t none)
-    by_match (inr (m, some)) later = walk_of-some n a t m some ∙ (ap (λ l. m ∷ l) (later m some) ∙ sym (walk_of-some k a t m some))
+    by_match (inr (m, some)) later =
+        walk_of-some n a t m some ∙ (ap (λ l. m ∷ l) (later m some) ∙ sym (walk_of-some k a t m some))
 
 -- the walk ends where nothing is found
 pub walk-end : (a : Asked) (t : Tree) → found a t ≡ None → walk a t ≡ []
@@ -62,15 +73,19 @@ walk-next a t m e =
     let less = most_matches-falls a t m e in
     let enough : most_matches (asked_after a m) ≤ steps = omega (arith, at_most_one a.must_advance) in
     let enough_after : most_matches (asked_after a m) ≤ after = omega (arith, at_most_one (nat_eq m.end m.start)) in
-    ap (λ n. walk_of n a t) some ∙ (walk_of-some steps a t m e ∙ ap (λ l. m ∷ l) (walk_of-steps steps after (asked_after a m) t enough enough_after))
+    ap (λ n. walk_of n a t) some
+    ∙ (walk_of-some steps a t m e ∙ ap (λ l. m ∷ l) (walk_of-steps steps after (asked_after a m) t enough enough_after))
 
 walk_of-bound : (n : ℕ) (a : Asked) (t : Tree) → length (walk_of n a t) ≤ most_matches a
 walk_of-bound zero a t = omega arith
 walk_of-bound (suc n) a t = by_match (either (found a t)) (λ m. walk_of-bound n (asked_after a m) t)
   where
-    by_match : Either (found a t) → ((m : Match) → length (walk_of n (asked_after a m) t) ≤ most_matches (asked_after a m)) → length (walk_of (suc n) a t) ≤ most_matches a
+    by_match : Either (found a t)
+        → ((m : Match) → length (walk_of n (asked_after a m) t) ≤ most_matches (asked_after a m))
+        → length (walk_of (suc n) a t) ≤ most_matches a
     by_match (inl none) later = rw (walk_of-none (suc n) a t none) (omega arith)
-    by_match (inr (m, some)) later = rw (walk_of-some n a t m some) (omega (arith, later m, most_matches-falls a t m some))
+    by_match (inr (m, some)) later =
+        rw (walk_of-some n a t m some) (omega (arith, later m, most_matches-falls a t m some))
 
 -- a walk over n characters has at most 2n + 1 matches, and 2n where it must advance at first
 pub walk-bound : (a : Asked) (t : Tree) → length (walk a t) ≤ most_matches a
@@ -80,9 +95,12 @@ walk_of-in_order : (n : ℕ) (a : Asked) (t : Tree) → AreInOrder a.start (walk
 walk_of-in_order zero a t = tt
 walk_of-in_order (suc n) a t = by_match (either (found a t)) (λ m. walk_of-in_order n (asked_after a m) t)
   where
-    by_match : Either (found a t) → ((m : Match) → AreInOrder m.end (walk_of n (asked_after a m) t)) → AreInOrder a.start (walk_of (suc n) a t)
+    by_match : Either (found a t) → ((m : Match) → AreInOrder m.end (walk_of n (asked_after a m) t))
+        → AreInOrder a.start (walk_of (suc n) a t)
     by_match (inl none) later = subst (AreInOrder a.start) (sym (walk_of-none (suc n) a t none)) tt
-    by_match (inr (m, some)) later = subst (AreInOrder a.start) (sym (walk_of-some n a t m some)) ((found-least a t m some).from, (found-is a t m some).order, later m)
+    by_match (inr (m, some)) later =
+        subst (AreInOrder a.start) (sym (walk_of-some n a t m some))
+        ((found-least a t m some).from, (found-is a t m some).order, later m)
 
 -- each match of a walk starts no earlier than the former's end
 pub walk-in_order : (a : Asked) (t : Tree) → AreInOrder a.start (walk a t)

@@ -36,13 +36,16 @@ word_moved ws i k v e w = let P : ℕ → Type 0 = λ n. Word ws n v in subst P 
 -- the opcodes, in the order of their numbers
 abbrev pub opcodes : List SreOpcode
 opcodes =
-    opcode.FAILURE ∷ opcode.SUCCESS ∷ opcode.ANY ∷ opcode.ANY_ALL ∷ opcode.ASSERT ∷ opcode.ASSERT_NOT ∷ opcode.AT ∷ opcode.BRANCH
-    ∷ opcode.CATEGORY ∷ opcode.CHARSET ∷ opcode.BIGCHARSET ∷ opcode.GROUPREF ∷ opcode.GROUPREF_EXISTS ∷ opcode.IN ∷ opcode.INFO ∷ opcode.JUMP
-    ∷ opcode.LITERAL ∷ opcode.MARK ∷ opcode.MAX_UNTIL ∷ opcode.MIN_UNTIL ∷ opcode.NOT_LITERAL ∷ opcode.NEGATE ∷ opcode.RANGE ∷ opcode.REPEAT
-    ∷ opcode.REPEAT_ONE ∷ opcode.SUBPATTERN ∷ opcode.MIN_REPEAT_ONE ∷ opcode.ATOMIC_GROUP ∷ opcode.POSSESSIVE_REPEAT ∷ opcode.POSSESSIVE_REPEAT_ONE
+    opcode.FAILURE ∷ opcode.SUCCESS ∷ opcode.ANY ∷ opcode.ANY_ALL ∷ opcode.ASSERT ∷ opcode.ASSERT_NOT ∷ opcode.AT
+    ∷ opcode.BRANCH ∷ opcode.CATEGORY ∷ opcode.CHARSET ∷ opcode.BIGCHARSET ∷ opcode.GROUPREF ∷ opcode.GROUPREF_EXISTS
+    ∷ opcode.IN ∷ opcode.INFO ∷ opcode.JUMP
+    ∷ opcode.LITERAL ∷ opcode.MARK ∷ opcode.MAX_UNTIL ∷ opcode.MIN_UNTIL ∷ opcode.NOT_LITERAL ∷ opcode.NEGATE
+    ∷ opcode.RANGE ∷ opcode.REPEAT ∷ opcode.REPEAT_ONE ∷ opcode.SUBPATTERN ∷ opcode.MIN_REPEAT_ONE ∷ opcode.ATOMIC_GROUP
+    ∷ opcode.POSSESSIVE_REPEAT ∷ opcode.POSSESSIVE_REPEAT_ONE
     ∷ opcode.GROUPREF_IGNORE ∷ opcode.IN_IGNORE ∷ opcode.LITERAL_IGNORE ∷ opcode.NOT_LITERAL_IGNORE
     ∷ opcode.GROUPREF_LOC_IGNORE ∷ opcode.IN_LOC_IGNORE ∷ opcode.LITERAL_LOC_IGNORE ∷ opcode.NOT_LITERAL_LOC_IGNORE
-    ∷ opcode.GROUPREF_UNI_IGNORE ∷ opcode.IN_UNI_IGNORE ∷ opcode.LITERAL_UNI_IGNORE ∷ opcode.NOT_LITERAL_UNI_IGNORE ∷ opcode.RANGE_UNI_IGNORE ∷ []
+    ∷ opcode.GROUPREF_UNI_IGNORE ∷ opcode.IN_UNI_IGNORE ∷ opcode.LITERAL_UNI_IGNORE ∷ opcode.NOT_LITERAL_UNI_IGNORE
+    ∷ opcode.RANGE_UNI_IGNORE ∷ []
 
 pub opcode_back : (o : SreOpcode) → slice_index_or opcodes (opcode_number o) opcode.FAILURE ≡ o
 opcode_back opcode.FAILURE = refl
@@ -68,8 +71,8 @@ opcode_moved ws i k o e a = word_moved ws i k (opcode_number o) e a
 -- the position codes, in the order of their numbers
 abbrev pub at_codes : List SreAtCode
 at_codes =
-    at.BEGINNING ∷ at.BEGINNING_LINE ∷ at.BEGINNING_STRING ∷ at.BOUNDARY ∷ at.NON_BOUNDARY ∷ at.END ∷ at.END_LINE ∷ at.END_STRING
-    ∷ at.LOC_BOUNDARY ∷ at.LOC_NON_BOUNDARY ∷ at.UNI_BOUNDARY ∷ at.UNI_NON_BOUNDARY ∷ []
+    at.BEGINNING ∷ at.BEGINNING_LINE ∷ at.BEGINNING_STRING ∷ at.BOUNDARY ∷ at.NON_BOUNDARY ∷ at.END ∷ at.END_LINE
+    ∷ at.END_STRING ∷ at.LOC_BOUNDARY ∷ at.LOC_NON_BOUNDARY ∷ at.UNI_BOUNDARY ∷ at.UNI_NON_BOUNDARY ∷ []
 
 pub at_back : (a : SreAtCode) → slice_index_or at_codes (at_number a) at.BEGINNING ≡ a
 at_back at.BEGINNING = refl
@@ -80,13 +83,16 @@ at_low at.BEGINNING = omega arith
 at_low a = omega arith
 
 pub same_at : (ws : List ℕ) (i : ℕ) (a b : SreAtCode) → Word ws i (at_number a) → Word ws i (at_number b) → a ≡ b
-same_at ws i a b x y = sym (at_back a) ∙ ap (λ n. slice_index_or at_codes n at.BEGINNING) (same_word ws i (at_number a) (at_number b) x y) ∙ at_back b
+same_at ws i a b x y =
+    sym (at_back a)
+    ∙ ap (λ n. slice_index_or at_codes n at.BEGINNING) (same_word ws i (at_number a) (at_number b) x y) ∙ at_back b
 
 -- the categories, in the order of their numbers
 abbrev pub categories : List SreCatCode
 categories =
-    category.DIGIT ∷ category.NOT_DIGIT ∷ category.SPACE ∷ category.NOT_SPACE ∷ category.WORD ∷ category.NOT_WORD ∷ category.LINEBREAK ∷ category.NOT_LINEBREAK
-    ∷ category.LOC_WORD ∷ category.LOC_NOT_WORD ∷ category.UNI_DIGIT ∷ category.UNI_NOT_DIGIT ∷ category.UNI_SPACE ∷ category.UNI_NOT_SPACE
+    category.DIGIT ∷ category.NOT_DIGIT ∷ category.SPACE ∷ category.NOT_SPACE ∷ category.WORD ∷ category.NOT_WORD
+    ∷ category.LINEBREAK ∷ category.NOT_LINEBREAK ∷ category.LOC_WORD ∷ category.LOC_NOT_WORD ∷ category.UNI_DIGIT
+    ∷ category.UNI_NOT_DIGIT ∷ category.UNI_SPACE ∷ category.UNI_NOT_SPACE
     ∷ category.UNI_WORD ∷ category.UNI_NOT_WORD ∷ category.UNI_LINEBREAK ∷ category.UNI_NOT_LINEBREAK ∷ []
 
 pub category_back : (c : SreCatCode) → slice_index_or categories (category_number c) category.DIGIT ≡ c
@@ -97,8 +103,12 @@ pub category_low : (c : SreCatCode) → category_number c < 18
 category_low category.DIGIT = omega arith
 category_low c = omega arith
 
-pub same_category : (ws : List ℕ) (i : ℕ) (a b : SreCatCode) → Word ws i (category_number a) → Word ws i (category_number b) → a ≡ b
-same_category ws i a b x y = sym (category_back a) ∙ ap (λ n. slice_index_or categories n category.DIGIT) (same_word ws i (category_number a) (category_number b) x y) ∙ category_back b
+pub same_category : (ws : List ℕ) (i : ℕ) (a b : SreCatCode) → Word ws i (category_number a)
+    → Word ws i (category_number b) → a ≡ b
+same_category ws i a b x y =
+    sym (category_back a)
+    ∙ ap (λ n. slice_index_or categories n category.DIGIT) (same_word ws i (category_number a) (category_number b) x y)
+    ∙ category_back b
 
 pub are_words : (ws : List ℕ) → ((i : ℕ) → word ws i < 4294967296) → AreWords ws
 are_words ws f = record { fits = λ i v w. omega (arith, f i, word_of ws i v w) }

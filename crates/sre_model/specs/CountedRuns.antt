@@ -12,4 +12,5 @@ pub record Counted (r : Run) (i most : ℕ) (start cursor : StringCursor) (count
   pub within : count ≤ most
   pub position : cursor.position ≡ start.position + count
   pub stands : r.stands cursor cursor.position
-  pub each : (j : ℕ) (t : Test) → TestStands r.words i j t → run_length r.subject t most start.position ≡ count + run_length r.subject t (most - count) cursor.position
+  pub each : (j : ℕ) (t : Test) → TestStands r.words i j t
+      → run_length r.subject t most start.position ≡ count + run_length r.subject t (most - count) cursor.position

@@ -32,7 +32,8 @@ is_accepted a w = (not a.match_all || nat_eq w.stop a.end) && (not a.must_advanc
 -- the first accepted one of some ways from s, as a match
 abbrev pub first_accepted : Asked → ℕ → List Way → Option Match
 first_accepted a s [] = None
-first_accepted a s (w ∷ ws) = cond (is_accepted a w) (Some (record { start = s; end = w.stop; marks = w.marks })) (first_accepted a s ws)
+first_accepted a s (w ∷ ws) =
+    cond (is_accepted a w) (Some (record { start = s; end = w.stop; marks = w.marks })) (first_accepted a s ws)
 
 -- the match from s: the first accepted way that begins with no marks
 abbrev pub at_start : Asked → Tree → ℕ → Option Match

@@ -91,7 +91,8 @@ bytes_of w = (w % 256) ∷ (w / 256 % 256) ∷ (w / 65536 % 256) ∷ (w / 167772
 
 -- each byte of a word is below the count
 abbrev pub BytesBelow : ℕ → ℕ → Type 0
-BytesBelow count w = (w % 256 < count) × (w / 256 % 256 < count) × (w / 65536 % 256 < count) × (w / 16777216 % 256 < count)
+BytesBelow count w =
+    (w % 256 < count) × (w / 256 % 256 < count) × (w / 65536 % 256 < count) × (w / 16777216 % 256 < count)
 
 -- each block number is below the count
 abbrev pub BlocksBelow : ℕ → List ℕ → Type 0
@@ -101,11 +102,20 @@ BlocksBelow count blocks = EachIndex blocks (λ k. BytesBelow count (slice_index
 abbrev pub ReadsSet : List ℕ → ℕ → ℕ → List SetItem → Type 0
 ReadsSet ws i j [] = i ≡ j
 ReadsSet ws i j (Single v ∷ rest) = Opcode ws i opcode.LITERAL × Word ws (i + 1) v × ReadsSet ws (i + 2) j rest
-ReadsSet ws i j (Range low high ∷ rest) = Opcode ws i opcode.RANGE × Word ws (i + 1) low × Word ws (i + 2) high × ReadsSet ws (i + 3) j rest
-ReadsSet ws i j (RangeUniIgnore low high ∷ rest) = Opcode ws i opcode.RANGE_UNI_IGNORE × Word ws (i + 1) low × Word ws (i + 2) high × ReadsSet ws (i + 3) j rest
-ReadsSet ws i j (Category c ∷ rest) = Opcode ws i opcode.CATEGORY × Word ws (i + 1) (category_number c) × ReadsSet ws (i + 2) j rest
-ReadsSet ws i j (Charset bits ∷ rest) = Opcode ws i opcode.CHARSET × (bits ≡ slice_range ws (i + 1) (i + 9)) × (i + 9 ≤ length ws) × ReadsSet ws (i + 9) j rest
-ReadsSet ws i j (BigCharset numbers bits ∷ rest) = Opcode ws i opcode.BIGCHARSET × (numbers ≡ flat_map bytes_of (slice_range ws (i + 2) (i + 66))) × BlocksBelow (word ws (i + 1)) (slice_range ws (i + 2) (i + 66)) × (bits ≡ slice_range ws (i + 66) (i + 66 + word ws (i + 1) * 8)) × (i + 66 + word ws (i + 1) * 8 ≤ length ws) × ReadsSet ws (i + 66 + word ws (i + 1) * 8) j rest
+ReadsSet ws i j (Range low high ∷ rest) =
+    Opcode ws i opcode.RANGE × Word ws (i + 1) low × Word ws (i + 2) high × ReadsSet ws (i + 3) j rest
+ReadsSet ws i j (RangeUniIgnore low high ∷ rest) =
+    Opcode ws i opcode.RANGE_UNI_IGNORE × Word ws (i + 1) low × Word ws (i + 2) high × ReadsSet ws (i + 3) j rest
+ReadsSet ws i j (Category c ∷ rest) =
+    Opcode ws i opcode.CATEGORY × Word ws (i + 1) (category_number c) × ReadsSet ws (i + 2) j rest
+ReadsSet ws i j (Charset bits ∷ rest) =
+    Opcode ws i opcode.CHARSET × (bits ≡ slice_range ws (i + 1) (i + 9)) × (i + 9 ≤ length ws)
+    × ReadsSet ws (i + 9) j rest
+ReadsSet ws i j (BigCharset numbers bits ∷ rest) =
+    Opcode ws i opcode.BIGCHARSET × (numbers ≡ flat_map bytes_of (slice_range ws (i + 2) (i + 66)))
+    × BlocksBelow (word ws (i + 1)) (slice_range ws (i + 2) (i + 66))
+    × (bits ≡ slice_range ws (i + 66) (i + 66 + word ws (i + 1) * 8)) × (i + 66 + word ws (i + 1) * 8 ≤ length ws)
+    × ReadsSet ws (i + 66 + word ws (i + 1) * 8) j rest
 ReadsSet ws i j (Negate ∷ rest) = Opcode ws i opcode.NEGATE × ReadsSet ws (i + 1) j rest
 
 -- the operands of a test whose opcode is at i, up to j
@@ -115,7 +125,8 @@ TestOperands ws i j AnyAll = j ≡ i + 1
 TestOperands ws i j (InCategory c) = Word ws (i + 1) (category_number c) × (j ≡ i + 2)
 TestOperands ws i j (Literal fold v) = Word ws (i + 1) v × (j ≡ i + 2)
 TestOperands ws i j (NotLiteral fold v) = Word ws (i + 1) v × (j ≡ i + 2)
-TestOperands ws i j (In fold set) = (j ≡ skip ws (i + 1)) × ReadsSet ws (i + 2) (j - 1) set × Opcode ws (j - 1) opcode.FAILURE
+TestOperands ws i j (In fold set) =
+    (j ≡ skip ws (i + 1)) × ReadsSet ws (i + 2) (j - 1) set × Opcode ws (j - 1) opcode.FAILURE
 
 -- JUMP at k, to j
 abbrev pub JumpsTo : List ℕ → ℕ → ℕ → Type 0
@@ -139,7 +150,8 @@ abbrev mutual
   -- the words of [i, j) are the tree's items, one after the other
   pub Reads : List ℕ → ℕ → ℕ → Tree → Type 0
   Reads ws i j Empty = i ≡ j
-  Reads ws i j (Then item rest) = (k : ℕ) × (Opcode ws i (item_opcode item) × Operands ws i k item × IsBuilt item) × Reads ws k j rest
+  Reads ws i j (Then item rest) =
+      (k : ℕ) × (Opcode ws i (item_opcode item) × Operands ws i k item × IsBuilt item) × Reads ws k j rest
 
   -- what follows the opcode of an item at i, up to j
   pub Operands : List ℕ → ℕ → ℕ → Item → Type 0
@@ -148,19 +160,31 @@ abbrev mutual
   Operands ws i j (At a) = Word ws (i + 1) (at_number a) × (j ≡ i + 2)
   Operands ws i j (Mark n) = Word ws (i + 1) n × (j ≡ i + 2)
   Operands ws i j (Branch ts) = ReadsBranch ws (i + 1) j ts
-  Operands ws i j (Loop o low high body) = Word ws (i + 2) low × Word ws (i + 3) high × (low ≤ high) × Reads ws (i + 4) (skip ws (i + 1)) body × Opcode ws (skip ws (i + 1)) (until_opcode o) × (j ≡ skip ws (i + 1) + 1)
-  Operands ws i j (Run kind low high t) = (j ≡ skip ws (i + 1)) × Word ws (i + 2) low × Word ws (i + 3) high × (low ≤ high) × Opcode ws (i + 4) (test_opcode t) × TestOperands ws (i + 4) (j - 1) t × Opcode ws (j - 1) opcode.SUCCESS
-  Operands ws i j (PossessiveLoop low high body) = Word ws (i + 2) low × Word ws (i + 3) high × (low ≤ high) × Reads ws (i + 4) (skip ws (i + 1)) body × Opcode ws (skip ws (i + 1)) opcode.SUCCESS × (j ≡ skip ws (i + 1) + 1)
-  Operands ws i j (Atomic body) = (j ≡ skip ws (i + 1)) × Reads ws (i + 2) (j - 1) body × Opcode ws (j - 1) opcode.SUCCESS
-  Operands ws i j (Look sign back body) = (j ≡ skip ws (i + 1)) × Word ws (i + 2) back × Reads ws (i + 3) (j - 1) body × Opcode ws (j - 1) opcode.SUCCESS
+  Operands ws i j (Loop o low high body) =
+      Word ws (i + 2) low × Word ws (i + 3) high × (low ≤ high) × Reads ws (i + 4) (skip ws (i + 1)) body
+      × Opcode ws (skip ws (i + 1)) (until_opcode o) × (j ≡ skip ws (i + 1) + 1)
+  Operands ws i j (Run kind low high t) =
+      (j ≡ skip ws (i + 1)) × Word ws (i + 2) low × Word ws (i + 3) high × (low ≤ high)
+      × Opcode ws (i + 4) (test_opcode t) × TestOperands ws (i + 4) (j - 1) t × Opcode ws (j - 1) opcode.SUCCESS
+  Operands ws i j (PossessiveLoop low high body) =
+      Word ws (i + 2) low × Word ws (i + 3) high × (low ≤ high) × Reads ws (i + 4) (skip ws (i + 1)) body
+      × Opcode ws (skip ws (i + 1)) opcode.SUCCESS × (j ≡ skip ws (i + 1) + 1)
+  Operands ws i j (Atomic body) =
+      (j ≡ skip ws (i + 1)) × Reads ws (i + 2) (j - 1) body × Opcode ws (j - 1) opcode.SUCCESS
+  Operands ws i j (Look sign back body) =
+      (j ≡ skip ws (i + 1)) × Word ws (i + 2) back × Reads ws (i + 3) (j - 1) body × Opcode ws (j - 1) opcode.SUCCESS
   Operands ws i j (Reference fold g) = Word ws (i + 1) g × (j ≡ i + 2)
   Operands ws i j (Exists g there) = Word ws (i + 1) g × (j ≡ i + 1 + word ws (i + 2)) × Reads ws (i + 3) j there
-  Operands ws i j (ExistsElse g there absent) = Word ws (i + 1) g × Reads ws (i + 3) (i + 1 + word ws (i + 2) - 2) there × JumpsTo ws (i + 1 + word ws (i + 2) - 2) j × Reads ws (i + 1 + word ws (i + 2)) j absent
+  Operands ws i j (ExistsElse g there absent) =
+      Word ws (i + 1) g × Reads ws (i + 3) (i + 1 + word ws (i + 2) - 2) there
+      × JumpsTo ws (i + 1 + word ws (i + 2) - 2) j × Reads ws (i + 1 + word ws (i + 2)) j absent
 
   -- alternatives from the length word at q on, each with its JUMP to the item's tail, j
   pub ReadsBranch : List ℕ → ℕ → ℕ → Trees → Type 0
-  ReadsBranch ws q j (Only t) = Reads ws (q + 1) (skip ws q - 2) t × JumpsTo ws (skip ws q - 2) j × Word ws (skip ws q) 0 × (j ≡ skip ws q + 1)
-  ReadsBranch ws q j (Or t ts) = Reads ws (q + 1) (skip ws q - 2) t × JumpsTo ws (skip ws q - 2) j × ReadsBranch ws (skip ws q) j ts
+  ReadsBranch ws q j (Only t) =
+      Reads ws (q + 1) (skip ws q - 2) t × JumpsTo ws (skip ws q - 2) j × Word ws (skip ws q) 0 × (j ≡ skip ws q + 1)
+  ReadsBranch ws q j (Or t ts) =
+      Reads ws (q + 1) (skip ws q - 2) t × JumpsTo ws (skip ws q - 2) j × ReadsBranch ws (skip ws q) j ts
 
 -- an item whose words are [i, j)
 abbrev pub ReadsItem : List ℕ → ℕ → ℕ → Item → Type 0

@@ -22,8 +22,11 @@ or_here rest p m (w ∷ ws) = rest w.stop w.marks
 
 -- a loop after so many bodies, where the last one beyond the least count was tried at that position
 abbrev pub loop_from : Subject → Order → ℕ → ℕ → Body → ℕ → Option ℕ → Body
-loop_from s o low high body count last = least s body (λ p m. more s o high body (s.end + 1 - p) (max low count) last p m) (low - count)
+loop_from s o low high body count last =
+    least s body (λ p m. more s o high body (s.end + 1 - p) (max low count) last p m) (low - count)
 
 -- the same of a possessive loop
 abbrev pub possessive_from : Subject → ℕ → ℕ → Body → ℕ → Option ℕ → Body
-possessive_from s low high body count last = least s (first_of_body s body) (λ p m. possessive_more s high body (s.end + 1 - p) (max low count) last p m) (low - count)
+possessive_from s low high body count last =
+    least s (first_of_body s body)
+    (λ p m. possessive_more s high body (s.end + 1 - p) (max low count) last p m) (low - count)

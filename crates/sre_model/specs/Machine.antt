@@ -99,8 +99,10 @@ mutual
     stops : {x : Spot} → Comes ws s x Stop [] 1
     ends : {x : Spot} → Comes ws s x End (here x.position x.marks) 2
     goes : {x y : Spot} {os : List Way} {n : ℕ} → Runs ws s y os n → Comes ws s x (Go y) os (suc n)
-    splits : {x y z : Spot} {os₁ os₂ : List Way} {n₁ n₂ : ℕ} → Runs ws s y os₁ n₁ → Runs ws s z os₂ n₂ → Comes ws s x (Split y z) (os₁ ++ os₂) (suc (suc (n₁ + n₂)))
-    enters : {x y z : Spot} {g : Region} {now os : List Way} {n₁ n₂ : ℕ} → Runs ws s z now n₁ → Comes ws s y (closed g y now) os n₂ → Comes ws s x (Enter g y z) os (suc (n₁ + n₂))
+    splits : {x y z : Spot} {os₁ os₂ : List Way} {n₁ n₂ : ℕ} → Runs ws s y os₁ n₁ → Runs ws s z os₂ n₂
+        → Comes ws s x (Split y z) (os₁ ++ os₂) (suc (suc (n₁ + n₂)))
+    enters : {x y z : Spot} {g : Region} {now os : List Way} {n₁ n₂ : ℕ} → Runs ws s z now n₁
+        → Comes ws s y (closed g y now) os n₂ → Comes ws s x (Enter g y z) os (suc (n₁ + n₂))
 
 -- what a run is about: the words, the subject, which cursors stand at which position, and which outcomes are accepted
 pub record Run : Type 1 where
@@ -112,8 +114,15 @@ pub record Run : Type 1 where
 -- the accepted outcomes of the whole and the turns to come, where the innermost region has the outcomes now
 pub data Waits (r : Run) : List Choice → List Way → List Way → ℕ → Type 0 where
   outermost : {now : List Way} → Waits r [] now (filter r.accepts now) 0
-  otherwise : {pt : Point} {fs : List Frame} {c : StringCursor} {n k : ℕ} {m : Marks} {os now all : List Way} {cs : List Choice} → r.stands c c.position → Runs r.words r.subject (spot_at pt fs c.position m) os n → Waits r cs (now ++ os) all k → Waits r (Else pt fs c m ∷ cs) now all (suc (n + k))
-  kept : {g : Region} {pt : Point} {fs : List Frame} {c : StringCursor} {n k : ℕ} {m : Marks} {os now all : List Way} {cs : List Choice} → r.stands c c.position → Comes r.words r.subject (spot_at pt fs c.position m) (closed g (spot_at pt fs c.position m) now) os n → Waits r cs os all k → Waits r (Keep g fs c m ∷ cs) now all (n + k)
+  otherwise : {pt : Point} {fs : List Frame} {c : StringCursor} {n k : ℕ} {m : Marks} {os now all : List Way}
+      {cs : List Choice}
+      → r.stands c c.position → Runs r.words r.subject (spot_at pt fs c.position m) os n → Waits r cs (now ++ os) all k
+      → Waits r (Else pt fs c m ∷ cs) now all (suc (n + k))
+  kept : {g : Region} {pt : Point} {fs : List Frame} {c : StringCursor} {n k : ℕ} {m : Marks} {os now all : List Way}
+      {cs : List Choice}
+      → r.stands c c.position
+      → Comes r.words r.subject (spot_at pt fs c.position m) (closed g (spot_at pt fs c.position m) now) os n
+      → Waits r cs os all k → Waits r (Keep g fs c m ∷ cs) now all (n + k)
 
 -- where the machine stands at a point and a cursor
 abbrev pub spot : Point → StringCursor → BoardValue → Spot
@@ -130,7 +139,8 @@ pub record Goes (r : Run) (all : List Way) (limit : ℕ) (pt : Point) (c : Strin
   pub within : turns + later ≤ limit
 
 -- the same at two spots, the outcomes of the one before those of the other
-pub record GoesBoth (r : Run) (all : List Way) (limit : ℕ) (first second : Spot) (c : StringCursor) (cs : List Choice) : Type 0 where
+pub record GoesBoth (r : Run) (all : List Way) (limit : ℕ) (first second : Spot) (c : StringCursor)
+    (cs : List Choice) : Type 0 where
   pub now : List Way
   pub next : List Way
   pub turns : ℕ
@@ -171,7 +181,9 @@ Advances r pt c old n new = (all : List Way) (limit : ℕ) → Goes r all limit 
 
 -- the same at two points
 abbrev pub Chooses : Run → Point → Point → StringCursor → BoardValue → Next → BoardValue → Type 0
-Chooses r first second c old n new = (all : List Way) (limit : ℕ) → GoesBoth r all limit (spot first c old) (spot second c old) c old.choices → Later r all limit n new
+Chooses r first second c old n new =
+    (all : List Way) (limit : ℕ) → GoesBoth r all limit (spot first c old) (spot second c old) c old.choices
+    → Later r all limit n new
 
 -- the same where the machine goes back
 abbrev pub Retreats : Run → BoardValue → Next → BoardValue → Type 0
@@ -226,17 +238,21 @@ pub record IsBack (r : Run) (b : BoardValue) : Type 0 where
 
 -- what a point comes to without a turn, on any board
 abbrev pub Skips : Run → Point → StringCursor → Point → StringCursor → Type 0
-Skips r pt c pt' c' = (b : BoardValue) (all : List Way) (limit : ℕ) → Goes r all limit pt c b → Goes r all limit pt' c' b
+Skips r pt c pt' c' =
+    (b : BoardValue) (all : List Way) (limit : ℕ) → Goes r all limit pt c b → Goes r all limit pt' c' b
 
 -- the same, where two points come of it
 pub record SkipsBoth (r : Run) (pt : Point) (c : StringCursor) (first second : Point) (c' : StringCursor) : Type 0 where
   pub runs : HasRun r first c'
   pub others : HasRun r second c'
-  pub skips : (b : BoardValue) (all : List Way) (limit : ℕ) → Goes r all limit pt c b → GoesBoth r all limit (spot first c' b) (spot second c' b) c' b.choices
+  pub skips : (b : BoardValue) (all : List Way) (limit : ℕ) → Goes r all limit pt c b
+      → GoesBoth r all limit (spot first c' b) (spot second c' b) c' b.choices
 
 -- nothing comes of standing at an instruction and a position
 abbrev pub Refuses : Run → ℕ → ℕ → Type 0
-Refuses r i p = (fs : List Frame) (m : Marks) (os : List Way) (n : ℕ) → Runs r.words r.subject (spot_at (Instruction i) fs p m) os n → os ≡ []
+Refuses r i p =
+    (fs : List Frame) (m : Marks) (os : List Way) (n : ℕ)
+    → Runs r.words r.subject (spot_at (Instruction i) fs p m) os n → os ≡ []
 
 -- the accepted outcomes of a tree from a position, with no marks
 abbrev pub outcomes : Run → Tree → ℕ → List Way
@@ -245,7 +261,8 @@ outcomes r t p = filter r.accepts (ways r.subject t p no_marks)
 -- the first of all accepted outcomes, which ends at that cursor and has those marks, or that there is none
 abbrev pub Decides : Run → List Way → Option StringCursor → Marks → Type 0
 Decides r all None m = all ≡ []
-Decides r all (Some c) m = r.stands c c.position × ((rest : List Way) × (all ≡ record { stop = c.position; marks = m } ∷ rest))
+Decides r all (Some c) m =
+    r.stands c c.position × ((rest : List Way) × (all ≡ record { stop = c.position; marks = m } ∷ rest))
 
 -- whether an end is accepted, whatever the marks are
 abbrev pub SaysAccepted : Run → ℕ → Bool → Type 0

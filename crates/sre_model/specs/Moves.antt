@@ -83,4 +83,5 @@ pub record JumpMove (ws : List ℕ) (i : ℕ) (x : Spot) (mv : Move) : Type 0 wh
 pub record AlternativesMove (ws : List ℕ) (q : ℕ) (x : Spot) (mv : Move) : Type 0 where
   pub value : ℕ
   pub there : Word ws q value
-  pub is : mv ≡ cond (nat_eq value 0) Stop (Split (to_point x (Instruction (q + 1))) (to_point x (Alternatives (q + value))))
+  pub is : mv
+      ≡ cond (nat_eq value 0) Stop (Split (to_point x (Instruction (q + 1))) (to_point x (Alternatives (q + value))))

@@ -41,7 +41,8 @@ pub record RepeatMove (ws : List ℕ) (i : ℕ) (x : Spot) (mv : Move) : Type 0 
 abbrev pub until_move : Order → ℕ → ℕ → ℕ → Frame → List Frame → Spot → Move
 until_move o low high u f outer x =
     cond (nat_lt f.count low) (Go (at_body f f.last outer x))
-    (cond (may_repeat high f.count f.last x.position) (in_order o (at_body f (Some x.position) outer x) (behind u outer x)) (Go (behind u outer x)))
+    (cond (may_repeat high f.count f.last x.position)
+    (in_order o (at_body f (Some x.position) outer x) (behind u outer x)) (Go (behind u outer x)))
 
 -- MAX_UNTIL, MIN_UNTIL
 pub record UntilMove (ws : List ℕ) (o : Order) (u : ℕ) (x : Spot) (mv : Move) : Type 0 where

@@ -15,8 +15,8 @@ pub record RunOperands (ws : List ℕ) (i low high end : ℕ) (test : Test) : Ty
   pub highest : Word ws (i + 3) high
   pub stands : TestStands ws (i + 4) end test
 
--- what comes of a run at i whose tail is at t: the longest run, and then the shorter ones; the least count, and then the
--- longer ones; or the longest run alone
+-- what comes of a run at i whose tail is at t: the longest run, and then the shorter ones; the least count,
+-- and then the longer ones; or the longest run alone
 abbrev pub run_turn : RunKind → Subject → ℕ → ℕ → ℕ → ℕ → Test → Spot → Move
 run_turn GreedyRun s i t low high test x =
     let k = longest_run s test high x.position in
@@ -41,7 +41,8 @@ pub record RunMove (ws : List ℕ) (s : Subject) (kind : RunKind) (i : ℕ) (x :
 -- the shorter counts of a run, so many of them
 pub record ShorterMove (t k : ℕ) (x : Spot) (mv : Move) : Type 0 where
   pub past : k ≤ x.position
-  pub is : mv ≡ cond (nat_eq k 0) Stop (Split (to_place x (Instruction t) (x.position - 1)) (to_place x (Shorter t (k - 1)) (x.position - 1)))
+  pub is : mv ≡ cond (nat_eq k 0) Stop
+      (Split (to_place x (Instruction t) (x.position - 1)) (to_place x (Shorter t (k - 1)) (x.position - 1)))
 
 -- the longer counts of the run at i, behind n characters of it: one test more
 pub record LongerMove (ws : List ℕ) (s : Subject) (i n : ℕ) (x : Spot) (mv : Move) : Type 0 where
@@ -51,4 +52,6 @@ pub record LongerMove (ws : List ℕ) (s : Subject) (i n : ℕ) (x : Spot) (mv :
   pub test : Test
   pub operands : RunOperands ws i low high end test
   pub past : n ≤ x.position
-  pub is : mv ≡ cond ((nat_eq high unlimited || nat_lt n high) && passes s test x.position) (Split (to_place x (Instruction (skip ws (i + 1))) (x.position + 1)) (to_place x (Longer i (n + 1)) (x.position + 1))) Stop
+  pub is : mv ≡ cond ((nat_eq high unlimited || nat_lt n high) && passes s test x.position)
+      (Split (to_place x (Instruction (skip ws (i + 1))) (x.position + 1))
+      (to_place x (Longer i (n + 1)) (x.position + 1))) Stop

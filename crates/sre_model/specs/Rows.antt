@@ -23,7 +23,8 @@ mark_alone : matched (whole (codes "a")) (items (Mark 0 ∷ [])) ≡ Some (marke
 mark_alone = refl
 
 -- mark 3 alone: the marks before it are absent, and group 1 is the last
-marks_in_between_are_absent : matched (whole (codes "a")) (items (Mark 3 ∷ [])) ≡ Some (marked 0 0 (None ∷ None ∷ None ∷ Some 0 ∷ []) (pos 2))
+marks_in_between_are_absent : matched (whole (codes "a")) (items (Mark 3 ∷ []))
+    ≡ Some (marked 0 0 (None ∷ None ∷ None ∷ Some 0 ∷ []) (pos 2))
 marks_in_between_are_absent = refl
 
 -- b from the window's start
@@ -49,21 +50,26 @@ match_all_refuses_a_short_match : matched (record (whole (codes "ab")) { match_a
 match_all_refuses_a_short_match = refl
 
 -- a|ab under match_all: the first accepted way is not the first way
-match_all_goes_on : matched (record (whole (codes "ab")) { match_all = true }) (items (Branch (Or (items (a ∷ [])) (Only (items (a ∷ b ∷ [])))) ∷ [])) ≡ Some (span 0 2)
+match_all_goes_on : matched (record (whole (codes "ab")) { match_all = true })
+    (items (Branch (Or (items (a ∷ [])) (Only (items (a ∷ b ∷ [])))) ∷ [])) ≡ Some (span 0 2)
 match_all_goes_on = refl
 
 -- (?>a)b under match_all, which says nothing of the group's end
-match_all_of_the_whole : matched (record (whole (codes "ab")) { match_all = true }) (items (Atomic (items (a ∷ [])) ∷ b ∷ [])) ≡ Some (span 0 2)
+match_all_of_the_whole : matched (record (whole (codes "ab")) { match_all = true })
+    (items (Atomic (items (a ∷ [])) ∷ b ∷ [])) ≡ Some (span 0 2)
 match_all_of_the_whole = refl
 
 -- Branches
 
 -- a|ab
-first_alternative_wins : matched (whole (codes "ab")) (items (Branch (Or (items (a ∷ [])) (Only (items (a ∷ b ∷ [])))) ∷ [])) ≡ Some (span 0 1)
+first_alternative_wins : matched (whole (codes "ab"))
+    (items (Branch (Or (items (a ∷ [])) (Only (items (a ∷ b ∷ [])))) ∷ [])) ≡ Some (span 0 1)
 first_alternative_wins = refl
 
 -- (?:(a)(?!b)|a)b
-marks_of_a_failed_alternative_are_gone : matched (whole (codes "ab")) (items (Branch (Or (items (Mark 0 ∷ a ∷ Mark 1 ∷ Look Negative 0 (items (b ∷ [])) ∷ [])) (Only (items (a ∷ [])))) ∷ b ∷ [])) ≡ Some (span 0 2)
+marks_of_a_failed_alternative_are_gone : matched (whole (codes "ab"))
+    (items (Branch (Or (items (Mark 0 ∷ a ∷ Mark 1 ∷ Look Negative 0 (items (b ∷ [])) ∷ [])) (Only (items (a ∷ []))))
+    ∷ b ∷ [])) ≡ Some (span 0 2)
 marks_of_a_failed_alternative_are_gone = refl
 
 -- Runs
@@ -84,7 +90,8 @@ lazy_run_past_the_greatest_count : matched (whole (codes "aaab")) (items (Run La
 lazy_run_past_the_greatest_count = refl
 
 -- a*+a
-possessive_run_gives_nothing_back : matched (whole (codes "aaa")) (items (Run PossessiveRun 0 unlimited is_a ∷ a ∷ [])) ≡ None
+possessive_run_gives_nothing_back : matched (whole (codes "aaa")) (items (Run PossessiveRun 0 unlimited is_a ∷ a ∷ []))
+    ≡ None
 possessive_run_gives_nothing_back = refl
 
 -- the count that means no limit is none
@@ -97,33 +104,43 @@ no_limit_on_bodies : (count p : ℕ) → may_repeat unlimited count None p ≡ t
 no_limit_on_bodies count p = refl
 
 -- (?:a|aab){2}c
-count_falls_back_with_the_body : matched (whole (codes "aabc")) (items (Loop Greedy 2 2 (items (Branch (Or (items (a ∷ [])) (Only (items (a ∷ a ∷ b ∷ [])))) ∷ [])) ∷ c ∷ [])) ≡ None
+count_falls_back_with_the_body : matched (whole (codes "aabc"))
+    (items (Loop Greedy 2 2 (items (Branch (Or (items (a ∷ [])) (Only (items (a ∷ a ∷ b ∷ [])))) ∷ [])) ∷ c ∷ []))
+    ≡ None
 count_falls_back_with_the_body = refl
 
 -- (?:(?:ab)+c)+?d
-lazy_over_greedy : matched (whole (codes "abcabcd")) (items (Loop Lazy 1 unlimited (items (Loop Greedy 1 unlimited (items (a ∷ b ∷ [])) ∷ c ∷ [])) ∷ d ∷ [])) ≡ Some (span 0 7)
+lazy_over_greedy : matched (whole (codes "abcabcd"))
+    (items (Loop Lazy 1 unlimited (items (Loop Greedy 1 unlimited (items (a ∷ b ∷ [])) ∷ c ∷ [])) ∷ d ∷ []))
+    ≡ Some (span 0 7)
 lazy_over_greedy = refl
 
 -- (?:a*)* on "b" and on "aab"
-body_that_stays_ends_the_loop : matched (whole (codes "b")) (items (Loop Greedy 0 unlimited (items (Run GreedyRun 0 unlimited is_a ∷ [])) ∷ [])) ≡ Some (span 0 0)
+body_that_stays_ends_the_loop : matched (whole (codes "b"))
+    (items (Loop Greedy 0 unlimited (items (Run GreedyRun 0 unlimited is_a ∷ [])) ∷ [])) ≡ Some (span 0 0)
 body_that_stays_ends_the_loop = refl
 
-body_that_moves_and_stays : matched (whole (codes "aab")) (items (Loop Greedy 0 unlimited (items (Run GreedyRun 0 unlimited is_a ∷ [])) ∷ [])) ≡ Some (span 0 2)
+body_that_moves_and_stays : matched (whole (codes "aab"))
+    (items (Loop Greedy 0 unlimited (items (Run GreedyRun 0 unlimited is_a ∷ [])) ∷ [])) ≡ Some (span 0 2)
 body_that_moves_and_stays = refl
 
 -- (?:ab){0,2}
-greatest_count_of_bodies : matched (whole (codes "ababab")) (items (Loop Greedy 0 2 (items (a ∷ b ∷ [])) ∷ [])) ≡ Some (span 0 4)
+greatest_count_of_bodies : matched (whole (codes "ababab")) (items (Loop Greedy 0 2 (items (a ∷ b ∷ [])) ∷ []))
+    ≡ Some (span 0 4)
 greatest_count_of_bodies = refl
 
 -- (?:ab)*?
-lazy_loop_ends_first : matched (whole (codes "abab")) (items (Loop Lazy 0 unlimited (items (a ∷ b ∷ [])) ∷ [])) ≡ Some (span 0 0)
+lazy_loop_ends_first : matched (whole (codes "abab")) (items (Loop Lazy 0 unlimited (items (a ∷ b ∷ [])) ∷ []))
+    ≡ Some (span 0 0)
 lazy_loop_ends_first = refl
 
 -- (?:a*)*?b on "aab" and on "aac"
-lazy_loop_goes_on : matched (whole (codes "aab")) (items (Loop Lazy 0 unlimited (items (Run GreedyRun 0 unlimited is_a ∷ [])) ∷ b ∷ [])) ≡ Some (span 0 3)
+lazy_loop_goes_on : matched (whole (codes "aab"))
+    (items (Loop Lazy 0 unlimited (items (Run GreedyRun 0 unlimited is_a ∷ [])) ∷ b ∷ [])) ≡ Some (span 0 3)
 lazy_loop_goes_on = refl
 
-lazy_loop_fails : matched (whole (codes "aac")) (items (Loop Lazy 0 unlimited (items (Run GreedyRun 0 unlimited is_a ∷ [])) ∷ b ∷ [])) ≡ None
+lazy_loop_fails : matched (whole (codes "aac"))
+    (items (Loop Lazy 0 unlimited (items (Run GreedyRun 0 unlimited is_a ∷ [])) ∷ b ∷ [])) ≡ None
 lazy_loop_fails = refl
 
 -- an empty body, three times
@@ -131,71 +148,86 @@ empty_body_below_the_least_count : matched (whole []) (items (Loop Greedy 3 3 Em
 empty_body_below_the_least_count = refl
 
 -- (?:ab){0,2}+
-greatest_count_of_possessive_bodies : matched (whole (codes "ababab")) (items (PossessiveLoop 0 2 (items (a ∷ b ∷ [])) ∷ [])) ≡ Some (span 0 4)
+greatest_count_of_possessive_bodies : matched (whole (codes "ababab"))
+    (items (PossessiveLoop 0 2 (items (a ∷ b ∷ [])) ∷ [])) ≡ Some (span 0 4)
 greatest_count_of_possessive_bodies = refl
 
 -- (?:ab){2}+ on "ab" and on "abab"
-possessive_loop_below_the_least_count : matched (whole (codes "ab")) (items (PossessiveLoop 2 2 (items (a ∷ b ∷ [])) ∷ [])) ≡ None
+possessive_loop_below_the_least_count : matched (whole (codes "ab"))
+    (items (PossessiveLoop 2 2 (items (a ∷ b ∷ [])) ∷ [])) ≡ None
 possessive_loop_below_the_least_count = refl
 
-possessive_loop_goes_on_from_the_last_body : matched (whole (codes "abab")) (items (PossessiveLoop 2 2 (items (a ∷ b ∷ [])) ∷ [])) ≡ Some (span 0 4)
+possessive_loop_goes_on_from_the_last_body : matched (whole (codes "abab"))
+    (items (PossessiveLoop 2 2 (items (a ∷ b ∷ [])) ∷ [])) ≡ Some (span 0 4)
 possessive_loop_goes_on_from_the_last_body = refl
 
-possessive_loop_of_empty_bodies : matched (whole (codes "a")) (items (PossessiveLoop 0 unlimited Empty ∷ [])) ≡ Some (span 0 0)
+possessive_loop_of_empty_bodies : matched (whole (codes "a")) (items (PossessiveLoop 0 unlimited Empty ∷ []))
+    ≡ Some (span 0 0)
 possessive_loop_of_empty_bodies = refl
 
 -- Atomic groups and looks
 
 -- (?>a*)a
-atomic_group_gives_nothing_back : matched (whole (codes "aaa")) (items (Atomic (items (Run GreedyRun 0 unlimited is_a ∷ [])) ∷ a ∷ [])) ≡ None
+atomic_group_gives_nothing_back : matched (whole (codes "aaa"))
+    (items (Atomic (items (Run GreedyRun 0 unlimited is_a ∷ [])) ∷ a ∷ [])) ≡ None
 atomic_group_gives_nothing_back = refl
 
 -- (?=(a))
-positive_look_keeps_marks : matched (whole (codes "a")) (items (Look Positive 0 (items (Mark 0 ∷ a ∷ Mark 1 ∷ [])) ∷ [])) ≡ Some (grouped 0 0 0 1)
+positive_look_keeps_marks : matched (whole (codes "a"))
+    (items (Look Positive 0 (items (Mark 0 ∷ a ∷ Mark 1 ∷ [])) ∷ [])) ≡ Some (grouped 0 0 0 1)
 positive_look_keeps_marks = refl
 
 -- (?!(a))
-negative_look_leaves_marks : matched (whole (codes "b")) (items (Look Negative 0 (items (Mark 0 ∷ a ∷ Mark 1 ∷ [])) ∷ [])) ≡ Some (span 0 0)
+negative_look_leaves_marks : matched (whole (codes "b"))
+    (items (Look Negative 0 (items (Mark 0 ∷ a ∷ Mark 1 ∷ [])) ∷ [])) ≡ Some (span 0 0)
 negative_look_leaves_marks = refl
 
 -- (?<=a)b
-look_back_before_the_window : matched (window (codes "ab") 1 2) (items (Look Positive 1 (items (a ∷ [])) ∷ b ∷ [])) ≡ Some (span 1 2)
+look_back_before_the_window : matched (window (codes "ab") 1 2) (items (Look Positive 1 (items (a ∷ [])) ∷ b ∷ []))
+    ≡ Some (span 1 2)
 look_back_before_the_window = refl
 
 -- (?<=a)b and (?<!a)b at the text's start
 positive_look_past_the_start : matched (whole (codes "b")) (items (Look Positive 1 (items (a ∷ [])) ∷ b ∷ [])) ≡ None
 positive_look_past_the_start = refl
 
-negative_look_past_the_start : matched (whole (codes "b")) (items (Look Negative 1 (items (a ∷ [])) ∷ b ∷ [])) ≡ Some (span 0 1)
+negative_look_past_the_start : matched (whole (codes "b")) (items (Look Negative 1 (items (a ∷ [])) ∷ b ∷ []))
+    ≡ Some (span 0 1)
 negative_look_past_the_start = refl
 
 -- References and conditions
 
 -- (a+)\1
-reference : matched (whole (codes "aaa")) (items (Mark 0 ∷ Run GreedyRun 1 unlimited is_a ∷ Mark 1 ∷ Reference Plain 0 ∷ [])) ≡ Some (grouped 0 2 0 1)
+reference : matched (whole (codes "aaa"))
+    (items (Mark 0 ∷ Run GreedyRun 1 unlimited is_a ∷ Mark 1 ∷ Reference Plain 0 ∷ [])) ≡ Some (grouped 0 2 0 1)
 reference = refl
 
 -- (ab)\1
-reference_to_different_characters : matched (whole (codes "abab")) (items (Mark 0 ∷ a ∷ b ∷ Mark 1 ∷ Reference Plain 0 ∷ [])) ≡ Some (grouped 0 4 0 2)
+reference_to_different_characters : matched (whole (codes "abab"))
+    (items (Mark 0 ∷ a ∷ b ∷ Mark 1 ∷ Reference Plain 0 ∷ [])) ≡ Some (grouped 0 4 0 2)
 reference_to_different_characters = refl
 
 -- (a)\1 in the window of the first a
-reference_past_the_window : matched (window (codes "aa") 0 1) (items (Mark 0 ∷ a ∷ Mark 1 ∷ Reference Plain 0 ∷ [])) ≡ None
+reference_past_the_window : matched (window (codes "aa") 0 1) (items (Mark 0 ∷ a ∷ Mark 1 ∷ Reference Plain 0 ∷ []))
+    ≡ None
 reference_past_the_window = refl
 
-folded_reference : matched (whole (codes "aA")) (items (Mark 0 ∷ a ∷ Mark 1 ∷ Reference Ascii 0 ∷ [])) ≡ Some (grouped 0 2 0 1)
+folded_reference : matched (whole (codes "aA")) (items (Mark 0 ∷ a ∷ Mark 1 ∷ Reference Ascii 0 ∷ []))
+    ≡ Some (grouped 0 2 0 1)
 folded_reference = refl
 
 plain_reference : matched (whole (codes "aA")) (items (Mark 0 ∷ a ∷ Mark 1 ∷ Reference Plain 0 ∷ [])) ≡ None
 plain_reference = refl
 
 -- a group that ends before it begins is missing
-reference_to_a_missing_group : matched (whole (codes "aa")) (items (Mark 1 ∷ a ∷ Mark 0 ∷ Reference Plain 0 ∷ [])) ≡ None
+reference_to_a_missing_group : matched (whole (codes "aa")) (items (Mark 1 ∷ a ∷ Mark 0 ∷ Reference Plain 0 ∷ []))
+    ≡ None
 reference_to_a_missing_group = refl
 
 -- (a)?(?(1)b|c)
 abbrev if_the_group_is_there : Tree
-if_the_group_is_there = items (Loop Greedy 0 1 (items (Mark 0 ∷ a ∷ Mark 1 ∷ [])) ∷ ExistsElse 0 (items (b ∷ [])) (items (c ∷ [])) ∷ [])
+if_the_group_is_there =
+    items (Loop Greedy 0 1 (items (Mark 0 ∷ a ∷ Mark 1 ∷ [])) ∷ ExistsElse 0 (items (b ∷ [])) (items (c ∷ [])) ∷ [])
 
 condition_holds : matched (whole (codes "ab")) if_the_group_is_there ≡ Some (grouped 0 2 0 1)
 condition_holds = refl
@@ -209,7 +241,8 @@ condition_without_a_way = refl
 absent_part_matches_emptily : matched (whole (codes "b")) (items (Exists 0 (items (b ∷ [])) ∷ [])) ≡ Some (span 0 0)
 absent_part_matches_emptily = refl
 
-empty_part_matches_emptily : matched (whole (codes "b")) (items (ExistsElse 0 (items (b ∷ [])) Empty ∷ [])) ≡ Some (span 0 0)
+empty_part_matches_emptily : matched (whole (codes "b")) (items (ExistsElse 0 (items (b ∷ [])) Empty ∷ []))
+    ≡ Some (span 0 0)
 empty_part_matches_emptily = refl
 
 -- Positions
@@ -272,7 +305,8 @@ after_the_negate = refl
 in_no_item : matched (whole (codes "c")) negate_in_the_middle ≡ Some (span 0 1)
 in_no_item = refl
 
-first_item_decides : matched (whole (codes "a")) (items (One (In Plain (Single 97 ∷ Range 97 98 ∷ [])) ∷ [])) ≡ Some (span 0 1)
+first_item_decides : matched (whole (codes "a")) (items (One (In Plain (Single 97 ∷ Range 97 98 ∷ [])) ∷ []))
+    ≡ Some (span 0 1)
 first_item_decides = refl
 
 -- the set of a, by its bit
@@ -287,7 +321,8 @@ not_in_charset = refl
 
 -- the characters 256 to 511: block 1, and all other blocks are empty
 abbrev big_charset : Tree
-big_charset = items (One (In Plain (BigCharset (0 ∷ 1 ∷ replicate 254 0) (replicate 8 0 ++ replicate 8 4294967295) ∷ [])) ∷ [])
+big_charset =
+    items (One (In Plain (BigCharset (0 ∷ 1 ∷ replicate 254 0) (replicate 8 0 ++ replicate 8 4294967295) ∷ [])) ∷ [])
 
 in_big_charset : matched (whole (257 ∷ [])) big_charset ≡ Some (span 0 1)
 in_big_charset = refl
@@ -323,11 +358,15 @@ either_case_in_set : matched (whole (codes "A")) (items (One (In Locale (Single 
 either_case_in_set = refl
 
 -- [A-Z], whose ends are upper case, ignoring case by the table
-either_case_in_range : matched (whole (codes "a")) (items (One (In Unicode (RangeUniIgnore 65 90 ∷ [])) ∷ [])) ≡ Some (span 0 1)
+either_case_in_range : matched (whole (codes "a")) (items (One (In Unicode (RangeUniIgnore 65 90 ∷ [])) ∷ []))
+    ≡ Some (span 0 1)
 either_case_in_range = refl
 
 -- with a table that has the two cases of an accented e
-by_the_table : matched (record (whole (201 ∷ [])) { table = record { lower = (201, 233) ∷ []; upper = (233, 201) ∷ []; alnum = (201, 201) ∷ (233, 233) ∷ [] } }) (items (One (Literal Unicode 233) ∷ [])) ≡ Some (span 0 1)
+by_the_table : matched
+    (record (whole (201 ∷ [])) {
+      table = record { lower = (201, 233) ∷ []; upper = (233, 201) ∷ []; alnum = (201, 201) ∷ (233, 233) ∷ [] };
+    }) (items (One (Literal Unicode 233) ∷ [])) ≡ Some (span 0 1)
 by_the_table = refl
 
 not_in_the_table : matched (whole (201 ∷ [])) (items (One (Literal Unicode 233) ∷ [])) ≡ None
@@ -336,7 +375,8 @@ not_in_the_table = refl
 -- Searches
 
 -- ab(cd)
-search_past_the_first_start : found (whole (codes "xabcd")) (items (a ∷ b ∷ Mark 0 ∷ c ∷ d ∷ Mark 1 ∷ [])) ≡ Some (grouped 1 5 3 5)
+search_past_the_first_start : found (whole (codes "xabcd")) (items (a ∷ b ∷ Mark 0 ∷ c ∷ d ∷ Mark 1 ∷ []))
+    ≡ Some (grouped 1 5 3 5)
 search_past_the_first_start = refl
 
 -- aab
@@ -348,15 +388,19 @@ search_up_to_the_end : found (record (whole (codes "aba")) { match_all = true })
 search_up_to_the_end = refl
 
 -- a* under must_advance: a later start may match emptily
-search_advances : found (record (whole (codes "b")) { must_advance = true }) (items (Run GreedyRun 0 unlimited is_a ∷ [])) ≡ Some (span 1 1)
+search_advances : found (record (whole (codes "b")) { must_advance = true })
+    (items (Run GreedyRun 0 unlimited is_a ∷ [])) ≡ Some (span 1 1)
 search_advances = refl
 
 -- [ab]c
-search_a_set : found (whole (codes "xbcac")) (items (One (In Plain (Single 97 ∷ Single 98 ∷ [])) ∷ c ∷ [])) ≡ Some (span 1 3)
+search_a_set : found (whole (codes "xbcac")) (items (One (In Plain (Single 97 ∷ Single 98 ∷ [])) ∷ c ∷ []))
+    ≡ Some (span 1 3)
 search_a_set = refl
 
-search_a_set_from_the_first_start : found (whole (codes "bc")) (items (One (In Plain (Single 97 ∷ Single 98 ∷ [])) ∷ c ∷ [])) ≡ Some (span 0 2)
+search_a_set_from_the_first_start : found (whole (codes "bc"))
+    (items (One (In Plain (Single 97 ∷ Single 98 ∷ [])) ∷ c ∷ [])) ≡ Some (span 0 2)
 search_a_set_from_the_first_start = refl
 
-search_without_a_match : found (whole (codes "xxxx")) (items (One (In Plain (Single 97 ∷ Single 98 ∷ [])) ∷ c ∷ [])) ≡ None
+search_without_a_match : found (whole (codes "xxxx")) (items (One (In Plain (Single 97 ∷ Single 98 ∷ [])) ∷ c ∷ []))
+    ≡ None
 search_without_a_match = refl

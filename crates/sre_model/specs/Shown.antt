@@ -30,7 +30,8 @@ d = One (Literal Plain 100)
 
 -- a window of a text, without flags
 abbrev pub window : List ℕ → ℕ → ℕ → Asked
-window text start end = record { text = text; table = ascii_table; start = start; end = end; match_all = false; must_advance = false }
+window text start end =
+    record { text = text; table = ascii_table; start = start; end = end; match_all = false; must_advance = false }
 
 -- the whole text, without flags
 abbrev pub whole : List ℕ → Asked

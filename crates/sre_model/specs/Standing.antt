@@ -29,11 +29,14 @@ pub record HasSet (ws : List ℕ) (i : ℕ) : Type 0 where
 -- the item at i decides on c as soon as it holds, and else the items from next on do
 pub record ItemSays (ws : List ℕ) (table : Table) (i c : ℕ) (holds : Bool) (next : ℕ) : Type 0 where
   pub later : i < next
-  pub each : (j : ℕ) (set : List SetItem) → SetStands ws i j set → (rest : List SetItem) × SetStands ws next j rest × ((taken : Bool) → verdict table taken set c ≡ cond holds taken (verdict table taken rest c))
+  pub each : (j : ℕ) (set : List SetItem) → SetStands ws i j set
+      → (rest : List SetItem) × SetStands ws next j rest
+      × ((taken : Bool) → verdict table taken set c ≡ cond holds taken (verdict table taken rest c))
 
 -- the verdict on c of a set at start is that of what is left of it at i
 pub record VerdictLeft (ws : List ℕ) (table : Table) (start c i : ℕ) (taken : Bool) : Type 0 where
-  pub each : (j : ℕ) (set : List SetItem) → SetStands ws start j set → (rest : List SetItem) × SetStands ws i j rest × (verdict table true set c ≡ verdict table taken rest c)
+  pub each : (j : ℕ) (set : List SetItem) → SetStands ws start j set
+      → (rest : List SetItem) × SetStands ws i j rest × (verdict table true set c ≡ verdict table taken rest c)
 
 -- a test is the words of [i, j)
 pub record TestStands (ws : List ℕ) (i j : ℕ) (t : Test) : Type 0 where

@@ -55,4 +55,5 @@ holds_at s UNI_NON_BOUNDARY p = not (is_on_nothing s p) && not (is_boundary s (i
 -- the n characters from x on are those from p on, both folded
 abbrev pub same_folded : Subject → Fold → ℕ → ℕ → ℕ → Bool
 same_folded s f zero x p = true
-same_folded s f (suc n) x p = nat_eq (folded s.table f (char_at s x)) (folded s.table f (char_at s p)) && same_folded s f n (x + 1) (p + 1)
+same_folded s f (suc n) x p =
+    nat_eq (folded s.table f (char_at s x)) (folded s.table f (char_at s p)) && same_folded s f n (x + 1) (p + 1)

@@ -58,7 +58,8 @@ counts LazyRun low k = rising low (k + 1 - low)
 counts PossessiveRun low k = cond (nat_le low k) (k ∷ []) []
 
 abbrev pub run_ways : Subject → RunKind → ℕ → ℕ → Test → Body
-run_ways s kind low high t p m = map (λ n. record { stop = p + n; marks = m }) (counts kind low (longest_run s t high p))
+run_ways s kind low high t p m =
+    map (λ n. record { stop = p + n; marks = m }) (counts kind low (longest_run s t high p))
 
 -- those ways that end between p and the window's end: of a body's, these are all
 abbrev pub within : Subject → ℕ → List Way → List Way
@@ -78,8 +79,8 @@ abbrev pub more : Subject → Order → ℕ → Body → ℕ → ℕ → Option 
 more s o high body zero count last p m = here p m
 more s o high body (suc fuel) count last p m =
     ordered o
-    (cond (may_repeat high count last p) (flat_map (λ w. more s o high body fuel (count + 1) (Some p) w.stop w.marks) (within s p (body p m))) [])
-    (here p m)
+    (cond (may_repeat high count last p)
+    (flat_map (λ w. more s o high body fuel (count + 1) (Some p) w.stop w.marks) (within s p (body p m))) []) (here p m)
 
 -- the bodies that are owed below the least count, and then the rest
 abbrev pub least : Subject → Body → Body → ℕ → Body
@@ -99,17 +100,22 @@ possessive_more s high body (suc fuel) count last p m =
     ]
 
 abbrev pub possessive_ways : Subject → ℕ → ℕ → Body → Body
-possessive_ways s low high body = least s (λ p m. first (within s p (body p m))) (λ p m. possessive_more s high body (s.end + 1 - p) low None p m) low
+possessive_ways s low high body =
+    least s (λ p m. first (within s p (body p m))) (λ p m. possessive_more s high body (s.end + 1 - p) low None p m) low
 
 -- a look goes on where it began: a positive one with the marks of its body's first way, a negative one with its own
 abbrev pub look_ways : Sign → ℕ → Body → Body
-look_ways Positive back body p m = cond (nat_lt p back) [] (map (λ w. record { stop = p; marks = w.marks }) (first (body (p - back) m)))
-look_ways Negative back body p m = cond (nat_lt p back) (here p m) (elim (body (p - back) m) [ [] ↦ here p m | (w ∷ _) ↦ [] ])
+look_ways Positive back body p m =
+    cond (nat_lt p back) [] (map (λ w. record { stop = p; marks = w.marks }) (first (body (p - back) m)))
+look_ways Negative back body p m =
+    cond (nat_lt p back) (here p m) (elim (body (p - back) m) [ [] ↦ here p m | (w ∷ _) ↦ [] ])
 
 abbrev pub reference_ways : Subject → Fold → ℕ → Body
 reference_ways s f g p m = elim (group m g) [
   | None ↦ []
-  | (Some span) ↦ cond (nat_le (p + (span.1 - span.0)) s.end && same_folded s f (span.1 - span.0) span.0 p) (here (p + (span.1 - span.0)) m) []
+  | (Some span) ↦
+      cond (nat_le (p + (span.1 - span.0)) s.end && same_folded s f (span.1 - span.0) span.0 p)
+      (here (p + (span.1 - span.0)) m) []
 ]
 
 abbrev mutual
@@ -131,7 +137,8 @@ abbrev mutual
   item_ways s (Look sign back body) p m = look_ways sign back (λ q k. ways s body q k) p m
   item_ways s (Reference f g) p m = reference_ways s f g p m
   item_ways s (Exists g there) p m = elim (group m g) [ None ↦ here p m | (Some _) ↦ ways s there p m ]
-  item_ways s (ExistsElse g there absent) p m = elim (group m g) [ None ↦ ways s absent p m | (Some _) ↦ ways s there p m ]
+  item_ways s (ExistsElse g there absent) p m =
+      elim (group m g) [ None ↦ ways s absent p m | (Some _) ↦ ways s there p m ]
 
   pub branch_ways : Subject → Trees → Body
   branch_ways s (Only t) p m = ways s t p m

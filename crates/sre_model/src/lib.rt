@@ -39,8 +39,8 @@ pub enum Point {
     Again,
 }
 
-/// A loop in progress: the place of its REPEAT, its bodies so far, held at 4294967295, and the position at which the last
-/// one beyond the least count began.
+/// A loop in progress: the place of its REPEAT, its bodies so far, held at 4294967295,
+/// and the position at which the last one beyond the least count began.
 #[derive(Clone, Copy)]
 pub struct Frame {
     pub repeat: usize,
@@ -48,8 +48,8 @@ pub struct Frame {
     pub last: Option<usize>,
 }
 
-/// What comes after a turn: an instruction, a body or the end of a possessive loop, the newest choice, or the end of the
-/// innermost region.
+/// What comes after a turn: an instruction, a body or the end of a possessive loop, the newest choice,
+/// or the end of the innermost region.
 #[derive(Clone, Copy)]
 pub enum Next {
     At(usize, StringCursor),

@@ -1,4 +1,5 @@
-//! What is asked of a search, and what the machine reads of it: operands, tests of one character and their runs, positions.
+//! What is asked of a search, and what the machine reads of it: operands,
+//! tests of one character and their runs, positions.
 //!
 //! Each function rests on what stands at a place of the words, and says what the definitions say of it.
 #![tactic(auto)]

@@ -28,7 +28,8 @@ fn is_any_case(uni: &UniTable, value: u32, character: u32) -> bool
 #[inline(always)]
 fn takes_a_case(words: &[u32], uni: &UniTable, place: usize, character: u32) -> bool
     requires { HasSet words.now place }
-    ensures { (j : ℕ) (set : List SetItem) → SetStands words.now place j set → result ≡ in_set uni.now Locale set character }
+    ensures { (j : ℕ) (set : List SetItem) → SetStands words.now place j set
+        → result ≡ in_set uni.now Locale set character }
 {
     is_member(words, uni, place, lower_ascii(character))
         || is_member(words, uni, place, upper_ascii(character))
@@ -56,7 +57,8 @@ pub fn takes<S: StrDrive>(
 ) -> bool
     requires code { Opcode (run_of req.now).words place opcode }
     requires stands { HasTest (run_of req.now).words place }
-    ensures { (j : ℕ) (t : Test) → TestStands (run_of req.now).words place j t → result ≡ holds (run_of req.now).subject.table t character }
+    ensures { (j : ℕ) (t : Test) → TestStands (run_of req.now).words place j t
+        → result ≡ holds (run_of req.now).subject.table t character }
 {
     let words = req.pattern_codes().words();
     let uni = req.pattern_codes().uni();

@@ -16,7 +16,8 @@ use sre_chars::string::{StrDrive, StringCursor, category};
 #[inline(always)]
 fn is_behind<S: StrDrive>(req: &Request<'_, S>, code: SreCatCode, cursor: StringCursor) -> bool
     requires { (run_of req.now).stands cursor cursor.position }
-    ensures { result ≡ before (run_of req.now).subject (category (run_of req.now).subject.table (category_number code)) cursor.position }
+    ensures { result ≡ before (run_of req.now).subject (category (run_of req.now).subject.table (category_number code))
+        cursor.position }
 {
     if cursor.position() == 0 {
         return false;
@@ -29,7 +30,8 @@ fn is_behind<S: StrDrive>(req: &Request<'_, S>, code: SreCatCode, cursor: String
 #[inline(always)]
 fn is_ahead<S: StrDrive>(req: &Request<'_, S>, code: SreCatCode, cursor: StringCursor) -> bool
     requires { (run_of req.now).stands cursor cursor.position }
-    ensures { result ≡ after (run_of req.now).subject (category (run_of req.now).subject.table (category_number code)) cursor.position }
+    ensures { result ≡ after (run_of req.now).subject (category (run_of req.now).subject.table (category_number code))
+        cursor.position }
 {
     if cursor.position() >= req.end() {
         return false;
@@ -42,7 +44,8 @@ fn is_ahead<S: StrDrive>(req: &Request<'_, S>, code: SreCatCode, cursor: StringC
 #[inline(always)]
 fn is_last_linebreak<S: StrDrive>(req: &Request<'_, S>, cursor: StringCursor) -> bool
     requires { (run_of req.now).stands cursor cursor.position }
-    ensures { result ≡ (nat_eq (cursor.position + 1) req.now.end && after (run_of req.now).subject is_linebreak cursor.position) }
+    ensures { result
+        ≡ (nat_eq (cursor.position + 1) req.now.end && after (run_of req.now).subject is_linebreak cursor.position) }
 {
     let position = cursor.position();
     position < req.end()
@@ -62,7 +65,8 @@ fn is_on_nothing<S: StrDrive>(req: &Request<'_, S>, cursor: StringCursor) -> boo
 #[inline(always)]
 fn is_boundary<S: StrDrive>(req: &Request<'_, S>, word: SreCatCode, cursor: StringCursor) -> bool
     requires { (run_of req.now).stands cursor cursor.position }
-    ensures { result ≡ is_boundary (run_of req.now).subject (category (run_of req.now).subject.table (category_number word)) cursor.position }
+    ensures { result ≡ is_boundary (run_of req.now).subject
+        (category (run_of req.now).subject.table (category_number word)) cursor.position }
 {
     is_behind(req, word, cursor) != is_ahead(req, word, cursor)
 }

@@ -92,8 +92,8 @@ impl<'a, S: StrDrive> Request<'a, S> {
         self.start
     }
 
-    /// The position at which the window ends: characters from it on are not seen. It is at most the number of the text's
-    /// characters.
+    /// The position at which the window ends: characters from it on are not seen.
+    /// It is at most the number of the text's characters.
     #[inline(always)]
     pub fn end(&self) -> usize
         ensures value { result ≡ end_of self.now }

@@ -66,7 +66,8 @@ fn run_tested<S: StrDrive>(
     requires test { HasTest (run_of req.now).words place }
     requires stands { (run_of req.now).stands start start.position }
     requires most { most ≤ req.now.end - start.position }
-    ensures count { (j : ℕ) (t : Test) → TestStands (run_of req.now).words place j t → result.0 ≡ run_length (run_of req.now).subject t most start.position }
+    ensures count { (j : ℕ) (t : Test) → TestStands (run_of req.now).words place j t
+        → result.0 ≡ run_length (run_of req.now).subject t most start.position }
     ensures position { result.1.position ≡ start.position + result.0 }
     ensures stands { (run_of req.now).stands result.1 result.1.position }
 {
@@ -149,10 +150,12 @@ fn run_while<S: StrDrive, T: Taker>(
     most: usize,
     start: StringCursor,
 ) -> (usize, StringCursor)
-    requires taker { (j c : ℕ) (t : Test) → TestStands (run_of req.now).words place j t → T.takes taker.now c ≡ holds (run_of req.now).subject.table t c }
+    requires taker { (j c : ℕ) (t : Test) → TestStands (run_of req.now).words place j t
+        → T.takes taker.now c ≡ holds (run_of req.now).subject.table t c }
     requires stands { (run_of req.now).stands start start.position }
     requires most { most ≤ req.now.end - start.position }
-    ensures count { (j : ℕ) (t : Test) → TestStands (run_of req.now).words place j t → result.0 ≡ run_length (run_of req.now).subject t most start.position }
+    ensures count { (j : ℕ) (t : Test) → TestStands (run_of req.now).words place j t
+        → result.0 ≡ run_length (run_of req.now).subject t most start.position }
     ensures position { result.1.position ≡ start.position + result.0 }
     ensures stands { (run_of req.now).stands result.1 result.1.position }
 {
@@ -182,7 +185,8 @@ fn run_in_set<S: StrDrive>(
     requires test { HasTest (run_of req.now).words place }
     requires stands { (run_of req.now).stands start start.position }
     requires most { most ≤ req.now.end - start.position }
-    ensures count { (j : ℕ) (t : Test) → TestStands (run_of req.now).words place j t → result.0 ≡ run_length (run_of req.now).subject t most start.position }
+    ensures count { (j : ℕ) (t : Test) → TestStands (run_of req.now).words place j t
+        → result.0 ≡ run_length (run_of req.now).subject t most start.position }
     ensures position { result.1.position ≡ start.position + result.0 }
     ensures stands { (run_of req.now).stands result.1 result.1.position }
 {
@@ -217,7 +221,8 @@ pub fn run_up_to<S: StrDrive>(
     requires test { HasTest (run_of req.now).words place }
     requires stands { (run_of req.now).stands start start.position }
     requires most { most ≤ req.now.end - start.position }
-    ensures count { (j : ℕ) (t : Test) → TestStands (run_of req.now).words place j t → result.0 ≡ run_length (run_of req.now).subject t most start.position }
+    ensures count { (j : ℕ) (t : Test) → TestStands (run_of req.now).words place j t
+        → result.0 ≡ run_length (run_of req.now).subject t most start.position }
     ensures position { result.1.position ≡ start.position + result.0 }
     ensures stands { (run_of req.now).stands result.1 result.1.position }
 {
@@ -250,7 +255,8 @@ pub fn longest_run<S: StrDrive>(
 ) -> (usize, StringCursor)
     requires test { HasTest (run_of req.now).words place }
     requires stands { (run_of req.now).stands start start.position }
-    ensures count { (j : ℕ) (t : Test) → TestStands (run_of req.now).words place j t → result.0 ≡ longest_run (run_of req.now).subject t high start.position }
+    ensures count { (j : ℕ) (t : Test) → TestStands (run_of req.now).words place j t
+        → result.0 ≡ longest_run (run_of req.now).subject t high start.position }
     ensures position { result.1.position ≡ start.position + result.0 }
     ensures stands { (run_of req.now).stands result.1 result.1.position }
 {

@@ -133,7 +133,8 @@ fn in_category(words: &[u32], uni: &UniTable, place: usize, character: u32) -> I
 #[inline(always)]
 pub(crate) fn has_bit(words: &[u32], place: usize, character: u32) -> bool
     requires { place + 9 ≤ length words.now }
-    ensures { (table : Table) → result ≡ item_holds table (Charset (slice_range words.now (place + 1) (place + 9))) character }
+    ensures { (table : Table)
+        → result ≡ item_holds table (Charset (slice_range words.now (place + 1) (place + 9))) character }
 {
     if character >= 256 {
         return false;
@@ -162,7 +163,8 @@ fn block(words: &[u32], place: usize, character: u32) -> usize
     requires room { place + 66 ≤ length words.now }
     requires blocks { BlocksBelow (word words.now (place + 1)) (slice_range words.now (place + 2) (place + 66)) }
     ensures below { result < word words.now (place + 1) }
-    ensures number { result ≡ slice_index (flat_map bytes_of (slice_range words.now (place + 2) (place + 66))) (character / 256) }
+    ensures number { result
+        ≡ slice_index (flat_map bytes_of (slice_range words.now (place + 2) (place + 66))) (character / 256) }
 {
     let k = character / 256;
     let numbers = words[place + 2 + (k / 4) as usize];
@@ -174,7 +176,9 @@ fn block(words: &[u32], place: usize, character: u32) -> usize
 fn has_bit_in_block(words: &[u32], place: usize, character: u32) -> bool
     requires room { place + 66 + word words.now (place + 1) * 8 ≤ length words.now }
     requires blocks { BlocksBelow (word words.now (place + 1)) (slice_range words.now (place + 2) (place + 66)) }
-    ensures { (table : Table) → result ≡ item_holds table (BigCharset (flat_map bytes_of (slice_range words.now (place + 2) (place + 66))) (slice_range words.now (place + 66) (place + 66 + word words.now (place + 1) * 8))) character }
+    ensures { (table : Table)
+        → result ≡ item_holds table (BigCharset (flat_map bytes_of (slice_range words.now (place + 2) (place + 66)))
+        (slice_range words.now (place + 66) (place + 66 + word words.now (place + 1) * 8))) character }
 {
     if character >= 65536 {
         return false;
@@ -223,7 +227,8 @@ fn one_item(words: &[u32], uni: &UniTable, place: usize, opcode: SreOpcode, char
 /// Whether the set whose items begin at `start` takes a character.
 pub(crate) fn is_member(words: &[u32], uni: &UniTable, start: usize, character: u32) -> bool
     requires { HasSet words.now start }
-    ensures { (j : ℕ) (set : List SetItem) → SetStands words.now start j set → result ≡ is_member uni.now set character }
+    ensures { (j : ℕ) (set : List SetItem) → SetStands words.now start j set
+        → result ≡ is_member uni.now set character }
 {
     let _length = words.len();
     let mut place = start;

@@ -21,7 +21,8 @@ fn set_over_choices<A: Allocator>(board: &mut Board<A>) -> Result<(), Refusal> {
     board.set(5, 2)
 }
 
-// Each request for memory is refused in turn: an error comes where it was, and the board, once it is cleared, serves again.
+// Each request for memory is refused in turn: an error comes where it was, and the board, once it is cleared,
+// serves again.
 #[test]
 fn a_refused_growth_leaves_a_board(rt: HostRuntime) -> Result<(), Fail> {
     let mut refusals = 0u64;

@@ -4,7 +4,8 @@ use std::test::Fail;
 
 const ENOUGH: usize = 1000;
 
-// What a run is given: its arguments with spaces between, the file `x`, and how much its two writers take before they fail.
+// What a run is given: its arguments with spaces between, the file `x`,
+// and how much its two writers take before they fail.
 #[derive(Clone, Copy, Debug)]
 struct Given {
     args: Result<&'static str, ErrorKind>,

@@ -81,7 +81,8 @@ fn jump(
     width: u32,
 ) -> Result<Step, CodeError>
     requires { place ≡ bounds.end }
-    ensures { EndGives words.now place (Closes words.now (Part.Alternative bounds.end bounds.tail least) place width) result }
+    ensures { EndGives words.now place
+        (Closes words.now (Part.Alternative bounds.end bounds.tail least) place width) result }
 {
     let SreOpcode::JUMP = words::opcode(words, place)? else {
         return Err(CodeError::BadItem(place));

@@ -34,7 +34,8 @@ fn mark(words: &[u32], place: usize) -> Result<Step, CodeError>
     })
 }
 
-/// `<REPEAT_ONE> <skip> <least count> <greatest count> <test> <SUCCESS>`, and MIN_REPEAT_ONE and POSSESSIVE_REPEAT_ONE alike
+/// `<REPEAT_ONE> <skip> <least count> <greatest count> <test> <SUCCESS>`,
+/// and MIN_REPEAT_ONE and POSSESSIVE_REPEAT_ONE alike
 #[tactic(auto, using(crate::proofs::ReadRuns::run_laws))]
 fn run(words: &[u32], place: usize) -> Result<Step, CodeError>
     requires { RunAt words.now place }

@@ -9,7 +9,8 @@ pub enum Part {
     Alternative { end: usize, tail: usize, least: u32 },
     /// The body of a REPEAT: MAX_UNTIL or MIN_UNTIL at `end`; it stands `least` times at least.
     Body { end: usize, least: u32 },
-    /// The body of a possessive loop, an atomic group or a look: SUCCESS at `end`; it counts for the width `least` times.
+    /// The body of a possessive loop, an atomic group or a look: SUCCESS at `end`;
+    /// it counts for the width `least` times.
     Region { end: usize, least: u32 },
 }
 

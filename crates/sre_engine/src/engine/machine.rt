@@ -184,7 +184,8 @@ fn first_alternative<S: StrDrive>(
     requires { HasRun (run_of req.now) (Alternatives start) cursor }
     ensures { MatchOption result
         ((b : BoardValue) → Advances (run_of req.now) (Alternatives start) cursor b Next.Back b)
-        (λ place. HasRun (run_of req.now) (Alternatives place) cursor × (0 < word (run_of req.now).words place) × Skips (run_of req.now) (Alternatives start) cursor (Alternatives place) cursor) }
+        (λ place. HasRun (run_of req.now) (Alternatives place) cursor × (0 < word (run_of req.now).words place)
+        × Skips (run_of req.now) (Alternatives start) cursor (Alternatives place) cursor) }
 {
     let mut place = start;
     'alternative: loop {
@@ -308,7 +309,9 @@ pub(super) fn back<S: StrDrive, A: Allocator>(
     board: &mut Board<A>,
 ) -> Result<Option<Next>, Refusal>
     requires { IsBack (run_of req.now) board.old }
-    ensures { IfOk result (λ found. MatchOption found ((all : List Way) (limit : ℕ) → Stands (run_of req.now) all limit Next.Back board.old → all ≡ []) (λ next. Retreats (run_of req.now) board.old next board.new)) }
+    ensures { IfOk result (λ found. MatchOption found
+        ((all : List Way) (limit : ℕ) → Stands (run_of req.now) all limit Next.Back board.old → all ≡ [])
+        (λ next. Retreats (run_of req.now) board.old next board.new)) }
 {
     match board.back() {
         None => Ok(None),

@@ -1,7 +1,7 @@
 //! Regions: `ATOMIC_GROUP skip body SUCCESS`, and `ASSERT skip back body SUCCESS` and ASSERT_NOT alike.
 //!
-//! A region waits on the board while its body is in progress. Its body has at most one outcome that counts, the first: so
-//! the choices inside it go as soon as the body ends.
+//! A region waits on the board while its body is in progress. Its body has at most one outcome that counts,
+//! the first: so the choices inside it go as soon as the body ends.
 
 ghost use Rattle.std.specs.Prelude.{◌≡◌, ◌-◌, ◌≤◌, [], IfOk, MatchOption};
 ghost use Rattle.sre_model.specs.Grammar.{Opcode};

@@ -72,7 +72,8 @@ fn attempt<S: StrDrive, A: Allocator>(
     requires stands { (run_of req.now).stands start start.position }
     requires inside { start.position ≤ end_of req.now }
     ensures found { (t : Tree) → Whole (words_of (code_of req.now)) t
-        → IfOk result (λ found. Decides (run_of req.now) (outcomes (run_of req.now) t start.position) found board.new.marks) }
+        → IfOk result
+        (λ found. Decides (run_of req.now) (outcomes (run_of req.now) t start.position) found board.new.marks) }
     ensures none { result ≡ Ok None → board.new.marks ≡ no_marks }
     ensures err { OnErr result (board.new.marks ≡ no_marks) }
     ensures refused { OnErr result Refused }
@@ -167,8 +168,8 @@ impl<A: Allocator + Copy> State<A> {
     /// least start; it lies in the window.
     ///
     /// Each start is tried in turn, as `pymatch` tries it; an empty match at the window's end is one, too. Under
-    /// `must_advance` an empty match is refused at the window's start alone. Equal characters, tables, windows, flags and
-    /// trees have equal answers, whatever types the texts are of.
+    /// `must_advance` an empty match is refused at the window's start alone. Equal characters, tables, windows,
+    /// flags and trees have equal answers, whatever types the texts are of.
     ///
     /// An error means that a growth of the state's memory was refused. After it, as after `Ok(false)`, there are no
     /// marks, start and cursor are open, and the state serves again, with a text of any type.
@@ -177,7 +178,8 @@ impl<A: Allocator + Copy> State<A> {
             → IfOk result (λ b. Answers (stands_in req.entry) (found (asked_of req.entry) t) b self.new) }
         ensures alike { (t : Tree) → Whole (words_of (code_of req.entry)) t
             → IfOk result (λ b. AnswersAlike (λ asked. found asked t) (asked_of req.entry) b self.new) }
-        ensures span { IfOk result (λ b. b ≡ true → (start_of req.entry ≤ self.new.start) × Spans self.new.start (end_of req.entry) self.new) }
+        ensures span { IfOk result
+            (λ b. b ≡ true → (start_of req.entry ≤ self.new.start) × Spans self.new.start (end_of req.entry) self.new) }
         ensures no { IfOk result (λ b. b ≡ false → self.new.marks ≡ no_marks) }
         ensures err { OnErr result (self.new.marks ≡ no_marks) }
         ensures refused { OnErr result Refused }

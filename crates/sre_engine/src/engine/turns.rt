@@ -133,7 +133,9 @@ pub(crate) fn run<S: StrDrive, A: Allocator>(
     requires stands { (run_of req.now).stands start start.position }
     requires inside { start.position ≤ end_of req.now }
     requires fresh { board.old ≡ bare no_marks }
-    ensures { (t : Tree) → Whole (run_of req.now).words t → IfOk result (λ found. Decides (run_of req.now) (outcomes (run_of req.now) t start.position) found board.new.marks) }
+    ensures { (t : Tree) → Whole (run_of req.now).words t
+        → IfOk result
+        (λ found. Decides (run_of req.now) (outcomes (run_of req.now) t start.position) found board.new.marks) }
 {
     know_words(req.pattern_codes().words());
     turns_from::<Brand, Brand, S, A>(req, board, start, Blank::new(1))

@@ -8,7 +8,11 @@ pub returns-in-IN : goal.returns-in-IN
 returns-in-IN g c = λ j t s.
     let same = c.words-words.ensures.same ∙ ap (λ (x : Code). x.words.now) c.pattern_codes.ensures in
     let there = subst (λ (ws : List ℕ). Word ws (c.args.place + 1) c.operand.result) same c.operand.ensures.word in
-    set_test_end c.args.req.now.pattern_codes.words.now c.args.place j c.operand.result c.args.opcode t c.requires.code c.in-IN.is there s
+    set_test_end c.args.req.now.pattern_codes.words.now c.args.place j c.operand.result c.args.opcode t c.requires.code
+    c.in-IN.is there s
 
 pub returns-in_default : goal.returns-in_default
-returns-in_default g c = λ j t s. short_test_end c.args.req.now.pattern_codes.words.now c.args.place j c.args.opcode t c.requires.code c.in_default.not-ANY c.in_default.not-ANY_ALL c.in_default.not-IN c.in_default.not-IN_IGNORE c.in_default.not-IN_LOC_IGNORE c.in_default.not-IN_UNI_IGNORE s
+returns-in_default g c = λ j t s.
+    short_test_end c.args.req.now.pattern_codes.words.now c.args.place j c.args.opcode t c.requires.code
+    c.in_default.not-ANY c.in_default.not-ANY_ALL c.in_default.not-IN c.in_default.not-IN_IGNORE
+    c.in_default.not-IN_LOC_IGNORE c.in_default.not-IN_UNI_IGNORE s

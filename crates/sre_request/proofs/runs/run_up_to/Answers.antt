@@ -8,4 +8,5 @@ pub returns-in-ANY_ALL-clause-count : goal.returns-in-ANY_ALL-clause-count
 returns-in-ANY_ALL-clause-count g c = λ j t s.
     let r = run_of c.args.req.now in
     let p = c.args.start.position in
-    c.run_any.ensures.count ∙ sym (run_whole r.subject t c.args.most p (λ x. any_all_takes r.words r.subject.table c.args.place j x t c.in-ANY_ALL.ensures s) c.requires.most)
+    c.run_any.ensures.count ∙ sym (run_whole r.subject t c.args.most p
+    (λ x. any_all_takes r.words r.subject.table c.args.place j x t c.in-ANY_ALL.ensures s) c.requires.most)

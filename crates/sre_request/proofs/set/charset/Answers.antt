@@ -9,4 +9,6 @@ pub overflow_add-result : goal.overflow_add-result
 overflow_add-result c = omega (arith, charset_room c.args.words.now c.args.place c.requires.opcode c.requires.stands)
 
 pub returns : goal.returns
-returns c = charset_says c.args.words.now c.args.uni.now c.args.place c.args.character _ c.requires.opcode (c.has_bit.ensures c.args.uni.now)
+returns c =
+    charset_says c.args.words.now c.args.uni.now c.args.place c.args.character _ c.requires.opcode
+    (c.has_bit.ensures c.args.uni.now)

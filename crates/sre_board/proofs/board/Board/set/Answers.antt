@@ -4,7 +4,10 @@ use Rattle.sre_board.proofs.Choosing.{fits-more, set_held}
 use Rattle.sre_board.proofs.board.Board.set.Goals as goal
 
 pub invariant_of-self-2 : goal.invariant_of-self-2
-invariant_of-self-2 g c = (c.self.invariant.0, fits-more _ _ _ _ _ (omega arith) c.set.ensures.kept c.self.invariant.1, c.self.invariant.2)
+invariant_of-self-2 g c =
+    (c.self.invariant.0, fits-more _ _ _ _ _ (omega arith) c.set.ensures.kept c.self.invariant.1, c.self.invariant.2)
 
 pub returns : goal.returns
-returns g c = IfOk-weaker _ _ _ (λ x h. set_held _ c.self.inside.trail c.set.new.self c.self.inside.chains c.self.inside.frame c.self.inside.choices.items c.args.n c.args.position c.self.view_is c.self.invariant.1 h) c.set.ensures.set
+returns g c =
+    IfOk-weaker _ _ _ (λ x h. set_held _ c.self.inside.trail c.set.new.self c.self.inside.chains c.self.inside.frame
+    c.self.inside.choices.items c.args.n c.args.position c.self.view_is c.self.invariant.1 h) c.set.ensures.set

@@ -3,13 +3,31 @@ use Rattle.sre_board.proofs.ChainLaws.{push_law, based_push, count_law}
 use Rattle.sre_board.proofs.chains.Chains.push.Goals as goal
 
 pub invariant_of-self-2 : goal.invariant_of-self-2
-invariant_of-self-2 g c = based_push c.self.inside.nodes.items c.push.new.list.items _ _ _ c.self.view_is c.in_ok-push.ensures.items c.self.invariant c.node_of.ensures.parent c.requires
+invariant_of-self-2 g c =
+    based_push c.self.inside.nodes.items c.push.new.list.items _ _ _ c.self.view_is c.in_ok-push.ensures.items
+    c.self.invariant c.node_of.ensures.parent c.requires
 
 pub returns-clause-chain : goal.returns-clause-chain
-returns-clause-chain g c = push_law c.self.inside.nodes.items c.push.new.list.items _ _ _ _ c.self.view_is c.in_ok-push.ensures.items c.node_of.ensures.frame c.node_of.ensures.parent
+returns-clause-chain g c =
+    push_law c.self.inside.nodes.items c.push.new.list.items _ _ _ _ c.self.view_is c.in_ok-push.ensures.items
+    c.node_of.ensures.frame c.node_of.ensures.parent
 
 pub returns-clause-id : goal.returns-clause-id
-returns-clause-id g c = omega (arith, count_law c.self.inside.nodes.items _ c.self.view_is, c.len.ensures, c.in_ok-push.ensures.len, c.self.inside.nodes.ok.0, c.push.new.list.ok.0)
+returns-clause-id g c = omega (
+  arith,
+  count_law c.self.inside.nodes.items _ c.self.view_is,
+  c.len.ensures,
+  c.in_ok-push.ensures.len,
+  c.self.inside.nodes.ok.0,
+  c.push.new.list.ok.0,
+)
 
 pub returns-clause-kept : goal.returns-clause-kept
-returns-clause-kept g c = omega (arith, count_law c.self.inside.nodes.items _ c.self.view_is, count_law c.push.new.list.items _ refl, c.in_ok-push.ensures.len, c.self.inside.nodes.ok.0, c.push.new.list.ok.0)
+returns-clause-kept g c = omega (
+  arith,
+  count_law c.self.inside.nodes.items _ c.self.view_is,
+  count_law c.push.new.list.items _ refl,
+  c.in_ok-push.ensures.len,
+  c.self.inside.nodes.ok.0,
+  c.push.new.list.ok.0,
+)

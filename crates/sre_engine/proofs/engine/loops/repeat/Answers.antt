@@ -3,4 +3,6 @@ use Rattle.sre_model.proofs.StepsInLoops.{repeat_step}
 use Rattle.sre_engine.proofs.engine.loops.repeat.Goals as goal
 
 pub returns : goal.returns
-returns g c = repeat_step (run_of c.args.req.now) _ _ c.args.cursor _ _ c.requires.opcode c.operand-skip.ensures.word c.in_ok-enter.ensures
+returns g c =
+    repeat_step (run_of c.args.req.now) _ _ c.args.cursor _ _ c.requires.opcode c.operand-skip.ensures.word
+    c.in_ok-enter.ensures

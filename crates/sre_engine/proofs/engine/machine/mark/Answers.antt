@@ -6,4 +6,6 @@ pub operand-n-requires : goal.operand-n-requires
 operand-n-requires g c = mark_operand (run_of c.args.req.now) _ _ c.requires.opcode c.requires.stands
 
 pub returns : goal.returns
-returns g c = mark_step (run_of c.args.req.now) _ _ _ c.args.cursor _ _ c.requires.opcode c.operand-n.ensures.word c.position.ensures c.in_ok-set.ensures
+returns g c =
+    mark_step (run_of c.args.req.now) _ _ _ c.args.cursor _ _ c.requires.opcode c.operand-n.ensures.word
+    c.position.ensures c.in_ok-set.ensures

@@ -6,4 +6,6 @@ pub operand-skip-requires : goal.operand-skip-requires
 operand-skip-requires g c = atomic_operand (run_of c.args.req.now) _ c.args.cursor c.requires.opcode c.requires.stands
 
 pub returns : goal.returns
-returns g c = atomic_step (run_of c.args.req.now) _ _ c.args.cursor _ _ c.requires.opcode c.operand-skip.ensures.word c.in_ok-save.ensures
+returns g c =
+    atomic_step (run_of c.args.req.now) _ _ c.args.cursor _ _ c.requires.opcode c.operand-skip.ensures.word
+    c.in_ok-save.ensures

@@ -8,4 +8,5 @@ pub returns : goal.returns
 returns g c =
     let r = run_of c.args.req.now in
     subst (λ n. Closes r c.args.cursor c.args.board.now n c.cut.new.self) (sym c.after_outcome.ensures)
-    (region_closes r c.args.cursor c.in_ok-region.entered c.args.board.now c.cut.new.self c.in_ok-region.region c.in_ok-region.ensures)
+    (region_closes r c.args.cursor c.in_ok-region.entered c.args.board.now c.cut.new.self c.in_ok-region.region
+    c.in_ok-region.ensures)

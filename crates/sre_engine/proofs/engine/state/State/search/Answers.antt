@@ -9,38 +9,55 @@ use Rattle.sre_engine.proofs.engine.state.State.search.Goals as goal
 pub returns-in-Some-clause-ok : goal.returns-in-Some-clause-ok
 returns-in-Some-clause-ok g c = λ t whole.
     let asked = c.args.req in
-    let some = some_at (stands_in asked) (asked_of asked) t _ c.in_ok-end.field-0 c.attempt.new.board.marks (c.in_ok-end.ensures.found t whole) c.in-Some.end c.in-Some.is in
+    let some = some_at (stands_in asked) (asked_of asked) t _ c.in_ok-end.field-0 c.attempt.new.board.marks
+    (c.in_ok-end.ensures.found t whole) c.in-Some.end c.in-Some.is in
     answers_yes (stands_in asked) _ c.start.start.position c.in-Some.end _ c.position.ensures refl some.0
-    (found_first (asked_of asked) t _ _ (c.start.invariant.before t whole) some.1 c.start.invariant.from c.start.invariant.inside refl)
+    (found_first (asked_of asked) t _ _
+    (c.start.invariant.before t whole) some.1 c.start.invariant.from c.start.invariant.inside refl)
 
 pub returns-in-Some-clause-span : goal.returns-in-Some-clause-span
 returns-in-Some-clause-span g c = λ _.
     let asked = c.args.req in
     let tree = code_tree (words_of (code_of asked)) (hints_of (code_of asked)) (code_of asked).checked in
-    let s = span_at (stands_in asked) (asked_of asked) tree.0 _ c.in_ok-end.field-0 c.attempt.new.board.marks (c.in_ok-end.ensures.found tree.0 tree.1) c.start.invariant.inside c.in-Some.end c.in-Some.is in
-    (omega (arith, c.start.invariant.from, c.position.ensures), record { starts = refl; forward = omega (arith, c.position.ensures, s.0); inside = s.1 })
+    let s = span_at (stands_in asked) (asked_of asked) tree.0 _ c.in_ok-end.field-0 c.attempt.new.board.marks
+    (c.in_ok-end.ensures.found tree.0 tree.1) c.start.invariant.inside c.in-Some.end c.in-Some.is in (
+      omega (arith, c.start.invariant.from, c.position.ensures),
+      record { starts = refl; forward = omega (arith, c.position.ensures, s.0); inside = s.1 },
+    )
 
 pub returns-then-position-end-clause-ok : goal.returns-then-position-end-clause-ok
 returns-then-position-end-clause-ok g c = λ t whole.
     let asked = c.args.req in
     let past : end_of asked ≤ c.start.start.position = omega arith in
-    answers_no (stands_in asked) _ _ (found_none (asked_of asked) t _ (c.start.invariant.before t whole) (none_at (stands_in asked) (asked_of asked) t _ c.in_ok-end.field-0 c.attempt.new.board.marks (c.in_ok-end.ensures.found t whole) c.in_default.is) past)
+    answers_no (stands_in asked) _ _
+    (found_none (asked_of asked) t _ (c.start.invariant.before t whole)
+    (none_at (stands_in asked) (asked_of asked) t _ c.in_ok-end.field-0 c.attempt.new.board.marks
+    (c.in_ok-end.ensures.found t whole) c.in_default.is) past)
 
 pub returns-in-Some-clause-alike : goal.returns-in-Some-clause-alike
 returns-in-Some-clause-alike g c = λ t whole.
-    answers_alike (λ asked. found asked t) (asked_of c.args.req) (stands_in c.args.req) true _ (returns-in-Some-clause-ok g c t whole)
+    answers_alike (λ asked. found asked t) (asked_of c.args.req) (stands_in c.args.req) true _
+    (returns-in-Some-clause-ok g c t whole)
 
 pub returns-then-position-end-clause-alike : goal.returns-then-position-end-clause-alike
 returns-then-position-end-clause-alike g c = λ t whole.
-    answers_alike (λ asked. found asked t) (asked_of c.args.req) (stands_in c.args.req) false _ (returns-then-position-end-clause-ok g c t whole)
+    answers_alike (λ asked. found asked t) (asked_of c.args.req) (stands_in c.args.req) false _
+    (returns-then-position-end-clause-ok g c t whole)
 
 pub start-preserved : goal.start-preserved
 start-preserved g c =
     let asked = c.args.req in
-    let at : c.skip.new.cursor.position ≡ c.start.start.position + 1 = (g.met.S.StrDrive.stands_at c.string-in-start.result c.skip.new.cursor _ c.skip.ensures).0 in
+    let at : c.skip.new.cursor.position ≡ c.start.start.position + 1 =
+    (g.met.S.StrDrive.stands_at c.string-in-start.result c.skip.new.cursor _ c.skip.ensures).0 in
     record {
-      stands = subst (λ (s : g.row.S.Denot). g.S.StrDrive.stands s c.skip.new.cursor c.skip.new.cursor.position) c.string-in-start.ensures (subst (λ n. g.S.StrDrive.stands c.string-in-start.result c.skip.new.cursor n) (sym at) c.skip.ensures);
+      stands =
+          subst (λ (s : g.row.S.Denot). g.S.StrDrive.stands s c.skip.new.cursor c.skip.new.cursor.position)
+          c.string-in-start.ensures
+          (subst (λ n. g.S.StrDrive.stands c.string-in-start.result c.skip.new.cursor n) (sym at) c.skip.ensures);
       from = omega (arith, c.start.invariant.from, at);
       inside = omega (arith, at);
-      before = λ t whole. none_further (asked_of asked) t _ _ (c.start.invariant.before t whole) (none_at (stands_in asked) (asked_of asked) t _ c.in_ok-end.field-0 c.attempt.new.board.marks (c.in_ok-end.ensures.found t whole) c.in_default.is) at;
+      before = λ t whole.
+          none_further (asked_of asked) t _ _ (c.start.invariant.before t whole)
+          (none_at (stands_in asked) (asked_of asked) t _ c.in_ok-end.field-0 c.attempt.new.board.marks
+          (c.in_ok-end.ensures.found t whole) c.in_default.is) at;
     }
