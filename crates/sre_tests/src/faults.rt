@@ -1,0 +1,151 @@
+//! Words that are refused: the cause and the place, where they are read from left to right, and what an error tells.
+
+use sre_engine::code::CodeError;
+use sre_engine::engine::SreError;
+use sre_engine::{Code, UniTable};
+use std::alloc::Global;
+use std::test::Fail;
+
+const NO_LIMIT: u32 = u32::MAX;
+
+/// Why words are refused, if they are.
+pub fn refusal(alloc: Global, words: &[u32]) -> Option<CodeError> {
+    let uni = UniTable::ascii(alloc);
+    let refused = Code::check(alloc, words, &uni).err();
+    refused
+}
+
+// One character, positions, sets and the end of the words. Words that are cut short stand beside the lawful ones.
+const ITEMS: [(&[u32], CodeError); 27] = [
+    (&[1, 43], CodeError::TrailingWords(1)),
+    (&[43, 1], CodeError::UnknownOpcode(0)),
+    (&[16, 97, NO_LIMIT, 1], CodeError::UnknownOpcode(2)),
+    (&[6, 12, 1], CodeError::UnknownAt(1)),
+    (&[8, 18, 1], CodeError::UnknownCategory(1)),
+    (&[13, 4, 8, 18, 0, 1], CodeError::UnknownCategory(3)),
+    // opcodes that are no items
+    (&[9, 1], CodeError::BadItem(0)),
+    (&[10, 1], CodeError::BadItem(0)),
+    (&[15, 1, 1], CodeError::BadItem(0)),
+    (&[18, 1], CodeError::BadItem(0)),
+    (&[19, 1], CodeError::BadItem(0)),
+    (&[21, 1], CodeError::BadItem(0)),
+    (&[22, 97, 98, 1], CodeError::BadItem(0)),
+    (&[25, 1], CodeError::BadItem(0)),
+    (&[42, 97, 98, 1], CodeError::BadItem(0)),
+    // sets: no room for an item, an opcode that is none, another end, an item past the end, a skip past the words
+    (&[13, 1, 0, 1], CodeError::BadSkip(1)),
+    (&[31, 1, 0, 1], CodeError::BadSkip(1)),
+    (&[13, 4, 2, 2, 0, 1], CodeError::BadSet(2)),
+    (&[35, 4, 2, 2, 0, 1], CodeError::BadSet(2)),
+    (&[13, 2, 1, 1], CodeError::BadSet(2)),
+    (&[13, 4, 16, 97, 1, 1], CodeError::BadSet(4)),
+    (&[39, 4, 16, 97, 1, 1], CodeError::BadSet(4)),
+    (&[13, 3, 16, 0, 1], CodeError::BadSet(3)),
+    (&[13, 4, 42, 65, 0, 1], CodeError::BadSet(4)),
+    (&[13, 9, 16, 97, 0, 1], CodeError::Truncated(6)),
+    (&[27, 7, 13, 4, 16, 97, 1, 1, 1], CodeError::BadSet(6)),
+    (&[23, 5, 0, 1, 6, 12, 18, 1], CodeError::UnknownAt(5)),
+];
+
+// Branches, runs, loops, atomic groups and looks.
+const PARTS: [(&[u32], CodeError); 36] = [
+    // branches: without alternatives, no JUMP, a JUMP elsewhere, two that differ, a length past the words
+    (&[7, 0, 1], CodeError::BadItem(1)),
+    (&[7, 5, 16, 97, 1, 2, 0, 1], CodeError::BadItem(4)),
+    (&[7, 5, 16, 97, 15, 3, 0, 1], CodeError::BadSkip(6)),
+    (
+        &[7, 5, 16, 97, 15, 8, 5, 16, 98, 15, 2, 0, 1],
+        CodeError::BadSkip(6),
+    ),
+    (&[7, 9, 16, 97, 15, 2, 0, 1], CodeError::Truncated(8)),
+    // runs: the counts
+    (&[24, 6, 2, 1, 16, 97, 1, 1], CodeError::BadCounts(2)),
+    (&[26, 6, 2, 1, 16, 97, 1, 1], CodeError::BadCounts(2)),
+    (&[29, 6, NO_LIMIT, 0, 16, 97, 1, 1], CodeError::BadCounts(2)),
+    // the skip
+    (&[24, 5, 0, 1, 16, 97, 1, 1], CodeError::BadSkip(1)),
+    (&[26, 2, 0, 1, 16, 97, 1, 1], CodeError::BadSkip(1)),
+    (&[29, 7, 0, 1, 16, 97, 1, 1], CodeError::BadSkip(1)),
+    // the test, and the end behind it
+    (&[24, 6, 0, 1, 17, 0, 1, 1], CodeError::BadItem(4)),
+    (&[26, 3, 0, 1, 1, 1], CodeError::BadItem(4)),
+    (
+        &[29, 9, 0, 1, 27, 4, 16, 97, 1, 1, 1],
+        CodeError::BadItem(4),
+    ),
+    (&[24, 6, 0, 1, 16, 97, 0, 1], CodeError::BadItem(6)),
+    (&[26, 6, 0, 1, 16, 97, 19, 1], CodeError::BadItem(6)),
+    (&[29, 6, 0, 1, 16, 97, 16, 98, 1, 1], CodeError::BadItem(6)),
+    // loops: the counts, a skip before the body, into an item, to an item, past the end, and another end
+    (&[23, 5, 2, 1, 16, 97, 18, 1], CodeError::BadCounts(2)),
+    (&[23, 2, 0, 1, 18, 1], CodeError::BadItem(4)),
+    (&[23, 4, 0, 1, 16, 97, 18, 1], CodeError::BadItem(6)),
+    (&[23, 5, 0, 1, 16, 97, 16, 98, 18, 1], CodeError::BadItem(6)),
+    (&[23, 6, 0, 1, 16, 97, 19, 1], CodeError::BadItem(6)),
+    (&[23, 5, 0, 1, 16, 97, 1, 1], CodeError::BadItem(6)),
+    // atomic groups
+    (&[27, 0, 1, 1], CodeError::BadSkip(1)),
+    (&[27, 1, 1, 1], CodeError::BadSkip(1)),
+    (&[27, 3, 16, 97, 1, 1], CodeError::BadItem(4)),
+    (&[27, 4, 16, 97, 16, 98, 1, 1], CodeError::BadItem(4)),
+    (&[27, 9, 16, 97, 1, 1], CodeError::BadItem(4)),
+    (&[27, 4, 16, 97, 18, 1], CodeError::BadItem(4)),
+    // one that ends inside the one in it
+    (&[27, 5, 27, 4, 16, 97, 1, 1, 1], CodeError::BadItem(7)),
+    // looks
+    (&[4, 2, 0, 1, 1], CodeError::BadSkip(1)),
+    (&[5, 2, 0, 1, 1], CodeError::BadSkip(1)),
+    (&[4, 4, 0, 16, 97, 1, 1], CodeError::BadItem(5)),
+    (&[5, 5, 1, 16, 97, 16, 98, 1, 1], CodeError::BadItem(5)),
+    (&[4, 5, 0, 16, 97, 18, 1], CodeError::BadItem(5)),
+    (&[5, 5, 0, 16, 97, 0, 1], CodeError::BadItem(5)),
+];
+
+#[test]
+fn words_are_refused_by_cause_and_place(rt: HostRuntime) {
+    for (words, error) in ITEMS {
+        assert_eq!(rt; refusal(rt.alloc(), words), Some(error), "{words:?}");
+    }
+    for (words, error) in PARTS {
+        assert_eq!(rt; refusal(rt.alloc(), words), Some(error), "{words:?}");
+    }
+    // a set of one block, the first block number of which is 1
+    let mut one_block = [0; 78];
+    for (i, word) in [13, 76, 10, 1, 1].iter().enumerate() {
+        one_block[i] = *word;
+    }
+    for i in 68..76 {
+        one_block[i] = u32::MAX;
+    }
+    one_block[77] = 1;
+    assert_eq!(rt; refusal(rt.alloc(), &one_block), Some(CodeError::BadSet(2)));
+}
+
+#[test]
+fn errors_are_told(rt: HostRuntime) -> Result<(), Fail> {
+    let told = [
+        (CodeError::Memory, "out of memory"),
+        (CodeError::Truncated(3), "Truncated 3"),
+        (CodeError::UnknownOpcode(0), "UnknownOpcode 0"),
+        (CodeError::UnknownAt(1), "UnknownAt 1"),
+        (CodeError::UnknownCategory(12), "UnknownCategory 12"),
+        (CodeError::BadSkip(2), "BadSkip 2"),
+        (CodeError::BadCounts(4), "BadCounts 4"),
+        (CodeError::BadItem(5), "BadItem 5"),
+        (CodeError::BadSet(6), "BadSet 6"),
+        (CodeError::BadInfo(7), "BadInfo 7"),
+        (CodeError::TrailingWords(8), "TrailingWords 8"),
+    ];
+    for (i, (error, text)) in told.iter().enumerate() {
+        let shown = format!(in rt.alloc(); "{error}")?;
+        assert_eq!(rt; shown.as_str(), *text);
+        assert_eq!(rt; error.number() as usize, i + 1);
+    }
+    let shown = format!(in rt.alloc(); "{}", SreError::Memory)?;
+    assert_eq!(rt;
+        (shown.as_str(), SreError::Memory.number()),
+        ("out of memory", 1)
+    );
+    Ok(())
+}

@@ -1,0 +1,102 @@
+//! Words that are accepted, with no error where memory is ample.
+
+use crate::faults::refusal;
+use sre_engine::code::{CodeError, Hints};
+use sre_engine::string::lower_unicode;
+use sre_engine::{Code, UniTable};
+use std::alloc::Global;
+use std::process::Abort;
+use std::test::Fail;
+
+const NO_LIMIT: u32 = u32::MAX;
+
+const LAWFUL: [&[u32]; 36] = [
+    &[1],
+    &[0, 1],
+    &[2, 3, 1],
+    &[6, 0, 6, 11, 1],
+    &[8, 0, 8, 17, 1],
+    &[16, NO_LIMIT, 20, 97, 1],
+    &[17, 1, 17, 0, 17, NO_LIMIT, 1],
+    &[32, 97, 33, 97, 1],
+    &[36, 97, 37, 97, 1],
+    &[40, 97, 41, 97, 1],
+    // sets
+    &[13, 2, 0, 1],
+    &[13, 10, 22, 97, 122, 8, 0, 16, 95, 21, 0, 1],
+    &[13, 11, 9, 0, 0, 0, 2, 0, 0, 0, 0, 0, 1],
+    &[13, 5, 42, 90, 65, 0, 1],
+    &[31, 4, 16, 97, 0, 35, 4, 16, 97, 0, 39, 5, 42, 65, 90, 0, 1],
+    // branches, also one in another
+    &[7, 3, 15, 2, 0, 1],
+    &[7, 5, 16, 97, 15, 9, 7, 16, 97, 16, 98, 15, 2, 0, 1],
+    &[7, 8, 7, 3, 15, 2, 0, 15, 2, 0, 1],
+    // runs
+    &[24, 6, 0, NO_LIMIT, 16, 97, 1, 1],
+    &[24, 9, 0, 1, 13, 4, 16, 97, 0, 1, 1],
+    &[24, 10, 0, 1, 39, 5, 42, 65, 90, 0, 1, 1],
+    &[26, 5, 2, 2, 2, 1, 1],
+    &[26, 6, 0, NO_LIMIT, 33, 97, 1, 1],
+    &[29, 5, NO_LIMIT, NO_LIMIT, 3, 1, 1],
+    &[29, 6, 0, 0, 8, 4, 1, 1],
+    // loops of both orders, with an empty body, one in another
+    &[23, 7, 0, NO_LIMIT, 16, 97, 16, 98, 18, 1],
+    &[23, 5, 1, 1, 16, 97, 19, 1],
+    &[23, 3, 0, 0, 18, 1],
+    &[23, 10, 2, 3, 23, 5, 0, NO_LIMIT, 16, 97, 19, 18, 1],
+    // atomic groups
+    &[27, 2, 1, 1],
+    &[27, 4, 16, 97, 1, 1],
+    &[27, 7, 27, 4, 16, 97, 1, 1, 1],
+    // looks, back by any number of characters
+    &[4, 3, 0, 1, 1],
+    &[4, 5, NO_LIMIT, 16, 97, 1, 1],
+    &[5, 5, 1, 16, 97, 1, 1],
+    &[5, 9, 0, 4, 5, 1, 16, 97, 1, 1, 1],
+];
+
+// A code shows what it was made of; less than its words is cut short, and there are none behind them.
+fn accepted(rt: &impl Abort, alloc: Global, uni: &UniTable, words: &[u32]) -> Result<(), Fail> {
+    let code = Code::check(alloc, words, uni)?;
+    assert!(rt; code.words() == words, "{words:?}");
+    assert_eq!(rt; lower_unicode(code.uni(), 201), 233);
+    let none = Hints {
+        width: None,
+        prefix: None,
+        literal: false,
+        first_set: false,
+    };
+    assert_eq!(rt; code.hints(), none);
+    for cut in 0..words.len() {
+        let error = refusal(alloc, &words[..cut]);
+        assert_eq!(rt; error, Some(CodeError::Truncated(cut)), "{words:?}");
+    }
+    let mut longer = words.to_vec(alloc)?;
+    longer.push(1)?;
+    let error = refusal(alloc, &longer);
+    assert_eq!(rt;
+        error,
+        Some(CodeError::TrailingWords(words.len())),
+        "{words:?}"
+    );
+    Ok(())
+}
+
+#[test]
+fn lawful_words_are_accepted(rt: HostRuntime) -> Result<(), Fail> {
+    let uni = UniTable::new(rt.alloc(), &[(201, 233)], &[], &[])?;
+    for words in LAWFUL {
+        accepted(&rt, rt.alloc(), &uni, words)?;
+    }
+    // a set of characters in two blocks: all block numbers but that of the second 256 characters are 0, and the last
+    // block has every character
+    let mut two_blocks = [0; 86];
+    for (i, word) in [13, 84, 10, 2, 256].iter().enumerate() {
+        two_blocks[i] = *word;
+    }
+    for i in 76..84 {
+        two_blocks[i] = u32::MAX;
+    }
+    two_blocks[85] = 1;
+    accepted(&rt, rt.alloc(), &uni, &two_blocks)
+}

@@ -1,0 +1,123 @@
+//! `pymatch` and `search` with each request for memory refused in turn.
+
+use crate::asking::{Call, ask};
+use sre_engine::engine::SreError;
+use sre_engine::{Code, Request, State, StrDrive, UniTable};
+use sre_refusing::Refusing;
+use std::alloc::{Allocator, Global};
+use std::process::Abort;
+use std::test::Fail;
+
+const NO_LIMIT: u32 = u32::MAX;
+
+// (a)b|(a)c
+const ALTERNATIVES: &[u32] = &[
+    7, 11, 17, 0, 16, 97, 17, 1, 16, 98, 15, 13, 11, 17, 2, 16, 97, 17, 3, 16, 99, 15, 2, 0, 1,
+];
+
+// (?:(a)|b)*c
+const LOOP: &[u32] = &[
+    23, 19, 0, NO_LIMIT, 7, 9, 17, 0, 16, 97, 17, 1, 15, 7, 5, 16, 98, 15, 2, 0, 18, 16, 99, 1,
+];
+
+// (?=(a)b|(a)c)(?>(a)|b)(c)
+const REGIONS: &[u32] = &[
+    4, 27, 0, 7, 11, 17, 0, 16, 97, 17, 1, 16, 98, 15, 13, 11, 17, 2, 16, 97, 17, 3, 16, 99, 15, 2,
+    0, 1, 27, 18, 7, 9, 17, 4, 16, 97, 17, 5, 15, 7, 5, 16, 98, 15, 2, 0, 1, 17, 6, 16, 99, 17, 7,
+    1,
+];
+
+// Whether two states show the same after two calls with these answers.
+fn same<A: Allocator + Copy, B: Allocator + Copy>(
+    one: &State<A>,
+    answer: bool,
+    other: &State<B>,
+    wanted: bool,
+) -> bool {
+    if answer && (one.start() != other.start() || one.cursor() != other.cursor()) {
+        return false;
+    }
+    answer == wanted
+        && one.marks().raw() == other.marks().raw()
+        && one.marks().last_index() == other.marks().last_index()
+}
+
+// Refuses each request for memory of a call in turn, until it asks for fewer: how many were refused.
+fn refused_in_turn(
+    rt: &impl Abort,
+    alloc: Global,
+    call: Call,
+    of_bytes: Request<'_, &[u8]>,
+    of_text: Request<'_, &str>,
+    ample: (&State<Global>, bool),
+) -> Result<u64, Fail> {
+    for refused in 1..40u64 {
+        let heap = Refusing::new(alloc, refused);
+        let mut state: State<&Refusing<Global>> = State::new(&heap);
+        match ask(call, of_bytes, &mut state) {
+            Ok(answer) => {
+                assert!(rt; heap.left() > 0 && same(&state, answer, ample.0, ample.1));
+                return Ok(refused - 1);
+            }
+            Err(error) => {
+                assert_eq!(rt; (error, heap.left()), (SreError::Memory, 0));
+                assert!(rt; state.marks().raw().is_empty() && state.marks().last_index() == -1);
+            }
+        }
+        // the same state, over a text of another type and over the same one
+        let answer = ask(call, of_text, &mut state)?;
+        assert!(rt; same(&state, answer, ample.0, ample.1));
+        let answer = ask(call, of_bytes, &mut state)?;
+        assert!(rt; same(&state, answer, ample.0, ample.1));
+    }
+    assert!(rt; false, "the requests have no end");
+    Ok(0)
+}
+
+// Runs a call over text and bytes, with ample memory and then with each request refused: how many were refused.
+fn refusals(
+    rt: &impl Abort,
+    code: Code<'_>,
+    text: &str,
+    (call, start, found): (Call, usize, bool),
+    (match_all, must_advance): (bool, bool),
+    alloc: Global,
+) -> Result<u64, Fail> {
+    let mut of_bytes = Request::new(text.as_bytes(), start, usize::MAX, code, match_all);
+    of_bytes.set_must_advance(must_advance);
+    let mut of_text = Request::new(text, start, usize::MAX, code, match_all);
+    of_text.set_must_advance(must_advance);
+    let mut ample = State::new(alloc);
+    assert!(rt; ask(call, of_bytes, &mut ample)? == found);
+    if found {
+        assert!(rt; (ample.start(), ample.cursor().position()) == (1, text.len()));
+    }
+    refused_in_turn(rt, alloc, call, of_bytes, of_text, (&ample, found))
+}
+
+// The calls and starts, and whether they have a match where all of the text matches but its first character
+const CALLS: [(Call, usize, bool); 4] = [
+    (Call::Match, 0, false),
+    (Call::Match, 1, true),
+    (Call::Search, 0, true),
+    (Call::Search, 1, true),
+];
+
+const FLAGS: [(bool, bool); 4] = [(false, false), (false, true), (true, false), (true, true)];
+
+#[test]
+fn a_run_fails_where_memory_is_refused(rt: HostRuntime) -> Result<(), Fail> {
+    let uni = UniTable::ascii(rt.alloc());
+    let cases: [(&[u32], &str); 3] = [(ALTERNATIVES, "xac"), (LOOP, "xabac"), (REGIONS, "xac")];
+    for (words, text) in cases {
+        let code = Code::check(rt.alloc(), words, &uni)?;
+        for call in CALLS {
+            for flags in FLAGS {
+                let refused = refusals(&rt, code, text, call, flags, rt.alloc())?;
+                // the marks, the trail and the choices grow
+                assert!(rt; refused > 2 || !call.2);
+            }
+        }
+    }
+    Ok(())
+}

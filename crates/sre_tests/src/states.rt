@@ -1,0 +1,146 @@
+//! A state that goes from text to text.
+
+use crate::asking::{Call, ask};
+use sre_engine::{Code, Request, State, StrDrive, UniTable};
+use std::alloc::Global;
+use std::test::Fail;
+
+// A group round any character, the letter a, and nothing
+const GROUP: &[u32] = &[17, 0, 3, 17, 1, 1];
+
+const A: &[u32] = &[16, 97, 1];
+
+const EMPTY: &[u32] = &[1];
+
+// A text, of characters or of bytes.
+#[derive(Clone, Copy)]
+enum Text {
+    Characters(&'static str),
+    Bytes(&'static [u8]),
+}
+
+const CHARACTERS: Text = Text::Characters("é€😀");
+
+const BYTES: Text = Text::Bytes(b"ba");
+
+// What is asked: a call, the words, a text and its window. And what is answered: where the match starts, where it ends
+// in characters and in bytes, the marks and the last index.
+type Step = (
+    (Call, &'static [u32], Text, (usize, usize)),
+    (
+        Option<(usize, usize, usize)>,
+        &'static [Option<usize>],
+        isize,
+    ),
+);
+
+const STEPS: [Step; 10] = [
+    (
+        (Call::Match, GROUP, CHARACTERS, (0, 9)),
+        (Some((0, 1, 2)), &[Some(0), Some(1)], 1),
+    ),
+    // a code without groups leaves none of those marks
+    ((Call::Search, A, BYTES, (0, 9)), (Some((1, 2, 2)), &[], -1)),
+    (
+        (Call::Search, GROUP, CHARACTERS, (1, 2)),
+        (Some((1, 2, 5)), &[Some(1), Some(2)], 1),
+    ),
+    (
+        (Call::Search, GROUP, Text::Bytes(b""), (0, 9)),
+        (None, &[], -1),
+    ),
+    (
+        (Call::Match, GROUP, BYTES, (1, 2)),
+        (Some((1, 2, 2)), &[Some(1), Some(2)], 1),
+    ),
+    ((Call::Match, GROUP, CHARACTERS, (3, 3)), (None, &[], -1)),
+    // windows are held in their texts
+    (
+        (Call::Match, EMPTY, CHARACTERS, (5, 9)),
+        (Some((3, 3, 9)), &[], -1),
+    ),
+    (
+        (Call::Match, EMPTY, BYTES, (2, 1)),
+        (Some((1, 1, 1)), &[], -1),
+    ),
+    (
+        (Call::Match, EMPTY, BYTES, (usize::MAX, usize::MAX)),
+        (Some((2, 2, 2)), &[], -1),
+    ),
+    (
+        (Call::Search, GROUP, CHARACTERS, (2, usize::MAX)),
+        (Some((2, 3, 9)), &[Some(2), Some(3)], 1),
+    ),
+];
+
+// Where the match starts that a state shows, and where it ends, in characters and in bytes.
+fn shown(state: &State<Global>) -> (usize, usize, usize) {
+    let end = state.cursor();
+    (state.start(), end.position(), end.offset())
+}
+
+// Asks a state, which may have served before.
+fn answer(
+    state: &mut State<Global>,
+    code: Code<'_>,
+    call: Call,
+    text: Text,
+    window: (usize, usize),
+) -> Result<Option<(usize, usize, usize)>, Fail> {
+    let found = match text {
+        Text::Characters(text) => {
+            ask(
+                call,
+                Request::new(text, window.0, window.1, code, false),
+                state,
+            )?
+        }
+        Text::Bytes(bytes) => {
+            ask(
+                call,
+                Request::new(bytes, window.0, window.1, code, false),
+                state,
+            )?
+        }
+    };
+    Ok(if found { Some(shown(state)) } else { None })
+}
+
+// Has a state stand at the end of a request's text.
+fn stand_at_end<S: StrDrive>(state: &mut State<Global>, req: &Request<'_, S>) {
+    state.reset(req, req.string().count());
+}
+
+// The window and the flags of a request over three characters, once they were moved and set.
+fn moved_and_set(code: Code<'_>) -> (usize, usize, bool, bool) {
+    let mut req = Request::new("é€😀", 0, 0, code, true);
+    req.set_window(1, usize::MAX);
+    req.set_match_all(false);
+    req.set_must_advance(true);
+    (req.start(), req.end(), req.match_all(), req.must_advance())
+}
+
+#[test]
+fn a_state_goes_from_text_to_text(rt: HostRuntime) -> Result<(), Fail> {
+    let uni = UniTable::ascii(rt.alloc());
+    let mut state = State::new(rt.alloc());
+    for ((call, words, text, window), (ends, marks, last)) in STEPS {
+        let code = Code::check(rt.alloc(), words, &uni)?;
+        let found = answer(&mut state, code, call, text, window)?;
+        assert!(rt; found == ends, "{words:?} {window:?} {found:?}");
+        assert!(rt; state.marks().raw() == marks && state.marks().last_index() == last);
+    }
+    for absent in [1, usize::MAX / 2, usize::MAX] {
+        assert!(rt; state.marks().get(absent) == (None, None));
+    }
+    let code = Code::check(rt.alloc(), GROUP, &uni)?;
+    assert!(rt; moved_and_set(code) == (1, 3, false, true));
+    stand_at_end(&mut state, &Request::new("é€😀", 0, 0, code, false));
+    assert!(rt; shown(&state) == (3, 3, 9) && state.marks().raw().is_empty());
+    stand_at_end(
+        &mut state,
+        &Request::new(b"ba".as_slice(), 0, 0, code, false),
+    );
+    assert!(rt; shown(&state) == (2, 2, 2));
+    Ok(())
+}
