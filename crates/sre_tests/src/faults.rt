@@ -48,8 +48,8 @@ const ITEMS: [(&[u32], CodeError); 27] = [
     (&[23, 5, 0, 1, 6, 12, 18, 1], CodeError::UnknownAt(5)),
 ];
 
-// Branches, runs, loops, atomic groups and looks.
-const PARTS: [(&[u32], CodeError); 36] = [
+// Branches, runs, loops of every kind, atomic groups and looks.
+const PARTS: [(&[u32], CodeError); 40] = [
     // branches: without alternatives, no JUMP, a JUMP elsewhere, two that differ, a length past the words
     (&[7, 0, 1], CodeError::BadItem(1)),
     (&[7, 5, 16, 97, 1, 2, 0, 1], CodeError::BadItem(4)),
@@ -84,6 +84,11 @@ const PARTS: [(&[u32], CodeError); 36] = [
     (&[23, 5, 0, 1, 16, 97, 16, 98, 18, 1], CodeError::BadItem(6)),
     (&[23, 6, 0, 1, 16, 97, 19, 1], CodeError::BadItem(6)),
     (&[23, 5, 0, 1, 16, 97, 1, 1], CodeError::BadItem(6)),
+    // possessive loops: the same
+    (&[28, 5, 2, 1, 16, 97, 1, 1], CodeError::BadCounts(2)),
+    (&[28, 2, 0, 1, 1, 1], CodeError::BadItem(4)),
+    (&[28, 4, 0, 1, 16, 97, 1, 1], CodeError::BadItem(6)),
+    (&[28, 5, 0, 1, 16, 97, 18, 1], CodeError::BadItem(6)),
     // atomic groups
     (&[27, 0, 1, 1], CodeError::BadSkip(1)),
     (&[27, 1, 1, 1], CodeError::BadSkip(1)),

@@ -5,7 +5,7 @@ use sre_refusing::Refusing;
 use std::test::Fail;
 
 // Lines and their answers, by the definition of the engine's matches.
-const ROWS: [(&str, &str); 67] = [
+const ROWS: [(&str, &str); 70] = [
     (
         "match 17,0,16,97,17,1,16,98,1 b:6162 all -",
         "yes 0..2 last 1 marks 0,1",
@@ -127,6 +127,15 @@ const ROWS: [(&str, &str); 67] = [
         "yes 0..3 last -1 marks none",
     ),
     ("match 26,6,1,2,16,97,1,16,98,1 b:61616162 all -", "no"),
+    ("match 28,7,2,2,16,97,16,98,1,1 b:6162 all -", "no"),
+    (
+        "match 28,7,2,2,16,97,16,98,1,1 b:61626162 all -",
+        "yes 0..4 last -1 marks none",
+    ),
+    (
+        "match 28,3,0,4294967295,1,1 b:61 all -",
+        "yes 0..0 last -1 marks none",
+    ),
     (
         "match 29,6,0,4294967295,16,97,1,16,97,1 b:616161 all -",
         "no",
