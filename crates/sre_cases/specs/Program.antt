@@ -74,7 +74,7 @@ Tells old new argument (Told fault) = Appends old new (fault_line fault argument
 Tells old new argument (Untold fault) = Unit {0}
 
 -- a run of the program, with what its two writers hold before and after it
-pub record Runs (Reads : List ℕ → Reading → Type 0) (args : Arguments) (out out' faults faults' : Option (List ℕ))
+pub record ProgramRun (Reads : List ℕ → Reading → Type 0) (args : Arguments) (out out' faults faults' : Option (List ℕ))
     (ending : Ending) : Type 0 where
   pub argument : Result (String Global) CaseFault
   pub is_argument : IsArgument args argument

@@ -6,7 +6,7 @@ ghost use Rattle.std.specs.Io.KnownBytes.{Appends};
 ghost use Rattle.std.specs.Process.{exit_status};
 ghost use Rattle.sre_cases.specs.Answers.{fault_text, IsFaultOfCases};
 ghost use Rattle.sre_cases.specs.Lines.{lines_of, Answered, StopsAt};
-ghost use Rattle.sre_cases.specs.Program.{IsFaultOf, IsArgument, AnswersFile, end_of, status_of, Runs};
+ghost use Rattle.sre_cases.specs.Program.{IsFaultOf, IsArgument, AnswersFile, end_of, status_of, ProgramRun};
 
 use crate::cases::{CaseFault, run_cases, write_fault};
 use std::alloc::Global;
@@ -53,7 +53,7 @@ where
     W: Write,
     E: Write,
     requires { F.IsAlwaysCallable read }
-    ensures { Runs (FnOnceReturnsAt F.FnOnce read) args (W.contents out.old) (W.contents out.new)
+    ensures { ProgramRun (FnOnceReturnsAt F.FnOnce read) args (W.contents out.old) (W.contents out.new)
         (E.contents faults.old) (E.contents faults.new) result }
 {
     let name = match argument(args) {
