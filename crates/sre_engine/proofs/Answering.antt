@@ -8,7 +8,7 @@ use Rattle.sre_model.specs.Marks.{Marks, no_marks}
 use Rattle.sre_model.specs.Ways.{ways}
 use Rattle.sre_model.specs.Found.{Asked, Match, subject_of, is_accepted, at_start, found}
 use Rattle.sre_model.specs.Machine.{Run, Decides, outcomes}
-use Rattle.sre_engine.specs.Answers.{Shown, Answers, Tells, given, AnswersAlike}
+use Rattle.sre_engine.specs.Answers.{Shown, Answers, AnswersAnywhere, given, AnswersAlike}
 use Rattle.sre_model.proofs.FoundLaws.{match_of_first, first_accepted-filter, at_start-is, least-found, none-found}
 
 -- what a run for a request decides about; the words are those of its tree, whatever they are
@@ -71,7 +71,7 @@ answers_alike model asked stands b shown answer = record {
 
 -- an answer tells its match
 pub told : (stands : StringCursor → ℕ → Type 0) (match : Option Match) (b : Bool) (shown : Shown)
-    → Answers stands match b shown → Tells match b shown
+    → Answers stands match b shown → AnswersAnywhere match b shown
 told stands None b shown none = none
 told stands (Some m) b shown some =
     let s = some.1 in (some.0, record { start = s.start; at = s.at; end = tt; marks = s.marks })

@@ -35,11 +35,11 @@ given true s = Some (record { start = s.start; end = s.cursor.position; marks = 
 given false s = None
 
 -- an answer in a text of whatever type: which of its cursors stand where is left open
-abbrev pub Tells : Option Match → Bool → Shown → Type 0
-Tells m b s = Answers (λ c p. ⊤) m b s
+abbrev pub AnswersAnywhere : Option Match → Bool → Shown → Type 0
+AnswersAnywhere m b s = Answers (λ c p. ⊤) m b s
 
 -- another request, in a text of whatever type, that asks the same of a code of the same tree is answered alike:
 -- of equal characters, tables, windows and flags the same match or none;
 -- c and u are its answer and what a state then shows
 pub record AnswersAlike (model : Asked → Option Match) (asked : Asked) (b : Bool) (s : Shown) : Type 0 where
-  pub alike : (other : Asked) (c : Bool) (u : Shown) → other ≡ asked → Tells (model other) c u → given c u ≡ given b s
+  pub alike : (other : Asked) (c : Bool) (u : Shown) → other ≡ asked → AnswersAnywhere (model other) c u → given c u ≡ given b s
