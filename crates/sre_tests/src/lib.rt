@@ -14,6 +14,8 @@ mod large;
 #[cfg(test)]
 mod lawful;
 #[cfg(test)]
+mod laws;
+#[cfg(test)]
 mod names;
 #[cfg(test)]
 mod refused_checks;
