@@ -1,5 +1,6 @@
 -- Laws of the trail: a change that is taken back leaves what stood there before.
-use Rattle.std.proofs.Common.{◌≡◌, ℕ, zero, suc, ◌+◌, ◌-◌, ◌<◌, List, [], ◌∷◌, ◌++◌, length, Option, None, slice_set, slice_index_or, refl, sym, ap, ◌∙◌, arith}
+use Rattle.std.proofs.Common.{◌≡◌, ℕ, zero, suc, ◌+◌, ◌-◌, ◌<◌, List, [], ◌∷◌, ◌++◌, length, Option, None, slice_set}
+use Rattle.std.proofs.Common.{slice_index_or, refl, sym, ap, ◌∙◌, arith}
 use Rattle.std.proofs.lemmas.List.{set-get_or, append-nil}
 use Rattle.sre_model.specs.Marks.{Marks, lengthened, set_mark}
 use Rattle.sre_board.specs.Trail.{Trail, states, undo, undone, past_of, trail_of}

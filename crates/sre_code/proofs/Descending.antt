@@ -1,5 +1,6 @@
 -- A step of the descent keeps what is left to read.
-use Rattle.std.proofs.Common.{ℕ, ◌+◌, ◌-◌, ◌≡◌, ◌≢◌, ◌<◌, List, [], ◌∷◌, ◌++◌, reverse, length, Result, Ok, Err, refl, sym, ◌∙◌, ap, subst, arith, length-append}
+use Rattle.std.proofs.Common.{ℕ, ◌+◌, ◌-◌, ◌≡◌, ◌≢◌, ◌<◌, List, [], ◌∷◌, ◌++◌, reverse, length, Result, Ok, Err, refl}
+use Rattle.std.proofs.Common.{sym, ◌∙◌, ap, subst, arith, length-append}
 use Rattle.std.proofs.lemmas.List.{reverse-append}
 use Rattle.sre_chars.specs.declared.constants.SreOpcode.TheVariants as opcode
 use Rattle.sre_model.specs.Tree.{Tree, Empty, Then}
@@ -9,7 +10,8 @@ use Rattle.sre_model.specs.Grammar.{IsCode}
 use Rattle.sre_code.specs.Refusals.{place_of}
 use Rattle.sre_code.specs.Reading.{Within}
 use Rattle.sre_code.specs.Steps.{ItemAt, Closes, Remains, next, Exactly, Nowhere, IsEnd, IsInside, Leaves, Unclosed}
-use Rattle.sre_code.specs.Descent.{opened, Rest, StackRest, After, Same, Never, work, Fails, Pushes, ReadsOn, WholeFrom, HasWhole}
+use Rattle.sre_code.specs.Descent.{opened, Rest, StackRest, After, Same, Never, work, Fails, Pushes, ReadsOn, WholeFrom}
+use Rattle.sre_code.specs.Descent.{HasWhole}
 use Rattle.sre_code.specs.declared.code.error.CodeError.{CodeError}
 use Rattle.sre_code.specs.declared.code.error.CodeError.TheVariants.{Memory}
 use Rattle.sre_code.specs.declared.code.step.Part.{Part}

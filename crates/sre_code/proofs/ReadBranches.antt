@@ -1,5 +1,6 @@
 -- Branches: what the check reads of them is what the grammar says.
-use Rattle.std.proofs.Common.{ℕ, ◌+◌, ◌-◌, ◌≡◌, ◌≢◌, ◌<◌, ◌≤◌, List, length, min, Result, Ok, Err, ⊎_elim, refl, sym, ◌∙◌, ap, subst, inl, inr, arith}
+use Rattle.std.proofs.Common.{ℕ, ◌+◌, ◌-◌, ◌≡◌, ◌≢◌, ◌<◌, ◌≤◌, List, length, min, Result, Ok, Err, ⊎_elim, refl, sym}
+use Rattle.std.proofs.Common.{◌∙◌, ap, subst, inl, inr, arith}
 use Rattle.sre_chars.specs.Numbers.{opcode_number}
 use Rattle.sre_chars.specs.declared.constants.SreOpcode.{SreOpcode}
 use Rattle.sre_chars.specs.declared.constants.SreOpcode.TheVariants as opcode
@@ -7,7 +8,8 @@ use Rattle.sre_model.specs.Tree.{Branch, Trees, Only, Or}
 use Rattle.sre_model.specs.Grammar.{Opcode, Word, word, skip, JumpsTo, ReadsBranch}
 use Rattle.sre_model.specs.Width.{held, width, item_width, least_width}
 use Rattle.sre_code.specs.Reading.{NoCode}
-use Rattle.sre_code.specs.Steps.{ItemAt, Closes, Remains, Exactly, Nowhere, IsEnd, IsInside, Leaves, EndGives, MoreAt, TreesAt, BoundsExactly, NoTrees}
+use Rattle.sre_code.specs.Steps.{ItemAt, Closes, Remains, Exactly, Nowhere, IsEnd, IsInside, Leaves, EndGives, MoreAt}
+use Rattle.sre_code.specs.Steps.{TreesAt, BoundsExactly, NoTrees}
 use Rattle.sre_code.specs.declared.code.error.CodeError.{CodeError}
 use Rattle.sre_code.specs.declared.code.step.Part.TheVariants.{Alternative}
 use Rattle.sre_code.specs.declared.code.step.Bounds.{Bounds}

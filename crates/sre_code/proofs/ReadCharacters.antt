@@ -1,10 +1,12 @@
 -- Tests of one character: what the check reads of them is what the grammar says.
-use Rattle.std.proofs.Common.{ℕ, ◌+◌, ◌-◌, ◌≡◌, ◌≢◌, ◌<◌, ◌≤◌, ◌⊎◌, inl, inr, List, [], length, Err, refl, sym, ◌∙◌, ap, subst, arith}
+use Rattle.std.proofs.Common.{ℕ, ◌+◌, ◌-◌, ◌≡◌, ◌≢◌, ◌<◌, ◌≤◌, ◌⊎◌, inl, inr, List, [], length, Err, refl, sym, ◌∙◌, ap}
+use Rattle.std.proofs.Common.{subst, arith}
 use Rattle.sre_chars.specs.Numbers.{opcode_number, category_number}
 use Rattle.sre_chars.specs.declared.constants.SreOpcode.{SreOpcode}
 use Rattle.sre_chars.specs.declared.constants.SreOpcode.TheVariants as opcode
 use Rattle.sre_chars.specs.declared.constants.SreCatCode.{SreCatCode}
-use Rattle.sre_model.specs.Tree.{Test, Any, AnyAll, InCategory, Literal, NotLiteral, In, Fold, Plain, Ascii, Locale, Unicode, SetItem}
+use Rattle.sre_model.specs.Tree.{Test, Any, AnyAll, InCategory, Literal, NotLiteral, In, Fold, Plain, Ascii, Locale}
+use Rattle.sre_model.specs.Tree.{Unicode, SetItem}
 use Rattle.sre_model.specs.Grammar.{Opcode, Word, word, skip, literal_opcode, not_literal_opcode, set_opcode, ReadsSet}
 use Rattle.sre_code.specs.Reading.{NoCode, FoldedAt, ReadsTest, TestExactly, NoTest, TestEnds, IsSet, NoSet}
 use Rattle.sre_model.specs.Standing.{HasTest}
@@ -12,7 +14,8 @@ use Rattle.sre_code.specs.declared.code.error.CodeError.TheVariants.{BadItem}
 use Rattle.sre_model.proofs.Words.{word_within, word_there, word_past, opcode_within, opcode_moved, same_opcode}
 use Rattle.sre_model.proofs.Places.{set_within, set_moved}
 use Rattle.sre_model.specs.Roles.{OfCategory, OfLiteral, OfNotLiteral}
-use Rattle.sre_model.proofs.Families.{HasTestKind, test_here, is_any, is_any_all, is_category, is_literal, is_not_literal, is_set}
+use Rattle.sre_model.proofs.Families.{HasTestKind, test_here, is_any, is_any_all, is_category, is_literal}
+use Rattle.sre_model.proofs.Families.{is_not_literal, is_set}
 
 -- ANY and ANY_ALL
 pub any_exactly : (ws : List ℕ) (i : ℕ) → Opcode ws i opcode.ANY → TestExactly ws i (i + 1)

@@ -4,7 +4,8 @@ use Rattle.sre_chars.specs.Numbers.{opcode_number, at_number}
 use Rattle.sre_chars.specs.declared.constants.SreOpcode.{SreOpcode}
 use Rattle.sre_chars.specs.declared.constants.SreOpcode.TheVariants as opcode
 use Rattle.sre_chars.specs.declared.constants.SreAtCode.{SreAtCode}
-use Rattle.sre_model.specs.Tree.{Item, Fail, One, At, Mark, Branch, Run, Test, GreedyRun, LazyRun, Loop, PossessiveLoop, Atomic, Look, Positive, Negative, PossessiveRun}
+use Rattle.sre_model.specs.Tree.{Item, Fail, One, At, Mark, Branch, Run, Test, GreedyRun, LazyRun, Loop, PossessiveLoop}
+use Rattle.sre_model.specs.Tree.{Atomic, Look, Positive, Negative, PossessiveRun}
 use Rattle.sre_model.specs.Grammar.{Opcode, Word, word, item_opcode, ReadsItem}
 use Rattle.sre_model.specs.Width.{item_width}
 use Rattle.sre_code.specs.Reading.{NoCode, ReadsTest, TestExactly, NoTest}

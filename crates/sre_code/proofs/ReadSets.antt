@@ -1,5 +1,6 @@
 -- Sets: what the check reads of them is what the grammar says.
-use Rattle.std.proofs.Common.{ℕ, ◌+◌, ◌*◌, ◌≡◌, ◌≢◌, ◌<◌, ◌≤◌, ◌⊎◌, inl, inr, List, [], ◌∷◌, length, slice_range, Err, refl, sym, subst, arith}
+use Rattle.std.proofs.Common.{ℕ, ◌+◌, ◌*◌, ◌≡◌, ◌≢◌, ◌<◌, ◌≤◌, ◌⊎◌, inl, inr, List, [], ◌∷◌, length, slice_range, Err}
+use Rattle.std.proofs.Common.{refl, sym, subst, arith}
 use Rattle.std.specs.List.{flat_map}
 use Rattle.sre_chars.specs.Numbers.{opcode_number, category_number}
 use Rattle.sre_chars.specs.declared.constants.SreOpcode.{SreOpcode}
@@ -10,7 +11,8 @@ use Rattle.sre_model.specs.Grammar.{Opcode, Word, word, ReadsSet, BlocksBelow, b
 use Rattle.sre_code.specs.Reading.{NoCode, SetItemExactly, NoSetItem, IsSet, NoSet, SameSets, SetItemEnds}
 use Rattle.sre_code.specs.declared.code.error.CodeError.TheVariants.{BadSet}
 use Rattle.sre_model.proofs.Words.{word_within, word_there, opcode_within, same_opcode}
-use Rattle.sre_model.proofs.SetItems.{set_item_opcode, first, is_single, is_range, is_folded_range, is_set_category, is_charset, is_big_charset, is_negate}
+use Rattle.sre_model.proofs.SetItems.{set_item_opcode, first, is_single, is_range, is_folded_range, is_set_category}
+use Rattle.sre_model.proofs.SetItems.{is_charset, is_big_charset, is_negate}
 use Rattle.sre_model.proofs.Places.{set_within}
 
 pub single_item : (ws : List ℕ) (i : ℕ) → Opcode ws i opcode.LITERAL → i + 1 < length ws → SetItemExactly ws i (i + 2)

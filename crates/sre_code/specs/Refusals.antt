@@ -2,7 +2,9 @@
 -- Public clauses rest on it.
 use Rattle.std.specs.Prelude.{ℕ}
 use Rattle.sre_code.specs.declared.code.error.CodeError.{CodeError}
-use Rattle.sre_code.specs.declared.code.error.CodeError.TheVariants.{Memory, Truncated, UnknownOpcode, UnknownAt, UnknownCategory, BadSkip, BadCounts, BadItem, BadSet, BadInfo, TrailingWords}
+use Rattle.sre_code.specs.declared.code.error.CodeError.TheVariants.{Memory, Truncated, UnknownOpcode, UnknownAt}
+use Rattle.sre_code.specs.declared.code.error.CodeError.TheVariants.{UnknownCategory, BadSkip, BadCounts, BadItem}
+use Rattle.sre_code.specs.declared.code.error.CodeError.TheVariants.{BadSet, BadInfo, TrailingWords}
 
 -- the number of a refusal
 abbrev pub refusal_number : CodeError → ℕ

@@ -3,7 +3,8 @@
 use Rattle.std.specs.Prelude.{ℕ, ◌+◌, ◌*◌, ◌≡◌, ◌<◌, ◌≤◌, ◌⊎◌, min, List, length, Option, Some, None, Result, Ok, Err}
 use Rattle.sre_chars.specs.declared.constants.SreOpcode.TheVariants as opcode
 use Rattle.sre_model.specs.Tree.{Tree, Empty, Item, Trees, Order, RunKind, Sign}
-use Rattle.sre_model.specs.Grammar.{Word, Opcode, run_opcode, until_opcode, look_opcode, JumpsTo, Reads, ReadsItem, ReadsBranch}
+use Rattle.sre_model.specs.Grammar.{Word, Opcode, run_opcode, until_opcode, look_opcode, JumpsTo, Reads, ReadsItem}
+use Rattle.sre_model.specs.Grammar.{ReadsBranch}
 use Rattle.sre_model.specs.Width.{held, width, item_width, least_width}
 use Rattle.sre_code.specs.Reading.{Within}
 use Rattle.sre_code.specs.declared.code.error.CodeError.{CodeError}

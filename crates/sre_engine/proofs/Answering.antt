@@ -1,6 +1,7 @@
 -- The first accepted outcome of a run is the match.
 use Rattle.std.specs.Prelude.{⊤}
-use Rattle.std.proofs.Common.{[], ◌≡◌, ◌≤◌, ◌<◌, ◌+◌, ℕ, Bool, true, false, nat_eq, arith, Option, Some, None, refl, sym, ap, ◌∙◌, subst}
+use Rattle.std.proofs.Common.{[], ◌≡◌, ◌≤◌, ◌<◌, ◌+◌, ℕ, Bool, true, false, nat_eq, arith, Option, Some, None, refl}
+use Rattle.std.proofs.Common.{sym, ap, ◌∙◌, subst}
 use Rattle.std.proofs.lemmas.Bool.Decides.{nat_tests}
 use Rattle.sre_chars.specs.declared.string.StringCursor.{StringCursor}
 use Rattle.sre_model.specs.Tree.{Tree}

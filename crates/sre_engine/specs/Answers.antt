@@ -42,4 +42,6 @@ AnswersAnywhere m b s = Answers (λ c p. ⊤) m b s
 -- of equal characters, tables, windows and flags the same match or none;
 -- c and u are its answer and what a state then shows
 pub record AnswersAlike (model : Asked → Option Match) (asked : Asked) (b : Bool) (s : Shown) : Type 0 where
-  pub alike : (other : Asked) (c : Bool) (u : Shown) → other ≡ asked → AnswersAnywhere (model other) c u → given c u ≡ given b s
+  pub alike :
+      (other : Asked) (c : Bool) (u : Shown) → other ≡ asked → AnswersAnywhere (model other) c u →
+      given c u ≡ given b s

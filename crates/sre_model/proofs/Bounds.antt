@@ -1,13 +1,19 @@
 -- Each way ends between its position and the window's end.
-use Rattle.std.proofs.Common.{◌≡◌, ℕ, zero, suc, ◌+◌, ◌-◌, ◌<◌, ◌≤◌, Bool, true, false, cond, ◌&&◌, ◌||◌, nat_le, nat_lt, nat_eq, List, [], ◌∷◌, Option, Some, None, map, refl, arith}
+use Rattle.std.proofs.Common.{◌≡◌, ℕ, zero, suc, ◌+◌, ◌-◌, ◌<◌, ◌≤◌, Bool, true, false, cond, ◌&&◌, ◌||◌, nat_le}
+use Rattle.std.proofs.Common.{nat_lt, nat_eq, List, [], ◌∷◌, Option, Some, None, map, refl, arith}
 use Rattle.std.specs.List.{flat_map, AllByRecursion}
 use Rattle.std.proofs.lemmas.Bool.{leb-true, and_parts}
 use Rattle.std.proofs.lemmas.Bool.Decides.{nat_tests}
-use Rattle.sre_model.specs.Tree.{Tree, Empty, Then, Item, Fail, One, At, Mark, Branch, Loop, Run, PossessiveLoop, Atomic, Look, Reference, Exists, ExistsElse, Trees, Only, Or, Test, Order, Greedy, Lazy, RunKind, GreedyRun, LazyRun, PossessiveRun, Sign, Positive, Negative, Fold}
+use Rattle.sre_model.specs.Tree.{Tree, Empty, Then, Item, Fail, One, At, Mark, Branch, Loop, Run, PossessiveLoop}
+use Rattle.sre_model.specs.Tree.{Atomic, Look, Reference, Exists, ExistsElse, Trees, Only, Or, Test, Order, Greedy}
+use Rattle.sre_model.specs.Tree.{Lazy, RunKind, GreedyRun, LazyRun, PossessiveRun, Sign, Positive, Negative, Fold}
 use Rattle.sre_model.specs.Marks.{Marks, group}
 use Rattle.sre_model.specs.Subject.{Subject, passes, holds_at, same_folded}
-use Rattle.sre_model.specs.Ways.{Way, Body, first, here, unlimited, run_length, most_from, longest_run, rising, falling, counts, run_ways, within, ordered, may_repeat, more, least, possessive_more, look_ways, reference_ways, ways, item_ways, branch_ways}
-use Rattle.sre_model.proofs.Each.{each-append, each-flat_map, each-weaken, each-map, each-first, each-cond, filter-each, each-filter}
+use Rattle.sre_model.specs.Ways.{Way, Body, first, here, unlimited, run_length, most_from, longest_run, rising, falling}
+use Rattle.sre_model.specs.Ways.{counts, run_ways, within, ordered, may_repeat, more, least, possessive_more, look_ways}
+use Rattle.sre_model.specs.Ways.{reference_ways, ways, item_ways, branch_ways}
+use Rattle.sre_model.proofs.Each.{each-append, each-flat_map, each-weaken, each-map, each-first, each-cond, filter-each}
+use Rattle.sre_model.proofs.Each.{each-filter}
 
 -- a way that ends between p and the window's end
 abbrev pub Between : Subject → ℕ → Way → Type 0

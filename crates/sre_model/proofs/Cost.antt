@@ -1,6 +1,7 @@
 -- How many turns the machine takes for a tree, given how many it takes for what follows.
 use Rattle.std.proofs.Common.{ℕ, zero, suc, ◌+◌, ◌-◌, cond, nat_lt, List, [], ◌∷◌, Option, Some, None}
-use Rattle.sre_model.specs.Tree.{Tree, Empty, Then, Item, One, At, Mark, Branch, Loop, Run, GreedyRun, LazyRun, PossessiveRun, PossessiveLoop, Atomic, Look, Sign, Positive, Negative, Trees, Only, Or}
+use Rattle.sre_model.specs.Tree.{Tree, Empty, Then, Item, One, At, Mark, Branch, Loop, Run, GreedyRun, LazyRun}
+use Rattle.sre_model.specs.Tree.{PossessiveRun, PossessiveLoop, Atomic, Look, Sign, Positive, Negative, Trees, Only, Or}
 use Rattle.sre_model.specs.Marks.{Marks, set_mark}
 use Rattle.sre_model.specs.Subject.{Subject, passes, holds_at}
 use Rattle.sre_model.specs.Ways.{Way, Body, longest_run, may_repeat, ways}

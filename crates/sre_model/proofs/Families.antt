@@ -4,8 +4,13 @@ use Rattle.sre_chars.specs.declared.constants.SreOpcode.{SreOpcode}
 use Rattle.sre_chars.specs.declared.constants.SreOpcode.TheVariants as opcode
 use Rattle.sre_chars.specs.declared.constants.SreAtCode.{SreAtCode}
 use Rattle.sre_chars.specs.declared.constants.SreCatCode.{SreCatCode}
-use Rattle.sre_model.specs.Tree.{Tree, Item, Fail, One, At, Mark, Branch, Loop, Run, PossessiveLoop, Atomic, Look, Reference, Exists, ExistsElse, Trees, Test, Any, AnyAll, InCategory, Literal, NotLiteral, In, Order, RunKind, GreedyRun, LazyRun, PossessiveRun, Sign, Positive, Negative, Fold, Plain, Ascii, Locale, Unicode, SetItem}
-use Rattle.sre_model.specs.Roles.{TestKind, OfAny, OfAnyAll, OfCategory, OfLiteral, OfNotLiteral, OfSet, OfNoTest, Role, ToFail, ToTest, ToStand, ToMark, ToBranch, ToRun, ToRepeat, ToRepeatPossessively, ToGroup, ToLook, ToRefer, ToAsk, role}
+use Rattle.sre_model.specs.Tree.{Tree, Item, Fail, One, At, Mark, Branch, Loop, Run, PossessiveLoop, Atomic, Look}
+use Rattle.sre_model.specs.Tree.{Reference, Exists, ExistsElse, Trees, Test, Any, AnyAll, InCategory, Literal}
+use Rattle.sre_model.specs.Tree.{NotLiteral, In, Order, RunKind, GreedyRun, LazyRun, PossessiveRun, Sign, Positive}
+use Rattle.sre_model.specs.Tree.{Negative, Fold, Plain, Ascii, Locale, Unicode, SetItem}
+use Rattle.sre_model.specs.Roles.{TestKind, OfAny, OfAnyAll, OfCategory, OfLiteral, OfNotLiteral, OfSet, OfNoTest, Role}
+use Rattle.sre_model.specs.Roles.{ToFail, ToTest, ToStand, ToMark, ToBranch, ToRun, ToRepeat, ToRepeatPossessively}
+use Rattle.sre_model.specs.Roles.{ToGroup, ToLook, ToRefer, ToAsk, role}
 use Rattle.sre_model.specs.Grammar.{Opcode, test_opcode, item_opcode, ReadsItem, TestOperands}
 use Rattle.sre_model.proofs.Words.{same_opcode}
 

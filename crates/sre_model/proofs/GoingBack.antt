@@ -6,7 +6,8 @@ use Rattle.sre_model.specs.Board.{Else, Keep, choice, BoardValue}
 use Rattle.sre_model.specs.declared.Region.{Region}
 use Rattle.sre_model.specs.declared.Point.TheVariants.{Inside}
 use Rattle.sre_model.specs.declared.Point.{Point}
-use Rattle.sre_model.specs.Machine.{Run, Waits, outermost, otherwise, Goes, Backs, Stands, Later, without_outcome, without_loop}
+use Rattle.sre_model.specs.Machine.{Run, Waits, outermost, otherwise, Goes, Backs, Stands, Later, without_outcome}
+use Rattle.sre_model.specs.Machine.{without_loop}
 use Rattle.sre_model.specs.declared.Next.{Next}
 use Rattle.sre_model.specs.declared.Next.TheVariants as next
 use Rattle.sre_model.proofs.StepsInRegions.{region_back}

@@ -1,5 +1,6 @@
 -- What each item of a set decides, and what is left of the set behind it.
-use Rattle.std.proofs.Common.{ℕ, ◌+◌, ◌*◌, ◌≡◌, ◌≢◌, ◌<◌, Bool, true, false, not, cond, nat_eq, List, [], ◌∷◌, length, slice_range, refl, sym, ◌∙◌, ap, arith}
+use Rattle.std.proofs.Common.{ℕ, ◌+◌, ◌*◌, ◌≡◌, ◌≢◌, ◌<◌, Bool, true, false, not, cond, nat_eq, List, [], ◌∷◌, length}
+use Rattle.std.proofs.Common.{slice_range, refl, sym, ◌∙◌, ap, arith}
 use Rattle.std.specs.List.{flat_map}
 use Rattle.sre_chars.specs.Numbers.{category_number}
 use Rattle.sre_chars.specs.Tables.{Table, is_between}
@@ -13,7 +14,8 @@ use Rattle.sre_model.specs.Grammar.{Word, Opcode, word, bytes_of, BlocksBelow, R
 use Rattle.sre_model.specs.Standing.{HasCategory, SetStands, HasSet, ItemSays, VerdictLeft}
 use Rattle.sre_model.proofs.Words.{same_word, same_opcode, opcode_within, opcode_moved}
 use Rattle.sre_model.proofs.Places.{set_within}
-use Rattle.sre_model.proofs.SetItems.{is_single, is_range, is_folded_range, is_set_category, is_charset, is_big_charset, is_negate, set_item_opcode, first, begins}
+use Rattle.sre_model.proofs.SetItems.{is_single, is_range, is_folded_range, is_set_category, is_charset, is_big_charset}
+use Rattle.sre_model.proofs.SetItems.{is_negate, set_item_opcode, first, begins}
 
 -- an opcode other than FAILURE begins an item
 begun : (ws : List ℕ) (i j : ℕ) (o : SreOpcode) (set : List SetItem) → Opcode ws i o → o ≢ opcode.FAILURE

@@ -13,11 +13,15 @@ use Rattle.sre_model.specs.declared.Frame.{Frame}
 use Rattle.sre_model.specs.declared.Region.{Region}
 use Rattle.sre_model.specs.declared.Point.TheVariants.{Instruction, Alternatives, Shorter, Longer, Inside, Again}
 use Rattle.sre_model.specs.declared.Point.{Point}
-use Rattle.sre_model.specs.Moves.{Spot, spot_at, Move, Stop, End, Go, Split, Enter, TestMove, AtMove, MarkMove, AlternativesMove}
+use Rattle.sre_model.specs.Moves.{Spot, spot_at, Move, Stop, End, Go, Split, Enter, TestMove, AtMove, MarkMove}
+use Rattle.sre_model.specs.Moves.{AlternativesMove}
 use Rattle.sre_model.specs.MovesInRuns.{RunOperands, run_turn, RunMove, LongerMove}
 use Rattle.sre_model.specs.MovesInLoops.{UntilMove, AgainMove}
 use Rattle.sre_model.specs.MovesInRegions.{LookMove}
-use Rattle.sre_model.specs.Machine.{Family, family, Failing, Ending, Testing, Standing, Marking, Branching, Jumping, Running, Repeating, Looping, RepeatingPossessively, Grouping, Looking, Unbuilt, InFamily, Moves, MovesAt, Runs, turns, Comes, stops, ends, goes, splits, enters, Run, Waits, otherwise, kept, Goes, GoesBoth, Later, spot, HasRun, IsAt, Refuses}
+use Rattle.sre_model.specs.Machine.{Family, family, Failing, Ending, Testing, Standing, Marking, Branching, Jumping}
+use Rattle.sre_model.specs.Machine.{Running, Repeating, Looping, RepeatingPossessively, Grouping, Looking, Unbuilt}
+use Rattle.sre_model.specs.Machine.{InFamily, Moves, MovesAt, Runs, turns, Comes, stops, ends, goes, splits, enters}
+use Rattle.sre_model.specs.Machine.{Run, Waits, otherwise, kept, Goes, GoesBoth, Later, spot, HasRun, IsAt, Refuses}
 use Rattle.sre_model.specs.declared.Next.TheVariants as next
 use Rattle.sre_model.proofs.Words.{same_word, same_opcode, same_at}
 use Rattle.sre_model.proofs.Unique.{test_same}

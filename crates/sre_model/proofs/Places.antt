@@ -1,6 +1,9 @@
 -- Where readings end.
 use Rattle.std.proofs.Common.{ℕ, ◌+◌, ◌*◌, ◌-◌, ◌≡◌, ◌<◌, ◌≤◌, List, [], ◌∷◌, refl, subst, arith}
-use Rattle.sre_model.specs.Tree.{Tree, Empty, Then, Item, Fail, One, At, Mark, Branch, Loop, Run, PossessiveLoop, Atomic, Look, Reference, Exists, ExistsElse, Trees, Only, Or, Test, Any, AnyAll, InCategory, Literal, NotLiteral, In, SetItem, Single, Range, RangeUniIgnore, Category, Charset, BigCharset, Negate}
+use Rattle.sre_model.specs.Tree.{Tree, Empty, Then, Item, Fail, One, At, Mark, Branch, Loop, Run, PossessiveLoop}
+use Rattle.sre_model.specs.Tree.{Atomic, Look, Reference, Exists, ExistsElse, Trees, Only, Or, Test, Any, AnyAll}
+use Rattle.sre_model.specs.Tree.{InCategory, Literal, NotLiteral, In, SetItem, Single, Range, RangeUniIgnore, Category}
+use Rattle.sre_model.specs.Tree.{Charset, BigCharset, Negate}
 use Rattle.sre_model.specs.Grammar.{word, skip, Reads, ReadsBranch, ReadsSet, Operands, TestOperands}
 
 pub set_within : (ws : List ℕ) (i j : ℕ) (s : List SetItem) → ReadsSet ws i j s → i ≤ j

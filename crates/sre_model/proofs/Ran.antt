@@ -2,7 +2,8 @@
 use Rattle.std.proofs.Common.{ℕ, suc, ◌+◌, ◌-◌, ◌<◌, ◌≤◌, List, length, refl, sym, arith}
 use Rattle.std.proofs.lemmas.Grind.{flat_map-append}
 use Rattle.sre_chars.specs.declared.constants.SreOpcode.TheVariants as opcode
-use Rattle.sre_model.specs.Tree.{Tree, Atomic, Look, Positive, Negative, Empty, Then, Item, Fail, One, At, Mark, Branch, Run, GreedyRun, Trees, Only, Or, Loop, LazyRun, PossessiveRun, PossessiveLoop}
+use Rattle.sre_model.specs.Tree.{Tree, Atomic, Look, Positive, Negative, Empty, Then, Item, Fail, One, At, Mark, Branch}
+use Rattle.sre_model.specs.Tree.{Run, GreedyRun, Trees, Only, Or, Loop, LazyRun, PossessiveRun, PossessiveLoop}
 use Rattle.sre_model.specs.Marks.{Marks}
 use Rattle.sre_model.specs.Subject.{Subject}
 use Rattle.sre_model.specs.Ways.{Way, Body, ways, item_ways, branch_ways}
@@ -19,7 +20,8 @@ use Rattle.sre_model.proofs.Words.{opcode_within, word_there}
 use Rattle.sre_model.proofs.Places.{reads_within, alternative_long, branch_past}
 use Rattle.sre_model.proofs.Cost.{Costs, cost, item_cost, branch_cost}
 use Rattle.sre_model.proofs.Outcomes.{followed, Follows, Ran, moved, alone}
-use Rattle.sre_model.proofs.RanAtItems.{one-ran, at-ran, mark-ran, alternative-ran, last_alternative, skip_there, jump-ran}
+use Rattle.sre_model.proofs.RanAtItems.{one-ran, at-ran, mark-ran, alternative-ran, last_alternative, skip_there}
+use Rattle.sre_model.proofs.RanAtItems.{jump-ran}
 use Rattle.sre_model.proofs.RanInRuns.{run-ran, lazy-run-ran, longest-run-ran}
 use Rattle.sre_model.proofs.RanInLoops.{loop-ran}
 use Rattle.sre_model.proofs.RanInPossessiveLoops.{possessive-ran}

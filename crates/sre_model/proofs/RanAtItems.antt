@@ -1,15 +1,18 @@
 -- The words of an item without a part, and of an alternative, have its ways.
-use Rattle.std.proofs.Common.{◌≡◌, ℕ, suc, ◌+◌, ◌<◌, ◌≤◌, Bool, true, false, cond, nat_lt, nat_eq, List, [], ◌++◌, length, refl, subst, arith}
+use Rattle.std.proofs.Common.{◌≡◌, ℕ, suc, ◌+◌, ◌<◌, ◌≤◌, Bool, true, false, cond, nat_lt, nat_eq, List, [], ◌++◌}
+use Rattle.std.proofs.Common.{length, refl, subst, arith}
 use Rattle.std.proofs.lemmas.List.{append-nil}
 use Rattle.std.proofs.lemmas.Bool.Decides.{nat_tests}
 use Rattle.sre_chars.specs.Numbers.{at_number}
 use Rattle.sre_chars.specs.declared.constants.SreAtCode.{SreAtCode}
 use Rattle.sre_chars.specs.declared.constants.SreOpcode.TheVariants as opcode
-use Rattle.sre_model.specs.Tree.{One, At, Mark, Test, Any, AnyAll, InCategory, Literal, NotLiteral, In, Fold, Plain, Ascii, Locale, Unicode}
+use Rattle.sre_model.specs.Tree.{One, At, Mark, Test, Any, AnyAll, InCategory, Literal, NotLiteral, In, Fold, Plain}
+use Rattle.sre_model.specs.Tree.{Ascii, Locale, Unicode}
 use Rattle.sre_model.specs.Marks.{Marks, set_mark}
 use Rattle.sre_model.specs.Subject.{Subject, passes, holds_at}
 use Rattle.sre_model.specs.Ways.{Way, Body, here, item_ways}
-use Rattle.sre_model.specs.Grammar.{Word, Opcode, skip, JumpsTo, literal_opcode, not_literal_opcode, set_opcode, test_opcode, TestOperands}
+use Rattle.sre_model.specs.Grammar.{Word, Opcode, skip, JumpsTo, literal_opcode, not_literal_opcode, set_opcode}
+use Rattle.sre_model.specs.Grammar.{test_opcode, TestOperands}
 use Rattle.sre_model.specs.declared.Frame.{Frame}
 use Rattle.sre_model.specs.declared.Point.TheVariants.{Instruction, Alternatives}
 use Rattle.sre_model.specs.Standing.{TestStands}

@@ -1,12 +1,14 @@
 -- The words of a possessive loop have its ways.
-use Rattle.std.proofs.Common.{◌≡◌, ℕ, zero, suc, ◌+◌, ◌-◌, ◌≤◌, Bool, true, false, cond, nat_lt, min, Option, Some, None, List, [], ◌∷◌, inl, inr, refl, sym, ap, ◌∙◌, subst, arith}
+use Rattle.std.proofs.Common.{◌≡◌, ℕ, zero, suc, ◌+◌, ◌-◌, ◌≤◌, Bool, true, false, cond, nat_lt, min, Option, Some}
+use Rattle.std.proofs.Common.{None, List, [], ◌∷◌, inl, inr, refl, sym, ap, ◌∙◌, subst, arith}
 use Rattle.std.specs.List.{flat_map}
 use Rattle.std.proofs.lemmas.List.{append-nil}
 use Rattle.std.proofs.lemmas.Bool.Decides.{nat_tests}
 use Rattle.sre_chars.specs.declared.constants.SreOpcode.TheVariants as opcode
 use Rattle.sre_model.specs.Marks.{Marks}
 use Rattle.sre_model.specs.Subject.{Subject}
-use Rattle.sre_model.specs.Ways.{Way, Body, here, first, unlimited, within, may_repeat, least, possessive_more, possessive_ways}
+use Rattle.sre_model.specs.Ways.{Way, Body, here, first, unlimited, within, may_repeat, least, possessive_more}
+use Rattle.sre_model.specs.Ways.{possessive_ways}
 use Rattle.sre_model.specs.Loops.{first_of_body, or_here}
 use Rattle.sre_model.specs.Grammar.{Word, Opcode, skip}
 use Rattle.sre_model.specs.declared.Frame.{Frame}

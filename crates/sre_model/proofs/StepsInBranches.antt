@@ -12,7 +12,8 @@ use Rattle.sre_model.specs.Moves.{Spot, spot_at, Stop, Go, Split, to_point}
 use Rattle.sre_model.specs.Machine.{Branching, Moves, Runs, turns, Run, Goes, GoesBoth, Later, spot, HasRun}
 use Rattle.sre_model.specs.declared.Next.TheVariants as next
 use Rattle.sre_model.proofs.Words.{word_within}
-use Rattle.sre_model.proofs.Moving.{at_instruction, has_run, run_goes, run_splits, turn_stops, turn_goes, turn_splits, both_last}
+use Rattle.sre_model.proofs.Moving.{at_instruction, has_run, run_goes, run_splits, turn_stops, turn_goes, turn_splits}
+use Rattle.sre_model.proofs.Moving.{both_last}
 
 pub positive : (n : ℕ) → (n ≡ 0 → ⊥) → 0 < n
 positive zero no_ = absurd (no_ refl)

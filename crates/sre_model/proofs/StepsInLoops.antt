@@ -1,5 +1,6 @@
 -- Turns at a loop: its REPEAT, and the MAX_UNTIL or MIN_UNTIL that ends a body.
-use Rattle.std.proofs.Common.{◌≡◌, ℕ, ◌+◌, ◌<◌, ◌≤◌, true, false, nat_lt, List, ◌∷◌, length, drop, Some, refl, sym, ◌∙◌, subst, arith}
+use Rattle.std.proofs.Common.{◌≡◌, ℕ, ◌+◌, ◌<◌, ◌≤◌, true, false, nat_lt, List, ◌∷◌, length, drop, Some, refl, sym, ◌∙◌}
+use Rattle.std.proofs.Common.{subst, arith}
 use Rattle.std.proofs.lemmas.Bool.Decides.{nat_tests}
 use Rattle.sre_chars.specs.declared.constants.SreOpcode.TheVariants as opcode
 use Rattle.sre_chars.specs.declared.string.StringCursor.{StringCursor}
@@ -14,7 +15,8 @@ use Rattle.sre_model.specs.MovesInLoops.{first_frame, next_frame, at_body, behin
 use Rattle.sre_model.specs.Machine.{family, Repeating, Looping, Moves, Run, Goes, Later, spot, HasRun, IsAt, Refuses}
 use Rattle.sre_model.specs.declared.Next.TheVariants as next
 use Rattle.sre_model.proofs.Words.{word_of, word_within}
-use Rattle.sre_model.proofs.Moving.{in_family, at_instruction, has_run, run_splits, turn_goes, turn_splits, both_wait, both_first, both_second}
+use Rattle.sre_model.proofs.Moving.{in_family, at_instruction, has_run, run_splits, turn_goes, turn_splits, both_wait}
+use Rattle.sre_model.proofs.Moving.{both_first, both_second}
 
 -- REPEAT
 pub repeat_operand : (r : Run) (i : ℕ) (c : StringCursor) → Opcode r.words i opcode.REPEAT → HasRun r (Instruction i) c

@@ -1,5 +1,6 @@
 -- Turns at a region: ATOMIC_GROUP, the looks, and the end of a body.
-use Rattle.std.proofs.Common.{◌≡◌, ℕ, ◌+◌, ◌-◌, ◌<◌, ◌≤◌, true, false, nat_lt, List, [], ◌∷◌, length, drop, refl, sym, subst, arith}
+use Rattle.std.proofs.Common.{◌≡◌, ℕ, ◌+◌, ◌-◌, ◌<◌, ◌≤◌, true, false, nat_lt, List, [], ◌∷◌, length, drop, refl, sym}
+use Rattle.std.proofs.Common.{subst, arith}
 use Rattle.std.proofs.lemmas.Bool.Decides.{nat_tests}
 use Rattle.sre_chars.specs.declared.constants.SreOpcode.TheVariants as opcode
 use Rattle.sre_chars.specs.declared.string.StringCursor.{StringCursor}
@@ -15,7 +16,8 @@ use Rattle.sre_model.specs.declared.Point.{Point}
 use Rattle.sre_model.specs.declared.Frame.{Frame}
 use Rattle.sre_model.specs.Moves.{Spot, spot_at, Stop, Go, Enter, closed}
 use Rattle.sre_model.specs.MovesInRegions.{look}
-use Rattle.sre_model.specs.Machine.{family, Grouping, Looking, Moves, Runs, Comes, stops, goes, Run, Waits, kept, Goes, Ends, Later, spot, HasRun, after_outcome, without_outcome, without_loop}
+use Rattle.sre_model.specs.Machine.{family, Grouping, Looking, Moves, Runs, Comes, stops, goes, Run, Waits, kept, Goes}
+use Rattle.sre_model.specs.Machine.{Ends, Later, spot, HasRun, after_outcome, without_outcome, without_loop}
 use Rattle.sre_model.specs.declared.Next.TheVariants as next
 use Rattle.sre_model.proofs.Words.{word_of, word_within}
 use Rattle.sre_model.proofs.Moving.{in_family, at_instruction, turn_stops, turn_goes, turn_enters, cut_waits}

@@ -1,5 +1,6 @@
 -- Turns at a run of one test, and at its shorter counts.
-use Rattle.std.proofs.Common.{◌≡◌, ℕ, suc, ◌+◌, ◌-◌, ◌<◌, ◌≤◌, Bool, true, false, ◌&&◌, ◌||◌, nat_eq, nat_lt, List, length, refl, sym, arith}
+use Rattle.std.proofs.Common.{◌≡◌, ℕ, suc, ◌+◌, ◌-◌, ◌<◌, ◌≤◌, Bool, true, false, ◌&&◌, ◌||◌, nat_eq, nat_lt, List}
+use Rattle.std.proofs.Common.{length, refl, sym, arith}
 use Rattle.std.proofs.lemmas.Bool.Decides.{nat_tests}
 use Rattle.sre_chars.specs.declared.constants.SreOpcode.TheVariants as opcode
 use Rattle.sre_chars.specs.declared.string.StringCursor.{StringCursor}
@@ -20,7 +21,8 @@ use Rattle.sre_model.specs.declared.Next.TheVariants as next
 use Rattle.sre_model.proofs.Words.{word_of, word_there, opcode_within}
 use Rattle.sre_model.proofs.Passing.{past_end, read_passes}
 use Rattle.sre_model.proofs.Longest.{goes_on, run_at_most, run_inside}
-use Rattle.sre_model.proofs.Moving.{in_family, at_instruction, has_run, run_splits, turn_stops, turn_splits, both_last, turn_goes}
+use Rattle.sre_model.proofs.Moving.{in_family, at_instruction, has_run, run_splits, turn_stops, turn_splits, both_last}
+use Rattle.sre_model.proofs.Moving.{turn_goes}
 
 -- shorter counts
 shorter_stop : (r : Run) (t k p : ℕ) (fs : List Frame) (m : Marks) → k ≡ 0

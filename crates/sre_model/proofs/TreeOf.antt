@@ -1,5 +1,7 @@
 -- The tree of words, by a function: a run of the machine is measured by it.
-use Rattle.std.proofs.Common.{◌≡◌, ℕ, zero, suc, ◌+◌, ◌*◌, ◌-◌, ◌<◌, ◌≤◌, ◌⊎◌, inl, inr, Bool, true, false, nat_lt, nat_eq, List, [], ◌∷◌, length, Option, None, Some, slice_index_or, slice_range, flat_map, refl, ap, ◌∙◌, arith}
+use Rattle.std.proofs.Common.{◌≡◌, ℕ, zero, suc, ◌+◌, ◌*◌, ◌-◌, ◌<◌, ◌≤◌, ◌⊎◌, inl, inr, Bool, true, false, nat_lt}
+use Rattle.std.proofs.Common.{nat_eq, List, [], ◌∷◌, length, Option, None, Some, slice_index_or, slice_range, flat_map}
+use Rattle.std.proofs.Common.{refl, ap, ◌∙◌, arith}
 use Rattle.std.proofs.lemmas.Bool.Decides.{nat_tests}
 use Rattle.sre_chars.specs.Numbers.{opcode_number, at_number, category_number}
 use Rattle.sre_chars.specs.declared.constants.SreOpcode.{SreOpcode}
@@ -8,9 +10,15 @@ use Rattle.sre_chars.specs.declared.constants.SreAtCode.{SreAtCode}
 use Rattle.sre_chars.specs.declared.constants.SreAtCode.TheVariants as at
 use Rattle.sre_chars.specs.declared.constants.SreCatCode.{SreCatCode}
 use Rattle.sre_chars.specs.declared.constants.SreCatCode.TheVariants as category
-use Rattle.sre_model.specs.Tree.{Tree, Empty, Then, Item, Fail, One, At, Mark, Branch, Loop, Run, PossessiveLoop, Atomic, Look, Reference, Exists, ExistsElse, Trees, Only, Or, Test, Any, AnyAll, InCategory, Literal, NotLiteral, In, Order, Greedy, Lazy, RunKind, GreedyRun, LazyRun, PossessiveRun, Sign, Positive, Negative, Fold, Plain, Ascii, Locale, Unicode, SetItem, Single, Range, RangeUniIgnore, Category, Charset, BigCharset, Negate}
-use Rattle.sre_model.specs.Grammar.{Word, word, Opcode, skip, bytes_of, test_opcode, item_opcode, until_opcode, ReadsSet, TestOperands, Reads, Operands, ReadsBranch, Whole}
-use Rattle.sre_model.proofs.Words.{word_of, opcodes, opcode_back, opcode_within, at_codes, at_back, categories, category_back}
+use Rattle.sre_model.specs.Tree.{Tree, Empty, Then, Item, Fail, One, At, Mark, Branch, Loop, Run, PossessiveLoop}
+use Rattle.sre_model.specs.Tree.{Atomic, Look, Reference, Exists, ExistsElse, Trees, Only, Or, Test, Any, AnyAll}
+use Rattle.sre_model.specs.Tree.{InCategory, Literal, NotLiteral, In, Order, Greedy, Lazy, RunKind, GreedyRun, LazyRun}
+use Rattle.sre_model.specs.Tree.{PossessiveRun, Sign, Positive, Negative, Fold, Plain, Ascii, Locale, Unicode, SetItem}
+use Rattle.sre_model.specs.Tree.{Single, Range, RangeUniIgnore, Category, Charset, BigCharset, Negate}
+use Rattle.sre_model.specs.Grammar.{Word, word, Opcode, skip, bytes_of, test_opcode, item_opcode, until_opcode}
+use Rattle.sre_model.specs.Grammar.{ReadsSet, TestOperands, Reads, Operands, ReadsBranch, Whole}
+use Rattle.sre_model.proofs.Words.{word_of, opcodes, opcode_back, opcode_within, at_codes, at_back, categories}
+use Rattle.sre_model.proofs.Words.{category_back}
 use Rattle.sre_model.proofs.Places.{reads_within, operands_past, branch_past, set_within, alternative_long}
 
 -- The codes of words

@@ -1,12 +1,22 @@
 -- The grammar relates at most one tree to a word list.
-use Rattle.std.proofs.Common.{ℕ, ◌+◌, ◌*◌, ◌-◌, ◌≡◌, ◌<◌, List, [], ◌∷◌, length, ⊎_elim, refl, sym, ◌∙◌, ap, subst, arith}
+use Rattle.std.proofs.Common.{ℕ, ◌+◌, ◌*◌, ◌-◌, ◌≡◌, ◌<◌, List, [], ◌∷◌, length, ⊎_elim, refl, sym, ◌∙◌, ap, subst}
+use Rattle.std.proofs.Common.{arith}
 use Rattle.sre_chars.specs.declared.constants.SreOpcode.{SreOpcode}
 use Rattle.sre_chars.specs.declared.constants.SreOpcode.TheVariants as opcode
-use Rattle.sre_model.specs.Tree.{Tree, Empty, Then, Item, Fail, One, At, Mark, Branch, Loop, Run, PossessiveLoop, Atomic, Look, Reference, Exists, ExistsElse, Trees, Only, Or, Test, Any, AnyAll, InCategory, Literal, NotLiteral, In, Order, Greedy, Lazy, RunKind, GreedyRun, LazyRun, PossessiveRun, Sign, Positive, Negative, Fold, Plain, Ascii, Locale, Unicode, SetItem, Single, Range, RangeUniIgnore, Category, Charset, BigCharset, Negate}
-use Rattle.sre_model.specs.Grammar.{word, skip, Opcode, test_opcode, literal_opcode, not_literal_opcode, set_opcode, reference_opcode, run_opcode, look_opcode, until_opcode, Reads, ReadsItem, ReadsBranch, TestOperands, ReadsSet, Whole}
+use Rattle.sre_model.specs.Tree.{Tree, Empty, Then, Item, Fail, One, At, Mark, Branch, Loop, Run, PossessiveLoop}
+use Rattle.sre_model.specs.Tree.{Atomic, Look, Reference, Exists, ExistsElse, Trees, Only, Or, Test, Any, AnyAll}
+use Rattle.sre_model.specs.Tree.{InCategory, Literal, NotLiteral, In, Order, Greedy, Lazy, RunKind, GreedyRun, LazyRun}
+use Rattle.sre_model.specs.Tree.{PossessiveRun, Sign, Positive, Negative, Fold, Plain, Ascii, Locale, Unicode, SetItem}
+use Rattle.sre_model.specs.Tree.{Single, Range, RangeUniIgnore, Category, Charset, BigCharset, Negate}
+use Rattle.sre_model.specs.Grammar.{word, skip, Opcode, test_opcode, literal_opcode, not_literal_opcode, set_opcode}
+use Rattle.sre_model.specs.Grammar.{reference_opcode, run_opcode, look_opcode, until_opcode, Reads, ReadsItem}
+use Rattle.sre_model.specs.Grammar.{ReadsBranch, TestOperands, ReadsSet, Whole}
 use Rattle.sre_model.proofs.Words.{same_word, same_opcode, same_at, same_category, word_of}
-use Rattle.sre_model.proofs.Families.{test_here, is_any, is_any_all, is_category, is_literal, is_not_literal, is_set, item_here, is_fail, is_one, is_at, is_mark, is_branch, is_loop, is_run, is_possessive, is_atomic, is_look, is_reference, is_exists, no_item}
-use Rattle.sre_model.proofs.SetItems.{is_single, is_range, is_folded_range, is_set_category, is_charset, is_big_charset, is_negate}
+use Rattle.sre_model.proofs.Families.{test_here, is_any, is_any_all, is_category, is_literal, is_not_literal, is_set}
+use Rattle.sre_model.proofs.Families.{item_here, is_fail, is_one, is_at, is_mark, is_branch, is_loop, is_run}
+use Rattle.sre_model.proofs.Families.{is_possessive, is_atomic, is_look, is_reference, is_exists, no_item}
+use Rattle.sre_model.proofs.SetItems.{is_single, is_range, is_folded_range, is_set_category, is_charset, is_big_charset}
+use Rattle.sre_model.proofs.SetItems.{is_negate}
 use Rattle.sre_model.proofs.Places.{set_within, reads_within, operands_past, alternative_long, reads_moved, set_moved}
 
 -- what opcodes tell

@@ -1,10 +1,12 @@
 -- Which characters a test or a set takes.
 -- Of the meaning: what sre_engine makes public rests on it.
-use Rattle.std.specs.Prelude.{ℕ, ◌+◌, ◌*◌, ◌/◌, ◌%◌, ◌^◌, Bool, true, false, not, ◌&&◌, ◌||◌, cond, List, [], ◌∷◌, nat_eq, nat_lt, slice_index}
+use Rattle.std.specs.Prelude.{ℕ, ◌+◌, ◌*◌, ◌/◌, ◌%◌, ◌^◌, Bool, true, false, not, ◌&&◌, ◌||◌, cond, List, [], ◌∷◌}
+use Rattle.std.specs.Prelude.{nat_eq, nat_lt, slice_index}
 use Rattle.sre_chars.specs.Tables.{Table, is_between, lower_ascii, upper_ascii, lower_of, upper_of}
 use Rattle.sre_chars.specs.Categories.{category, is_linebreak}
 use Rattle.sre_chars.specs.Numbers.{category_number}
-use Rattle.sre_model.specs.Tree.{Fold, Plain, Ascii, Locale, Unicode, SetItem, Single, Range, RangeUniIgnore, Category, Charset, BigCharset, Negate, Test, Any, AnyAll, InCategory, Literal, NotLiteral, In}
+use Rattle.sre_model.specs.Tree.{Fold, Plain, Ascii, Locale, Unicode, SetItem, Single, Range, RangeUniIgnore, Category}
+use Rattle.sre_model.specs.Tree.{Charset, BigCharset, Negate, Test, Any, AnyAll, InCategory, Literal, NotLiteral, In}
 
 -- whether bit k of a list of words is set, the least significant of the first word being bit 0
 abbrev pub bit_of : List ℕ → ℕ → Bool

@@ -1,6 +1,7 @@
 -- What is asked of a code on a text, and the match that is found.
 -- Of the meaning: what sre_engine makes public rests on it.
-use Rattle.std.specs.Prelude.{◌+◌, ◌-◌, ◌*◌, ℕ, zero, suc, List, [], ◌∷◌, Bool, not, ◌&&◌, ◌||◌, cond, nat_eq, Option, Some, None}
+use Rattle.std.specs.Prelude.{◌+◌, ◌-◌, ◌*◌, ℕ, zero, suc, List, [], ◌∷◌, Bool, not, ◌&&◌, ◌||◌, cond, nat_eq, Option}
+use Rattle.std.specs.Prelude.{Some, None}
 use Rattle.sre_chars.specs.Tables.{Table}
 use Rattle.sre_model.specs.Tree.{Tree}
 use Rattle.sre_model.specs.Marks.{Marks, no_marks}

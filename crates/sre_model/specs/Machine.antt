@@ -5,7 +5,8 @@ use Rattle.std.specs.List.{filter}
 use Rattle.sre_chars.specs.declared.constants.SreOpcode.{SreOpcode}
 use Rattle.sre_chars.specs.declared.string.StringCursor.{StringCursor}
 use Rattle.sre_model.specs.Tree.{Tree, Order, RunKind, Sign}
-use Rattle.sre_model.specs.Roles.{Role, ToFail, ToEnd, ToTest, ToStand, ToMark, ToBranch, ToJump, ToRun, ToRepeat, ToLoop, ToRepeatPossessively, ToGroup, ToLook, role}
+use Rattle.sre_model.specs.Roles.{Role, ToFail, ToEnd, ToTest, ToStand, ToMark, ToBranch, ToJump, ToRun, ToRepeat}
+use Rattle.sre_model.specs.Roles.{ToLoop, ToRepeatPossessively, ToGroup, ToLook, role}
 use Rattle.sre_model.specs.Marks.{Marks, no_marks}
 use Rattle.sre_model.specs.Subject.{Subject}
 use Rattle.sre_model.specs.Ways.{Way, here, ways}
@@ -16,7 +17,8 @@ use Rattle.sre_model.specs.declared.Region.TheVariants.{AtomicGroup, Ahead, NotA
 use Rattle.sre_model.specs.declared.Region.{Region}
 use Rattle.sre_model.specs.declared.Point.TheVariants.{Instruction, Alternatives, Shorter, Longer, Inside, Again}
 use Rattle.sre_model.specs.declared.Point.{Point}
-use Rattle.sre_model.specs.Moves.{Spot, spot_at, Move, Stop, End, Go, Split, Enter, closed, to_point, TestMove, AtMove, MarkMove, JumpMove, AlternativesMove}
+use Rattle.sre_model.specs.Moves.{Spot, spot_at, Move, Stop, End, Go, Split, Enter, closed, to_point, TestMove, AtMove}
+use Rattle.sre_model.specs.Moves.{MarkMove, JumpMove, AlternativesMove}
 use Rattle.sre_model.specs.MovesInRuns.{RunMove, ShorterMove, LongerMove}
 use Rattle.sre_model.specs.MovesInLoops.{first_frame, RepeatMove, UntilMove, AgainMove}
 use Rattle.sre_model.specs.MovesInRegions.{AtomicMove, LookMove}

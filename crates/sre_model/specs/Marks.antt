@@ -1,6 +1,7 @@
 -- Marks: the positions that a way has set, and the last group's index.
 -- Of the meaning: what sre_engine makes public rests on it.
-use Rattle.std.specs.Prelude.{ℕ, zero, suc, ◌+◌, ◌-◌, ◌*◌, ◌/◌, ◌%◌, List, [], ◌++◌, length, Option, Some, None, replicate, cond, nat_eq, nat_le, slice_set, slice_index_or, ℤ, pos, negsuc}
+use Rattle.std.specs.Prelude.{ℕ, zero, suc, ◌+◌, ◌-◌, ◌*◌, ◌/◌, ◌%◌, List, [], ◌++◌, length, Option, Some, None}
+use Rattle.std.specs.Prelude.{replicate, cond, nat_eq, nat_le, slice_set, slice_index_or, ℤ, pos, negsuc}
 
 -- the position of each mark, and the last index, which is -1 where there is none
 pub record Marks : Type 0 where

@@ -2,7 +2,8 @@
 -- For the machine and the proofs; what sre_engine makes public does not rest on it.
 use Rattle.sre_chars.specs.declared.constants.SreOpcode.{SreOpcode}
 use Rattle.sre_chars.specs.declared.constants.SreOpcode.TheVariants as opcode
-use Rattle.sre_model.specs.Tree.{Order, Greedy, Lazy, RunKind, GreedyRun, LazyRun, PossessiveRun, Sign, Positive, Negative}
+use Rattle.sre_model.specs.Tree.{Order, Greedy, Lazy, RunKind, GreedyRun, LazyRun, PossessiveRun, Sign, Positive}
+use Rattle.sre_model.specs.Tree.{Negative}
 
 -- the kinds of tests
 pub data TestKind : Type 0 where

@@ -1,8 +1,12 @@
 -- Worked rows, by computation: matches and searches.
 use Rattle.std.specs.Prelude.{ℕ, ◌-◌, refl, ◌≡◌, true, [], ◌∷◌, ◌++◌, codes, replicate, Some, None, pos, negsuc}
-use Rattle.sre_chars.specs.declared.constants.SreAtCode.TheVariants.{BEGINNING, BEGINNING_LINE, BOUNDARY, NON_BOUNDARY, END, END_LINE, END_STRING}
+use Rattle.sre_chars.specs.declared.constants.SreAtCode.TheVariants.{BEGINNING, BEGINNING_LINE, BOUNDARY, NON_BOUNDARY}
+use Rattle.sre_chars.specs.declared.constants.SreAtCode.TheVariants.{END, END_LINE, END_STRING}
 use Rattle.sre_chars.specs.declared.constants.SreCatCode.TheVariants.{DIGIT}
-use Rattle.sre_model.specs.Tree.{Tree, Test, Empty, One, At, Mark, Branch, Loop, Run, PossessiveLoop, Atomic, Look, Reference, Exists, ExistsElse, Only, Or, Any, AnyAll, InCategory, Literal, NotLiteral, In, Single, Range, RangeUniIgnore, Charset, BigCharset, Negate, Plain, Ascii, Locale, Unicode, Greedy, Lazy, GreedyRun, LazyRun, PossessiveRun, Positive, Negative}
+use Rattle.sre_model.specs.Tree.{Tree, Test, Empty, One, At, Mark, Branch, Loop, Run, PossessiveLoop, Atomic, Look}
+use Rattle.sre_model.specs.Tree.{Reference, Exists, ExistsElse, Only, Or, Any, AnyAll, InCategory, Literal, NotLiteral}
+use Rattle.sre_model.specs.Tree.{In, Single, Range, RangeUniIgnore, Charset, BigCharset, Negate, Plain, Ascii, Locale}
+use Rattle.sre_model.specs.Tree.{Unicode, Greedy, Lazy, GreedyRun, LazyRun, PossessiveRun, Positive, Negative}
 use Rattle.sre_model.specs.Subject.{Subject}
 use Rattle.sre_model.specs.Ways.{unlimited, run_length, longest_run, may_repeat}
 use Rattle.sre_model.specs.Found.{matched, found}

@@ -1,10 +1,14 @@
 -- What stays fixed while a code is matched, and what is asked of a place in it.
 -- Of the meaning: what sre_engine makes public rests on it.
-use Rattle.std.specs.Prelude.{ℕ, zero, suc, ◌+◌, ◌-◌, Bool, true, not, ◌&&◌, ◌||◌, cond, List, nat_eq, nat_lt, slice_index}
+use Rattle.std.specs.Prelude.{ℕ, zero, suc, ◌+◌, ◌-◌, Bool, true, not, ◌&&◌, ◌||◌, cond, List, nat_eq, nat_lt}
+use Rattle.std.specs.Prelude.{slice_index}
 use Rattle.sre_chars.specs.Tables.{Table}
 use Rattle.sre_chars.specs.Categories.{is_word, is_unicode_word, is_linebreak}
 use Rattle.sre_chars.specs.declared.constants.SreAtCode.{SreAtCode}
-use Rattle.sre_chars.specs.declared.constants.SreAtCode.TheVariants.{BEGINNING, BEGINNING_LINE, BEGINNING_STRING, BOUNDARY, NON_BOUNDARY, END, END_LINE, END_STRING, LOC_BOUNDARY, LOC_NON_BOUNDARY, UNI_BOUNDARY, UNI_NON_BOUNDARY}
+use Rattle.sre_chars.specs.declared.constants.SreAtCode.TheVariants.{BEGINNING, BEGINNING_LINE, BEGINNING_STRING}
+use Rattle.sre_chars.specs.declared.constants.SreAtCode.TheVariants.{BOUNDARY, NON_BOUNDARY, END, END_LINE, END_STRING}
+use Rattle.sre_chars.specs.declared.constants.SreAtCode.TheVariants.{LOC_BOUNDARY, LOC_NON_BOUNDARY, UNI_BOUNDARY}
+use Rattle.sre_chars.specs.declared.constants.SreAtCode.TheVariants.{UNI_NON_BOUNDARY}
 use Rattle.sre_model.specs.Tree.{Test, Fold}
 use Rattle.sre_model.specs.Characters.{holds, folded}
 

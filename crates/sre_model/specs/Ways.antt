@@ -1,8 +1,11 @@
 -- Ways: where a tree can lead from a position under marks, in order.
 -- Of the meaning: what sre_engine makes public rests on it.
-use Rattle.std.specs.Prelude.{ℕ, zero, suc, ◌+◌, ◌-◌, Bool, ◌&&◌, ◌||◌, not, List, [], ◌∷◌, ◌++◌, map, Option, Some, None, cond, nat_lt, nat_le, nat_eq}
+use Rattle.std.specs.Prelude.{ℕ, zero, suc, ◌+◌, ◌-◌, Bool, ◌&&◌, ◌||◌, not, List, [], ◌∷◌, ◌++◌, map, Option, Some}
+use Rattle.std.specs.Prelude.{None, cond, nat_lt, nat_le, nat_eq}
 use Rattle.std.specs.List.{flat_map, filter}
-use Rattle.sre_model.specs.Tree.{Tree, Empty, Then, Item, Fail, One, At, Mark, Branch, Loop, Run, PossessiveLoop, Atomic, Look, Reference, Exists, ExistsElse, Trees, Only, Or, Test, Order, Greedy, Lazy, RunKind, GreedyRun, LazyRun, PossessiveRun, Sign, Positive, Negative, Fold}
+use Rattle.sre_model.specs.Tree.{Tree, Empty, Then, Item, Fail, One, At, Mark, Branch, Loop, Run, PossessiveLoop}
+use Rattle.sre_model.specs.Tree.{Atomic, Look, Reference, Exists, ExistsElse, Trees, Only, Or, Test, Order, Greedy}
+use Rattle.sre_model.specs.Tree.{Lazy, RunKind, GreedyRun, LazyRun, PossessiveRun, Sign, Positive, Negative, Fold}
 use Rattle.sre_model.specs.Marks.{Marks, set_mark, group}
 use Rattle.sre_model.specs.Subject.{Subject, passes, holds_at, same_folded}
 

@@ -3,7 +3,8 @@
 //! A set is items, then FAILURE. The first item that holds for a character decides, and each NEGATE before it turns
 //! the verdict over. Each item's function says what the item decides, and where the next one begins.
 
-ghost use Rattle.std.specs.Prelude.{◌≡◌, ℕ, ◌+◌, ◌*◌, ◌/◌, ◌%◌, ◌^◌, ◌<◌, ◌≤◌, ◌≢◌, List, length, nat_eq, slice_index, slice_range};
+ghost use Rattle.std.specs.Prelude.{◌≡◌, ℕ, ◌+◌, ◌*◌, ◌/◌, ◌%◌, ◌^◌, ◌<◌, ◌≤◌, ◌≢◌, List, length, nat_eq, slice_index};
+ghost use Rattle.std.specs.Prelude.{slice_range};
 ghost use Rattle.std.specs.List.{flat_map};
 ghost use Rattle.sre_chars.specs.Numbers.{category_number};
 ghost use Rattle.sre_chars.specs.Categories.{category};

@@ -11,7 +11,8 @@ ghost use Rattle.sre_model.specs.Grammar.{Word, word, Opcode};
 ghost use Rattle.sre_model.specs.Board.{BoardValue};
 ghost use Rattle.sre_model.specs.declared.Point.TheVariants.{Instruction, Alternatives, Shorter};
 ghost use Rattle.sre_model.specs.declared.Point.{Point};
-ghost use Rattle.sre_model.specs.Machine.{family, Testing, HasRun, IsAt, IsBack, Advances, Chooses, Retreats, Refuses, Skips, SkipsBoth, Stands};
+ghost use Rattle.sre_model.specs.Machine.{family, Testing, HasRun, IsAt, IsBack, Advances, Chooses, Retreats, Refuses};
+ghost use Rattle.sre_model.specs.Machine.{Skips, SkipsBoth, Stands};
 ghost use Rattle.sre_request.specs.Requests.{end_of, run_of};
 
 use crate::engine::lazy_runs::{longer, min_repeat_one};

@@ -2,7 +2,8 @@ use Rattle.std.proofs.Common.{◌<◌, ◌≤◌, ◌+◌, sym, ◌∙◌, arith
 use Rattle.sre_request.specs.Requests.{run_of}
 use Rattle.sre_model.proofs.Passing.{stands_at_own}
 use Rattle.sre_model.proofs.Moving.{both_pass}
-use Rattle.sre_model.proofs.StepsInRuns.{longer_there, longer_past, longer_full, longer_end, longer_unlike, longer_both, longer_runs, longer_passes}
+use Rattle.sre_model.proofs.StepsInRuns.{longer_there, longer_past, longer_full, longer_end, longer_unlike, longer_both}
+use Rattle.sre_model.proofs.StepsInRuns.{longer_runs, longer_passes}
 use Rattle.sre_engine.proofs.engine.lazy_runs.first_longer.Goals as goal
 
 pub operand-greatest-requires : goal.operand-greatest-requires

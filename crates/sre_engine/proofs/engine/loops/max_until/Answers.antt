@@ -2,7 +2,8 @@ use Rattle.std.proofs.Common.{sym, ap, ◌∙◌, Some, arith}
 use Rattle.sre_model.specs.Tree.{Greedy}
 use Rattle.sre_model.specs.MovesInLoops.{next_frame}
 use Rattle.sre_request.specs.Requests.{run_of}
-use Rattle.sre_model.proofs.StepsInLoops.{until_below, until_done, until_runs, until_refused, until_alone, until_greedy, saved_board, entered_board}
+use Rattle.sre_model.proofs.StepsInLoops.{until_below, until_done, until_runs, until_refused, until_alone, until_greedy}
+use Rattle.sre_model.proofs.StepsInLoops.{saved_board, entered_board}
 use Rattle.sre_engine.proofs.engine.loops.max_until.Goals as goal
 
 pub returns-then-frame-least : goal.returns-then-frame-least

@@ -2,7 +2,8 @@ use Rattle.std.proofs.Common.{sym, ap, ◌∙◌, Some, arith}
 use Rattle.sre_model.specs.Tree.{Lazy}
 use Rattle.sre_model.specs.MovesInLoops.{next_frame}
 use Rattle.sre_request.specs.Requests.{run_of}
-use Rattle.sre_model.proofs.StepsInLoops.{until_below, until_done, until_runs, until_refused, until_alone, until_lazy, lazy_board, entered_board}
+use Rattle.sre_model.proofs.StepsInLoops.{until_below, until_done, until_runs, until_refused, until_alone, until_lazy}
+use Rattle.sre_model.proofs.StepsInLoops.{lazy_board, entered_board}
 use Rattle.sre_engine.proofs.engine.loops.min_until.Goals as goal
 
 pub returns-then-frame-least : goal.returns-then-frame-least

@@ -2,7 +2,8 @@ use Rattle.std.proofs.Common.{◌<◌, arith, sym, subst}
 use Rattle.sre_request.specs.Requests.{run_of}
 use Rattle.sre_model.specs.Grammar.{word}
 use Rattle.sre_model.proofs.Words.{word_of}
-use Rattle.sre_model.proofs.StepsInBranches.{alternatives_there, alternatives_none, alternatives_run, alternatives_both, positive}
+use Rattle.sre_model.proofs.StepsInBranches.{alternatives_there, alternatives_none, alternatives_run, alternatives_both}
+use Rattle.sre_model.proofs.StepsInBranches.{positive}
 use Rattle.sre_model.proofs.Moving.{both_pass}
 use Rattle.sre_engine.proofs.engine.machine.first_alternative.Goals as goal
 

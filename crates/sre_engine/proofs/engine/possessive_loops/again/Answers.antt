@@ -1,7 +1,8 @@
 use Rattle.std.proofs.Common.{sym, ap, ◌∙◌, Some, arith}
 use Rattle.sre_model.specs.MovesInLoops.{next_frame}
 use Rattle.sre_request.specs.Requests.{run_of}
-use Rattle.sre_model.proofs.StepsInPossessiveLoops.{InPossessiveLoop, again_done, again_owed, again_further, begun_board}
+use Rattle.sre_model.proofs.StepsInPossessiveLoops.{InPossessiveLoop, again_done, again_owed, again_further}
+use Rattle.sre_model.proofs.StepsInPossessiveLoops.{begun_board}
 use Rattle.sre_engine.proofs.engine.possessive_loops.again.Goals as goal
 
 pub returns-then-frame-least : goal.returns-then-frame-least

@@ -2,7 +2,8 @@ use Rattle.std.proofs.Common.{◌≡◌, ◌≤◌, ◌+◌, true, false, refl, 
 use Rattle.sre_model.specs.Found.{found}
 use Rattle.sre_code.specs.Codes.{words_of, hints_of}
 use Rattle.sre_request.specs.Requests.{end_of, code_of, asked_of, stands_in}
-use Rattle.sre_engine.proofs.Answering.{answers_yes, answers_no, answers_alike, none_at, some_at, span_at, none_further, found_none, found_first}
+use Rattle.sre_engine.proofs.Answering.{answers_yes, answers_no, answers_alike, none_at, some_at, span_at, none_further}
+use Rattle.sre_engine.proofs.Answering.{found_none, found_first}
 use Rattle.sre_code.proofs.Checked.{code_tree}
 use Rattle.sre_engine.proofs.engine.state.State.search.Goals as goal
 
