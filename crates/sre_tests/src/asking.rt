@@ -12,32 +12,40 @@ pub enum Call {
     Search,
 }
 
-/// What the call answers, whose match the state then shows.
+/// Where a match starts and where it ends, in characters, and the offset of its end in bytes.
+pub type Ends = (usize, usize, usize);
+
+/// What the call answers: the match that the state then shows, if there is one.
 pub fn ask<S: StrDrive, A: Allocator + Copy>(
     call: Call,
     req: Request<'_, S>,
     state: &mut State<A>,
-) -> Result<bool, SreError> {
-    match call {
-        Call::Match => state.pymatch(&req),
-        Call::Search => state.search(req),
+) -> Result<Option<Ends>, SreError> {
+    let found = match call {
+        Call::Match => state.pymatch(&req)?,
+        Call::Search => state.search(req)?,
+    };
+    if !found {
+        return Ok(None);
     }
+    let end = state.cursor();
+    Ok(Some((state.start(), end.position(), end.offset())))
 }
 
-/// Where a match in the whole text starts and ends, both in characters, and the offset of its end in bytes.
+/// What the call answers over a whole text, with ample memory.
 pub fn ends<S: StrDrive>(
     alloc: Global,
     uni: &UniTable,
     call: Call,
     words: &[u32],
     text: S,
-) -> Result<Option<(usize, usize, usize)>, Fail> {
+) -> Result<Option<Ends>, Fail> {
     let code = Code::check(alloc, words, uni)?;
     let mut state = State::new(alloc);
-    let req = Request::new(text, 0, usize::MAX, code, false);
-    if !ask(call, req, &mut state)? {
-        return Ok(None);
-    }
-    let end = state.cursor();
-    Ok(Some((state.start(), end.position(), end.offset())))
+    let found = ask(
+        call,
+        Request::new(text, 0, usize::MAX, code, false),
+        &mut state,
+    )?;
+    Ok(found)
 }

@@ -15,8 +15,8 @@ pub fn refusal(alloc: Global, words: &[u32]) -> Option<CodeError> {
     refused
 }
 
-// One character, positions, sets and the end of the words. Words that are cut short stand beside the lawful ones.
-const ITEMS: [(&[u32], CodeError); 27] = [
+// Words that are cut short stand beside the lawful ones.
+const FAULTS: [(&[u32], CodeError); 67] = [
     (&[1, 43], CodeError::TrailingWords(1)),
     (&[43, 1], CodeError::UnknownOpcode(0)),
     (&[16, 97, NO_LIMIT, 1], CodeError::UnknownOpcode(2)),
@@ -46,10 +46,6 @@ const ITEMS: [(&[u32], CodeError); 27] = [
     (&[13, 9, 16, 97, 0, 1], CodeError::Truncated(6)),
     (&[27, 7, 13, 4, 16, 97, 1, 1, 1], CodeError::BadSet(6)),
     (&[23, 5, 0, 1, 6, 12, 18, 1], CodeError::UnknownAt(5)),
-];
-
-// Branches, runs, loops of every kind, atomic groups and looks.
-const PARTS: [(&[u32], CodeError); 40] = [
     // branches: without alternatives, no JUMP, a JUMP elsewhere, two that differ, a length past the words
     (&[7, 0, 1], CodeError::BadItem(1)),
     (&[7, 5, 16, 97, 1, 2, 0, 1], CodeError::BadItem(4)),
@@ -107,24 +103,24 @@ const PARTS: [(&[u32], CodeError); 40] = [
     (&[5, 5, 0, 16, 97, 0, 1], CodeError::BadItem(5)),
 ];
 
+/// A set in blocks: its front words, block numbers of 0 from them on, empty blocks up to a place, and a full block there.
+pub fn set_of_blocks(alloc: Global, front: &[u32], full: usize) -> Result<Vec<u32>, Fail> {
+    let mut words = Vec::from_slice(alloc, front)?;
+    words.resize(full, 0)?;
+    words.resize(full.saturating_add(8), u32::MAX)?;
+    words.extend_from_slice(&[0, 1])?;
+    Ok(words)
+}
+
 #[test]
-fn words_are_refused_by_cause_and_place(rt: HostRuntime) {
-    for (words, error) in ITEMS {
-        assert_eq!(rt; refusal(rt.alloc(), words), Some(error), "{words:?}");
+fn words_are_refused_by_cause_and_place(rt: HostRuntime) -> Result<(), Fail> {
+    for (words, error) in FAULTS {
+        assert!(rt; refusal(rt.alloc(), words) == Some(error), "{words:?}");
     }
-    for (words, error) in PARTS {
-        assert_eq!(rt; refusal(rt.alloc(), words), Some(error), "{words:?}");
-    }
-    // a set of one block, the first block number of which is 1
-    let mut one_block = [0; 78];
-    for (i, word) in [13, 76, 10, 1, 1].iter().enumerate() {
-        one_block[i] = *word;
-    }
-    for i in 68..76 {
-        one_block[i] = u32::MAX;
-    }
-    one_block[77] = 1;
+    // there is one block, and the first block number is 1
+    let one_block = set_of_blocks(rt.alloc(), &[13, 76, 10, 1, 1], 68)?;
     assert_eq!(rt; refusal(rt.alloc(), &one_block), Some(CodeError::BadSet(2)));
+    Ok(())
 }
 
 #[test]

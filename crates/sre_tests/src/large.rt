@@ -1,6 +1,6 @@
 //! Large codes, marks and texts: with ample memory there is no error.
 
-use crate::asking::{Call, ends};
+use crate::asking::{Call, Ends, ends};
 use sre_engine::{Code, Request, State, UniTable};
 use std::alloc::Global;
 use std::test::Fail;

@@ -1,6 +1,6 @@
 //! Words that are accepted, with no error where memory is ample.
 
-use crate::faults::refusal;
+use crate::faults::{refusal, set_of_blocks};
 use sre_engine::code::{CodeError, Hints};
 use sre_engine::string::lower_unicode;
 use sre_engine::{Code, UniTable};
@@ -92,15 +92,7 @@ fn lawful_words_are_accepted(rt: HostRuntime) -> Result<(), Fail> {
     for words in LAWFUL {
         accepted(&rt, rt.alloc(), &uni, words)?;
     }
-    // a set of characters in two blocks: all block numbers but that of the second 256 characters are 0, and the last
-    // block has every character
-    let mut two_blocks = [0; 86];
-    for (i, word) in [13, 84, 10, 2, 256].iter().enumerate() {
-        two_blocks[i] = *word;
-    }
-    for i in 76..84 {
-        two_blocks[i] = u32::MAX;
-    }
-    two_blocks[85] = 1;
+    // the first 256 characters are in the first block, which is empty, the next ones in the second, and so on
+    let two_blocks = set_of_blocks(rt.alloc(), &[13, 84, 10, 2, 256], 76)?;
     accepted(&rt, rt.alloc(), &uni, &two_blocks)
 }

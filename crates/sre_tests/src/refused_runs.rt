@@ -1,10 +1,10 @@
 //! `pymatch` and `search` with each request for memory refused in turn.
 
-use crate::asking::{Call, ask};
+use crate::asking::{Call, Ends, ask};
 use sre_engine::engine::SreError;
-use sre_engine::{Code, Request, State, StrDrive, UniTable};
+use sre_engine::{Code, Request, State, UniTable};
 use sre_refusing::Refusing;
-use std::alloc::{Allocator, Global};
+use std::alloc::Global;
 use std::process::Abort;
 use std::test::Fail;
 
@@ -27,20 +27,8 @@ const REGIONS: &[u32] = &[
     1,
 ];
 
-// Whether two states show the same after two calls with these answers.
-fn same<A: Allocator + Copy, B: Allocator + Copy>(
-    one: &State<A>,
-    answer: bool,
-    other: &State<B>,
-    wanted: bool,
-) -> bool {
-    if answer && (one.start() != other.start() || one.cursor() != other.cursor()) {
-        return false;
-    }
-    answer == wanted
-        && one.marks().raw() == other.marks().raw()
-        && one.marks().last_index() == other.marks().last_index()
-}
+// What a call shows: the match, the marks and the last index.
+type Shown<'a> = (Option<Ends>, &'a [Option<usize>], isize);
 
 // Refuses each request for memory of a call in turn, until it asks for fewer: how many were refused.
 fn refused_in_turn(
@@ -49,26 +37,27 @@ fn refused_in_turn(
     call: Call,
     of_bytes: Request<'_, &[u8]>,
     of_text: Request<'_, &str>,
-    ample: (&State<Global>, bool),
+    (found, marks, last): Shown<'_>,
 ) -> Result<u64, Fail> {
     for refused in 1..40u64 {
         let heap = Refusing::new(alloc, refused);
         let mut state: State<&Refusing<Global>> = State::new(&heap);
         match ask(call, of_bytes, &mut state) {
             Ok(answer) => {
-                assert!(rt; heap.left() > 0 && same(&state, answer, ample.0, ample.1));
+                assert!(rt; heap.left() > 0 && answer == found);
+                assert!(rt; state.marks().raw() == marks && state.marks().last_index() == last);
                 return Ok(refused - 1);
             }
             Err(error) => {
-                assert_eq!(rt; (error, heap.left()), (SreError::Memory, 0));
+                assert!(rt; error == SreError::Memory && heap.left() == 0);
                 assert!(rt; state.marks().raw().is_empty() && state.marks().last_index() == -1);
             }
         }
         // the same state, over a text of another type and over the same one
-        let answer = ask(call, of_text, &mut state)?;
-        assert!(rt; same(&state, answer, ample.0, ample.1));
-        let answer = ask(call, of_bytes, &mut state)?;
-        assert!(rt; same(&state, answer, ample.0, ample.1));
+        assert!(rt; ask(call, of_text, &mut state)? == found);
+        assert!(rt; state.marks().raw() == marks && state.marks().last_index() == last);
+        assert!(rt; ask(call, of_bytes, &mut state)? == found);
+        assert!(rt; state.marks().raw() == marks && state.marks().last_index() == last);
     }
     assert!(rt; false, "the requests have no end");
     Ok(0)
@@ -77,22 +66,26 @@ fn refused_in_turn(
 // Runs a call over text and bytes, with ample memory and then with each request refused: how many were refused.
 fn refusals(
     rt: &impl Abort,
+    alloc: Global,
     code: Code<'_>,
     text: &str,
-    (call, start, found): (Call, usize, bool),
+    (call, start, is_found): (Call, usize, bool),
     (match_all, must_advance): (bool, bool),
-    alloc: Global,
 ) -> Result<u64, Fail> {
     let mut of_bytes = Request::new(text.as_bytes(), start, usize::MAX, code, match_all);
     of_bytes.set_must_advance(must_advance);
     let mut of_text = Request::new(text, start, usize::MAX, code, match_all);
     of_text.set_must_advance(must_advance);
     let mut ample = State::new(alloc);
-    assert!(rt; ask(call, of_bytes, &mut ample)? == found);
-    if found {
-        assert!(rt; (ample.start(), ample.cursor().position()) == (1, text.len()));
-    }
-    refused_in_turn(rt, alloc, call, of_bytes, of_text, (&ample, found))
+    let found = ask(call, of_bytes, &mut ample)?;
+    let wanted = if is_found {
+        Some((1, text.len(), text.len()))
+    } else {
+        None
+    };
+    assert!(rt; found == wanted);
+    let shown = (found, ample.marks().raw(), ample.marks().last_index());
+    refused_in_turn(rt, alloc, call, of_bytes, of_text, shown)
 }
 
 // The calls and starts, and whether they have a match where all of the text matches but its first character
@@ -113,7 +106,7 @@ fn a_run_fails_where_memory_is_refused(rt: HostRuntime) -> Result<(), Fail> {
         let code = Code::check(rt.alloc(), words, &uni)?;
         for call in CALLS {
             for flags in FLAGS {
-                let refused = refusals(&rt, code, text, call, flags, rt.alloc())?;
+                let refused = refusals(&rt, rt.alloc(), code, text, call, flags)?;
                 // the marks, the trail and the choices grow
                 assert!(rt; refused > 2 || !call.2);
             }

@@ -1,6 +1,7 @@
 //! A state that goes from text to text.
 
-use crate::asking::{Call, ask};
+use crate::asking::{Call, Ends, ask};
+use sre_engine::engine::SreError;
 use sre_engine::{Code, Request, State, StrDrive, UniTable};
 use std::alloc::Global;
 use std::test::Fail;
@@ -27,11 +28,7 @@ const BYTES: Text = Text::Bytes(b"ba");
 // in characters and in bytes, the marks and the last index.
 type Step = (
     (Call, &'static [u32], Text, (usize, usize)),
-    (
-        Option<(usize, usize, usize)>,
-        &'static [Option<usize>],
-        isize,
-    ),
+    (Option<Ends>, &'static [Option<usize>], isize),
 );
 
 const STEPS: [Step; 10] = [
@@ -73,42 +70,25 @@ const STEPS: [Step; 10] = [
     ),
 ];
 
-// Where the match starts that a state shows, and where it ends, in characters and in bytes.
-fn shown(state: &State<Global>) -> (usize, usize, usize) {
-    let end = state.cursor();
-    (state.start(), end.position(), end.offset())
-}
-
 // Asks a state, which may have served before.
 fn answer(
     state: &mut State<Global>,
     code: Code<'_>,
     call: Call,
     text: Text,
-    window: (usize, usize),
-) -> Result<Option<(usize, usize, usize)>, Fail> {
-    let found = match text {
-        Text::Characters(text) => {
-            ask(
-                call,
-                Request::new(text, window.0, window.1, code, false),
-                state,
-            )?
-        }
-        Text::Bytes(bytes) => {
-            ask(
-                call,
-                Request::new(bytes, window.0, window.1, code, false),
-                state,
-            )?
-        }
-    };
-    Ok(if found { Some(shown(state)) } else { None })
+    (start, end): (usize, usize),
+) -> Result<Option<Ends>, SreError> {
+    match text {
+        Text::Characters(text) => ask(call, Request::new(text, start, end, code, false), state),
+        Text::Bytes(bytes) => ask(call, Request::new(bytes, start, end, code, false), state),
+    }
 }
 
-// Has a state stand at the end of a request's text.
-fn stand_at_end<S: StrDrive>(state: &mut State<Global>, req: &Request<'_, S>) {
+// Has a state stand at the end of a request's text, and shows where it is.
+fn stand_at_end<S: StrDrive>(state: &mut State<Global>, req: &Request<'_, S>) -> Ends {
     state.reset(req, req.string().count());
+    let cursor = state.cursor();
+    (state.start(), cursor.position(), cursor.offset())
 }
 
 // The window and the flags of a request over three characters, once they were moved and set.
@@ -135,12 +115,12 @@ fn a_state_goes_from_text_to_text(rt: HostRuntime) -> Result<(), Fail> {
     }
     let code = Code::check(rt.alloc(), GROUP, &uni)?;
     assert!(rt; moved_and_set(code) == (1, 3, false, true));
-    stand_at_end(&mut state, &Request::new("é€😀", 0, 0, code, false));
-    assert!(rt; shown(&state) == (3, 3, 9) && state.marks().raw().is_empty());
-    stand_at_end(
+    let ends = stand_at_end(&mut state, &Request::new("é€😀", 0, 0, code, false));
+    assert!(rt; ends == (3, 3, 9) && state.marks().raw().is_empty());
+    let ends = stand_at_end(
         &mut state,
         &Request::new(b"ba".as_slice(), 0, 0, code, false),
     );
-    assert!(rt; shown(&state) == (2, 2, 2));
+    assert!(rt; ends == (2, 2, 2));
     Ok(())
 }
