@@ -15,6 +15,9 @@ pub enum Call {
 /// Where a match starts and where it ends, in characters, and the offset of its end in bytes.
 pub type Ends = (usize, usize, usize);
 
+/// What a state shows after a call: the match, if there is one, the marks and the last index.
+pub type Shown<'a> = (Option<Ends>, &'a [Option<usize>], isize);
+
 /// What the call answers: the match that the state then shows, if there is one.
 pub fn ask<S: StrDrive, A: Allocator + Copy>(
     call: Call,
@@ -30,6 +33,18 @@ pub fn ask<S: StrDrive, A: Allocator + Copy>(
     }
     let end = state.cursor();
     Ok(Some((state.start(), end.position(), end.offset())))
+}
+
+/// Whether the state shows this after the call.
+pub fn shows<S: StrDrive, A: Allocator + Copy>(
+    call: Call,
+    req: Request<'_, S>,
+    state: &mut State<A>,
+    (found, marks, last): Shown<'_>,
+) -> Result<bool, SreError> {
+    let answer = ask(call, req, state)?;
+    let shown = state.marks();
+    Ok(answer == found && shown.raw() == marks && shown.last_index() == last)
 }
 
 /// What the call answers over a whole text, with ample memory.

@@ -1,6 +1,6 @@
 //! `pymatch` and `search` with each request for memory refused in turn.
 
-use crate::asking::{Call, Ends, ask};
+use crate::asking::{Call, Shown, ask, shows};
 use sre_engine::engine::SreError;
 use sre_engine::{Code, Request, State, UniTable};
 use sre_refusing::Refusing;
@@ -27,9 +27,6 @@ const REGIONS: &[u32] = &[
     1,
 ];
 
-// What a call shows: the match, the marks and the last index.
-type Shown<'a> = (Option<Ends>, &'a [Option<usize>], isize);
-
 // Refuses each request for memory of a call in turn, until it asks for fewer: how many were refused.
 fn refused_in_turn(
     rt: &impl Abort,
@@ -37,27 +34,22 @@ fn refused_in_turn(
     call: Call,
     of_bytes: Request<'_, &[u8]>,
     of_text: Request<'_, &str>,
-    (found, marks, last): Shown<'_>,
+    wanted: Shown<'_>,
 ) -> Result<u64, Fail> {
     for refused in 1..40u64 {
         let heap = Refusing::new(alloc, refused);
         let mut state: State<&Refusing<Global>> = State::new(&heap);
-        match ask(call, of_bytes, &mut state) {
-            Ok(answer) => {
-                assert!(rt; heap.left() > 0 && answer == found);
-                assert!(rt; state.marks().raw() == marks && state.marks().last_index() == last);
+        match shows(call, of_bytes, &mut state, wanted) {
+            Ok(same) => {
+                assert!(rt; same && heap.left() > 0);
                 return Ok(refused - 1);
             }
-            Err(error) => {
-                assert!(rt; error == SreError::Memory && heap.left() == 0);
-                assert!(rt; state.marks().raw().is_empty() && state.marks().last_index() == -1);
-            }
+            Err(error) => assert!(rt; error == SreError::Memory && heap.left() == 0),
         }
+        assert!(rt; state.marks().raw().is_empty() && state.marks().last_index() == -1);
         // the same state, over a text of another type and over the same one
-        assert!(rt; ask(call, of_text, &mut state)? == found);
-        assert!(rt; state.marks().raw() == marks && state.marks().last_index() == last);
-        assert!(rt; ask(call, of_bytes, &mut state)? == found);
-        assert!(rt; state.marks().raw() == marks && state.marks().last_index() == last);
+        assert!(rt; shows(call, of_text, &mut state, wanted)?);
+        assert!(rt; shows(call, of_bytes, &mut state, wanted)?);
     }
     assert!(rt; false, "the requests have no end");
     Ok(0)

@@ -1,6 +1,6 @@
 //! A state that goes from text to text.
 
-use crate::asking::{Call, Ends, ask};
+use crate::asking::{Call, Ends, Shown, shows};
 use sre_engine::engine::SreError;
 use sre_engine::{Code, Request, State, StrDrive, UniTable};
 use std::alloc::Global;
@@ -24,12 +24,8 @@ const CHARACTERS: Text = Text::Characters("é€😀");
 
 const BYTES: Text = Text::Bytes(b"ba");
 
-// What is asked: a call, the words, a text and its window. And what is answered: where the match starts, where it ends
-// in characters and in bytes, the marks and the last index.
-type Step = (
-    (Call, &'static [u32], Text, (usize, usize)),
-    (Option<Ends>, &'static [Option<usize>], isize),
-);
+// What is asked, by a call, words, a text and its window, and what the state then shows.
+type Step = ((Call, &'static [u32], Text, (usize, usize)), Shown<'static>);
 
 const STEPS: [Step; 10] = [
     (
@@ -70,18 +66,43 @@ const STEPS: [Step; 10] = [
     ),
 ];
 
-// Asks a state, which may have served before.
-fn answer(
+// Whether a state, which may have served before, shows what a step says.
+fn answers(
     state: &mut State<Global>,
     code: Code<'_>,
     call: Call,
     text: Text,
     (start, end): (usize, usize),
-) -> Result<Option<Ends>, SreError> {
+    shown: Shown<'_>,
+) -> Result<bool, SreError> {
     match text {
-        Text::Characters(text) => ask(call, Request::new(text, start, end, code, false), state),
-        Text::Bytes(bytes) => ask(call, Request::new(bytes, start, end, code, false), state),
+        Text::Characters(text) => {
+            shows(
+                call,
+                Request::new(text, start, end, code, false),
+                state,
+                shown,
+            )
+        }
+        Text::Bytes(bytes) => {
+            shows(
+                call,
+                Request::new(bytes, start, end, code, false),
+                state,
+                shown,
+            )
+        }
     }
+}
+
+// Whether all groups but the first are absent, up to those whose marks have no numbers.
+fn has_one_group(state: &mut State<Global>) -> bool {
+    for group in [1, usize::MAX / 2, usize::MAX] {
+        if state.marks().get(group) != (None, None) {
+            return false;
+        }
+    }
+    state.marks().get(0) != (None, None)
 }
 
 // Has a state stand at the end of a request's text, and shows where it is.
@@ -104,23 +125,19 @@ fn moved_and_set(code: Code<'_>) -> (usize, usize, bool, bool) {
 fn a_state_goes_from_text_to_text(rt: HostRuntime) -> Result<(), Fail> {
     let uni = UniTable::ascii(rt.alloc());
     let mut state = State::new(rt.alloc());
-    for ((call, words, text, window), (ends, marks, last)) in STEPS {
+    for ((call, words, text, window), shown) in STEPS {
         let code = Code::check(rt.alloc(), words, &uni)?;
-        let found = answer(&mut state, code, call, text, window)?;
-        assert!(rt; found == ends, "{words:?} {window:?} {found:?}");
-        assert!(rt; state.marks().raw() == marks && state.marks().last_index() == last);
+        assert!(rt;
+            answers(&mut state, code, call, text, window, shown)?,
+            "{words:?} {window:?}"
+        );
     }
-    for absent in [1, usize::MAX / 2, usize::MAX] {
-        assert!(rt; state.marks().get(absent) == (None, None));
-    }
+    assert!(rt; has_one_group(&mut state));
     let code = Code::check(rt.alloc(), GROUP, &uni)?;
     assert!(rt; moved_and_set(code) == (1, 3, false, true));
-    let ends = stand_at_end(&mut state, &Request::new("é€😀", 0, 0, code, false));
-    assert!(rt; ends == (3, 3, 9) && state.marks().raw().is_empty());
-    let ends = stand_at_end(
-        &mut state,
-        &Request::new(b"ba".as_slice(), 0, 0, code, false),
-    );
-    assert!(rt; ends == (2, 2, 2));
+    let text = Request::new("é€😀", 0, 0, code, false);
+    assert!(rt; stand_at_end(&mut state, &text) == (3, 3, 9));
+    let bytes = Request::new(b"ba".as_slice(), 0, 0, code, false);
+    assert!(rt; stand_at_end(&mut state, &bytes) == (2, 2, 2) && state.marks().raw().is_empty());
     Ok(())
 }

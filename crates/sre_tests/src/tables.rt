@@ -2,7 +2,44 @@
 
 use crate::asking::{Call, ends};
 use sre_engine::UniTable;
+use std::alloc::Global;
 use std::test::Fail;
+
+// Words and a text of one character, and whether they match under ASCII's table, under one that knows é and É, and
+// under that of Unicode.
+const CASES: [(&[u32], &str, (bool, bool, bool)); 14] = [
+    (&[40, 233, 1], "É", (false, true, true)),
+    (&[40, 233, 1], "é", (true, true, true)),
+    (&[40, 201, 1], "é", (false, false, false)),
+    (&[41, 233, 1], "É", (true, false, false)),
+    (&[39, 4, 16, 233, 0, 1], "É", (false, true, true)),
+    (&[13, 5, 42, 201, 201, 0, 1], "é", (false, true, true)),
+    (&[8, 14, 1], "é", (false, true, true)),
+    (&[8, 15, 1], "é", (true, false, false)),
+    (&[6, 10, 3, 1], "é", (false, true, true)),
+    (&[40, 1102, 1], "Ю", (false, false, true)),
+    (&[40, 107, 1], "\u{212a}", (false, false, true)),
+    // ASCII's foldings know nothing of a table
+    (&[32, 233, 1], "É", (false, false, false)),
+    (&[36, 233, 1], "É", (false, false, false)),
+    (&[8, 4, 1], "é", (false, false, false)),
+];
+
+// Whether words match all of a text or none of it, as is wanted.
+fn matches(
+    alloc: Global,
+    uni: &UniTable,
+    words: &[u32],
+    text: &str,
+    wanted: bool,
+) -> Result<bool, Fail> {
+    let whole = if wanted {
+        Some((0, 1, text.len()))
+    } else {
+        None
+    };
+    Ok(ends(alloc, uni, Call::Match, words, text)? == whole)
+}
 
 #[test]
 fn tables_fold_characters_past_ascii(rt: HostRuntime) -> Result<(), Fail> {
@@ -15,33 +52,19 @@ fn tables_fold_characters_past_ascii(rt: HostRuntime) -> Result<(), Fail> {
         &[(201, 201), (233, 233)],
     )?;
     let unicode = UniTable::from_std(alloc)?;
-    // words and a text of one character, and whether they match under each table
-    let cases: [(&[u32], &str, [bool; 3]); 14] = [
-        (&[40, 233, 1], "É", [false, true, true]),
-        (&[40, 233, 1], "é", [true, true, true]),
-        (&[40, 201, 1], "é", [false, false, false]),
-        (&[41, 233, 1], "É", [true, false, false]),
-        (&[39, 4, 16, 233, 0, 1], "É", [false, true, true]),
-        (&[13, 5, 42, 201, 201, 0, 1], "é", [false, true, true]),
-        (&[8, 14, 1], "é", [false, true, true]),
-        (&[8, 15, 1], "é", [true, false, false]),
-        (&[6, 10, 3, 1], "é", [false, true, true]),
-        (&[40, 1102, 1], "Ю", [false, false, true]),
-        (&[40, 107, 1], "\u{212a}", [false, false, true]),
-        // ASCII's foldings know nothing of a table
-        (&[32, 233, 1], "É", [false, false, false]),
-        (&[36, 233, 1], "É", [false, false, false]),
-        (&[8, 4, 1], "é", [false, false, false]),
-    ];
-    for (words, text, matches) in cases {
-        let found = [
-            ends(alloc, &ascii, Call::Match, words, text)?.is_some(),
-            ends(alloc, &accented, Call::Match, words, text)?.is_some(),
-            ends(alloc, &unicode, Call::Match, words, text)?.is_some(),
-        ];
-        assert!(rt; found == matches, "{words:?} {text:?}");
+    for (words, text, (of_ascii, of_accented, of_unicode)) in CASES {
+        assert!(rt;
+            matches(alloc, &ascii, words, text, of_ascii)?,
+            "{words:?} {text:?}"
+        );
+        assert!(rt;
+            matches(alloc, &accented, words, text, of_accented)?,
+            "{words:?} {text:?}"
+        );
+        assert!(rt;
+            matches(alloc, &unicode, words, text, of_unicode)?,
+            "{words:?} {text:?}"
+        );
     }
-    let end = ends(alloc, &accented, Call::Match, &[40, 233, 1], "É")?;
-    assert!(rt; end == Some((0, 1, 2)));
     Ok(())
 }
