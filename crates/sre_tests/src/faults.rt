@@ -103,8 +103,8 @@ const FAULTS: [(&[u32], CodeError); 67] = [
     (&[5, 5, 0, 16, 97, 0, 1], CodeError::BadItem(5)),
 ];
 
-/// A code of one set in blocks: some front words, block numbers of 0 from them on, empty blocks up to a place, and a full
-/// block there.
+/// A code of one set in blocks: some front words, block numbers of 0 from them on, empty blocks up to a place, and a
+/// full block there.
 pub fn set_of_blocks(alloc: Global, front: &[u32], full: usize) -> Result<Vec<u32>, Fail> {
     let mut words = Vec::from_slice(alloc, front)?;
     words.resize(full, 0)?;
