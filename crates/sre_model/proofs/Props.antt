@@ -6,7 +6,7 @@ use Rattle.std.proofs.Math.Logic.{∥∥₁_elim}
 use Rattle.sre_model.specs.Tree.{Tree, Empty, Then, Item, Fail, One, At, Mark, Branch, Loop, Run, PossessiveLoop}
 use Rattle.sre_model.specs.Tree.{Atomic, Look, Reference, Exists, ExistsElse, Trees, Only, Or, Test, In, SetItem}
 use Rattle.sre_model.specs.Tree.{Single, Range, RangeUniIgnore, Category, Charset, BigCharset, Negate}
-use Rattle.sre_model.specs.Grammar.{word, skip, Reads, ReadsItem, ReadsBranch, TestOperands, ReadsSet, IsBuilt, Whole}
+use Rattle.sre_model.specs.Grammar.{word, skip, Reads, ReadsItem, ReadsBranch, TestOperands, ReadsSet, Whole}
 use Rattle.sre_model.specs.Grammar.{IsCode}
 use Rattle.sre_model.proofs.Unique.{item_same, whole_same}
 
@@ -20,10 +20,6 @@ between A B one pa pb x y =
       is_prop→PathP (λ j. A (p j)) (λ j. pa (p j)) x.1 y.1 i,
       is_prop→PathP (λ j. B (p j)) (λ j. pb (p j)) x.2 y.2 i,
     )
-
-built_prop : (x : Item) → IsProp (IsBuilt x)
-built_prop (Run kind low high t) = hlevel props
-built_prop x = hlevel props
 
 set_prop : (s : List SetItem) (ws : List ℕ) (i j : ℕ) → IsProp (ReadsSet ws i j s)
 set_prop [] ws i j = hlevel props
@@ -46,27 +42,22 @@ mutual
       (λ k m r s. (item_same x x ws i k m r s).1) (λ k. item_prop x ws i k) (λ k. reads_prop t ws k j)
 
   item_prop : (x : Item) (ws : List ℕ) (i j : ℕ) → IsProp (ReadsItem ws i j x)
-  item_prop Fail ws i j = hlevel (props, built_prop Fail)
-  item_prop (One t) ws i j = hlevel (props, test_prop t ws i j, built_prop (One t))
-  item_prop (At a) ws i j = hlevel (props, built_prop (At a))
-  item_prop (Mark n) ws i j = hlevel (props, built_prop (Mark n))
-  item_prop (Branch ts) ws i j = hlevel (props, branch_prop ts ws (i + 1) j, built_prop (Branch ts))
-  item_prop (Loop o low high body) ws i j =
-      hlevel (props, reads_prop body ws (i + 4) (skip ws (i + 1)), built_prop (Loop o low high body))
-  item_prop (Run kind low high t) ws i j =
-      hlevel (props, test_prop t ws (i + 4) (j - 1), built_prop (Run kind low high t))
-  item_prop (PossessiveLoop low high body) ws i j =
-      hlevel (props, reads_prop body ws (i + 4) (skip ws (i + 1)), built_prop (PossessiveLoop low high body))
-  item_prop (Atomic body) ws i j = hlevel (props, reads_prop body ws (i + 2) (j - 1), built_prop (Atomic body))
-  item_prop (Look sign back body) ws i j =
-      hlevel (props, reads_prop body ws (i + 3) (j - 1), built_prop (Look sign back body))
-  item_prop (Reference fold g) ws i j = hlevel (props, built_prop (Reference fold g))
-  item_prop (Exists g a) ws i j = hlevel (props, reads_prop a ws (i + 3) j, built_prop (Exists g a))
+  item_prop Fail ws i j = hlevel props
+  item_prop (One t) ws i j = hlevel (props, test_prop t ws i j)
+  item_prop (At a) ws i j = hlevel props
+  item_prop (Mark n) ws i j = hlevel props
+  item_prop (Branch ts) ws i j = hlevel (props, branch_prop ts ws (i + 1) j)
+  item_prop (Loop o low high body) ws i j = hlevel (props, reads_prop body ws (i + 4) (skip ws (i + 1)))
+  item_prop (Run kind low high t) ws i j = hlevel (props, test_prop t ws (i + 4) (j - 1))
+  item_prop (PossessiveLoop low high body) ws i j = hlevel (props, reads_prop body ws (i + 4) (skip ws (i + 1)))
+  item_prop (Atomic body) ws i j = hlevel (props, reads_prop body ws (i + 2) (j - 1))
+  item_prop (Look sign back body) ws i j = hlevel (props, reads_prop body ws (i + 3) (j - 1))
+  item_prop (Reference fold g) ws i j = hlevel props
+  item_prop (Exists g a) ws i j = hlevel (props, reads_prop a ws (i + 3) j)
   item_prop (ExistsElse g a b) ws i j = hlevel (
     props,
     reads_prop a ws (i + 3) (i + 1 + word ws (i + 2) - 2),
     reads_prop b ws (i + 1 + word ws (i + 2)) j,
-    built_prop (ExistsElse g a b),
   )
 
   branch_prop : (ts : Trees) (ws : List ℕ) (q j : ℕ) → IsProp (ReadsBranch ws q j ts)

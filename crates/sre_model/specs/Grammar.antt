@@ -137,26 +137,12 @@ TestOperands ws i j (In fold set) =
 abbrev pub JumpsTo : List ℕ → ℕ → ℕ → Type 0
 JumpsTo ws k j = Opcode ws k opcode.JUMP × (j ≡ skip ws (k + 1))
 
--- which items the engine has; a word that begins another one relates no tree
-abbrev pub IsBuilt : Item → Type 0
-IsBuilt Fail = Unit {0}
-IsBuilt (One t) = Unit {0}
-IsBuilt (At a) = Unit {0}
-IsBuilt (Mark n) = Unit {0}
-IsBuilt (Branch ts) = Unit {0}
-IsBuilt (Loop o low high body) = Unit {0}
-IsBuilt (Run kind low high t) = Unit {0}
-IsBuilt (PossessiveLoop low high body) = Unit {0}
-IsBuilt (Atomic body) = Unit {0}
-IsBuilt (Look sign back body) = Unit {0}
-IsBuilt _ = ⊥
-
 abbrev mutual
   -- the words of [i, j) are the tree's items, one after the other
   pub Reads : List ℕ → ℕ → ℕ → Tree → Type 0
   Reads ws i j Empty = i ≡ j
   Reads ws i j (Then item rest) =
-      (k : ℕ) × (Opcode ws i (item_opcode item) × Operands ws i k item × IsBuilt item) × Reads ws k j rest
+      (k : ℕ) × (Opcode ws i (item_opcode item) × Operands ws i k item) × Reads ws k j rest
 
   -- what follows the opcode of an item at i, up to j
   pub Operands : List ℕ → ℕ → ℕ → Item → Type 0
@@ -193,7 +179,7 @@ abbrev mutual
 
 -- an item whose words are [i, j)
 abbrev pub ReadsItem : List ℕ → ℕ → ℕ → Item → Type 0
-ReadsItem ws i j item = Opcode ws i (item_opcode item) × Operands ws i j item × IsBuilt item
+ReadsItem ws i j item = Opcode ws i (item_opcode item) × Operands ws i j item
 
 -- the words are the tree's items, and SUCCESS as the last word
 abbrev pub Whole : List ℕ → Tree → Type 0
