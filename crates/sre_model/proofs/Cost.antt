@@ -1,9 +1,10 @@
 -- How many turns the machine takes for a tree, given how many it takes for what follows.
-use Rattle.std.proofs.Common.{ℕ, zero, suc, ◌+◌, ◌-◌, cond, nat_lt, List, [], ◌∷◌, Option, Some, None}
+use Rattle.std.proofs.Common.{ℕ, zero, suc, ◌+◌, ◌-◌, cond, nat_lt, nat_le, ◌&&◌, List, [], ◌∷◌, Option, Some, None}
 use Rattle.sre_model.specs.Tree.{Tree, Empty, Then, Item, One, At, Mark, Branch, Loop, Run, GreedyRun, LazyRun}
 use Rattle.sre_model.specs.Tree.{PossessiveRun, PossessiveLoop, Atomic, Look, Sign, Positive, Negative, Trees, Only, Or}
-use Rattle.sre_model.specs.Marks.{Marks, set_mark}
-use Rattle.sre_model.specs.Subject.{Subject, passes, holds_at}
+use Rattle.sre_model.specs.Tree.{Fail, Reference, Exists, ExistsElse, Fold}
+use Rattle.sre_model.specs.Marks.{Marks, set_mark, group}
+use Rattle.sre_model.specs.Subject.{Subject, passes, holds_at, same_folded}
 use Rattle.sre_model.specs.Ways.{Way, Body, longest_run, may_repeat, ways}
 
 -- the turns from a position under marks
@@ -81,6 +82,18 @@ looked_cost sign back body W C p m =
     cond (nat_lt p back) (look_cost sign C p m [])
     (suc (body ending (p - back) m + look_cost sign C p m (W (p - back) m)))
 
+-- a reference, by whether its group is present
+abbrev pub reference_cost : Subject → Fold → Option (ℕ × ℕ) → Costs → Costs
+reference_cost s fold None C p m = 1
+reference_cost s fold (Some span) C p m =
+    cond (nat_le (p + (span.1 - span.0)) s.end && same_folded s fold (span.1 - span.0) span.0 p)
+    (suc (C (p + (span.1 - span.0)) m)) 1
+
+-- a condition, by whether its group is present
+abbrev pub condition_cost : Option (ℕ × ℕ) → ℕ → ℕ → ℕ
+condition_cost None present absent = suc absent
+condition_cost (Some span) present absent = suc present
+
 abbrev mutual
   pub cost : Subject → Tree → Costs → Costs
   cost s Empty C p m = C p m
@@ -104,7 +117,11 @@ abbrev mutual
   item_cost s (Atomic body) C p m = suc (cost s body ending p m + atomic_cost C (ways s body p m))
   item_cost s (Look sign back body) C p m =
       looked_cost sign back (λ D q k. cost s body D q k) (λ q k. ways s body q k) C p m
-  item_cost s _ C p m = 1
+  item_cost s (Reference fold g) C p m = reference_cost s fold (group m g) C p m
+  item_cost s (Exists g there) C p m = condition_cost (group m g) (cost s there C p m) (C p m)
+  item_cost s (ExistsElse g there absent) C p m =
+      condition_cost (group m g) (cost s there (λ q k. suc (C q k)) p m) (cost s absent C p m)
+  item_cost s Fail C p m = 1
 
   pub branch_cost : Subject → Trees → Costs → Costs
   branch_cost s (Only t) C p m = suc (suc (cost s t C p m + 1))

@@ -27,9 +27,18 @@ back_goes r b b' pt c e all limit g = go (subst (λ x. Waits r x [] all g.later)
   where
     go : {xs : List Way} {k : ℕ} → Waits r (Else pt b'.frames c b'.marks ∷ b'.choices) [] xs k → k ≤ limit
         → (1 ≤ limit) × Goes r xs (limit - 1) pt c b'
-    go (otherwise there x wt) l = (
+    go (otherwise there placed x wt) l = (
       omega arith,
-      record { now = _; turns = _; later = _; stands = there; runs = x; waits = wt; within = omega arith },
+      record {
+        now = _;
+        turns = _;
+        later = _;
+        stands = there;
+        placed = placed;
+        runs = x;
+        waits = wt;
+        within = omega arith;
+      },
     )
 
 -- the same for a point that is known
@@ -62,6 +71,7 @@ stands_wider r all limit more (next.At i c) b l g = record {
   turns = g.turns;
   later = g.later;
   stands = g.stands;
+  placed = g.placed;
   runs = g.runs;
   waits = g.waits;
   within = omega (arith, g.within, l);
@@ -71,6 +81,7 @@ stands_wider r all limit more (next.Again c) b l g = record {
   turns = g.turns;
   later = g.later;
   stands = g.stands;
+  placed = g.placed;
   runs = g.runs;
   waits = g.waits;
   within = omega (arith, g.within, l);
@@ -78,7 +89,13 @@ stands_wider r all limit more (next.Again c) b l g = record {
 stands_wider r all limit more next.Back b l g =
     record { later = g.later; waits = g.waits; within = omega (arith, g.within, l) }
 stands_wider r all limit more (next.Done c) b l g =
-    record { later = g.later; stands = g.stands; waits = g.waits; within = omega (arith, g.within, l) }
+    record {
+      later = g.later;
+      stands = g.stands;
+      placed = g.placed;
+      waits = g.waits;
+      within = omega (arith, g.within, l);
+    }
 
 -- two turns are more than one
 pub later_again : (r : Run) (all : List Way) (limit : ℕ) (n : Next) (b : BoardValue) → 1 ≤ limit

@@ -18,13 +18,15 @@ use Rattle.sre_model.specs.Moves.{AlternativesMove}
 use Rattle.sre_model.specs.MovesInRuns.{RunOperands, run_turn, RunMove, LongerMove}
 use Rattle.sre_model.specs.MovesInLoops.{UntilMove, AgainMove}
 use Rattle.sre_model.specs.MovesInRegions.{LookMove}
+use Rattle.sre_model.specs.MovesAtGroups.{ReferenceMove, ConditionMove}
 use Rattle.sre_model.specs.Machine.{Family, family, Failing, Ending, Testing, Standing, Marking, Branching, Jumping}
-use Rattle.sre_model.specs.Machine.{Running, Repeating, Looping, RepeatingPossessively, Grouping, Looking, Unbuilt}
+use Rattle.sre_model.specs.Machine.{Running, Repeating, Looping, RepeatingPossessively, Grouping, Looking, Referring}
+use Rattle.sre_model.specs.Machine.{Asking, Nothing, Placed}
 use Rattle.sre_model.specs.Machine.{InFamily, Moves, MovesAt, Runs, turns, Comes, stops, ends, goes, splits, enters}
 use Rattle.sre_model.specs.Machine.{Run, Waits, otherwise, kept, Goes, GoesBoth, Later, spot, HasRun, IsAt, Refuses}
 use Rattle.sre_model.specs.declared.Next.TheVariants as next
 use Rattle.sre_model.proofs.Words.{same_word, same_opcode, same_at}
-use Rattle.sre_model.proofs.Unique.{test_same}
+use Rattle.sre_model.proofs.Unique.{test_same, same_reference_fold}
 
 -- a turn is determined, family by family
 
@@ -97,6 +99,16 @@ same_again ws x a b h k =
 same_look : (ws : List ℕ) (g : Sign) (i : ℕ) (x : Spot) (a b : Move) → LookMove ws g i x a → LookMove ws g i x b → a ≡ b
 same_look ws g i x a b h k = h.is ∙ rw (same_word ws (i + 2) h.back k.back h.there k.there) (sym k.is)
 
+same_reference : (ws : List ℕ) (s : Subject) (i : ℕ) (x : Spot) (a b : Move) → ReferenceMove ws s i x a
+    → ReferenceMove ws s i x b → a ≡ b
+same_reference ws s i x a b h k =
+    let folds : h.fold ≡ k.fold = same_reference_fold ws i h.fold k.fold h.code k.code in
+    h.is ∙ rw (folds, same_word ws (i + 1) h.number k.number h.there k.there) (sym k.is)
+
+same_condition : (ws : List ℕ) (i : ℕ) (x : Spot) (a b : Move) → ConditionMove ws i x a → ConditionMove ws i x b
+    → a ≡ b
+same_condition ws i x a b h k = h.is ∙ rw (same_word ws (i + 1) h.number k.number h.there k.there) (sym k.is)
+
 same_in : (ws : List ℕ) (s : Subject) (f : Family) (i : ℕ) (x : Spot) (a b : Move) → InFamily ws s f i x a
     → InFamily ws s f i x b → a ≡ b
 same_in ws s Failing i x a b h k = h ∙ sym k
@@ -112,7 +124,9 @@ same_in ws s (Looping o) i x a b h k = same_until ws o i x a b h k
 same_in ws s RepeatingPossessively i x a b h k = h ∙ sym k
 same_in ws s Grouping i x a b h k = h.is ∙ sym k.is
 same_in ws s (Looking g) i x a b h k = same_look ws g i x a b h k
-same_in ws s Unbuilt i x a b h k = absurd h
+same_in ws s Referring i x a b h k = same_reference ws s i x a b h k
+same_in ws s Asking i x a b h k = same_condition ws i x a b h k
+same_in ws s Nothing i x a b h k = absurd h
 
 -- a turn is determined
 pub moves_same : (ws : List ℕ) (s : Subject) (pt : Point) (x : Spot) (a b : Move) → MovesAt ws s pt x a
@@ -193,7 +207,7 @@ on_board r pt c b x = record {
 
 pub goes_there : (r : Run) (all : List Way) (limit : ℕ) (pt : Point) (c : StringCursor) (b : BoardValue)
     → Goes r all limit pt c b → IsAt r pt c b
-goes_there r all limit pt c b g = record { outcomes = _; turns = _; stands = g.stands; runs = g.runs }
+goes_there r all limit pt c b g = record { outcomes = _; turns = _; stands = g.stands; placed = g.placed; runs = g.runs }
 
 -- what one turn keeps
 module _ (r : Run) (pt : Point) (c : StringCursor) (b : BoardValue) where
@@ -211,12 +225,13 @@ module _ (r : Run) (pt : Point) (c : StringCursor) (b : BoardValue) where
     where
       go : {os : List Way} {n k : ℕ} → Comes r.words r.subject (spot pt c b) End os n → Waits r b.choices os all k
           → n + k ≤ limit → Later r all limit (next.Done c) b
-      go ends wt l = (omega arith, record { later = _; stands = g.stands; waits = wt; within = omega arith })
+      go ends wt l = (omega arith, record { later = _; stands = g.stands; placed = g.placed; waits = wt; within = omega arith })
 
   pub turn_goes : (pt' : Point) (c' : StringCursor) (b' : BoardValue)
-      → Moves r.words r.subject (spot pt c b) (Go (spot pt' c' b')) → r.stands c' c'.position → b'.choices ≡ b.choices
+      → Moves r.words r.subject (spot pt c b) (Go (spot pt' c' b')) → r.stands c' c'.position
+      → Placed r.subject b'.marks → b'.choices ≡ b.choices
       → (all : List Way) (limit : ℕ) → Goes r all limit pt c b → (1 ≤ limit) × Goes r all (limit - 1) pt' c' b'
-  turn_goes pt' c' b' h there e all limit g = go (comes (Go (spot pt' c' b')) h g.runs) g.waits g.within
+  turn_goes pt' c' b' h there placed e all limit g = go (comes (Go (spot pt' c' b')) h g.runs) g.waits g.within
     where
       go : {os : List Way} {n k : ℕ} → Comes r.words r.subject (spot pt c b) (Go (spot pt' c' b')) os n
           → Waits r b.choices os all k → n + k ≤ limit → (1 ≤ limit) × Goes r all (limit - 1) pt' c' b'
@@ -227,6 +242,7 @@ module _ (r : Run) (pt : Point) (c : StringCursor) (b : BoardValue) where
           turns = _;
           later = _;
           stands = there;
+          placed = placed;
           runs = d;
           waits = subst (λ x. Waits r x os all k) (sym e) wt;
           within = omega arith;
@@ -235,9 +251,9 @@ module _ (r : Run) (pt : Point) (c : StringCursor) (b : BoardValue) where
 
   -- two spots come of it, at another cursor perhaps
   pub turn_splits : (y z : Spot) (c' : StringCursor) → Moves r.words r.subject (spot pt c b) (Split y z)
-      → r.stands c' c'.position → (all : List Way) (limit : ℕ) → Goes r all limit pt c b
-      → GoesBoth r all limit y z c' b.choices
-  turn_splits y z c' h there all limit g = go (comes (Split y z) h g.runs) g.waits g.within
+      → r.stands c' c'.position → y.marks ≡ b.marks → z.marks ≡ b.marks → (all : List Way) (limit : ℕ)
+      → Goes r all limit pt c b → GoesBoth r all limit y z c' b.choices
+  turn_splits y z c' h there ey ez all limit g = go (comes (Split y z) h g.runs) g.waits g.within
     where
       go : {os : List Way} {n k : ℕ} → Comes r.words r.subject (spot pt c b) (Split y z) os n
           → Waits r b.choices os all k → n + k ≤ limit → GoesBoth r all limit y z c' b.choices
@@ -248,6 +264,8 @@ module _ (r : Run) (pt : Point) (c : StringCursor) (b : BoardValue) where
         further = _;
         later = _;
         stands = there;
+        placed = subst (λ m. Placed r.subject m) (sym ey) g.placed;
+        others_placed = subst (λ m. Placed r.subject m) (sym ez) g.placed;
         runs = d;
         others = e;
         waits = wt;
@@ -264,6 +282,7 @@ both_pass r i second c b no_ all limit g =
       turns = g.further;
       later = g.later;
       stands = g.stands;
+      placed = g.others_placed;
       runs = g.others;
       waits =
           subst (λ x. Waits r b.choices (x ++ g.next) all g.later) (no_ b.frames b.marks g.now g.turns g.runs) g.waits;
@@ -283,9 +302,11 @@ both_wait r i z c b b' cs same_place eb all limit g =
         turns = g.turns;
         later = suc (g.further + g.later);
         stands = g.stands;
+        placed = g.placed;
         runs = g.runs;
         waits =
-            subst (λ x. Waits r x g.now all (suc (g.further + g.later))) (sym eb) (otherwise g.stands others g.waits);
+            subst (λ x. Waits r x g.now all (suc (g.further + g.later))) (sym eb)
+            (otherwise g.stands g.others_placed others g.waits);
         within = omega (arith, g.within);
       },
     )
@@ -328,6 +349,7 @@ both_second r y i c b cs none e all limit g =
         turns = g.further;
         later = g.later;
         stands = g.stands;
+        placed = g.others_placed;
         runs = g.others;
         waits = subst (λ x. Waits r x g.next all g.later) (sym e) (subst (λ x. Waits r cs x all g.later) same g.waits);
         within = omega (arith, g.within);
@@ -345,6 +367,7 @@ both_first r z i c b cs none e all limit g =
         turns = g.turns;
         later = g.later;
         stands = g.stands;
+        placed = g.placed;
         runs = g.runs;
         waits = subst (λ x. Waits r x g.now all g.later) (sym e) (subst (λ x. Waits r cs x all g.later) same g.waits);
         within = omega (arith, g.within);
@@ -361,9 +384,9 @@ both_last r i z c b none = both_first r z i c b b.choices (λ os n x. run_nothin
 pub turn_enters : (r : Run) (pt : Point) (fs : List Frame) (j : ℕ) (g : Region) (c c' : StringCursor)
     (b b' : BoardValue)
     → Moves r.words r.subject (spot pt c b) (Enter g (spot_at pt fs c.position b.marks) (spot (Instruction j) c' b'))
-    → r.stands c' c'.position → b'.choices ≡ Keep g fs c b.marks ∷ b.choices
+    → r.stands c' c'.position → b'.choices ≡ Keep g fs c b.marks ∷ b.choices → b'.marks ≡ b.marks
     → (all : List Way) (limit : ℕ) → Goes r all limit pt c b → Later r all limit (next.At j c') b'
-turn_enters r pt fs j g c c' b b' h there e all limit st = go (comes (Enter g y z) h st.runs) st.waits st.within
+turn_enters r pt fs j g c c' b b' h there e em all limit st = go (comes (Enter g y z) h st.runs) st.waits st.within
   where
     y : Spot
     y = spot_at pt fs c.position b.marks
@@ -374,7 +397,7 @@ turn_enters r pt fs j g c c' b b' h there e all limit st = go (comes (Enter g y 
     go : {os : List Way} {n k : ℕ} → Comes r.words r.subject (spot pt c b) (Enter g y z) os n
         → Waits r b.choices os all k → n + k ≤ limit → Later r all limit (next.At j c') b'
     go {os} {n} {k} (enters {now = now} {n₁ = n₁} {n₂ = n₂} d f) wt l =
-        let behind : Waits r (Keep g fs c b.marks ∷ b.choices) now all (n₂ + k) = kept {pt = pt} st.stands f wt in
+        let behind : Waits r (Keep g fs c b.marks ∷ b.choices) now all (n₂ + k) = kept {pt = pt} st.stands st.placed f wt in
         let later : Waits r b'.choices now all (n₂ + k) = subst (λ x. Waits r x now all (n₂ + k)) (sym e) behind in (
           omega arith,
           record {
@@ -382,6 +405,7 @@ turn_enters r pt fs j g c c' b b' h there e all limit st = go (comes (Enter g y 
             turns = n₁;
             later = n₂ + k;
             stands = there;
+            placed = subst (λ m. Placed r.subject m) (sym em) st.placed;
             runs = d;
             waits = later;
             within = omega arith;
@@ -394,7 +418,7 @@ pub cut_waits : (r : Run) (cs rest : List Choice) (g : Region) (fs : List Frame)
     → from_region cs ≡ Keep g fs c m ∷ rest → Waits r cs (w ∷ ws) all k
     → (us : List Way) × (j : ℕ) × (j ≤ k) × Waits r (Keep g fs c m ∷ rest) (w ∷ us) all j
 cut_waits r [] rest g fs c m w ws all k e wt = absurd (cc)
-cut_waits r (Else pt gs d l ∷ cs) rest g fs c m w ws all k e (otherwise {n = n} {k = k'} {os = os} there x wt) =
+cut_waits r (Else pt gs d l ∷ cs) rest g fs c m w ws all k e (otherwise {n = n} {k = k'} {os = os} there placed x wt) =
     let u = cut_waits r cs rest g fs c m w (ws ++ os) all k' e wt in (u.0, u.1, omega (arith, u.2), u.3)
 cut_waits r (Keep h gs d l ∷ cs) rest g fs c m w ws all k e wt =
     (ws, k, omega arith, subst (λ x. Waits r x (w ∷ ws) all k) e wt)

@@ -4,9 +4,10 @@ use Rattle.std.proofs.lemmas.Grind.{flat_map-append}
 use Rattle.sre_chars.specs.declared.constants.SreOpcode.TheVariants as opcode
 use Rattle.sre_model.specs.Tree.{Tree, Atomic, Look, Positive, Negative, Empty, Then, Item, Fail, One, At, Mark, Branch}
 use Rattle.sre_model.specs.Tree.{Run, GreedyRun, Trees, Only, Or, Loop, LazyRun, PossessiveRun, PossessiveLoop}
-use Rattle.sre_model.specs.Marks.{Marks}
+use Rattle.sre_model.specs.Tree.{Reference, Exists, ExistsElse}
+use Rattle.sre_model.specs.Marks.{Marks, group}
 use Rattle.sre_model.specs.Subject.{Subject}
-use Rattle.sre_model.specs.Ways.{Way, Body, ways, item_ways, branch_ways}
+use Rattle.sre_model.specs.Ways.{Way, Body, here, ways, item_ways, branch_ways}
 use Rattle.sre_model.specs.Grammar.{word, skip, Reads, ReadsItem, ReadsBranch}
 use Rattle.sre_model.specs.declared.Frame.{Frame}
 use Rattle.sre_model.specs.declared.Point.TheVariants.{Instruction, Alternatives}
@@ -26,6 +27,7 @@ use Rattle.sre_model.proofs.RanInRuns.{run-ran, lazy-run-ran, longest-run-ran}
 use Rattle.sre_model.proofs.RanInLoops.{loop-ran}
 use Rattle.sre_model.proofs.RanInPossessiveLoops.{possessive-ran}
 use Rattle.sre_model.proofs.RanInRegions.{atomic-ran, ahead-ran, not_ahead-ran}
+use Rattle.sre_model.proofs.RanAtGroups.{reference-ran, condition-ran, present-followed}
 
 mutual
   pub ran : (ws : List ℕ) (s : Subject) (i j : ℕ) (t : Tree) → AreWords ws → Reads ws i j t
@@ -78,7 +80,22 @@ mutual
       let b = h.1 in
       not_ahead-ran ws s i j (i + 3) (λ q k. ways s body q k) (λ D q k. cost s body D q k)
       (ran ws s (i + 3) (j - 1) body v b.2) b.3 b.0 back b.1 refl h.0 fs K C p m e f
-  item-ran ws s i j _ v h fs K C p m e f = absurd h.2
+  item-ran ws s i j (Reference fold g) v h fs K C p m e f =
+      reference-ran ws s i j g fold h.0 h.1.0 h.1.1 fs K C p m e f
+  item-ran ws s i j (Exists g there) v h fs K C p m e f =
+      let inside = reads_within there ws (i + 3) j h.1.2 in
+      rw (present-followed K (group m g) (ways s there p m) (here p m))
+      (condition-ran ws s i g h.0 h.1.0 (skip_there ws (i + 2) (omega (arith, inside, h.1.1))) fs p m _ _ _ _
+      (ran ws s (i + 3) j there v h.1.2 fs K C p m e f) (moved h.1.1 (alone (f p m (omega arith) e))))
+  item-ran ws s i j (ExistsElse g there absent) v h fs K C p m e f =
+      let yes = reads_within there ws (i + 3) (i + 1 + word ws (i + 2) - 2) h.1.1 in
+      let no_ = reads_within absent ws (i + 1 + word ws (i + 2)) j h.1.3 in
+      rw (present-followed K (group m g) (ways s there p m) (ways s absent p m))
+      (condition-ran ws s i g h.0 h.1.0 (skip_there ws (i + 2) (omega (arith, yes))) fs p m _ _ _ _
+      (ran ws s (i + 3) (i + 1 + word ws (i + 2) - 2) there v h.1.1 fs K (λ a b. suc (C a b)) p m e
+      (λ q' k' l' g'. jump-ran ws s (i + 1 + word ws (i + 2) - 2) j (omega (arith, yes, no_)) h.1.2 fs K C q' k'
+      (f q' k' l' g')))
+      (ran ws s (i + 1 + word ws (i + 2)) j absent v h.1.3 fs K C p m e f))
 
   pub branch-ran : (ws : List ℕ) (s : Subject) (q j : ℕ) (ts : Trees) → AreWords ws → ReadsBranch ws q j ts
       → (fs : List Frame) (K : Body) (C : Costs) (p : ℕ) (m : Marks) → p ≤ s.end → Follows ws s p (Instruction j) fs K C

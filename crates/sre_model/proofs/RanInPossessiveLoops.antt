@@ -13,7 +13,6 @@ use Rattle.sre_model.specs.Loops.{first_of_body, or_here}
 use Rattle.sre_model.specs.Grammar.{Word, Opcode, skip}
 use Rattle.sre_model.specs.declared.Frame.{Frame}
 use Rattle.sre_model.specs.declared.Region.TheVariants.{Owed, Further}
-use Rattle.sre_model.specs.declared.Point.{Point}
 use Rattle.sre_model.specs.declared.Point.TheVariants.{Instruction, Again}
 use Rattle.sre_model.specs.Moves.{Spot, spot_at, Move, Go, Enter, closed}
 use Rattle.sre_model.specs.MovesInLoops.{again_move}

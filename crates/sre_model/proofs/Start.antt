@@ -15,6 +15,7 @@ use Rattle.sre_model.specs.declared.Next.{Next}
 use Rattle.sre_model.specs.declared.Next.TheVariants as next
 use Rattle.sre_model.proofs.Cost.{cost, ending}
 use Rattle.sre_model.proofs.Outcomes.{region}
+use Rattle.sre_model.proofs.Placed.{none_placed}
 use Rattle.sre_model.proofs.Ran.{ran}
 
 -- a run from a cursor has the tree's accepted ways
@@ -29,6 +30,7 @@ started r t c b v whole stands inside fresh =
       turns = cost r.subject t ending c.position no_marks;
       later = 0;
       stands = stands;
+      placed = none_placed r.subject;
       runs =
           region r.words r.subject 0 _ (λ q k. ways r.subject t q k) (λ C q k. cost r.subject t C q k)
           (ran r.words r.subject 0 _ t v whole.0) whole.1 [] c.position no_marks inside;
@@ -40,7 +42,7 @@ started r t c b v whole stands inside fresh =
 first_waits : (r : Run) (cs : List Choice) (w : Way) (rest : List Way) {all : List Way} {k : ℕ} → from_region cs ≡ []
     → r.accepts w ≡ true → Waits r cs (w ∷ rest) all k → (others : List Way) × (all ≡ w ∷ others)
 first_waits r [] w rest none y outermost = rw y (filter r.accepts rest, refl)
-first_waits r (Else pt fs c m ∷ cs) w rest none y (otherwise {os = os} there d wt) =
+first_waits r (Else pt fs c m ∷ cs) w rest none y (otherwise {os = os} there placed d wt) =
     first_waits r cs w (rest ++ os) none y wt
 first_waits r (Keep g fs c m ∷ cs) w rest none y wt = absurd (cc)
 
@@ -48,8 +50,8 @@ first_waits r (Keep g fs c m ∷ cs) w rest none y wt = absurd (cc)
 refused_waits : (r : Run) (cs : List Choice) (w : Way) (rest : List Way) {all : List Way} {k : ℕ} → from_region cs ≡ []
     → r.accepts w ≡ false → Waits r cs (w ∷ rest) all k → Waits r cs rest all k
 refused_waits r [] w rest none n outermost = rw n outermost
-refused_waits r (Else pt fs c m ∷ cs) w rest none n (otherwise {os = os} there d wt) =
-    otherwise there d (refused_waits r cs w (rest ++ os) none n wt)
+refused_waits r (Else pt fs c m ∷ cs) w rest none n (otherwise {os = os} there placed d wt) =
+    otherwise there placed d (refused_waits r cs w (rest ++ os) none n wt)
 refused_waits r (Keep g fs c m ∷ cs) w rest none n wt = absurd (cc)
 
 -- the machine stands at the end of the whole

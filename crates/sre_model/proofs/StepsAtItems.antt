@@ -15,31 +15,20 @@ use Rattle.sre_model.specs.Ways.{Way}
 use Rattle.sre_model.specs.Grammar.{Word, Opcode}
 use Rattle.sre_model.specs.Board.{BoardValue}
 use Rattle.sre_model.specs.declared.Point.TheVariants.{Instruction}
-use Rattle.sre_model.specs.Machine.{family, Failing, Ending, Testing, Standing, Marking, Jumping, Unbuilt, Run, Goes}
+use Rattle.sre_model.specs.Machine.{family, Failing, Ending, Testing, Standing, Marking, Jumping, Nothing, Run, Goes}
 use Rattle.sre_model.specs.Machine.{Later, HasRun, Refuses}
 use Rattle.sre_model.specs.Standing.{TestStands, HasTest}
 use Rattle.sre_model.specs.declared.Next.TheVariants as next
 use Rattle.sre_model.proofs.Words.{same_word, at_low, word_of, word_within}
 use Rattle.sre_model.proofs.Moving.{in_family, at_instruction, run_nothing, turn_stops, turn_ends, turn_goes}
 use Rattle.sre_model.proofs.Passing.{past_end, read_passes, stands_at_own}
+use Rattle.sre_model.proofs.Placed.{set_placed}
 use Rattle.sre_model.proofs.Families.{is_literal}
 
--- no opcode that isn't built is reached
-pub only_built : (r : Run) (i : ℕ) (c : StringCursor) (o : SreOpcode) → HasRun r (Instruction i) c → Opcode r.words i o
-    → family o ≡ Unbuilt → ⊥
-only_built r i c o x w e = (in_family o Unbuilt e w x.runs).1
-
--- an opcode that is none of those that are built
-pub unbuilt : (o : SreOpcode) → o ≢ opcode.FAILURE → o ≢ opcode.SUCCESS → o ≢ opcode.ANY
-    → o ≢ opcode.ANY_ALL → o ≢ opcode.AT → o ≢ opcode.BRANCH → o ≢ opcode.CATEGORY → o ≢ opcode.IN → o ≢ opcode.JUMP
-    → o ≢ opcode.LITERAL → o ≢ opcode.MARK → o ≢ opcode.NOT_LITERAL → o ≢ opcode.REPEAT_ONE → o ≢ opcode.MIN_REPEAT_ONE
-    → o ≢ opcode.REPEAT → o ≢ opcode.MAX_UNTIL → o ≢ opcode.MIN_UNTIL → o ≢ opcode.POSSESSIVE_REPEAT_ONE
-    → o ≢ opcode.ATOMIC_GROUP → o ≢ opcode.ASSERT → o ≢ opcode.ASSERT_NOT → o ≢ opcode.POSSESSIVE_REPEAT
-    → o ≢ opcode.IN_IGNORE → o ≢ opcode.LITERAL_IGNORE → o ≢ opcode.NOT_LITERAL_IGNORE → o ≢ opcode.IN_LOC_IGNORE
-    → o ≢ opcode.LITERAL_LOC_IGNORE → o ≢ opcode.NOT_LITERAL_LOC_IGNORE → o ≢ opcode.IN_UNI_IGNORE
-    → o ≢ opcode.LITERAL_UNI_IGNORE → o ≢ opcode.NOT_LITERAL_UNI_IGNORE → family o ≡ Unbuilt
-unbuilt o n0 n1 n2 n3 n4 n5 n6 n7 n8 n9 n10 n11 n12 n13 n14 n15 n16 n17 n18 n19 n20 n21 n22 n23 n24 n25 n26 n27 n28 n29
-    n30 = grind (arith)
+-- an opcode that begins nothing is never reached
+pub never_nothing : (r : Run) (i : ℕ) (c : StringCursor) (o : SreOpcode) → HasRun r (Instruction i) c
+    → Opcode r.words i o → family o ≡ Nothing → ⊥
+never_nothing r i c o x w e = (in_family o Nothing e w x.runs).1
 
 -- FAILURE
 pub failure_step : (r : Run) (i : ℕ) (c : StringCursor) (b : BoardValue) → Opcode r.words i opcode.FAILURE
@@ -63,10 +52,10 @@ module _ (r : Run) (i : ℕ) (c : StringCursor) (b : BoardValue) (o : SreOpcode)
   test_taken : (after : StringCursor) → passes r.subject t c.position ≡ true → r.stands after after.position
       → after.position ≡ c.position + 1 → (all : List Way) (limit : ℕ) → Goes r all limit (Instruction i) c b
       → Later r all limit (next.At j after) b
-  test_taken after taken there moved_on =
+  test_taken after taken there moved_on all limit g =
       turn_goes r (Instruction i) c b (Instruction j) after b
       (at_instruction o Testing f w (record { end = j; test = t; stands = stands; is = rw (taken, moved_on) refl }))
-      there refl
+      there g.placed refl all limit g
 
   test_refused : passes r.subject t c.position ≡ false → (all : List Way) (limit : ℕ)
       → Goes r all limit (Instruction i) c b → Later r all limit next.Back b
@@ -119,7 +108,7 @@ pub at_step : (r : Run) (i : ℕ) (a : SreAtCode) (c : StringCursor) (b : BoardV
 at_step r i a c b w wa y all limit g =
     turn_goes r (Instruction i) c b (Instruction (i + 2)) c b
     (at_instruction opcode.AT Standing refl w (record { code = a; there = wa; is = rw y refl }))
-    g.stands refl all limit g
+    g.stands g.placed refl all limit g
 
 pub at_refused : (r : Run) (i : ℕ) (a : SreAtCode) (c : StringCursor) (b : BoardValue) → Opcode r.words i opcode.AT
     → Word r.words (i + 1) (at_number a) → holds_at r.subject a c.position ≡ false → (all : List Way) (limit : ℕ)
@@ -136,15 +125,16 @@ mark_operand r i c w x =
     word_within r.words (i + 1) h.number h.there
 
 pub mark_step : (r : Run) (i v p : ℕ) (c : StringCursor) (b b' : BoardValue) → Opcode r.words i opcode.MARK
-    → Word r.words (i + 1) v → p ≡ c.position → b' ≡ record b { marks = set_mark b.marks v p }
+    → Word r.words (i + 1) v → p ≡ c.position → c.position ≤ length r.subject.text
+    → b' ≡ record b { marks = set_mark b.marks v p }
     → (all : List Way) (limit : ℕ) → Goes r all limit (Instruction i) c b → Later r all limit (next.At (i + 2) c) b'
-mark_step r i v p c b b' w wv same_place eb all limit g =
+mark_step r i v p c b b' w wv same_place inside eb all limit g =
     let set : BoardValue = record b { marks = set_mark b.marks v c.position } in
     subst (λ x. Later r all limit (next.At (i + 2) c) x)
     (sym (eb ∙ ap (λ q. record b { marks = set_mark b.marks v q }) same_place))
     (turn_goes r (Instruction i) c b (Instruction (i + 2)) c set
     (at_instruction opcode.MARK Marking refl w (record { number = v; there = wv; is = refl }))
-    g.stands refl all limit g)
+    g.stands (set_placed r.subject b.marks v c.position g.placed inside) refl all limit g)
 
 -- JUMP
 pub jump_operand : (r : Run) (i : ℕ) (c : StringCursor) → Opcode r.words i opcode.JUMP → HasRun r (Instruction i) c
@@ -158,7 +148,7 @@ jump_step r i v c b w wv all limit g =
     turn_goes r (Instruction i) c b (Instruction (i + 1 + v)) c b
     (at_instruction opcode.JUMP Jumping refl w
     (record { there = word_within r.words (i + 1) v wv; is = rw (word_of r.words (i + 1) v wv) refl }))
-    g.stands refl all limit g
+    g.stands g.placed refl all limit g
 
 -- a LITERAL that is not the character, or that stands at the window's end
 pub literal_there : (ws : List ℕ) (i v : ℕ) → Opcode ws i opcode.LITERAL → Word ws (i + 1) v

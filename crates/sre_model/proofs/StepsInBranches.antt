@@ -29,7 +29,7 @@ pub branch_step : (r : Run) (i : ℕ) (c : StringCursor) (b : BoardValue)
     → (1 ≤ limit) × Goes r all (limit - 1) (Alternatives (i + 1)) c b
 branch_step r i c b w all limit g =
     turn_goes r (Instruction i) c b (Alternatives (i + 1)) c b
-    (branch_moves r.words r.subject i (spot (Instruction i) c b) refl w) g.stands refl all limit g
+    (branch_moves r.words r.subject i (spot (Instruction i) c b) refl w) g.stands g.placed refl all limit g
 
 pub branch_run : (r : Run) (i : ℕ) (c : StringCursor) → Opcode r.words i opcode.BRANCH → HasRun r (Instruction i) c
     → HasRun r (Alternatives (i + 1)) c
@@ -65,7 +65,7 @@ pub alternatives_both : (r : Run) (q v : ℕ) (c : StringCursor) (b : BoardValue
     → GoesBoth r all limit (spot (Instruction (q + 1)) c b) (spot (Alternatives (q + v)) c b) c b.choices
 alternatives_both r q v c b w l all limit g =
     turn_splits r (Alternatives q) c b (spot (Instruction (q + 1)) c b) (spot (Alternatives (q + v)) c b) c
-    (alternatives_move r.words r.subject q v (spot (Alternatives q) c b) refl w l) g.stands all limit g
+    (alternatives_move r.words r.subject q v (spot (Alternatives q) c b) refl w l) g.stands refl refl all limit g
 
 pub alternatives_run : (r : Run) (q v : ℕ) (c : StringCursor) → Word r.words q v → 0 < v → HasRun r (Alternatives q) c
     → HasRun r (Instruction (q + 1)) c × HasRun r (Alternatives (q + v)) c

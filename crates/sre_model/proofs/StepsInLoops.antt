@@ -31,7 +31,7 @@ repeat_step r i v c b b' w wv eb all limit g =
     subst (λ x. Later r all limit (next.At (i + 1 + v) c) x) (sym eb)
     (turn_goes r (Instruction i) c b (Instruction (i + 1 + v)) c entered (at_instruction opcode.REPEAT Repeating refl w
     (record { there = word_within r.words (i + 1) v wv; is = rw (word_of r.words (i + 1) v wv) refl }))
-    g.stands refl all limit g)
+    g.stands g.placed refl all limit g)
 
 until_family : (o : Order) → family (until_opcode o) ≡ Looping o
 until_family Greedy = refl
@@ -93,7 +93,7 @@ until_below r o u low high c b b' f h l eb all limit g =
     subst (λ x. Later r all limit (next.At (f.repeat + 4) c) x) (sym eb)
     (turn_goes r (Instruction u) c b (Instruction (f.repeat + 4)) c entered
     (until_at r o u low high c b f (Go (spot (Instruction (f.repeat + 4)) c entered)) h (rw below refl))
-    g.stands refl all limit g)
+    g.stands g.placed refl all limit g)
 
 -- the loop ends where no further one may be tried
 pub until_done : (r : Run) (o : Order) (u low high : ℕ) (c : StringCursor) (b b' : BoardValue) (f : Frame)
@@ -106,7 +106,7 @@ until_done r o u low high c b b' f h l no_ eb all limit g =
     subst (λ x. Later r all limit (next.At (u + 1) c) x) (sym eb)
     (turn_goes r (Instruction u) c b (Instruction (u + 1)) c left
     (until_at r o u low high c b f (Go (spot (Instruction (u + 1)) c left)) h (rw (beyond, no_) refl))
-    g.stands refl all limit g)
+    g.stands g.placed refl all limit g)
 
 -- else there are two spots, in order
 abbrev body_spot : ℕ → StringCursor → BoardValue → Frame → Spot
@@ -142,12 +142,14 @@ until_refused r Greedy u low high c b b' f h l y no_ eb all limit g =
     subst (λ x. Later r all limit (next.At (u + 1) c) x) (sym eb)
     (both_second r (body_spot u c b f) (u + 1) c
     (record b { frames = drop 1 b.frames }) b.choices (λ os n x. no_ _ _ os n x) refl all limit
-    (turn_splits r (Instruction u) c b _ _ c (until_splits r Greedy u low high c b f h l y) g.stands all limit g))
+    (turn_splits r (Instruction u) c b _ _ c (until_splits r Greedy u low high c b f h l y) g.stands refl refl all
+    limit g))
 until_refused r Lazy u low high c b b' f h l y no_ eb all limit g =
     subst (λ x. Later r all limit (next.At (u + 1) c) x) (sym eb)
     (both_first r (body_spot u c b f) (u + 1) c
     (record b { frames = drop 1 b.frames }) b.choices (λ os n x. no_ _ _ os n x) refl all limit
-    (turn_splits r (Instruction u) c b _ _ c (until_splits r Lazy u low high c b f h l y) g.stands all limit g))
+    (turn_splits r (Instruction u) c b _ _ c (until_splits r Lazy u low high c b f h l y) g.stands refl refl all
+    limit g))
 
 -- nothing comes of the loop's end
 pub until_alone : (r : Run) (o : Order) (u low high : ℕ) (c : StringCursor) (b b' : BoardValue) (f : Frame)
@@ -160,13 +162,15 @@ until_alone r Greedy u low high c b b' f h l y no_ eb all limit g =
     (both_first r (end_spot u c b) (f.repeat + 4) c
     (record b { frames = next_frame f (Some c.position) ∷ drop 1 b.frames })
     b.choices (λ os n x. no_ _ _ os n x) refl all limit
-    (turn_splits r (Instruction u) c b _ _ c (until_splits r Greedy u low high c b f h l y) g.stands all limit g))
+    (turn_splits r (Instruction u) c b _ _ c (until_splits r Greedy u low high c b f h l y) g.stands refl refl all
+    limit g))
 until_alone r Lazy u low high c b b' f h l y no_ eb all limit g =
     subst (λ x. Later r all limit (next.At (f.repeat + 4) c) x) (sym eb)
     (both_second r (end_spot u c b) (f.repeat + 4) c
     (record b { frames = next_frame f (Some c.position) ∷ drop 1 b.frames })
     b.choices (λ os n x. no_ _ _ os n x) refl all limit
-    (turn_splits r (Instruction u) c b _ _ c (until_splits r Lazy u low high c b f h l y) g.stands all limit g))
+    (turn_splits r (Instruction u) c b _ _ c (until_splits r Lazy u low high c b f h l y) g.stands refl refl all
+    limit g))
 
 -- the other waits on the board
 pub until_greedy : (r : Run) (u low high : ℕ) (c : StringCursor) (b b' : BoardValue) (f : Frame)
@@ -182,7 +186,8 @@ until_greedy r u low high c b b' f h l y eb all limit g =
       frames = next_frame f (Some c.position) ∷ drop 1 b.frames;
       choices = Else (Instruction (u + 1)) (drop 1 b.frames) c b.marks ∷ b.choices;
     }) b.choices refl refl all limit
-    (turn_splits r (Instruction u) c b _ _ c (until_splits r Greedy u low high c b f h l y) g.stands all limit g))
+    (turn_splits r (Instruction u) c b _ _ c (until_splits r Greedy u low high c b f h l y) g.stands refl refl all
+    limit g))
 
 pub until_lazy : (r : Run) (u low high : ℕ) (c : StringCursor) (b b' : BoardValue) (f : Frame)
     → InLoop r Lazy u low high b f → low ≤ f.count → may_repeat high f.count f.last c.position ≡ true → b' ≡ record b {
@@ -197,7 +202,8 @@ until_lazy r u low high c b b' f h l y eb all limit g =
       choices =
           Else (Instruction (f.repeat + 4)) (next_frame f (Some c.position) ∷ drop 1 b.frames) c b.marks ∷ b.choices;
     }) b.choices refl refl all limit
-    (turn_splits r (Instruction u) c b _ _ c (until_splits r Lazy u low high c b f h l y) g.stands all limit g))
+    (turn_splits r (Instruction u) c b _ _ c (until_splits r Lazy u low high c b f h l y) g.stands refl refl all
+    limit g))
 
 -- boards, as they are changed
 pub entered_board : (b left entered : BoardValue) (f g : Frame) → left ≡ record b { frames = drop 1 b.frames }

@@ -1,11 +1,11 @@
 -- Turns at a possessive loop: POSSESSIVE_REPEAT, and a body or the end.
-use Rattle.std.proofs.Common.{◌≡◌, ℕ, ◌+◌, ◌<◌, ◌≤◌, true, false, nat_lt, List, [], ◌∷◌, length, drop, Option, Some}
-use Rattle.std.proofs.Common.{None, refl, sym, ◌∙◌, subst, arith}
+use Rattle.std.proofs.Common.{◌≡◌, ℕ, ◌+◌, ◌<◌, ◌≤◌, true, false, nat_lt, List, ◌∷◌, length, drop, Option, Some}
+use Rattle.std.proofs.Common.{refl, sym, ◌∙◌, subst, arith}
 use Rattle.std.proofs.lemmas.Bool.Decides.{nat_tests}
 use Rattle.sre_chars.specs.declared.constants.SreOpcode.TheVariants as opcode
 use Rattle.sre_chars.specs.declared.string.StringCursor.{StringCursor}
 use Rattle.sre_model.specs.Ways.{Way, may_repeat}
-use Rattle.sre_model.specs.Grammar.{Word, Opcode, skip}
+use Rattle.sre_model.specs.Grammar.{Word, Opcode}
 use Rattle.sre_model.specs.Board.{Keep, BoardValue}
 use Rattle.sre_model.specs.declared.Frame.{Frame}
 use Rattle.sre_model.specs.declared.Region.{Region}
@@ -26,7 +26,7 @@ possessive_step r i c b b' w eb all limit g =
     let begun : BoardValue = record b { frames = first_frame i ∷ b.frames } in
     subst (λ x. Later r all limit (next.Again c) x) (sym eb)
     (turn_goes r (Instruction i) c b Again c begun
-    (at_instruction opcode.POSSESSIVE_REPEAT RepeatingPossessively refl w refl) g.stands refl all limit g)
+    (at_instruction opcode.POSSESSIVE_REPEAT RepeatingPossessively refl w refl) g.stands g.placed refl all limit g)
 
 -- the innermost loop, and its counts
 pub record InPossessiveLoop (r : Run) (v low high : ℕ) (b : BoardValue) (f : Frame) : Type 0 where
@@ -80,7 +80,7 @@ again_done r v low high c b b' f h l no_ eb all limit g =
     let end : Move = Go (spot (Instruction (f.repeat + 1 + v + 1)) c left) in
     subst (λ x. Later r all limit (next.At (f.repeat + 1 + v + 1) c) x) (sym eb)
     (turn_goes r Again c b (Instruction (f.repeat + 1 + v + 1)) c left
-    (again_at r v low high c b f end h (rw (beyond, no_) refl)) g.stands refl all limit g)
+    (again_at r v low high c b f end h (rw (beyond, no_) refl)) g.stands g.placed refl all limit g)
 
 -- a body is entered, counted on the board
 abbrev begun : Region → Frame → Option ℕ → StringCursor → BoardValue → BoardValue
@@ -96,7 +96,8 @@ again_enters : (r : Run) (k : Region) (last : Option ℕ) (c : StringCursor) (b 
 again_enters r k last c b b' f h eb all limit g =
     subst (λ x. Later r all limit (next.At (f.repeat + 4) c) x) (sym eb)
     (turn_enters r Again
-    (next_frame f last ∷ drop 1 b.frames) (f.repeat + 4) k c c b (begun k f last c b) h g.stands refl all limit g)
+    (next_frame f last ∷ drop 1 b.frames) (f.repeat + 4) k c c b (begun k f last c b) h g.stands refl refl all
+    limit g)
 
 -- below the least count one is owed
 pub again_owed : (r : Run) (v low high : ℕ) (c : StringCursor) (b b' : BoardValue) (f : Frame)

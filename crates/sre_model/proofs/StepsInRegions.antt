@@ -17,7 +17,7 @@ use Rattle.sre_model.specs.declared.Frame.{Frame}
 use Rattle.sre_model.specs.Moves.{Spot, spot_at, Stop, Go, Enter, closed}
 use Rattle.sre_model.specs.MovesInRegions.{look}
 use Rattle.sre_model.specs.Machine.{family, Grouping, Looking, Moves, Runs, Comes, stops, goes, Run, Waits, kept, Goes}
-use Rattle.sre_model.specs.Machine.{Ends, Later, spot, HasRun, after_outcome, without_outcome, without_loop}
+use Rattle.sre_model.specs.Machine.{Placed, Ends, Later, spot, HasRun, after_outcome, without_outcome, without_loop}
 use Rattle.sre_model.specs.declared.Next.TheVariants as next
 use Rattle.sre_model.proofs.Words.{word_of, word_within}
 use Rattle.sre_model.proofs.Moving.{in_family, at_instruction, turn_stops, turn_goes, turn_enters, cut_waits}
@@ -41,7 +41,8 @@ atomic_step r i v c b b' w wv eb all limit g =
     at_instruction opcode.ATOMIC_GROUP Grouping refl w
     (record { there = word_within r.words (i + 1) v wv; is = rw (word_of r.words (i + 1) v wv) refl }) in
     subst (λ x. Later r all limit (next.At (i + 2) c) x) (sym eb)
-    (turn_enters r (Instruction i) b.frames (i + 2) group c c b (entered group c b) move g.stands refl all limit g)
+    (turn_enters r (Instruction i) b.frames (i + 2) group c c b (entered group c b) move g.stands refl refl all
+    limit g)
 
 -- ASSERT, ASSERT_NOT
 look_family : (sign : Sign) → family (look_opcode sign) ≡ Looking sign
@@ -79,7 +80,7 @@ pub not_ahead_early : (r : Run) (i v back : ℕ) (c : StringCursor) (b : BoardVa
     → Later r all limit (next.At (i + 1 + v) c) b
 not_ahead_early r i v back c b h l all limit g =
     turn_goes r (Instruction i) c b (Instruction (i + 1 + v)) c b
-    (look_early r Negative i v back c b h l) g.stands refl all limit g
+    (look_early r Negative i v back c b h l) g.stands g.placed refl all limit g
 
 -- else its body is tried
 pub look_step : (r : Run) (sign : Sign) (i v back : ℕ) (c c' : StringCursor) (b b' : BoardValue)
@@ -94,7 +95,8 @@ look_step r sign i v back c c' b b' h l place there eb all limit g =
     at_instruction (look_opcode sign) (Looking sign) (look_family sign) h.code
     (record { back = back; there = h.there; is = rw (word_of r.words (i + 1) v h.leads, late, place) refl }) in
     subst (λ x. Later r all limit (next.At (i + 3) c') x) (sym eb)
-    (turn_enters r (Instruction i) b.frames (i + 3) region c c' b (entered region c b) move there refl all limit g)
+    (turn_enters r (Instruction i) b.frames (i + 3) region c c' b (entered region c b) move there refl refl all
+    limit g)
 
 -- a body has an outcome at a cursor: what comes of the region that is cut
 module _ (r : Run) (c d : StringCursor) (b b' : BoardValue) where
@@ -105,36 +107,47 @@ module _ (r : Run) (c d : StringCursor) (b b' : BoardValue) where
 
   -- it goes on at a cursor
   ends_go : {x : Spot} {all os : List Way} {limit n k j later : ℕ} (pt : Point) (at : StringCursor)
-      → r.stands at at.position → b'.marks ≡ b.marks
+      → r.stands at at.position → Placed r.subject b.marks → b'.marks ≡ b.marks
       → Comes r.words r.subject x (Go (spot_at pt b'.frames at.position b.marks)) os n
       → Waits r b'.choices os all k → n + k ≤ j → j ≤ later → later + 1 ≤ limit
       → (1 ≤ limit) × Goes r all (limit - 1) pt at b'
-  ends_go {x} {all} {os} {limit} {n} {k} pt at there em (goes {n = n'} e) wt same l m =
+  ends_go {x} {all} {os} {limit} {n} {k} pt at there placed em (goes {n = n'} e) wt same l m =
       let moved : Runs r.words r.subject (spot pt at b') os n' =
       subst (λ ms. Runs r.words r.subject (spot_at pt b'.frames at.position ms) os n') (sym em) e in (
         omega arith,
-        record { now = os; turns = n'; later = k; stands = there; runs = moved; waits = wt; within = omega arith },
+        record {
+          now = os;
+          turns = n';
+          later = k;
+          stands = there;
+          placed = subst (λ ms. Placed r.subject ms) (sym em) placed;
+          runs = moved;
+          waits = wt;
+          within = omega arith;
+        },
       )
 
   region_ends : (g : Region) (m : Marks) (us all : List Way) (limit j later : ℕ) → b'.marks ≡ b.marks
-      → r.stands c c.position
+      → r.stands c c.position → Placed r.subject b.marks
       → Waits r (Keep g b'.frames d m ∷ b'.choices) (record { stop = c.position; marks = b.marks } ∷ us) all j
       → j ≤ later → later + 1 ≤ limit → Later r all limit (after_outcome g c d) b'
-  region_ends (AtomicGroup t) m us all limit j later em there (kept at f wt) l k =
-      ends_go (Instruction t) c there em f wt (omega arith) l k
-  region_ends (Ahead t) m us all limit j later em there (kept at f wt) l k =
-      ends_go (Instruction t) d at em f wt (omega arith) l k
-  region_ends (NotAhead t) m us all limit j later em there (kept at f wt) l k = ends_stop f wt (omega arith) l k
-  region_ends Owed m us all limit j later em there (kept at f wt) l k = ends_go Again c there em f wt (omega arith) l k
-  region_ends (Further t) m us all limit j later em there (kept at f wt) l k =
-      ends_go Again c there em f wt (omega arith) l k
+  region_ends (AtomicGroup t) m us all limit j later em there placed (kept at _ f wt) l k =
+      ends_go (Instruction t) c there placed em f wt (omega arith) l k
+  region_ends (Ahead t) m us all limit j later em there placed (kept at _ f wt) l k =
+      ends_go (Instruction t) d at placed em f wt (omega arith) l k
+  region_ends (NotAhead t) m us all limit j later em there placed (kept at _ f wt) l k =
+      ends_stop f wt (omega arith) l k
+  region_ends Owed m us all limit j later em there placed (kept at _ f wt) l k =
+      ends_go Again c there placed em f wt (omega arith) l k
+  region_ends (Further t) m us all limit j later em there placed (kept at _ f wt) l k =
+      ends_go Again c there placed em f wt (omega arith) l k
 
   pub region_closes : (g : Region) → Cuts b g d b' → (all : List Way) (limit : ℕ) → Ends r all limit c b
       → Later r all limit (after_outcome g c d) b'
   region_closes g cut all limit e =
       let u = cut_waits r b.choices b'.choices g b'.frames d cut.entered
       (record { stop = c.position; marks = b.marks }) [] all e.later cut.region e.waits in
-      region_ends g cut.entered u.0 all limit u.1 e.later cut.marks e.stands u.3 u.2 e.within
+      region_ends g cut.entered u.0 all limit u.1 e.later cut.marks e.stands e.placed u.3 u.2 e.within
 
 -- a body has no outcome
 module _ (r : Run) (c : StringCursor) (b' : BoardValue) where
@@ -143,18 +156,29 @@ module _ (r : Run) (c : StringCursor) (b' : BoardValue) where
   back_stop stops wt l = (omega arith, record { later = _; waits = wt; within = omega arith })
 
   back_go : {x : Spot} {all os : List Way} {limit n k : ℕ} (t : ℕ) (fs : List Frame) → r.stands c c.position
+      → Placed r.subject b'.marks
       → Comes r.words r.subject x (Go (spot_at (Instruction t) fs c.position b'.marks)) os n
       → Waits r b'.choices os all k → n + k ≤ limit → Later r all limit (next.At t c) (record b' { frames = fs })
-  back_go t fs there (goes e) wt l = (
+  back_go t fs there placed (goes e) wt l = (
     omega arith,
-    record { now = _; turns = _; later = _; stands = there; runs = e; waits = wt; within = omega arith },
+    record {
+      now = _;
+      turns = _;
+      later = _;
+      stands = there;
+      placed = placed;
+      runs = e;
+      waits = wt;
+      within = omega arith;
+    },
   )
 
   pub region_back : (g : Region) (all : List Way) (limit k : ℕ)
       → Waits r (Keep g b'.frames c b'.marks ∷ b'.choices) [] all k → k ≤ limit
       → Later r all limit (without_outcome g c) (without_loop g b')
-  region_back (AtomicGroup t) all limit k (kept at f wt) l = back_stop f wt l
-  region_back (Ahead t) all limit k (kept at f wt) l = back_stop f wt l
-  region_back (NotAhead t) all limit k (kept at f wt) l = back_go t b'.frames at f wt l
-  region_back Owed all limit k (kept at f wt) l = back_stop f wt l
-  region_back (Further t) all limit k (kept at f wt) l = back_go t (drop 1 b'.frames) at f wt l
+  region_back (AtomicGroup t) all limit k (kept at _ f wt) l = back_stop f wt l
+  region_back (Ahead t) all limit k (kept at _ f wt) l = back_stop f wt l
+  region_back (NotAhead t) all limit k (kept at placed f wt) l = back_go t b'.frames at placed f wt l
+  region_back Owed all limit k (kept at _ f wt) l = back_stop f wt l
+  region_back (Further t) all limit k (kept at placed f wt) l =
+      back_go t (drop 1 b'.frames) at placed f wt l

@@ -55,7 +55,8 @@ pub shorter_both : (r : Run) (t k j : ℕ) (c c' : StringCursor) (b : BoardValue
     → GoesBoth r all limit (spot (Instruction t) c' b) (spot (Shorter t j) c' b) c' b.choices
 shorter_both r t k j c c' b e place there all limit g =
     turn_splits r (Shorter t k) c b (spot (Instruction t) c' b) (spot (Shorter t j) c' b) c'
-    (shorter_moves r t k j c.position c'.position b.frames b.marks e place (shorter_within r g.runs)) there all limit g
+    (shorter_moves r t k j c.position c'.position b.frames b.marks e place (shorter_within r g.runs)) there refl refl all
+    limit g
 
 pub shorter_run : (r : Run) (t k j : ℕ) (c c' : StringCursor) → k ≡ suc j → c.position ≡ c'.position + 1
     → r.stands c' c'.position → HasRun r (Shorter t k) c → HasRun r (Instruction t) c' × HasRun r (Shorter t j) c'
@@ -133,7 +134,7 @@ module _ (r : Run) (i v low high count : ℕ) (c after : StringCursor) (w : Opco
       after b.choices
   run_both b all limit g =
       turn_splits r (Instruction i) c b (spot (Instruction (i + 1 + v)) after b)
-      (spot (Shorter (i + 1 + v) (count - low)) after b) after (run_moves b.frames b.marks) there all limit g
+      (spot (Shorter (i + 1 + v) (count - low)) after b) after (run_moves b.frames b.marks) there refl refl all limit g
 
   pub run_runs : HasRun r (Instruction i) c
       → HasRun r (Instruction (i + 1 + v)) after × HasRun r (Shorter (i + 1 + v) (count - low)) after
@@ -182,7 +183,7 @@ module _ (r : Run) (i low high count : ℕ) (c : StringCursor) (b : BoardValue)
         operands = longest_operands;
         is = rw (longest_is, enough, moved_on, word_of r.words (i + 1) v wv) refl;
       }) in
-      turn_goes r (Instruction i) c b (Instruction (i + 1 + v)) after b move there refl all limit g
+      turn_goes r (Instruction i) c b (Instruction (i + 1 + v)) after b move there g.placed refl all limit g
 
 -- MIN_REPEAT_ONE
 operands_of : (ws : List ℕ) (i low high : ℕ) (t : HasTest ws (i + 4)) → Word ws (i + 2) low → Word ws (i + 3) high
@@ -246,7 +247,7 @@ module _ (r : Run) (i low : ℕ) (c : StringCursor) (w : Opcode r.words i opcode
         → GoesBoth r all limit (spot (Instruction (i + 1 + v)) after b) (spot (Longer i low) after b) after b.choices
     lazy_both b all limit g =
         turn_splits r (Instruction i) c b (spot (Instruction (i + 1 + v)) after b) (spot (Longer i low) after b) after
-        (lazy_moves b.frames b.marks) there all limit g
+        (lazy_moves b.frames b.marks) there refl refl all limit g
 
     pub lazy_runs : HasRun r (Instruction i) c
         → HasRun r (Instruction (i + 1 + v)) after × HasRun r (Longer i low) after
@@ -335,7 +336,7 @@ module _ (r : Run) (i n high : ℕ) (c : StringCursor) (h : RunWords r.words i) 
         → GoesBoth r all limit (spot (Instruction tail) after b) (spot (Longer i (n + 1)) after b) after b.choices
     longer_both b all limit g =
         turn_splits r (Longer i n) c b (spot (Instruction tail) after b) (spot (Longer i (n + 1)) after b) after
-        (longer_moves b.frames b.marks) there all limit g
+        (longer_moves b.frames b.marks) there refl refl all limit g
 
     pub longer_runs : HasRun r (Longer i n) c → HasRun r (Instruction tail) after × HasRun r (Longer i (n + 1)) after
     longer_runs x =

@@ -89,6 +89,11 @@ same_member : {A : Type 0} (family : A → SreOpcode) (member : SreOpcode → A)
 same_member family member back ws i a b x y =
     sym (back a) ∙ ap member (same_opcode ws i (family a) (family b) x y) ∙ back b
 
+-- a reference folds in one way
+pub same_reference_fold : (ws : List ℕ) (i : ℕ) (f g : Fold) → Opcode ws i (reference_opcode f)
+    → Opcode ws i (reference_opcode g) → f ≡ g
+same_reference_fold ws i f g x y = same_member reference_opcode fold_of reference_back ws i f g x y
+
 -- sets
 longer : (ws : List ℕ) (i p j : ℕ) (s : List SetItem) → i < p → ReadsSet ws p j s → i < j
 longer ws i p j s lt r = omega (arith, set_within ws p j s r)
@@ -256,7 +261,7 @@ mutual
       (cc f.3, ends)
   item_same (Reference fold g) y ws i j k r s =
       let f = is_reference ws i k y (item_here ws i j (Reference fold g) r) s in
-      let fs : fold ≡ f.0 = same_member reference_opcode fold_of reference_back ws i fold f.0 r.0 f.3.0 in
+      let fs : fold ≡ f.0 = same_reference_fold ws i fold f.0 r.0 f.3.0 in
       let gs = same_word ws (i + 1) g f.1 r.1.0 f.3.1.0 in
       (cc f.2, r.1.1 ∙ sym f.3.1.1)
   item_same (Exists g a) y ws i j k r s = ⊎_elim

@@ -5,9 +5,8 @@ use Rattle.sre_chars.specs.declared.string.StringCursor.{StringCursor}
 use Rattle.sre_model.specs.Marks.{Marks}
 use Rattle.sre_model.specs.declared.Frame.{Frame}
 use Rattle.sre_model.specs.declared.Point.{Point}
-use Rattle.sre_model.specs.declared.Point.TheVariants.{Instruction, Alternatives, Shorter, Longer, Inside}
+use Rattle.sre_model.specs.declared.Point.TheVariants.{Inside}
 use Rattle.sre_model.specs.declared.Region.{Region}
-use Rattle.sre_model.specs.declared.Region.TheVariants.{AtomicGroup, Ahead, NotAhead}
 
 -- what is still to be tried: another point, under other loops and marks; or what comes of a region, whose body is in
 -- progress, and which was entered under those loops and marks

@@ -18,5 +18,6 @@ pub mod Moves
 pub mod MovesInRuns
 pub mod MovesInLoops
 pub mod MovesInRegions
+pub mod MovesAtGroups
 pub mod Machine
 pub mod CountedRuns

@@ -1,13 +1,13 @@
 -- The machine: what standing at a point of the words means, and what a turn keeps.
 -- Words of the machine's contracts; what sre_engine makes public does not rest on it.
-use Rattle.std.specs.Prelude.{ℕ, suc, ◌+◌, ◌-◌, ◌≡◌, ◌≤◌, Bool, List, [], ◌∷◌, ◌++◌, drop, Option, Some, None}
+use Rattle.std.specs.Prelude.{ℕ, suc, ◌+◌, ◌-◌, ◌≡◌, ◌≤◌, Bool, List, [], ◌∷◌, ◌++◌, drop, length, Option, Some, None}
 use Rattle.std.specs.List.{filter}
 use Rattle.sre_chars.specs.declared.constants.SreOpcode.{SreOpcode}
 use Rattle.sre_chars.specs.declared.string.StringCursor.{StringCursor}
 use Rattle.sre_model.specs.Tree.{Tree, Order, RunKind, Sign}
 use Rattle.sre_model.specs.Roles.{Role, ToFail, ToEnd, ToTest, ToStand, ToMark, ToBranch, ToJump, ToRun, ToRepeat}
-use Rattle.sre_model.specs.Roles.{ToLoop, ToRepeatPossessively, ToGroup, ToLook, role}
-use Rattle.sre_model.specs.Marks.{Marks, no_marks}
+use Rattle.sre_model.specs.Roles.{ToLoop, ToRepeatPossessively, ToGroup, ToLook, ToRefer, ToAsk, ToNothing, role}
+use Rattle.sre_model.specs.Marks.{Marks, mark_at, no_marks}
 use Rattle.sre_model.specs.Subject.{Subject}
 use Rattle.sre_model.specs.Ways.{Way, here, ways}
 use Rattle.sre_model.specs.Grammar.{Opcode}
@@ -22,6 +22,7 @@ use Rattle.sre_model.specs.Moves.{MarkMove, JumpMove, AlternativesMove}
 use Rattle.sre_model.specs.MovesInRuns.{RunMove, ShorterMove, LongerMove}
 use Rattle.sre_model.specs.MovesInLoops.{first_frame, RepeatMove, UntilMove, AgainMove}
 use Rattle.sre_model.specs.MovesInRegions.{AtomicMove, LookMove}
+use Rattle.sre_model.specs.MovesAtGroups.{ReferenceMove, ConditionMove}
 use Rattle.sre_model.specs.declared.Next.{Next}
 use Rattle.sre_model.specs.declared.Next.TheVariants as next
 
@@ -40,7 +41,9 @@ pub data Family : Type 0 where
   RepeatingPossessively : Family
   Grouping : Family
   Looking : Sign → Family
-  Unbuilt : Family
+  Referring : Family
+  Asking : Family
+  Nothing : Family
 
 -- the family of a role
 abbrev pub family_of : Role → Family
@@ -57,7 +60,9 @@ family_of (ToLoop order) = Looping order
 family_of ToRepeatPossessively = RepeatingPossessively
 family_of ToGroup = Grouping
 family_of (ToLook sign) = Looking sign
-family_of _ = Unbuilt
+family_of ToRefer = Referring
+family_of ToAsk = Asking
+family_of ToNothing = Nothing
 
 abbrev pub family : SreOpcode → Family
 family o = family_of (role o)
@@ -77,7 +82,9 @@ InFamily ws s (Looping o) i x mv = UntilMove ws o i x mv
 InFamily ws s RepeatingPossessively i x mv = mv ≡ Go (record x { point = Again; frames = first_frame i ∷ x.frames })
 InFamily ws s Grouping i x mv = AtomicMove ws i x mv
 InFamily ws s (Looking sign) i x mv = LookMove ws sign i x mv
-InFamily ws s Unbuilt i x mv = ⊥
+InFamily ws s Referring i x mv = ReferenceMove ws s i x mv
+InFamily ws s Asking i x mv = ConditionMove ws i x mv
+InFamily ws s Nothing i x mv = ⊥
 
 -- what a turn does at a point
 abbrev pub MovesAt : List ℕ → Subject → Point → Spot → Move → Type 0
@@ -113,16 +120,21 @@ pub record Run : Type 1 where
   pub stands : StringCursor → ℕ → Type 0
   pub accepts : Way → Bool
 
+-- each mark that is set lies in the text
+pub record Placed (s : Subject) (m : Marks) : Type 0 where
+  pub at : (n p : ℕ) → mark_at m n ≡ Some p → p ≤ length s.text
+
 -- the accepted outcomes of the whole and the turns to come, where the innermost region has the outcomes now
 pub data Waits (r : Run) : List Choice → List Way → List Way → ℕ → Type 0 where
   outermost : {now : List Way} → Waits r [] now (filter r.accepts now) 0
   otherwise : {pt : Point} {fs : List Frame} {c : StringCursor} {n k : ℕ} {m : Marks} {os now all : List Way}
       {cs : List Choice}
-      → r.stands c c.position → Runs r.words r.subject (spot_at pt fs c.position m) os n → Waits r cs (now ++ os) all k
+      → r.stands c c.position → Placed r.subject m → Runs r.words r.subject (spot_at pt fs c.position m) os n
+      → Waits r cs (now ++ os) all k
       → Waits r (Else pt fs c m ∷ cs) now all (suc (n + k))
   kept : {g : Region} {pt : Point} {fs : List Frame} {c : StringCursor} {n k : ℕ} {m : Marks} {os now all : List Way}
       {cs : List Choice}
-      → r.stands c c.position
+      → r.stands c c.position → Placed r.subject m
       → Comes r.words r.subject (spot_at pt fs c.position m) (closed g (spot_at pt fs c.position m) now) os n
       → Waits r cs os all k → Waits r (Keep g fs c m ∷ cs) now all (n + k)
 
@@ -136,6 +148,7 @@ pub record Goes (r : Run) (all : List Way) (limit : ℕ) (pt : Point) (c : Strin
   pub turns : ℕ
   pub later : ℕ
   pub stands : r.stands c c.position
+  pub placed : Placed r.subject b.marks
   pub runs : Runs r.words r.subject (spot pt c b) now turns
   pub waits : Waits r b.choices now all later
   pub within : turns + later ≤ limit
@@ -149,6 +162,8 @@ pub record GoesBoth (r : Run) (all : List Way) (limit : ℕ) (first second : Spo
   pub further : ℕ
   pub later : ℕ
   pub stands : r.stands c c.position
+  pub placed : Placed r.subject first.marks
+  pub others_placed : Placed r.subject second.marks
   pub runs : Runs r.words r.subject first now turns
   pub others : Runs r.words r.subject second next further
   pub waits : Waits r cs (now ++ next) all later
@@ -164,6 +179,7 @@ pub record Backs (r : Run) (all : List Way) (limit : ℕ) (b : BoardValue) : Typ
 pub record Ends (r : Run) (all : List Way) (limit : ℕ) (c : StringCursor) (b : BoardValue) : Type 0 where
   pub later : ℕ
   pub stands : r.stands c c.position
+  pub placed : Placed r.subject b.marks
   pub waits : Waits r b.choices (here c.position b.marks) all later
   pub within : later + 1 ≤ limit
 
@@ -230,6 +246,7 @@ pub record IsAt (r : Run) (pt : Point) (c : StringCursor) (b : BoardValue) : Typ
   pub outcomes : List Way
   pub turns : ℕ
   pub stands : r.stands c c.position
+  pub placed : Placed r.subject b.marks
   pub runs : Runs r.words r.subject (spot pt c b) outcomes turns
 
 -- the machine goes back, whatever the outcomes are

@@ -1,0 +1,81 @@
+-- Marks that are set lie in the text.
+use Rattle.std.proofs.Common.{◌≡◌, ℕ, zero, suc, ◌+◌, ◌*◌, ◌≤◌, ◌⊎◌, inl, inr, ⊎_elim, List, [], ◌∷◌, ◌++◌, replicate, Option, Some, None, slice_set}
+use Rattle.std.proofs.Common.{slice_index_or, nat_le, Bool, true, false, cond, length, refl, ap, arith}
+use Rattle.std.proofs.lemmas.Bool.Decides.{nat_tests}
+use Rattle.sre_model.specs.Marks.{Marks, mark_at, no_marks, set_mark, lengthened, group}
+use Rattle.sre_model.specs.Subject.{Subject}
+use Rattle.sre_model.specs.Machine.{Placed}
+
+some_same : {a b : ℕ} → Some a ≡ Some b → a ≡ b
+some_same e = cc
+
+-- an absent entry stays one
+abbrev absent : Option ℕ
+absent = None
+
+absent_entry : (k n p : ℕ) → slice_index_or (replicate n absent) k absent ≡ Some p → ⊥
+absent_entry k zero p e = absurd (cc)
+absent_entry zero (suc n) p e = absurd (cc)
+absent_entry (suc k) (suc n) p e = absent_entry k n p e
+
+longer_entry : (raw : List (Option ℕ)) (k n p : ℕ) → slice_index_or (raw ++ replicate n None) k None ≡ Some p
+    → slice_index_or raw k None ≡ Some p
+longer_entry [] k n p e = absurd (absent_entry k n p e)
+longer_entry (x ∷ raw) zero n p e = e
+longer_entry (x ∷ raw) (suc k) n p e = longer_entry raw k n p e
+
+-- an entry of a list of which one was set is that one, or was there before
+set_entry : (raw : List (Option ℕ)) (n k v p : ℕ) → slice_index_or (slice_set raw n (Some v)) k None ≡ Some p
+    → (v ≡ p) ⊎ (slice_index_or raw k None ≡ Some p)
+set_entry [] n k v p e = inr e
+set_entry (x ∷ raw) zero zero v p e = inl (some_same e)
+set_entry (x ∷ raw) zero (suc k) v p e = inr e
+set_entry (x ∷ raw) (suc n) zero v p e = inr e
+set_entry (x ∷ raw) (suc n) (suc k) v p e = set_entry raw n k v p e
+
+pair_same : (a b : ℕ × ℕ) → Some a ≡ Some b → a ≡ b
+pair_same a b e = cc
+
+abbrev spans : Bool → ℕ → ℕ → Option (ℕ × ℕ)
+spans b u v = cond b (Some (u, v)) None
+
+pub none_placed : (s : Subject) → Placed s no_marks
+none_placed s = record { at = λ n p e. absurd (cc) }
+
+pub set_placed : (s : Subject) (m : Marks) (n p : ℕ) → Placed s m → p ≤ length s.text → Placed s (set_mark m n p)
+set_placed s m n p h l = record { at = at }
+  where
+    at : (k q : ℕ) → mark_at (set_mark m n p) k ≡ Some q → q ≤ length s.text
+    at k q e = ⊎_elim (λ (same : p ≡ q). omega (arith, same, l))
+        (λ (old : slice_index_or (lengthened n m.raw) k None ≡ Some q). h.at k q (longer_entry m.raw k _ q old))
+        (set_entry (lengthened n m.raw) n k p q e)
+
+-- a group that is present starts no later than it ends, and lies in the text
+pub group_placed : (s : Subject) (m : Marks) (g x y : ℕ) → Placed s m → group m g ≡ Some (x, y)
+    → (x ≤ y) × (y ≤ length s.text)
+group_placed s m g x y h e = from (mark_at m (2 * g)) refl e
+  where
+    inside : (u v : ℕ) (b : Bool) → mark_at m (2 * g + 1) ≡ Some v → nat_le u v ≡ b
+        → spans b u v ≡ Some (x, y) → (x ≤ y) × (y ≤ length s.text)
+    inside u v false there l k = absurd (cc)
+    inside u v true there l k =
+        let first : u ≡ x = ap (λ (z : ℕ × ℕ). z.0) (pair_same (u, v) (x, y) k) in
+        let last : v ≡ y = ap (λ (z : ℕ × ℕ). z.1) (pair_same (u, v) (x, y) k) in
+        let ordered : u ≤ v = grind (arith, nat_tests) in
+        (omega (arith, ordered, first, last), omega (arith, last, h.at (2 * g + 1) v there))
+
+    to : (u : ℕ) (b : Option ℕ) → mark_at m (2 * g + 1) ≡ b
+        → ◌≡◌ {A = Option (ℕ × ℕ)} (elim b [ None ↦ None | (Some v) ↦ cond (nat_le u v) (Some (u, v)) None ])
+        (Some (x, y))
+        → (x ≤ y) × (y ≤ length s.text)
+    to u None there k = absurd (cc)
+    to u (Some v) there k = inside u v (nat_le u v) there refl k
+
+    from : (a : Option ℕ) → mark_at m (2 * g) ≡ a
+        → ◌≡◌ {A = Option (ℕ × ℕ)} (elim a [
+          | None ↦ None
+          | (Some u) ↦ elim (mark_at m (2 * g + 1)) [ None ↦ None | (Some v) ↦ cond (nat_le u v) (Some (u, v)) None ]
+        ]) (Some (x, y))
+        → (x ≤ y) × (y ≤ length s.text)
+    from None there k = absurd (cc)
+    from (Some u) there k = to u (mark_at m (2 * g + 1)) refl k

@@ -1,0 +1,90 @@
+-- Turns at a reference to a group, and at a condition on one.
+use Rattle.std.proofs.Common.{◌≡◌, ℕ, ◌+◌, ◌-◌, ◌<◌, ◌≤◌, true, false, nat_le, List, length, Some}
+use Rattle.std.proofs.Common.{None, refl, arith}
+use Rattle.std.proofs.lemmas.Bool.Decides.{nat_tests}
+use Rattle.sre_chars.specs.declared.constants.SreOpcode.TheVariants as opcode
+use Rattle.sre_chars.specs.declared.string.StringCursor.{StringCursor}
+use Rattle.sre_model.specs.Tree.{Fold}
+use Rattle.sre_model.specs.Marks.{group}
+use Rattle.sre_model.specs.Subject.{same_folded}
+use Rattle.sre_model.specs.Ways.{Way}
+use Rattle.sre_model.specs.Grammar.{Word, Opcode, reference_opcode}
+use Rattle.sre_model.specs.Board.{BoardValue}
+use Rattle.sre_model.specs.declared.Point.TheVariants.{Instruction}
+use Rattle.sre_model.specs.Moves.{Move, Stop, Go}
+use Rattle.sre_model.specs.MovesAtGroups.{reference_turn, condition_place}
+use Rattle.sre_model.specs.Machine.{Asking, Referring, Moves, Run, Goes, Later, spot, HasRun}
+use Rattle.sre_model.specs.declared.Next.TheVariants as next
+use Rattle.sre_model.proofs.Words.{word_of, word_within}
+use Rattle.sre_model.proofs.Moving.{in_family, at_instruction, turn_stops, turn_goes}
+use Rattle.sre_model.proofs.RanAtGroups.{reference-family}
+
+-- GROUPREF and its foldings
+pub reference_operand : (r : Run) (fold : Fold) (i : ℕ) (c : StringCursor) → Opcode r.words i (reference_opcode fold)
+    → HasRun r (Instruction i) c → i + 1 < length r.words
+reference_operand r fold i c w x =
+    let h = (in_family (reference_opcode fold) Referring (reference-family fold) w x.runs).1 in
+    word_within r.words (i + 1) h.number h.there
+
+module _ (r : Run) (fold : Fold) (i g : ℕ) (c : StringCursor) (b : BoardValue)
+    (w : Opcode r.words i (reference_opcode fold)) (there : Word r.words (i + 1) g) where
+  refers : (mv : Move) → mv ≡ reference_turn r.subject fold g (i + 2) (spot (Instruction i) c b)
+      → Moves r.words r.subject (spot (Instruction i) c b) mv
+  refers mv is =
+      at_instruction (reference_opcode fold) Referring (reference-family fold) w
+      (record { fold = fold; number = g; code = w; there = there; is = is })
+
+  pub reference_missing : group b.marks g ≡ None → (all : List Way) (limit : ℕ) → Goes r all limit (Instruction i) c b
+      → Later r all limit next.Back b
+  reference_missing known = turn_stops r (Instruction i) c b (refers Stop (rw (known, reference_turn) refl))
+
+  module _ (x y : ℕ) (known : group b.marks g ≡ Some (x, y)) where
+    -- the group is longer than what is left of the window, or the window goes on otherwise
+    pub reference_past : r.subject.end < c.position + (y - x) → (all : List Way) (limit : ℕ)
+        → Goes r all limit (Instruction i) c b → Later r all limit next.Back b
+    reference_past l =
+        let past : nat_le (c.position + (y - x)) r.subject.end ≡ false = grind (arith, nat_tests) in
+        turn_stops r (Instruction i) c b (refers Stop (rw (known, past, reference_turn) refl))
+
+    pub reference_unlike : c.position + (y - x) ≤ r.subject.end
+        → same_folded r.subject fold (y - x) x c.position ≡ false → (all : List Way) (limit : ℕ)
+        → Goes r all limit (Instruction i) c b → Later r all limit next.Back b
+    reference_unlike l unlike =
+        let inside : nat_le (c.position + (y - x)) r.subject.end ≡ true = grind (arith, nat_tests) in
+        turn_stops r (Instruction i) c b (refers Stop (rw (known, inside, unlike, reference_turn) refl))
+
+    pub reference_step : (after : StringCursor) → c.position + (y - x) ≤ r.subject.end
+        → same_folded r.subject fold (y - x) x c.position ≡ true → after.position ≡ c.position + (y - x)
+        → r.stands after after.position → (all : List Way) (limit : ℕ) → Goes r all limit (Instruction i) c b
+        → Later r all limit (next.At (i + 2) after) b
+    reference_step after l alike place stands all limit k =
+        let inside : nat_le (c.position + (y - x)) r.subject.end ≡ true = grind (arith, nat_tests) in
+        turn_goes r (Instruction i) c b (Instruction (i + 2)) after b
+        (refers (Go (spot (Instruction (i + 2)) after b)) (rw (known, inside, alike, place, reference_turn) refl))
+        stands k.placed refl all limit k
+
+-- GROUPREF_EXISTS
+pub condition_operands : (r : Run) (i : ℕ) (c : StringCursor) → Opcode r.words i opcode.GROUPREF_EXISTS
+    → HasRun r (Instruction i) c → i + 2 < length r.words
+condition_operands r i c w x = (in_family opcode.GROUPREF_EXISTS Asking refl w x.runs).1.skips
+
+module _ (r : Run) (i g v : ℕ) (c : StringCursor) (b : BoardValue) (w : Opcode r.words i opcode.GROUPREF_EXISTS)
+    (there : Word r.words (i + 1) g) (leads : Word r.words (i + 2) v) where
+  pub condition_present : (u : ℕ × ℕ) → group b.marks g ≡ Some u → (all : List Way) (limit : ℕ)
+      → Goes r all limit (Instruction i) c b → Later r all limit (next.At (i + 3) c) b
+  condition_present u known all limit k =
+      turn_goes r (Instruction i) c b (Instruction (i + 3)) c b
+      (at_instruction opcode.GROUPREF_EXISTS Asking refl w
+      (record { number = g; there = there; skips = word_within r.words (i + 2) v leads; is = rw (known, condition_place) refl }))
+      k.stands k.placed refl all limit k
+
+  pub condition_absent : group b.marks g ≡ None → (all : List Way) (limit : ℕ)
+      → Goes r all limit (Instruction i) c b → Later r all limit (next.At (i + 1 + v) c) b
+  condition_absent known all limit k =
+      turn_goes r (Instruction i) c b (Instruction (i + 1 + v)) c b
+      (at_instruction opcode.GROUPREF_EXISTS Asking refl w (record {
+        number = g;
+        there = there;
+        skips = word_within r.words (i + 2) v leads;
+        is = rw (known, word_of r.words (i + 2) v leads, condition_place) refl;
+      })) k.stands k.placed refl all limit k

@@ -1,0 +1,38 @@
+-- What the machine does in one turn at a reference to a group: GROUPREF group and its three foldings, and at a
+-- condition on one: GROUPREF_EXISTS group skip.
+-- Words of the machine's contracts; what sre_engine makes public does not rest on it.
+use Rattle.std.specs.Prelude.{ℕ, ◌+◌, ◌-◌, ◌≡◌, ◌<◌, ◌&&◌, length, cond, nat_le, List, Some, None}
+use Rattle.sre_model.specs.Tree.{Fold}
+use Rattle.sre_model.specs.Marks.{Marks, group}
+use Rattle.sre_model.specs.Subject.{Subject, same_folded}
+use Rattle.sre_model.specs.Grammar.{Word, word, Opcode, reference_opcode}
+use Rattle.sre_model.specs.declared.Point.TheVariants.{Instruction}
+use Rattle.sre_model.specs.Moves.{Spot, to_point, to_place, Move, Stop, Go}
+
+-- what comes of a reference whose tail is at t: nothing of a group that is missing
+abbrev pub reference_turn : Subject → Fold → ℕ → ℕ → Spot → Move
+reference_turn s fold g t x = elim (group x.marks g) [
+  | None ↦ Stop
+  | (Some span) ↦
+      cond (nat_le (x.position + (span.1 - span.0)) s.end && same_folded s fold (span.1 - span.0) span.0 x.position)
+      (Go (to_place x (Instruction t) (x.position + (span.1 - span.0)))) Stop
+]
+
+-- GROUPREF, GROUPREF_IGNORE, GROUPREF_LOC_IGNORE or GROUPREF_UNI_IGNORE
+pub record ReferenceMove (ws : List ℕ) (s : Subject) (i : ℕ) (x : Spot) (mv : Move) : Type 0 where
+  pub fold : Fold
+  pub number : ℕ
+  pub code : Opcode ws i (reference_opcode fold)
+  pub there : Word ws (i + 1) number
+  pub is : mv ≡ reference_turn s fold number (i + 2) x
+
+-- where a condition at i leads: to its yes part where the group is present, else to where its skip word leads
+abbrev pub condition_place : List ℕ → ℕ → ℕ → Marks → ℕ
+condition_place ws i g m = elim (group m g) [ None ↦ i + 1 + word ws (i + 2) | (Some _) ↦ i + 3 ]
+
+-- GROUPREF_EXISTS
+pub record ConditionMove (ws : List ℕ) (i : ℕ) (x : Spot) (mv : Move) : Type 0 where
+  pub number : ℕ
+  pub there : Word ws (i + 1) number
+  pub skips : i + 2 < length ws
+  pub is : mv ≡ Go (to_point x (Instruction (condition_place ws i number x.marks)))
