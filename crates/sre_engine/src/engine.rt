@@ -1,13 +1,6 @@
-//! The machine, and what is asked of it.
+//! What is asked of the machine: a match, a search.
 
-mod lazy_runs;
-mod loops;
-mod machine;
-mod possessive_loops;
-mod possessive_runs;
-mod regions;
 mod state;
-mod turns;
 
 pub use sre_board::Marks;
 pub use sre_request::Request;

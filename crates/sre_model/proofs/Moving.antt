@@ -207,7 +207,8 @@ on_board r pt c b x = record {
 
 pub goes_there : (r : Run) (all : List Way) (limit : ℕ) (pt : Point) (c : StringCursor) (b : BoardValue)
     → Goes r all limit pt c b → IsAt r pt c b
-goes_there r all limit pt c b g = record { outcomes = _; turns = _; stands = g.stands; placed = g.placed; runs = g.runs }
+goes_there r all limit pt c b g =
+    record { outcomes = _; turns = _; stands = g.stands; placed = g.placed; runs = g.runs }
 
 -- what one turn keeps
 module _ (r : Run) (pt : Point) (c : StringCursor) (b : BoardValue) where
@@ -225,7 +226,10 @@ module _ (r : Run) (pt : Point) (c : StringCursor) (b : BoardValue) where
     where
       go : {os : List Way} {n k : ℕ} → Comes r.words r.subject (spot pt c b) End os n → Waits r b.choices os all k
           → n + k ≤ limit → Later r all limit (next.Done c) b
-      go ends wt l = (omega arith, record { later = _; stands = g.stands; placed = g.placed; waits = wt; within = omega arith })
+      go ends wt l = (
+        omega arith,
+        record { later = _; stands = g.stands; placed = g.placed; waits = wt; within = omega arith },
+      )
 
   pub turn_goes : (pt' : Point) (c' : StringCursor) (b' : BoardValue)
       → Moves r.words r.subject (spot pt c b) (Go (spot pt' c' b')) → r.stands c' c'.position
@@ -397,7 +401,8 @@ turn_enters r pt fs j g c c' b b' h there e em all limit st = go (comes (Enter g
     go : {os : List Way} {n k : ℕ} → Comes r.words r.subject (spot pt c b) (Enter g y z) os n
         → Waits r b.choices os all k → n + k ≤ limit → Later r all limit (next.At j c') b'
     go {os} {n} {k} (enters {now = now} {n₁ = n₁} {n₂ = n₂} d f) wt l =
-        let behind : Waits r (Keep g fs c b.marks ∷ b.choices) now all (n₂ + k) = kept {pt = pt} st.stands st.placed f wt in
+        let behind : Waits r (Keep g fs c b.marks ∷ b.choices) now all (n₂ + k) =
+        kept {pt = pt} st.stands st.placed f wt in
         let later : Waits r b'.choices now all (n₂ + k) = subst (λ x. Waits r x now all (n₂ + k)) (sym e) behind in (
           omega arith,
           record {

@@ -1,6 +1,7 @@
 -- Marks that are set lie in the text.
-use Rattle.std.proofs.Common.{◌≡◌, ℕ, zero, suc, ◌+◌, ◌*◌, ◌≤◌, ◌⊎◌, inl, inr, ⊎_elim, List, [], ◌∷◌, ◌++◌, replicate, Option, Some, None, slice_set}
-use Rattle.std.proofs.Common.{slice_index_or, nat_le, Bool, true, false, cond, length, refl, ap, arith}
+use Rattle.std.proofs.Common.{◌≡◌, ℕ, zero, suc, ◌+◌, ◌*◌, ◌≤◌, ◌⊎◌, inl, inr, ⊎_elim, List, [], ◌∷◌, ◌++◌, length}
+use Rattle.std.proofs.Common.{replicate, slice_set, slice_index_or, nat_le, Bool, true, false, cond, Option, Some, None}
+use Rattle.std.proofs.Common.{refl, ap, arith}
 use Rattle.std.proofs.lemmas.Bool.Decides.{nat_tests}
 use Rattle.sre_model.specs.Marks.{Marks, mark_at, no_marks, set_mark, lengthened, group}
 use Rattle.sre_model.specs.Subject.{Subject}

@@ -1,6 +1,6 @@
 -- The words of a reference and of a condition have its ways.
-use Rattle.std.proofs.Common.{◌≡◌, ℕ, suc, ◌+◌, ◌-◌, ◌<◌, ◌≤◌, Bool, true, false, ◌&&◌, cond, nat_le, List, [], length, ap}
-use Rattle.std.proofs.Common.{Option, Some, None, refl, arith}
+use Rattle.std.proofs.Common.{◌≡◌, ℕ, suc, ◌+◌, ◌-◌, ◌<◌, ◌≤◌, Bool, true, false, ◌&&◌, cond, nat_le, List, []}
+use Rattle.std.proofs.Common.{length, Option, Some, None, refl, ap, arith}
 use Rattle.std.proofs.lemmas.Bool.{leb-true, and_parts}
 use Rattle.sre_chars.specs.declared.constants.SreOpcode.TheVariants as opcode
 use Rattle.sre_model.specs.Tree.{Fold, Plain, Ascii, Locale, Unicode}
@@ -41,7 +41,8 @@ reference-ran ws s i j g f w there l fs K C p m e after = from (group m g) refl
         → Runs ws s x (followed K (cond y (here (p + (u.1 - u.0)) m) [])) (cond y (suc (C (p + (u.1 - u.0)) m)) 1)
     go u true known y =
         let n : ℕ = u.1 - u.0 in
-        let inside : p + n ≤ s.end = leb-true (p + n) s.end (and_parts (nat_le (p + n) s.end) (same_folded s f n u.0 p) y).0 in
+        let inside : p + n ≤ s.end =
+        leb-true (p + n) s.end (and_parts (nat_le (p + n) s.end) (same_folded s f n u.0 p) y).0 in
         turns (Go (spot_at (Instruction (i + 2)) fs (p + n) m)) (move _ (rw (known, y, reference_turn) refl))
         (goes (moved l (alone (after (p + n) m (omega arith) inside))))
     go u false known y = turns Stop (move Stop (rw (known, y, reference_turn) refl)) stops
@@ -84,5 +85,7 @@ module _ (ws : List ℕ) (s : Subject) (i g : ℕ) (w : Opcode ws i opcode.GROUP
       from : (o : Option (ℕ × ℕ)) → group m g ≡ o
           → Runs ws s x (elim o [ None ↦ absent | (Some _) ↦ present ]) (condition_cost o yes_ no_)
       from None known =
-          turns (Go (spot_at (Instruction (i + 1 + word ws (i + 2))) fs p m)) (leads _ (rw (known, condition_place) refl)) (goes k)
-      from (Some u) known = turns (Go (spot_at (Instruction (i + 3)) fs p m)) (leads (i + 3) (rw (known, condition_place) refl)) (goes h)
+          turns (Go (spot_at (Instruction (i + 1 + word ws (i + 2))) fs p m))
+          (leads _ (rw (known, condition_place) refl)) (goes k)
+      from (Some u) known =
+          turns (Go (spot_at (Instruction (i + 3)) fs p m)) (leads (i + 3) (rw (known, condition_place) refl)) (goes h)

@@ -75,8 +75,12 @@ module _ (r : Run) (i g v : ℕ) (c : StringCursor) (b : BoardValue) (w : Opcode
   condition_present u known all limit k =
       turn_goes r (Instruction i) c b (Instruction (i + 3)) c b
       (at_instruction opcode.GROUPREF_EXISTS Asking refl w
-      (record { number = g; there = there; skips = word_within r.words (i + 2) v leads; is = rw (known, condition_place) refl }))
-      k.stands k.placed refl all limit k
+      (record {
+        number = g;
+        there = there;
+        skips = word_within r.words (i + 2) v leads;
+        is = rw (known, condition_place) refl;
+      })) k.stands k.placed refl all limit k
 
   pub condition_absent : group b.marks g ≡ None → (all : List Way) (limit : ℕ)
       → Goes r all limit (Instruction i) c b → Later r all limit (next.At (i + 1 + v) c) b

@@ -55,8 +55,8 @@ pub shorter_both : (r : Run) (t k j : ℕ) (c c' : StringCursor) (b : BoardValue
     → GoesBoth r all limit (spot (Instruction t) c' b) (spot (Shorter t j) c' b) c' b.choices
 shorter_both r t k j c c' b e place there all limit g =
     turn_splits r (Shorter t k) c b (spot (Instruction t) c' b) (spot (Shorter t j) c' b) c'
-    (shorter_moves r t k j c.position c'.position b.frames b.marks e place (shorter_within r g.runs)) there refl refl all
-    limit g
+    (shorter_moves r t k j c.position c'.position b.frames b.marks e place (shorter_within r g.runs))
+    there refl refl all limit g
 
 pub shorter_run : (r : Run) (t k j : ℕ) (c c' : StringCursor) → k ≡ suc j → c.position ≡ c'.position + 1
     → r.stands c' c'.position → HasRun r (Shorter t k) c → HasRun r (Instruction t) c' × HasRun r (Shorter t j) c'

@@ -11,10 +11,10 @@ ghost use Rattle.sre_request.specs.Requests.{string_of, start_of, end_of, code_o
 ghost use Rattle.sre_engine.specs.Answers.{Answers, AnswersAlike, Spans};
 ghost use Rattle.sre_growth.specs.Refusal.{Refused};
 
-use crate::engine::turns::run;
 use sre_board::{Board, Marks};
 use sre_chars::string::{StrDrive, StringCursor};
 use sre_growth::Refusal;
+use sre_machine::turns::run;
 use sre_request::Request;
 use std::alloc::Allocator;
 use std::marker::Model;

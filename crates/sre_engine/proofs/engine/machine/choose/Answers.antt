@@ -1,6 +1,0 @@
-use Rattle.sre_request.specs.Requests.{run_of}
-use Rattle.sre_model.proofs.Moving.{both_choose}
-use Rattle.sre_engine.proofs.engine.machine.choose.Goals as goal
-
-pub returns : goal.returns
-returns g c = both_choose (run_of c.args.req.now) _ _ _ _ _ c.in_ok-save.ensures

@@ -1,0 +1,55 @@
+use Rattle.std.proofs.Common.{◌<◌, ◌-◌, arith}
+use Rattle.sre_model.specs.Tree.{LazyRun}
+use Rattle.sre_request.specs.Requests.{run_of}
+use Rattle.sre_model.proofs.Moving.{both_pass}
+use Rattle.sre_model.proofs.StepsInRuns.{run_there, lazy_cut, lazy_short, lazy_both, lazy_runs}
+use Rattle.sre_machine.proofs.lazy_runs.min_repeat_one.Goals as goal
+
+pub returns-then-saturating_sub-least : goal.returns-then-saturating_sub-least
+returns-then-saturating_sub-least g c =
+    let short : c.args.req.now.end - c.args.cursor.position < c.operand-least.result = omega arith in
+    lazy_cut (run_of c.args.req.now) c.args.place c.operand-least.result c.args.cursor c.requires.opcode
+    (run_there (run_of c.args.req.now) LazyRun c.args.place c.args.cursor c.requires.opcode c.requires.stands)
+    c.operand-least.ensures.word c.args.board.now short
+
+pub returns-then-run-least : goal.returns-then-run-least
+returns-then-run-least g c =
+    lazy_short (run_of c.args.req.now) c.args.place c.operand-least.result c.args.cursor c.requires.opcode
+    (run_there (run_of c.args.req.now) LazyRun c.args.place c.args.cursor c.requires.opcode c.requires.stands)
+    c.operand-least.ensures.word c.args.board.now c.run_up_to-run.result.0 c.run_up_to-run.ensures.count
+    c.if-run-least.true
+
+pub refuses-requires : goal.refuses-requires
+refuses-requires g c =
+    (lazy_runs (run_of c.args.req.now) c.args.place c.operand-least.result c.args.cursor c.requires.opcode
+    (run_there (run_of c.args.req.now) LazyRun c.args.place c.args.cursor c.requires.opcode c.requires.stands)
+    c.operand-least.ensures.word c.operand-skip.result c.run_up_to-run.result.0 c.run_up_to-run.result.1
+    c.operand-skip.ensures.word c.run_up_to-run.ensures.count c.if-run-least.false c.run_up_to-run.ensures.position
+    c.run_up_to-run.ensures.stands c.requires.stands).0
+
+pub longer-requires : goal.longer-requires
+longer-requires g c =
+    (lazy_runs (run_of c.args.req.now) c.args.place c.operand-least.result c.args.cursor c.requires.opcode
+    (run_there (run_of c.args.req.now) LazyRun c.args.place c.args.cursor c.requires.opcode c.requires.stands)
+    c.operand-least.ensures.word c.operand-skip.result c.run_up_to-run.result.0 c.run_up_to-run.result.1
+    c.operand-skip.ensures.word c.run_up_to-run.ensures.count c.if-run-least.false c.run_up_to-run.ensures.position
+    c.run_up_to-run.ensures.stands c.requires.stands).1
+
+pub returns-then-refuses : goal.returns-then-refuses
+returns-then-refuses g c = λ all limit x.
+    c.in_ok-longer.ensures all limit (both_pass (run_of c.args.req.now) _ _ c.run_up_to-run.result.1 c.args.board.now
+    (c.refuses.ensures c.if-refuses.true) all limit
+    (lazy_both (run_of c.args.req.now) c.args.place c.operand-least.result c.args.cursor c.requires.opcode
+    (run_there (run_of c.args.req.now) LazyRun c.args.place c.args.cursor c.requires.opcode c.requires.stands)
+    c.operand-least.ensures.word c.operand-skip.result c.run_up_to-run.result.0 c.run_up_to-run.result.1
+    c.operand-skip.ensures.word c.run_up_to-run.ensures.count c.if-run-least.false c.run_up_to-run.ensures.position
+    c.run_up_to-run.ensures.stands c.args.board.now all limit x))
+
+pub returns : goal.returns
+returns g c = λ all limit x.
+    c.in_ok-choose.ensures all limit
+    (lazy_both (run_of c.args.req.now) c.args.place c.operand-least.result c.args.cursor c.requires.opcode
+    (run_there (run_of c.args.req.now) LazyRun c.args.place c.args.cursor c.requires.opcode c.requires.stands)
+    c.operand-least.ensures.word c.operand-skip.result c.run_up_to-run.result.0 c.run_up_to-run.result.1
+    c.operand-skip.ensures.word c.run_up_to-run.ensures.count c.if-run-least.false c.run_up_to-run.ensures.position
+    c.run_up_to-run.ensures.stands c.args.board.now all limit x)

@@ -1,0 +1,25 @@
+use Rattle.std.proofs.Common.{◌+◌, sym, ◌∙◌, subst}
+use Rattle.sre_model.specs.Grammar.{Word}
+use Rattle.sre_request.specs.Requests.{run_of}
+use Rattle.sre_model.proofs.StepsAtItems.{at_step, at_refused, at_operand, at_known}
+use Rattle.sre_machine.proofs.machine.at.Goals as goal
+
+pub operand-requires : goal.operand-requires
+operand-requires g c = at_operand (run_of c.args.req.now) _ _ c.requires.opcode c.requires.stands
+
+pub unreachable-requires : goal.unreachable-requires
+unreachable-requires g c =
+    at_known (run_of c.args.req.now) _ c.operand.result c.args.cursor c.requires.opcode c.requires.stands
+    c.operand.ensures.word c.in-Err.ensures.1
+
+pub returns-then-holds_at : goal.returns-then-holds_at
+returns-then-holds_at g c = λ b.
+    at_step (run_of c.args.req.now) _ c.in-Ok.code c.args.cursor b c.requires.opcode
+    (subst (λ v. Word (run_of c.args.req.now).words (c.args.place + 1) v) (sym c.in-Ok.ensures) c.operand.ensures.word)
+    (sym c.holds_at.ensures ∙ c.if-holds_at.true)
+
+pub returns-else-holds_at : goal.returns-else-holds_at
+returns-else-holds_at g c = λ b.
+    at_refused (run_of c.args.req.now) _ c.in-Ok.code c.args.cursor b c.requires.opcode
+    (subst (λ v. Word (run_of c.args.req.now).words (c.args.place + 1) v) (sym c.in-Ok.ensures) c.operand.ensures.word)
+    (sym c.holds_at.ensures ∙ c.if-holds_at.false)

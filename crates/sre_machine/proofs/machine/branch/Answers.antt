@@ -1,0 +1,16 @@
+use Rattle.std.proofs.Common.{arith}
+use Rattle.sre_request.specs.Requests.{run_of}
+use Rattle.sre_model.proofs.StepsInBranches.{branch_run, branch_step}
+use Rattle.sre_model.proofs.GoingBack.{later_again}
+use Rattle.sre_machine.proofs.machine.branch.Goals as goal
+
+pub overflow_add-place : goal.overflow_add-place
+overflow_add-place g c = omega (arith, c.requires.room)
+
+pub alternatives-requires : goal.alternatives-requires
+alternatives-requires g c = branch_run (run_of c.args.req.now) _ c.args.cursor c.requires.opcode c.requires.stands
+
+pub returns : goal.returns
+returns g c = λ all limit x.
+    let s = branch_step (run_of c.args.req.now) _ c.args.cursor _ c.requires.opcode all limit x in
+    later_again (run_of c.args.req.now) all limit _ _ s.0 (c.in_ok-alternatives.ensures all (_) s.1)

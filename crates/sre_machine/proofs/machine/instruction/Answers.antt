@@ -1,0 +1,77 @@
+use Rattle.sre_request.specs.Requests.{run_of}
+use Rattle.sre_model.proofs.Moving.{on_board}
+use Rattle.sre_model.proofs.StepsAtItems.{only_built, unbuilt, failure_step, success_step}
+use Rattle.sre_machine.proofs.machine.instruction.Goals as goal
+
+pub unreachable-requires : goal.unreachable-requires
+unreachable-requires g c =
+    only_built (run_of c.args.req.now) _ c.args.cursor c.opcode.result (on_board _ _ _ _ c.requires)
+    c.opcode.ensures.code (unbuilt c.opcode.result c.in_default.not-FAILURE c.in_default.not-SUCCESS
+    c.in_default.not-ANY c.in_default.not-ANY_ALL c.in_default.not-AT c.in_default.not-BRANCH c.in_default.not-CATEGORY
+    c.in_default.not-IN c.in_default.not-JUMP c.in_default.not-LITERAL c.in_default.not-MARK
+    c.in_default.not-NOT_LITERAL c.in_default.not-REPEAT_ONE c.in_default.not-MIN_REPEAT_ONE c.in_default.not-REPEAT
+    c.in_default.not-MAX_UNTIL c.in_default.not-MIN_UNTIL c.in_default.not-POSSESSIVE_REPEAT_ONE
+    c.in_default.not-ATOMIC_GROUP c.in_default.not-ASSERT c.in_default.not-ASSERT_NOT c.in_default.not-POSSESSIVE_REPEAT
+    c.in_default.not-IN_IGNORE c.in_default.not-LITERAL_IGNORE c.in_default.not-NOT_LITERAL_IGNORE
+    c.in_default.not-IN_LOC_IGNORE c.in_default.not-LITERAL_LOC_IGNORE c.in_default.not-NOT_LITERAL_LOC_IGNORE
+    c.in_default.not-IN_UNI_IGNORE c.in_default.not-LITERAL_UNI_IGNORE c.in_default.not-NOT_LITERAL_UNI_IGNORE)
+
+pub returns-in-FAILURE : goal.returns-in-FAILURE
+returns-in-FAILURE g c = failure_step (run_of c.args.req.now) _ c.args.cursor _ c.in-FAILURE.ensures.code
+
+pub returns-in-SUCCESS : goal.returns-in-SUCCESS
+returns-in-SUCCESS g c = success_step (run_of c.args.req.now) _ c.args.cursor _ c.in-SUCCESS.ensures.code
+
+pub returns-in-ANY : goal.returns-in-ANY
+returns-in-ANY g c = c.test.ensures _
+
+pub returns-in-ANY_ALL : goal.returns-in-ANY_ALL
+returns-in-ANY_ALL g c = c.test-in-ANY_ALL.ensures _
+
+pub returns-in-CATEGORY : goal.returns-in-CATEGORY
+returns-in-CATEGORY g c = c.test-in-CATEGORY.ensures _
+
+pub returns-in-IN : goal.returns-in-IN
+returns-in-IN g c = c.test-in-IN.ensures _
+
+pub returns-in-LITERAL : goal.returns-in-LITERAL
+returns-in-LITERAL g c = c.test-in-LITERAL.ensures _
+
+pub returns-in-NOT_LITERAL : goal.returns-in-NOT_LITERAL
+returns-in-NOT_LITERAL g c = c.test-in-NOT_LITERAL.ensures _
+
+pub returns-in-IN_IGNORE : goal.returns-in-IN_IGNORE
+returns-in-IN_IGNORE g c = c.test-in-IN_IGNORE.ensures _
+
+pub returns-in-LITERAL_IGNORE : goal.returns-in-LITERAL_IGNORE
+returns-in-LITERAL_IGNORE g c = c.test-in-LITERAL_IGNORE.ensures _
+
+pub returns-in-NOT_LITERAL_IGNORE : goal.returns-in-NOT_LITERAL_IGNORE
+returns-in-NOT_LITERAL_IGNORE g c = c.test-in-NOT_LITERAL_IGNORE.ensures _
+
+pub returns-in-IN_LOC_IGNORE : goal.returns-in-IN_LOC_IGNORE
+returns-in-IN_LOC_IGNORE g c = c.test-in-IN_LOC_IGNORE.ensures _
+
+pub returns-in-LITERAL_LOC_IGNORE : goal.returns-in-LITERAL_LOC_IGNORE
+returns-in-LITERAL_LOC_IGNORE g c = c.test-in-LITERAL_LOC_IGNORE.ensures _
+
+pub returns-in-NOT_LITERAL_LOC_IGNORE : goal.returns-in-NOT_LITERAL_LOC_IGNORE
+returns-in-NOT_LITERAL_LOC_IGNORE g c = c.test-in-NOT_LITERAL_LOC_IGNORE.ensures _
+
+pub returns-in-IN_UNI_IGNORE : goal.returns-in-IN_UNI_IGNORE
+returns-in-IN_UNI_IGNORE g c = c.test-in-IN_UNI_IGNORE.ensures _
+
+pub returns-in-LITERAL_UNI_IGNORE : goal.returns-in-LITERAL_UNI_IGNORE
+returns-in-LITERAL_UNI_IGNORE g c = c.test-in-LITERAL_UNI_IGNORE.ensures _
+
+pub returns-in-NOT_LITERAL_UNI_IGNORE : goal.returns-in-NOT_LITERAL_UNI_IGNORE
+returns-in-NOT_LITERAL_UNI_IGNORE g c = c.test-in-NOT_LITERAL_UNI_IGNORE.ensures _
+
+pub returns-in-AT : goal.returns-in-AT
+returns-in-AT g c = c.at.ensures _
+
+pub returns-in-JUMP : goal.returns-in-JUMP
+returns-in-JUMP g c = c.jump.ensures _
+
+pub returns-in-POSSESSIVE_REPEAT_ONE : goal.returns-in-POSSESSIVE_REPEAT_ONE
+returns-in-POSSESSIVE_REPEAT_ONE g c = c.possessive_repeat_one.ensures _

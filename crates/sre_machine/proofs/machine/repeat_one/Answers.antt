@@ -1,0 +1,80 @@
+use Rattle.std.proofs.Common.{arith}
+use Rattle.sre_model.specs.Tree.{GreedyRun}
+use Rattle.sre_request.specs.Requests.{run_of}
+use Rattle.sre_model.proofs.StepsInRuns.{run_there, run_short, run_both, run_runs, shorter_last}
+use Rattle.sre_model.proofs.Moving.{both_pass}
+use Rattle.sre_machine.proofs.machine.repeat_one.Goals as goal
+
+pub operand-skip-requires : goal.operand-skip-requires
+operand-skip-requires g c =
+    let x = run_there (run_of c.args.req.now) GreedyRun _ c.args.cursor c.requires.opcode c.requires.stands in
+    omega (arith, x.operands)
+
+pub operand-least-requires : goal.operand-least-requires
+operand-least-requires g c =
+    let x = run_there (run_of c.args.req.now) GreedyRun _ c.args.cursor c.requires.opcode c.requires.stands in
+    omega (arith, x.operands)
+
+pub operand-greatest-requires : goal.operand-greatest-requires
+operand-greatest-requires g c =
+    let x = run_there (run_of c.args.req.now) GreedyRun _ c.args.cursor c.requires.opcode c.requires.stands in
+    omega (arith, x.operands)
+
+pub longest_run-run-requires-clause-test : goal.longest_run-run-requires-clause-test
+longest_run-run-requires-clause-test g c =
+    (run_there (run_of c.args.req.now) GreedyRun _ c.args.cursor c.requires.opcode c.requires.stands).test
+
+pub returns-then-run-least : goal.returns-then-run-least
+returns-then-run-least g c =
+    run_short (run_of c.args.req.now) _ c.operand-least.result c.operand-greatest.result c.longest_run-run.result.0
+    c.args.cursor c.args.board.now c.requires.opcode
+    (run_there (run_of c.args.req.now) GreedyRun _ c.args.cursor c.requires.opcode c.requires.stands).test
+    c.operand-least.ensures.word c.operand-greatest.ensures.word c.longest_run-run.ensures.count c.if-run-least.true
+
+pub refuses-requires : goal.refuses-requires
+refuses-requires g c =
+    (run_runs (run_of c.args.req.now) _ c.operand-skip.result c.operand-least.result c.operand-greatest.result
+    c.longest_run-run.result.0 c.args.cursor c.longest_run-run.result.1 c.requires.opcode
+    (run_there (run_of c.args.req.now) GreedyRun _ c.args.cursor c.requires.opcode c.requires.stands).test
+    c.operand-skip.ensures.word c.operand-least.ensures.word c.operand-greatest.ensures.word
+    c.longest_run-run.ensures.count c.if-run-least.false c.longest_run-run.ensures.position
+    c.longest_run-run.ensures.stands c.requires.stands).0
+
+pub shorter-requires : goal.shorter-requires
+shorter-requires g c =
+    (run_runs (run_of c.args.req.now) _ c.operand-skip.result c.operand-least.result c.operand-greatest.result
+    c.longest_run-run.result.0 c.args.cursor c.longest_run-run.result.1 c.requires.opcode
+    (run_there (run_of c.args.req.now) GreedyRun _ c.args.cursor c.requires.opcode c.requires.stands).test
+    c.operand-skip.ensures.word c.operand-least.ensures.word c.operand-greatest.ensures.word
+    c.longest_run-run.ensures.count c.if-run-least.false c.longest_run-run.ensures.position
+    c.longest_run-run.ensures.stands c.requires.stands).1
+
+pub returns-then-refuses : goal.returns-then-refuses
+returns-then-refuses g c = λ all limit x.
+    c.in_ok-shorter.ensures all limit (both_pass (run_of c.args.req.now) _ _ c.longest_run-run.result.1 c.args.board.now
+    (c.refuses.ensures c.if-refuses.true) all limit
+    (run_both (run_of c.args.req.now) _ c.operand-skip.result c.operand-least.result c.operand-greatest.result
+    c.longest_run-run.result.0 c.args.cursor c.longest_run-run.result.1 c.requires.opcode
+    (run_there (run_of c.args.req.now) GreedyRun _ c.args.cursor c.requires.opcode c.requires.stands).test
+    c.operand-skip.ensures.word c.operand-least.ensures.word c.operand-greatest.ensures.word
+    c.longest_run-run.ensures.count c.if-run-least.false c.longest_run-run.ensures.position
+    c.longest_run-run.ensures.stands c.args.board.now all limit x))
+
+pub returns-then-left-eq0 : goal.returns-then-left-eq0
+returns-then-left-eq0 g c = λ all limit x.
+    shorter_last (run_of c.args.req.now) _ _ _ c.longest_run-run.result.1 c.args.board.now c.if-left-eq0.true all limit
+    (run_both (run_of c.args.req.now) _ c.operand-skip.result c.operand-least.result c.operand-greatest.result
+    c.longest_run-run.result.0 c.args.cursor c.longest_run-run.result.1 c.requires.opcode
+    (run_there (run_of c.args.req.now) GreedyRun _ c.args.cursor c.requires.opcode c.requires.stands).test
+    c.operand-skip.ensures.word c.operand-least.ensures.word c.operand-greatest.ensures.word
+    c.longest_run-run.ensures.count c.if-run-least.false c.longest_run-run.ensures.position
+    c.longest_run-run.ensures.stands c.args.board.now all limit x)
+
+pub returns : goal.returns
+returns g c = λ all limit x.
+    c.in_ok-choose.ensures all limit (run_both (run_of c.args.req.now) _ c.operand-skip.result c.operand-least.result
+    c.operand-greatest.result c.longest_run-run.result.0 c.args.cursor c.longest_run-run.result.1 c.requires.opcode
+    (run_there (run_of c.args.req.now) GreedyRun _ c.args.cursor c.requires.opcode c.requires.stands).test
+    c.operand-skip.ensures.word c.operand-least.ensures.word c.operand-greatest.ensures.word
+    c.longest_run-run.ensures.count c.if-run-least.false c.longest_run-run.ensures.position
+    c.longest_run-run.ensures.stands c.args.board.now all limit x)

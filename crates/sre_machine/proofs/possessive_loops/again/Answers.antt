@@ -1,0 +1,56 @@
+use Rattle.std.proofs.Common.{sym, ap, ◌∙◌, Some, arith}
+use Rattle.sre_model.specs.MovesInLoops.{next_frame}
+use Rattle.sre_request.specs.Requests.{run_of}
+use Rattle.sre_model.proofs.StepsInPossessiveLoops.{InPossessiveLoop, again_done, again_owed, again_further}
+use Rattle.sre_model.proofs.StepsInPossessiveLoops.{begun_board}
+use Rattle.sre_machine.proofs.possessive_loops.again.Goals as goal
+
+pub returns-then-frame-least : goal.returns-then-frame-least
+returns-then-frame-least g c =
+    let r = run_of c.args.req.now in
+    let f = c.top-frame.result in
+    let loop : InPossessiveLoop r c.operand-skip.result c.operand-least.result c.operand-greatest.result
+    c.args.board.now f =
+    record {
+      inside = c.top-frame.ensures;
+      leads = c.operand-skip.ensures.word;
+      lowest = c.operand-least.ensures.word;
+      highest = c.operand-greatest.ensures.word;
+    } in
+    again_owed r c.operand-skip.result c.operand-least.result c.operand-greatest.result c.args.cursor c.args.board.now
+    c.save.new.self f loop c.if-frame-least.true
+    (begun_board c.args.board.now c.leave.new.self c.enter.new.self c.save.new.self _ f c.next_frame.result f.last
+    c.args.cursor c.leave.ensures c.in_ok-enter.ensures c.in_ok-save.ensures c.next_frame.ensures)
+
+pub returns-then-not-may_repeat : goal.returns-then-not-may_repeat
+returns-then-not-may_repeat g c =
+    let r = run_of c.args.req.now in
+    let f = c.top-frame.result in
+    let loop : InPossessiveLoop r c.operand-skip.result c.operand-least.result c.operand-greatest.result
+    c.args.board.now f =
+    record {
+      inside = c.top-frame.ensures;
+      leads = c.operand-skip.ensures.word;
+      lowest = c.operand-least.ensures.word;
+      highest = c.operand-greatest.ensures.word;
+    } in
+    again_done r c.operand-skip.result c.operand-least.result c.operand-greatest.result c.args.cursor c.args.board.now
+    c.leave.new.self f loop (omega arith) (sym c.if-not-may_repeat.ensures) c.leave.ensures
+
+pub returns : goal.returns
+returns g c =
+    let r = run_of c.args.req.now in
+    let f = c.top-frame.result in
+    let loop : InPossessiveLoop r c.operand-skip.result c.operand-least.result c.operand-greatest.result
+    c.args.board.now f =
+    record {
+      inside = c.top-frame.ensures;
+      leads = c.operand-skip.ensures.word;
+      lowest = c.operand-least.ensures.word;
+      highest = c.operand-greatest.ensures.word;
+    } in
+    again_further r c.operand-skip.result c.operand-least.result c.operand-greatest.result c.args.cursor
+    c.args.board.now c.save-2.new.self f loop (omega arith) (sym c.if-not-may_repeat.ensures)
+    (begun_board c.args.board.now c.leave.new.self c.enter-2.new.self c.save-2.new.self _ f c.next_frame-2.result
+    (Some c.args.cursor.position) c.args.cursor c.leave.ensures c.in_ok-enter-2.ensures c.in_ok-save-2.ensures
+    (c.next_frame-2.ensures ∙ ap (λ p. next_frame f (Some p)) c.position.ensures))

@@ -1,0 +1,6 @@
+use Rattle.sre_request.specs.Requests.{run_of}
+use Rattle.sre_model.proofs.StepsInPossessiveLoops.{possessive_step}
+use Rattle.sre_machine.proofs.possessive_loops.possessive_repeat.Goals as goal
+
+pub returns : goal.returns
+returns g c = possessive_step (run_of c.args.req.now) _ c.args.cursor _ _ c.requires.opcode c.in_ok-enter.ensures

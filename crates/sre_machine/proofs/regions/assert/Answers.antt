@@ -1,0 +1,27 @@
+use Rattle.std.proofs.Common.{arith}
+use Rattle.sre_model.specs.Tree.{Positive}
+use Rattle.sre_request.specs.Requests.{run_of}
+use Rattle.sre_model.proofs.StepsInRegions.{look_operand, ahead_early, look_step}
+use Rattle.sre_machine.proofs.regions.assert.Goals as goal
+
+pub operand-skip-requires : goal.operand-skip-requires
+operand-skip-requires g c =
+    omega (arith, look_operand (run_of c.args.req.now) Positive _ c.args.cursor c.requires.opcode c.requires.stands)
+
+pub operand-back-requires : goal.operand-back-requires
+operand-back-requires g c =
+    look_operand (run_of c.args.req.now) Positive _ c.args.cursor c.requires.opcode c.requires.stands
+
+pub returns-then-position-back : goal.returns-then-position-back
+returns-then-position-back g c =
+    ahead_early (run_of c.args.req.now) c.args.place c.operand-skip.result c.operand-back.result
+    c.args.cursor c.args.board.now
+    (record { code = c.requires.opcode; leads = c.operand-skip.ensures.word; there = c.operand-back.ensures.word })
+    (omega arith)
+
+pub returns : goal.returns
+returns g c =
+    look_step (run_of c.args.req.now) Positive c.args.place c.operand-skip.result c.operand-back.result c.args.cursor
+    c.back_by.result c.args.board.now c.save.new.self
+    (record { code = c.requires.opcode; leads = c.operand-skip.ensures.word; there = c.operand-back.ensures.word })
+    (omega arith) c.back_by.ensures.position c.back_by.ensures.stands c.in_ok-save.ensures

@@ -1,0 +1,11 @@
+use Rattle.sre_request.specs.Requests.{run_of}
+use Rattle.sre_model.proofs.StepsInRegions.{atomic_operand, atomic_step}
+use Rattle.sre_machine.proofs.regions.atomic_group.Goals as goal
+
+pub operand-skip-requires : goal.operand-skip-requires
+operand-skip-requires g c = atomic_operand (run_of c.args.req.now) _ c.args.cursor c.requires.opcode c.requires.stands
+
+pub returns : goal.returns
+returns g c =
+    atomic_step (run_of c.args.req.now) _ _ c.args.cursor _ _ c.requires.opcode c.operand-skip.ensures.word
+    c.in_ok-save.ensures

@@ -1,0 +1,12 @@
+use Rattle.std.proofs.Common.{sym, subst}
+use Rattle.sre_model.specs.Machine.{Closes}
+use Rattle.sre_request.specs.Requests.{run_of}
+use Rattle.sre_model.proofs.StepsInRegions.{region_closes}
+use Rattle.sre_machine.proofs.regions.end.Goals as goal
+
+pub returns : goal.returns
+returns g c =
+    let r = run_of c.args.req.now in
+    subst (λ n. Closes r c.args.cursor c.args.board.now n c.cut.new.self) (sym c.after_outcome.ensures)
+    (region_closes r c.args.cursor c.in_ok-region.entered c.args.board.now c.cut.new.self c.in_ok-region.region
+    c.in_ok-region.ensures)

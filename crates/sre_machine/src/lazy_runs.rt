@@ -1,0 +1,118 @@
+//! Lazy runs of one test: `MIN_REPEAT_ONE skip least greatest test SUCCESS`.
+//!
+//! Behind the least count each try of a longer one takes one test, and never looks ahead.
+
+ghost use Rattle.std.specs.Prelude.{◌≡◌, ℕ, ◌+◌, ◌||◌, nat_eq, nat_lt, List, IfOk, MatchOption};
+ghost use Rattle.sre_model.specs.Ways.{Way, unlimited};
+ghost use Rattle.sre_model.specs.Grammar.{Opcode, skip};
+ghost use Rattle.sre_model.specs.Board.{BoardValue};
+ghost use Rattle.sre_model.specs.declared.Point.TheVariants.{Instruction, Longer};
+ghost use Rattle.sre_model.specs.Machine.{HasRun, Advances, SkipsBoth};
+ghost use Rattle.sre_request.specs.Requests.{run_of};
+
+use crate::machine::{choose, operand, refuses};
+use sre_board::Board;
+use sre_chars::constants::SreOpcode;
+use sre_chars::string::{StrDrive, StringCursor};
+use sre_growth::Refusal;
+use sre_model::{Next, Point};
+use sre_request::one_character::takes;
+use sre_request::runs::run_up_to;
+use sre_request::text::read;
+use sre_request::{Request, one_character};
+use std::alloc::Allocator;
+
+// Whether a run may be longer than so many characters.
+#[inline(always)]
+fn may_grow(greatest: u32, count: usize) -> bool
+    ensures { result ≡ (nat_eq greatest unlimited || nat_lt count greatest) }
+{
+    greatest == u32::MAX || count < greatest as usize
+}
+
+// The first of the longer counts of which something may come, if there is one: that count, and the cursor behind it.
+#[inline(always)]
+fn first_longer<S: StrDrive>(
+    req: &Request<'_, S>,
+    place: usize,
+    tail: usize,
+    least: usize,
+    start: StringCursor,
+) -> Option<(usize, StringCursor)>
+    requires tail { tail ≡ skip (run_of req.now).words (place + 1) }
+    requires stands { HasRun (run_of req.now) (Longer place least) start }
+    ensures { MatchOption result
+        ((b : BoardValue) → Advances (run_of req.now) (Longer place least) start b Next.Back b)
+        (λ x. SkipsBoth (run_of req.now) (Longer place least) start (Instruction tail) (Longer place x.0) x.1) }
+{
+    let greatest = operand(req, place, 3);
+    let test = place + 4;
+    let opcode = one_character::opcode(req, test);
+    let mut cursor = start;
+    let mut count = least;
+    'count: loop {
+        if !may_grow(greatest, count) {
+            return None;
+        }
+        if cursor.position() >= req.end() {
+            return None;
+        }
+        let (character, after) = read(req, cursor);
+        if !takes(req, test, opcode, character) {
+            return None;
+        }
+        cursor = after;
+        count += 1;
+        if !refuses(req, tail, cursor) {
+            return Some((count, cursor));
+        }
+    }
+}
+
+/// The longer counts of the run at a place, behind so many characters, each followed by the run's tail.
+#[inline(always)]
+pub(super) fn longer<S: StrDrive, A: Allocator>(
+    req: &Request<'_, S>,
+    board: &mut Board<A>,
+    place: usize,
+    count: usize,
+    start: StringCursor,
+) -> Result<Next, Refusal>
+    requires { HasRun (run_of req.now) (Longer place count) start }
+    ensures { IfOk result (λ next. Advances (run_of req.now) (Longer place count) start board.old next board.new) }
+{
+    let skip = operand(req, place, 1) as usize;
+    let tail = place + 1 + skip;
+    let Some(found) = first_longer(req, place, tail, count, start) else {
+        return Ok(Next::Back);
+    };
+    Ok(choose(req, board, tail, Point::Longer(place, found.0), found.1)?)
+}
+
+/// The least count, and then the longer ones.
+#[inline(always)]
+pub(super) fn min_repeat_one<S: StrDrive, A: Allocator>(
+    req: &Request<'_, S>,
+    board: &mut Board<A>,
+    place: usize,
+    cursor: StringCursor,
+) -> Result<Next, Refusal>
+    requires opcode { Opcode (run_of req.now).words place SreOpcode.MIN_REPEAT_ONE }
+    requires stands { HasRun (run_of req.now) (Instruction place) cursor }
+    ensures { IfOk result (λ next. Advances (run_of req.now) (Instruction place) cursor board.old next board.new) }
+{
+    let skip = operand(req, place, 1) as usize;
+    let least = operand(req, place, 2) as usize;
+    if req.end().saturating_sub(cursor.position()) < least {
+        return Ok(Next::Back);
+    }
+    let run = run_up_to(req, place + 4, least, cursor);
+    if run.0 < least {
+        return Ok(Next::Back);
+    }
+    let tail = place + 1 + skip;
+    if refuses(req, tail, run.1) {
+        return Ok(longer(req, board, place, least, run.1)?);
+    }
+    Ok(choose(req, board, tail, Point::Longer(place, least), run.1)?)
+}

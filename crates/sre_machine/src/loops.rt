@@ -1,0 +1,141 @@
+//! Loops: `REPEAT skip least greatest body`, and MAX_UNTIL or MIN_UNTIL behind the body, where the skip leads.
+//!
+//! The board holds the loops in progress. A body of which nothing can come is not begun, and an end of which nothing
+//! can come is not saved: so a loop over a text that decides by its next character saves nothing.
+
+ghost use Rattle.std.specs.Prelude.{◌≡◌, ℕ, ◌+◌, IfOk, min};
+ghost use Rattle.sre_model.specs.Ways.{Way, unlimited, may_repeat};
+ghost use Rattle.sre_model.specs.Grammar.{Opcode};
+ghost use Rattle.sre_model.specs.declared.Point.TheVariants.{Instruction};
+ghost use Rattle.sre_model.specs.MovesInLoops.{next_frame};
+ghost use Rattle.sre_model.specs.Machine.{HasRun, IsAt, Advances};
+ghost use Rattle.sre_request.specs.Requests.{run_of};
+
+use crate::machine::{operand, refuses};
+use sre_board::Board;
+use sre_chars::constants::SreOpcode;
+use sre_chars::string::{StrDrive, StringCursor};
+use sre_growth::Refusal;
+use sre_model::{Frame, Next, Point};
+use sre_request::Request;
+use std::alloc::Allocator;
+
+/// Whether a further body may be tried at a cursor.
+#[inline(always)]
+pub(super) fn may_repeat(greatest: u32, frame: Frame, cursor: StringCursor) -> bool
+    ensures { result ≡ may_repeat greatest frame.count frame.last cursor.position }
+{
+    let is_below = greatest == u32::MAX || frame.count < greatest;
+    match frame.last {
+        None => is_below,
+        Some(last) => is_below && last != cursor.position(),
+    }
+}
+
+/// The frame with one body more, as far as is counted.
+#[inline(always)]
+pub(super) fn next_frame(frame: Frame, last: Option<usize>) -> Frame
+    ensures { result ≡ next_frame frame last }
+{
+    Frame {
+        repeat: frame.repeat,
+        count: frame.count.saturating_add(1),
+        last,
+    }
+}
+
+/// `REPEAT skip least greatest body`: begins a loop, at its end.
+#[inline(always)]
+pub(super) fn repeat<S: StrDrive, A: Allocator>(
+    req: &Request<'_, S>,
+    board: &mut Board<A>,
+    place: usize,
+    cursor: StringCursor,
+) -> Result<Next, Refusal>
+    requires opcode { Opcode (run_of req.now).words place SreOpcode.REPEAT }
+    requires stands { HasRun (run_of req.now) (Instruction place) cursor }
+    ensures { IfOk result (λ next. Advances (run_of req.now) (Instruction place) cursor board.old next board.new) }
+{
+    let skip = operand(req, place, 1);
+    board.enter(Frame {
+        repeat: place,
+        count: 0,
+        last: None,
+    })?;
+    Ok(Next::At(place + 1 + skip as usize, cursor))
+}
+
+/// MAX_UNTIL: a further body first, then the loop's end.
+#[inline(always)]
+pub(super) fn max_until<S: StrDrive, A: Allocator>(
+    req: &Request<'_, S>,
+    board: &mut Board<A>,
+    place: usize,
+    cursor: StringCursor,
+) -> Result<Next, Refusal>
+    requires opcode { Opcode (run_of req.now).words place SreOpcode.MAX_UNTIL }
+    requires stands { IsAt (run_of req.now) (Instruction place) cursor board.old }
+    ensures { IfOk result (λ next. Advances (run_of req.now) (Instruction place) cursor board.old next board.new) }
+{
+    let _opcode = operand(req, place, 0);
+    let frame = board.top();
+    let least = operand(req, frame.repeat, 2);
+    let greatest = operand(req, frame.repeat, 3);
+    let body = frame.repeat + 4;
+    board.leave();
+    if frame.count < least {
+        board.enter(next_frame(frame, frame.last))?;
+        return Ok(Next::At(body, cursor));
+    }
+    if !may_repeat(greatest, frame, cursor) {
+        return Ok(Next::At(place + 1, cursor));
+    }
+    if refuses(req, body, cursor) {
+        return Ok(Next::At(place + 1, cursor));
+    }
+    let next = next_frame(frame, Some(cursor.position()));
+    if refuses(req, place + 1, cursor) {
+        board.enter(next)?;
+        return Ok(Next::At(body, cursor));
+    }
+    board.save(Point::Instruction(place + 1), cursor)?;
+    board.enter(next)?;
+    Ok(Next::At(body, cursor))
+}
+
+/// MIN_UNTIL: the loop's end first, then a further body.
+#[inline(always)]
+pub(super) fn min_until<S: StrDrive, A: Allocator>(
+    req: &Request<'_, S>,
+    board: &mut Board<A>,
+    place: usize,
+    cursor: StringCursor,
+) -> Result<Next, Refusal>
+    requires opcode { Opcode (run_of req.now).words place SreOpcode.MIN_UNTIL }
+    requires stands { IsAt (run_of req.now) (Instruction place) cursor board.old }
+    ensures { IfOk result (λ next. Advances (run_of req.now) (Instruction place) cursor board.old next board.new) }
+{
+    let _opcode = operand(req, place, 0);
+    let frame = board.top();
+    let least = operand(req, frame.repeat, 2);
+    let greatest = operand(req, frame.repeat, 3);
+    let body = frame.repeat + 4;
+    board.leave();
+    if frame.count < least {
+        board.enter(next_frame(frame, frame.last))?;
+        return Ok(Next::At(body, cursor));
+    }
+    if !may_repeat(greatest, frame, cursor) {
+        return Ok(Next::At(place + 1, cursor));
+    }
+    if refuses(req, body, cursor) {
+        return Ok(Next::At(place + 1, cursor));
+    }
+    board.enter(next_frame(frame, Some(cursor.position())))?;
+    if refuses(req, place + 1, cursor) {
+        return Ok(Next::At(body, cursor));
+    }
+    board.save(Point::Instruction(body), cursor)?;
+    board.leave();
+    Ok(Next::At(place + 1, cursor))
+}

@@ -1,0 +1,389 @@
+//! The machine: a turn of a backtracking run over the words, with no recursion.
+//!
+//! It rests on two facts alone: the text is lawful, and the words have a tree. So it has no test for bad words.
+//! Each opcode's function says that the accepted outcomes of the whole stay what they were, in one turn less. What is
+//! still to be tried waits on the board, and a choice of which nothing can come is not put there.
+
+ghost use Rattle.std.specs.Prelude.{◌≡◌, ℕ, ◌+◌, ◌^◌, ◌<◌, ◌≤◌, [], List, length, IfOk, MatchOption, true};
+ghost use Rattle.sre_model.specs.Subject.{char_at};
+ghost use Rattle.sre_model.specs.Ways.{Way};
+ghost use Rattle.sre_model.specs.Grammar.{Word, word, Opcode};
+ghost use Rattle.sre_model.specs.Board.{BoardValue};
+ghost use Rattle.sre_model.specs.declared.Point.TheVariants.{Instruction, Alternatives, Shorter};
+ghost use Rattle.sre_model.specs.declared.Point.{Point};
+ghost use Rattle.sre_model.specs.Machine.{family, Testing, HasRun, IsAt, IsBack, Advances, Chooses, Retreats, Refuses};
+ghost use Rattle.sre_model.specs.Machine.{Skips, SkipsBoth, Stands};
+ghost use Rattle.sre_request.specs.Requests.{end_of, run_of};
+
+use crate::lazy_runs::{longer, min_repeat_one};
+use crate::loops::{max_until, min_until, repeat};
+use crate::possessive_loops::possessive_repeat;
+use crate::possessive_runs::possessive_repeat_one;
+use crate::regions::{assert, assert_not, atomic_group, without_outcome};
+use sre_board::Board;
+use sre_chars::constants::{SreAtCode, SreOpcode};
+use sre_chars::string::{StrDrive, StringCursor};
+use sre_growth::Refusal;
+use sre_model::{Next, Point};
+use sre_request::one_character::{takes, test_end};
+use sre_request::position::holds_at;
+use sre_request::runs::longest_run;
+use sre_request::text::{back_one, read};
+use sre_request::{Request, operands};
+use std::alloc::Allocator;
+use std::convert::TryFrom;
+
+// The word at a place.
+#[inline(always)]
+pub(super) fn word_at<S: StrDrive>(req: &Request<'_, S>, place: usize) -> u32
+    requires { place < length (run_of req.now).words }
+    ensures word { Word (run_of req.now).words place result }
+    ensures room { place + 2 ^ 33 < 2 ^ 64 }
+{
+    operands::word(req.pattern_codes().words(), place)
+}
+
+// The word some places on.
+#[inline(always)]
+pub(super) fn operand<S: StrDrive>(req: &Request<'_, S>, place: usize, offset: usize) -> u32
+    requires { place + offset < length (run_of req.now).words }
+    ensures word { Word (run_of req.now).words (place + offset) result }
+    ensures room { place + 2 ^ 33 < 2 ^ 64 }
+{
+    operands::operand(req.pattern_codes().words(), place, offset)
+}
+
+// The opcode at a place that the machine has come to.
+#[inline(always)]
+fn opcode<S: StrDrive>(req: &Request<'_, S>, place: usize, cursor: StringCursor) -> SreOpcode
+    requires { HasRun (run_of req.now) (Instruction place) cursor }
+    ensures code { Opcode (run_of req.now).words place result }
+    ensures room { place + 2 ^ 33 < 2 ^ 64 }
+{
+    match SreOpcode::try_from(word_at(req, place)) {
+        Ok(opcode) => opcode,
+        Err(_) => unreachable!(),
+    }
+}
+
+/// A test of one character, which is passed where the test takes it.
+#[inline(always)]
+fn test<S: StrDrive>(
+    req: &Request<'_, S>,
+    opcode: SreOpcode,
+    place: usize,
+    cursor: StringCursor,
+) -> Next
+    requires opcode { Opcode (run_of req.now).words place opcode }
+    requires tests { family opcode ≡ Testing }
+    requires stands { HasRun (run_of req.now) (Instruction place) cursor }
+    ensures { (b : BoardValue) → Advances (run_of req.now) (Instruction place) cursor b result b }
+{
+    if cursor.position() >= req.end() {
+        return Next::Back;
+    }
+    let (character, after) = read(req, cursor);
+    if takes(req, place, opcode, character) {
+        Next::At(test_end(req, place, opcode), after)
+    } else {
+        Next::Back
+    }
+}
+
+/// `AT code`: goes on where the cursor stands as the code asks.
+#[inline(always)]
+fn at<S: StrDrive>(req: &Request<'_, S>, place: usize, cursor: StringCursor) -> Next
+    requires opcode { Opcode (run_of req.now).words place SreOpcode.AT }
+    requires stands { HasRun (run_of req.now) (Instruction place) cursor }
+    ensures { (b : BoardValue) → Advances (run_of req.now) (Instruction place) cursor b result b }
+{
+    match SreAtCode::try_from(operand(req, place, 1)) {
+        Ok(code) => {
+            if holds_at(req, code, cursor) {
+                Next::At(place + 2, cursor)
+            } else {
+                Next::Back
+            }
+        }
+        Err(_) => unreachable!(),
+    }
+}
+
+/// `MARK n`: mark n is set to the position.
+#[inline(always)]
+fn mark<S: StrDrive, A: Allocator>(
+    req: &Request<'_, S>,
+    board: &mut Board<A>,
+    place: usize,
+    cursor: StringCursor,
+) -> Result<Next, Refusal>
+    requires opcode { Opcode (run_of req.now).words place SreOpcode.MARK }
+    requires stands { HasRun (run_of req.now) (Instruction place) cursor }
+    ensures { IfOk result (λ next. Advances (run_of req.now) (Instruction place) cursor board.old next board.new) }
+{
+    let n = operand(req, place, 1);
+    board.set(n, cursor.position())?;
+    Ok(Next::At(place + 2, cursor))
+}
+
+/// `JUMP skip`: goes on where the skip leads.
+#[inline(always)]
+fn jump<S: StrDrive>(req: &Request<'_, S>, place: usize, cursor: StringCursor) -> Next
+    requires opcode { Opcode (run_of req.now).words place SreOpcode.JUMP }
+    requires stands { HasRun (run_of req.now) (Instruction place) cursor }
+    ensures { (b : BoardValue) → Advances (run_of req.now) (Instruction place) cursor b result b }
+{
+    let skip = operand(req, place, 1);
+    Next::At(place + 1 + skip as usize, cursor)
+}
+
+// Whether nothing can come of standing at an instruction: a LITERAL stands there, and the character is another.
+#[inline(always)]
+pub(super) fn refuses<S: StrDrive>(req: &Request<'_, S>, place: usize, cursor: StringCursor) -> bool
+    requires { HasRun (run_of req.now) (Instruction place) cursor }
+    ensures { result ≡ true → Refuses (run_of req.now) place cursor.position }
+{
+    match opcode(req, place, cursor) {
+        SreOpcode::LITERAL => {
+            if cursor.position() >= req.end() {
+                return true;
+            }
+            let value = operand(req, place, 1);
+            let found = read(req, cursor);
+            if found.0 == value {
+                return false;
+            }
+            true
+        }
+        _ => false,
+    }
+}
+
+// Goes on at an instruction, with another point to be tried after it.
+#[inline(always)]
+pub(super) fn choose<S: StrDrive, A: Allocator>(
+    req: &Request<'_, S>,
+    board: &mut Board<A>,
+    place: usize,
+    other: Point,
+    cursor: StringCursor,
+) -> Result<Next, Refusal>
+    ensures { IfOk result (λ next. Chooses (run_of req.now) (Instruction place) other cursor board.old next board.new) }
+{
+    let _ = req.end();
+    board.save(other, cursor)?;
+    Ok(Next::At(place, cursor))
+}
+
+// The first alternative from a length word on of which something may come, if there is one: its length word.
+#[inline(always)]
+fn first_alternative<S: StrDrive>(
+    req: &Request<'_, S>,
+    start: usize,
+    cursor: StringCursor,
+) -> Option<usize>
+    requires { HasRun (run_of req.now) (Alternatives start) cursor }
+    ensures { MatchOption result
+        ((b : BoardValue) → Advances (run_of req.now) (Alternatives start) cursor b Next.Back b)
+        (λ place. HasRun (run_of req.now) (Alternatives place) cursor × (0 < word (run_of req.now).words place)
+        × Skips (run_of req.now) (Alternatives start) cursor (Alternatives place) cursor) }
+{
+    let mut place = start;
+    'alternative: loop {
+        let length = word_at(req, place) as usize;
+        if length == 0 {
+            return None;
+        }
+        if !refuses(req, place + 1, cursor) {
+            return Some(place);
+        }
+        place += length;
+    }
+}
+
+/// The alternatives of a BRANCH from a length word on: `length body JUMP skip ... 0`.
+#[inline(always)]
+fn alternatives<S: StrDrive, A: Allocator>(
+    req: &Request<'_, S>,
+    board: &mut Board<A>,
+    start: usize,
+    cursor: StringCursor,
+) -> Result<Next, Refusal>
+    requires { HasRun (run_of req.now) (Alternatives start) cursor }
+    ensures { IfOk result (λ next. Advances (run_of req.now) (Alternatives start) cursor board.old next board.new) }
+{
+    let Some(place) = first_alternative(req, start, cursor) else {
+        return Ok(Next::Back);
+    };
+    let length = word_at(req, place) as usize;
+    let after = place + length;
+    let following = word_at(req, after);
+    if following == 0 {
+        return Ok(Next::At(place + 1, cursor));
+    }
+    Ok(choose(req, board, place + 1, Point::Alternatives(after), cursor)?)
+}
+
+// The first of the shorter counts of a run of which something may come, if there is one: how many are left behind it,
+// and the cursor behind its characters.
+#[inline(always)]
+fn first_shorter<S: StrDrive>(
+    req: &Request<'_, S>,
+    tail: usize,
+    count: usize,
+    start: StringCursor,
+) -> Option<(usize, StringCursor)>
+    requires { HasRun (run_of req.now) (Shorter tail count) start }
+    ensures { MatchOption result
+        ((b : BoardValue) → Advances (run_of req.now) (Shorter tail count) start b Next.Back b)
+        (λ x. SkipsBoth (run_of req.now) (Shorter tail count) start (Instruction tail) (Shorter tail x.0) x.1) }
+{
+    let mut cursor = start;
+    let mut left = count;
+    'count: loop {
+        if left == 0 {
+            return None;
+        }
+        left -= 1;
+        cursor = back_one(req, cursor);
+        if !refuses(req, tail, cursor) {
+            return Some((left, cursor));
+        }
+    }
+}
+
+/// The shorter counts of a run, so many of them, each followed by the run's tail.
+#[inline(always)]
+fn shorter<S: StrDrive, A: Allocator>(
+    req: &Request<'_, S>,
+    board: &mut Board<A>,
+    tail: usize,
+    count: usize,
+    start: StringCursor,
+) -> Result<Next, Refusal>
+    requires { HasRun (run_of req.now) (Shorter tail count) start }
+    ensures { IfOk result (λ next. Advances (run_of req.now) (Shorter tail count) start board.old next board.new) }
+{
+    let Some(found) = first_shorter(req, tail, count, start) else {
+        return Ok(Next::Back);
+    };
+    if found.0 == 0 {
+        return Ok(Next::At(tail, found.1));
+    }
+    Ok(choose(req, board, tail, Point::Shorter(tail, found.0), found.1)?)
+}
+
+/// `REPEAT_ONE skip least greatest test SUCCESS`: the longest run of the test, then the shorter ones.
+#[inline(always)]
+fn repeat_one<S: StrDrive, A: Allocator>(
+    req: &Request<'_, S>,
+    board: &mut Board<A>,
+    place: usize,
+    cursor: StringCursor,
+) -> Result<Next, Refusal>
+    requires opcode { Opcode (run_of req.now).words place SreOpcode.REPEAT_ONE }
+    requires stands { HasRun (run_of req.now) (Instruction place) cursor }
+    ensures { IfOk result (λ next. Advances (run_of req.now) (Instruction place) cursor board.old next board.new) }
+{
+    let skip = operand(req, place, 1) as usize;
+    let least = operand(req, place, 2) as usize;
+    let greatest = operand(req, place, 3);
+    let run = longest_run(req, place + 4, greatest, cursor);
+    if run.0 < least {
+        return Ok(Next::Back);
+    }
+    let tail = place + 1 + skip;
+    let left = run.0 - least;
+    if refuses(req, tail, run.1) {
+        return Ok(shorter(req, board, tail, left, run.1)?);
+    }
+    if left == 0 {
+        return Ok(Next::At(tail, run.1));
+    }
+    Ok(choose(req, board, tail, Point::Shorter(tail, left), run.1)?)
+}
+
+/// Goes on with the newest choice, if there is one.
+#[inline(always)]
+pub(super) fn back<S: StrDrive, A: Allocator>(
+    req: &Request<'_, S>,
+    board: &mut Board<A>,
+) -> Result<Option<Next>, Refusal>
+    requires { IsBack (run_of req.now) board.old }
+    ensures { IfOk result (λ found. MatchOption found
+        ((all : List Way) (limit : ℕ) → Stands (run_of req.now) all limit Next.Back board.old → all ≡ [])
+        (λ next. Retreats (run_of req.now) board.old next board.new)) }
+{
+    match board.back() {
+        None => Ok(None),
+        Some(choice) => match choice.0 {
+            Point::Instruction(place) => Ok(Some(Next::At(place, choice.1))),
+            Point::Alternatives(place) => Ok(Some(alternatives(req, board, place, choice.1)?)),
+            Point::Shorter(tail, count) => Ok(Some(shorter(req, board, tail, count, choice.1)?)),
+            Point::Longer(place, count) => Ok(Some(longer(req, board, place, count, choice.1)?)),
+            Point::Again => Ok(Some(Next::Again(choice.1))),
+            Point::Inside(region) => Ok(Some(without_outcome(board, region, choice.1))),
+        },
+    }
+}
+
+/// `BRANCH length body JUMP skip ... 0`: the first alternative, then the others.
+#[inline(always)]
+fn branch<S: StrDrive, A: Allocator>(
+    req: &Request<'_, S>,
+    board: &mut Board<A>,
+    place: usize,
+    cursor: StringCursor,
+) -> Result<Next, Refusal>
+    requires opcode { Opcode (run_of req.now).words place SreOpcode.BRANCH }
+    requires room { place + 2 ^ 33 < 2 ^ 64 }
+    requires stands { HasRun (run_of req.now) (Instruction place) cursor }
+    ensures { IfOk result (λ next. Advances (run_of req.now) (Instruction place) cursor board.old next board.new) }
+{
+    Ok(alternatives(req, board, place + 1, cursor)?)
+}
+
+/// One instruction.
+#[tactic(auto, using(sre_model::proofs::Moving::on_board))]
+#[inline(always)]
+pub(super) fn instruction<S: StrDrive, A: Allocator>(
+    req: &Request<'_, S>,
+    board: &mut Board<A>,
+    place: usize,
+    cursor: StringCursor,
+) -> Result<Next, Refusal>
+    requires { IsAt (run_of req.now) (Instruction place) cursor board.old }
+    ensures { IfOk result (λ next. Advances (run_of req.now) (Instruction place) cursor board.old next board.new) }
+{
+    // An arm for each test, so that each knows its own opcode.
+    macro_rules! with_tests {
+        ($($test:ident)*) => {
+            match opcode(req, place, cursor) {
+                SreOpcode::FAILURE => Ok(Next::Back),
+                SreOpcode::SUCCESS => Ok(Next::Done(cursor)),
+                SreOpcode::AT => Ok(at(req, place, cursor)),
+                SreOpcode::BRANCH => branch(req, board, place, cursor),
+                SreOpcode::JUMP => Ok(jump(req, place, cursor)),
+                SreOpcode::MARK => mark(req, board, place, cursor),
+                SreOpcode::REPEAT_ONE => repeat_one(req, board, place, cursor),
+                SreOpcode::MIN_REPEAT_ONE => min_repeat_one(req, board, place, cursor),
+                SreOpcode::POSSESSIVE_REPEAT_ONE => Ok(possessive_repeat_one(req, place, cursor)),
+                SreOpcode::REPEAT => repeat(req, board, place, cursor),
+                SreOpcode::MAX_UNTIL => max_until(req, board, place, cursor),
+                SreOpcode::MIN_UNTIL => min_until(req, board, place, cursor),
+                SreOpcode::POSSESSIVE_REPEAT => possessive_repeat(req, board, place, cursor),
+                SreOpcode::ATOMIC_GROUP => atomic_group(req, board, place, cursor),
+                SreOpcode::ASSERT => assert(req, board, place, cursor),
+                SreOpcode::ASSERT_NOT => assert_not(req, board, place, cursor),
+                $(SreOpcode::$test => Ok(test(req, SreOpcode::$test, place, cursor)),)*
+                _ => unreachable!(),
+            }
+        };
+    }
+    with_tests!(
+        ANY ANY_ALL CATEGORY
+        LITERAL LITERAL_IGNORE LITERAL_LOC_IGNORE LITERAL_UNI_IGNORE
+        NOT_LITERAL NOT_LITERAL_IGNORE NOT_LITERAL_LOC_IGNORE NOT_LITERAL_UNI_IGNORE
+        IN IN_IGNORE IN_LOC_IGNORE IN_UNI_IGNORE
+    )
+}

@@ -1,0 +1,70 @@
+//! Possessive loops: `POSSESSIVE_REPEAT skip least greatest body SUCCESS`, where the skip leads to the SUCCESS.
+//!
+//! Each body is a region, of which the first outcome alone counts, and the loop goes on from there. It never comes back
+//! to an earlier body. The loop is counted on the board before a body begins, so that the body's end finds it counted.
+
+ghost use Rattle.std.specs.Prelude.{IfOk};
+ghost use Rattle.sre_model.specs.Grammar.{Opcode};
+ghost use Rattle.sre_model.specs.declared.Point.TheVariants.{Instruction, Again};
+ghost use Rattle.sre_model.specs.Machine.{HasRun, IsAt, Advances};
+ghost use Rattle.sre_request.specs.Requests.{run_of};
+
+use crate::loops::{may_repeat, next_frame};
+use crate::machine::operand;
+use sre_board::Board;
+use sre_chars::constants::SreOpcode;
+use sre_chars::string::{StrDrive, StringCursor};
+use sre_growth::Refusal;
+use sre_model::{Frame, Next, Point, Region};
+use sre_request::Request;
+use std::alloc::Allocator;
+
+/// `POSSESSIVE_REPEAT skip least greatest body SUCCESS`: begins a loop, before its first body.
+#[inline(always)]
+pub(super) fn possessive_repeat<S: StrDrive, A: Allocator>(
+    req: &Request<'_, S>,
+    board: &mut Board<A>,
+    place: usize,
+    cursor: StringCursor,
+) -> Result<Next, Refusal>
+    requires opcode { Opcode (run_of req.now).words place SreOpcode.POSSESSIVE_REPEAT }
+    requires stands { HasRun (run_of req.now) (Instruction place) cursor }
+    ensures { IfOk result (λ next. Advances (run_of req.now) (Instruction place) cursor board.old next board.new) }
+{
+    let _ = req.end();
+    board.enter(Frame {
+        repeat: place,
+        count: 0,
+        last: None,
+    })?;
+    Ok(Next::Again(cursor))
+}
+
+/// A further body of the innermost loop, which is possessive, or its end.
+#[inline(always)]
+pub(super) fn again<S: StrDrive, A: Allocator>(
+    req: &Request<'_, S>,
+    board: &mut Board<A>,
+    cursor: StringCursor,
+) -> Result<Next, Refusal>
+    requires { IsAt (run_of req.now) Again cursor board.old }
+    ensures { IfOk result (λ next. Advances (run_of req.now) Again cursor board.old next board.new) }
+{
+    let frame = board.top();
+    let least = operand(req, frame.repeat, 2);
+    let greatest = operand(req, frame.repeat, 3);
+    let skip = operand(req, frame.repeat, 1) as usize;
+    let tail = frame.repeat + 1 + skip + 1;
+    board.leave();
+    if frame.count < least {
+        board.enter(next_frame(frame, frame.last))?;
+        board.save(Point::Inside(Region::Owed), cursor)?;
+        return Ok(Next::At(frame.repeat + 4, cursor));
+    }
+    if !may_repeat(greatest, frame, cursor) {
+        return Ok(Next::At(tail, cursor));
+    }
+    board.enter(next_frame(frame, Some(cursor.position())))?;
+    board.save(Point::Inside(Region::Further(tail)), cursor)?;
+    Ok(Next::At(frame.repeat + 4, cursor))
+}

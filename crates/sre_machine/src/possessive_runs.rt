@@ -1,0 +1,35 @@
+//! `POSSESSIVE_REPEAT_ONE skip least greatest test SUCCESS`: the longest run alone.
+
+ghost use Rattle.sre_model.specs.Grammar.{Opcode};
+ghost use Rattle.sre_model.specs.Board.{BoardValue};
+ghost use Rattle.sre_model.specs.declared.Point.TheVariants.{Instruction};
+ghost use Rattle.sre_model.specs.Machine.{HasRun, Advances};
+ghost use Rattle.sre_request.specs.Requests.{run_of};
+
+use crate::machine::operand;
+use sre_chars::constants::SreOpcode;
+use sre_chars::string::{StrDrive, StringCursor};
+use sre_model::Next;
+use sre_request::Request;
+use sre_request::runs::longest_run;
+
+/// The run's tail behind the longest run, if that is long enough.
+#[inline(always)]
+pub(super) fn possessive_repeat_one<S: StrDrive>(
+    req: &Request<'_, S>,
+    place: usize,
+    cursor: StringCursor,
+) -> Next
+    requires opcode { Opcode (run_of req.now).words place SreOpcode.POSSESSIVE_REPEAT_ONE }
+    requires stands { HasRun (run_of req.now) (Instruction place) cursor }
+    ensures { (b : BoardValue) → Advances (run_of req.now) (Instruction place) cursor b result b }
+{
+    let skip = operand(req, place, 1) as usize;
+    let least = operand(req, place, 2) as usize;
+    let greatest = operand(req, place, 3);
+    let run = longest_run(req, place + 4, greatest, cursor);
+    if run.0 < least {
+        return Next::Back;
+    }
+    Next::At(place + 1 + skip, run.1)
+}

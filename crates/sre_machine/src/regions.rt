@@ -1,0 +1,138 @@
+//! Regions: `ATOMIC_GROUP skip body SUCCESS`, and `ASSERT skip back body SUCCESS` and ASSERT_NOT alike.
+//!
+//! A region waits on the board while its body is in progress. Its body has at most one outcome that counts,
+//! the first: so the choices inside it go as soon as the body ends.
+
+ghost use Rattle.std.specs.Prelude.{◌≡◌, ◌-◌, ◌≤◌, [], IfOk, MatchOption};
+ghost use Rattle.sre_model.specs.Grammar.{Opcode};
+ghost use Rattle.sre_model.specs.Board.{from_region};
+ghost use Rattle.sre_model.specs.declared.Point.TheVariants.{Instruction};
+ghost use Rattle.sre_model.specs.Machine.{HasRun, Advances, Closes, after_outcome, without_outcome, without_loop};
+ghost use Rattle.sre_request.specs.Requests.{run_of};
+
+use crate::machine::operand;
+use sre_board::Board;
+use sre_chars::constants::SreOpcode;
+use sre_chars::string::{StrDrive, StringCursor};
+use sre_growth::Refusal;
+use sre_model::{Next, Point, Region};
+use sre_request::Request;
+use sre_request::text::back_by;
+use std::alloc::Allocator;
+
+/// `ATOMIC_GROUP skip body SUCCESS`: the first way of the body alone.
+#[inline(always)]
+pub(super) fn atomic_group<S: StrDrive, A: Allocator>(
+    req: &Request<'_, S>,
+    board: &mut Board<A>,
+    place: usize,
+    cursor: StringCursor,
+) -> Result<Next, Refusal>
+    requires opcode { Opcode (run_of req.now).words place SreOpcode.ATOMIC_GROUP }
+    requires stands { HasRun (run_of req.now) (Instruction place) cursor }
+    ensures { IfOk result (λ next. Advances (run_of req.now) (Instruction place) cursor board.old next board.new) }
+{
+    let skip = operand(req, place, 1);
+    board.save(
+        Point::Inside(Region::AtomicGroup(place + 1 + skip as usize)),
+        cursor,
+    )?;
+    Ok(Next::At(place + 2, cursor))
+}
+
+/// `ASSERT skip back body SUCCESS`: goes on here, where the body matches so many characters before.
+#[inline(always)]
+pub(super) fn assert<S: StrDrive, A: Allocator>(
+    req: &Request<'_, S>,
+    board: &mut Board<A>,
+    place: usize,
+    cursor: StringCursor,
+) -> Result<Next, Refusal>
+    requires opcode { Opcode (run_of req.now).words place SreOpcode.ASSERT }
+    requires stands { HasRun (run_of req.now) (Instruction place) cursor }
+    ensures { IfOk result (λ next. Advances (run_of req.now) (Instruction place) cursor board.old next board.new) }
+{
+    let skip = operand(req, place, 1);
+    let back = operand(req, place, 2) as usize;
+    if cursor.position() < back {
+        return Ok(Next::Back);
+    }
+    board.save(
+        Point::Inside(Region::Ahead(place + 1 + skip as usize)),
+        cursor,
+    )?;
+    Ok(Next::At(place + 3, back_by(req, cursor, back)))
+}
+
+/// `ASSERT_NOT skip back body SUCCESS`: goes on here, unless the body matches so many characters before.
+#[inline(always)]
+pub(super) fn assert_not<S: StrDrive, A: Allocator>(
+    req: &Request<'_, S>,
+    board: &mut Board<A>,
+    place: usize,
+    cursor: StringCursor,
+) -> Result<Next, Refusal>
+    requires opcode { Opcode (run_of req.now).words place SreOpcode.ASSERT_NOT }
+    requires stands { HasRun (run_of req.now) (Instruction place) cursor }
+    ensures { IfOk result (λ next. Advances (run_of req.now) (Instruction place) cursor board.old next board.new) }
+{
+    let skip = operand(req, place, 1);
+    let back = operand(req, place, 2) as usize;
+    let tail = place + 1 + skip as usize;
+    if cursor.position() < back {
+        return Ok(Next::At(tail, cursor));
+    }
+    board.save(Point::Inside(Region::NotAhead(tail)), cursor)?;
+    Ok(Next::At(place + 3, back_by(req, cursor, back)))
+}
+
+/// The innermost region, if there is one, ends at a cursor: its body has an outcome.
+#[inline(always)]
+pub(super) fn end<S: StrDrive, A: Allocator>(
+    req: &Request<'_, S>,
+    board: &mut Board<A>,
+    cursor: StringCursor,
+) -> Option<Next>
+    ensures { MatchOption result
+        ((from_region board.old.choices ≡ []) × (board.new ≡ board.old))
+        (λ next. Closes (run_of req.now) cursor board.old next board.new) }
+{
+    let _ = req.end();
+    let (region, entered) = board.cut()?;
+    Some(after_outcome(region, cursor, entered))
+}
+
+// What comes of a region whose body has an outcome at a cursor.
+#[inline(always)]
+fn after_outcome(region: Region, cursor: StringCursor, entered: StringCursor) -> Next
+    ensures { result ≡ after_outcome region cursor entered }
+{
+    match region {
+        Region::AtomicGroup(tail) => Next::At(tail, cursor),
+        Region::Ahead(tail) => Next::At(tail, entered),
+        Region::NotAhead(_) => Next::Back,
+        Region::Owed | Region::Further(_) => Next::Again(cursor),
+    }
+}
+
+/// What comes of a region whose body has no outcome. A possessive loop is left where a further body has none.
+#[inline(always)]
+pub(super) fn without_outcome<A: Allocator>(
+    board: &mut Board<A>,
+    region: Region,
+    entered: StringCursor,
+) -> Next
+    ensures next { result ≡ without_outcome region entered }
+    ensures board { board.new ≡ without_loop region board.old }
+{
+    match region {
+        Region::AtomicGroup(_) => Next::Back,
+        Region::Ahead(_) => Next::Back,
+        Region::NotAhead(tail) => Next::At(tail, entered),
+        Region::Owed => Next::Back,
+        Region::Further(tail) => {
+            board.leave();
+            Next::At(tail, entered)
+        }
+    }
+}

@@ -1,0 +1,142 @@
+//! The machine's loop: turns until the whole is decided.
+
+ghost use Rattle.std.specs.Prelude.{◌≡◌, ℕ, ◌+◌, ◌<◌, ◌≤◌, [], List, IfOk};
+ghost use Rattle.sre_model.specs.Marks.{no_marks};
+ghost use Rattle.sre_model.specs.Tree.{Tree};
+ghost use Rattle.sre_model.specs.Ways.{Way};
+ghost use Rattle.sre_model.specs.Grammar.{Whole};
+ghost use Rattle.sre_model.specs.Board.{bare};
+ghost use Rattle.sre_model.specs.Machine.{Stands, SaysAccepted, Decides, outcomes};
+ghost use Rattle.sre_request.specs.Requests.{end_of, run_of};
+
+use crate::machine::{back, instruction};
+use crate::possessive_loops::again;
+use crate::regions::end;
+use sre_board::Board;
+use sre_chars::string::{StrDrive, StringCursor};
+use sre_growth::Refusal;
+use sre_model::Next;
+use sre_request::Request;
+use sre_request::operands::know_words;
+use std::alloc::Allocator;
+use std::marker::{Brand, Model};
+use std::sync::ledger::{Blank, Book, Ledger, Share};
+
+// Whether an end is accepted, whatever the marks are.
+#[inline(always)]
+fn is_accepted<S: StrDrive>(req: &Request<'_, S>, stop: usize) -> bool
+    ensures { SaysAccepted (run_of req.now) stop result }
+{
+    (!req.match_all() || stop == req.end()) && (!req.must_advance() || stop != req.start())
+}
+
+// How many turns were taken. It takes no bytes, and only `tick` changes it.
+#[derive(Drop)]
+struct Turned<L: Ledger> {
+    book: Book<L>,
+    share: Share<L>,
+}
+
+impl<L: Ledger> Model for Turned<L> {
+    ghost use Rattle.std.specs.Prelude.{ℕ, ◌<◌};
+
+    ghost Value = { ℕ };
+
+    ghost view = { λ t. t.book.total };
+
+    ghost invariant = { λ t. 0 < t.share.parts };
+}
+
+impl<L: Ledger> Turned<L> {
+    #[inline(always)]
+    fn tick(&mut self)
+        ensures { self.new ≡ self.old + 1 }
+    {
+        self.book.add(&mut self.share, 1);
+    }
+}
+
+// The accepted outcomes of a run, and how many turns it takes at most.
+trait Plan {
+    ghost all: { List Way };
+
+    ghost limit: { ℕ };
+}
+
+impl Plan for Brand {
+    ghost all = { [] };
+
+    ghost limit = { 0 };
+}
+
+// Turns until the whole is decided: the cursor at the first accepted outcome's end, where there is one.
+#[inline(always)]
+fn turns<L: Ledger, K: Plan, S: StrDrive, A: Allocator>(
+    req: &Request<'_, S>,
+    board: &mut Board<A>,
+    start: StringCursor,
+    turned: &mut Turned<L>,
+) -> Result<Option<StringCursor>, Refusal>
+    requires new { turned.old ≡ 0 }
+    requires stands { Stands (run_of req.now) K.all K.limit (Next.At 0 start) board.old }
+    ensures { IfOk result (λ found. Decides (run_of req.now) K.all found board.new.marks) }
+{
+    let mut next = Next::At(0, start);
+    'turn: loop {
+        turned.tick();
+        match next {
+            Next::At(place, cursor) => next = instruction(req, board, place, cursor)?,
+            Next::Again(cursor) => next = again(req, board, cursor)?,
+            Next::Back => match back(req, board)? {
+                Some(after) => next = after,
+                None => return Ok(None),
+            },
+            Next::Done(cursor) => match end(req, board, cursor) {
+                Some(after) => next = after,
+                None => {
+                    if is_accepted(req, cursor.position()) {
+                        return Ok(Some(cursor));
+                    }
+                    next = Next::Back;
+                }
+            },
+        }
+    }
+}
+
+// Turns from the start, on an empty board.
+#[inline(always)]
+fn turns_from<L: Ledger, K: Plan, S: StrDrive, A: Allocator>(
+    req: &Request<'_, S>,
+    board: &mut Board<A>,
+    start: StringCursor,
+    blank: Blank,
+) -> Result<Option<StringCursor>, Refusal>
+    requires name { blank.name ≡ L.name }
+    requires parts { blank.parts ≡ L.parts }
+    requires some { 0 < blank.parts }
+    requires stands { Stands (run_of req.now) K.all K.limit (Next.At 0 start) board.old }
+    ensures { IfOk result (λ found. Decides (run_of req.now) K.all found board.new.marks) }
+{
+    let (book, share) = blank.open::<L>();
+    let mut turned = Turned { book, share };
+    turns::<L, K, S, A>(req, board, start, &mut turned)
+}
+
+/// Runs the machine from a cursor, on an empty board: the cursor at the end of the first accepted way, whose marks are
+/// then on the board, or `None` where no way is accepted.
+pub fn run<S: StrDrive, A: Allocator>(
+    req: &Request<'_, S>,
+    start: StringCursor,
+    board: &mut Board<A>,
+) -> Result<Option<StringCursor>, Refusal>
+    requires stands { (run_of req.now).stands start start.position }
+    requires inside { start.position ≤ end_of req.now }
+    requires fresh { board.old ≡ bare no_marks }
+    ensures { (t : Tree) → Whole (run_of req.now).words t
+        → IfOk result
+        (λ found. Decides (run_of req.now) (outcomes (run_of req.now) t start.position) found board.new.marks) }
+{
+    know_words(req.pattern_codes().words());
+    turns_from::<Brand, Brand, S, A>(req, board, start, Blank::new(1))
+}
