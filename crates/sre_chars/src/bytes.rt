@@ -1,5 +1,6 @@
 //! Bytes as a text: each byte is a character, so the offset of a cursor is its position.
 
+ghost use Rattle.std.proofs.Props.{props};
 ghost use Rattle.sre_chars.specs.Texts.{StandsInBytes};
 
 use crate::string::{StrDrive, StringCursor};
@@ -10,6 +11,8 @@ impl<'a> StrDrive for &'a [u8] {
     ghost stands = { λ s c p. StandsInBytes s.now c p };
 
     ghost stands_at = { λ s c p h. (h.0, h.2) };
+
+    ghost stands_once = { λ s c p. Prim.hlevel props };
 
     #[inline(always)]
     fn count(&self) -> usize {

@@ -138,4 +138,7 @@ pub trait StrDrive: Copy {
     // A cursor that stands at a place has it as its position, and it is one of the text's.
     ghost stands_at: { (s : Self) (c : StringCursor) (p : ℕ) → stands s c p
         → (c.position ≡ p) × (p ≤ length (text s)) };
+
+    // That a cursor stands at a place is a fact with one proof at most, so a type may keep it in a ghost field.
+    ghost stands_once: { (s : Self) (c : StringCursor) (p : ℕ) → IsProp (stands s c p) };
 }

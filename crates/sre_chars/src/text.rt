@@ -5,6 +5,7 @@
 
 ghost use Rattle.std.specs.Prelude.{◌≡◌, ◌+◌, ◌-◌, ◌^◌, ◌<◌, ◌≤◌, length, slice_index, count_by};
 ghost use Rattle.std.specs.Str.{chars, IsCharBoundary};
+ghost use Rattle.std.proofs.Props.{props};
 ghost use Rattle.sre_chars.specs.Texts.{StandsInText, offset_of, begins_char, begun};
 
 use crate::string::{StrDrive, StringCursor};
@@ -156,6 +157,8 @@ impl<'a> StrDrive for &'a str {
     ghost stands = { λ s c p. StandsInText s.now c p };
 
     ghost stands_at = { λ s c p h. (h.0, h.2) };
+
+    ghost stands_once = { λ s c p. Prim.hlevel props };
 
     #[inline]
     fn count(&self) -> usize {
