@@ -4,7 +4,7 @@
 //! one table of chains, and a chain is forgotten as soon as no choice can come back to it.
 
 ghost use Rattle.std.specs.Prelude.{◌≡◌, ℕ, ◌<◌, [], ◌∷◌, drop, length, reverse, IfOk, MatchOption};
-ghost use Rattle.sre_model.specs.Marks.{no_marks, set_mark};
+ghost use Rattle.sre_model.specs.Marks.{no_marks, set_mark, group};
 ghost use Rattle.sre_model.specs.Board.{choice, from_region, Cuts, bare};
 ghost use Rattle.sre_model.specs.declared.Point.TheVariants.{Inside};
 ghost use Rattle.sre_board.specs.Choices.{Fits, regions_of, down_to_region};
@@ -108,6 +108,12 @@ impl<A: Allocator + Copy> Board<A> {
             regions: 0,
         }
     }
+
+    /// The allocator that the board was made with.
+    #[inline(always)]
+    pub fn allocator(&self) -> A {
+        *self.choices.allocator()
+    }
 }
 
 impl<A: Allocator> Board<A> {
@@ -117,6 +123,17 @@ impl<A: Allocator> Board<A> {
         ensures { result.now ≡ self.now.marks }
     {
         self.trail.marks()
+    }
+
+    /// The start and the end of group `g`, counted from 0, where both are set and in order. Positions count characters.
+    #[inline(always)]
+    pub fn group(&self, g: u32) -> Option<(usize, usize)>
+        ensures { result ≡ group self.now.marks g }
+    {
+        match self.trail.marks().get(g as usize) {
+            (Some(start), Some(end)) if start <= end => Some((start, end)),
+            _ => None,
+        }
     }
 
     /// Takes all away; the memory is kept.
