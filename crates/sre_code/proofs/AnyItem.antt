@@ -1,8 +1,17 @@
 -- What the reading of an item answers, by its opcode.
-use Rattle.sre_code.proofs.ReadItems.{fail_exactly, one_nowhere, no_opcode}
+use Rattle.sre_code.proofs.ReadItems.{fail_exactly, reference_at, only_tests, no_opcode}
 use Rattle.sre_code.proofs.ReadRuns.{greedy_there, lazy_there, possessive_there}
 use Rattle.sre_code.proofs.ReadRegions.{assert_there, assert_not_there}
 
 -- what `item` answers
-pub ruleset item_laws =
-    (fail_exactly, one_nowhere, no_opcode, greedy_there, lazy_there, possessive_there, assert_there, assert_not_there)
+pub ruleset item_laws = (
+  fail_exactly,
+  no_opcode,
+  reference_at,
+  only_tests,
+  greedy_there,
+  lazy_there,
+  possessive_there,
+  assert_there,
+  assert_not_there,
+)

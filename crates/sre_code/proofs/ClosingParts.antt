@@ -40,7 +40,7 @@ whole_trails ws u i h ne = record {
 }
 
 -- where no opcode is, no item begins and nothing is closed
-no_first : (ws : List ℕ) (i k : ℕ) (t : Tree) → NoCode opcode_number ws i → Reads ws i k t → t ≡ Empty
+pub no_first : (ws : List ℕ) (i k : ℕ) (t : Tree) → NoCode opcode_number ws i → Reads ws i k t → t ≡ Empty
 no_first ws i k Empty n r = refl
 no_first ws i k (Then x t) n r = absurd (n.none (item_opcode x) r.1.0)
 

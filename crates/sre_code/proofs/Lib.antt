@@ -8,5 +8,6 @@ pub mod ReadBranches
 pub mod ReadRegions
 pub mod ReadBodies
 pub mod ClosingParts
+pub mod ReadConditions
 pub mod Descending
 pub mod Checked

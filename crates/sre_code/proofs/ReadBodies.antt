@@ -41,7 +41,6 @@ loop_exactly ws i end low high h ends lowest highest there le = record {
             opcode_moved ws f.0 (skip ws (i + 1)) (until_opcode c.1.0) at c.1.1,
             c.2 ∙ ap (λ n. n + 1) at,
           ),
-          tt,
         ),
         c.3 ∙ ap (λ n. held (n * held (0 + width f.1.0))) lowest
             ∙ ap (λ n. held (word ws (i + 2) * n)) (body_width f.1.0),

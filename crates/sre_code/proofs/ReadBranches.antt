@@ -27,7 +27,7 @@ branch_moved ws q q2 j j2 ts e f r =
     let Q : ℕ → Type 0 = λ n. ReadsBranch ws q2 n ts in
     subst Q f (subst P e r)
 
-jump_moved : (ws : List ℕ) (k k2 j : ℕ) → k ≡ k2 → JumpsTo ws k j → JumpsTo ws k2 j
+pub jump_moved : (ws : List ℕ) (k k2 j : ℕ) → k ≡ k2 → JumpsTo ws k j → JumpsTo ws k2 j
 jump_moved ws k k2 j e r = let P : ℕ → Type 0 = λ n. JumpsTo ws n j in subst P e r
 
 -- the two forms of what comes after an alternative
@@ -141,7 +141,7 @@ branch_exactly ws i b h x =
     let P : ℕ → Type 0 = λ n. Exactly ws (Opens (Alternative b.end b.tail 4294967295) n) (ItemAt ws i) in
     let at : i + 1 + 1 ≡ i + 2 = omega arith in
     subst P at (record {
-      sound = λ j w r. let ts = e.sound j w r in (Branch ts.0, (h, ts.1, tt), omega (arith, ts.2, least_held ts.0));
+      sound = λ j w r. let ts = e.sound j w r in (Branch ts.0, (h, ts.1), omega (arith, ts.2, least_held ts.0));
       complete = λ j w y. let f = is_branch ws i j y.0 (branch_here ws i h) y.1 in
           let wide : w ≡ least_width f.0 = y.2 ∙ ap item_width f.1 in
           e.complete j w (f.0, f.2.1, omega (arith, wide, least_held f.0));

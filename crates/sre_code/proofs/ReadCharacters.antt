@@ -46,10 +46,10 @@ category_cut ws i h n =
     record { none = λ k t r. let f = is_category ws i k t (category_here ws i h) r.0 r.1 in n.none f.0 f.2.0 }
 
 -- one of the opcodes of a form is that of a folding
-abbrev IsFolded : (Fold → SreOpcode) → SreOpcode → Type 0
+abbrev pub IsFolded : (Fold → SreOpcode) → SreOpcode → Type 0
 IsFolded f o = (o ≡ f Plain) ⊎ ((o ≡ f Ascii) ⊎ ((o ≡ f Locale) ⊎ (o ≡ f Unicode)))
 
-folded_at : (f : Fold → SreOpcode) (ws : List ℕ) (i : ℕ) (o : SreOpcode) → Opcode ws i o → IsFolded f o
+pub folded_at : (f : Fold → SreOpcode) (ws : List ℕ) (i : ℕ) (o : SreOpcode) → Opcode ws i o → IsFolded f o
     → FoldedAt f ws i
 folded_at f ws i o h (inl e) = record { fold = Plain; there = subst (Opcode ws i) e h }
 folded_at f ws i o h (inr (inl e)) = record { fold = Ascii; there = subst (Opcode ws i) e h }

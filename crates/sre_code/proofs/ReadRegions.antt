@@ -74,7 +74,6 @@ possessive_exactly ws i end low high h ends lowest highest there le = record {
             opcode_moved ws f.0 (skip ws (i + 1)) opcode.SUCCESS at c.1,
             c.2 ∙ ap (λ n. n + 1) at,
           ),
-          tt,
         ),
         c.3 ∙ ap (λ n. held (n * held (0 + width f.1.0))) lowest
             ∙ ap (λ n. held (word ws (i + 2) * n)) (body_width f.1.0),
@@ -139,7 +138,6 @@ atomic_exactly ws i tail h leads long = record {
             reads_moved ws (i + 2) (i + 2) f.0 (j - 1) f.1.0 refl at f.1.1,
             opcode_moved ws f.0 (j - 1) opcode.SUCCESS at c.1,
           ),
-          tt,
         ),
         c.3 ∙ once f.1.0,
       );
@@ -196,7 +194,6 @@ look_exactly ws i tail h leads long = record {
             reads_moved ws (i + 3) (i + 3) f.0 (j - 1) f.1.0 refl at f.1.1,
             opcode_moved ws f.0 (j - 1) opcode.SUCCESS at c.1,
           ),
-          tt,
         ),
         c.3 ∙ never_counts (held (0 + width f.1.0)),
       );

@@ -81,7 +81,6 @@ run_exactly ws i e t v high h skips low highest there le x closed ends =
         subst P at x.reads.1,
         opcode_moved ws e (t - 1) opcode.SUCCESS at closed,
       ),
-      tt,
     ) low
     (λ j y r. let f = run_here ws i j y h r in (f.ends ∙ sym skips, f.width ∙ sym low))
 

@@ -2,14 +2,15 @@
 -- Words of the check's contracts; what sre_engine makes public does not rest on it.
 use Rattle.std.specs.Prelude.{ℕ, ◌+◌, ◌*◌, ◌≡◌, ◌<◌, ◌≤◌, ◌⊎◌, min, List, length, Option, Some, None, Result, Ok, Err}
 use Rattle.sre_chars.specs.declared.constants.SreOpcode.TheVariants as opcode
-use Rattle.sre_model.specs.Tree.{Tree, Empty, Item, Trees, Order, RunKind, Sign}
+use Rattle.sre_model.specs.Tree.{Tree, Empty, Item, One, Trees, Order, RunKind, Sign, Test}
 use Rattle.sre_model.specs.Grammar.{Word, Opcode, run_opcode, until_opcode, look_opcode, JumpsTo, Reads, ReadsItem}
 use Rattle.sre_model.specs.Grammar.{ReadsBranch}
 use Rattle.sre_model.specs.Width.{held, width, item_width, least_width}
-use Rattle.sre_code.specs.Reading.{Within}
+use Rattle.sre_code.specs.Reading.{Within, ReadsTest}
 use Rattle.sre_code.specs.declared.code.error.CodeError.{CodeError}
 use Rattle.sre_code.specs.declared.code.step.Part.{Part}
-use Rattle.sre_code.specs.declared.code.step.Part.TheVariants.{Whole, Alternative, Body, Region}
+use Rattle.sre_code.specs.declared.code.step.Part.TheVariants.{Whole, Alternative, Body, Region, There}
+use Rattle.sre_code.specs.declared.code.step.Part.TheVariants.{Absent}
 use Rattle.sre_code.specs.declared.code.step.Bounds.{Bounds}
 use Rattle.sre_code.specs.declared.code.step.Step.{Step}
 use Rattle.sre_code.specs.declared.code.step.Step.TheVariants.{Past, Opens}
@@ -24,6 +25,10 @@ pub record LookAt (ws : List ℕ) (i : ℕ) : Type 0 where
   pub sign : Sign
   pub there : Opcode ws i (look_opcode sign)
 
+-- each item at i is a test
+pub record OnlyTests (ws : List ℕ) (i : ℕ) : Type 0 where
+  pub test : (j : ℕ) (x : Item) → ReadsItem ws i j x → (t : Test) × (x ≡ One t) × ReadsTest ws i j t
+
 -- an item of width w is at i and ends at j
 abbrev pub ItemAt : List ℕ → ℕ → ℕ → ℕ → Type 0
 ItemAt ws i j w = (item : Item) × ReadsItem ws i j item × (w ≡ item_width item)
@@ -33,6 +38,10 @@ abbrev pub More : List ℕ → ℕ → ℕ → ℕ → ℕ → Type 0
 More ws q tail least w =
     (Word ws q 0 × (tail ≡ q + 1) × (w ≡ least))
     ⊎ ((ts : Trees) × ReadsBranch ws q tail ts × (w ≡ min least (least_width ts)))
+
+-- the no part of a condition from q up to j; the least width of both parts is w, of which the yes part has u
+abbrev pub Else : List ℕ → ℕ → ℕ → ℕ → ℕ → Type 0
+Else ws q u j w = (t : Tree) × Reads ws q j t × (w ≡ min u (width t))
 
 -- MAX_UNTIL or MIN_UNTIL is at k
 abbrev pub IsUntil : List ℕ → ℕ → Type 0
@@ -46,6 +55,9 @@ Closes ws (Body end least) k u j w = (k ≡ end) × IsUntil ws k × (j ≡ k + 1
 Closes ws (Region end least) k u j w = (k ≡ end) × Opcode ws k opcode.SUCCESS × (j ≡ k + 1) × (w ≡ held (least * u))
 Closes ws (Alternative end tail least) k u j w =
     (k ≡ end) × JumpsTo ws k tail × More ws (k + 2) tail (min least u) w × (j ≡ tail)
+Closes ws (There tail) k u j w =
+    ((k ≡ tail) × (j ≡ tail) × (w ≡ 0)) ⊎ ((k + 2 ≡ tail) × JumpsTo ws k j × Else ws tail u j w)
+Closes ws (Absent end least) k u j w = (k ≡ end) × (j ≡ end) × (w ≡ min least u)
 
 -- the words from i on are what is left of a part whose items so far have width a
 abbrev pub Finishes : List ℕ → Part → ℕ → ℕ → ℕ → ℕ → Type 0

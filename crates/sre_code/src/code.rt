@@ -16,6 +16,7 @@ ghost use Rattle.sre_growth.specs.Refusal.{Refused};
 mod branch;
 mod character;
 pub(crate) mod check;
+mod condition;
 mod descent;
 mod error;
 mod item;

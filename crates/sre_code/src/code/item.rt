@@ -1,11 +1,12 @@
 //! Items, by their opcodes.
 
-ghost use Rattle.sre_model.specs.Grammar.{Opcode};
-ghost use Rattle.sre_code.specs.Steps.{Gives, ItemAt, ItemGives, RunAt};
+ghost use Rattle.sre_model.specs.Grammar.{Opcode, reference_opcode};
+ghost use Rattle.sre_code.specs.Reading.{FoldedAt};
+ghost use Rattle.sre_code.specs.Steps.{Gives, ItemAt, ItemGives, OnlyTests, RunAt};
 
 use crate::code::error::CodeError;
 use crate::code::step::Step;
-use crate::code::{branch, character, region, repeat, words};
+use crate::code::{branch, character, condition, region, repeat, words};
 use sre_chars::constants::SreOpcode;
 
 /// `<AT> <position>`
@@ -25,6 +26,19 @@ fn at(words: &[u32], place: usize) -> Result<Step, CodeError>
 #[tactic(auto, using(crate::proofs::ReadItems::mark_exactly, crate::proofs::ReadItems::mark_cut))]
 fn mark(words: &[u32], place: usize) -> Result<Step, CodeError>
     requires { Opcode words.now place SreOpcode.MARK }
+    ensures { Gives words.now place (ItemAt words.now place) result }
+{
+    words::operand(words, place + 1)?;
+    Ok(Step::Past {
+        place: place + 2,
+        width: 0,
+    })
+}
+
+/// `<GROUPREF> <group>`, under each folding
+#[tactic(auto, using(crate::proofs::ReadItems::reference_exactly, crate::proofs::ReadItems::reference_cut))]
+fn reference(words: &[u32], place: usize) -> Result<Step, CodeError>
+    requires { FoldedAt reference_opcode words.now place }
     ensures { Gives words.now place (ItemAt words.now place) result }
 {
     words::operand(words, place + 1)?;
@@ -61,6 +75,19 @@ fn run(words: &[u32], place: usize) -> Result<Step, CodeError>
     })
 }
 
+/// A test of one character, which has this opcode.
+#[tactic(auto, using(crate::proofs::ReadItems::one_exactly, crate::proofs::ReadItems::one_nowhere))]
+fn one(words: &[u32], place: usize, code: SreOpcode) -> Result<Step, CodeError>
+    requires opcode { Opcode words.now place code }
+    requires only { OnlyTests words.now place }
+    ensures { Gives words.now place (ItemAt words.now place) result }
+{
+    Ok(Step::Past {
+        place: character::test(words, place, code)?,
+        width: 1,
+    })
+}
+
 /// The item at this place.
 #[tactic(auto, using(crate::proofs::AnyItem::item_laws))]
 pub fn item(words: &[u32], place: usize) -> Result<Step, CodeError>
@@ -83,9 +110,11 @@ pub fn item(words: &[u32], place: usize) -> Result<Step, CodeError>
         SreOpcode::ATOMIC_GROUP => region::atomic_group(words, place),
         SreOpcode::ASSERT => region::look(words, place),
         SreOpcode::ASSERT_NOT => region::look(words, place),
-        _ => Ok(Step::Past {
-            place: character::test(words, place, code)?,
-            width: 1,
-        }),
+        SreOpcode::GROUPREF
+        | SreOpcode::GROUPREF_IGNORE
+        | SreOpcode::GROUPREF_LOC_IGNORE
+        | SreOpcode::GROUPREF_UNI_IGNORE => reference(words, place),
+        SreOpcode::GROUPREF_EXISTS => condition::condition(words, place),
+        _ => one(words, place, code),
     }
 }

@@ -5,7 +5,7 @@ ghost use Rattle.sre_code.specs.Steps.{Closing};
 
 use crate::code::error::CodeError;
 use crate::code::step::{Bounds, Part, Step};
-use crate::code::{branch, region, repeat, words};
+use crate::code::{branch, condition, region, repeat, words};
 use sre_chars::constants::SreOpcode;
 
 /// SUCCESS, as the last word.
@@ -38,5 +38,7 @@ pub fn close(words: &[u32], place: usize, part: Part, width: u32) -> Result<Opti
         }
         Part::Body { end, least } => repeat::until(words, place, end, least, width),
         Part::Region { end, least } => region::end(words, place, end, least, width),
+        Part::There { tail } => condition::there(words, place, tail, width),
+        Part::Absent { end, least } => Ok(condition::absent(place, end, least, width)),
     }
 }

@@ -12,6 +12,10 @@ pub enum Part {
     /// The body of a possessive loop, an atomic group or a look: SUCCESS at `end`;
     /// it counts for the width `least` times.
     Region { end: usize, least: u32 },
+    /// The yes part of a condition: it ends at `tail`, or by JUMP two words before it, and then the no part is there.
+    There { tail: usize },
+    /// The no part of a condition: it ends at `end`; `least` is the least width of the yes part.
+    Absent { end: usize, least: u32 },
 }
 
 /// An open part, and the least width of its items so far.
