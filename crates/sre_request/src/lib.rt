@@ -7,6 +7,7 @@
 pub mod one_character;
 pub mod operands;
 pub mod position;
+pub mod references;
 mod request;
 pub mod runs;
 mod set;
