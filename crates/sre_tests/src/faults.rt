@@ -16,7 +16,7 @@ pub fn refusal(alloc: Global, words: &[u32]) -> Option<CodeError> {
 }
 
 // Words that are cut short stand beside the lawful ones.
-const FAULTS: [(&[u32], CodeError); 67] = [
+const FAULTS: [(&[u32], CodeError); 87] = [
     (&[1, 43], CodeError::TrailingWords(1)),
     (&[43, 1], CodeError::UnknownOpcode(0)),
     (&[16, 97, NO_LIMIT, 1], CodeError::UnknownOpcode(2)),
@@ -101,6 +101,30 @@ const FAULTS: [(&[u32], CodeError); 67] = [
     (&[5, 5, 1, 16, 97, 16, 98, 1, 1], CodeError::BadItem(5)),
     (&[4, 5, 0, 16, 97, 18, 1], CodeError::BadItem(5)),
     (&[5, 5, 0, 16, 97, 0, 1], CodeError::BadItem(5)),
+    // references: one operand
+    (&[11, 1], CodeError::Truncated(2)),
+    (&[30, 0, 1, 1], CodeError::TrailingWords(3)),
+    (&[34, 0, 43, 1], CodeError::UnknownOpcode(2)),
+    (&[38, 0, 15, 1], CodeError::BadItem(2)),
+    // conditions: a skip before the yes part, into an item, past its end, past the words, and out of a part in it
+    (&[12, 0, 0, 1], CodeError::BadSkip(2)),
+    (&[12, 0, 1, 1], CodeError::BadSkip(2)),
+    (&[12, 0, 3, 16, 97, 1], CodeError::BadItem(5)),
+    (&[12, 0, 5, 16, 97, 1], CodeError::BadItem(5)),
+    (&[12, 0, NO_LIMIT, 16, 97, 1], CodeError::BadItem(5)),
+    (&[12, 0, 5, 27, 4, 16, 97, 1, 1], CodeError::BadItem(8)),
+    (&[12, 0, 6, 16, 97, 43, 1, 1], CodeError::UnknownOpcode(5)),
+    // a JUMP that is not two words before the place where the skip leads
+    (&[12, 0, 7, 16, 97, 15, 2, 16, 98, 1], CodeError::BadItem(5)),
+    (&[12, 0, 5, 16, 97, 15, 1, 1], CodeError::BadItem(5)),
+    (&[12, 0, 3, 15, 1, 1], CodeError::BadItem(3)),
+    // a JUMP back, to its skip, into an item, past the no part's end, past the words, and over a further JUMP
+    (&[12, 0, 4, 15, 0, 1], CodeError::BadSkip(4)),
+    (&[12, 0, 6, 16, 97, 15, 0, 16, 98, 1], CodeError::BadSkip(6)),
+    (&[12, 0, 6, 16, 97, 15, 2, 16, 98, 1], CodeError::BadItem(9)),
+    (&[12, 0, 6, 16, 97, 15, 4, 16, 98, 1], CodeError::BadItem(9)),
+    (&[12, 0, 4, 15, NO_LIMIT, 1], CodeError::BadItem(5)),
+    (&[12, 0, 4, 15, 3, 15, 1, 1], CodeError::BadItem(5)),
 ];
 
 /// A code of one set in blocks: some front words, block numbers of 0 from them on, empty blocks up to a place, and a

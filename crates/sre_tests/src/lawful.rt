@@ -10,7 +10,7 @@ use std::test::Fail;
 
 const NO_LIMIT: u32 = u32::MAX;
 
-const LAWFUL: [&[u32]; 39] = [
+const LAWFUL: [&[u32]; 47] = [
     &[1],
     &[0, 1],
     &[2, 3, 1],
@@ -57,6 +57,17 @@ const LAWFUL: [&[u32]; 39] = [
     &[4, 5, NO_LIMIT, 16, 97, 1, 1],
     &[5, 5, 1, 16, 97, 1, 1],
     &[5, 9, 0, 4, 5, 1, 16, 97, 1, 1, 1],
+    // references to any group
+    &[11, 0, 30, 1, 34, NO_LIMIT, 38, 15, 1],
+    // conditions without a no part, also where the word of a JUMP is an operand
+    &[12, 0, 2, 1],
+    &[12, NO_LIMIT, 4, 16, 97, 1],
+    &[12, 0, 5, 16, 15, 2, 1],
+    &[23, 8, 0, NO_LIMIT, 12, 0, 4, 16, 97, 18, 1],
+    // conditions with both parts, one in another
+    &[12, 0, 4, 15, 1, 1],
+    &[12, 1, 6, 16, 97, 15, 3, 16, 98, 1],
+    &[12, 0, 9, 12, 1, 4, 15, 1, 15, 4, 12, 0, 2, 1],
 ];
 
 // A code shows what it was made of; less than its words is cut short, and there are none behind them.
