@@ -68,7 +68,6 @@ fn is_repeated_folded<S: StrDrive>(
 
 /// The cursor behind so many characters of the window from a cursor on, where they are those of a group from its start
 /// on, both as the folding of the reference's opcode shows them.
-#[inline(always)]
 pub fn is_repeated<S: StrDrive>(
     req: &Request<'_, S>,
     opcode: SreOpcode,
