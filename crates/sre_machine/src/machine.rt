@@ -15,6 +15,7 @@ ghost use Rattle.sre_model.specs.Machine.{family, Testing, HasRun, IsAt, IsBack,
 ghost use Rattle.sre_model.specs.Machine.{Skips, SkipsBoth, Stands};
 ghost use Rattle.sre_request.specs.Requests.{end_of, run_of};
 
+use crate::groups::{condition, reference};
 use crate::lazy_runs::{longer, min_repeat_one};
 use crate::loops::{max_until, min_until, repeat};
 use crate::possessive_loops::possessive_repeat;
@@ -355,9 +356,9 @@ pub(super) fn instruction<S: StrDrive, A: Allocator>(
     requires { IsAt (run_of req.now) (Instruction place) cursor board.old }
     ensures { IfOk result (λ next. Advances (run_of req.now) (Instruction place) cursor board.old next board.new) }
 {
-    // An arm for each test, so that each knows its own opcode.
-    macro_rules! with_tests {
-        ($($test:ident)*) => {
+    // An arm for each test and each reference, so that each knows its own opcode.
+    macro_rules! by_opcode {
+        ($($test:ident)*; $($reference:ident)*) => {
             match opcode(req, place, cursor) {
                 SreOpcode::FAILURE => Ok(Next::Back),
                 SreOpcode::SUCCESS => Ok(Next::Done(cursor)),
@@ -375,15 +376,26 @@ pub(super) fn instruction<S: StrDrive, A: Allocator>(
                 SreOpcode::ATOMIC_GROUP => atomic_group(req, board, place, cursor),
                 SreOpcode::ASSERT => assert(req, board, place, cursor),
                 SreOpcode::ASSERT_NOT => assert_not(req, board, place, cursor),
+                SreOpcode::GROUPREF_EXISTS => Ok(condition(req, board, place, cursor)),
                 $(SreOpcode::$test => Ok(test(req, SreOpcode::$test, place, cursor)),)*
-                _ => unreachable!(),
+                $(SreOpcode::$reference => {
+                    Ok(reference(req, board, SreOpcode::$reference, place, cursor))
+                })*
+                SreOpcode::CHARSET => unreachable!(),
+                SreOpcode::BIGCHARSET => unreachable!(),
+                SreOpcode::INFO => unreachable!(),
+                SreOpcode::NEGATE => unreachable!(),
+                SreOpcode::RANGE => unreachable!(),
+                SreOpcode::SUBPATTERN => unreachable!(),
+                SreOpcode::RANGE_UNI_IGNORE => unreachable!(),
             }
         };
     }
-    with_tests!(
+    by_opcode!(
         ANY ANY_ALL CATEGORY
         LITERAL LITERAL_IGNORE LITERAL_LOC_IGNORE LITERAL_UNI_IGNORE
         NOT_LITERAL NOT_LITERAL_IGNORE NOT_LITERAL_LOC_IGNORE NOT_LITERAL_UNI_IGNORE
-        IN IN_IGNORE IN_LOC_IGNORE IN_UNI_IGNORE
+        IN IN_IGNORE IN_LOC_IGNORE IN_UNI_IGNORE;
+        GROUPREF GROUPREF_IGNORE GROUPREF_LOC_IGNORE GROUPREF_UNI_IGNORE
     )
 }

@@ -1,7 +1,7 @@
 -- Turns at a reference to a group, and at a condition on one.
 use Rattle.std.proofs.Common.{◌≡◌, ℕ, ◌+◌, ◌-◌, ◌<◌, ◌≤◌, true, false, nat_le, List, length, Some}
-use Rattle.std.proofs.Common.{None, refl, arith}
-use Rattle.std.proofs.lemmas.Bool.Decides.{nat_tests}
+use Rattle.std.proofs.Common.{None, refl, ap}
+use Rattle.sre_chars.specs.declared.constants.SreOpcode.{SreOpcode}
 use Rattle.sre_chars.specs.declared.constants.SreOpcode.TheVariants as opcode
 use Rattle.sre_chars.specs.declared.string.StringCursor.{StringCursor}
 use Rattle.sre_model.specs.Tree.{Fold}
@@ -13,9 +13,10 @@ use Rattle.sre_model.specs.Board.{BoardValue}
 use Rattle.sre_model.specs.declared.Point.TheVariants.{Instruction}
 use Rattle.sre_model.specs.Moves.{Move, Stop, Go}
 use Rattle.sre_model.specs.MovesAtGroups.{reference_turn, condition_place}
-use Rattle.sre_model.specs.Machine.{Asking, Referring, Moves, Run, Goes, Later, spot, HasRun}
+use Rattle.sre_model.specs.Roles.{ToRefer, role}
+use Rattle.sre_model.specs.Machine.{family_of, Asking, Referring, Moves, Run, Goes, Later, spot, HasRun}
 use Rattle.sre_model.specs.declared.Next.TheVariants as next
-use Rattle.sre_model.proofs.Words.{word_of, word_within}
+use Rattle.sre_model.proofs.Words.{same_opcode, word_of, word_within}
 use Rattle.sre_model.proofs.Moving.{in_family, at_instruction, turn_stops, turn_goes}
 use Rattle.sre_model.proofs.RanAtGroups.{reference-family}
 
@@ -25,6 +26,13 @@ pub reference_operand : (r : Run) (fold : Fold) (i : ℕ) (c : StringCursor) →
 reference_operand r fold i c w x =
     let h = (in_family (reference_opcode fold) Referring (reference-family fold) w x.runs).1 in
     word_within r.words (i + 1) h.number h.there
+
+-- which folding it is
+pub reference_there : (r : Run) (i : ℕ) (c : StringCursor) (o : SreOpcode) → Opcode r.words i o → role o ≡ ToRefer
+    → HasRun r (Instruction i) c → (fold : Fold) × (o ≡ reference_opcode fold) × Opcode r.words i (reference_opcode fold)
+reference_there r i c o w e x =
+    let h = (in_family o Referring (ap (λ k. family_of k) e) w x.runs).1 in
+    (h.fold, same_opcode r.words i o (reference_opcode h.fold) w h.code, h.code)
 
 module _ (r : Run) (fold : Fold) (i g : ℕ) (c : StringCursor) (b : BoardValue)
     (w : Opcode r.words i (reference_opcode fold)) (there : Word r.words (i + 1) g) where
@@ -40,25 +48,21 @@ module _ (r : Run) (fold : Fold) (i g : ℕ) (c : StringCursor) (b : BoardValue)
 
   module _ (x y : ℕ) (known : group b.marks g ≡ Some (x, y)) where
     -- the group is longer than what is left of the window, or the window goes on otherwise
-    pub reference_past : r.subject.end < c.position + (y - x) → (all : List Way) (limit : ℕ)
+    pub reference_past : nat_le (c.position + (y - x)) r.subject.end ≡ false → (all : List Way) (limit : ℕ)
         → Goes r all limit (Instruction i) c b → Later r all limit next.Back b
-    reference_past l =
-        let past : nat_le (c.position + (y - x)) r.subject.end ≡ false = grind (arith, nat_tests) in
-        turn_stops r (Instruction i) c b (refers Stop (rw (known, past, reference_turn) refl))
+    reference_past past = turn_stops r (Instruction i) c b (refers Stop (rw (known, past, reference_turn) refl))
 
-    pub reference_unlike : c.position + (y - x) ≤ r.subject.end
+    pub reference_unlike : nat_le (c.position + (y - x)) r.subject.end ≡ true
         → same_folded r.subject fold (y - x) x c.position ≡ false → (all : List Way) (limit : ℕ)
         → Goes r all limit (Instruction i) c b → Later r all limit next.Back b
-    reference_unlike l unlike =
-        let inside : nat_le (c.position + (y - x)) r.subject.end ≡ true = grind (arith, nat_tests) in
+    reference_unlike inside unlike =
         turn_stops r (Instruction i) c b (refers Stop (rw (known, inside, unlike, reference_turn) refl))
 
-    pub reference_step : (after : StringCursor) → c.position + (y - x) ≤ r.subject.end
+    pub reference_step : (after : StringCursor) → nat_le (c.position + (y - x)) r.subject.end ≡ true
         → same_folded r.subject fold (y - x) x c.position ≡ true → after.position ≡ c.position + (y - x)
         → r.stands after after.position → (all : List Way) (limit : ℕ) → Goes r all limit (Instruction i) c b
         → Later r all limit (next.At (i + 2) after) b
-    reference_step after l alike place stands all limit k =
-        let inside : nat_le (c.position + (y - x)) r.subject.end ≡ true = grind (arith, nat_tests) in
+    reference_step after inside alike place stands all limit k =
         turn_goes r (Instruction i) c b (Instruction (i + 2)) after b
         (refers (Go (spot (Instruction (i + 2)) after b)) (rw (known, inside, alike, place, reference_turn) refl))
         stands k.placed refl all limit k

@@ -1,20 +1,6 @@
 use Rattle.sre_request.specs.Requests.{run_of}
-use Rattle.sre_model.proofs.Moving.{on_board}
-use Rattle.sre_model.proofs.StepsAtItems.{only_built, unbuilt, failure_step, success_step}
+use Rattle.sre_model.proofs.StepsAtItems.{failure_step, success_step}
 use Rattle.sre_machine.proofs.machine.instruction.Goals as goal
-
-pub unreachable-requires : goal.unreachable-requires
-unreachable-requires g c =
-    only_built (run_of c.args.req.now) _ c.args.cursor c.opcode.result (on_board _ _ _ _ c.requires)
-    c.opcode.ensures.code (unbuilt c.opcode.result c.in_default.not-FAILURE c.in_default.not-SUCCESS
-    c.in_default.not-ANY c.in_default.not-ANY_ALL c.in_default.not-AT c.in_default.not-BRANCH c.in_default.not-CATEGORY
-    c.in_default.not-IN c.in_default.not-JUMP c.in_default.not-LITERAL c.in_default.not-MARK
-    c.in_default.not-NOT_LITERAL c.in_default.not-REPEAT_ONE c.in_default.not-MIN_REPEAT_ONE c.in_default.not-REPEAT
-    c.in_default.not-MAX_UNTIL c.in_default.not-MIN_UNTIL c.in_default.not-POSSESSIVE_REPEAT_ONE
-    c.in_default.not-ATOMIC_GROUP c.in_default.not-ASSERT c.in_default.not-ASSERT_NOT c.in_default.not-POSSESSIVE_REPEAT
-    c.in_default.not-IN_IGNORE c.in_default.not-LITERAL_IGNORE c.in_default.not-NOT_LITERAL_IGNORE
-    c.in_default.not-IN_LOC_IGNORE c.in_default.not-LITERAL_LOC_IGNORE c.in_default.not-NOT_LITERAL_LOC_IGNORE
-    c.in_default.not-IN_UNI_IGNORE c.in_default.not-LITERAL_UNI_IGNORE c.in_default.not-NOT_LITERAL_UNI_IGNORE)
 
 pub returns-in-FAILURE : goal.returns-in-FAILURE
 returns-in-FAILURE g c = failure_step (run_of c.args.req.now) _ c.args.cursor _ c.in-FAILURE.ensures.code
