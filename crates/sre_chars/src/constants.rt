@@ -9,8 +9,13 @@ ghost use Rattle.std.specs.Ordering.{on};
 ghost use Rattle.std.proofs.Common.{rules};
 ghost use Rattle.sre_chars.specs.Numbers.{IsCodeOf, at_number, category_number, opcode_number};
 
+pub use sre_flags::{SreFlag, SreInfo};
 use std::convert::TryFrom;
 use thiserror::Error;
+
+/// The magic number of the words that this engine runs, as CPython's `_sre` and `rustpython-sre_engine` have it:
+/// it changes with the numbers and layouts. Nothing here asks for it, and no word holds it.
+pub const SRE_MAGIC: usize = 20221023;
 
 /// The number of bytes of a word.
 pub const CODESIZE: usize = 4;

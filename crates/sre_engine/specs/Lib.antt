@@ -1,3 +1,4 @@
+pub use Rattle.sre_flags.specs.Flags
 pub use Rattle.sre_model.specs.Tree
 pub use Rattle.sre_model.specs.Marks
 pub use Rattle.sre_model.specs.Characters

@@ -4,7 +4,9 @@
 pub mod engine;
 
 pub use engine::State;
-pub use sre_chars::constants::{CODESIZE, MAXGROUPS, MAXREPEAT, SreAtCode, SreCatCode, SreOpcode};
+pub use sre_chars::constants::{
+    CODESIZE, MAXGROUPS, MAXREPEAT, SRE_MAGIC, SreAtCode, SreCatCode, SreFlag, SreInfo, SreOpcode,
+};
 pub use sre_chars::string::{StrDrive, StringCursor, UniTable};
 pub use sre_chars::{constants, string};
 pub use sre_code::{Code, code};

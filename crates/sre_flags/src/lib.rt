@@ -7,7 +7,7 @@
 #![tactic(auto)]
 
 ghost use Rattle.std.specs.Prelude.{⊤};
-ghost use Rattle.sre_flags.specs.Flags.{flag_number, pattern_flags, block_flags, info_number};
+ghost use Rattle.sre_flags.specs.Flags.{block_flags, flag_number, info_number, pattern_flags};
 
 use bitflags::{Flag, Flags};
 

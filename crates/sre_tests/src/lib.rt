@@ -1,14 +1,16 @@
 //! Tests of the engine: what neither a clause of a contract nor a line of the program shows.
 //!
 //! That is the causes and places of refused words, each request for memory refused in turn, large inputs with ample
-//! memory, a state that goes from text to text, offsets in bytes, and the names at the engine's root. Answers to words
-//! and texts stand in the cases that the program is run on.
+//! memory, a state that goes from text to text, offsets in bytes, the bits of the flag types, and the names at the
+//! engine's root. Answers to words and texts stand in the cases that the program is run on.
 #![tactic(auto)]
 
 #[cfg(test)]
 mod asking;
 #[cfg(test)]
 mod faults;
+#[cfg(test)]
+mod flags;
 #[cfg(test)]
 mod large;
 #[cfg(test)]

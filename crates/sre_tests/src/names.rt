@@ -1,8 +1,8 @@
 //! The names at the engine's root, and those of its modules.
 
 use sre_engine::{
-    CODESIZE, Code, MAXGROUPS, MAXREPEAT, Request, SreAtCode, SreCatCode, SreOpcode, State,
-    StrDrive, StringCursor, UniTable, code, constants, engine, string,
+    CODESIZE, Code, MAXGROUPS, MAXREPEAT, Request, SRE_MAGIC, SreAtCode, SreCatCode, SreFlag,
+    SreInfo, SreOpcode, State, StrDrive, StringCursor, UniTable, code, constants, engine, string,
 };
 use std::alloc::Global;
 use std::convert::TryFrom;
@@ -49,6 +49,8 @@ fn searched(
 #[test]
 fn names_stand_at_the_root_and_in_their_modules(rt: HostRuntime) -> Result<(), Fail> {
     assert!(rt; (CODESIZE, MAXREPEAT, MAXGROUPS) == (4, 4_294_967_295, 2_147_483_647));
+    let (flag, claim): (constants::SreFlag, constants::SreInfo) = (SreFlag::ASCII, SreInfo::PREFIX);
+    assert!(rt; SRE_MAGIC == 20_221_023 && (flag, claim) == (SreFlag::ASCII, SreInfo::PREFIX));
     let words = words()?;
     let uni: string::UniTable = UniTable::ascii(rt.alloc());
     let checked: Result<code::Code<'_>, code::CodeError> = Code::check(rt.alloc(), &words, &uni);

@@ -1,0 +1,64 @@
+//! The flag types by the calls of `Flags`: which bits the constants have, and which are dropped.
+
+use bitflags::Flags;
+use sre_engine::{SreFlag, SreInfo};
+
+// The constants with their names and bits in CPython's `_constants.py`, lowest bit first.
+static PATTERN_FLAGS: [(SreFlag, &str, u16); 9] = [
+    (SreFlag::TEMPLATE, "TEMPLATE", 1),
+    (SreFlag::IGNORECASE, "IGNORECASE", 2),
+    (SreFlag::LOCALE, "LOCALE", 4),
+    (SreFlag::MULTILINE, "MULTILINE", 8),
+    (SreFlag::DOTALL, "DOTALL", 16),
+    (SreFlag::UNICODE, "UNICODE", 32),
+    (SreFlag::VERBOSE, "VERBOSE", 64),
+    (SreFlag::DEBUG, "DEBUG", 128),
+    (SreFlag::ASCII, "ASCII", 256),
+];
+
+// A word, the bits that are kept of it, and whether PREFIX, LITERAL and CHARSET are among them.
+static CLAIMS: [(u32, u32, (bool, bool, bool)); 8] = [
+    (0, 0, (false, false, false)),
+    (1, 1, (true, false, false)),
+    (2, 2, (false, true, false)),
+    (3, 3, (true, true, false)),
+    (4, 4, (false, false, true)),
+    (8, 0, (false, false, false)),
+    (9, 1, (true, false, false)),
+    (u32::MAX, 7, (true, true, true)),
+];
+
+// The bits that are kept of a number, and whether those of `other` are all among them.
+fn kept<F: Flags>(bits: F::Bits, other: F) -> (F::Bits, bool) {
+    let set = F::from_bits_truncate(bits);
+    (set.bits(), set.contains(other))
+}
+
+#[test]
+fn pattern_flags_have_their_names_and_bits(rt: HostRuntime) {
+    for row in &PATTERN_FLAGS {
+        let (flag, name, bits) = *row;
+        assert_eq!(rt; flag.bits(), bits, "{name}");
+        assert!(rt; SreFlag::from_name(name) == Some(flag), "{name}");
+        assert_eq!(rt; kept(bits | 0xFE00, flag), (bits, true), "{name}");
+        assert_eq!(rt; kept(!bits, flag), (511 - bits, false), "{name}");
+    }
+}
+
+#[test]
+fn claims_are_kept_and_other_bits_are_dropped(rt: HostRuntime) {
+    for row in &CLAIMS {
+        let (word, bits, (prefix, literal, charset)) = *row;
+        assert_eq!(rt; kept(word, SreInfo::PREFIX), (bits, prefix), "{word}");
+        assert_eq!(rt; kept(word, SreInfo::LITERAL), (bits, literal), "{word}");
+        assert_eq!(rt; kept(word, SreInfo::CHARSET), (bits, charset), "{word}");
+    }
+    assert!(rt; SreInfo::from_bits_truncate(9) == SreInfo::PREFIX);
+}
+
+#[test]
+fn a_set_contains_another_where_it_has_all_its_bits(rt: HostRuntime) {
+    let both = SreInfo::from_bits_truncate(3);
+    assert!(rt; both.contains(SreInfo::PREFIX) && both.contains(both));
+    assert!(rt; !SreInfo::PREFIX.contains(both) && both != SreInfo::PREFIX);
+}
