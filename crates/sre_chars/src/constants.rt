@@ -1,7 +1,7 @@
 //! The numbers that compiled patterns are made of.
 //!
-//! A pattern is a list of 32-bit words. Its opcodes have the numbers that CPython's `_sre` and the
-//! crate `rustpython-sre_engine` give them, and `TryFrom<u32>` is the one way from a word to a code.
+//! A pattern is a list of 32-bit words. Its opcodes have the numbers that CPython's `_sre` and the crate
+//! `rustpython-sre_engine` give them, and `TryFrom<u32>` is the one way from a word to a code. Flags are sets of bits.
 
 ghost use Rattle.std.specs.Prelude.{◌≡◌, ◌==◌};
 ghost use Rattle.std.specs.Cmp.Rules.{comparing};
