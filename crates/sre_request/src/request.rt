@@ -150,6 +150,19 @@ impl<'a, S: StrDrive> Request<'a, S> {
         self.match_all = match_all;
     }
 
+    /// Moves the window's start, up to its end. It looks at no character.
+    pub fn set_start(&mut self, start: usize)
+        requires { start ≤ end_of self.old }
+        ensures start { start_of self.new ≡ start }
+        ensures string { string_of self.new ≡ string_of self.old }
+        ensures end { end_of self.new ≡ end_of self.old }
+        ensures pattern_codes { code_of self.new ≡ code_of self.old }
+        ensures match_all { match_all_of self.new ≡ match_all_of self.old }
+        ensures must_advance { must_advance_of self.new ≡ must_advance_of self.old }
+    {
+        self.start = start;
+    }
+
     /// Moves the window, whose ends are held as `new` holds them.
     pub fn set_window(&mut self, start: usize, end: usize)
         ensures end { end_of self.new ≡ min end (length (S.text (string_of self.old))) }
