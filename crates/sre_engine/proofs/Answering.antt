@@ -55,7 +55,7 @@ pub answers_no : (stands : StringCursor → ℕ → Type 0) (match : Option Matc
 answers_no stands match shown none = rw none refl
 
 -- an answer is the model's match
-given-answer : (stands : StringCursor → ℕ → Type 0) (match : Option Match) (b : Bool) (shown : Shown)
+pub given-answer : (stands : StringCursor → ℕ → Type 0) (match : Option Match) (b : Bool) (shown : Shown)
     → Answers stands match b shown → given b shown ≡ match
 given-answer stands None b shown none = rw none refl
 given-answer stands (Some m) b shown some = rw (some.0, some.1.start, some.1.at, some.1.marks) refl

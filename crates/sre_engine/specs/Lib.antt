@@ -15,3 +15,6 @@ pub use Rattle.sre_code.specs.Codes
 pub use Rattle.sre_request.specs.Requests
 pub use Rattle.sre_code.specs.declared.code.Hints
 pub mod Answers
+pub mod Walks
+pub mod Iterators
+pub mod Listed

@@ -1,7 +1,12 @@
-//! What is asked of the machine: a match, a search.
+//! What is asked of the machine: a match, a search, the walk over all matches.
 
+mod search_iter;
 mod state;
+mod walk;
+mod whole_walk;
 
+pub use search_iter::SearchIter;
 pub use sre_board::Marks;
 pub use sre_request::Request;
 pub use state::{SreError, State};
+pub use whole_walk::{Found, all_matches};

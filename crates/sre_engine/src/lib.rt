@@ -3,7 +3,7 @@
 
 pub mod engine;
 
-pub use engine::State;
+pub use engine::{SearchIter, State};
 pub use sre_chars::constants::{
     CODESIZE, MAXGROUPS, MAXREPEAT, SRE_MAGIC, SreAtCode, SreCatCode, SreFlag, SreInfo, SreOpcode,
 };

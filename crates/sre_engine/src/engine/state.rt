@@ -184,9 +184,29 @@ impl<A: Allocator + Copy> State<A> {
         ensures err { OnErr result (self.new.marks ≡ no_marks) }
         ensures refused { OnErr result Refused }
     {
-        let mut start = req.string().create_cursor(req.start());
+        self.search_from(&req, req.string().create_cursor(req.start()))
+    }
+
+    // Searches as `search` does, from a cursor that stands at the window's start.
+    pub(crate) fn search_from<S: StrDrive>(
+        &mut self,
+        req: &Request<'_, S>,
+        from: StringCursor,
+    ) -> Result<bool, SreError>
+        requires { stands_in req.now from (start_of req.now) }
+        ensures ok { (t : Tree) → Whole (words_of (code_of req.now)) t
+            → IfOk result (λ b. Answers (stands_in req.now) (found (asked_of req.now) t) b self.new) }
+        ensures alike { (t : Tree) → Whole (words_of (code_of req.now)) t
+            → IfOk result (λ b. AnswersAlike (λ asked. found asked t) (asked_of req.now) b self.new) }
+        ensures span { IfOk result
+            (λ b. b ≡ true → (start_of req.now ≤ self.new.start) × Spans self.new.start (end_of req.now) self.new) }
+        ensures no { IfOk result (λ b. b ≡ false → self.new.marks ≡ no_marks) }
+        ensures err { OnErr result (self.new.marks ≡ no_marks) }
+        ensures refused { OnErr result Refused }
+    {
+        let mut start = from;
         'start: loop {
-            if let Some(end) = attempt(&req, start, &mut self.board)? {
+            if let Some(end) = attempt(req, start, &mut self.board)? {
                 (self.start, self.cursor) = (start.position(), end);
                 return Ok(true);
             }
@@ -195,5 +215,17 @@ impl<A: Allocator + Copy> State<A> {
             }
             req.string().skip(&mut start, 1);
         }
+    }
+
+    // The allocator that its memory is taken from.
+    pub(crate) fn allocator(&self) -> A {
+        self.board.allocator()
+    }
+
+    // Takes the marks away; the memory is kept.
+    pub(crate) fn forget(&mut self)
+        ensures { self.new.marks ≡ no_marks }
+    {
+        self.board.clear();
     }
 }

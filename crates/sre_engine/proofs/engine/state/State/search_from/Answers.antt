@@ -5,11 +5,11 @@ use Rattle.sre_request.specs.Requests.{end_of, code_of, asked_of, stands_in}
 use Rattle.sre_engine.proofs.Answering.{answers_yes, answers_no, answers_alike, none_at, some_at, span_at, none_further}
 use Rattle.sre_engine.proofs.Answering.{found_none, found_first}
 use Rattle.sre_code.proofs.Checked.{code_tree}
-use Rattle.sre_engine.proofs.engine.state.State.search.Goals as goal
+use Rattle.sre_engine.proofs.engine.state.State.search_from.Goals as goal
 
 pub returns-in-Some-clause-ok : goal.returns-in-Some-clause-ok
 returns-in-Some-clause-ok g c = λ t whole.
-    let asked = c.args.req in
+    let asked = c.args.req.now in
     let some = some_at (stands_in asked) (asked_of asked) t _ c.in_ok-end.field-0 c.attempt.new.board.marks
     (c.in_ok-end.ensures.found t whole) c.in-Some.end c.in-Some.is in
     answers_yes (stands_in asked) _ c.start.start.position c.in-Some.end _ c.position.ensures refl some.0
@@ -18,7 +18,7 @@ returns-in-Some-clause-ok g c = λ t whole.
 
 pub returns-in-Some-clause-span : goal.returns-in-Some-clause-span
 returns-in-Some-clause-span g c = λ _.
-    let asked = c.args.req in
+    let asked = c.args.req.now in
     let tree = code_tree (words_of (code_of asked)) (hints_of (code_of asked)) (code_of asked).checked in
     let s = span_at (stands_in asked) (asked_of asked) tree.0 _ c.in_ok-end.field-0 c.attempt.new.board.marks
     (c.in_ok-end.ensures.found tree.0 tree.1) c.start.invariant.inside c.in-Some.end c.in-Some.is in (
@@ -28,7 +28,7 @@ returns-in-Some-clause-span g c = λ _.
 
 pub returns-then-position-end-clause-ok : goal.returns-then-position-end-clause-ok
 returns-then-position-end-clause-ok g c = λ t whole.
-    let asked = c.args.req in
+    let asked = c.args.req.now in
     let past : end_of asked ≤ c.start.start.position = omega arith in
     answers_no (stands_in asked) _ _
     (found_none (asked_of asked) t _ (c.start.invariant.before t whole)
@@ -37,24 +37,24 @@ returns-then-position-end-clause-ok g c = λ t whole.
 
 pub returns-in-Some-clause-alike : goal.returns-in-Some-clause-alike
 returns-in-Some-clause-alike g c = λ t whole.
-    answers_alike (λ asked. found asked t) (asked_of c.args.req) (stands_in c.args.req) true _
+    answers_alike (λ asked. found asked t) (asked_of c.args.req.now) (stands_in c.args.req.now) true _
     (returns-in-Some-clause-ok g c t whole)
 
 pub returns-then-position-end-clause-alike : goal.returns-then-position-end-clause-alike
 returns-then-position-end-clause-alike g c = λ t whole.
-    answers_alike (λ asked. found asked t) (asked_of c.args.req) (stands_in c.args.req) false _
+    answers_alike (λ asked. found asked t) (asked_of c.args.req.now) (stands_in c.args.req.now) false _
     (returns-then-position-end-clause-ok g c t whole)
 
 pub start-preserved : goal.start-preserved
 start-preserved g c =
-    let asked = c.args.req in
+    let asked = c.args.req.now in
     let at : c.skip.new.cursor.position ≡ c.start.start.position + 1 =
-    (g.met.S.StrDrive.stands_at c.string-in-start.result c.skip.new.cursor _ c.skip.ensures).0 in
+    (g.met.S.StrDrive.stands_at c.string.result c.skip.new.cursor _ c.skip.ensures).0 in
     record {
       stands =
           subst (λ (s : g.row.S.Denot). g.S.StrDrive.stands s c.skip.new.cursor c.skip.new.cursor.position)
-          c.string-in-start.ensures
-          (subst (λ n. g.S.StrDrive.stands c.string-in-start.result c.skip.new.cursor n) (sym at) c.skip.ensures);
+          c.string.ensures
+          (subst (λ n. g.S.StrDrive.stands c.string.result c.skip.new.cursor n) (sym at) c.skip.ensures);
       from = omega (arith, c.start.invariant.from, at);
       inside = omega (arith, at);
       before = λ t whole.

@@ -4,15 +4,15 @@ use Rattle.sre_model.specs.Grammar.{Whole}
 use Rattle.sre_code.specs.Codes.{words_of}
 use Rattle.sre_request.specs.Requests.{start_of, end_of, code_of, asked_of, run_of}
 use Rattle.sre_engine.proofs.Answering.{NoneBefore}
-use Rattle.sre_engine.proofs.engine.state.State.search.Given as goal
+use Rattle.sre_engine.proofs.engine.state.State.search_from.Given as goal
 
 abbrev pub invariant-start : goal.invariant-start
 invariant-start g l = record {
-  stands : (run_of l.fn.req).stands l.start l.start.position;
-  from : start_of l.fn.req ≤ l.start.position;
-  inside : l.start.position ≤ end_of l.fn.req;
-  before : (t : Tree) → Whole (words_of (code_of l.fn.req)) t → NoneBefore (asked_of l.fn.req) t l.start.position;
+  stands : (run_of l.req).stands l.start l.start.position;
+  from : start_of l.req ≤ l.start.position;
+  inside : l.start.position ≤ end_of l.req;
+  before : (t : Tree) → Whole (words_of (code_of l.req)) t → NoneBefore (asked_of l.req) t l.start.position;
 }
 
 abbrev pub decreases-start : goal.decreases-start
-decreases-start g l = end_of l.fn.req - l.start.position
+decreases-start g l = end_of l.req - l.start.position

@@ -1,0 +1,59 @@
+-- What a walk that goes from match to match shows, and what its next item is.
+-- Of the meaning: what sre_engine makes public rests on it.
+use Rattle.std.specs.Prelude.{◌≡◌, ℕ, ◌+◌, Bool, true, false, cond, List, [], ◌∷◌, Option, Some, None, Result, Ok, Err}
+use Rattle.sre_chars.specs.declared.string.StrDrive.{Ghosts}
+use Rattle.sre_model.specs.Tree.{Tree}
+use Rattle.sre_model.specs.Grammar.{Whole}
+use Rattle.sre_model.specs.Marks.{no_marks}
+use Rattle.sre_model.specs.Found.{Match, walk}
+use Rattle.sre_model.specs.WalkBounds.{most_matches}
+use Rattle.sre_code.specs.Codes.{words_of}
+use Rattle.sre_request.specs.declared.request.Request.{Request}
+use Rattle.sre_request.specs.Requests.{code_of, asked_of}
+use Rattle.sre_growth.specs.Refusal.{Refused}
+use Rattle.sre_engine.specs.declared.engine.state.SreError.{SreError}
+use Rattle.sre_engine.specs.declared.engine.search_iter.SearchIter.{SearchIter}
+use Rattle.sre_engine.specs.Answers.{Shown}
+use Rattle.sre_engine.specs.Walks.{match_shown, GoesOn}
+
+-- what is asked next, what the state shows, and whether the walk has ended
+abbrev pub request_of : {S A : Type 0} {text : Ghosts S} → SearchIter S A text → Request S text
+request_of it = it.req
+
+abbrev pub shown_of : {S A : Type 0} {text : Ghosts S} → SearchIter S A text → Shown
+shown_of it = it.state
+
+abbrev pub has_ended : {S A : Type 0} {text : Ghosts S} → SearchIter S A text → Bool
+has_ended it = it.ended
+
+-- the matches still to come
+abbrev pub left_of : {S A : Type 0} {text : Ghosts S} → SearchIter S A text → Tree → List Match
+left_of it t = cond (has_ended it) [] (walk (asked_of (request_of it)) t)
+
+-- no more items come, an error among them
+abbrev pub most_items : {S A : Type 0} {text : Ghosts S} → SearchIter S A text → ℕ
+most_items it = cond (has_ended it) 0 (most_matches (asked_of (request_of it)) + 1)
+
+-- a match comes, the first of those that were left, and the walk goes on at its end
+pub record Gives {S A : Type 0} {text : Ghosts S} (it next : SearchIter S A text) : Type 0 where
+  pub goes : has_ended next ≡ false
+  pub first : (t : Tree) → Whole (words_of (code_of (request_of it))) t
+      → left_of it t ≡ match_shown (shown_of next) ∷ left_of next t
+  pub request : GoesOn (request_of it) (shown_of next) (request_of next)
+
+-- the walk has ended, for good: there are no marks, and the request is as it was
+pub record Ends {S A : Type 0} {text : Ghosts S} (it next : SearchIter S A text) : Type 0 where
+  pub over : has_ended next ≡ true
+  pub marks : (shown_of next).marks ≡ no_marks
+  pub request : request_of next ≡ request_of it
+
+-- no match is left
+pub record IsOver {S A : Type 0} {text : Ghosts S} (it : SearchIter S A text) : Type 0 where
+  pub none : (t : Tree) → Whole (words_of (code_of (request_of it))) t → left_of it t ≡ []
+
+-- the next item; an error comes only where a growth was refused, and not after the walk's end
+abbrev pub NextGives : {S A : Type 0} {text : Ghosts S}
+    → SearchIter S A text → Option (Result (Unit {0}) SreError) → SearchIter S A text → Type 0
+NextGives it None next = IsOver it × Ends it next
+NextGives it (Some (Ok _)) next = Gives it next
+NextGives it (Some (Err _)) next = (has_ended it ≡ false) × Refused × Ends it next

@@ -1,0 +1,89 @@
+//! The walk over all matches, one after the other.
+
+ghost use Rattle.std.specs.Prelude.{◌≡◌, true, false};
+ghost use Rattle.sre_model.specs.Marks.{no_marks};
+ghost use Rattle.sre_request.specs.Requests.{start_of, stands_in};
+
+use crate::engine::state::{SreError, State};
+use crate::engine::walk::step;
+use sre_chars::string::{StrDrive, StringCursor};
+use sre_request::Request;
+use std::alloc::Allocator;
+
+/// The matches of a window, each searched from the end of the one before.
+///
+/// An item `Ok(())` says that there is a match, which `state` shows: `req` then starts at its end, and must advance
+/// exactly where it was empty, so that no empty match comes twice. The walk ends with `None`, or with an error, which
+/// means that a growth of the state's memory was refused; from then on there is no item, there are no marks, and `req`
+/// is as it was. A window of n characters has at most 2n + 1 matches, and the walk passes its text once.
+#[derive(Drop)]
+pub struct SearchIter<'a, S: StrDrive, A: Allocator + Copy> {
+    req: Request<'a, S>,
+    state: State<A>,
+    cursor: StringCursor,
+    ended: bool,
+    ghost here: { ∥ (stands_in req cursor (start_of req)) ∥₁ },
+    ghost over: { ended ≡ true → state.marks ≡ no_marks },
+}
+
+impl<'a, S: StrDrive, A: Allocator + Copy> SearchIter<'a, S, A> {
+    ghost use Rattle.sre_engine.specs.Iterators.{request_of, shown_of, has_ended};
+
+    /// The walk over the request's window. The state shows what it showed until the first item comes.
+    pub fn new(req: Request<'a, S>, state: State<A>) -> SearchIter<'a, S, A>
+        ensures req { request_of result ≡ req.entry }
+        ensures state { shown_of result ≡ state }
+        ensures open { has_ended result ≡ false }
+    {
+        let cursor = req.string().create_cursor(req.start());
+        SearchIter {
+            req,
+            state,
+            cursor,
+            ended: false,
+        }
+    }
+
+    /// What is asked next: the matches still to come are those of its walk, until `next` has answered `None` or an
+    /// error, and none after.
+    pub fn req(&self) -> &Request<'a, S>
+        ensures { result.now ≡ request_of self.now }
+    {
+        &self.req
+    }
+
+    /// The state, which shows the match of the last item.
+    pub fn state(&self) -> &State<A>
+        ensures { result.now ≡ shown_of self.now }
+    {
+        &self.state
+    }
+}
+
+impl<'a, S: StrDrive, A: Allocator + Copy> Iterator for SearchIter<'a, S, A> {
+    ghost use Rattle.std.specs.Iterator.{at_most};
+    ghost use Rattle.sre_engine.specs.Iterators.{NextGives, most_items};
+
+    type Item = Result<(), SreError>;
+
+    ghost next_gives = { NextGives };
+
+    ghost remaining = { λ it. at_most (most_items it) };
+
+    fn next(&mut self) -> Option<Result<(), SreError>> {
+        if self.ended {
+            return None;
+        }
+        match step(&mut self.req, &mut self.state, &mut self.cursor) {
+            Ok(true) => Some(Ok(())),
+            Ok(false) => {
+                self.ended = true;
+                None
+            }
+            Err(error) => {
+                self.ended = true;
+                Some(Err(error))
+            }
+        }
+    }
+}

@@ -1,0 +1,46 @@
+//! One step of a walk: the next match, and what is asked after it.
+
+ghost use Rattle.std.specs.Prelude.{◌≡◌, ◌<◌, IfOk, OnErr, true, false, cond, [], ◌∷◌};
+ghost use Rattle.sre_model.specs.Tree.{Tree};
+ghost use Rattle.sre_model.specs.Grammar.{Whole};
+ghost use Rattle.sre_model.specs.Marks.{no_marks};
+ghost use Rattle.sre_model.specs.Found.{walk};
+ghost use Rattle.sre_model.specs.WalkBounds.{most_matches};
+ghost use Rattle.sre_code.specs.Codes.{words_of};
+ghost use Rattle.sre_request.specs.Requests.{start_of, code_of, asked_of, stands_in};
+ghost use Rattle.sre_engine.specs.Walks.{StepsTo, GoesOn};
+ghost use Rattle.sre_growth.specs.Refusal.{Refused};
+
+use crate::engine::state::{SreError, State};
+use sre_chars::string::{StrDrive, StringCursor};
+use sre_request::Request;
+use std::alloc::Allocator;
+
+/// Searches from a cursor that stands at the window's start. After a match, which the state shows, the request starts
+/// at its end, where the cursor stands, and must advance where the match was empty. So the text is passed once.
+///
+/// Without a match, and after an error, there are no marks, and the request is as it was.
+pub(crate) fn step<S: StrDrive, A: Allocator + Copy>(
+    req: &mut Request<'_, S>,
+    state: &mut State<A>,
+    cursor: &mut StringCursor,
+) -> Result<bool, SreError>
+    requires { stands_in req.old cursor.old (start_of req.old) }
+    ensures ok { (t : Tree) → Whole (words_of (code_of req.old)) t
+        → IfOk result (λ b. StepsTo (walk (asked_of req.old) t) b state.new (walk (asked_of req.new) t)) }
+    ensures yes { IfOk result (λ b. b ≡ true → GoesOn req.old state.new req.new) }
+    ensures falls { IfOk result (λ b. b ≡ true → most_matches (asked_of req.new) < most_matches (asked_of req.old)) }
+    ensures no { IfOk result (λ b. b ≡ false → (req.new ≡ req.old) × (state.new.marks ≡ no_marks)) }
+    ensures here { stands_in req.new cursor.new (start_of req.new) }
+    ensures err { OnErr result ((req.new ≡ req.old) × (state.new.marks ≡ no_marks)) }
+    ensures refused { OnErr result Refused }
+{
+    if !state.search_from(req, *cursor)? {
+        return Ok(false);
+    }
+    *cursor = state.cursor();
+    let end = cursor.position();
+    req.set_must_advance(end == state.start());
+    req.set_start(end);
+    Ok(true)
+}

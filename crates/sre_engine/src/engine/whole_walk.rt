@@ -1,0 +1,91 @@
+//! The walk over all matches, as a list.
+
+ghost use Rattle.std.specs.Prelude.{◌≡◌, ◌≤◌, ◌++◌, map, IfOk, OnErr};
+ghost use Rattle.std.specs.Vec.{vec_len};
+ghost use Rattle.sre_model.specs.Tree.{Tree};
+ghost use Rattle.sre_model.specs.Grammar.{Whole};
+ghost use Rattle.sre_model.specs.Marks.{no_marks};
+ghost use Rattle.sre_model.specs.Found.{walk};
+ghost use Rattle.sre_model.specs.WalkBounds.{most_matches, AreInOrder};
+ghost use Rattle.sre_code.specs.Codes.{words_of};
+ghost use Rattle.sre_request.specs.Requests.{start_of, code_of, asked_of};
+ghost use Rattle.sre_engine.specs.Walks.{match_shown};
+ghost use Rattle.sre_engine.specs.Listed.{match_of};
+ghost use Rattle.sre_growth.specs.Refusal.{Refused};
+
+use crate::engine::state::{SreError, State};
+use crate::engine::walk::step;
+use sre_chars::string::StrDrive;
+use sre_growth::Refusal;
+use sre_request::Request;
+use std::alloc::Allocator;
+
+/// A match: where it starts and ends, in characters, the positions of its marks as `Marks::raw` gives them, and the
+/// index of the group that was closed last, counted from 1, or -1 where there is none.
+#[derive(Drop)]
+pub struct Found<A: Allocator> {
+    pub start: usize,
+    pub end: usize,
+    pub marks: Vec<Option<usize>, A>,
+    pub last_index: isize,
+}
+
+// The match that a state shows.
+fn found_in<A: Allocator + Copy>(state: &State<A>) -> Result<Found<A>, Refusal>
+    ensures { IfOk result (λ found. match_of found ≡ match_shown state.now) }
+{
+    let marks = state.marks();
+    Ok(Found {
+        start: state.start(),
+        end: state.cursor().position(),
+        marks: sre_growth::from_slice(state.allocator(), marks.raw())?,
+        last_index: marks.last_index(),
+    })
+}
+
+// Appends the matches of the walk.
+fn add_matches<S: StrDrive, A: Allocator + Copy>(
+    mut req: Request<'_, S>,
+    state: &mut State<A>,
+    all: &mut Vec<Found<A>, A>,
+) -> Result<(), SreError>
+    ensures ok { (t : Tree) → Whole (words_of (code_of req.entry)) t → IfOk result
+        (λ _. map match_of all.new.items ≡ map match_of all.old.items ++ walk (asked_of req.entry) t) }
+    ensures after { IfOk result (λ _. state.new.marks ≡ no_marks) }
+    ensures refused { OnErr result Refused }
+{
+    let mut cursor = req.string().create_cursor(req.start());
+    'step: while step(&mut req, state, &mut cursor)? {
+        let found = found_in(state)?;
+        sre_growth::push(all, found)?;
+    }
+    Ok(())
+}
+
+/// All matches of a window, each searched from the end of the one before, as `SearchIter` gives them.
+///
+/// Its memory is taken from the state's allocator. A window of n characters has at most 2n + 1 matches, and 2n where
+/// it must advance at first; each starts no earlier than the one before ends.
+///
+/// An error means that a growth was refused. After it, as after `Ok`, there are no marks in the state, start and cursor
+/// are open, and the state serves again, with a text of any type.
+pub fn all_matches<S: StrDrive, A: Allocator + Copy>(
+    req: Request<'_, S>,
+    state: &mut State<A>,
+) -> Result<Vec<Found<A>, A>, SreError>
+    ensures ok { (t : Tree) → Whole (words_of (code_of req.entry)) t
+        → IfOk result (λ all. map match_of all.items ≡ walk (asked_of req.entry) t) }
+    ensures bound { IfOk result (λ all. vec_len all ≤ most_matches (asked_of req.entry)) }
+    ensures order { IfOk result (λ all. AreInOrder (start_of req.entry) (map match_of all.items)) }
+    ensures after { state.new.marks ≡ no_marks }
+    ensures refused { OnErr result Refused }
+{
+    let mut all = Vec::new(state.allocator());
+    match add_matches(req, state, &mut all) {
+        Ok(()) => Ok(all),
+        Err(error) => {
+            state.forget(); // a match that could not be kept
+            Err(error)
+        }
+    }
+}
