@@ -24,8 +24,12 @@ mod refused_checks;
 #[cfg(test)]
 mod refused_runs;
 #[cfg(test)]
+mod refused_walks;
+#[cfg(test)]
 mod states;
 #[cfg(test)]
 mod tables;
 #[cfg(test)]
 mod texts;
+#[cfg(test)]
+mod walks;

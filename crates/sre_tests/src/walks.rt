@@ -1,0 +1,172 @@
+//! Walks over all matches, one after the other and as a list.
+
+use sre_engine::engine::{Found, Marks, SreError, all_matches};
+use sre_engine::{Code, Request, SearchIter, State, StrDrive, UniTable};
+use std::alloc::{Allocator, Global};
+use std::test::Fail;
+
+const NO_LIMIT: u32 = u32::MAX;
+
+/// A match: where it starts and ends, in characters, its marks and the last index.
+pub type Span = (usize, usize, &'static [Option<usize>], isize);
+
+// Words, a text of ASCII, `match_all` and `must_advance`, and the matches.
+type Row = (&'static [u32], &'static str, (bool, bool), &'static [Span]);
+
+static ROWS: [Row; 10] = [
+    // (a)b
+    (
+        &[17, 0, 16, 97, 17, 1, 16, 98, 1],
+        "abab",
+        (false, false),
+        &[
+            (0, 2, &[Some(0), Some(1)], 1),
+            (2, 4, &[Some(2), Some(3)], 1),
+        ],
+    ),
+    // a*
+    (
+        &[24, 6, 0, NO_LIMIT, 16, 97, 1, 1],
+        "baa",
+        (false, false),
+        &[(0, 0, &[], -1), (1, 3, &[], -1), (3, 3, &[], -1)],
+    ),
+    (
+        &[24, 6, 0, NO_LIMIT, 16, 97, 1, 1],
+        "aa",
+        (true, false),
+        &[(0, 2, &[], -1), (2, 2, &[], -1)],
+    ),
+    (
+        &[24, 6, 0, NO_LIMIT, 16, 97, 1, 1],
+        "baa",
+        (false, true),
+        &[(1, 3, &[], -1), (3, 3, &[], -1)],
+    ),
+    // (?:|a)
+    (
+        &[7, 3, 15, 7, 5, 16, 97, 15, 2, 0, 1],
+        "a",
+        (false, false),
+        &[(0, 0, &[], -1), (0, 1, &[], -1), (1, 1, &[], -1)],
+    ),
+    (
+        &[7, 3, 15, 7, 5, 16, 97, 15, 2, 0, 1],
+        "a",
+        (false, true),
+        &[(0, 1, &[], -1), (1, 1, &[], -1)],
+    ),
+    // \b
+    (
+        &[6, 3, 1],
+        "a ",
+        (false, false),
+        &[(0, 0, &[], -1), (1, 1, &[], -1)],
+    ),
+    // b
+    (&[16, 98, 1], "a", (false, false), &[]),
+    // the empty code
+    (&[1], "", (false, false), &[(0, 0, &[], -1)]),
+    (&[1], "", (false, true), &[]),
+];
+
+/// A request over a whole text.
+pub fn whole<'a, S: StrDrive>(
+    text: S,
+    code: Code<'a>,
+    (match_all, must_advance): (bool, bool),
+) -> Request<'a, S> {
+    let mut req = Request::new(text, 0, usize::MAX, code, match_all);
+    req.set_must_advance(must_advance);
+    req
+}
+
+/// Whether there are no marks.
+pub fn has_none<A: Allocator>(marks: &Marks<A>) -> bool {
+    marks.raw().is_empty() && marks.last_index() == -1
+}
+
+// Whether a state shows a match, at whose end the window starts next.
+fn shows<S: StrDrive, A: Allocator + Copy>(
+    state: &State<A>,
+    req: &Request<'_, S>,
+    (start, end, marks, last): Span,
+) -> bool {
+    let next = (req.start(), req.must_advance());
+    next == (end, start == end)
+        && (state.start(), state.cursor().position()) == (start, end)
+        && state.marks().raw() == marks
+        && state.marks().last_index() == last
+}
+
+/// Whether a walk gives these matches, and then none, with no marks, however often it is asked.
+pub fn gives<S: StrDrive, A: Allocator + Copy>(
+    walk: &mut SearchIter<'_, S, A>,
+    wanted: &[Span],
+) -> Result<bool, SreError> {
+    for found in wanted {
+        match walk.next() {
+            Some(item) => item?,
+            None => return Ok(false),
+        }
+        if !shows(walk.state(), walk.req(), *found) {
+            return Ok(false);
+        }
+    }
+    for _ in 0..4 {
+        if walk.next().is_some() || !has_none(walk.state().marks()) {
+            return Ok(false);
+        }
+    }
+    Ok(true)
+}
+
+// Whether a match in a list is this one.
+fn is_match<A: Allocator>(found: &Found<A>, (start, end, marks, last): Span) -> bool {
+    (found.start, found.end, found.last_index) == (start, end, last)
+        && found.marks.as_slice() == marks
+}
+
+/// Whether these are all matches of a walk, after which there are no marks.
+pub fn lists<S: StrDrive, A: Allocator + Copy>(
+    req: Request<'_, S>,
+    state: &mut State<A>,
+    wanted: &[Span],
+) -> Result<bool, SreError> {
+    let all = all_matches(req, state)?;
+    if all.len() != wanted.len() || !has_none(state.marks()) {
+        return Ok(false);
+    }
+    for (found, span) in all.iter().zip(wanted.iter()) {
+        if !is_match(found, *span) {
+            return Ok(false);
+        }
+    }
+    Ok(true)
+}
+
+// Whether both walks over a request have these matches.
+fn walks<S: StrDrive>(
+    alloc: Global,
+    req: Request<'_, S>,
+    wanted: &[Span],
+) -> Result<bool, SreError> {
+    let one_by_one = gives(&mut SearchIter::new(req, State::new(alloc)), wanted)?;
+    Ok(one_by_one && lists(req, &mut State::new(alloc), wanted)?)
+}
+
+#[test]
+fn walks_have_their_matches(rt: HostRuntime) -> Result<(), Fail> {
+    let alloc = rt.alloc();
+    let uni = UniTable::ascii(alloc);
+    for (words, text, flags, wanted) in &ROWS {
+        let code = Code::check(alloc, words, &uni)?;
+        let (of_text, of_bytes) = (
+            whole(*text, code, *flags),
+            whole(text.as_bytes(), code, *flags),
+        );
+        assert!(rt; walks(alloc, of_text, wanted)?, "{words:?} {text:?}");
+        assert!(rt; walks(alloc, of_bytes, wanted)?, "{words:?} {text:?}");
+    }
+    Ok(())
+}
