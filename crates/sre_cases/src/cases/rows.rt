@@ -5,7 +5,7 @@ use sre_refusing::Refusing;
 use std::test::Fail;
 
 // Lines and their answers, by the definition of the engine's matches.
-const ROWS: [(&str, &str); 70] = [
+static ROWS: [(&str, &str); 70] = [
     (
         "match 17,0,16,97,17,1,16,98,1 b:6162 all -",
         "yes 0..2 last 1 marks 0,1",
@@ -187,7 +187,7 @@ fn gives(alloc: Global, file: &str, answers: &str) -> bool {
 fn rows_are_answered(rt: HostRuntime) -> Result<(), Fail> {
     let mut file = String::new(rt.alloc());
     let mut answers = String::new(rt.alloc());
-    for (line, answer) in ROWS {
+    for &(line, answer) in &ROWS {
         let whole = format!(in rt.alloc(); "{answer}\n")?;
         assert!(rt; gives(rt.alloc(), line, whole.as_str()), "{line}");
         writeln!(file, "{line}\n# a note\n")?;
@@ -214,7 +214,7 @@ fn requests_of_reading(alloc: Global, line: &str) -> Result<u64, Fail> {
 fn a_refused_request_is_the_fault_up_to_reading_and_then_the_answer(
     rt: HostRuntime,
 ) -> Result<(), Fail> {
-    for (line, answer) in ROWS {
+    for &(line, answer) in &ROWS {
         let reading = requests_of_reading(rt.alloc(), line)?;
         let whole = format!(in rt.alloc(); "{answer}\n")?;
         for refused in 1..40u64 {
@@ -238,19 +238,27 @@ fn a_refused_request_is_the_fault_up_to_reading_and_then_the_answer(
     Ok(())
 }
 
+// Files, the request that is refused and what is left of it, and how the run then ends, with its answers.
+static REFUSALS: [(&str, u64, u64, Result<(), CaseFault>, &str); 5] = [
+    // a line that is no case whatever memory there is
+    ("match 1 b:61 all x", 1, 1, Err(CaseFault::NotACase(1)), ""),
+    // a text that is none
+    ("match - s:ff all -", 1, 0, Err(CaseFault::NoMemory), ""),
+    ("match - s:ff all -", 2, 1, Err(CaseFault::NotACase(1)), ""),
+    // the lines before and behind are answered
+    ("check -\ncheck -", 1, 0, Ok(()), "memory\nrefused\n"),
+    (
+        "check -\ncheck 1",
+        2,
+        0,
+        Err(CaseFault::NoMemory),
+        "refused\n",
+    ),
+];
+
 #[test]
 fn refusals_between_lines(rt: HostRuntime) -> Result<(), Fail> {
-    let no_memory = Err(CaseFault::NoMemory);
-    for (file, refused, left, ran, answers) in [
-        // a line that is no case whatever memory there is
-        ("match 1 b:61 all x", 1, 1, Err(CaseFault::NotACase(1)), ""),
-        // a text that is none
-        ("match - s:ff all -", 1, 0, no_memory, ""),
-        ("match - s:ff all -", 2, 1, Err(CaseFault::NotACase(1)), ""),
-        // the lines before and behind are answered
-        ("check -\ncheck -", 1, 0, Ok(()), "memory\nrefused\n"),
-        ("check -\ncheck 1", 2, 0, no_memory, "refused\n"),
-    ] {
+    for &(file, refused, left, ran, answers) in &REFUSALS {
         let heap = Refusing::new(rt.alloc(), refused);
         let mut out = Vec::new(rt.alloc());
         let answered = answer_lines(rt.alloc(), &heap, file.as_bytes(), &mut out);

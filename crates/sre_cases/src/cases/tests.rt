@@ -7,100 +7,102 @@ use sre_engine::code::Hints;
 use std::io::ErrorKind;
 use std::test::Fail;
 
+static NO_CASES: [&str; 83] = [
+    // verbs, and how many fields
+    "check",
+    "check ",
+    "Check 1",
+    "checks 1",
+    "match 1 b:61 all",
+    "match 1 b:61 -",
+    "match 1 b:61 all - -",
+    "search 1",
+    "search 1 b:61 all",
+    "searches 1 b:61 all -",
+    "find 1 b:61 all -",
+    "walk 1 b:61 all",
+    "walks 1 b:61 all -",
+    // what divides fields
+    " check 1",
+    "check  1",
+    "check 1 ",
+    "check -  ",
+    "check\t1",
+    "check 1\t",
+    "check 1\r",
+    "check 1\0",
+    "\0",
+    "match  1 b:61 all -",
+    "match 1 b:61 all - ",
+    "match 1\tb:61\tall\t-",
+    // words
+    "match  b:61 all -",
+    "check +1",
+    "check -1",
+    "check 01",
+    "check 00",
+    "check 4294967296",
+    "check 18446744073709551616",
+    "check 1,",
+    "check ,1",
+    "check ,",
+    "check 1,,1",
+    "check 1, 1",
+    "check 1;1",
+    "check -,1",
+    "check --",
+    "check 0x1",
+    "check \u{661}",
+    // texts
+    "match 1 b:6 all -",
+    "match 1 b:6A all -",
+    "match 1 b:6g all -",
+    "match 1 b:6: all -",
+    "match 1 b:+1 all -",
+    "match 1 b all -",
+    "match 1 61 all -",
+    "match 1 :61 all -",
+    "match 1 B:61 all -",
+    "match 1 bb:61 all -",
+    "match 1 S:61 all -",
+    "match 1 u:61 all -",
+    "match 1 s61 all -",
+    "match 1 s:6 all -",
+    "match 1 s:6A all -",
+    // bytes that are no UTF-8: cut short, out of place, too long for their character, a surrogate, past the last
+    "match 1 s:c3 all -",
+    "match 1 s:a9 all -",
+    "match 1 s:6180 all -",
+    "match 1 s:c080 all -",
+    "match 1 s:eda080 all -",
+    "match 1 s:f4908080 all -",
+    "search - s:ff all -",
+    // windows
+    "match 1 b:61 All -",
+    "match 1 b:61 1 -",
+    "match 1 b:61 1.. -",
+    "match 1 b:61 ..1 -",
+    "match 1 b:61 .. -",
+    "match 1 b:61 1.2 -",
+    "match 1 b:61 1...2 -",
+    "match 1 b:61 1..2..3 -",
+    "match 1 b:61 01..2 -",
+    "match 1 b:61 1..+2 -",
+    "match 1 b:61 0..18446744073709551616 -",
+    "match 1 b:61 18446744073709551616..0 -",
+    // flags
+    "match 1 b:61 all x",
+    "match 1 b:61 all af",
+    "match 1 b:61 all ff",
+    "match 1 b:61 all f-",
+    "match 1 b:61 all F",
+    "match 1 b:61 all n",
+    "match 1 b:61 all ",
+];
+
 #[test]
 fn lines_that_are_no_cases(rt: HostRuntime) -> Result<(), Fail> {
-    let lines = [
-        // verbs, and how many fields
-        "check",
-        "check ",
-        "Check 1",
-        "checks 1",
-        "match 1 b:61 all",
-        "match 1 b:61 -",
-        "match 1 b:61 all - -",
-        "search 1",
-        "search 1 b:61 all",
-        "searches 1 b:61 all -",
-        "find 1 b:61 all -",
-        "walk 1 b:61 all -",
-        // what divides fields
-        " check 1",
-        "check  1",
-        "check 1 ",
-        "check -  ",
-        "check\t1",
-        "check 1\t",
-        "check 1\r",
-        "check 1\0",
-        "\0",
-        "match  1 b:61 all -",
-        "match 1 b:61 all - ",
-        "match 1\tb:61\tall\t-",
-        // words
-        "match  b:61 all -",
-        "check +1",
-        "check -1",
-        "check 01",
-        "check 00",
-        "check 4294967296",
-        "check 18446744073709551616",
-        "check 1,",
-        "check ,1",
-        "check ,",
-        "check 1,,1",
-        "check 1, 1",
-        "check 1;1",
-        "check -,1",
-        "check --",
-        "check 0x1",
-        "check \u{661}",
-        // texts
-        "match 1 b:6 all -",
-        "match 1 b:6A all -",
-        "match 1 b:6g all -",
-        "match 1 b:6: all -",
-        "match 1 b:+1 all -",
-        "match 1 b all -",
-        "match 1 61 all -",
-        "match 1 :61 all -",
-        "match 1 B:61 all -",
-        "match 1 bb:61 all -",
-        "match 1 S:61 all -",
-        "match 1 u:61 all -",
-        "match 1 s61 all -",
-        "match 1 s:6 all -",
-        "match 1 s:6A all -",
-        // bytes that are no UTF-8: cut short, out of place, too long for their character, a surrogate, past the last
-        "match 1 s:c3 all -",
-        "match 1 s:a9 all -",
-        "match 1 s:6180 all -",
-        "match 1 s:c080 all -",
-        "match 1 s:eda080 all -",
-        "match 1 s:f4908080 all -",
-        "search - s:ff all -",
-        // windows
-        "match 1 b:61 All -",
-        "match 1 b:61 1 -",
-        "match 1 b:61 1.. -",
-        "match 1 b:61 ..1 -",
-        "match 1 b:61 .. -",
-        "match 1 b:61 1.2 -",
-        "match 1 b:61 1...2 -",
-        "match 1 b:61 1..2..3 -",
-        "match 1 b:61 01..2 -",
-        "match 1 b:61 1..+2 -",
-        "match 1 b:61 0..18446744073709551616 -",
-        "match 1 b:61 18446744073709551616..0 -",
-        // flags
-        "match 1 b:61 all x",
-        "match 1 b:61 all af",
-        "match 1 b:61 all ff",
-        "match 1 b:61 all f-",
-        "match 1 b:61 all F",
-        "match 1 b:61 all n",
-        "match 1 b:61 all ",
-    ];
-    for line in lines {
+    for &line in &NO_CASES {
         let file = format!(in rt.alloc(); "# all lines count\n\ncheck -\n{line}\ncheck -\n")?;
         let mut out = Vec::new(rt.alloc());
         let ran = run_cases(rt.alloc(), file.as_bytes(), &mut out);
@@ -110,92 +112,136 @@ fn lines_that_are_no_cases(rt: HostRuntime) -> Result<(), Fail> {
     Ok(())
 }
 
+static NO_TEXTS: [&[u8]; 4] = [
+    b"check \xff",
+    b"\xff 1",
+    b"match 1 b:\xc3\xa9 all -",
+    b"check 1\r\ncheck 1\r\n",
+];
+
 #[test]
 fn bytes_that_are_no_text(rt: HostRuntime) -> Result<(), Fail> {
     let mut out = Vec::new(rt.alloc());
-    for file in [
-        b"check \xff".as_slice(),
-        b"\xff 1".as_slice(),
-        b"match 1 b:\xc3\xa9 all -".as_slice(),
-        b"check 1\r\ncheck 1\r\n".as_slice(),
-    ] {
+    for &file in &NO_TEXTS {
         assert!(rt; run_cases(rt.alloc(), file, &mut out) == Err(CaseFault::NotACase(1)));
     }
     assert!(rt; out.is_empty());
     Ok(())
 }
 
+// A text of bytes and one of UTF-8, whole and without flags.
+const BYTES: Subject = Subject {
+    text: TextForm::Bytes,
+    window: Window::Whole,
+    flags: Flags {
+        match_all: false,
+        must_advance: false,
+    },
+};
+
+const UTF8: Subject = Subject {
+    text: TextForm::Utf8,
+    ..BYTES
+};
+
+// The flag `f`.
+const MATCH_ALL: Flags = Flags {
+    match_all: true,
+    must_advance: false,
+};
+
+// Lines, and the words, the text and the case that they are read as.
+static CASES: [(&str, &[u32], &[u8], Case); 10] = [
+    ("check -", &[], b"", Case::Check),
+    ("check 0", &[0], b"", Case::Check),
+    (
+        "check 10,4294967295,0",
+        &[10, u32::MAX, 0],
+        b"",
+        Case::Check,
+    ),
+    (
+        "match - b: all -",
+        &[],
+        b"",
+        Case::Find(Finding::Match, BYTES),
+    ),
+    (
+        "match 1 b:00ff7f all f",
+        &[1],
+        b"\x00\xff\x7f",
+        Case::Find(
+            Finding::Match,
+            Subject {
+                flags: MATCH_ALL,
+                ..BYTES
+            },
+        ),
+    ),
+    (
+        "search 1 b:61 all f",
+        &[1],
+        b"a",
+        Case::Find(
+            Finding::Search,
+            Subject {
+                flags: MATCH_ALL,
+                ..BYTES
+            },
+        ),
+    ),
+    (
+        "search 1 s:c3a9 all -",
+        &[1],
+        b"\xc3\xa9",
+        Case::Find(Finding::Search, UTF8),
+    ),
+    (
+        "match 1 s: all -",
+        &[1],
+        b"",
+        Case::Find(Finding::Match, UTF8),
+    ),
+    (
+        "match 1,2 b:0a20 5..3 a",
+        &[1, 2],
+        b"\n ",
+        Case::Find(
+            Finding::Match,
+            Subject {
+                text: TextForm::Bytes,
+                window: Window::Span { start: 5, end: 3 },
+                flags: Flags {
+                    match_all: false,
+                    must_advance: true,
+                },
+            },
+        ),
+    ),
+    (
+        "match 1 b:61 0..18446744073709551615 fa",
+        &[1],
+        b"a",
+        Case::Find(
+            Finding::Match,
+            Subject {
+                text: TextForm::Bytes,
+                window: Window::Span {
+                    start: 0,
+                    end: usize::MAX,
+                },
+                flags: Flags {
+                    match_all: true,
+                    must_advance: true,
+                },
+            },
+        ),
+    ),
+];
+
 #[test]
 fn lines_that_are_cases(rt: HostRuntime) -> Result<(), Fail> {
-    let most = usize::MAX;
-    let greatest = u32::MAX;
-    for (line, words, text, case) in [
-        ("check -", [].as_slice(), b"".as_slice(), Case::Check),
-        ("check 0", [0].as_slice(), b"", Case::Check),
-        (
-            "check 10,4294967295,0",
-            [10, greatest, 0].as_slice(),
-            b"",
-            Case::Check,
-        ),
-        (
-            "match - b: all -",
-            [].as_slice(),
-            b"",
-            subject(Finding::Match, TextForm::Bytes, Window::Whole, false, false),
-        ),
-        (
-            "match 1 b:00ff7f all f",
-            [1].as_slice(),
-            b"\x00\xff\x7f",
-            subject(Finding::Match, TextForm::Bytes, Window::Whole, true, false),
-        ),
-        (
-            "search 1 b:61 all f",
-            [1].as_slice(),
-            b"a",
-            subject(Finding::Search, TextForm::Bytes, Window::Whole, true, false),
-        ),
-        (
-            "search 1 s:c3a9 all -",
-            [1].as_slice(),
-            b"\xc3\xa9",
-            subject(Finding::Search, TextForm::Utf8, Window::Whole, false, false),
-        ),
-        (
-            "match 1 s: all -",
-            [1].as_slice(),
-            b"",
-            subject(Finding::Match, TextForm::Utf8, Window::Whole, false, false),
-        ),
-        (
-            "match 1,2 b:0a20 5..3 a",
-            [1, 2].as_slice(),
-            b"\n ",
-            subject(
-                Finding::Match,
-                TextForm::Bytes,
-                Window::Span { start: 5, end: 3 },
-                false,
-                true,
-            ),
-        ),
-        (
-            "match 1 b:61 0..18446744073709551615 fa",
-            [1].as_slice(),
-            b"a",
-            subject(
-                Finding::Match,
-                TextForm::Bytes,
-                Window::Span {
-                    start: 0,
-                    end: most,
-                },
-                true,
-                true,
-            ),
-        ),
-    ] {
+    for &(line, words, text, case) in &CASES {
         let mut operands = Operands {
             words: Vec::new(rt.alloc()),
             text: Vec::new(rt.alloc()),
@@ -210,38 +256,21 @@ fn lines_that_are_cases(rt: HostRuntime) -> Result<(), Fail> {
     Ok(())
 }
 
-// A case over a text.
-fn subject(
-    finding: Finding,
-    text: TextForm,
-    window: Window,
-    match_all: bool,
-    must_advance: bool,
-) -> Case {
-    let subject = Subject {
-        text,
-        window,
-        flags: Flags {
-            match_all,
-            must_advance,
-        },
-    };
-    Case::Find(finding, subject)
-}
+static FILES: [(&str, &str); 9] = [
+    ("", ""),
+    ("\n", ""),
+    ("\n\n\n", ""),
+    ("# check 1", ""),
+    ("#\n#\n", ""),
+    ("check -", "refused\n"),
+    ("check -\n", "refused\n"),
+    ("check -\n\n# note\ncheck -\n#", "refused\nrefused\n"),
+    ("match - b:61 all -\ncheck -", "refused\nrefused\n"),
+];
 
 #[test]
 fn files_without_a_fault(rt: HostRuntime) -> Result<(), Fail> {
-    for (file, answers) in [
-        ("", ""),
-        ("\n", ""),
-        ("\n\n\n", ""),
-        ("# check 1", ""),
-        ("#\n#\n", ""),
-        ("check -", "refused\n"),
-        ("check -\n", "refused\n"),
-        ("check -\n\n# note\ncheck -\n#", "refused\nrefused\n"),
-        ("match - b:61 all -\ncheck -", "refused\nrefused\n"),
-    ] {
+    for &(file, answers) in &FILES {
         let mut out = Vec::new(rt.alloc());
         let ran = run_cases(rt.alloc(), file.as_bytes(), &mut out);
         assert!(rt; ran == Ok(()), "{file:?}");
@@ -271,19 +300,21 @@ fn nothing_is_written_after_a_failed_write(rt: HostRuntime) -> Result<(), Fail> 
     Ok(())
 }
 
+static FAULTS: [(CaseFault, &str); 6] = [
+    (CaseFault::Usage, "usage: sre_cases FILE\n"),
+    (CaseFault::CannotRead, "x: cannot be read\n"),
+    (CaseFault::NotACase(1), "line 1: not a case\n"),
+    (
+        CaseFault::NotACase(u64::MAX),
+        "line 18446744073709551615: not a case\n",
+    ),
+    (CaseFault::NoMemory, "no memory\n"),
+    (CaseFault::OutputFailed, "output failed\n"),
+];
+
 #[test]
 fn lines_of_faults(rt: HostRuntime) -> Result<(), Fail> {
-    for (fault, line) in [
-        (CaseFault::Usage, "usage: sre_cases FILE\n"),
-        (CaseFault::CannotRead, "x: cannot be read\n"),
-        (CaseFault::NotACase(1), "line 1: not a case\n"),
-        (
-            CaseFault::NotACase(u64::MAX),
-            "line 18446744073709551615: not a case\n",
-        ),
-        (CaseFault::NoMemory, "no memory\n"),
-        (CaseFault::OutputFailed, "output failed\n"),
-    ] {
+    for &(fault, line) in &FAULTS {
         let mut out = Vec::new(rt.alloc());
         assert!(rt; write_fault(&fault, "x", &mut out) == Ok(()), "{line}");
         assert!(rt; out.as_slice() == line.as_bytes(), "{line}");
@@ -297,66 +328,67 @@ fn lines_of_faults(rt: HostRuntime) -> Result<(), Fail> {
     Ok(())
 }
 
+// Hints, and matches, by their starts, ends, last indices and marks.
+static HINTS: [(Hints, &str); 4] = [
+    (
+        Hints {
+            width: None,
+            prefix: None,
+            literal: false,
+            first_set: false,
+        },
+        "ok width - prefix - literal no set no",
+    ),
+    (
+        Hints {
+            width: Some(2),
+            prefix: None,
+            literal: false,
+            first_set: true,
+        },
+        "ok width 2 prefix - literal no set yes",
+    ),
+    (
+        Hints {
+            width: Some(4),
+            prefix: Some((4, 2)),
+            literal: false,
+            first_set: false,
+        },
+        "ok width 4 prefix 4,2 literal no set no",
+    ),
+    (
+        Hints {
+            width: Some(3),
+            prefix: Some((3, 3)),
+            literal: true,
+            first_set: false,
+        },
+        "ok width 3 prefix 3,3 literal yes set no",
+    ),
+];
+
+static MATCHES: [(usize, usize, isize, &[Option<usize>], &str); 4] = [
+    (0, 0, -1, &[], "yes 0..0 last -1 marks none"),
+    (0, 2, 1, &[Some(0), Some(1)], "yes 0..2 last 1 marks 0,1"),
+    (
+        0,
+        0,
+        2,
+        &[None, None, None, Some(0)],
+        "yes 0..0 last 2 marks -,-,-,0",
+    ),
+    (7, 10, -1, &[None], "yes 7..10 last -1 marks -"),
+];
+
 #[test]
 fn texts_of_answers(rt: HostRuntime) -> Result<(), Fail> {
-    for (width, prefix, literal, first_set, text) in [
-        (
-            None,
-            None,
-            false,
-            false,
-            "ok width - prefix - literal no set no",
-        ),
-        (
-            Some(2),
-            None,
-            false,
-            true,
-            "ok width 2 prefix - literal no set yes",
-        ),
-        (
-            Some(4),
-            Some((4, 2)),
-            false,
-            false,
-            "ok width 4 prefix 4,2 literal no set no",
-        ),
-        (
-            Some(3),
-            Some((3, 3)),
-            true,
-            false,
-            "ok width 3 prefix 3,3 literal yes set no",
-        ),
-    ] {
+    for (hints, text) in &HINTS {
         let mut answer = String::new(rt.alloc());
-        let hints = Hints {
-            width,
-            prefix,
-            literal,
-            first_set,
-        };
-        push_hints(&mut answer, &hints)?;
-        assert_eq!(rt; answer.as_str(), text);
+        push_hints(&mut answer, hints)?;
+        assert_eq!(rt; answer.as_str(), *text);
     }
-    for (start, end, last_index, marks, text) in [
-        (0, 0, -1, [].as_slice(), "yes 0..0 last -1 marks none"),
-        (
-            0,
-            2,
-            1,
-            [Some(0), Some(1)].as_slice(),
-            "yes 0..2 last 1 marks 0,1",
-        ),
-        (
-            0,
-            0,
-            2,
-            [None, None, None, Some(0)].as_slice(),
-            "yes 0..0 last 2 marks -,-,-,0",
-        ),
-        (7, 10, -1, [None].as_slice(), "yes 7..10 last -1 marks -"),
-    ] {
+    for &(start, end, last_index, marks, text) in &MATCHES {
         let mut answer = String::new(rt.alloc());
         push_match(&mut answer, start, end, last_index, marks)?;
         assert_eq!(rt; answer.as_str(), text);

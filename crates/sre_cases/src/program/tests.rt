@@ -14,167 +14,210 @@ struct Given {
     faults: usize,
 }
 
-// The one argument `x`, a file, and writers that don't fail.
-const fn file(text: &'static str) -> Given {
-    Given {
-        args: Ok("sre_cases x"),
-        file: Ok(text),
-        out: ENOUGH,
-        faults: ENOUGH,
-    }
-}
+// The one argument `x`, whose file has a case, and writers that don't fail.
+const ONE_CASE: Given = Given {
+    args: Ok("sre_cases x"),
+    file: Ok("check -"),
+    out: ENOUGH,
+    faults: ENOUGH,
+};
 
-const fn args(args: Result<&'static str, ErrorKind>) -> Given {
-    Given {
-        args,
-        file: Ok("check -"),
-        out: ENOUGH,
-        faults: ENOUGH,
-    }
-}
+const USAGE: &str = "usage: sre_cases FILE\n";
 
-const fn unread(fault: ErrorKind) -> Given {
-    Given {
-        args: Ok("sre_cases x"),
-        file: Err(fault),
-        out: ENOUGH,
-        faults: ENOUGH,
-    }
-}
+// How a run ends, and what its two writers then hold.
+static RUNS: [(Given, Ending, &str, &str); 20] = [
+    (
+        Given {
+            file: Ok(""),
+            ..ONE_CASE
+        },
+        Ending::AllAnswered,
+        "",
+        "",
+    ),
+    (
+        Given {
+            file: Ok("check -\n#\ncheck -"),
+            ..ONE_CASE
+        },
+        Ending::AllAnswered,
+        "refused\nrefused\n",
+        "",
+    ),
+    (
+        Given {
+            args: Ok(""),
+            ..ONE_CASE
+        },
+        Ending::Told(CaseFault::Usage),
+        "",
+        USAGE,
+    ),
+    (
+        Given {
+            args: Ok("sre_cases"),
+            ..ONE_CASE
+        },
+        Ending::Told(CaseFault::Usage),
+        "",
+        USAGE,
+    ),
+    (
+        Given {
+            args: Ok("sre_cases x x"),
+            ..ONE_CASE
+        },
+        Ending::Told(CaseFault::Usage),
+        "",
+        USAGE,
+    ),
+    (
+        Given {
+            args: Ok("sre_cases x y z"),
+            ..ONE_CASE
+        },
+        Ending::Told(CaseFault::Usage),
+        "",
+        USAGE,
+    ),
+    // an argument that is no UTF-8
+    (
+        Given {
+            args: Err(ErrorKind::InvalidData),
+            ..ONE_CASE
+        },
+        Ending::Told(CaseFault::Usage),
+        "",
+        USAGE,
+    ),
+    (
+        Given {
+            args: Err(ErrorKind::OutOfMemory),
+            ..ONE_CASE
+        },
+        Ending::Told(CaseFault::NoMemory),
+        "",
+        "no memory\n",
+    ),
+    (
+        Given {
+            args: Ok("sre_cases y"),
+            ..ONE_CASE
+        },
+        Ending::Told(CaseFault::CannotRead),
+        "",
+        "y: cannot be read\n",
+    ),
+    (
+        Given {
+            file: Err(ErrorKind::PermissionDenied),
+            ..ONE_CASE
+        },
+        Ending::Told(CaseFault::CannotRead),
+        "",
+        "x: cannot be read\n",
+    ),
+    (
+        Given {
+            file: Err(ErrorKind::OutOfMemory),
+            ..ONE_CASE
+        },
+        Ending::Told(CaseFault::NoMemory),
+        "",
+        "no memory\n",
+    ),
+    (
+        Given {
+            file: Ok("check -\n\nno\ncheck -"),
+            ..ONE_CASE
+        },
+        Ending::Told(CaseFault::NotACase(3)),
+        "refused\n",
+        "line 3: not a case\n",
+    ),
+    // a write that fails, and a flush that does, behind all answers and before a fault
+    (
+        Given {
+            file: Ok("check -\ncheck -"),
+            out: 3,
+            ..ONE_CASE
+        },
+        Ending::Told(CaseFault::OutputFailed),
+        "ref",
+        "output failed\n",
+    ),
+    (
+        Given { out: 8, ..ONE_CASE },
+        Ending::Told(CaseFault::OutputFailed),
+        "refused\n",
+        "output failed\n",
+    ),
+    (
+        Given {
+            file: Ok("check -\nno"),
+            out: 8,
+            ..ONE_CASE
+        },
+        Ending::Told(CaseFault::OutputFailed),
+        "refused\n",
+        "output failed\n",
+    ),
+    (
+        Given {
+            file: Ok(""),
+            out: 0,
+            ..ONE_CASE
+        },
+        Ending::Told(CaseFault::OutputFailed),
+        "",
+        "output failed\n",
+    ),
+    // a line of a fault that isn't written, whole or in part
+    (
+        Given {
+            args: Ok(""),
+            faults: 0,
+            ..ONE_CASE
+        },
+        Ending::Untold(CaseFault::Usage),
+        "",
+        "",
+    ),
+    (
+        Given {
+            args: Ok(""),
+            faults: 5,
+            ..ONE_CASE
+        },
+        Ending::Untold(CaseFault::Usage),
+        "",
+        "usage",
+    ),
+    (
+        Given {
+            file: Ok("check -\nno"),
+            faults: 7,
+            ..ONE_CASE
+        },
+        Ending::Untold(CaseFault::NotACase(2)),
+        "refused\n",
+        "line 2:",
+    ),
+    (
+        Given {
+            faults: 0,
+            ..ONE_CASE
+        },
+        Ending::AllAnswered,
+        "refused\n",
+        "",
+    ),
+];
 
 #[test]
 fn runs_end_with_the_answers_and_the_fault(rt: HostRuntime) -> Result<(), Fail> {
     let alloc = rt.alloc();
-    let usage = "usage: sre_cases FILE\n";
-    let told = Ending::Told;
-    let untold = Ending::Untold;
-    let rows: [(Given, Ending, &str, &str); 20] = [
-        (file(""), Ending::AllAnswered, "", ""),
-        (
-            file("check -\n#\ncheck -"),
-            Ending::AllAnswered,
-            "refused\nrefused\n",
-            "",
-        ),
-        (args(Ok("")), told(CaseFault::Usage), "", usage),
-        (args(Ok("sre_cases")), told(CaseFault::Usage), "", usage),
-        (args(Ok("sre_cases x x")), told(CaseFault::Usage), "", usage),
-        (
-            args(Ok("sre_cases x y z")),
-            told(CaseFault::Usage),
-            "",
-            usage,
-        ),
-        // an argument that is no UTF-8
-        (
-            args(Err(ErrorKind::InvalidData)),
-            told(CaseFault::Usage),
-            "",
-            usage,
-        ),
-        (
-            args(Err(ErrorKind::OutOfMemory)),
-            told(CaseFault::NoMemory),
-            "",
-            "no memory\n",
-        ),
-        (
-            args(Ok("sre_cases y")),
-            told(CaseFault::CannotRead),
-            "",
-            "y: cannot be read\n",
-        ),
-        (
-            unread(ErrorKind::PermissionDenied),
-            told(CaseFault::CannotRead),
-            "",
-            "x: cannot be read\n",
-        ),
-        (
-            unread(ErrorKind::OutOfMemory),
-            told(CaseFault::NoMemory),
-            "",
-            "no memory\n",
-        ),
-        (
-            file("check -\n\nno\ncheck -"),
-            told(CaseFault::NotACase(3)),
-            "refused\n",
-            "line 3: not a case\n",
-        ),
-        // a write that fails, and a flush that does, behind all answers and before a fault
-        (
-            Given {
-                out: 3,
-                ..file("check -\ncheck -")
-            },
-            told(CaseFault::OutputFailed),
-            "ref",
-            "output failed\n",
-        ),
-        (
-            Given {
-                out: 8,
-                ..file("check -")
-            },
-            told(CaseFault::OutputFailed),
-            "refused\n",
-            "output failed\n",
-        ),
-        (
-            Given {
-                out: 8,
-                ..file("check -\nno")
-            },
-            told(CaseFault::OutputFailed),
-            "refused\n",
-            "output failed\n",
-        ),
-        (
-            Given { out: 0, ..file("") },
-            told(CaseFault::OutputFailed),
-            "",
-            "output failed\n",
-        ),
-        // a line of a fault that isn't written, whole or in part
-        (
-            Given {
-                faults: 0,
-                ..args(Ok(""))
-            },
-            untold(CaseFault::Usage),
-            "",
-            "",
-        ),
-        (
-            Given {
-                faults: 5,
-                ..args(Ok(""))
-            },
-            untold(CaseFault::Usage),
-            "",
-            "usage",
-        ),
-        (
-            Given {
-                faults: 7,
-                ..file("check -\nno")
-            },
-            untold(CaseFault::NotACase(2)),
-            "refused\n",
-            "line 2:",
-        ),
-        (
-            Given {
-                faults: 0,
-                ..file("check -")
-            },
-            Ending::AllAnswered,
-            "refused\n",
-            "",
-        ),
-    ];
-    for (given, ending, answers, line) in rows {
+    for &(given, ending, answers, line) in &RUNS {
         let mut out = FailsOnce::new(alloc, given.out, ErrorKind::Other);
         let mut faults = FailsOnce::new(alloc, given.faults, ErrorKind::Other);
         let names = match given.args {
