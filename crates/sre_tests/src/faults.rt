@@ -16,7 +16,7 @@ pub fn refusal(alloc: Global, words: &[u32]) -> Option<CodeError> {
 }
 
 // Words that are cut short stand beside the lawful ones.
-const FAULTS: [(&[u32], CodeError); 87] = [
+static FAULTS: [(&[u32], CodeError); 87] = [
     (&[1, 43], CodeError::TrailingWords(1)),
     (&[43, 1], CodeError::UnknownOpcode(0)),
     (&[16, 97, NO_LIMIT, 1], CodeError::UnknownOpcode(2)),
@@ -139,7 +139,7 @@ pub fn set_of_blocks(alloc: Global, front: &[u32], full: usize) -> Result<Vec<u3
 
 #[test]
 fn words_are_refused_by_cause_and_place(rt: HostRuntime) -> Result<(), Fail> {
-    for (words, error) in FAULTS {
+    for &(words, error) in &FAULTS {
         assert!(rt; refusal(rt.alloc(), words) == Some(error), "{words:?}");
     }
     // there is one block, and the first block number is 1
@@ -148,22 +148,24 @@ fn words_are_refused_by_cause_and_place(rt: HostRuntime) -> Result<(), Fail> {
     Ok(())
 }
 
+// In the order of their numbers.
+static TOLD: [(CodeError, &str); 11] = [
+    (CodeError::Memory, "out of memory"),
+    (CodeError::Truncated(3), "Truncated 3"),
+    (CodeError::UnknownOpcode(0), "UnknownOpcode 0"),
+    (CodeError::UnknownAt(1), "UnknownAt 1"),
+    (CodeError::UnknownCategory(12), "UnknownCategory 12"),
+    (CodeError::BadSkip(2), "BadSkip 2"),
+    (CodeError::BadCounts(4), "BadCounts 4"),
+    (CodeError::BadItem(5), "BadItem 5"),
+    (CodeError::BadSet(6), "BadSet 6"),
+    (CodeError::BadInfo(7), "BadInfo 7"),
+    (CodeError::TrailingWords(8), "TrailingWords 8"),
+];
+
 #[test]
 fn errors_are_told(rt: HostRuntime) -> Result<(), Fail> {
-    let told = [
-        (CodeError::Memory, "out of memory"),
-        (CodeError::Truncated(3), "Truncated 3"),
-        (CodeError::UnknownOpcode(0), "UnknownOpcode 0"),
-        (CodeError::UnknownAt(1), "UnknownAt 1"),
-        (CodeError::UnknownCategory(12), "UnknownCategory 12"),
-        (CodeError::BadSkip(2), "BadSkip 2"),
-        (CodeError::BadCounts(4), "BadCounts 4"),
-        (CodeError::BadItem(5), "BadItem 5"),
-        (CodeError::BadSet(6), "BadSet 6"),
-        (CodeError::BadInfo(7), "BadInfo 7"),
-        (CodeError::TrailingWords(8), "TrailingWords 8"),
-    ];
-    for (i, (error, text)) in told.iter().enumerate() {
+    for (i, (error, text)) in TOLD.iter().enumerate() {
         let shown = format!(in rt.alloc(); "{error}")?;
         assert_eq!(rt; shown.as_str(), *text);
         assert_eq!(rt; error.number() as usize, i + 1);

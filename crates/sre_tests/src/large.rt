@@ -41,7 +41,7 @@ type Case = (
     (usize, usize, usize),
 );
 
-const CASES: [Case; 6] = [
+static CASES: [Case; 6] = [
     (
         BRANCH_IN_LOOP,
         A_BEFORE_B,
@@ -108,7 +108,7 @@ fn far_group(alloc: Global, uni: &UniTable) -> Result<(usize, isize, Option<usiz
 fn large_inputs_are_answered(rt: HostRuntime) -> Result<(), Fail> {
     let alloc = rt.alloc();
     let uni = UniTable::ascii(alloc);
-    for (words, parts, call, found) in CASES {
+    for &(words, parts, call, found) in &CASES {
         let text = long_text(alloc, parts)?;
         assert!(rt;
             ends(alloc, &uni, call, words, text.as_str())? == Some(found),

@@ -10,7 +10,7 @@ use std::test::Fail;
 
 const NO_LIMIT: u32 = u32::MAX;
 
-const LAWFUL: [&[u32]; 47] = [
+static LAWFUL: [&[u32]; 47] = [
     &[1],
     &[0, 1],
     &[2, 3, 1],
@@ -100,7 +100,7 @@ fn accepted(rt: &impl Abort, alloc: Global, uni: &UniTable, words: &[u32]) -> Re
 #[test]
 fn lawful_words_are_accepted(rt: HostRuntime) -> Result<(), Fail> {
     let uni = UniTable::new(rt.alloc(), &[(201, 233)], &[], &[])?;
-    for words in LAWFUL {
+    for &words in &LAWFUL {
         accepted(&rt, rt.alloc(), &uni, words)?;
     }
     // the first 256 characters are in the first block, which is empty, the next ones in the second, and so on

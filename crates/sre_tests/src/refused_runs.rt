@@ -80,24 +80,25 @@ fn refusals(
     refused_in_turn(rt, alloc, call, of_bytes, of_text, shown)
 }
 
+static CASES: [(&[u32], &str); 3] = [(ALTERNATIVES, "xac"), (LOOP, "xabac"), (REGIONS, "xac")];
+
 // The calls and starts, and whether they have a match where all of the text matches but its first character
-const CALLS: [(Call, usize, bool); 4] = [
+static CALLS: [(Call, usize, bool); 4] = [
     (Call::Match, 0, false),
     (Call::Match, 1, true),
     (Call::Search, 0, true),
     (Call::Search, 1, true),
 ];
 
-const FLAGS: [(bool, bool); 4] = [(false, false), (false, true), (true, false), (true, true)];
+static FLAGS: [(bool, bool); 4] = [(false, false), (false, true), (true, false), (true, true)];
 
 #[test]
 fn a_run_fails_where_memory_is_refused(rt: HostRuntime) -> Result<(), Fail> {
     let uni = UniTable::ascii(rt.alloc());
-    let cases: [(&[u32], &str); 3] = [(ALTERNATIVES, "xac"), (LOOP, "xabac"), (REGIONS, "xac")];
-    for (words, text) in cases {
+    for &(words, text) in &CASES {
         let code = Code::check(rt.alloc(), words, &uni)?;
-        for call in CALLS {
-            for flags in FLAGS {
+        for &call in &CALLS {
+            for &flags in &FLAGS {
                 let refused = refusals(&rt, rt.alloc(), code, text, call, flags)?;
                 // the marks, the trail and the choices grow
                 assert!(rt; refused > 2 || !call.2);

@@ -27,7 +27,7 @@ const BYTES: Text = Text::Bytes(b"ba");
 // What is asked, by a call, words, a text and its window, and what the state then shows.
 type Step = ((Call, &'static [u32], Text, (usize, usize)), Shown<'static>);
 
-const STEPS: [Step; 10] = [
+static STEPS: [Step; 10] = [
     (
         (Call::Match, GROUP, CHARACTERS, (0, 9)),
         (Some((0, 1, 2)), &[Some(0), Some(1)], 1),
@@ -125,7 +125,7 @@ fn moved_and_set(code: Code<'_>) -> (usize, usize, bool, bool) {
 fn a_state_goes_from_text_to_text(rt: HostRuntime) -> Result<(), Fail> {
     let uni = UniTable::ascii(rt.alloc());
     let mut state = State::new(rt.alloc());
-    for ((call, words, text, window), shown) in STEPS {
+    for &((call, words, text, window), shown) in &STEPS {
         let code = Code::check(rt.alloc(), words, &uni)?;
         assert!(rt;
             answers(&mut state, code, call, text, window, shown)?,

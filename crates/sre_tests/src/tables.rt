@@ -7,7 +7,7 @@ use std::test::Fail;
 
 // Words and a text of one character, and whether they match under ASCII's table, under one that knows é and É, and
 // under that of Unicode.
-const CASES: [(&[u32], &str, (bool, bool, bool)); 14] = [
+static CASES: [(&[u32], &str, (bool, bool, bool)); 14] = [
     (&[40, 233, 1], "É", (false, true, true)),
     (&[40, 233, 1], "é", (true, true, true)),
     (&[40, 201, 1], "é", (false, false, false)),
@@ -52,7 +52,7 @@ fn tables_fold_characters_past_ascii(rt: HostRuntime) -> Result<(), Fail> {
         &[(201, 201), (233, 233)],
     )?;
     let unicode = UniTable::from_std(alloc)?;
-    for (words, text, (of_ascii, of_accented, of_unicode)) in CASES {
+    for &(words, text, (of_ascii, of_accented, of_unicode)) in &CASES {
         assert!(rt;
             matches(alloc, &ascii, words, text, of_ascii)?,
             "{words:?} {text:?}"

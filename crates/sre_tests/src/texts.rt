@@ -8,7 +8,7 @@ use std::test::Fail;
 
 const NO_LIMIT: u32 = u32::MAX;
 
-const CODES: [&[u32]; 7] = [
+static CODES: [&[u32]; 7] = [
     &[16, 97, 1],
     &[24, 6, 1, NO_LIMIT, 16, 97, 1, 1],
     &[6, 3, 32, 98, 1],
@@ -21,6 +21,8 @@ const CODES: [&[u32]; 7] = [
     ],
     &[6, 7, 1],
 ];
+
+static TEXTS: [&str; 7] = ["", "a", "b", "aab", "Ba b", "xxbaaab\n", "b\nB"];
 
 // Whether both calls have equal answers over the same ASCII characters.
 fn alike(alloc: Global, uni: &UniTable, words: &[u32], text: &str) -> Result<bool, Fail> {
@@ -35,8 +37,8 @@ fn alike(alloc: Global, uni: &UniTable, words: &[u32], text: &str) -> Result<boo
 
 // Each code over each text.
 fn all_alike(rt: &impl Abort, alloc: Global, uni: &UniTable) -> Result<(), Fail> {
-    for words in CODES {
-        for text in ["", "a", "b", "aab", "Ba b", "xxbaaab\n", "b\nB"] {
+    for &words in &CODES {
+        for &text in &TEXTS {
             assert!(rt; alike(alloc, uni, words, text)?, "{words:?} {text:?}");
         }
     }
