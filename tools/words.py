@@ -358,7 +358,7 @@ class Listing:
 
 def blocks_of(path):
     """The blocks of a file of patterns: the number of the first line, and the values by key."""
-    with open(path, encoding='utf-8') as file:
+    with open(path, encoding='utf-8', errors='surrogateescape') as file:
         lines = file.read().split('\n')
     blocks, fields = [], None
     for number, line in enumerate(lines, 1):
