@@ -145,13 +145,17 @@ pub fn lists<S: StrDrive, A: Allocator + Copy>(
     Ok(true)
 }
 
-// Whether both walks over a request have these matches.
+// Whether both walks over a text have these matches.
 fn walks<S: StrDrive>(
     alloc: Global,
-    req: Request<'_, S>,
+    text: S,
+    code: Code<'_>,
+    flags: (bool, bool),
     wanted: &[Span],
 ) -> Result<bool, SreError> {
-    let one_by_one = gives(&mut SearchIter::new(req, State::new(alloc)), wanted)?;
+    let mut walk = SearchIter::new(whole(text, code, flags), State::new(alloc));
+    let one_by_one = gives(&mut walk, wanted)?;
+    let req = whole(text, code, flags);
     Ok(one_by_one && lists(req, &mut State::new(alloc), wanted)?)
 }
 
@@ -161,12 +165,15 @@ fn walks_have_their_matches(rt: HostRuntime) -> Result<(), Fail> {
     let uni = UniTable::ascii(alloc);
     for (words, text, flags, wanted) in &ROWS {
         let code = Code::check(alloc, words, &uni)?;
-        let (of_text, of_bytes) = (
-            whole(*text, code, *flags),
-            whole(text.as_bytes(), code, *flags),
+        let bytes = text.as_bytes();
+        assert!(rt;
+            walks(alloc, *text, code, *flags, wanted)?,
+            "{words:?} {text:?}"
         );
-        assert!(rt; walks(alloc, of_text, wanted)?, "{words:?} {text:?}");
-        assert!(rt; walks(alloc, of_bytes, wanted)?, "{words:?} {text:?}");
+        assert!(rt;
+            walks(alloc, bytes, code, *flags, wanted)?,
+            "{words:?} {text:?}"
+        );
     }
     Ok(())
 }
