@@ -6,54 +6,90 @@ use crate::constants::{
 use crate::string::{StrDrive, StringCursor, UniError, UniTable, category};
 use std::test::Fail;
 
-// The numbers are those of CPython's `_constants.py`.
+// Words and the codes of these numbers, as CPython's `_constants.py` has them.
+static CODES: [(
+    u32,
+    Option<SreOpcode>,
+    Option<SreAtCode>,
+    Option<SreCatCode>,
+); 13] = [
+    (
+        0,
+        Some(SreOpcode::FAILURE),
+        Some(SreAtCode::BEGINNING),
+        Some(SreCatCode::DIGIT),
+    ),
+    (
+        1,
+        Some(SreOpcode::SUCCESS),
+        Some(SreAtCode::BEGINNING_LINE),
+        Some(SreCatCode::NOT_DIGIT),
+    ),
+    (
+        7,
+        Some(SreOpcode::BRANCH),
+        Some(SreAtCode::END_STRING),
+        Some(SreCatCode::NOT_LINEBREAK),
+    ),
+    (
+        9,
+        Some(SreOpcode::CHARSET),
+        Some(SreAtCode::LOC_NON_BOUNDARY),
+        Some(SreCatCode::LOC_NOT_WORD),
+    ),
+    (
+        11,
+        Some(SreOpcode::GROUPREF),
+        Some(SreAtCode::UNI_NON_BOUNDARY),
+        Some(SreCatCode::UNI_NOT_DIGIT),
+    ),
+    (
+        12,
+        Some(SreOpcode::GROUPREF_EXISTS),
+        None,
+        Some(SreCatCode::UNI_SPACE),
+    ),
+    (
+        17,
+        Some(SreOpcode::MARK),
+        None,
+        Some(SreCatCode::UNI_NOT_LINEBREAK),
+    ),
+    (18, Some(SreOpcode::MAX_UNTIL), None, None),
+    (25, Some(SreOpcode::SUBPATTERN), None, None),
+    (42, Some(SreOpcode::RANGE_UNI_IGNORE), None, None),
+    (43, None, None, None),
+    (44, None, None, None),
+    (4294967295, None, None, None),
+];
+
 #[test]
 fn words_become_codes(rt: HostRuntime) {
-    assert_eq!(rt;
-        (CODESIZE, MAXREPEAT, MAXGROUPS),
-        (4, 4294967295, 2147483647)
-    );
-    for (word, opcode) in [
-        (0, SreOpcode::FAILURE),
-        (1, SreOpcode::SUCCESS),
-        (17, SreOpcode::MARK),
-        (25, SreOpcode::SUBPATTERN),
-        (42, SreOpcode::RANGE_UNI_IGNORE),
-    ] {
-        assert_eq!(rt; SreOpcode::try_from(word), Ok(opcode));
-    }
-    for (word, code) in [
-        (0, SreAtCode::BEGINNING),
-        (7, SreAtCode::END_STRING),
-        (11, SreAtCode::UNI_NON_BOUNDARY),
-    ] {
-        assert_eq!(rt; SreAtCode::try_from(word), Ok(code));
-    }
-    for (word, code) in [
-        (0, SreCatCode::DIGIT),
-        (9, SreCatCode::LOC_NOT_WORD),
-        (17, SreCatCode::UNI_NOT_LINEBREAK),
-    ] {
-        assert_eq!(rt; SreCatCode::try_from(word), Ok(code));
-    }
-    for word in [43, 44, 4294967295] {
+    assert!(rt; (CODESIZE, MAXREPEAT, MAXGROUPS) == (4, 4294967295, 2147483647));
+    for &(word, opcode, at, category) in &CODES {
         let refusal = UnknownCode(word);
-        assert_eq!(rt; SreOpcode::try_from(word), Err(refusal));
-        assert_eq!(rt; SreAtCode::try_from(word), Err(refusal));
-        assert_eq!(rt; SreCatCode::try_from(word), Err(refusal));
+        assert!(rt;
+            SreOpcode::try_from(word) == opcode.ok_or(refusal),
+            "{word}"
+        );
+        assert!(rt; SreAtCode::try_from(word) == at.ok_or(refusal), "{word}");
+        assert!(rt;
+            SreCatCode::try_from(word) == category.ok_or(refusal),
+            "{word}"
+        );
     }
-    assert_eq!(rt; SreAtCode::try_from(12), Err(UnknownCode(12)));
-    assert_eq!(rt; SreCatCode::try_from(18), Err(UnknownCode(18)));
 }
+
+static ERRORS: [(UniError, u32, &str); 4] = [
+    (UniError::Memory, 1, "out of memory"),
+    (UniError::Unsorted, 2, "Unsorted"),
+    (UniError::AsciiEntry, 3, "AsciiEntry"),
+    (UniError::NotScalar, 4, "NotScalar"),
+];
 
 #[test]
 fn errors_have_numbers_and_words(rt: HostRuntime) -> Result<(), Fail> {
-    for (error, number, words) in [
-        (UniError::Memory, 1, "out of memory"),
-        (UniError::Unsorted, 2, "Unsorted"),
-        (UniError::AsciiEntry, 3, "AsciiEntry"),
-        (UniError::NotScalar, 4, "NotScalar"),
-    ] {
+    for &(error, number, words) in &ERRORS {
         assert_eq!(rt; error.number(), number);
         let text = format!(in rt.alloc(); "{error}")?;
         assert_eq!(rt; text.as_str(), words);
@@ -100,21 +136,23 @@ fn is_text_of<S: StrDrive>(text: S, chars: &[u32]) -> bool {
     true
 }
 
+static TEXTS: [(&str, &[u32]); 5] = [
+    ("", &[]),
+    ("a", &[97]),
+    ("é€", &[233, 8364]),
+    ("aé€😀", &[97, 233, 8364, 128512]),
+    (
+        "\u{0}\u{7f}\u{80}\u{7ff}\u{800}\u{d7ff}\u{e000}\u{ffff}\u{10000}\u{10ffff}",
+        &[0, 127, 128, 2047, 2048, 55295, 57344, 65535, 65536, 1114111],
+    ),
+];
+
 // Each `str` is repeated to go past several blocks of bytes, at whose edges characters of each width are cut.
 #[test]
 fn texts_are_their_characters(rt: HostRuntime) -> Result<(), Fail> {
     let bytes = [0u8, 7, 127, 128, 195, 169, 255];
     assert!(rt; is_text_of(bytes.as_slice(), &[0, 7, 127, 128, 195, 169, 255]));
-    for (text, chars) in [
-        ("", [].as_slice()),
-        ("a", [97].as_slice()),
-        ("é€", [233, 8364].as_slice()),
-        ("aé€😀", [97, 233, 8364, 128512].as_slice()),
-        (
-            "\u{0}\u{7f}\u{80}\u{7ff}\u{800}\u{d7ff}\u{e000}\u{ffff}\u{10000}\u{10ffff}",
-            [0, 127, 128, 2047, 2048, 55295, 57344, 65535, 65536, 1114111].as_slice(),
-        ),
-    ] {
+    for &(text, chars) in &TEXTS {
         for times in [1, 70] {
             let text = text.repeat(rt.alloc(), times)?;
             let chars = chars.repeat(rt.alloc(), times)?;
@@ -127,7 +165,9 @@ fn texts_are_their_characters(rt: HostRuntime) -> Result<(), Fail> {
     Ok(())
 }
 
-// The characters of "aé€😀" take 1, 2, 3 and 4 bytes.
+// Positions and offsets in "aé€😀", many times over, whose characters take 1, 2, 3 and 4 bytes.
+static PLACES: [(usize, usize); 6] = [(1, 1), (2, 3), (3, 6), (4, 10), (402, 1003), (600, 1500)];
+
 #[test]
 fn offsets_count_bytes(rt: HostRuntime) -> Result<(), Fail> {
     let start = StringCursor::default();
@@ -136,7 +176,7 @@ fn offsets_count_bytes(rt: HostRuntime) -> Result<(), Fail> {
     let text = text.as_str();
     assert_eq!(rt; text.count(), 600);
     assert_eq!(rt; text.create_cursor(0), start);
-    for (position, offset) in [(1, 1), (2, 3), (3, 6), (4, 10), (402, 1003), (600, 1500)] {
+    for &(position, offset) in &PLACES {
         let mut cursor = start;
         if position <= text.count() {
             text.skip(&mut cursor, position);
@@ -147,60 +187,53 @@ fn offsets_count_bytes(rt: HostRuntime) -> Result<(), Fail> {
 }
 
 // The runs are CPython's; of its Unicode words only those in ASCII, since the table has no others.
+static CATEGORIES: [(SreCatCode, SreCatCode, &[(u32, u32)]); 9] = [
+    (SreCatCode::DIGIT, SreCatCode::NOT_DIGIT, DIGITS),
+    (
+        SreCatCode::SPACE,
+        SreCatCode::NOT_SPACE,
+        &[(9, 13), (32, 32)],
+    ),
+    (SreCatCode::WORD, SreCatCode::NOT_WORD, WORDS),
+    (
+        SreCatCode::LINEBREAK,
+        SreCatCode::NOT_LINEBREAK,
+        &[(10, 10)],
+    ),
+    (SreCatCode::LOC_WORD, SreCatCode::LOC_NOT_WORD, WORDS),
+    (SreCatCode::UNI_DIGIT, SreCatCode::UNI_NOT_DIGIT, DIGITS),
+    (
+        SreCatCode::UNI_SPACE,
+        SreCatCode::UNI_NOT_SPACE,
+        &[
+            (9, 13),
+            (28, 32),
+            (133, 133),
+            (160, 160),
+            (5760, 5760),
+            (8192, 8202),
+            (8232, 8233),
+            (8239, 8239),
+            (8287, 8287),
+            (12288, 12288),
+        ],
+    ),
+    (SreCatCode::UNI_WORD, SreCatCode::UNI_NOT_WORD, WORDS),
+    (
+        SreCatCode::UNI_LINEBREAK,
+        SreCatCode::UNI_NOT_LINEBREAK,
+        &[(10, 13), (28, 30), (133, 133), (8232, 8233)],
+    ),
+];
+
+const DIGITS: &[(u32, u32)] = &[(48, 57)];
+
+const WORDS: &[(u32, u32)] = &[(48, 57), (65, 90), (95, 95), (97, 122)];
+
 #[test]
 fn categories_are_those_of_cpython(rt: HostRuntime) {
     let table = UniTable::ascii(rt.alloc());
-    let digits = [(48, 57)];
-    let spaces = [(9, 13), (32, 32)];
-    let words = [(48, 57), (65, 90), (95, 95), (97, 122)];
-    let unicode_spaces = [
-        (9, 13),
-        (28, 32),
-        (133, 133),
-        (160, 160),
-        (5760, 5760),
-        (8192, 8202),
-        (8232, 8233),
-        (8239, 8239),
-        (8287, 8287),
-        (12288, 12288),
-    ];
-    let unicode_linebreaks = [(10, 13), (28, 30), (133, 133), (8232, 8233)];
-    for (plain, negated, runs) in [
-        (SreCatCode::DIGIT, SreCatCode::NOT_DIGIT, digits.as_slice()),
-        (SreCatCode::SPACE, SreCatCode::NOT_SPACE, spaces.as_slice()),
-        (SreCatCode::WORD, SreCatCode::NOT_WORD, words.as_slice()),
-        (
-            SreCatCode::LINEBREAK,
-            SreCatCode::NOT_LINEBREAK,
-            [(10, 10)].as_slice(),
-        ),
-        (
-            SreCatCode::LOC_WORD,
-            SreCatCode::LOC_NOT_WORD,
-            words.as_slice(),
-        ),
-        (
-            SreCatCode::UNI_DIGIT,
-            SreCatCode::UNI_NOT_DIGIT,
-            digits.as_slice(),
-        ),
-        (
-            SreCatCode::UNI_SPACE,
-            SreCatCode::UNI_NOT_SPACE,
-            unicode_spaces.as_slice(),
-        ),
-        (
-            SreCatCode::UNI_WORD,
-            SreCatCode::UNI_NOT_WORD,
-            words.as_slice(),
-        ),
-        (
-            SreCatCode::UNI_LINEBREAK,
-            SreCatCode::UNI_NOT_LINEBREAK,
-            unicode_linebreaks.as_slice(),
-        ),
-    ] {
+    for &(plain, negated, runs) in &CATEGORIES {
         for ch in 0..12300 {
             let is_in = runs.iter().any(|&(low, high)| low <= ch && ch <= high);
             assert_eq!(rt; category(&table, plain, ch), is_in, "{ch}");

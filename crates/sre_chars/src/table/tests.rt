@@ -19,91 +19,123 @@ fn refusal(
     UniTable::new(alloc, lower, upper, alnum).err()
 }
 
-// Of the faults of one entry NotScalar is before AsciiEntry, and that before Unsorted.
+// Lists and their faults. Of the faults of one entry NotScalar is before AsciiEntry, and that before Unsorted.
+static MAPS: [(&[(u32, u32)], Option<UniError>); 17] = [
+    (&[], None),
+    (
+        &[(128, 65), (129, 0), (57344, 55295), (1114111, 1114111)],
+        None,
+    ),
+    (&[(65, 97)], Some(AsciiEntry)),
+    (&[(127, 200)], Some(AsciiEntry)),
+    (&[(201, 233), (65, 97)], Some(AsciiEntry)),
+    (&[(200, 1), (200, 2)], Some(Unsorted)),
+    (&[(201, 1), (200, 2)], Some(Unsorted)),
+    (&[(55296, 200)], Some(NotScalar)),
+    (&[(57343, 200)], Some(NotScalar)),
+    (&[(200, 55296)], Some(NotScalar)),
+    (&[(200, 57343)], Some(NotScalar)),
+    (&[(1114112, 200)], Some(NotScalar)),
+    (&[(200, 4294967295)], Some(NotScalar)),
+    (&[(201, 233), (65, 55296)], Some(NotScalar)),
+    (&[(201, 233), (201, 55296)], Some(NotScalar)),
+    (&[(201, 1), (200, 1), (65, 1)], Some(Unsorted)),
+    (&[(201, 1), (65, 1), (200, 1)], Some(AsciiEntry)),
+];
+
+static RANGES: [(&[(u32, u32)], Option<UniError>); 18] = [
+    (
+        &[(128, 128), (129, 55295), (57344, 57344), (1114111, 1114111)],
+        None,
+    ),
+    (&[(48, 57)], Some(AsciiEntry)),
+    (&[(127, 200)], Some(AsciiEntry)),
+    (&[(100, 99)], Some(AsciiEntry)),
+    (&[(200, 100)], Some(Unsorted)),
+    (&[(128, 127)], Some(Unsorted)),
+    (&[(60000, 50000)], Some(Unsorted)),
+    (&[(200, 210), (205, 220)], Some(Unsorted)),
+    (&[(200, 210), (210, 220)], Some(Unsorted)),
+    (&[(200, 210), (150, 160)], Some(Unsorted)),
+    (&[(200, 210), (205, 100)], Some(Unsorted)),
+    (&[(55295, 57344)], Some(NotScalar)),
+    (&[(55295, 55296)], Some(NotScalar)),
+    (&[(57343, 57344)], Some(NotScalar)),
+    (&[(100, 60000)], Some(NotScalar)),
+    (&[(1114111, 1114112)], Some(NotScalar)),
+    (&[(200, 210), (55296, 100)], Some(NotScalar)),
+    (&[(200, 210), (57343, 1)], Some(NotScalar)),
+];
+
 #[test]
 fn lists_have_faults(rt: HostRuntime) {
     let alloc = rt.alloc();
-    let entries = [(128, 65), (129, 0), (57344, 55295), (1114111, 1114111)];
-    for (map, fault) in [
-        ([].as_slice(), None),
-        (entries.as_slice(), None),
-        ([(65, 97)].as_slice(), Some(AsciiEntry)),
-        ([(127, 200)].as_slice(), Some(AsciiEntry)),
-        ([(201, 233), (65, 97)].as_slice(), Some(AsciiEntry)),
-        ([(200, 1), (200, 2)].as_slice(), Some(Unsorted)),
-        ([(201, 1), (200, 2)].as_slice(), Some(Unsorted)),
-        ([(55296, 200)].as_slice(), Some(NotScalar)),
-        ([(57343, 200)].as_slice(), Some(NotScalar)),
-        ([(200, 55296)].as_slice(), Some(NotScalar)),
-        ([(200, 57343)].as_slice(), Some(NotScalar)),
-        ([(1114112, 200)].as_slice(), Some(NotScalar)),
-        ([(200, 4294967295)].as_slice(), Some(NotScalar)),
-        ([(201, 233), (65, 55296)].as_slice(), Some(NotScalar)),
-        ([(201, 233), (201, 55296)].as_slice(), Some(NotScalar)),
-        ([(201, 1), (200, 1), (65, 1)].as_slice(), Some(Unsorted)),
-        ([(201, 1), (65, 1), (200, 1)].as_slice(), Some(AsciiEntry)),
-    ] {
+    for &(map, fault) in &MAPS {
         assert_eq!(rt; refusal(alloc, map, &[], &[]), fault);
         assert_eq!(rt; refusal(alloc, &[], map, &[]), fault);
     }
-    let runs = [(128, 128), (129, 55295), (57344, 57344), (1114111, 1114111)];
-    for (ranges, fault) in [
-        (runs.as_slice(), None),
-        ([(48, 57)].as_slice(), Some(AsciiEntry)),
-        ([(127, 200)].as_slice(), Some(AsciiEntry)),
-        ([(100, 99)].as_slice(), Some(AsciiEntry)),
-        ([(200, 100)].as_slice(), Some(Unsorted)),
-        ([(128, 127)].as_slice(), Some(Unsorted)),
-        ([(60000, 50000)].as_slice(), Some(Unsorted)),
-        ([(200, 210), (205, 220)].as_slice(), Some(Unsorted)),
-        ([(200, 210), (210, 220)].as_slice(), Some(Unsorted)),
-        ([(200, 210), (150, 160)].as_slice(), Some(Unsorted)),
-        ([(200, 210), (205, 100)].as_slice(), Some(Unsorted)),
-        ([(55295, 57344)].as_slice(), Some(NotScalar)),
-        ([(55295, 55296)].as_slice(), Some(NotScalar)),
-        ([(57343, 57344)].as_slice(), Some(NotScalar)),
-        ([(100, 60000)].as_slice(), Some(NotScalar)),
-        ([(1114111, 1114112)].as_slice(), Some(NotScalar)),
-        ([(200, 210), (55296, 100)].as_slice(), Some(NotScalar)),
-        ([(200, 210), (57343, 1)].as_slice(), Some(NotScalar)),
-    ] {
+    for &(ranges, fault) in &RANGES {
         assert_eq!(rt; refusal(alloc, &[], &[], ranges), fault);
     }
 }
 
+const LAWFUL: &[(u32, u32)] = &[(201, 233)];
+
+const ASCII: &[(u32, u32)] = &[(65, 97)];
+
+const UNSORTED: &[(u32, u32)] = &[(201, 233), (201, 234)];
+
+const SURROGATE: &[(u32, u32)] = &[(55296, 200)];
+
+// The three lists, and the fault of the first of them that has one.
+static LISTS: [(&[(u32, u32)], &[(u32, u32)], &[(u32, u32)], UniError); 5] = [
+    (UNSORTED, ASCII, SURROGATE, Unsorted),
+    (ASCII, UNSORTED, SURROGATE, AsciiEntry),
+    (LAWFUL, ASCII, SURROGATE, AsciiEntry),
+    (LAWFUL, UNSORTED, ASCII, Unsorted),
+    (LAWFUL, LAWFUL, SURROGATE, NotScalar),
+];
+
 #[test]
 fn the_first_list_with_a_fault_is_answered(rt: HostRuntime) {
-    let lawful = [(201, 233)].as_slice();
-    let ascii = [(65, 97)].as_slice();
-    let unsorted = [(201, 233), (201, 234)].as_slice();
-    let surrogate = [(55296, 200)].as_slice();
-    for (lower, upper, alnum, fault) in [
-        (unsorted, ascii, surrogate, Unsorted),
-        (ascii, unsorted, surrogate, AsciiEntry),
-        (lawful, ascii, surrogate, AsciiEntry),
-        (lawful, unsorted, ascii, Unsorted),
-        (lawful, lawful, surrogate, NotScalar),
-    ] {
+    for &(lower, upper, alnum, fault) in &LISTS {
         assert_eq!(rt; refusal(rt.alloc(), lower, upper, alnum), Some(fault));
     }
 }
+
+// Characters with their lower and upper cases.
+static ASCII_CASES: [(u32, u32, u32); 10] = [
+    (64, 64, 64),
+    (65, 97, 65),
+    (90, 122, 90),
+    (91, 91, 91),
+    (96, 96, 96),
+    (97, 97, 65),
+    (122, 122, 90),
+    (123, 123, 123),
+    (201, 201, 201),
+    (4294967295, 4294967295, 4294967295),
+];
+
+// And whether they are words, in a table that has é and É alone.
+static ACCENTED_CASES: [(u32, u32, u32, bool); 10] = [
+    (65, 97, 65, true),
+    (200, 200, 200, false),
+    (201, 233, 201, true),
+    (202, 202, 202, false),
+    (232, 232, 232, false),
+    (233, 233, 201, true),
+    (234, 234, 234, false),
+    (55296, 55296, 55296, false),
+    (1114112, 1114112, 1114112, false),
+    (4294967295, 4294967295, 4294967295, false),
+];
 
 #[test]
 fn characters_are_looked_up(rt: HostRuntime) -> Result<(), Fail> {
     let alloc = rt.alloc();
     let ascii = UniTable::ascii(alloc);
-    for (ch, lower, upper) in [
-        (64, 64, 64),
-        (65, 97, 65),
-        (90, 122, 90),
-        (91, 91, 91),
-        (96, 96, 96),
-        (97, 97, 65),
-        (122, 122, 90),
-        (123, 123, 123),
-        (201, 201, 201),
-        (4294967295, 4294967295, 4294967295),
-    ] {
+    for &(ch, lower, upper) in &ASCII_CASES {
         assert_eq!(rt; (lower_ascii(ch), upper_ascii(ch)), (lower, upper));
         assert_eq!(rt;
             (lower_unicode(&ascii, ch), upper_unicode(&ascii, ch)),
@@ -116,18 +148,7 @@ fn characters_are_looked_up(rt: HostRuntime) -> Result<(), Fail> {
         &[(233, 201)],
         &[(201, 201), (233, 233)],
     )?;
-    for (ch, lower, upper, is_word) in [
-        (65, 97, 65, true),
-        (200, 200, 200, false),
-        (201, 233, 201, true),
-        (202, 202, 202, false),
-        (232, 232, 232, false),
-        (233, 233, 201, true),
-        (234, 234, 234, false),
-        (55296, 55296, 55296, false),
-        (1114112, 1114112, 1114112, false),
-        (4294967295, 4294967295, 4294967295, false),
-    ] {
+    for &(ch, lower, upper, is_word) in &ACCENTED_CASES {
         assert_eq!(rt;
             (lower_unicode(&accents, ch), upper_unicode(&accents, ch)),
             (lower, upper)
@@ -181,6 +202,24 @@ fn long_lists_are_looked_up(rt: HostRuntime) -> Result<(), Fail> {
     Ok(())
 }
 
+static UNICODE_CASES: [(u32, u32, u32, bool); 15] = [
+    (0xC9, 0xE9, 0xC9, true),
+    (0xE9, 0xE9, 0xC9, true),
+    (0xD7, 0xD7, 0xD7, false),
+    (0xDF, 0xDF, 0x53, true),
+    (0x130, 0x69, 0x130, true),
+    (0x131, 0x131, 0x49, true),
+    (0x3A3, 0x3C3, 0x3A3, true),
+    (0x3C2, 0x3C2, 0x3A3, true),
+    (0x660, 0x660, 0x660, true),
+    (0x2028, 0x2028, 0x2028, false),
+    (0x212A, 0x6B, 0x212A, true),
+    (0x4E00, 0x4E00, 0x4E00, true),
+    (0x10400, 0x10428, 0x10400, true),
+    (0x1F600, 0x1F600, 0x1F600, false),
+    (0xFFFFFFFF, 0xFFFFFFFF, 0xFFFFFFFF, false),
+];
+
 // Every character is as std has it, and some are compared with their rows of UnicodeData.txt.
 #[test]
 fn stds_table_is_unicodes(rt: HostRuntime) -> Result<(), Fail> {
@@ -201,23 +240,7 @@ fn stds_table_is_unicodes(rt: HostRuntime) -> Result<(), Fail> {
             "{code}"
         );
     }
-    for (ch, lower, upper, is_word) in [
-        (0xC9, 0xE9, 0xC9, true),
-        (0xE9, 0xE9, 0xC9, true),
-        (0xD7, 0xD7, 0xD7, false),
-        (0xDF, 0xDF, 0x53, true),
-        (0x130, 0x69, 0x130, true),
-        (0x131, 0x131, 0x49, true),
-        (0x3A3, 0x3C3, 0x3A3, true),
-        (0x3C2, 0x3C2, 0x3A3, true),
-        (0x660, 0x660, 0x660, true),
-        (0x2028, 0x2028, 0x2028, false),
-        (0x212A, 0x6B, 0x212A, true),
-        (0x4E00, 0x4E00, 0x4E00, true),
-        (0x10400, 0x10428, 0x10400, true),
-        (0x1F600, 0x1F600, 0x1F600, false),
-        (0xFFFFFFFF, 0xFFFFFFFF, 0xFFFFFFFF, false),
-    ] {
+    for &(ch, lower, upper, is_word) in &UNICODE_CASES {
         assert!(rt; lower_unicode(&table, ch) == lower, "{ch}");
         assert!(rt; upper_unicode(&table, ch) == upper, "{ch}");
         assert!(rt;
