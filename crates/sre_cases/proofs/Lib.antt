@@ -3,5 +3,6 @@ pub mod FileLines
 pub mod Flushed
 pub mod Numbers
 pub mod Pairs
+pub mod WalkTexts
 pub mod Words
 pub mod Lines

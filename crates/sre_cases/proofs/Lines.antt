@@ -15,7 +15,7 @@ use Rattle.sre_cases.specs.Fields.{IsText, subject_text, AreWords, verb_text, ve
 use Rattle.sre_cases.specs.declared.line.Case.{Case}
 use Rattle.sre_cases.specs.declared.line.Verb.{Verb}
 use Rattle.sre_cases.specs.declared.line.Verb.TheVariants.{Check as Verb-Check, Find as Verb-Find}
-use Rattle.sre_cases.specs.declared.line.Finding.TheVariants.{Match, Search}
+use Rattle.sre_cases.specs.declared.line.Finding.TheVariants.{Match, Search, Walk}
 use Rattle.sre_cases.proofs.Cuts.{cut_once, uncut}
 use Rattle.sre_cases.proofs.Numbers.{decimal_lacks}
 use Rattle.sre_cases.proofs.Pairs.{bytes_once}
@@ -206,6 +206,9 @@ verb_lacks (Verb-Find Search) =
     (lacks_cons 32 101 (97 ∷ 114 ∷ 99 ∷ 104 ∷ []) (omega arith)
     (lacks_cons 32 97 (114 ∷ 99 ∷ 104 ∷ []) (omega arith) (lacks_cons 32 114 (99 ∷ 104 ∷ []) (omega arith)
     (lacks_cons 32 99 (104 ∷ []) (omega arith) (lacks_cons 32 104 [] (omega arith) (lacks_nil 32))))))
+verb_lacks (Verb-Find Walk) =
+    lacks_cons 32 119 (97 ∷ 108 ∷ 107 ∷ []) (omega arith) (lacks_cons 32 97 (108 ∷ 107 ∷ []) (omega arith)
+    (lacks_cons 32 108 (107 ∷ []) (omega arith) (lacks_cons 32 107 [] (omega arith) (lacks_nil 32))))
 
 pub after_verb : (line field left : List ℕ) (case : Case) (words text : List ℕ) → field ++ 32 ∷ left ≡ line
     → Lacks field 32

@@ -1,17 +1,19 @@
 -- What a case asks, and how it is answered.
-use Rattle.std.specs.Prelude.{ℕ, ◌≡◌, ◌⊎◌, ◌++◌, List, length, min, Option, Some, None, codes}
+use Rattle.std.specs.Prelude.{ℕ, ◌≡◌, ◌⊎◌, ◌++◌, Bool, true, false, List, [], ◌∷◌, length, min, Option, Some, None}
+use Rattle.std.specs.Prelude.{codes}
 use Rattle.std.specs.Fmt.{decimal, signed_decimal}
+use Rattle.std.specs.List.{flat_map}
 use Rattle.std.specs.Str.{chars}
 use Rattle.sre_chars.specs.Tables.{Table}
 use Rattle.sre_engine.specs.Tree.{Tree}
 use Rattle.sre_engine.specs.Grammar.{Whole, IsCode}
 use Rattle.sre_engine.specs.Hinted.{Confirmed}
-use Rattle.sre_engine.specs.Found.{Asked, Match, matched, found}
+use Rattle.sre_engine.specs.Found.{Asked, Match, matched, found, walk}
 use Rattle.sre_engine.specs.Hints.{Hints}
 use Rattle.sre_cases.specs.declared.line.Case.{Case}
 use Rattle.sre_cases.specs.declared.line.Case.TheVariants.{Check, Find}
 use Rattle.sre_cases.specs.declared.line.Finding.{Finding}
-use Rattle.sre_cases.specs.declared.line.Finding.TheVariants.{Match as At, Search}
+use Rattle.sre_cases.specs.declared.line.Finding.TheVariants.{Match as At, Search, Walk}
 use Rattle.sre_cases.specs.declared.line.Subject.{Subject}
 use Rattle.sre_cases.specs.declared.line.TextForm.{TextForm}
 use Rattle.sre_cases.specs.declared.line.TextForm.TheVariants.{Bytes, Utf8}
@@ -44,11 +46,6 @@ asked subject table text = record {
   must_advance = subject.flags.must_advance;
 }
 
--- the match that is looked for
-abbrev pub match_of : Finding → Asked → Tree → Option Match
-match_of At a t = matched a t
-match_of Search a t = found a t
-
 -- a match, or that there is none
 abbrev pub match_text : Option Match → List ℕ
 match_text None = codes "no"
@@ -56,13 +53,37 @@ match_text (Some m) =
     codes "yes " ++ decimal m.start ++ codes ".." ++ decimal m.end ++ codes " last " ++ signed_decimal m.marks.last
     ++ codes " marks " ++ marks_text m.marks.raw
 
+-- where a match starts and ends
+abbrev pub span_text : Match → List ℕ
+span_text m = decimal m.start ++ codes ".." ++ decimal m.end
+
+-- what stands before a span: nothing before the first one, else a space
+abbrev pub gap_text : Bool → List ℕ
+gap_text true = []
+gap_text false = codes " "
+
+-- spans behind another one
+abbrev pub others_text : List Match → List ℕ
+others_text ms = flat_map (λ m. gap_text false ++ span_text m) ms
+
+-- the spans of a walk's matches divided by spaces, or that there is none
+abbrev pub walk_text : List Match → List ℕ
+walk_text [] = codes "none"
+walk_text (m ∷ ms) = span_text m ++ others_text ms
+
+-- what is found
+abbrev pub found_text : Finding → Asked → Tree → List ℕ
+found_text At a t = match_text (matched a t)
+found_text Search a t = match_text (found a t)
+found_text Walk a t = walk_text (walk a t)
+
 -- the answer to a case whose words are a tree's
 abbrev pub IsAnswerOf : Tree → Table → Case → List ℕ → List ℕ → List ℕ → Type 0
 IsAnswerOf t table Check words text answer =
     (hints : Hints) × Confirmed words t hints
     × (answer ≡ hints_text hints.width hints.prefix hints.literal hints.first_set)
 IsAnswerOf t table (Find finding subject) words text answer =
-    answer ≡ match_text (match_of finding (asked subject table (characters subject.text text)) t)
+    answer ≡ found_text finding (asked subject table (characters subject.text text)) t
 
 -- the answer to a case: that of its words' tree, `refused` where they have none, or `memory`
 abbrev pub IsAnswer : Table → Case → List ℕ → List ℕ → List ℕ → Type 0

@@ -10,7 +10,7 @@ use Rattle.sre_cases.specs.declared.line.TextForm.TheVariants.{Bytes, Utf8}
 use Rattle.sre_cases.specs.declared.line.Subject.{Subject}
 use Rattle.sre_cases.specs.declared.line.Case.{Case}
 use Rattle.sre_cases.specs.declared.line.Case.TheVariants.{Check, Find}
-use Rattle.sre_cases.specs.declared.line.Finding.TheVariants.{Match, Search}
+use Rattle.sre_cases.specs.declared.line.Finding.TheVariants.{Match, Search, Walk}
 use Rattle.sre_cases.specs.declared.line.Verb.{Verb}
 use Rattle.sre_cases.specs.declared.line.Verb.TheVariants.{Check as Verb-Check, Find as Verb-Find}
 use Rattle.sre_cases.specs.declared.line.Window.{Window}
@@ -77,6 +77,7 @@ abbrev pub verb_text : Verb → List ℕ
 verb_text Verb-Check = codes "check"
 verb_text (Verb-Find Match) = codes "match"
 verb_text (Verb-Find Search) = codes "search"
+verb_text (Verb-Find Walk) = codes "walk"
 
 abbrev pub verb : Case → Verb
 verb Check = Verb-Check

@@ -33,6 +33,18 @@ fn yes_or_no(holds: bool) -> &'static str
     if holds { "yes" } else { "no" }
 }
 
+/// Appends where a match starts and ends, positions of characters.
+pub fn push_span<A: Allocator>(
+    answer: &mut String<A>,
+    start: usize,
+    end: usize,
+) -> Result<(), AllocError>
+    ensures { OnOk result
+        (string_bytes answer.new ≡ string_bytes answer.old ++ (decimal start ++ codes ".." ++ decimal end)) }
+{
+    write!(answer, "{start}..{end}")
+}
+
 /// Appends a match from `start` to `end`, positions of characters, with its last index and marks.
 pub fn push_match<A: Allocator>(
     answer: &mut String<A>,

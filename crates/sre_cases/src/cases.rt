@@ -8,11 +8,14 @@ ghost use Rattle.sre_engine.specs.Tree.{Tree};
 ghost use Rattle.sre_engine.specs.Grammar.{Whole};
 ghost use Rattle.sre_engine.specs.Codes.{words_of, uni_of};
 ghost use Rattle.sre_engine.specs.Requests.{asked_of, code_of};
-ghost use Rattle.sre_cases.specs.Cases.{IsAnswer, IsAnswerOf, asked, match_of, match_text};
+ghost use Rattle.sre_cases.specs.Cases.{IsAnswer, IsAnswerOf, asked, found_text};
 ghost use Rattle.sre_cases.specs.Fields.{IsCase};
 ghost use Rattle.sre_cases.specs.Lines.{lines_of, Answered, IsNoCase, IsBegun, StopsAt};
 
+mod walked;
+
 use crate::answer::{push_hints, push_match};
+use crate::cases::walked::push_walk;
 use crate::line::{
     Case, Finding, LineFault, Operands, Subject, TextForm, Window, read_case, split_once,
 };
@@ -65,6 +68,7 @@ fn answer_lines<A: Allocator + Copy, W: Write>(
 {
     let mut desk = Desk {
         alloc,
+        heap,
         table: UniTable::ascii(alloc),
         operands: Operands {
             words: Vec::new(heap),
@@ -92,6 +96,7 @@ fn answer_lines<A: Allocator + Copy, W: Write>(
 #[derive(Drop)]
 struct Desk<A: Allocator + Copy> {
     alloc: Global,
+    heap: A,
     table: UniTable,
     operands: Operands<A>,
     state: State<A>,
@@ -147,6 +152,7 @@ fn write_answer<A: Allocator + Copy, W: Write>(
     desk.answer.clear();
     let answered = push_answer(
         desk.alloc,
+        desk.heap,
         &desk.table,
         case,
         &desk.operands,
@@ -162,6 +168,7 @@ fn write_answer<A: Allocator + Copy, W: Write>(
 // Appends the answer to a case, with the byte that ends its line.
 fn push_answer<A: Allocator + Copy>(
     alloc: Global,
+    heap: A,
     table: &UniTable,
     case: Case,
     operands: &Operands<A>,
@@ -173,13 +180,14 @@ fn push_answer<A: Allocator + Copy>(
         ((said : List ℕ) × IsAnswer table.now case operands.now.words.items operands.now.text.items said
         × (string_bytes answer.new ≡ string_bytes answer.old ++ (said ++ 10 ∷ []))) }
 {
-    push_verdict(alloc, table, case, operands, state, answer)?;
+    push_verdict(alloc, heap, table, case, operands, state, answer)?;
     answer.push_str("\n")
 }
 
 // Appends the answer to a case.
 fn push_verdict<A: Allocator + Copy>(
     alloc: Global,
+    heap: A,
     table: &UniTable,
     case: Case,
     operands: &Operands<A>,
@@ -192,7 +200,7 @@ fn push_verdict<A: Allocator + Copy>(
         × (string_bytes answer.new ≡ string_bytes answer.old ++ said)) }
 {
     match Code::check(alloc, operands.words.as_slice(), table) {
-        Ok(code) => push_code_answer(code, case, operands.text.as_slice(), state, answer),
+        Ok(code) => push_code_answer(heap, code, case, operands.text.as_slice(), state, answer),
         Err(CodeError::Memory) => Err(AllocError),
         Err(_) => answer.push_str("refused"),
     }
@@ -200,6 +208,7 @@ fn push_verdict<A: Allocator + Copy>(
 
 // Appends the answer to a case whose words are a code.
 fn push_code_answer<A: Allocator + Copy>(
+    heap: A,
     code: Code<'_>,
     case: Case,
     text: &[u8],
@@ -214,12 +223,18 @@ fn push_code_answer<A: Allocator + Copy>(
     match case {
         Case::Check => push_hints(answer, &code.hints()),
         Case::Find(finding, subject) => match subject.text {
-            TextForm::Bytes => push_found(finding, request(text, subject, code), state, answer),
+            TextForm::Bytes => push_found(
+                heap,
+                finding,
+                request(text, subject, code),
+                state,
+                answer,
+            ),
             TextForm::Utf8 => {
                 let Ok(text) = str::from_utf8(text) else {
                     unreachable!()
                 };
-                push_found(finding, request(text, subject, code), state, answer)
+                push_found(heap, finding, request(text, subject, code), state, answer)
             }
         },
     }
@@ -239,20 +254,22 @@ fn request<'a, S: StrDrive>(text: S, subject: Subject, code: Code<'a>) -> Reques
     request
 }
 
-// Appends the match that is found, or `no`.
+// Appends the match that is found, or `no`; of a walk, all matches, with a state of its own on `heap`.
 fn push_found<S: StrDrive, A: Allocator + Copy>(
+    heap: A,
     finding: Finding,
     request: Request<'_, S>,
     state: &mut State<A>,
     answer: &mut String<A>,
 ) -> Result<(), AllocError>
     ensures { (t : Tree) → Whole (words_of (code_of request.entry)) t
-        → OnOk result (string_bytes answer.new ≡ string_bytes answer.old ++ match_text
-        (match_of finding (asked_of request.entry) t)) }
+        → OnOk result (string_bytes answer.new ≡ string_bytes answer.old
+        ++ found_text finding (asked_of request.entry) t) }
 {
     let found = match finding {
         Finding::Match => state.pymatch(&request),
         Finding::Search => state.search(request),
+        Finding::Walk => return push_walk(heap, request, answer),
     };
     match found {
         Ok(true) => {

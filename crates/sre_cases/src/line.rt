@@ -1,7 +1,7 @@
 //! Lines as cases.
 //!
-//! A case is `check WORDS`, or `match` or `search` with WORDS TEXT WINDOW FLAGS, its fields divided by single spaces.
-//! A line is read whole before its words are checked, and any other line is refused.
+//! A case is `check WORDS`, or `match`, `search` or `walk` with WORDS TEXT WINDOW FLAGS, its fields divided by single
+//! spaces. A line is read whole before its words are checked, and any other line is refused.
 
 ghost use Rattle.std.specs.Prelude.{◌≡◌, ◌≢◌, ℕ, ◌^◌, ◌<◌, ◌++◌, ◌∷◌, List, All, Contains, IfSome, IfNone, IfOk, OnOk};
 ghost use Rattle.std.specs.Prelude.{[], IsTrue, ◌↔◌};
@@ -44,17 +44,19 @@ enum Verb {
 pub enum Case {
     /// Whether the words are a code, and its hints.
     Check,
-    /// A match.
+    /// A match, or all of a walk.
     Find(Finding, Subject),
 }
 
-/// Where a match may start.
+/// Where a match may start, and how many are told.
 #[derive(Clone, Copy, PartialEq, Eq, Debug)]
 pub enum Finding {
     /// `match`: at the window's start.
     Match,
     /// `search`: anywhere in the window, and the least start counts.
     Search,
+    /// `walk`: the same again and again, from the end of the match before.
+    Walk,
 }
 
 /// How the text of a case is searched.
@@ -128,6 +130,7 @@ fn verb_of(field: &[u8]) -> Option<Verb>
         b"check" => Some(Verb::Check),
         b"match" => Some(Verb::Find(Finding::Match)),
         b"search" => Some(Verb::Find(Finding::Search)),
+        b"walk" => Some(Verb::Find(Finding::Walk)),
         _ => None,
     }
 }

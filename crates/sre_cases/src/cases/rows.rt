@@ -5,7 +5,7 @@ use sre_refusing::Refusing;
 use std::test::Fail;
 
 // Lines and their answers, by the definition of the engine's matches.
-static ROWS: [(&str, &str); 70] = [
+static ROWS: [(&str, &str); 78] = [
     (
         "match 17,0,16,97,17,1,16,98,1 b:6162 all -",
         "yes 0..2 last 1 marks 0,1",
@@ -175,6 +175,20 @@ static ROWS: [(&str, &str); 70] = [
         "ok width - prefix - literal no set no",
     ),
     ("match 8,10,1 s:d9a3 all -", "no"),
+    (
+        "walk 24,6,0,4294967295,16,97,1,1 b:626161 all -",
+        "0..0 1..3 3..3",
+    ),
+    ("walk 6,3,1 b:6120 all -", "0..0 1..1"),
+    ("walk 16,98,1 b:61 all -", "none"),
+    ("walk 1 b: all a", "none"),
+    ("walk 24,6,0,4294967295,16,97,1,1 b:6161 all f", "0..2 2..2"),
+    (
+        "walk 7,3,15,7,5,16,97,15,2,0,1 s:61 all -",
+        "0..0 0..1 1..1",
+    ),
+    ("walk 4,5,1,16,97,1,16,97,1 b:61616161 1..3 -", "1..2 2..3"),
+    ("walk 16,97,1,1 b:61 all -", "refused"),
 ];
 
 // Whether a file is answered so.
@@ -281,6 +295,17 @@ fn times(alloc: Global, count: u32, part: &str) -> Result<String, Fail> {
     Ok(text)
 }
 
+// The spans of so many characters, a line of them.
+fn ones(alloc: Global, count: u32) -> Result<String, Fail> {
+    let mut spans = String::new(alloc);
+    for start in 0..count {
+        let end = start.saturating_add(1);
+        let divider = if end < count { " " } else { "\n" };
+        write!(spans, "{start}..{end}{divider}")?;
+    }
+    Ok(spans)
+}
+
 // Atomic groups around a, one in the other.
 fn nested(alloc: Global, depth: u32) -> Result<String, Fail> {
     let mut words = String::new(alloc);
@@ -317,6 +342,10 @@ fn large_cases_are_answered(rt: HostRuntime) -> Result<(), Fail> {
     let unset = times(alloc, 10_000, "-,")?;
     let marks = format!(in alloc; "yes 0..0 last -1 marks {unset}0\n")?;
     assert!(rt; gives(alloc, "match 17,10000,1 b: all -", marks.as_str()));
+    // a walk, a match for each character
+    let walk = format!(in alloc; "walk 16,97,1 b:{text} all -")?;
+    let spans = ones(alloc, 100_000)?;
+    assert!(rt; gives(alloc, walk.as_str(), spans.as_str()));
     // open groups
     let groups = nested(alloc, 1000)?;
     let deep = format!(in alloc; "match {groups} b:61 all -")?;

@@ -151,7 +151,7 @@ const MATCH_ALL: Flags = Flags {
 };
 
 // Lines, and the words, the text and the case that they are read as.
-static CASES: [(&str, &[u32], &[u8], Case); 10] = [
+static CASES: [(&str, &[u32], &[u8], Case); 11] = [
     ("check -", &[], b"", Case::Check),
     ("check 0", &[0], b"", Case::Check),
     (
@@ -195,6 +195,12 @@ static CASES: [(&str, &[u32], &[u8], Case); 10] = [
         &[1],
         b"\xc3\xa9",
         Case::Find(Finding::Search, UTF8),
+    ),
+    (
+        "walk 1 s:c3a9 all -",
+        &[1],
+        b"\xc3\xa9",
+        Case::Find(Finding::Walk, UTF8),
     ),
     (
         "match 1 s: all -",

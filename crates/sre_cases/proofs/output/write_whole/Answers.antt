@@ -1,6 +1,5 @@
 -- A write appends what it takes, and a failed one nothing.
-use Rattle.std.proofs.Common.{◌≡◌, ◌∙◌, ℕ, List, ◌++◌, Option, take, drop, ap, sym, append_assoc, take-append-drop}
-use Rattle.std.specs.Io.KnownBytes.{Appends}
+use Rattle.std.proofs.Common.{◌≡◌, ◌∙◌, ℕ, List, ◌++◌, take, drop, ap, append_assoc, take-append-drop}
 use Rattle.std.proofs.KnownBytes.{Appends-trans, Appends-kept}
 use Rattle.sre_cases.proofs.output.write_whole.Goals.{in-Ok, in-Err+else-ne}
 use Rattle.sre_cases.proofs.output.write_whole.Goals as goal
