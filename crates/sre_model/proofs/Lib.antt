@@ -12,6 +12,7 @@ pub mod PossessiveCases
 pub mod FoundLaws
 pub mod WalkLaws
 pub mod FirstWays
+pub mod FirstCharacters
 pub mod CodesRead
 pub mod Blocks
 pub mod Members

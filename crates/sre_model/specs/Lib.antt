@@ -8,6 +8,7 @@ pub mod Grammar
 pub mod Roles
 pub mod Width
 pub mod Found
+pub mod FirstCharacters
 pub mod WalkBounds
 pub mod Shown
 pub mod Rows
