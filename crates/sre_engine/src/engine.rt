@@ -1,5 +1,6 @@
 //! What is asked of the machine: a match, a search, the walk over all matches.
 
+mod first_characters;
 mod search_iter;
 mod state;
 mod walk;
