@@ -1,4 +1,4 @@
-use Rattle.std.proofs.Common.{◌≡◌, ◌≤◌, ◌+◌, true, false, refl, sym, subst, arith}
+use Rattle.std.proofs.Common.{◌≡◌, ◌≤◌, ◌+◌, true, false, refl, sym, subst, arith, rules}
 use Rattle.sre_model.specs.Found.{found}
 use Rattle.sre_code.specs.Codes.{words_of, hints_of}
 use Rattle.sre_request.specs.Requests.{end_of, code_of, asked_of, stands_in}
@@ -57,6 +57,7 @@ start-preserved g c =
           (subst (λ n. g.S.StrDrive.stands c.string.result c.skip.new.cursor n) (sym at) c.skip.ensures);
       from = omega (arith, c.start.invariant.from, at);
       inside = omega (arith, at);
+      fresh = search rules;
       before = λ t whole.
           none_further (asked_of asked) t _ _ (c.start.invariant.before t whole)
           (none_at (stands_in asked) (asked_of asked) t _ c.in_ok-end.field-0 c.attempt.new.board.marks

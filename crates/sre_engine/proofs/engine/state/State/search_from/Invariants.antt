@@ -1,6 +1,8 @@
-use Rattle.std.proofs.Common.{◌-◌, ◌≤◌}
+use Rattle.std.proofs.Common.{◌-◌, ◌≤◌, ◌≡◌}
 use Rattle.sre_model.specs.Tree.{Tree}
+use Rattle.sre_model.specs.Marks.{no_marks}
 use Rattle.sre_model.specs.Grammar.{Whole}
+use Rattle.sre_model.specs.Board.{bare}
 use Rattle.sre_code.specs.Codes.{words_of}
 use Rattle.sre_request.specs.Requests.{start_of, end_of, code_of, asked_of, run_of}
 use Rattle.sre_engine.proofs.Answering.{NoneBefore}
@@ -11,6 +13,7 @@ invariant-start g l = record {
   stands : (run_of l.req).stands l.start l.start.position;
   from : start_of l.req ≤ l.start.position;
   inside : l.start.position ≤ end_of l.req;
+  fresh : l.self-inside.board ≡ bare no_marks;
   before : (t : Tree) → Whole (words_of (code_of l.req)) t → NoneBefore (asked_of l.req) t l.start.position;
 }
 
