@@ -29,7 +29,8 @@ reference_operand r fold i c w x =
 
 -- which folding it is
 pub reference_there : (r : Run) (i : ℕ) (c : StringCursor) (o : SreOpcode) → Opcode r.words i o → role o ≡ ToRefer
-    → HasRun r (Instruction i) c → (fold : Fold) × (o ≡ reference_opcode fold) × Opcode r.words i (reference_opcode fold)
+    → HasRun r (Instruction i) c
+    → (fold : Fold) × (o ≡ reference_opcode fold) × Opcode r.words i (reference_opcode fold)
 reference_there r i c o w e x =
     let h = (in_family o Referring (ap (λ k. family_of k) e) w x.runs).1 in
     (h.fold, same_opcode r.words i o (reference_opcode h.fold) w h.code, h.code)

@@ -9,14 +9,16 @@ use Rattle.sre_machine.proofs.groups.reference.Goals as goal
 pub returns-in_default : goal.returns-in_default
 returns-in_default g c =
     let r = run_of c.args.req.now in
-    let x = reference_there r _ c.args.cursor _ c.requires.opcode c.requires.refers (on_board _ _ _ _ c.requires.stands) in
+    let run = on_board _ _ _ _ c.requires.stands in
+    let x = reference_there r _ c.args.cursor _ c.requires.opcode c.requires.refers run in
     reference_missing r x.0 _ _ c.args.cursor c.args.board.now x.2 c.operand-number.ensures.word
     (sym c.group.ensures ∙ c.in_default.is)
 
 pub returns-then-not-is_inside : goal.returns-then-not-is_inside
 returns-then-not-is_inside g c =
     let r = run_of c.args.req.now in
-    let x = reference_there r _ c.args.cursor _ c.requires.opcode c.requires.refers (on_board _ _ _ _ c.requires.stands) in
+    let run = on_board _ _ _ _ c.requires.stands in
+    let x = reference_there r _ c.args.cursor _ c.requires.opcode c.requires.refers run in
     reference_past r x.0 _ _ c.args.cursor c.args.board.now x.2 c.operand-number.ensures.word _ _
     (sym c.group.ensures ∙ c.in-Some.is)
     (rw (← c.position.ensures, ← c.end.ensures.value) (sym c.is_inside.ensures ∙ c.if-not-is_inside.true))
@@ -24,7 +26,8 @@ returns-then-not-is_inside g c =
 pub returns-in-Some-is_repeated : goal.returns-in-Some-is_repeated
 returns-in-Some-is_repeated g c =
     let r = run_of c.args.req.now in
-    let x = reference_there r _ c.args.cursor _ c.requires.opcode c.requires.refers (on_board _ _ _ _ c.requires.stands) in
+    let run = on_board _ _ _ _ c.requires.stands in
+    let x = reference_there r _ c.args.cursor _ c.requires.opcode c.requires.refers run in
     reference_step r x.0 _ _ c.args.cursor c.args.board.now x.2 c.operand-number.ensures.word _ _
     (sym c.group.ensures ∙ c.in-Some.is) c.in-Some-is_repeated.after
     (rw (← c.position.ensures, ← c.end.ensures.value) (sym c.is_inside.ensures ∙ c.if-not-is_inside.false))
@@ -35,7 +38,8 @@ returns-in-Some-is_repeated g c =
 pub returns-in-None : goal.returns-in-None
 returns-in-None g c =
     let r = run_of c.args.req.now in
-    let x = reference_there r _ c.args.cursor _ c.requires.opcode c.requires.refers (on_board _ _ _ _ c.requires.stands) in
+    let run = on_board _ _ _ _ c.requires.stands in
+    let x = reference_there r _ c.args.cursor _ c.requires.opcode c.requires.refers run in
     reference_unlike r x.0 _ _ c.args.cursor c.args.board.now x.2 c.operand-number.ensures.word _ _
     (sym c.group.ensures ∙ c.in-Some.is)
     (rw (← c.position.ensures, ← c.end.ensures.value) (sym c.is_inside.ensures ∙ c.if-not-is_inside.false))
