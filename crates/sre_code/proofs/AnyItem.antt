@@ -1,5 +1,5 @@
 -- What the reading of an item answers, by its opcode.
-use Rattle.sre_code.proofs.ReadItems.{fail_exactly, reference_at, only_tests, no_opcode}
+use Rattle.sre_code.proofs.ReadItems.{fail_exactly, reference_at, only_tests, no_opcode, info_nowhere}
 use Rattle.sre_code.proofs.ReadRuns.{greedy_there, lazy_there, possessive_there}
 use Rattle.sre_code.proofs.ReadRegions.{assert_there, assert_not_there}
 
@@ -7,6 +7,7 @@ use Rattle.sre_code.proofs.ReadRegions.{assert_there, assert_not_there}
 pub ruleset item_laws = (
   fail_exactly,
   no_opcode,
+  info_nowhere,
   reference_at,
   only_tests,
   greedy_there,

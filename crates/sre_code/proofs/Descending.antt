@@ -4,9 +4,8 @@ use Rattle.std.proofs.Common.{sym, ◌∙◌, ap, subst, arith, length-append}
 use Rattle.std.proofs.lemmas.List.{reverse-append}
 use Rattle.sre_chars.specs.declared.constants.SreOpcode.TheVariants as opcode
 use Rattle.sre_model.specs.Tree.{Tree, Empty, Then}
-use Rattle.sre_model.specs.Grammar.{Reads, Whole as IsWhole}
+use Rattle.sre_model.specs.Grammar.{Reads, WholeItems, AreItems}
 use Rattle.sre_model.specs.Width.{held, width, item_width}
-use Rattle.sre_model.specs.Grammar.{IsCode}
 use Rattle.sre_code.specs.Refusals.{place_of}
 use Rattle.sre_code.specs.Reading.{Within}
 use Rattle.sre_code.specs.Steps.{ItemAt, Closes, Remains, next, Exactly, Nowhere, IsEnd, IsInside, Leaves, Unclosed}
@@ -284,16 +283,17 @@ descent_ends ws start r items inv e = record {
       inv.from r.width (rest_moved ws r.place r.place r.width r.width r.width [] _ refl refl (sym (ap reverse e)) refl);
 }
 
--- what the descent says of the words
-pub descent_code : (ws : List ℕ) (W : ℕ) → HasWhole ws 0 W → IsCode ws
-descent_code ws W b = (b.body.0.0, (b.body.0.1, b.body.1))
+-- what the descent says of items
+pub descent_items : (ws : List ℕ) (W : ℕ) → HasWhole ws 0 W → AreItems ws
+descent_items ws W b = (b.body.0.0, (b.body.0.1, b.body.1))
 
 pub descent_refused : (ws : List ℕ) (e : CodeError) (t : Tree) → Fails ws (WholeFrom ws 0) e → e ≢ Memory
-    → ¬ (IsWhole ws t)
+    → ¬ (WholeItems ws t)
 descent_refused ws e t x ne w = (x.never ne).none (width t) ((t, w.0, refl), w.1)
 
--- words that have a tree are refused only where a growth was
-pub descent_grows : (ws : List ℕ) (e : CodeError) (t : Tree) → Fails ws (WholeFrom ws 0) e → IsWhole ws t → Refused
+-- items that have a tree are refused only where a growth was
+pub descent_grows : (ws : List ℕ) (e : CodeError) (t : Tree) → Fails ws (WholeFrom ws 0) e → WholeItems ws t
+    → Refused
 descent_grows ws e t x w = x.grows (width t) ((t, w.0, refl), w.1)
 
 -- what `read_on` answers

@@ -10,4 +10,5 @@ pub mod ReadBodies
 pub mod ClosingParts
 pub mod ReadConditions
 pub mod Descending
+pub mod ReadFronts
 pub mod Checked

@@ -13,7 +13,7 @@ use Rattle.sre_code.specs.Reading.{NoCode, FoldedAt, ReadsTest, TestExactly, NoT
 use Rattle.sre_code.specs.Steps.{ItemAt, OnlyTests, Exactly, Nowhere}
 use Rattle.sre_code.specs.declared.code.step.Step.TheVariants.{Past}
 use Rattle.sre_model.proofs.Words.{word_within, word_there, same_opcode}
-use Rattle.sre_model.proofs.Families.{HasKind, OfFail, OfAt, OfMark, OfReference, is_fail, is_at, is_mark}
+use Rattle.sre_model.proofs.Families.{HasKind, OfFail, OfAt, OfMark, OfReference, is_fail, is_at, is_mark, no_item}
 use Rattle.sre_model.proofs.Families.{is_reference}
 use Rattle.sre_code.proofs.ReadCharacters.{IsFolded, folded_at}
 
@@ -128,3 +128,8 @@ one_exactly ws i e h x =
 
 pub one_nowhere : (ws : List ℕ) (i : ℕ) → OnlyTests ws i → NoTest ws i → Nowhere (ItemAt ws i)
 one_nowhere ws i h n = record { none = λ j w y. let f = h.test j y.0 y.1 in n.none j f.0 f.2 }
+
+-- a block begins no item
+pub info_nowhere : (ws : List ℕ) (i : ℕ) → Opcode ws i opcode.INFO → Nowhere (ItemAt ws i)
+info_nowhere ws i h =
+    record { none = λ j w r. no_item ws i j r.0 (record { code = opcode.INFO; there = h; begins = refl }) r.1 }

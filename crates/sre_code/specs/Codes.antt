@@ -2,6 +2,7 @@
 -- Public clauses rest on it.
 use Rattle.std.specs.Prelude.{ℕ, List}
 use Rattle.sre_chars.specs.Tables.{Table}
+use Rattle.sre_model.specs.Grammar.{behind_block}
 use Rattle.sre_code.specs.declared.code.Hints.{Hints}
 use Rattle.sre_code.specs.declared.code.Code.{Code}
 
@@ -12,6 +13,10 @@ words_of code = code.words.now
 -- the table
 abbrev pub uni_of : Code → Table
 uni_of code = code.uni.now
+
+-- the words behind the block, where there is one
+abbrev pub items_of : Code → List ℕ
+items_of code = behind_block (words_of code)
 
 abbrev pub hints_of : Code → Hints
 hints_of code = code.hints

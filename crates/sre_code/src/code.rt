@@ -1,7 +1,7 @@
 //! Checked words.
 //!
 //! A [`Code`] is a view of words that the grammar (`specs/Grammar.antt`) relates to a tree, of which there is then
-//! exactly one, together with a table of characters. [`Code::check`] reads the words once from left to right, with a
+//! exactly one, together with a table of characters. An information block at the front is passed over. [`Code::check`] reads the words once from left to right, with a
 //! stack of its own for the parts that are open, and on the way adds up the least number of characters that a match
 //! passes.
 
@@ -9,10 +9,11 @@ ghost use Rattle.std.specs.Prelude.{◌≡◌, ◌≢◌, ◌≤◌, ℕ, List, 
 ghost use Rattle.sre_model.specs.Tree.{Tree};
 ghost use Rattle.sre_model.specs.Grammar.{Whole};
 ghost use Rattle.sre_code.specs.Hinted.{Confirmed};
-ghost use Rattle.sre_model.specs.Grammar.{IsCode, HasOneTree};
+ghost use Rattle.sre_model.specs.Grammar.{AreItems, IsCode, HasOneTree, behind_block};
 ghost use Rattle.sre_code.specs.Refusals.{place_of};
 ghost use Rattle.sre_growth.specs.Refusal.{Refused};
 
+mod block;
 mod branch;
 mod character;
 pub(crate) mod check;
@@ -49,13 +50,15 @@ pub struct Hints {
 #[derive(Clone, Copy)]
 pub struct Code<'a> {
     words: &'a [u32],
+    items: &'a [u32],
     uni: &'a UniTable,
     hints: Hints,
+    ghost behind: { items.now ≡ behind_block words.now },
     pub ghost checked: { ∥ ((tree : Tree) × Whole words.now tree × Confirmed words.now tree hints) ∥₁ },
 }
 
 impl<'a> Code<'a> {
-    ghost use Rattle.sre_code.specs.Codes.{words_of, uni_of, hints_of};
+    ghost use Rattle.sre_code.specs.Codes.{words_of, items_of, uni_of, hints_of};
 
     /// Checks words against the grammar.
     ///
@@ -78,8 +81,19 @@ impl<'a> Code<'a> {
         ensures same { result.now ≡ words_of self.now }
         ensures tree { IsCode result.now }
         ensures one { HasOneTree result.now }
+        ensures cut { (tree : Tree) → Whole result.now tree → Whole (behind_block result.now) tree }
     {
         self.words
+    }
+
+    /// The words behind the information block, where there is one, else all of them: by themselves they are a code of
+    /// the same tree.
+    #[inline(always)]
+    pub fn items(&self) -> &'a [u32]
+        ensures same { result.now ≡ items_of self.now }
+        ensures tree { AreItems result.now }
+    {
+        self.items
     }
 
     /// The table.

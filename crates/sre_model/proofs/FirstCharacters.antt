@@ -9,7 +9,7 @@ use Rattle.sre_model.specs.Tree.{Literal, Fold, Plain, Ascii, Locale, Unicode}
 use Rattle.sre_model.specs.Marks.{Marks, set_mark}
 use Rattle.sre_model.specs.Subject.{Subject, passes}
 use Rattle.sre_model.specs.Grammar.{Word, Opcode, literal_opcode, look_opcode, test_opcode, item_opcode, TestOperands}
-use Rattle.sre_model.specs.Grammar.{Reads, Operands, ReadsItem, Whole}
+use Rattle.sre_model.specs.Grammar.{Reads, Operands, ReadsItem, WholeItems}
 use Rattle.sre_model.specs.Ways.{ways}
 use Rattle.sre_model.specs.Roles.{OfLiteral}
 use Rattle.sre_model.specs.FirstCharacters.{lacks, Wants}
@@ -102,7 +102,7 @@ pub record Leads (ws : List ℕ) (whole : Tree) (i far : ℕ) : Type 0 where
   pub ends : Opcode ws end opcode.SUCCESS
   pub leads : (back v : ℕ) → Wants tree back v → Wants whole (back + far) v
 
-pub whole_leads : (ws : List ℕ) (t : Tree) → Whole ws t → Leads ws t 0 0
+pub whole_leads : (ws : List ℕ) (t : Tree) → WholeItems ws t → Leads ws t 0 0
 whole_leads ws t w = record {
   tree = t;
   end = length ws - 1;

@@ -38,6 +38,7 @@ pub mod RanAtGroups
 pub mod RanInPossessiveLoops
 pub mod Ran
 pub mod TreeOf
+pub mod CutOff
 mod ReaderRows
 pub mod Passing
 pub mod GoingBack

@@ -7,6 +7,7 @@ use Rattle.sre_model.specs.Tree.{Tree, Empty, Then, Item, Fail, One, At, Mark, B
 use Rattle.sre_model.specs.Tree.{Atomic, Look, Reference, Exists, ExistsElse, Trees, Only, Or, Test, In, SetItem}
 use Rattle.sre_model.specs.Tree.{Single, Range, RangeUniIgnore, Category, Charset, BigCharset, Negate}
 use Rattle.sre_model.specs.Grammar.{word, skip, Reads, ReadsItem, ReadsBranch, TestOperands, ReadsSet, Whole}
+use Rattle.sre_model.specs.Grammar.{WholeItems, behind_block}
 use Rattle.sre_model.specs.Grammar.{IsCode}
 use Rattle.sre_model.proofs.Unique.{item_same, whole_same}
 
@@ -65,8 +66,11 @@ mutual
   branch_prop (Or t ts) ws q j =
       hlevel (props, reads_prop t ws (q + 1) (skip ws q - 2), branch_prop ts ws (skip ws q) j)
 
+items_prop : (ws : List ℕ) (t : Tree) → IsProp (WholeItems ws t)
+items_prop ws t = hlevel (props, reads_prop t ws 0 (length ws - 1))
+
 pub whole_prop : (ws : List ℕ) (t : Tree) → IsProp (Whole ws t)
-whole_prop ws t = hlevel (props, reads_prop t ws 0 (length ws - 1))
+whole_prop ws t = hlevel (props, items_prop (behind_block ws) t)
 
 pub code_prop : (ws : List ℕ) → IsProp (IsCode ws)
 code_prop ws x y =

@@ -1,5 +1,5 @@
 -- Worked rows of reading words, by computation.
-use Rattle.std.specs.Prelude.{refl, ◌≡◌, [], ◌∷◌, ◌++◌, replicate}
+use Rattle.std.specs.Prelude.{refl, ◌≡◌, [], ◌∷◌, ◌++◌, replicate, false}
 use Rattle.sre_chars.specs.declared.constants.SreAtCode.TheVariants.{END}
 use Rattle.sre_chars.specs.declared.constants.SreCatCode.TheVariants.{WORD, UNI_NOT_LINEBREAK}
 use Rattle.sre_model.specs.Tree.{Empty, Fail, One, At, Mark, Branch, Loop, Run, PossessiveLoop, Atomic, Look, Reference}
@@ -7,6 +7,7 @@ use Rattle.sre_model.specs.Tree.{Exists, ExistsElse, Only, Or, Any, AnyAll, InCa
 use Rattle.sre_model.specs.Tree.{Range, RangeUniIgnore, Category, Charset, BigCharset, Negate, Plain, Ascii, Locale}
 use Rattle.sre_model.specs.Tree.{Unicode, Greedy, Lazy, GreedyRun, LazyRun, PossessiveRun, Positive, Negative}
 use Rattle.sre_model.specs.Ways.{unlimited}
+use Rattle.sre_model.specs.Grammar.{behind_block, fits_block}
 use Rattle.sre_model.specs.Shown.{items, is_a, a, b, c, d}
 use Rattle.sre_model.proofs.TreeOf.{tree_of, items_at, trees_at, set_at}
 
@@ -123,3 +124,17 @@ charsets : tree_of (13 ∷ 85 ∷ 9 ∷ replicate 8 3 ++ (10 ∷ 1 ∷ replicate
     ≡ items (One (In Plain (Charset (replicate 8 3) ∷ BigCharset (replicate 256 0) (replicate 8 5) ∷ [])) ∷ [])
 unfolding tree_of items_at trees_at set_at
 charsets = refl
+
+-- a block hides what stands in it
+literal_in_a_block : behind_block (14 ∷ 6 ∷ 0 ∷ 9 ∷ 9 ∷ 16 ∷ 97 ∷ 1 ∷ []) ≡ 1 ∷ []
+literal_in_a_block = refl
+
+block_and_letter : tree_of (behind_block (14 ∷ 4 ∷ 0 ∷ 1 ∷ 1 ∷ 16 ∷ 97 ∷ 1 ∷ [])) ≡ items (a ∷ [])
+unfolding tree_of items_at trees_at set_at
+block_and_letter = refl
+
+block_without_its_widths : fits_block (14 ∷ 3 ∷ 0 ∷ 0 ∷ 1 ∷ []) ≡ false
+block_without_its_widths = refl
+
+block_past_the_end : behind_block (14 ∷ 4 ∷ 0 ∷ 0 ∷ 0 ∷ []) ≡ []
+block_past_the_end = refl

@@ -6,7 +6,7 @@ use Rattle.sre_chars.specs.declared.string.StringCursor.{StringCursor}
 use Rattle.sre_model.specs.Tree.{Tree}
 use Rattle.sre_model.specs.Marks.{no_marks}
 use Rattle.sre_model.specs.Ways.{Way, ways}
-use Rattle.sre_model.specs.Grammar.{Whole}
+use Rattle.sre_model.specs.Grammar.{WholeItems}
 use Rattle.sre_model.specs.Standing.{AreWords}
 use Rattle.sre_model.specs.Board.{Choice, Else, Keep, from_region, BoardValue, bare}
 use Rattle.sre_model.specs.declared.Point.TheVariants.{Instruction}
@@ -19,7 +19,7 @@ use Rattle.sre_model.proofs.Placed.{none_placed}
 use Rattle.sre_model.proofs.Ran.{ran}
 
 -- a run from a cursor has the tree's accepted ways
-pub started : (r : Run) (t : Tree) (c : StringCursor) (b : BoardValue) → AreWords r.words → Whole r.words t
+pub started : (r : Run) (t : Tree) (c : StringCursor) (b : BoardValue) → AreWords r.words → WholeItems r.words t
     → r.stands c c.position → c.position ≤ r.subject.end → b ≡ bare no_marks
     → Goes r (outcomes r t c.position) (cost r.subject t ending c.position no_marks) (Instruction 0) c b
 started r t c b v whole stands inside fresh =

@@ -16,7 +16,7 @@ use Rattle.sre_model.specs.Tree.{InCategory, Literal, NotLiteral, In, Order, Gre
 use Rattle.sre_model.specs.Tree.{PossessiveRun, Sign, Positive, Negative, Fold, Plain, Ascii, Locale, Unicode, SetItem}
 use Rattle.sre_model.specs.Tree.{Single, Range, RangeUniIgnore, Category, Charset, BigCharset, Negate}
 use Rattle.sre_model.specs.Grammar.{Word, word, Opcode, skip, bytes_of, test_opcode, item_opcode, until_opcode}
-use Rattle.sre_model.specs.Grammar.{ReadsSet, TestOperands, Reads, Operands, ReadsBranch, Whole}
+use Rattle.sre_model.specs.Grammar.{ReadsSet, TestOperands, Reads, Operands, ReadsBranch, WholeItems}
 use Rattle.sre_model.proofs.Words.{word_of, opcodes, opcode_back, opcode_within, at_codes, at_back, categories}
 use Rattle.sre_model.proofs.Words.{category_back}
 use Rattle.sre_model.proofs.Places.{reads_within, operands_past, branch_past, set_within, alternative_long}
@@ -380,7 +380,7 @@ items-read (suc f) ws i j k (Then x rest) r s l =
     (item-read x f (items_at f ws) ws i m (items-read f ws) r.1.1 (omega arith)) in
     items-first f ws i j m k x rest (omega arith) first (items-read f ws m j k rest r.2 s (omega arith))
 
-pub whole-read : (ws : List ℕ) (t : Tree) → Whole ws t → tree_of ws ≡ t
+pub whole-read : (ws : List ℕ) (t : Tree) → WholeItems ws t → tree_of ws ≡ t
 unfolding tree_of
 whole-read ws t h =
     let last = length ws - 1 in

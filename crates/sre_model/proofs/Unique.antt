@@ -10,7 +10,8 @@ use Rattle.sre_model.specs.Tree.{PossessiveRun, Sign, Positive, Negative, Fold, 
 use Rattle.sre_model.specs.Tree.{Single, Range, RangeUniIgnore, Category, Charset, BigCharset, Negate}
 use Rattle.sre_model.specs.Grammar.{word, skip, Opcode, test_opcode, literal_opcode, not_literal_opcode, set_opcode}
 use Rattle.sre_model.specs.Grammar.{reference_opcode, run_opcode, look_opcode, until_opcode, Reads, ReadsItem}
-use Rattle.sre_model.specs.Grammar.{ReadsBranch, TestOperands, ReadsSet, Whole}
+use Rattle.sre_model.specs.Grammar.{ReadsBranch, TestOperands, ReadsSet, WholeItems, Whole}
+use Rattle.sre_model.specs.Grammar.{behind_block}
 use Rattle.sre_model.proofs.Words.{same_word, same_opcode, same_at, same_category, word_of}
 use Rattle.sre_model.proofs.Families.{test_here, is_any, is_any_all, is_category, is_literal, is_not_literal, is_set}
 use Rattle.sre_model.proofs.Families.{item_here, is_fail, is_one, is_at, is_mark, is_branch, is_loop, is_run}
@@ -298,5 +299,8 @@ mutual
       let rest = trees_same ts us ws (skip ws q) j k r.2 s.2 in
       let a : t ≡ u = tree_same t u ws (q + 1) _ r.0 s.0 in let b : ts ≡ us = rest.0 in (cc, rest.1)
 
+pub items_same : (ws : List ℕ) (t u : Tree) → WholeItems ws t → WholeItems ws u → t ≡ u
+items_same ws t u x y = tree_same t u ws 0 (length ws - 1) x.0 y.0
+
 pub whole_same : (ws : List ℕ) (t u : Tree) → Whole ws t → Whole ws u → t ≡ u
-whole_same ws t u x y = tree_same t u ws 0 (length ws - 1) x.0 y.0
+whole_same ws t u x y = items_same (behind_block ws) t u x.1 y.1

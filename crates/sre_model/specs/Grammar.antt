@@ -1,6 +1,7 @@
 -- The grammar: which words are a tree's.
 -- Of the meaning: what sre_engine makes public rests on it.
 use Rattle.std.specs.Prelude.{ℕ, ◌+◌, ◌*◌, ◌-◌, ◌/◌, ◌%◌, ◌≡◌, ◌<◌, ◌≤◌, List, [], ◌∷◌, length, Some, slice_get}
+use Rattle.std.specs.Prelude.{Bool, true, cond, nat_eq, nat_le, drop}
 use Rattle.std.specs.Prelude.{slice_index, slice_range, EachIndex}
 use Rattle.std.specs.List.{flat_map}
 use Rattle.sre_chars.specs.Numbers.{opcode_number, at_number, category_number}
@@ -182,8 +183,28 @@ abbrev pub ReadsItem : List ℕ → ℕ → ℕ → Item → Type 0
 ReadsItem ws i j item = Opcode ws i (item_opcode item) × Operands ws i j item
 
 -- the words are the tree's items, and SUCCESS as the last word
+abbrev pub WholeItems : List ℕ → Tree → Type 0
+WholeItems ws t = Reads ws 0 (length ws - 1) t × Opcode ws (length ws - 1) opcode.SUCCESS
+
+-- such words
+abbrev pub AreItems : List ℕ → Type 0
+AreItems words = (tree : Tree) × WholeItems words tree
+
+-- whether an information block is at the front: INFO skip ..
+abbrev pub has_block : List ℕ → Bool
+has_block ws = nat_eq (word ws 0) (opcode_number opcode.INFO)
+
+-- the words behind the block, where there is one: its skip leads there
+abbrev pub behind_block : List ℕ → List ℕ
+behind_block ws = drop (cond (has_block ws) (skip ws 1) 0) ws
+
+-- a block has at least its skip, its flags and the least and the greatest width
+abbrev pub fits_block : List ℕ → Bool
+fits_block ws = cond (has_block ws) (nat_le 4 (word ws 1)) true
+
+-- the words are a block, perhaps, and the tree's items, and SUCCESS as the last word
 abbrev pub Whole : List ℕ → Tree → Type 0
-Whole ws t = Reads ws 0 (length ws - 1) t × Opcode ws (length ws - 1) opcode.SUCCESS
+Whole ws t = (fits_block ws ≡ true) × WholeItems (behind_block ws) t
 
 -- the words have a tree
 abbrev pub IsCode : List ℕ → Type 0

@@ -7,13 +7,14 @@ ghost use Rattle.sre_code.specs.Refusals.{place_of};
 ghost use Rattle.sre_code.specs.Codes.{words_of, uni_of};
 ghost use Rattle.sre_growth.specs.Refusal.{Refused};
 
+use crate::code::block;
 use crate::code::descent::descend;
 use crate::code::{Code, CodeError, Hints};
 use sre_chars::string::UniTable;
 use std::alloc::Allocator;
 
 /// What [`Code::check`] says, with the stack in memory that `alloc` gives: for tests that refuse it.
-#[tactic(auto, using(crate::proofs::Descending::descent_code, crate::proofs::Descending::descent_refused))]
+#[tactic(auto, using(crate::proofs::ReadFronts::front_laws))]
 pub fn check_in<'a, A: Allocator + Copy>(
     alloc: A,
     words: &'a [u32],
@@ -26,12 +27,21 @@ pub fn check_in<'a, A: Allocator + Copy>(
     ensures place { IfErr result (λ e. place_of e ≤ length words.now) }
     ensures grows { (tree : Tree) → Whole words.now tree → OnErr result Refused }
 {
-    descend(alloc, words, 0)?;
+    let length = block::length(words)?;
+    let items = words.split_at(length).1;
+    if let Err(error) = descend(alloc, items, 0) {
+        return Err(error.moved(length));
+    }
     let hints = Hints {
         width: None,
         prefix: None,
         literal: false,
         first_set: false,
     };
-    Ok(Code { words, uni, hints })
+    Ok(Code {
+        words,
+        items,
+        uni,
+        hints,
+    })
 }

@@ -1,6 +1,6 @@
 //! Why words are refused.
 
-ghost use Rattle.std.specs.Prelude.{◌≡◌};
+ghost use Rattle.std.specs.Prelude.{◌≡◌, ◌≤◌};
 
 use sre_growth::Refusal;
 use thiserror::Error;
@@ -55,7 +55,31 @@ impl From<Refusal> for CodeError {
 }
 
 impl CodeError {
-    ghost use Rattle.sre_code.specs.Refusals.{refusal_number};
+    ghost use Rattle.std.specs.Prelude.{◌+◌, ◌<◌, ◌^◌};
+    ghost use Rattle.sre_code.specs.Refusals.{refusal_number, place_of};
+    ghost use Rattle.sre_code.specs.declared.code.error.CodeError.TheVariants.{Memory};
+
+    // The same cause, so many words further on.
+    pub(super) fn moved(self, words: usize) -> CodeError
+        requires { place_of self + words < 2 ^ 64 }
+        ensures memory { self ≡ Memory → result ≡ Memory }
+        ensures cause { refusal_number result ≡ refusal_number self }
+        ensures place { place_of result ≤ place_of self + words }
+    {
+        match self {
+            CodeError::Memory => CodeError::Memory,
+            CodeError::Truncated(place) => CodeError::Truncated(place + words),
+            CodeError::UnknownOpcode(place) => CodeError::UnknownOpcode(place + words),
+            CodeError::UnknownAt(place) => CodeError::UnknownAt(place + words),
+            CodeError::UnknownCategory(place) => CodeError::UnknownCategory(place + words),
+            CodeError::BadSkip(place) => CodeError::BadSkip(place + words),
+            CodeError::BadCounts(place) => CodeError::BadCounts(place + words),
+            CodeError::BadItem(place) => CodeError::BadItem(place + words),
+            CodeError::BadSet(place) => CodeError::BadSet(place + words),
+            CodeError::BadInfo(place) => CodeError::BadInfo(place + words),
+            CodeError::TrailingWords(place) => CodeError::TrailingWords(place + words),
+        }
+    }
 
     /// The number of this cause.
     pub fn number(&self) -> u32

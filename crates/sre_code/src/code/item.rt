@@ -115,6 +115,7 @@ pub fn item(words: &[u32], place: usize) -> Result<Step, CodeError>
         | SreOpcode::GROUPREF_LOC_IGNORE
         | SreOpcode::GROUPREF_UNI_IGNORE => reference(words, place),
         SreOpcode::GROUPREF_EXISTS => condition::condition(words, place),
+        SreOpcode::INFO => Err(CodeError::BadInfo(place)),
         _ => one(words, place, code),
     }
 }

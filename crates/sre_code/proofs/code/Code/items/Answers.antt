@@ -1,0 +1,11 @@
+use Rattle.std.proofs.Common.{List, ℕ, sym, subst}
+use Rattle.std.proofs.Math.Logic.{∥∥₁_map}
+use Rattle.sre_model.specs.Grammar.{AreItems}
+use Rattle.sre_model.proofs.Props.{kept_tree}
+use Rattle.sre_code.proofs.code.Code.items.Goals as goal
+
+pub returns-clause-tree : goal.returns-clause-tree
+returns-clause-tree c =
+    let code = c.args.self.now in
+    let k = kept_tree code.words.now (∥∥₁_map code.checked (λ t. (t.0, t.1))) in
+    subst (λ (ws : List ℕ). AreItems ws) (sym code.behind) (k.0, k.1.1)

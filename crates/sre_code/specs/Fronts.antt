@@ -1,0 +1,23 @@
+-- The information block that a check passes over.
+-- Words of the check's contracts; what sre_engine makes public does not rest on it.
+use Rattle.std.specs.Prelude.{ℕ, ◌≡◌, ◌≤◌, true, List, length, drop, Result, Ok, Err}
+use Rattle.sre_model.specs.Tree.{Tree}
+use Rattle.sre_model.specs.Grammar.{Whole, behind_block, fits_block}
+use Rattle.sre_code.specs.Reading.{Within}
+use Rattle.sre_code.specs.declared.code.error.CodeError.{CodeError}
+
+-- so many words are the block
+pub record Fronts (ws : List ℕ) (n : ℕ) : Type 0 where
+  pub fits : fits_block ws ≡ true
+  pub within : n ≤ length ws
+  pub behind : drop n ws ≡ behind_block ws
+
+-- the words have no tree, since their block is none
+pub record BadFront (ws : List ℕ) (e : CodeError) : Type 0 where
+  pub none : (t : Tree) → Whole ws t → ⊥
+  pub place : Within ws e
+
+-- how long the block is, or that there is no tree
+abbrev pub BlockAt : List ℕ → Result ℕ CodeError → Type 0
+BlockAt ws (Ok n) = Fronts ws n
+BlockAt ws (Err e) = BadFront ws e

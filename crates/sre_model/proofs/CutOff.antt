@@ -1,0 +1,57 @@
+-- A block that is cut off: what is behind it has none, and is a code of the same tree.
+use Rattle.std.proofs.Common.{◌≡◌, ℕ, ◌-◌, Bool, true, false, List, length, zero, suc, ◌<◌, refl, sym}
+use Rattle.std.proofs.Common.{subst, arith}
+use Rattle.std.proofs.lemmas.Bool.Decides.{nat_tests}
+use Rattle.sre_chars.specs.declared.constants.SreOpcode.TheVariants as opcode
+use Rattle.sre_model.specs.Tree.{Tree, Empty, Then}
+use Rattle.sre_model.specs.Grammar.{word, Opcode, Reads, WholeItems, has_block, behind_block, fits_block}
+use Rattle.sre_model.specs.Grammar.{Whole, IsCode}
+use Rattle.sre_model.proofs.Words.{word_of, word_at, word_past}
+use Rattle.sre_model.proofs.Families.{no_item}
+
+-- items begin with no block
+no_block_at : (ws : List ℕ) (j : ℕ) (t : Tree) → Reads ws 0 j t → Opcode ws j opcode.SUCCESS
+    → Opcode ws 0 opcode.INFO → ⊥
+no_block_at ws j Empty r ends info =
+    let last : word ws 0 ≡ 1 = word_of ws 0 1 (subst (λ k. Opcode ws k opcode.SUCCESS) (sym r) ends) in
+    let first : word ws 0 ≡ 14 = word_of ws 0 14 info in
+    omega (arith, last, first)
+no_block_at ws j (Then x t) r ends info =
+    no_item ws 0 r.0 x (record { code = opcode.INFO; there = info; begins = refl }) r.1
+
+pub no_block : (ws : List ℕ) (t : Tree) → WholeItems ws t → has_block ws ≡ false
+no_block ws t w = by_test (has_block ws) refl
+  where
+    by_test : (b : Bool) → has_block ws ≡ b → b ≡ false
+    by_test false e = refl
+    by_test true e =
+        let first : word ws 0 ≡ 14 = grind (arith, nat_tests) in
+        absurd (no_block_at ws (length ws - 1) t w.0 w.1 (word_at ws 0 14 (there ws first) first))
+      where
+        there : (ws : List ℕ) → word ws 0 ≡ 14 → 0 < length ws
+        there ws f = some (length ws) refl
+          where
+            some : (n : ℕ) → length ws ≡ n → 0 < length ws
+            some zero e = absurd (omega (arith, f, word_past ws 0 (omega (arith, e))))
+            some (suc n) e = omega (arith, e)
+
+-- words without a block are as they are behind it
+pub none_behind : (ws : List ℕ) → has_block ws ≡ false → (fits_block ws ≡ true) × (behind_block ws ≡ ws)
+none_behind ws e = (rw e refl, rw e refl)
+
+-- items are a code
+pub whole_items : (ws : List ℕ) (t : Tree) → WholeItems ws t → Whole ws t
+whole_items ws t w =
+    let n = none_behind ws (no_block ws t w) in
+    (n.0, subst (λ (xs : List ℕ). WholeItems xs t) (sym n.1) w)
+
+-- a code with its block cut off is one of the same tree
+pub cut_off : (ws : List ℕ) (t : Tree) → Whole ws t → Whole (behind_block ws) t
+cut_off ws t w = whole_items (behind_block ws) t w.1
+
+-- and the other way round
+pub put_back : (ws : List ℕ) (t : Tree) → IsCode ws → Whole (behind_block ws) t → Whole ws t
+put_back ws t c w =
+    let items : WholeItems (behind_block ws) c.0 = c.1.1 in
+    let same : behind_block (behind_block ws) ≡ behind_block ws = (none_behind _ (no_block (behind_block ws) c.0 items)).1 in
+    (c.1.0, subst (λ (xs : List ℕ). WholeItems xs t) same w.1)
