@@ -1,8 +1,9 @@
 //! The names at the engine's root, and those of its modules.
 
 use sre_engine::{
-    CODESIZE, Code, MAXGROUPS, MAXREPEAT, Request, SRE_MAGIC, SreAtCode, SreCatCode, SreFlag,
-    SreInfo, SreOpcode, State, StrDrive, StringCursor, UniTable, code, constants, engine, string,
+    CODESIZE, Code, MAXGROUPS, MAXREPEAT, Request, SRE_MAGIC, SearchIter, SreAtCode, SreCatCode,
+    SreFlag, SreInfo, SreOpcode, State, StrDrive, StringCursor, UniTable, code, constants, engine,
+    string,
 };
 use std::alloc::Global;
 use std::convert::TryFrom;
@@ -46,6 +47,23 @@ fn searched(
     Ok(Some(state.cursor()))
 }
 
+// Whether a walk over characters has a match, and how many a list has.
+fn walked(
+    alloc: Global,
+    checked: code::Code<'_>,
+    text: &str,
+) -> Result<(bool, usize), engine::SreError> {
+    let req = Request::new(text, 0, usize::MAX, checked, false);
+    let walk: engine::SearchIter<'_, &str, Global> = SearchIter::new(req, State::new(alloc));
+    let mut found = false;
+    for item in walk {
+        item?;
+        found = true;
+    }
+    let all: Vec<engine::Found<Global>> = engine::all_matches(req, &mut State::new(alloc))?;
+    Ok((found, all.len()))
+}
+
 #[test]
 fn names_stand_at_the_root_and_in_their_modules(rt: HostRuntime) -> Result<(), Fail> {
     assert!(rt; (CODESIZE, MAXREPEAT, MAXGROUPS) == (4, 4_294_967_295, 2_147_483_647));
@@ -58,5 +76,6 @@ fn names_stand_at_the_root_and_in_their_modules(rt: HostRuntime) -> Result<(), F
     let hints: code::Hints = checked.hints();
     assert!(rt; hints.width.is_none() && string::category(&uni, SreCatCode::DIGIT, 48));
     assert!(rt; searched(rt.alloc(), checked, "xa1")? == Some(end_of("xa1")));
+    assert!(rt; walked(rt.alloc(), checked, "xa1")? == (true, 1));
     Ok(())
 }
