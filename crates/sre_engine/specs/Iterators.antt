@@ -36,7 +36,8 @@ most_items it = cond (has_ended it) 0 (most_matches (asked_of (request_of it)) +
 
 -- a match comes, the first of those that were left, and the walk goes on at its end
 pub record Gives {S A : Type 0} {text : Ghosts S} (it next : SearchIter S A text) : Type 0 where
-  pub goes : has_ended next ≡ false
+  pub before : has_ended it ≡ false
+  pub after : has_ended next ≡ false
   pub first : (t : Tree) → Whole (words_of (code_of (request_of it))) t
       → left_of it t ≡ match_shown (shown_of next) ∷ left_of next t
   pub request : GoesOn (request_of it) (shown_of next) (request_of next)

@@ -15,7 +15,7 @@ use std::alloc::Allocator;
 /// An item `Ok(())` says that there is a match, which `state` shows: `req` then starts at its end, and must advance
 /// exactly where it was empty, so that no empty match comes twice. The walk ends with `None`, or with an error, which
 /// means that a growth of the state's memory was refused; from then on there is no item, there are no marks, and `req`
-/// is as it was. A window of n characters has at most 2n + 1 matches, and the walk passes its text once.
+/// is as it was. A window of n characters has at most 2n + 1 matches. No step counts characters from the start on.
 #[derive(Drop)]
 pub struct SearchIter<'a, S: StrDrive, A: Allocator + Copy> {
     req: Request<'a, S>,

@@ -1,6 +1,6 @@
 //! One step of a walk: the next match, and what is asked after it.
 
-ghost use Rattle.std.specs.Prelude.{◌≡◌, ◌<◌, IfOk, OnErr, true, false, cond, [], ◌∷◌};
+ghost use Rattle.std.specs.Prelude.{◌≡◌, ◌<◌, IfOk, OnErr, true, false};
 ghost use Rattle.sre_model.specs.Tree.{Tree};
 ghost use Rattle.sre_model.specs.Grammar.{Whole};
 ghost use Rattle.sre_model.specs.Marks.{no_marks};
@@ -17,7 +17,8 @@ use sre_request::Request;
 use std::alloc::Allocator;
 
 /// Searches from a cursor that stands at the window's start. After a match, which the state shows, the request starts
-/// at its end, where the cursor stands, and must advance where the match was empty. So the text is passed once.
+/// at its end, where the cursor stands, and must advance where the match was empty. So no step counts characters from
+/// the text's start on.
 ///
 /// Without a match, and after an error, there are no marks, and the request is as it was.
 pub(crate) fn step<S: StrDrive, A: Allocator + Copy>(
