@@ -15,7 +15,7 @@ abbrev pub uni_of : Code → Table
 uni_of code = code.uni.now
 
 -- the words behind the block, where there is one
-abbrev pub items_of : Code → List ℕ
+unfoldable pub items_of : Code → List ℕ
 items_of code = behind_block (words_of code)
 
 abbrev pub hints_of : Code → Hints

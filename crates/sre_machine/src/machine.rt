@@ -41,7 +41,7 @@ pub(super) fn word_at<S: StrDrive>(req: &Request<'_, S>, place: usize) -> u32
     ensures word { Word (run_of req.now).words place result }
     ensures room { place + 2 ^ 33 < 2 ^ 64 }
 {
-    operands::word(req.pattern_codes().words(), place)
+    operands::word(req.pattern_codes().items(), place)
 }
 
 // The word some places on.
@@ -51,7 +51,7 @@ pub(super) fn operand<S: StrDrive>(req: &Request<'_, S>, place: usize, offset: u
     ensures word { Word (run_of req.now).words (place + offset) result }
     ensures room { place + 2 ^ 33 < 2 ^ 64 }
 {
-    operands::operand(req.pattern_codes().words(), place, offset)
+    operands::operand(req.pattern_codes().items(), place, offset)
 }
 
 // The opcode at a place that the machine has come to.

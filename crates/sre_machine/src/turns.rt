@@ -4,7 +4,7 @@ ghost use Rattle.std.specs.Prelude.{◌≡◌, ℕ, ◌+◌, ◌<◌, ◌≤◌,
 ghost use Rattle.sre_model.specs.Marks.{no_marks};
 ghost use Rattle.sre_model.specs.Tree.{Tree};
 ghost use Rattle.sre_model.specs.Ways.{Way};
-ghost use Rattle.sre_model.specs.Grammar.{Whole};
+ghost use Rattle.sre_model.specs.Grammar.{WholeItems};
 ghost use Rattle.sre_model.specs.Board.{bare};
 ghost use Rattle.sre_model.specs.Machine.{Stands, SaysAccepted, Decides, outcomes};
 ghost use Rattle.sre_request.specs.Requests.{end_of, run_of};
@@ -133,10 +133,10 @@ pub fn run<S: StrDrive, A: Allocator>(
     requires stands { (run_of req.now).stands start start.position }
     requires inside { start.position ≤ end_of req.now }
     requires fresh { board.old ≡ bare no_marks }
-    ensures { (t : Tree) → Whole (run_of req.now).words t
+    ensures { (t : Tree) → WholeItems (run_of req.now).words t
         → IfOk result
         (λ found. Decides (run_of req.now) (outcomes (run_of req.now) t start.position) found board.new.marks) }
 {
-    know_words(req.pattern_codes().words());
+    know_words(req.pattern_codes().items());
     turns_from::<Brand, Brand, S, A>(req, board, start, Blank::new(1))
 }

@@ -1,5 +1,6 @@
 -- A turn of the machine, whatever the opcode: what it comes to, and that the accepted outcomes stay.
-use Rattle.std.proofs.Common.{◌≡◌, ℕ, suc, ◌+◌, ◌-◌, ◌≤◌, List, [], ◌∷◌, ◌++◌, refl, sym, ap, ◌∙◌, subst, arith}
+use Rattle.std.proofs.Common.{◌≡◌, ℕ, suc, ◌+◌, ◌-◌, ◌<◌, ◌≤◌, List, [], ◌∷◌, ◌++◌, length, refl, sym, ap, ◌∙◌, subst}
+use Rattle.std.proofs.Common.{arith}
 use Rattle.std.proofs.lemmas.List.{append-nil}
 use Rattle.sre_chars.specs.declared.constants.SreOpcode.{SreOpcode}
 use Rattle.sre_chars.specs.declared.string.StringCursor.{StringCursor}
@@ -25,7 +26,7 @@ use Rattle.sre_model.specs.Machine.{Asking, Nothing, Placed}
 use Rattle.sre_model.specs.Machine.{InFamily, Moves, MovesAt, Runs, turns, Comes, stops, ends, goes, splits, enters}
 use Rattle.sre_model.specs.Machine.{Run, Waits, otherwise, kept, Goes, GoesBoth, Later, spot, HasRun, IsAt, Refuses}
 use Rattle.sre_model.specs.declared.Next.TheVariants as next
-use Rattle.sre_model.proofs.Words.{same_word, same_opcode, same_at}
+use Rattle.sre_model.proofs.Words.{same_word, same_opcode, same_at, opcode_within}
 use Rattle.sre_model.proofs.Unique.{test_same, same_reference_fold}
 
 -- a turn is determined, family by family
@@ -204,6 +205,14 @@ on_board r pt c b x = record {
   stands = x.stands;
   runs = x.runs;
 }
+
+-- an instruction that is reached is one of the words
+pub reached_within : (r : Run) (i : ℕ) (c : StringCursor) → HasRun r (Instruction i) c → i < length r.words
+reached_within r i c x = go x.runs
+  where
+    go : {os : List Way} {n : ℕ} → Runs r.words r.subject (spot_at (Instruction i) x.frames c.position x.marks) os n
+        → i < length r.words
+    go (turns mv h d) = opcode_within r.words i h.0 h.1
 
 pub goes_there : (r : Run) (all : List Way) (limit : ℕ) (pt : Point) (c : StringCursor) (b : BoardValue)
     → Goes r all limit pt c b → IsAt r pt c b

@@ -68,6 +68,14 @@ until_there r o u c b f w x e =
       },
     )
 
+-- and its operands are there
+pub until_operands : (r : Run) (o : Order) (u : ℕ) (c : StringCursor) (b : BoardValue) (f : Frame)
+    → Opcode r.words u (until_opcode o) → IsAt r (Instruction u) c b → b.frames ≡ f ∷ drop 1 b.frames
+    → f.repeat + 3 < length r.words
+until_operands r o u c b f w x e =
+    let loop = until_there r o u c b f w x e in
+    word_within r.words (f.repeat + 3) loop.1 loop.2.highest
+
 until_at : (r : Run) (o : Order) (u low high : ℕ) (c : StringCursor) (b : BoardValue) (f : Frame) (mv : Move)
     → InLoop r o u low high b f → mv ≡ until_move o low high u f (drop 1 b.frames) (spot (Instruction u) c b)
     → Moves r.words r.subject (spot (Instruction u) c b) mv

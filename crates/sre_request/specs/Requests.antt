@@ -5,7 +5,7 @@ use Rattle.sre_chars.specs.declared.string.StrDrive.{Ghosts}
 use Rattle.sre_chars.specs.declared.string.StringCursor.{StringCursor}
 use Rattle.sre_model.specs.Found.{Asked, subject_of, is_accepted}
 use Rattle.sre_model.specs.Machine.{Run}
-use Rattle.sre_code.specs.Codes.{words_of, uni_of}
+use Rattle.sre_code.specs.Codes.{items_of, uni_of}
 use Rattle.sre_code.specs.declared.code.Code.{Code}
 use Rattle.sre_request.specs.declared.request.Request.{Request}
 
@@ -43,10 +43,10 @@ asked_of {S} {text} r = record {
 abbrev pub stands_in : {S : Type 0} {text : Ghosts S} → Request S text → StringCursor → ℕ → Type 0
 stands_in {S} {text} r = text.stands r.string
 
--- a run of the machine for a request
+-- a run of the machine for a request: over the words behind the block
 abbrev pub run_of : {S : Type 0} {text : Ghosts S} → Request S text → Run
 run_of r = record {
-  words = words_of r.pattern_codes;
+  words = items_of r.pattern_codes;
   subject = subject_of (asked_of r);
   stands = stands_in r;
   accepts = is_accepted (asked_of r);

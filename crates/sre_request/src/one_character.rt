@@ -41,7 +41,7 @@ pub fn opcode<S: StrDrive>(req: &Request<'_, S>, place: usize) -> SreOpcode
     requires { HasTest (run_of req.now).words place }
     ensures { Opcode (run_of req.now).words place result }
 {
-    match SreOpcode::try_from(word(req.pattern_codes().words(), place)) {
+    match SreOpcode::try_from(word(req.pattern_codes().items(), place)) {
         Ok(opcode) => opcode,
         Err(_) => unreachable!(),
     }
@@ -60,7 +60,7 @@ pub fn takes<S: StrDrive>(
     ensures { (j : ℕ) (t : Test) → TestStands (run_of req.now).words place j t
         → result ≡ holds (run_of req.now).subject.table t character }
 {
-    let words = req.pattern_codes().words();
+    let words = req.pattern_codes().items();
     let uni = req.pattern_codes().uni();
     // A row for each folding but that of the locale: its opcodes, and the character as it shows it.
     macro_rules! takes_folded {
@@ -99,7 +99,7 @@ pub fn test_end<S: StrDrive>(req: &Request<'_, S>, place: usize, opcode: SreOpco
     requires stands { HasTest (run_of req.now).words place }
     ensures { (j : ℕ) (t : Test) → TestStands (run_of req.now).words place j t → result ≡ j }
 {
-    let words = req.pattern_codes().words();
+    let words = req.pattern_codes().items();
     match opcode {
         SreOpcode::ANY | SreOpcode::ANY_ALL => place + 1,
         SreOpcode::IN

@@ -190,7 +190,7 @@ fn run_in_set<S: StrDrive>(
     ensures position { result.1.position ≡ start.position + result.0 }
     ensures stands { (run_of req.now).stands result.1 result.1.position }
 {
-    let words = req.pattern_codes().words();
+    let words = req.pattern_codes().items();
     let (skip, set) = (operand(words, place, 1), place + 2);
     let first = word(words, set);
     if skip == 5 && first == SreOpcode::RANGE as u32 {

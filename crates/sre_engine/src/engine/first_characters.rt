@@ -2,7 +2,7 @@
 
 ghost use Rattle.std.specs.Prelude.{◌≡◌, ◌-◌, ◌≤◌, ℕ, IfSome};
 ghost use Rattle.sre_model.specs.Tree.{Tree};
-ghost use Rattle.sre_model.specs.Grammar.{IsCode, Whole};
+ghost use Rattle.sre_model.specs.Grammar.{AreItems, WholeItems};
 ghost use Rattle.sre_model.specs.FirstCharacters.{lacks, Wants};
 ghost use Rattle.sre_request.specs.Requests.{run_of};
 
@@ -23,8 +23,8 @@ pub(crate) struct Wanted {
 /// The character that each way of the words asks for, if a LITERAL tells it that is reached before any other item, but
 /// for marks, and for atomic groups and positive looks, which it may stand in.
 pub(crate) fn first_wanted(words: &[u32]) -> Option<Wanted>
-    requires { IsCode words.now }
-    ensures { (t : Tree) → Whole words.now t → IfSome result (λ w. Wants t w.back w.character) }
+    requires { AreItems words.now }
+    ensures { (t : Tree) → WholeItems words.now t → IfSome result (λ w. Wants t w.back w.character) }
 {
     let mut place = 0;
     let mut back: usize = 0;

@@ -217,7 +217,7 @@ impl<A: Allocator + Copy> State<A> {
         ensures refused { OnErr result Refused }
     {
         let mut start = from;
-        let wanted = first_wanted(req.pattern_codes().words());
+        let wanted = first_wanted(req.pattern_codes().items());
         self.board.clear(); // of an earlier search
         'start: loop {
             if let Some(end) = attempt(req, wanted, start, &mut self.board)? {

@@ -4,6 +4,7 @@ use Rattle.sre_request.specs.Requests.{run_of}
 use Rattle.sre_model.proofs.Moving.{on_board}
 use Rattle.sre_model.proofs.StepsAtGroups.{reference_there, reference_missing, reference_past, reference_unlike}
 use Rattle.sre_model.proofs.StepsAtGroups.{reference_step}
+use Rattle.sre_model.proofs.StepsAtGroups.{reference_operand}
 use Rattle.sre_machine.proofs.groups.reference.Goals as goal
 
 pub returns-in_default : goal.returns-in_default
@@ -45,3 +46,10 @@ returns-in-None g c =
     (rw (← c.position.ensures, ← c.end.ensures.value) (sym c.is_inside.ensures ∙ c.if-not-is_inside.false))
     (subst (λ q. same_folded r.subject x.0 (c.in-Some.end - c.in-Some.start) q c.args.cursor.position ≡ false)
     c.cursor_at-group.ensures.position (sym (c.in-None.ensures.repeated x.0 x.1)))
+
+pub operand-number-requires : goal.operand-number-requires
+operand-number-requires g c =
+    let r = run_of c.args.req.now in
+    let run = on_board _ _ _ _ c.requires.stands in
+    let x = reference_there r _ c.args.cursor _ c.requires.opcode c.requires.refers run in
+    reference_operand r x.0 _ c.args.cursor x.2 run

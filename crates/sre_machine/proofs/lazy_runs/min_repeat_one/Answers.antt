@@ -53,3 +53,13 @@ returns g c = λ all limit x.
     c.operand-least.ensures.word c.operand-skip.result c.run_up_to-run.result.0 c.run_up_to-run.result.1
     c.operand-skip.ensures.word c.run_up_to-run.ensures.count c.if-run-least.false c.run_up_to-run.ensures.position
     c.run_up_to-run.ensures.stands c.args.board.now all limit x)
+
+pub operand-skip-requires : goal.operand-skip-requires
+operand-skip-requires g c =
+    let words = run_there (run_of c.args.req.now) LazyRun c.args.place c.args.cursor c.requires.opcode c.requires.stands in
+    omega (arith, words.operands)
+
+pub operand-least-requires : goal.operand-least-requires
+operand-least-requires g c =
+    let words = run_there (run_of c.args.req.now) LazyRun c.args.place c.args.cursor c.requires.opcode c.requires.stands in
+    omega (arith, words.operands)

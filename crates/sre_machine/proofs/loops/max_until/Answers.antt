@@ -4,6 +4,7 @@ use Rattle.sre_model.specs.MovesInLoops.{next_frame}
 use Rattle.sre_request.specs.Requests.{run_of}
 use Rattle.sre_model.proofs.StepsInLoops.{until_below, until_done, until_runs, until_refused, until_alone, until_greedy}
 use Rattle.sre_model.proofs.StepsInLoops.{saved_board, entered_board}
+use Rattle.sre_model.proofs.StepsInLoops.{until_operands}
 use Rattle.sre_machine.proofs.loops.max_until.Goals as goal
 
 pub returns-then-frame-least : goal.returns-then-frame-least
@@ -81,3 +82,13 @@ returns g c =
     }) (omega arith) (sym c.if-not-may_repeat.ensures) (saved_board c.args.board.now c.leave.new.self c.save.new.self
     c.enter-2.new.self _ _ _ _ c.leave.ensures c.in_ok-save.ensures c.in_ok-enter-3.ensures
     (c.next_frame-next.ensures ∙ ap (λ p. next_frame c.top-frame.result (Some p)) c.position.ensures))
+
+pub operand-least-requires : goal.operand-least-requires
+operand-least-requires g c =
+    omega (arith, until_operands (run_of c.args.req.now) Greedy c.args.place c.args.cursor c.args.board.now
+    c.top-frame.result c.requires.opcode c.requires.stands c.top-frame.ensures)
+
+pub operand-greatest-requires : goal.operand-greatest-requires
+operand-greatest-requires g c =
+    omega (arith, until_operands (run_of c.args.req.now) Greedy c.args.place c.args.cursor c.args.board.now
+    c.top-frame.result c.requires.opcode c.requires.stands c.top-frame.ensures)

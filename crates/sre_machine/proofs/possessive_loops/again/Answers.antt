@@ -3,6 +3,7 @@ use Rattle.sre_model.specs.MovesInLoops.{next_frame}
 use Rattle.sre_request.specs.Requests.{run_of}
 use Rattle.sre_model.proofs.StepsInPossessiveLoops.{InPossessiveLoop, again_done, again_owed, again_further}
 use Rattle.sre_model.proofs.StepsInPossessiveLoops.{begun_board}
+use Rattle.sre_model.proofs.StepsInPossessiveLoops.{again_operands}
 use Rattle.sre_machine.proofs.possessive_loops.again.Goals as goal
 
 pub returns-then-frame-least : goal.returns-then-frame-least
@@ -54,3 +55,18 @@ returns g c =
     (begun_board c.args.board.now c.leave.new.self c.enter-2.new.self c.save-2.new.self _ f c.next_frame-2.result
     (Some c.args.cursor.position) c.args.cursor c.leave.ensures c.in_ok-enter-2.ensures c.in_ok-save-2.ensures
     (c.next_frame-2.ensures ∙ ap (λ p. next_frame f (Some p)) c.position.ensures))
+
+pub operand-least-requires : goal.operand-least-requires
+operand-least-requires g c =
+    omega (arith, again_operands (run_of c.args.req.now) c.args.cursor c.args.board.now c.top-frame.result c.requires
+    c.top-frame.ensures)
+
+pub operand-greatest-requires : goal.operand-greatest-requires
+operand-greatest-requires g c =
+    omega (arith, again_operands (run_of c.args.req.now) c.args.cursor c.args.board.now c.top-frame.result c.requires
+    c.top-frame.ensures)
+
+pub operand-skip-requires : goal.operand-skip-requires
+operand-skip-requires g c =
+    omega (arith, again_operands (run_of c.args.req.now) c.args.cursor c.args.board.now c.top-frame.result c.requires
+    c.top-frame.ensures)

@@ -1,5 +1,5 @@
 use Rattle.std.proofs.Common.{◌≡◌, ◌∙◌, ap, subst, ℕ, List}
-use Rattle.sre_code.specs.Codes.{words_of}
+use Rattle.sre_code.specs.Codes.{items_of}
 use Rattle.sre_model.specs.Standing.{AreWords}
 use Rattle.sre_request.specs.Requests.{run_of}
 use Rattle.sre_model.proofs.Start.{started}
@@ -10,9 +10,9 @@ use Rattle.sre_machine.proofs.turns.run.Goals as goal
 pub turns_from-requires-clause-stands : goal.turns_from-requires-clause-stands
 turns_from-requires-clause-stands g c =
     let r = run_of c.args.req.now in
-    let same : c.words.result.now ≡ r.words = c.words.ensures.same ∙ ap words_of c.pattern_codes.ensures in
+    let same : c.items.result.now ≡ r.words = c.items.ensures.same ∙ ap items_of c.pattern_codes.ensures in
     started r (tree_of r.words) c.args.start c.args.board.now
-    (subst (λ (ws : List ℕ). AreWords ws) same c.know_words.ensures) (whole_of _ _ c.args.req.now.pattern_codes.checked)
+    (subst (λ (ws : List ℕ). AreWords ws) same c.know_words.ensures) (whole_of c.args.req.now.pattern_codes)
     c.requires.stands c.requires.inside c.requires.fresh
 
 pub returns : goal.returns

@@ -1,8 +1,13 @@
 use Rattle.std.proofs.Common.{List, ℕ, sym, subst}
 use Rattle.std.proofs.Math.Logic.{∥∥₁_map}
 use Rattle.sre_model.specs.Grammar.{AreItems}
+use Rattle.sre_code.specs.Codes.{items_of}
 use Rattle.sre_model.proofs.Props.{kept_tree}
 use Rattle.sre_code.proofs.code.Code.items.Goals as goal
+
+pub returns-clause-same : goal.returns-clause-same
+unfolding items_of
+returns-clause-same c = c.args.self.now.behind
 
 pub returns-clause-tree : goal.returns-clause-tree
 returns-clause-tree c =
