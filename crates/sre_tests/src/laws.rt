@@ -2,7 +2,7 @@
 
 ghost use Rattle.std.specs.Prelude.{◌≡◌, IfOk};
 ghost use Rattle.sre_engine.specs.Tree.{Tree};
-ghost use Rattle.sre_engine.specs.Grammar.{Whole};
+ghost use Rattle.sre_engine.specs.Grammar.{Whole, behind_block};
 ghost use Rattle.sre_engine.specs.Codes.{words_of};
 ghost use Rattle.sre_engine.specs.Requests.{asked_of, code_of};
 ghost use Rattle.sre_engine.specs.Answers.{given};
@@ -43,4 +43,19 @@ fn both_searched<S: StrDrive, T: StrDrive>(
     let found = first.search(one)?;
     let again = second.search(other)?;
     Ok((found, again))
+}
+
+// A code is answered as it is with its block cut off.
+fn matched_without_its_block<S: StrDrive, T: StrDrive>(
+    one: &Request<'_, S>,
+    cut: &Request<'_, T>,
+    first: &mut State<Global>,
+    second: &mut State<Global>,
+) -> Result<(bool, bool), SreError>
+    requires same { asked_of cut.now ≡ asked_of one.now }
+    requires behind { words_of (code_of cut.now) ≡ behind_block (words_of (code_of one.now)) }
+    ensures { IfOk result (λ answers. given answers.1 second.new ≡ given answers.0 first.new) }
+{
+    let _words = one.pattern_codes().words(); // whose tree is that of the words behind the block
+    both_matched(one, cut, first, second)
 }

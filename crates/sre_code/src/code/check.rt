@@ -7,9 +7,8 @@ ghost use Rattle.sre_code.specs.Refusals.{place_of};
 ghost use Rattle.sre_code.specs.Codes.{words_of, uni_of};
 ghost use Rattle.sre_growth.specs.Refusal.{Refused};
 
-use crate::code::block;
 use crate::code::descent::descend;
-use crate::code::{Code, CodeError, Hints};
+use crate::code::{Code, CodeError, Hints, block};
 use sre_chars::string::UniTable;
 use std::alloc::Allocator;
 

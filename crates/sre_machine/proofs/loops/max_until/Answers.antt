@@ -85,10 +85,16 @@ returns g c =
 
 pub operand-least-requires : goal.operand-least-requires
 operand-least-requires g c =
-    omega (arith, until_operands (run_of c.args.req.now) Greedy c.args.place c.args.cursor c.args.board.now
-    c.top-frame.result c.requires.opcode c.requires.stands c.top-frame.ensures)
+    omega (
+      arith,
+      until_operands (run_of c.args.req.now) Greedy c.args.place c.args.cursor c.args.board.now
+          c.top-frame.result c.requires.opcode c.requires.stands c.top-frame.ensures,
+    )
 
 pub operand-greatest-requires : goal.operand-greatest-requires
 operand-greatest-requires g c =
-    omega (arith, until_operands (run_of c.args.req.now) Greedy c.args.place c.args.cursor c.args.board.now
-    c.top-frame.result c.requires.opcode c.requires.stands c.top-frame.ensures)
+    omega (
+      arith,
+      until_operands (run_of c.args.req.now) Greedy c.args.place c.args.cursor c.args.board.now
+          c.top-frame.result c.requires.opcode c.requires.stands c.top-frame.ensures,
+    )

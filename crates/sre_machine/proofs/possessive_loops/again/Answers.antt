@@ -58,15 +58,24 @@ returns g c =
 
 pub operand-least-requires : goal.operand-least-requires
 operand-least-requires g c =
-    omega (arith, again_operands (run_of c.args.req.now) c.args.cursor c.args.board.now c.top-frame.result c.requires
-    c.top-frame.ensures)
+    omega (
+      arith,
+      again_operands (run_of c.args.req.now) c.args.cursor c.args.board.now c.top-frame.result c.requires
+          c.top-frame.ensures,
+    )
 
 pub operand-greatest-requires : goal.operand-greatest-requires
 operand-greatest-requires g c =
-    omega (arith, again_operands (run_of c.args.req.now) c.args.cursor c.args.board.now c.top-frame.result c.requires
-    c.top-frame.ensures)
+    omega (
+      arith,
+      again_operands (run_of c.args.req.now) c.args.cursor c.args.board.now c.top-frame.result c.requires
+          c.top-frame.ensures,
+    )
 
 pub operand-skip-requires : goal.operand-skip-requires
 operand-skip-requires g c =
-    omega (arith, again_operands (run_of c.args.req.now) c.args.cursor c.args.board.now c.top-frame.result c.requires
-    c.top-frame.ensures)
+    omega (
+      arith,
+      again_operands (run_of c.args.req.now) c.args.cursor c.args.board.now c.top-frame.result c.requires
+          c.top-frame.ensures,
+    )

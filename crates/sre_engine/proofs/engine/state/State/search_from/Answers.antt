@@ -1,11 +1,19 @@
-use Rattle.std.proofs.Common.{◌≡◌, ◌≤◌, ◌+◌, true, false, refl, sym, subst, arith, rules}
+use Rattle.std.proofs.Common.{◌≡◌, ℕ, ◌≤◌, ◌+◌, true, false, List, refl, sym, ap, ◌∙◌, subst, arith, rules}
 use Rattle.sre_model.specs.Found.{found}
-use Rattle.sre_code.specs.Codes.{words_of, hints_of}
+use Rattle.sre_model.specs.Grammar.{WholeItems}
+use Rattle.sre_code.specs.Codes.{words_of, items_of, hints_of}
 use Rattle.sre_request.specs.Requests.{end_of, code_of, asked_of, stands_in}
 use Rattle.sre_engine.proofs.Answering.{answers_yes, answers_no, answers_alike, none_at, some_at, span_at, none_further}
 use Rattle.sre_engine.proofs.Answering.{found_none, found_first}
-use Rattle.sre_code.proofs.Checked.{code_tree}
+use Rattle.sre_code.proofs.Checked.{code_tree, items_whole}
 use Rattle.sre_engine.proofs.engine.state.State.search_from.Goals as goal
+
+pub attempt-requires-clause-wanted : goal.attempt-requires-clause-wanted
+attempt-requires-clause-wanted g c = λ t whole.
+    let code = c.args.req.now.pattern_codes in
+    let read : c.items.result.now ≡ items_of code = c.items.ensures.same ∙ ap items_of c.pattern_codes.ensures in
+    c.first_wanted-wanted.ensures t
+    (subst (λ (ws : List ℕ). WholeItems ws t) (sym read) (items_whole code t whole))
 
 pub returns-in-Some-clause-ok : goal.returns-in-Some-clause-ok
 returns-in-Some-clause-ok g c = λ t whole.
