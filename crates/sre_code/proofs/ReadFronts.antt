@@ -1,13 +1,12 @@
 -- The block at the front, and what a check says of words whose items it has read.
-use Rattle.std.proofs.Common.{ℕ, zero, suc, ◌+◌, ◌-◌, ◌≡◌, ◌≢◌, ◌<◌, ◌≤◌, Bool, true, false, cond, nat_eq, nat_le, List, []}
-use Rattle.std.proofs.Common.{length, drop, refl, sym, subst, ◌∙◌, arith}
+use Rattle.std.proofs.Common.{ℕ, ◌≡◌, ◌≢◌, false, List}
+use Rattle.std.proofs.Common.{length, drop, refl, sym, subst, arith}
 use Rattle.std.proofs.lemmas.Bool.Decides.{nat_tests}
-use Rattle.sre_chars.specs.declared.constants.SreOpcode.TheVariants as opcode
 use Rattle.sre_model.specs.Tree.{Tree}
-use Rattle.sre_model.specs.Grammar.{word, skip, has_block, behind_block, fits_block, Whole, WholeItems}
-use Rattle.sre_model.proofs.Words.{word_past, opcode_within}
+use Rattle.sre_model.specs.Grammar.{word, has_block, Whole, WholeItems}
+use Rattle.sre_model.proofs.Words.{word_past}
 use Rattle.sre_model.specs.Grammar.{IsCode}
-use Rattle.sre_code.specs.Fronts.{Fronts, BadFront}
+use Rattle.sre_code.specs.Fronts.{Fronts}
 use Rattle.sre_code.specs.Descent.{HasWhole, WholeFrom, Fails}
 use Rattle.sre_code.specs.declared.code.error.CodeError.{CodeError}
 use Rattle.sre_code.specs.declared.code.error.CodeError.TheVariants.{Memory}

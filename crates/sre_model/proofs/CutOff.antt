@@ -5,7 +5,7 @@ use Rattle.std.proofs.lemmas.Bool.Decides.{nat_tests}
 use Rattle.sre_chars.specs.declared.constants.SreOpcode.TheVariants as opcode
 use Rattle.sre_model.specs.Tree.{Tree, Empty, Then}
 use Rattle.sre_model.specs.Grammar.{word, Opcode, Reads, WholeItems, has_block, behind_block, fits_block}
-use Rattle.sre_model.specs.Grammar.{Whole, IsCode}
+use Rattle.sre_model.specs.Grammar.{Whole}
 use Rattle.sre_model.proofs.Words.{word_of, word_at, word_past}
 use Rattle.sre_model.proofs.Families.{no_item}
 
@@ -48,10 +48,3 @@ whole_items ws t w =
 -- a code with its block cut off is one of the same tree
 pub cut_off : (ws : List ℕ) (t : Tree) → Whole ws t → Whole (behind_block ws) t
 cut_off ws t w = whole_items (behind_block ws) t w.1
-
--- and the other way round
-pub put_back : (ws : List ℕ) (t : Tree) → IsCode ws → Whole (behind_block ws) t → Whole ws t
-put_back ws t c w =
-    let items : WholeItems (behind_block ws) c.0 = c.1.1 in
-    let same : behind_block (behind_block ws) ≡ behind_block ws = (none_behind _ (no_block (behind_block ws) c.0 items)).1 in
-    (c.1.0, subst (λ (xs : List ℕ). WholeItems xs t) same w.1)

@@ -16,13 +16,29 @@ pub fn refusal(alloc: Global, words: &[u32]) -> Option<CodeError> {
 }
 
 // Words that are cut short stand beside the lawful ones.
-static FAULTS: [(&[u32], CodeError); 87] = [
+static FAULTS: [(&[u32], CodeError); 98] = [
     (&[1, 43], CodeError::TrailingWords(1)),
     (&[43, 1], CodeError::UnknownOpcode(0)),
     (&[16, 97, NO_LIMIT, 1], CodeError::UnknownOpcode(2)),
     (&[6, 12, 1], CodeError::UnknownAt(1)),
     (&[8, 18, 1], CodeError::UnknownCategory(1)),
     (&[13, 4, 8, 18, 0, 1], CodeError::UnknownCategory(3)),
+    // blocks: cut short, without its widths, past the last word, behind items and behind a block; places count from the
+    // first word, also behind a block
+    (&[14], CodeError::Truncated(1)),
+    (&[14, 4], CodeError::BadInfo(1)),
+    (&[14, 4, 0, 0, 0], CodeError::BadInfo(1)),
+    (&[14, 3, 0, 0, 1], CodeError::BadInfo(1)),
+    (&[14, NO_LIMIT, 0, 0, 0, 1], CodeError::BadInfo(1)),
+    (&[16, 97, 14, 4, 0, 0, 0, 1], CodeError::BadInfo(2)),
+    (&[14, 4, 0, 0, 0, 14, 4, 0, 0, 0, 1], CodeError::BadInfo(5)),
+    (&[14, 5, 0, 9, 9, 16, 97, 1], CodeError::UnknownOpcode(6)),
+    (&[14, 4, 0, 0, 0, 1, 1], CodeError::TrailingWords(6)),
+    (&[14, 4, 0, 0, 0, 16], CodeError::Truncated(6)),
+    (
+        &[14, 4, 0, 0, 0, 23, 4, 5, 3, 18, 1],
+        CodeError::BadCounts(7),
+    ),
     // opcodes that are no items
     (&[9, 1], CodeError::BadItem(0)),
     (&[10, 1], CodeError::BadItem(0)),

@@ -107,3 +107,25 @@ fn lawful_words_are_accepted(rt: HostRuntime) -> Result<(), Fail> {
     let two_blocks = set_of_blocks(rt.alloc(), &[13, 84, 10, 2, 256], 76)?;
     accepted(&rt, rt.alloc(), &uni, &two_blocks)
 }
+
+// Codes with a block, whose claims do not matter, and how many words it has.
+static BLOCKS: [(&[u32], usize); 4] = [
+    (&[14, 4, 0, 0, 0, 1], 5),
+    (&[14, 6, 0, 9, 9, 16, 97, 1], 7),
+    (&[14, 4, NO_LIMIT, NO_LIMIT, NO_LIMIT, 16, 97, 1], 5),
+    (&[14, 8, 3, 1, 1, 1, 1, 97, 0, 16, 97, 1], 9),
+];
+
+#[test]
+fn a_code_shows_the_words_behind_its_block(rt: HostRuntime) -> Result<(), Fail> {
+    let alloc = rt.alloc();
+    let uni = UniTable::ascii(alloc);
+    for &(words, length) in &BLOCKS {
+        let code = Code::check(alloc, words, &uni)?;
+        assert!(rt; code.words() == words, "{words:?}");
+        assert!(rt; code.items() == words.split_at(length).1, "{words:?}");
+        let cut = Code::check(alloc, code.items(), &uni)?;
+        assert!(rt; cut.items() == code.items(), "{words:?}");
+    }
+    Ok(())
+}

@@ -1,5 +1,6 @@
-//! The information block at the front: `<INFO> <skip> <flags> <least width> <greatest width> ..`, whose skip leads behind
-//! it. What stands in it from its flags on is read by no one here.
+//! The information block at the front: `<INFO> <skip> <flags> <least width> <greatest width> ..`.
+//!
+//! Its skip leads behind it. What stands in it from its flags on is not read.
 
 ghost use Rattle.sre_code.specs.Fronts.{BlockAt};
 

@@ -56,10 +56,12 @@ returns g c = λ all limit x.
 
 pub operand-skip-requires : goal.operand-skip-requires
 operand-skip-requires g c =
-    let words = run_there (run_of c.args.req.now) LazyRun c.args.place c.args.cursor c.requires.opcode c.requires.stands in
+    let words =
+    run_there (run_of c.args.req.now) LazyRun c.args.place c.args.cursor c.requires.opcode c.requires.stands in
     omega (arith, words.operands)
 
 pub operand-least-requires : goal.operand-least-requires
 operand-least-requires g c =
-    let words = run_there (run_of c.args.req.now) LazyRun c.args.place c.args.cursor c.requires.opcode c.requires.stands in
+    let words =
+    run_there (run_of c.args.req.now) LazyRun c.args.place c.args.cursor c.requires.opcode c.requires.stands in
     omega (arith, words.operands)

@@ -7,7 +7,8 @@ pub returns-in-Err-clause-refused : goal.returns-in-Err-clause-refused
 returns-in-Err-clause-refused g c = λ ne tree.
     let fails = subst (λ (ws : List ℕ). Fails ws (WholeFrom ws 0) c.in-Err.error) c.split_at.ensures.back
     c.in-Err.ensures in
-    front_refused c.args.words.now _ c.in_ok-length.ensures c.in-Err.error tree fails (λ m. ne (c.moved.ensures.memory m))
+    front_refused c.args.words.now _ c.in_ok-length.ensures c.in-Err.error tree fails
+    (λ m. ne (c.moved.ensures.memory m))
 
 pub returns-in-Err-clause-grows : goal.returns-in-Err-clause-grows
 returns-in-Err-clause-grows g c = λ tree.
