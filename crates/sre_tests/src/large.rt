@@ -1,6 +1,8 @@
 //! Large codes, marks and texts: with ample memory there is no error.
 
 use crate::asking::{Call, Ends, ends};
+use crate::faults::refusal;
+use sre_engine::code::CodeError;
 use sre_engine::{Code, Request, State, UniTable};
 use std::alloc::Global;
 use std::test::Fail;
@@ -71,15 +73,15 @@ fn long_text(alloc: Global, parts: (&str, &str, &str)) -> Result<String, Fail> {
     Ok(text)
 }
 
-// The letter a inside 1,000 atomic groups, each of which ends just before the one around it.
+// The letter a inside 100,000 atomic groups, each of which ends just before the one around it.
 fn nested_groups(alloc: Global) -> Result<Vec<u32>, Fail> {
     let mut words = Vec::new(alloc);
-    for depth in 0..1000u32 {
+    for depth in 0..100_000u32 {
         words.push(27)?;
-        words.push(3001u32.saturating_sub(depth.saturating_mul(3)))?;
+        words.push(300_001u32.saturating_sub(depth.saturating_mul(3)))?;
     }
     words.extend_from_slice(&[16, 97])?;
-    for _ in 0..1001 {
+    for _ in 0..100_001 {
         words.push(1)?;
     }
     Ok(words)
@@ -120,6 +122,9 @@ fn large_inputs_are_answered(rt: HostRuntime) -> Result<(), Fail> {
         let found = ends(alloc, &uni, Call::Match, &words, text.as_str())?;
         assert!(rt; found == Some((0, end, end)), "{end}");
     }
+    let mut cut = nested_groups(alloc)?;
+    let _last = cut.pop();
+    assert!(rt; refusal(alloc, &cut) == Some(CodeError::Truncated(300_002)));
     assert!(rt; far_group(alloc, &uni)? == (10_002, 5_001, Some(1)));
     Ok(())
 }
