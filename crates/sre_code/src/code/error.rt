@@ -55,7 +55,7 @@ impl From<Refusal> for CodeError {
 }
 
 impl CodeError {
-    ghost use Rattle.std.specs.Prelude.{◌+◌, ◌<◌, ◌^◌};
+    ghost use Rattle.std.specs.Prelude.{◌≢◌, ◌+◌, ◌<◌, ◌^◌};
     ghost use Rattle.sre_code.specs.Refusals.{refusal_number, place_of};
     ghost use Rattle.sre_code.specs.declared.code.error.CodeError.TheVariants.{Memory};
 
@@ -65,6 +65,7 @@ impl CodeError {
         ensures memory { self ≡ Memory → result ≡ Memory }
         ensures cause { refusal_number result ≡ refusal_number self }
         ensures place { place_of result ≤ place_of self + words }
+        ensures moved { self ≢ Memory → place_of result ≡ place_of self + words }
     {
         match self {
             CodeError::Memory => CodeError::Memory,
