@@ -1,6 +1,6 @@
 //! The cases of a file, and their answers.
 
-ghost use Rattle.std.specs.Prelude.{◌≡◌, ◌≢◌, ◌≤◌, ◌++◌, ◌∷◌, [], ℕ, List, IfErr, OnErr, OnOk, string_bytes};
+ghost use Rattle.std.specs.Prelude.{◌≡◌, ◌≤◌, ◌++◌, ◌∷◌, [], ℕ, List, IfErr, OnErr, OnOk, string_bytes};
 ghost use Rattle.std.specs.Io.KnownBytes.{Appends};
 ghost use Rattle.sre_cases.specs.Answers.{fault_text, IsFaultOfCases};
 ghost use Rattle.sre_chars.specs.Tables.{ascii_table};
@@ -68,7 +68,6 @@ fn answer_lines<A: Allocator + Copy, W: Write>(
 {
     let mut desk = Desk {
         alloc,
-        heap,
         table: UniTable::ascii(alloc),
         operands: Operands {
             words: Vec::new(heap),
@@ -96,7 +95,6 @@ fn answer_lines<A: Allocator + Copy, W: Write>(
 #[derive(Drop)]
 struct Desk<A: Allocator + Copy> {
     alloc: Global,
-    heap: A,
     table: UniTable,
     operands: Operands<A>,
     state: State<A>,
@@ -152,7 +150,6 @@ fn write_answer<A: Allocator + Copy, W: Write>(
     desk.answer.clear();
     let answered = push_answer(
         desk.alloc,
-        desk.heap,
         &desk.table,
         case,
         &desk.operands,
@@ -168,7 +165,6 @@ fn write_answer<A: Allocator + Copy, W: Write>(
 // Appends the answer to a case, with the byte that ends its line.
 fn push_answer<A: Allocator + Copy>(
     alloc: Global,
-    heap: A,
     table: &UniTable,
     case: Case,
     operands: &Operands<A>,
@@ -180,14 +176,13 @@ fn push_answer<A: Allocator + Copy>(
         ((said : List ℕ) × IsAnswer table.now case operands.now.words.items operands.now.text.items said
         × (string_bytes answer.new ≡ string_bytes answer.old ++ (said ++ 10 ∷ []))) }
 {
-    push_verdict(alloc, heap, table, case, operands, state, answer)?;
+    push_verdict(alloc, table, case, operands, state, answer)?;
     answer.push_str("\n")
 }
 
 // Appends the answer to a case.
 fn push_verdict<A: Allocator + Copy>(
     alloc: Global,
-    heap: A,
     table: &UniTable,
     case: Case,
     operands: &Operands<A>,
@@ -199,6 +194,7 @@ fn push_verdict<A: Allocator + Copy>(
         ((said : List ℕ) × IsAnswer table.now case operands.now.words.items operands.now.text.items said
         × (string_bytes answer.new ≡ string_bytes answer.old ++ said)) }
 {
+    let heap = *operands.words.allocator();
     match Code::check(alloc, operands.words.as_slice(), table) {
         Ok(code) => push_code_answer(heap, code, case, operands.text.as_slice(), state, answer),
         Err(CodeError::Memory) => Err(AllocError),

@@ -14,16 +14,13 @@ use Rattle.sre_growth.specs.Refusal.{Refused}
 use Rattle.sre_code.proofs.Descending.{descent_items, descent_refused, descent_grows}
 
 -- no block
-no_front : (ws : List ℕ) → word ws 0 ≢ 14 → Fronts ws 0
+pub no_front : (ws : List ℕ) → word ws 0 ≢ 14 → Fronts ws 0
 no_front ws ne =
     let none : has_block ws ≡ false = grind (arith, nat_tests) in
     record { fits = rw none refl; within = omega arith; behind = rw none refl }
 
 pub empty_front : (ws : List ℕ) → length ws ≡ 0 → Fronts ws 0
 empty_front ws e = no_front ws (λ k. omega (arith, k, word_past ws 0 (omega (arith, e))))
-
-pub other_front : (ws : List ℕ) → word ws 0 ≢ 14 → Fronts ws 0
-other_front ws ne = no_front ws ne
 
 -- what follows of the items for all the words
 module _ (ws : List ℕ) (n : ℕ) (f : Fronts ws n) where

@@ -5,7 +5,7 @@
 //! is read but its skip. [`Code::check`] reads the words behind it once from left to right, with a stack of its own for
 //! the parts that are open, and on the way adds up the least number of characters that a match passes.
 
-ghost use Rattle.std.specs.Prelude.{◌≡◌, ◌≢◌, ◌≤◌, ℕ, List, length, IfOk, IfErr, OnOk, OnErr};
+ghost use Rattle.std.specs.Prelude.{◌≡◌, ◌≢◌, ◌≤◌, length, IfOk, IfErr, OnOk, OnErr};
 ghost use Rattle.sre_model.specs.Tree.{Tree};
 ghost use Rattle.sre_model.specs.Grammar.{Whole};
 ghost use Rattle.sre_code.specs.Hinted.{Confirmed};

@@ -59,3 +59,18 @@ fn matched_without_its_block<S: StrDrive, T: StrDrive>(
     let _words = one.pattern_codes().words(); // whose tree is that of the words behind the block
     both_matched(one, cut, first, second)
 }
+
+// And so it is searched.
+fn searched_without_its_block<S: StrDrive, T: StrDrive>(
+    one: Request<'_, S>,
+    cut: Request<'_, T>,
+    first: &mut State<Global>,
+    second: &mut State<Global>,
+) -> Result<(bool, bool), SreError>
+    requires same { asked_of cut ≡ asked_of one }
+    requires behind { words_of (code_of cut) ≡ behind_block (words_of (code_of one)) }
+    ensures { IfOk result (λ answers. given answers.1 second.new ≡ given answers.0 first.new) }
+{
+    let _words = one.pattern_codes().words(); // whose tree is that of the words behind the block
+    both_searched(one, cut, first, second)
+}

@@ -6,15 +6,13 @@ ghost use Rattle.sre_code.specs.Fronts.{BlockAt};
 
 use crate::code::error::CodeError;
 use crate::code::words;
-
-// The number of INFO.
-const INFO: u32 = 14;
+use sre_chars::constants::SreOpcode;
 
 /// How many words the block has, 0 where there is none.
 pub fn length(words: &[u32]) -> Result<usize, CodeError>
     ensures { BlockAt words.now result }
 {
-    if words.is_empty() || words[0] != INFO {
+    if words.is_empty() || words[0] != SreOpcode::INFO as u32 {
         return Ok(0);
     }
     let skip = words::operand(words, 1)?;

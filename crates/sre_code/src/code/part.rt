@@ -1,6 +1,5 @@
 //! What closes parts.
 
-ghost use Rattle.std.specs.Prelude.{◌≡◌};
 ghost use Rattle.sre_code.specs.Steps.{Closing};
 
 use crate::code::error::CodeError;

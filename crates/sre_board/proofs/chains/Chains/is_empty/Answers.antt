@@ -1,4 +1,4 @@
-use Rattle.std.proofs.Common.{◌<◌, ◌≤◌, Bool, true, false, nat_eq, arith}
+use Rattle.std.proofs.Common.{arith}
 use Rattle.std.proofs.lemmas.Bool.Decides.{nat_tests}
 use Rattle.sre_board.proofs.ChainLaws.{first_empty, later_some}
 use Rattle.sre_board.proofs.chains.Chains.is_empty.Goals as goal

@@ -15,8 +15,8 @@ matches-preserved g c =
       gives.request.pattern_codes ∙ same,
       one_written (words_of (code_of c.args.request)) (asked_of c.args.request) (string_bytes c.args.answer.now)
           (string_bytes c.matches.answer) (λ t. left_of c.matches.matches t) c.matches.first
-          (match_shown (shown_of c.next.new.self)) (λ t. left_of c.next.new.self t) (string_bytes c.push_span.new.answer)
-          c.matches.invariant.1
+          (match_shown (shown_of c.next.new.self)) (λ t. left_of c.next.new.self t)
+          (string_bytes c.push_span.new.answer) c.matches.invariant.1
           (λ t is. gives.first t (subst (λ code. Whole (words_of code) t) (sym same) is))
           (search rules),
     )
