@@ -1,0 +1,3 @@
+//! Worked examples.
+
+use super::*;
