@@ -5,7 +5,9 @@
 //! character. Characters past ASCII are in no set.
 #![tactic(auto)]
 
-ghost use Rattle.std.specs.Prelude.{◌≡◌, ◌/◌, ◌%◌, ◌^◌, ◌&&◌, ◌||◌, ℕ, false, not, nat_eq, nat_lt, slice_index};
+ghost use Rattle.std.specs.Prelude.{◌≡◌, ◌<◌, ◌/◌, ◌%◌, ◌^◌, ◌&&◌, ◌||◌, ℕ, false, not, nat_eq, nat_lt};
+ghost use Rattle.std.specs.Prelude.{slice_index, if◌then◌else◌};
+ghost use Rattle.std.specs.Int.{bit_at};
 ghost use Rattle.sre_chars.specs.Tables.{Table, is_between};
 ghost use Rattle.sre_chars.specs.Categories.{category};
 ghost use Rattle.sre_chars.specs.Numbers.{category_number};
@@ -150,8 +152,8 @@ impl AsciiSet {
             ≡ nat_lt c 128 && nat_eq (slice_index words (c / 32) / 2 ^ (c % 32) % 2) 1 }
     {
         AsciiSet {
-            low: u64::from(words[0]) | (u64::from(words[1]) << 32),
-            high: u64::from(words[2]) | (u64::from(words[3]) << 32),
+            low: join(words[0], words[1]),
+            high: join(words[2], words[3]),
         }
     }
 
@@ -200,6 +202,14 @@ impl AsciiSet {
             false
         }
     }
+}
+
+// The word of two: the first has the lower 32 bits.
+#[inline(always)]
+fn join(low: u32, high: u32) -> u64
+    ensures { (k : ℕ) → k < 64 → bit_at result k ≡ bit_at (if nat_lt k 32 then low else high) (k % 32) }
+{
+    u64::from(low) | (u64::from(high) << 32)
 }
 
 #[cfg(test)]
