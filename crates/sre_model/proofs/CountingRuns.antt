@@ -1,5 +1,8 @@
 -- What a run of one character comes to.
-use Rattle.std.proofs.Common.{ℕ, zero, suc, ◌+◌, ◌-◌, ◌≡◌, ◌<◌, ◌≤◌, true, false, refl, sym, ◌∙◌, ap, arith}
+use Rattle.std.proofs.Common.{ℕ, zero, suc, ◌+◌, ◌-◌, ◌≡◌, ◌<◌, ◌≤◌, Bool, true, false, not, refl, sym, ◌∙◌, ap}
+use Rattle.std.proofs.Common.{arith, inl, inr}
+use mathlib.Core.Bool.{beq}
+use Rattle.std.proofs.lemmas.Bool.{cases_lt}
 use Rattle.std.proofs.lemmas.Bool.Decides.{nat_tests}
 use Rattle.sre_chars.specs.declared.string.StringCursor.{StringCursor}
 use Rattle.sre_model.specs.Tree.{Test}
@@ -8,63 +11,62 @@ use Rattle.sre_model.specs.Subject.{Subject, char_at, passes}
 use Rattle.sre_model.specs.Ways.{most_from, run_length}
 use Rattle.sre_model.specs.Machine.{Run}
 use Rattle.sre_model.specs.Standing.{TestStands}
-use Rattle.sre_model.specs.CountedRuns.{Counted}
+use Rattle.sre_model.specs.CountedRuns.{Counted, Ended}
 use Rattle.sre_model.proofs.Passing.{read_passes, stands_at_own}
 
-run_stops : (s : Subject) (t : Test) (n p : ℕ) → passes s t p ≡ false → run_length s t n p ≡ 0
-run_stops s t zero p h = refl
-run_stops s t (suc n) p h = rw h refl
+-- a run of k characters that a test takes, where it does not take the next one
+run_of_taken : (s : Subject) (t : Test) (n k p : ℕ) → k ≤ n
+    → ((q : ℕ) → p ≤ q → q < p + k → passes s t q ≡ true) → (k < n → passes s t (p + k) ≡ false)
+    → k ≡ run_length s t n p
+run_of_taken s t zero k p l each ends = omega (arith, l)
+run_of_taken s t (suc n) zero p l each ends =
+    let here : p + 0 ≡ p = omega arith in
+    let not_taken : passes s t p ≡ false = ap (λ q. passes s t q) (sym here) ∙ ends (omega arith) in
+    rw not_taken refl
+run_of_taken s t (suc n) (suc k) p l each ends =
+    let on : p + 1 + k ≡ p + suc k = omega arith in
+    let taken : passes s t p ≡ true = each p (omega arith) (omega arith) in
+    rw taken (ap (λ m. suc m) (run_of_taken s t n k (p + 1) (omega (arith, l))
+    (λ q from to. each q (omega (arith, from)) (omega (arith, to)))
+    (λ m. ap (λ q. passes s t q) on ∙ ends (omega (arith, m)))))
 
-run_goes : (s : Subject) (t : Test) (n p : ℕ) → 0 < n → passes s t p ≡ true
-    → run_length s t n p ≡ suc (run_length s t (n - 1) (p + 1))
-run_goes s t zero p l h = absurd (omega arith)
-run_goes s t (suc n) p l h = let e : suc n - 1 ≡ n = omega arith in rw (h, e) refl
+pub taken_length : (r : Run) (i most count j : ℕ) (start cursor : StringCursor) (t : Test)
+    → Ended r i true most start cursor count → TestStands r.words i j t
+    → count ≡ run_length r.subject t most start.position
+taken_length r i most count j start cursor t e s =
+    run_of_taken r.subject t most count start.position e.counted.within
+    (λ q from to. e.counted.each j q t s from (omega (arith, to, e.counted.position)))
+    (λ m. ap (λ q. passes r.subject t q) (sym e.counted.position) ∙ e.ends m j t s)
 
--- a test that takes every character
-pub run_whole : (s : Subject) (t : Test) (n p : ℕ) → ((c : ℕ) → holds s.table t c ≡ true) → n ≤ s.end - p
-    → run_length s t n p ≡ n
-run_whole s t zero p h l = refl
-run_whole s t (suc n) p h l =
-    let e : passes s t p ≡ true = read_passes s t p (char_at s p) true (omega arith) refl (sym (h (char_at s p))) in
-    rw e (ap (λ k. suc k) (run_whole s t n (p + 1) h (omega arith)))
+-- a verdict that is compared with the one that is wanted
+told : (a b : Bool) → not (beq a b) ≡ false → a ≡ b
+told true true e = refl
+told true false e = e
+told false true e = sym e
+told false false e = refl
 
--- behind one more character, where a character is not taken, and at the greatest count
-pub counted_more : (r : Run) (i most count c : ℕ) (start cursor after : StringCursor)
-    → Counted r i most start cursor count → count < most → most ≤ r.subject.end - start.position
+-- behind one more character
+pub counted_more : (r : Run) (i most count c : ℕ) (wanted says : Bool) (start cursor after : StringCursor)
+    → Counted r i wanted most start cursor count → count < most → most ≤ r.subject.end - start.position
     → c ≡ char_at r.subject cursor.position
-    → ((j : ℕ) (t : Test) → TestStands r.words i j t → true ≡ holds r.subject.table t c)
+    → ((j : ℕ) (t : Test) → TestStands r.words i j t → says ≡ holds r.subject.table t c)
+    → not (beq says wanted) ≡ false
     → after.position ≡ cursor.position + 1 → r.stands after (cursor.position + 1)
-    → Counted r i most start after (count + 1)
-counted_more r i most count c start cursor after k l room e h at there = record {
+    → Counted r i wanted most start after (count + 1)
+counted_more r i most count c wanted says start cursor after k l room e h same at there = record {
   within = omega arith;
   position = omega (arith, k.position);
   stands = stands_at_own r.stands after (cursor.position + 1) at there;
-  each = λ j t s.
+  each = λ j q t s from to.
       let inside : cursor.position < r.subject.end = omega (arith, k.position) in
-      let on = run_goes r.subject t (most - count) cursor.position (omega arith)
-      (read_passes r.subject t cursor.position c true inside e (h j t s)) in
-      let one : most - count - 1 ≡ most - (count + 1) = omega arith in
-      rw (k.each j t s, on, one, at) (omega arith);
+      elim (cases_lt q cursor.position) [
+        | (inl before) ↦ k.each j q t s from before
+        | (inr behind) ↦
+            let here : q ≡ cursor.position = omega (arith, behind, to, at) in
+            ap (λ x. passes r.subject t x) here
+            ∙ read_passes r.subject t cursor.position c says inside e (h j t s) ∙ told says wanted same
+      ];
 }
-
-pub counted_stop : (r : Run) (i most count c : ℕ) (start cursor : StringCursor) → Counted r i most start cursor count
-    → count < most → most ≤ r.subject.end - start.position → c ≡ char_at r.subject cursor.position
-    → ((j : ℕ) (t : Test) → TestStands r.words i j t → false ≡ holds r.subject.table t c) → (j : ℕ) (t : Test)
-    → TestStands r.words i j t → count ≡ run_length r.subject t most start.position
-counted_stop r i most count c start cursor k l room e h j t s =
-    let inside : cursor.position < r.subject.end = omega (arith, k.position) in
-    omega (
-      arith,
-      k.each j t s,
-      run_stops r.subject t (most - count) cursor.position
-          (read_passes r.subject t cursor.position c false inside e (h j t s)),
-    )
-
-pub counted_all : (r : Run) (i most count : ℕ) (start cursor : StringCursor) → Counted r i most start cursor count
-    → most ≤ count → (j : ℕ) (t : Test) → TestStands r.words i j t → count ≡ run_length r.subject t most start.position
-counted_all r i most count start cursor k l j t s =
-    let none : most - count ≡ 0 = omega arith in
-    sym (k.each j t s ∙ rw none (omega arith))
 
 pub most_left : (s : Subject) (high p : ℕ) → most_from s high p ≤ s.end - p
 most_left s high p = grind (arith, nat_tests)

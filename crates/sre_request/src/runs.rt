@@ -2,16 +2,18 @@
 //!
 //! The opcode is looked at once, before a loop of its own that holds what it needs of the words.
 
-ghost use Rattle.std.specs.Prelude.{◌≡◌, ℕ, ◌+◌, ◌-◌, ◌≤◌, Bool, length, slice_range};
+ghost use Rattle.std.specs.Prelude.{◌≡◌, ℕ, ◌+◌, ◌-◌, ◌<◌, ◌≤◌, Bool, true, false, cond, length, slice_range};
 ghost use Rattle.sre_chars.specs.Numbers.{category_number};
 ghost use Rattle.sre_chars.specs.Categories.{category};
 ghost use Rattle.sre_chars.specs.Tables.{ascii_table, is_between};
 ghost use Rattle.sre_model.specs.Tree.{Test, Charset};
 ghost use Rattle.sre_model.specs.Characters.{item_holds, holds};
+ghost use Rattle.sre_model.specs.Subject.{passes};
+ghost use Rattle.sre_model.specs.CountedRuns.{Ended};
 ghost use Rattle.sre_model.specs.Ways.{most_from, run_length, longest_run};
 ghost use Rattle.sre_model.specs.Grammar.{Opcode};
 ghost use Rattle.sre_model.specs.Standing.{TestStands, HasTest};
-ghost use Rattle.sre_request.specs.Requests.{run_of};
+ghost use Rattle.sre_request.specs.Requests.{end_of, run_of};
 
 use crate::one_character::{opcode, takes};
 use crate::operands::{category_code, operand, word};
@@ -35,30 +37,36 @@ fn most<S: StrDrive>(req: &Request<'_, S>, high: u32, cursor: StringCursor) -> u
     }
 }
 
-// A run of any characters.
+// A run of any characters, each of which is taken.
 #[inline(always)]
 fn run_any<S: StrDrive>(
     req: &Request<'_, S>,
+    wanted: bool,
     most: usize,
     start: StringCursor,
 ) -> (usize, StringCursor)
     requires stands { (run_of req.now).stands start start.position }
     requires most { most ≤ req.now.end - start.position }
-    ensures count { result.0 ≡ most }
-    ensures position { result.1.position ≡ start.position + most }
+    ensures count { result.0 ≡ cond wanted most 0 }
+    ensures position { result.1.position ≡ start.position + result.0 }
     ensures stands { (run_of req.now).stands result.1 result.1.position }
 {
+    if !wanted {
+        return (0, start);
+    }
     let mut after = start;
     req.string().skip(&mut after, most);
     (most, after)
 }
 
-// The longest run of the test whose opcode is at a place, and the cursor behind it.
+// The longest run of characters of which the test whose opcode is at a place says what is wanted, and the cursor behind
+// it.
 #[inline(always)]
 fn run_tested<S: StrDrive>(
     req: &Request<'_, S>,
     place: usize,
     opcode: SreOpcode,
+    wanted: bool,
     most: usize,
     start: StringCursor,
 ) -> (usize, StringCursor)
@@ -66,16 +74,13 @@ fn run_tested<S: StrDrive>(
     requires test { HasTest (run_of req.now).words place }
     requires stands { (run_of req.now).stands start start.position }
     requires most { most ≤ req.now.end - start.position }
-    ensures count { (j : ℕ) (t : Test) → TestStands (run_of req.now).words place j t
-        → result.0 ≡ run_length (run_of req.now).subject t most start.position }
-    ensures position { result.1.position ≡ start.position + result.0 }
-    ensures stands { (run_of req.now).stands result.1 result.1.position }
+    ensures { Ended (run_of req.now) place wanted most start result.1 result.0 }
 {
     let mut cursor = start;
     let mut count = 0;
     'character: while count < most {
         let (character, after) = read(req, cursor);
-        if !takes(req, place, opcode, character) {
+        if takes(req, place, opcode, character) != wanted {
             return (count, cursor);
         }
         cursor = after;
@@ -141,12 +146,13 @@ impl<'a> Taker for OfCategory<'a> {
     }
 }
 
-// The longest run of the test at a place, whose operands are at hand, and the cursor behind it.
+// The same of the test at a place whose operands are at hand.
 #[inline(always)]
 fn run_while<S: StrDrive, T: Taker>(
     req: &Request<'_, S>,
     place: usize,
     taker: &T,
+    wanted: bool,
     most: usize,
     start: StringCursor,
 ) -> (usize, StringCursor)
@@ -154,16 +160,13 @@ fn run_while<S: StrDrive, T: Taker>(
         → T.takes taker.now c ≡ holds (run_of req.now).subject.table t c }
     requires stands { (run_of req.now).stands start start.position }
     requires most { most ≤ req.now.end - start.position }
-    ensures count { (j : ℕ) (t : Test) → TestStands (run_of req.now).words place j t
-        → result.0 ≡ run_length (run_of req.now).subject t most start.position }
-    ensures position { result.1.position ≡ start.position + result.0 }
-    ensures stands { (run_of req.now).stands result.1 result.1.position }
+    ensures { Ended (run_of req.now) place wanted most start result.1 result.0 }
 {
     let mut cursor = start;
     let mut count = 0;
     'character: while count < most {
         let (character, after) = read(req, cursor);
-        if !taker.takes(character) {
+        if taker.takes(character) != wanted {
             return (count, cursor);
         }
         cursor = after;
@@ -172,12 +175,13 @@ fn run_while<S: StrDrive, T: Taker>(
     (count, cursor)
 }
 
-// The longest run of an IN at a place, and the cursor behind it. A set of one RANGE, CATEGORY or CHARSET is told by its
-// length and first word, and has a loop of its own.
+// The same of an IN at a place. A set of one RANGE, CATEGORY or CHARSET is told by its length and first word, and has a
+// loop of its own.
 #[inline(always)]
 fn run_in_set<S: StrDrive>(
     req: &Request<'_, S>,
     place: usize,
+    wanted: bool,
     most: usize,
     start: StringCursor,
 ) -> (usize, StringCursor)
@@ -185,10 +189,7 @@ fn run_in_set<S: StrDrive>(
     requires test { HasTest (run_of req.now).words place }
     requires stands { (run_of req.now).stands start start.position }
     requires most { most ≤ req.now.end - start.position }
-    ensures count { (j : ℕ) (t : Test) → TestStands (run_of req.now).words place j t
-        → result.0 ≡ run_length (run_of req.now).subject t most start.position }
-    ensures position { result.1.position ≡ start.position + result.0 }
-    ensures stands { (run_of req.now).stands result.1 result.1.position }
+    ensures { Ended (run_of req.now) place wanted most start result.1 result.0 }
 {
     let words = req.pattern_codes().items();
     let (skip, set) = (operand(words, place, 1), place + 2);
@@ -196,17 +197,53 @@ fn run_in_set<S: StrDrive>(
     if skip == 5 && first == SreOpcode::RANGE as u32 {
         let low = operand(words, set, 1);
         let high = operand(words, set, 2);
-        return run_while(req, place, &Between { low, high }, most, start);
+        return run_while(req, place, &Between { low, high }, wanted, most, start);
     }
     if skip == 4 && first == SreOpcode::CATEGORY as u32 {
         let (uni, code) = (req.pattern_codes().uni(), category_code(words, set + 1));
-        return run_while(req, place, &OfCategory { uni, code }, most, start);
+        return run_while(req, place, &OfCategory { uni, code }, wanted, most, start);
     }
     if skip == 11 && first == SreOpcode::CHARSET as u32 {
         let bits = Bits { words, place: set };
-        return run_while(req, place, &bits, most, start);
+        return run_while(req, place, &bits, wanted, most, start);
     }
-    run_tested(req, place, SreOpcode::IN, most, start)
+    run_tested(req, place, SreOpcode::IN, wanted, most, start)
+}
+
+// The longest run of characters of which the test at a place says what is wanted, from a cursor on, of at most so many
+// characters of the window, and the cursor behind it.
+#[inline(always)]
+fn run_wanted<S: StrDrive>(
+    req: &Request<'_, S>,
+    place: usize,
+    wanted: bool,
+    most: usize,
+    start: StringCursor,
+) -> (usize, StringCursor)
+    requires test { HasTest (run_of req.now).words place }
+    requires stands { (run_of req.now).stands start start.position }
+    requires most { most ≤ req.now.end - start.position }
+    ensures { Ended (run_of req.now) place wanted most start result.1 result.0 }
+{
+    // An arm for each opcode, so that each loop knows its own.
+    macro_rules! run_each {
+        ($($opcode:ident)*) => {
+            match opcode(req, place) {
+                SreOpcode::ANY_ALL => run_any(req, wanted, most, start),
+                SreOpcode::IN => run_in_set(req, place, wanted, most, start),
+                $(SreOpcode::$opcode => {
+                    run_tested(req, place, SreOpcode::$opcode, wanted, most, start)
+                })*
+                _ => unreachable!(),
+            }
+        };
+    }
+    run_each!(
+        ANY CATEGORY
+        LITERAL LITERAL_IGNORE LITERAL_LOC_IGNORE LITERAL_UNI_IGNORE
+        NOT_LITERAL NOT_LITERAL_IGNORE NOT_LITERAL_LOC_IGNORE NOT_LITERAL_UNI_IGNORE
+        IN_IGNORE IN_LOC_IGNORE IN_UNI_IGNORE
+    )
 }
 
 /// The longest run of the test at a place from a cursor on, of at most so many characters of the window, and the cursor
@@ -226,23 +263,7 @@ pub fn run_up_to<S: StrDrive>(
     ensures position { result.1.position ≡ start.position + result.0 }
     ensures stands { (run_of req.now).stands result.1 result.1.position }
 {
-    // An arm for each opcode, so that each loop knows its own.
-    macro_rules! run_each {
-        ($($opcode:ident)*) => {
-            match opcode(req, place) {
-                SreOpcode::ANY_ALL => run_any(req, most, start),
-                SreOpcode::IN => run_in_set(req, place, most, start),
-                $(SreOpcode::$opcode => run_tested(req, place, SreOpcode::$opcode, most, start),)*
-                _ => unreachable!(),
-            }
-        };
-    }
-    run_each!(
-        ANY CATEGORY
-        LITERAL LITERAL_IGNORE LITERAL_LOC_IGNORE LITERAL_UNI_IGNORE
-        NOT_LITERAL NOT_LITERAL_IGNORE NOT_LITERAL_LOC_IGNORE NOT_LITERAL_UNI_IGNORE
-        IN_IGNORE IN_LOC_IGNORE IN_UNI_IGNORE
-    )
+    run_wanted(req, place, true, most, start)
 }
 
 /// The longest run of the test at a place from a cursor on: how many characters it has, inside the window and up to
@@ -262,4 +283,29 @@ pub fn longest_run<S: StrDrive>(
 {
     let most = most(req, high, start);
     run_up_to(req, place, most, start)
+}
+
+/// The first cursor from one on, inside the window, whose character the test at a place takes, or one at the window's
+/// end.
+#[inline(never)]
+pub fn first_taken<S: StrDrive>(
+    req: &Request<'_, S>,
+    place: usize,
+    start: StringCursor,
+) -> StringCursor
+    requires test { HasTest (run_of req.now).words place }
+    requires stands { (run_of req.now).stands start start.position }
+    requires inside { start.position ≤ end_of req.now }
+    ensures passed { (j q : ℕ) (t : Test) → TestStands (run_of req.now).words place j t → start.position ≤ q
+        → q < result.position → passes (run_of req.now).subject t q ≡ false }
+    ensures taken { result.position < end_of req.now → (j : ℕ) (t : Test)
+        → TestStands (run_of req.now).words place j t
+        → passes (run_of req.now).subject t result.position ≡ true }
+    ensures from { start.position ≤ result.position }
+    ensures inside { result.position ≤ end_of req.now }
+    ensures stands { (run_of req.now).stands result result.position }
+{
+    let left = req.end().saturating_sub(start.position());
+    let found = run_wanted(req, place, false, left, start);
+    found.1
 }

@@ -4,7 +4,7 @@ use Rattle.sre_request.specs.Requests.{run_of}
 use Rattle.sre_request.proofs.runs.run_tested.Given as goal
 
 abbrev pub invariant-character : goal.invariant-character
-invariant-character g l = Counted (run_of l.req) l.place l.most l.fn.start l.cursor l.count
+invariant-character g l = Counted (run_of l.req) l.place l.wanted l.most l.fn.start l.cursor l.count
 
 abbrev pub decreases-character : goal.decreases-character
 decreases-character g l = l.most - l.count
