@@ -13,6 +13,7 @@ pub mod FoundLaws
 pub mod WalkLaws
 pub mod FirstWays
 pub mod FirstCharacters
+pub mod MarksApart
 pub mod CodesRead
 pub mod Blocks
 pub mod Members

@@ -9,6 +9,7 @@ pub mod Roles
 pub mod Width
 pub mod Found
 pub mod FirstCharacters
+pub mod References
 pub mod WalkBounds
 pub mod Shown
 pub mod Rows
