@@ -12,3 +12,4 @@ pub mod ReadConditions
 pub mod Descending
 pub mod ReadFronts
 pub mod Checked
+pub mod Scanning

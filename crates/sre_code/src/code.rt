@@ -22,6 +22,7 @@ mod descent;
 mod error;
 mod item;
 mod part;
+mod references;
 mod region;
 mod repeat;
 mod set;

@@ -1,0 +1,41 @@
+-- Instructions: where the next one stands, bodies included.
+-- Words of the check's contracts; what sre_engine makes public does not rest on it.
+use Rattle.std.specs.Prelude.{ℕ, ◌+◌, ◌≡◌, ◌<◌, ◌⊎◌, List, Option, Some, None}
+use Rattle.sre_chars.specs.declared.constants.SreOpcode.{SreOpcode}
+use Rattle.sre_model.specs.Tree.{Test}
+use Rattle.sre_model.specs.Grammar.{Opcode}
+use Rattle.sre_model.specs.Roles.{Role, ToFail, ToEnd, ToStand, ToMark, ToBranch, ToJump, ToRun, ToRepeat, ToLoop}
+use Rattle.sre_model.specs.Roles.{ToRepeatPossessively, ToGroup, ToLook, role}
+use Rattle.sre_code.specs.Reading.{ReadsTest}
+
+-- how many words an instruction has before its body or what is behind it: with a BRANCH and a JUMP goes the length word
+-- behind them; None for tests, which differ in that, and for references and conditions
+abbrev pub own_words : Role → Option ℕ
+own_words ToFail = Some 1
+own_words ToEnd = Some 1
+own_words (ToLoop order) = Some 1
+own_words ToStand = Some 2
+own_words ToMark = Some 2
+own_words ToBranch = Some 2
+own_words ToGroup = Some 2
+own_words ToJump = Some 3
+own_words (ToLook sign) = Some 3
+own_words (ToRun kind) = Some 4
+own_words ToRepeat = Some 4
+own_words ToRepeatPossessively = Some 4
+own_words _ = None
+
+-- at i stands an instruction that is neither a reference nor a condition, and the next one at k
+pub record Behind (ws : List ℕ) (i k : ℕ) : Type 0 where
+  pub one :
+      ((t : Test) × ReadsTest ws i k t)
+      ⊎ ((o : SreOpcode) × (n : ℕ) × Opcode ws i o × (own_words (role o) ≡ Some n) × (k ≡ i + n))
+
+-- no such instruction stands at i
+pub record NoneBehind (ws : List ℕ) (i : ℕ) : Type 0 where
+  pub none : (k : ℕ) → Behind ws i k → ⊥
+
+-- where the next instruction stands, or that none such is at i
+abbrev pub NextAt : List ℕ → ℕ → Option ℕ → Type 0
+NextAt ws i (Some k) = (i < k) × Behind ws i k
+NextAt ws i None = NoneBehind ws i
