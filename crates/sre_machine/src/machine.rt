@@ -12,7 +12,7 @@ ghost use Rattle.sre_model.specs.Board.{BoardValue};
 ghost use Rattle.sre_model.specs.declared.Point.TheVariants.{Instruction, Alternatives, Shorter};
 ghost use Rattle.sre_model.specs.declared.Point.{Point};
 ghost use Rattle.sre_model.specs.Machine.{family, Testing, HasRun, IsAt, IsBack, Advances, Chooses, Retreats, Refuses};
-ghost use Rattle.sre_model.specs.Machine.{Skips, SkipsBoth, Stands};
+ghost use Rattle.sre_model.specs.Machine.{DemandsAny, Skips, SkipsBoth, Stands};
 ghost use Rattle.sre_request.specs.Requests.{end_of, run_of};
 
 use crate::groups::{condition, reference};
@@ -29,7 +29,7 @@ use sre_model::{Next, Point};
 use sre_request::one_character::{takes, test_end};
 use sre_request::position::holds_at;
 use sre_request::runs::longest_run;
-use sre_request::text::{back_one, read};
+use sre_request::text::{back_one, read, read_back};
 use sre_request::{Request, operands};
 use std::alloc::Allocator;
 use std::convert::TryFrom;
@@ -138,9 +138,66 @@ fn jump<S: StrDrive>(req: &Request<'_, S>, place: usize, cursor: StringCursor) -
     Next::At(place + 1 + skip as usize, cursor)
 }
 
-// Whether nothing can come of standing at an instruction: a LITERAL stands there, and the character is another.
+// The character that has to come next where the machine stands at a place, if a LITERAL tells it, behind MARKs.
+#[inline(always)]
+pub(super) fn first_literal<S: StrDrive>(
+    req: &Request<'_, S>,
+    start: usize,
+    cursor: StringCursor,
+) -> Option<u32>
+    requires { HasRun (run_of req.now) (Instruction start) cursor }
+    ensures { DemandsAny (run_of req.now) start result }
+{
+    let mut place = start;
+    'mark: loop {
+        match opcode(req, place, cursor) {
+            SreOpcode::MARK => {
+                let _number = operand(req, place, 1);
+                place += 2;
+            }
+            SreOpcode::LITERAL => return Some(operand(req, place, 1)),
+            _ => return None,
+        }
+    }
+}
+
+// Whether a character that has to come next, if it is known, does not.
+#[inline(always)]
+pub(super) fn lacks<S: StrDrive>(
+    req: &Request<'_, S>,
+    wanted: Option<u32>,
+    cursor: StringCursor,
+) -> bool
+    requires { (run_of req.now).stands cursor cursor.position }
+    ensures { result ≡ true
+        → (i : ℕ) → DemandsAny (run_of req.now) i wanted → Refuses (run_of req.now) i cursor.position }
+{
+    let Some(value) = wanted else {
+        return false;
+    };
+    if cursor.position() >= req.end() {
+        return true;
+    }
+    let found = read(req, cursor);
+    if found.0 == value {
+        return false;
+    }
+    true
+}
+
+// Whether nothing can come of standing at an instruction, as the next character tells.
 #[inline(always)]
 pub(super) fn refuses<S: StrDrive>(req: &Request<'_, S>, place: usize, cursor: StringCursor) -> bool
+    requires { HasRun (run_of req.now) (Instruction place) cursor }
+    ensures { result ≡ true → Refuses (run_of req.now) place cursor.position }
+{
+    let wanted = first_literal(req, place, cursor);
+    lacks(req, wanted, cursor)
+}
+
+// The same at a LITERAL alone: a choice among many alternatives has no time to look behind MARKs.
+#[inline(always)]
+fn refuses_here<S: StrDrive>(req: &Request<'_, S>, place: usize, cursor: StringCursor) -> bool
     requires { HasRun (run_of req.now) (Instruction place) cursor }
     ensures { result ≡ true → Refuses (run_of req.now) place cursor.position }
 {
@@ -150,8 +207,8 @@ pub(super) fn refuses<S: StrDrive>(req: &Request<'_, S>, place: usize, cursor: S
                 return true;
             }
             let value = operand(req, place, 1);
-            let found = read(req, cursor);
-            if found.0 == value {
+            let next = read(req, cursor);
+            if next.0 == value {
                 return false;
             }
             true
@@ -195,7 +252,7 @@ fn first_alternative<S: StrDrive>(
         if length == 0 {
             return None;
         }
-        if !refuses(req, place + 1, cursor) {
+        if !refuses_here(req, place + 1, cursor) {
             return Some(place);
         }
         place += length;
@@ -239,6 +296,13 @@ fn first_shorter<S: StrDrive>(
         ((b : BoardValue) → Advances (run_of req.now) (Shorter tail count) start b Next.Back b)
         (λ x. SkipsBoth (run_of req.now) (Shorter tail count) start (Instruction tail) (Shorter tail x.0) x.1) }
 {
+    if count == 0 {
+        return None;
+    }
+    let nearest = back_one(req, start);
+    let Some(value) = first_literal(req, tail, nearest) else {
+        return Some((count - 1, nearest));
+    };
     let mut cursor = start;
     let mut left = count;
     'count: loop {
@@ -246,8 +310,9 @@ fn first_shorter<S: StrDrive>(
             return None;
         }
         left -= 1;
-        cursor = back_one(req, cursor);
-        if !refuses(req, tail, cursor) {
+        let step = read_back(req, cursor);
+        cursor = step.1;
+        if step.0 == value {
             return Some((left, cursor));
         }
     }

@@ -25,6 +25,7 @@ use Rattle.sre_model.specs.Machine.{Running, Repeating, Looping, RepeatingPosses
 use Rattle.sre_model.specs.Machine.{Asking, Nothing, Placed}
 use Rattle.sre_model.specs.Machine.{InFamily, Moves, MovesAt, Runs, turns, Comes, stops, ends, goes, splits, enters}
 use Rattle.sre_model.specs.Machine.{Run, Waits, otherwise, kept, Goes, GoesBoth, Later, spot, HasRun, IsAt, Refuses}
+use Rattle.sre_model.specs.Machine.{Skips, SkipsBoth}
 use Rattle.sre_model.specs.declared.Next.TheVariants as next
 use Rattle.sre_model.proofs.Words.{same_word, same_opcode, same_at, opcode_within}
 use Rattle.sre_model.proofs.Unique.{test_same, same_reference_fold}
@@ -183,6 +184,14 @@ run_goes {ws} {s} {x} y h d = go (comes (Go y) h d)
     go : {os : List Way} {n : ℕ} → Comes ws s x (Go y) os n → CanRun ws s y
     go (goes e) = record { outcomes = _; turns = _; runs = e }
 
+-- nothing comes of a turn that goes to where nothing comes
+pub nothing_after : {ws : List ℕ} {s : Subject} {x : Spot} {os : List Way} {n : ℕ} (y : Spot) → Moves ws s x (Go y)
+    → ((os : List Way) (n : ℕ) → Runs ws s y os n → os ≡ []) → Runs ws s x os n → os ≡ []
+nothing_after {ws} {s} {x} y h no_ d = go (comes (Go y) h d)
+  where
+    go : {os : List Way} {n : ℕ} → Comes ws s x (Go y) os n → os ≡ []
+    go (goes e) = no_ _ _ e
+
 pub run_splits : {ws : List ℕ} {s : Subject} {x : Spot} {os : List Way} {n : ℕ} (y z : Spot) → Moves ws s x (Split y z)
     → Runs ws s x os n → CanRun ws s y × CanRun ws s z
 run_splits {ws} {s} {x} y z h d = go (comes (Split y z) h d)
@@ -301,6 +310,10 @@ both_pass r i second c b no_ all limit g =
           subst (λ x. Waits r b.choices (x ++ g.next) all g.later) (no_ b.frames b.marks g.now g.turns g.runs) g.waits;
       within = omega (arith, g.within);
     }
+
+pub both_skips : (r : Run) (pt : Point) (start : StringCursor) (i : ℕ) (second : Point) (c : StringCursor)
+    → Refuses r i c.position → SkipsBoth r pt start (Instruction i) second c → Skips r pt start second c
+both_skips r pt start i second c none s b all limit g = both_pass r i second c b none all limit (s.skips b all limit g)
 
 -- the second waits on the board, and the machine goes on at the first
 pub both_wait : (r : Run) (i : ℕ) (z : Spot) (c : StringCursor) (b b' : BoardValue) (cs : List Choice)

@@ -1,6 +1,6 @@
 -- Turns at tests, positions, marks, jumps, and at the ends of a region.
-use Rattle.std.proofs.Common.{◌≡◌, ◌≢◌, ℕ, ◌+◌, ◌<◌, ◌≤◌, Bool, true, false, nat_eq, List, length, refl, sym, ap, ◌∙◌}
-use Rattle.std.proofs.Common.{subst, arith}
+use Rattle.std.proofs.Common.{◌≡◌, ◌≢◌, ℕ, ◌+◌, ◌<◌, ◌≤◌, Bool, true, false, nat_eq, nat_lt, ◌&&◌, List, length, refl}
+use Rattle.std.proofs.Common.{sym, ap, ◌∙◌, subst, arith}
 use Rattle.std.proofs.lemmas.Bool.Decides.{nat_tests}
 use Rattle.sre_chars.specs.Numbers.{at_number}
 use Rattle.sre_chars.specs.declared.constants.SreAtCode.{SreAtCode}
@@ -8,19 +8,22 @@ use Rattle.sre_chars.specs.declared.constants.SreOpcode.{SreOpcode}
 use Rattle.sre_chars.specs.declared.constants.SreOpcode.TheVariants as opcode
 use Rattle.sre_chars.specs.declared.string.StringCursor.{StringCursor}
 use Rattle.sre_model.specs.Tree.{Test, Literal, Plain}
-use Rattle.sre_model.specs.Marks.{set_mark}
+use Rattle.sre_model.specs.Marks.{Marks, set_mark}
 use Rattle.sre_model.specs.Characters.{holds}
-use Rattle.sre_model.specs.Subject.{passes, char_at, holds_at}
+use Rattle.sre_model.specs.Subject.{Subject, passes, char_at, holds_at}
 use Rattle.sre_model.specs.Ways.{Way}
 use Rattle.sre_model.specs.Grammar.{Word, Opcode}
 use Rattle.sre_model.specs.Board.{BoardValue}
+use Rattle.sre_model.specs.declared.Frame.{Frame}
 use Rattle.sre_model.specs.declared.Point.TheVariants.{Instruction}
-use Rattle.sre_model.specs.Machine.{family, Failing, Ending, Testing, Standing, Marking, Jumping, Nothing, Run, Goes}
-use Rattle.sre_model.specs.Machine.{Later, HasRun, Refuses}
+use Rattle.sre_model.specs.Moves.{spot_at, Go}
+use Rattle.sre_model.specs.Machine.{family, Failing, Ending, Testing, Standing, Marking, Jumping, Nothing, Run, Moves}
+use Rattle.sre_model.specs.Machine.{Goes, Later, HasRun, Refuses, Demands}
 use Rattle.sre_model.specs.Standing.{TestStands, HasTest}
 use Rattle.sre_model.specs.declared.Next.TheVariants as next
 use Rattle.sre_model.proofs.Words.{same_word, at_low, word_of, word_within}
-use Rattle.sre_model.proofs.Moving.{in_family, at_instruction, run_nothing, turn_stops, turn_ends, turn_goes}
+use Rattle.sre_model.proofs.Moving.{in_family, at_instruction, run_nothing, run_goes, nothing_after, has_run}
+use Rattle.sre_model.proofs.Moving.{turn_stops, turn_ends, turn_goes}
 use Rattle.sre_model.proofs.Passing.{past_end, read_passes, stands_at_own}
 use Rattle.sre_model.proofs.Placed.{set_placed}
 use Rattle.sre_model.proofs.Families.{is_literal}
@@ -167,6 +170,44 @@ refuses_test : (r : Run) (i j p : ℕ) (t : Test) (o : SreOpcode) → Opcode r.w
     → TestStands r.words i j t → passes r.subject t p ≡ false → Refuses r i p
 refuses_test r i j p t o w f st n fs m os k x =
     run_nothing (at_instruction o Testing f w (record { end = j; test = t; stands = st; is = rw n refl })) x
+
+-- a literal demands its character, and nothing comes of a mark behind which nothing comes
+pub literal_demands : (r : Run) (i v : ℕ) → Opcode r.words i opcode.LITERAL → Word r.words (i + 1) v → Demands r i v
+literal_demands r i v w wv p n =
+    refuses_test r i (i + 2) p (Literal Plain v) opcode.LITERAL w refl (literal_there r.words i v w wv) n
+
+mark_moves : (r : Run) (i p v : ℕ) (fs : List Frame) (m : Marks) → Opcode r.words i opcode.MARK
+    → Word r.words (i + 1) v → Moves r.words r.subject (spot_at (Instruction i) fs p m)
+    (Go (spot_at (Instruction (i + 2)) fs p (set_mark m v p)))
+mark_moves r i p v fs m w wv =
+    at_instruction opcode.MARK Marking refl w (record { number = v; there = wv; is = refl })
+
+pub mark_refuses : (r : Run) (i p : ℕ) → Opcode r.words i opcode.MARK → Refuses r (i + 2) p → Refuses r i p
+mark_refuses r i p w none fs m os n d =
+    let h = (in_family opcode.MARK Marking refl w d).1 in
+    nothing_after (spot_at (Instruction (i + 2)) fs p (set_mark m h.number p)) (mark_moves r i p h.number fs m w h.there)
+    (λ os' n' e. none fs (set_mark m h.number p) os' n' e) d
+
+pub mark_run : (r : Run) (i : ℕ) (c : StringCursor) → Opcode r.words i opcode.MARK → HasRun r (Instruction i) c
+    → HasRun r (Instruction (i + 2)) c
+mark_run r i c w x =
+    let h = (in_family opcode.MARK Marking refl w x.runs).1 in
+    let after = set_mark x.marks h.number c.position in
+    has_run r (Instruction (i + 2)) x.frames after c x.stands
+    (run_goes (spot_at (Instruction (i + 2)) x.frames c.position after)
+    (mark_moves r i c.position h.number x.frames x.marks w h.there) x.runs)
+
+-- a character that is read, inside the window or not, and is another one than a literal's
+pub other_character : (s : Subject) (v ch p : ℕ) → ch ≡ char_at s p → ch ≢ v → passes s (Literal Plain v) p ≡ false
+other_character s v ch p e unlike =
+    and_never (nat_lt p s.end) (nat_eq v (char_at s p)) (other v (char_at s p) (λ x. unlike (e ∙ sym x)))
+  where
+    and_never : (a b : Bool) → b ≡ false → (a && b) ≡ false
+    and_never true b is = is
+    and_never false b is = refl
+
+    other : (v ch : ℕ) → v ≢ ch → nat_eq v ch ≡ false
+    other v ch ne = grind (arith, nat_tests)
 
 -- a literal that is not the character refuses, and so does each at the window's end
 pub literal_refuses : (r : Run) (i v ch : ℕ) (c : StringCursor) → Opcode r.words i opcode.LITERAL

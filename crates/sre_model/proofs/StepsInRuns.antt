@@ -12,10 +12,12 @@ use Rattle.sre_model.specs.Ways.{Way, unlimited, run_length, longest_run}
 use Rattle.sre_model.specs.Grammar.{Word, word, Opcode, skip, test_opcode, run_opcode}
 use Rattle.sre_model.specs.Board.{BoardValue}
 use Rattle.sre_model.specs.declared.Frame.{Frame}
+use Rattle.sre_model.specs.declared.Point.{Point}
 use Rattle.sre_model.specs.declared.Point.TheVariants.{Instruction, Shorter, Longer}
 use Rattle.sre_model.specs.Moves.{spot_at, Stop, Split, Go}
 use Rattle.sre_model.specs.MovesInRuns.{RunOperands}
 use Rattle.sre_model.specs.Machine.{family, Running, Moves, Runs, turns, Run, Goes, GoesBoth, Later, spot, HasRun}
+use Rattle.sre_model.specs.Machine.{Skips, SkipsBoth}
 use Rattle.sre_model.specs.Standing.{TestStands, HasTest}
 use Rattle.sre_model.specs.declared.Next.TheVariants as next
 use Rattle.sre_model.proofs.Words.{word_of, word_there, opcode_within}
@@ -23,6 +25,7 @@ use Rattle.sre_model.proofs.Passing.{past_end, read_passes}
 use Rattle.sre_model.proofs.Longest.{goes_on, run_at_most, run_inside}
 use Rattle.sre_model.proofs.Moving.{in_family, at_instruction, has_run, run_splits, turn_stops, turn_splits, both_last}
 use Rattle.sre_model.proofs.Moving.{turn_goes}
+use Rattle.sre_model.proofs.StepsInBranches.{positive}
 
 -- shorter counts
 shorter_stop : (r : Run) (t k p : ℕ) (fs : List Frame) (m : Marks) → k ≡ 0
@@ -64,6 +67,20 @@ shorter_run r t k j c c' e place there x =
     let s = run_splits _ _
     (shorter_moves r t k j c.position c'.position x.frames x.marks e place (shorter_within r x.runs)) x.runs in
     (has_run r (Instruction t) x.frames x.marks c' there s.0, has_run r (Shorter t j) x.frames x.marks c' there s.1)
+
+-- the tail one character back, and the counts that are shorter still
+pub shorter_skips : (r : Run) (pt : Point) (start : StringCursor) (t k : ℕ) (c c' : StringCursor) → (k ≡ 0 → ⊥)
+    → c.position ≡ c'.position + 1 → r.stands c' c'.position → HasRun r (Shorter t k) c
+    → Skips r pt start (Shorter t k) c → SkipsBoth r pt start (Instruction t) (Shorter t (k - 1)) c'
+shorter_skips r pt start t k c c' more place there x skips =
+    let less : k ≡ suc (k - 1) = omega (arith, positive k more) in
+    let s = shorter_run r t k (k - 1) c c' less place there x in
+    record {
+      runs = s.0;
+      others = s.1;
+      skips = λ b all limit g.
+          shorter_both r t k (k - 1) c c' b less place there all limit (skips b all limit g);
+    }
 
 pub shorter_last : (r : Run) (i t k : ℕ) (c : StringCursor) (b : BoardValue) → k ≡ 0 → (all : List Way) (limit : ℕ)
     → GoesBoth r all limit (spot (Instruction i) c b) (spot (Shorter t k) c b) c b.choices

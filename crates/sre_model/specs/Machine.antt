@@ -1,14 +1,15 @@
 -- The machine: what standing at a point of the words means, and what a turn keeps.
 -- Words of the machine's contracts; what sre_engine makes public does not rest on it.
-use Rattle.std.specs.Prelude.{ℕ, suc, ◌+◌, ◌-◌, ◌≡◌, ◌≤◌, Bool, List, [], ◌∷◌, ◌++◌, drop, length, Option, Some, None}
+use Rattle.std.specs.Prelude.{⊤, ℕ, suc, ◌+◌, ◌-◌, ◌≡◌, ◌≤◌, Bool, false, List, [], ◌∷◌, ◌++◌, drop, length}
+use Rattle.std.specs.Prelude.{Option, Some, None}
 use Rattle.std.specs.List.{filter}
 use Rattle.sre_chars.specs.declared.constants.SreOpcode.{SreOpcode}
 use Rattle.sre_chars.specs.declared.string.StringCursor.{StringCursor}
-use Rattle.sre_model.specs.Tree.{Tree, Order, RunKind, Sign}
+use Rattle.sre_model.specs.Tree.{Tree, Order, RunKind, Sign, Literal, Plain}
 use Rattle.sre_model.specs.Roles.{Role, ToFail, ToEnd, ToTest, ToStand, ToMark, ToBranch, ToJump, ToRun, ToRepeat}
 use Rattle.sre_model.specs.Roles.{ToLoop, ToRepeatPossessively, ToGroup, ToLook, ToRefer, ToAsk, ToNothing, role}
 use Rattle.sre_model.specs.Marks.{Marks, mark_at, no_marks}
-use Rattle.sre_model.specs.Subject.{Subject}
+use Rattle.sre_model.specs.Subject.{Subject, passes}
 use Rattle.sre_model.specs.Ways.{Way, here, ways}
 use Rattle.sre_model.specs.Grammar.{Opcode}
 use Rattle.sre_model.specs.Board.{Choice, Else, Keep, BoardValue}
@@ -286,3 +287,12 @@ Decides r all (Some c) m =
 -- whether an end is accepted, whatever the marks are
 abbrev pub SaysAccepted : Run → ℕ → Bool → Type 0
 SaysAccepted r p b = (m : Marks) → b ≡ r.accepts (record { stop = p; marks = m })
+
+-- nothing comes of standing at an instruction where the next character is not v
+abbrev pub Demands : Run → ℕ → ℕ → Type 0
+Demands r i v = (p : ℕ) → passes r.subject (Literal Plain v) p ≡ false → Refuses r i p
+
+-- the same of a character that is known perhaps
+abbrev pub DemandsAny : Run → ℕ → Option ℕ → Type 0
+DemandsAny r i None = ⊤
+DemandsAny r i (Some v) = Demands r i v

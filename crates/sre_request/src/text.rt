@@ -33,6 +33,20 @@ pub fn read_in_text<S: StrDrive>(req: &Request<'_, S>, cursor: StringCursor) -> 
     (character, after)
 }
 
+/// The character before a cursor, and the cursor in front of it.
+#[inline(always)]
+pub fn read_back<S: StrDrive>(req: &Request<'_, S>, cursor: StringCursor) -> (u32, StringCursor)
+    requires stands { (run_of req.now).stands cursor cursor.position }
+    requires past { 1 ≤ cursor.position }
+    ensures position { cursor.position ≡ result.1.position + 1 }
+    ensures character { result.0 ≡ char_at (run_of req.now).subject result.1.position }
+    ensures stands { (run_of req.now).stands result.1 result.1.position }
+{
+    let mut before = cursor;
+    let character = req.string().back_advance(&mut before);
+    (character, before)
+}
+
 /// The cursor one character back.
 #[inline(always)]
 pub fn back_one<S: StrDrive>(req: &Request<'_, S>, cursor: StringCursor) -> StringCursor

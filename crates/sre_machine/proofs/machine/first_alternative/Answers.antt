@@ -18,13 +18,13 @@ returns-then-length-eq0 g c = λ b all limit x.
 pub overflow_add-place : goal.overflow_add-place
 overflow_add-place g c = omega (arith, c.word_at-length.ensures.room)
 
-pub refuses-requires : goal.refuses-requires
-refuses-requires g c =
+pub refuses_here-requires : goal.refuses_here-requires
+refuses_here-requires g c =
     (alternatives_run (run_of c.args.req.now) _ _ c.args.cursor c.word_at-length.ensures.word
     (positive _ c.if-length-eq0.false) c.alternative.invariant.at).0
 
-pub returns-then-not-refuses : goal.returns-then-not-refuses
-returns-then-not-refuses g c =
+pub returns-then-not-refuses_here : goal.returns-then-not-refuses_here
+returns-then-not-refuses_here g c =
     let l : 0 < word (run_of c.args.req.now).words c.alternative.place =
     subst (λ n. 0 < n) (sym (word_of (run_of c.args.req.now).words _ _ c.word_at-length.ensures.word))
     (positive _ c.if-length-eq0.false) in
@@ -48,7 +48,7 @@ alternative-preserved g c =
           (alternatives_run (run_of c.args.req.now) _ _ c.args.cursor c.word_at-length.ensures.word l
           c.alternative.invariant.at).1;
       same = λ b all limit x.
-          both_pass (run_of c.args.req.now) _ _ c.args.cursor b (c.refuses.ensures c.if-not-refuses.false) all limit
-          (alternatives_both (run_of c.args.req.now) _ _ c.args.cursor b c.word_at-length.ensures.word l all limit
+          both_pass (run_of c.args.req.now) _ _ c.args.cursor b (c.refuses_here.ensures c.if-not-refuses_here.false)
+          all limit (alternatives_both (run_of c.args.req.now) _ _ c.args.cursor b c.word_at-length.ensures.word l all limit
           (c.alternative.invariant.same b all limit x));
     }

@@ -1,53 +1,56 @@
-use Rattle.std.proofs.Common.{◌≡◌, ◌-◌, arith, suc}
+use Rattle.std.proofs.Common.{◌-◌}
+use Rattle.sre_model.specs.declared.Point.TheVariants.{Instruction, Shorter}
+use Rattle.sre_model.specs.Machine.{SkipsBoth}
 use Rattle.sre_request.specs.Requests.{run_of}
-use Rattle.sre_model.proofs.StepsInRuns.{shorter_none, shorter_past, shorter_both, shorter_run}
-use Rattle.sre_model.proofs.Moving.{both_pass}
+use Rattle.sre_model.proofs.StepsInRuns.{shorter_none, shorter_past, shorter_skips}
 use Rattle.sre_model.proofs.StepsInBranches.{positive}
+use Rattle.sre_model.proofs.StepsAtItems.{other_character}
+use Rattle.sre_model.proofs.Moving.{both_skips}
 use Rattle.sre_machine.proofs.machine.first_shorter.Goals as goal
+
+pub returns-then-count-eq0 : goal.returns-then-count-eq0
+returns-then-count-eq0 g c = λ b all limit x.
+    shorter_none (run_of c.args.req.now) c.args.tail _ _ b c.if-count-eq0.true all limit x
+
+pub back_one-nearest-requires-clause-past : goal.back_one-nearest-requires-clause-past
+back_one-nearest-requires-clause-past g c =
+    shorter_past (run_of c.args.req.now) c.args.tail _ _ (positive _ c.if-count-eq0.false) c.requires
+
+pub first_literal-requires : goal.first_literal-requires
+first_literal-requires g c =
+    (shorter_skips (run_of c.args.req.now) _ c.args.start c.args.tail _ c.args.start c.back_one-nearest.result
+    c.if-count-eq0.false c.back_one-nearest.ensures.position c.back_one-nearest.ensures.stands c.requires
+    (λ b all limit x. x)).runs
+
+pub returns-in_default : goal.returns-in_default
+returns-in_default g c =
+    shorter_skips (run_of c.args.req.now) _ c.args.start c.args.tail _ c.args.start c.back_one-nearest.result
+    c.if-count-eq0.false c.back_one-nearest.ensures.position c.back_one-nearest.ensures.stands c.requires
+    (λ b all limit x. x)
 
 pub returns-then-left-eq0 : goal.returns-then-left-eq0
 returns-then-left-eq0 g c = λ b all limit x.
     shorter_none (run_of c.args.req.now) c.args.tail _ _ b c.if-left-eq0.true all limit
     (c.count.invariant.same b all limit x)
 
-pub back_one-cursor-requires-clause-past : goal.back_one-cursor-requires-clause-past
-back_one-cursor-requires-clause-past g c =
+pub read_back-step-requires-clause-past : goal.read_back-step-requires-clause-past
+read_back-step-requires-clause-past g c =
     shorter_past (run_of c.args.req.now) c.args.tail _ _ (positive _ c.if-left-eq0.false) c.count.invariant.at
 
-pub refuses-requires : goal.refuses-requires
-refuses-requires g c =
-    let less : c.count.left ≡ suc (c.count.left - 1) = omega (arith, positive _ c.if-left-eq0.false) in
-    (shorter_run (run_of c.args.req.now) c.args.tail c.count.left (c.count.left - 1) c.count.cursor
-    c.back_one-cursor.result less c.back_one-cursor.ensures.position c.back_one-cursor.ensures.stands
-    c.count.invariant.at).0
-
-pub returns-then-not-refuses : goal.returns-then-not-refuses
-returns-then-not-refuses g c =
-    let less : c.count.left ≡ suc (c.count.left - 1) = omega (arith, positive _ c.if-left-eq0.false) in
-    let s = shorter_run (run_of c.args.req.now) c.args.tail c.count.left (c.count.left - 1) c.count.cursor
-    c.back_one-cursor.result less c.back_one-cursor.ensures.position c.back_one-cursor.ensures.stands
-    c.count.invariant.at in
-    record {
-      runs = s.0;
-      others = s.1;
-      skips = λ b all limit x.
-          shorter_both (run_of c.args.req.now) c.args.tail c.count.left (c.count.left - 1) c.count.cursor
-          c.back_one-cursor.result b less c.back_one-cursor.ensures.position c.back_one-cursor.ensures.stands all limit
-          (c.count.invariant.same b all limit x);
-    }
+pub returns-then-step-value : goal.returns-then-step-value
+returns-then-step-value g c =
+    shorter_skips (run_of c.args.req.now) _ c.args.start c.args.tail _ c.count.cursor c.read_back-step.result.1
+    c.if-left-eq0.false c.read_back-step.ensures.position c.read_back-step.ensures.stands c.count.invariant.at
+    c.count.invariant.same
 
 pub count-preserved : goal.count-preserved
 count-preserved g c =
-    let less : c.count.left ≡ suc (c.count.left - 1) = omega (arith, positive _ c.if-left-eq0.false) in
-    let s = shorter_run (run_of c.args.req.now) c.args.tail c.count.left (c.count.left - 1) c.count.cursor
-    c.back_one-cursor.result less c.back_one-cursor.ensures.position c.back_one-cursor.ensures.stands
-    c.count.invariant.at in
-    record {
-      at = s.1;
-      same = λ b all limit x.
-          both_pass (run_of c.args.req.now) c.args.tail _ c.back_one-cursor.result b
-          (c.refuses.ensures c.if-not-refuses.false) all limit
-          (shorter_both (run_of c.args.req.now) c.args.tail c.count.left (c.count.left - 1) c.count.cursor
-          c.back_one-cursor.result b less c.back_one-cursor.ensures.position c.back_one-cursor.ensures.stands all limit
-          (c.count.invariant.same b all limit x));
-    }
+    let r = run_of c.args.req.now in
+    let before = c.read_back-step.result.1 in
+    let s : SkipsBoth r (Shorter c.args.tail c.args.count) c.args.start (Instruction c.args.tail)
+    (Shorter c.args.tail (c.count.left - 1)) before =
+    shorter_skips r _ c.args.start c.args.tail _ c.count.cursor before c.if-left-eq0.false
+    c.read_back-step.ensures.position c.read_back-step.ensures.stands c.count.invariant.at c.count.invariant.same in
+    let none = c.in-Some.ensures before.position (other_character r.subject c.in-Some.value c.read_back-step.result.0
+    before.position c.read_back-step.ensures.character c.if-step-value.false) in
+    record { at = s.others; same = both_skips r _ c.args.start _ _ before none s }
