@@ -1,5 +1,6 @@
 pub mod CategoryRows
 pub mod GrowingLists
 pub mod RisingLists
+pub mod AsciiSteps
 pub mod Beginnings
 pub mod TextPlaces

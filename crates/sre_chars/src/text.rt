@@ -19,7 +19,12 @@ fn char_after(s: &str, cursor: &StringCursor) -> (char, usize)
     ensures offset { result.1 ≡ offset_of s.now (cursor.now.position + 1) }
     ensures in_bounds { cursor.now.position < 2 ^ 63 }
 {
-    let mut rest = s[cursor.offset()..].chars();
+    let offset = cursor.offset();
+    let byte = s.as_bytes()[offset];
+    if byte < 0x80 {
+        return (char::from(byte), offset + 1);
+    }
+    let mut rest = s[offset..].chars();
     match rest.next() {
         Some(c) => (c, s.len() - rest.as_str().len()),
         None => unreachable!(),
@@ -34,7 +39,12 @@ fn char_before(s: &str, cursor: &StringCursor) -> (char, usize)
     ensures value { result.0 ≡ slice_index (chars s.now) (cursor.now.position - 1) }
     ensures offset { result.1 ≡ offset_of s.now (cursor.now.position - 1) }
 {
-    let (before, _) = s.split_at(cursor.offset());
+    let offset = cursor.offset();
+    let byte = s.as_bytes()[offset - 1];
+    if byte < 0x80 {
+        return (char::from(byte), offset - 1);
+    }
+    let (before, _) = s.split_at(offset);
     let mut front = before.chars();
     match front.next_back() {
         Some(c) => (c, front.as_str().len()),
