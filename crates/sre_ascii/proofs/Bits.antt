@@ -43,7 +43,8 @@ set_in_not b k h l = ap (λ x. nat_eq x 1) (bit_at_not w64 b k h l) ∙ other_bi
 
 -- `a & !b`
 pub set_in_first_alone : (a b k : ℕ) → b < 2 ^ 64 → k < 64
-    → nat_eq (bit_at (bit_and a (18446744073709551615 - b)) k) 1 ≡ (nat_eq (bit_at a k) 1 && not (nat_eq (bit_at b k) 1))
+    → nat_eq (bit_at (bit_and a (18446744073709551615 - b)) k) 1
+    ≡ (nat_eq (bit_at a k) 1 && not (nat_eq (bit_at b k) 1))
 set_in_first_alone a b k h l =
     ap (λ x. nat_eq x 1) (bit_at_and a (18446744073709551615 - b) k ∙ ap (min (bit_at a k)) (bit_at_not w64 b k h l))
     ∙ first_bit_alone (bit_at a k) (bit_at b k) (bit_at-lt a k) (bit_at-lt b k)

@@ -13,10 +13,10 @@ by_each s f agree c = elim (cases_lt c 128) [
   | inr m ↦ rw (le-ltb c 128 m) (past_ascii s c m)
 ]
 
--- the opposite of such a test
-pub opposite : (s : AsciiSet) (f : ℕ → Bool) (c : ℕ) → contains s c ≡ (nat_lt c 128 && f c)
-    → (nat_lt c 128 && not (contains s c)) ≡ (nat_lt c 128 && not (f c))
-opposite s f c e = elim (cases_lt c 128) [
-  | inl l ↦ rw (e, lt-ltb c 128 l) refl
+-- and with the opposite of one
+pub by_none : (s : AsciiSet) (f : ℕ → Bool) → agree_below (contains s) f 128 ≡ true
+    → (c : ℕ) → (nat_lt c 128 && not (contains s c)) ≡ (nat_lt c 128 && not (f c))
+by_none s f agree c = elim (cases_lt c 128) [
+  | inl l ↦ rw (agree_below_at (contains s) f 128 c agree l) refl
   | inr m ↦ rw (le-ltb c 128 m) refl
 ]
