@@ -143,13 +143,13 @@ half_of_words words i n k c e h word place = elim (cases_lt k 32) [
 ]
 
 -- both halves of four words
-pub of_words : (s : AsciiSet) (words : List ℕ)
+pub in_four_words : (s : AsciiSet) (words : List ℕ)
     → ((k : ℕ) → k < 64
     → bit_at s.low k ≡ bit_at (if nat_lt k 32 then slice_index words 0 else slice_index words 1) (k % 32))
     → ((k : ℕ) → k < 64
     → bit_at s.high k ≡ bit_at (if nat_lt k 32 then slice_index words 2 else slice_index words 3) (k % 32))
     → (c : ℕ) → contains s c ≡ (nat_lt c 128 && nat_eq (slice_index words (c / 32) / 2 ^ (c % 32) % 2) 1)
-of_words s words low high =
+in_four_words s words low high =
     by_halves s (λ c. nat_lt c 128 && nat_eq (slice_index words (c / 32) / 2 ^ (c % 32) % 2) 1)
     (λ k l. rw (lt-ltb k 128 (omega arith)) (half_of_words words 0 s.low k k (low k l) l (omega arith) refl))
     (λ k l. rw (lt-ltb (k + 64) 128 (omega arith))
