@@ -8,6 +8,7 @@
 ghost use Rattle.std.specs.Prelude.{◌≡◌, ◌≢◌, ◌≤◌, length, IfOk, IfErr, OnOk, OnErr};
 ghost use Rattle.sre_model.specs.Tree.{Tree};
 ghost use Rattle.sre_model.specs.Grammar.{Whole};
+ghost use Rattle.sre_model.specs.References.{refers};
 ghost use Rattle.sre_code.specs.Hinted.{Confirmed};
 ghost use Rattle.sre_model.specs.Grammar.{AreItems, IsCode, HasOneTree, behind_block};
 ghost use Rattle.sre_code.specs.Refusals.{place_of};
@@ -54,7 +55,9 @@ pub struct Code<'a> {
     items: &'a [u32],
     uni: &'a UniTable,
     hints: Hints,
+    has_reference: bool,
     ghost behind: { items.now ≡ behind_block words.now },
+    ghost scanned: { (tree : Tree) → Whole words.now tree → has_reference ≡ refers tree },
     pub ghost checked: { ∥ ((tree : Tree) × Whole words.now tree × Confirmed words.now tree hints) ∥₁ },
 }
 
@@ -112,5 +115,14 @@ impl<'a> Code<'a> {
         ensures confirmed { (tree : Tree) → Whole (words_of self.now) tree → Confirmed (words_of self.now) tree result }
     {
         self.hints
+    }
+
+    /// Whether a reference or a condition is in the code: where none is, the marks that stand at a position change
+    /// nothing of what the items there pass.
+    #[inline(always)]
+    pub fn refers(&self) -> bool
+        ensures { (tree : Tree) → Whole (words_of self.now) tree → result ≡ refers tree }
+    {
+        self.has_reference
     }
 }

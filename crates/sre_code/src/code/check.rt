@@ -8,7 +8,7 @@ ghost use Rattle.sre_code.specs.Codes.{words_of, uni_of};
 ghost use Rattle.sre_growth.specs.Refusal.{Refused};
 
 use crate::code::descent::descend;
-use crate::code::{Code, CodeError, Hints, block};
+use crate::code::{Code, CodeError, Hints, block, references};
 use sre_chars::string::UniTable;
 use std::alloc::Allocator;
 
@@ -42,5 +42,6 @@ pub fn check_in<'a, A: Allocator + Copy>(
         items,
         uni,
         hints,
+        has_reference: references::has_reference(items),
     })
 }
