@@ -2,7 +2,7 @@
 //!
 //! Behind the least count each try of a longer one takes one test, and never looks ahead.
 
-ghost use Rattle.std.specs.Prelude.{◌≡◌, ℕ, ◌+◌, ◌||◌, nat_eq, nat_lt, List, IfOk, MatchOption};
+ghost use Rattle.std.specs.Prelude.{⊤, ◌≡◌, ℕ, ◌+◌, ◌<◌, ◌||◌, nat_eq, nat_lt, List, IfOk, MatchOption};
 ghost use Rattle.sre_model.specs.Ways.{Way, unlimited};
 ghost use Rattle.sre_model.specs.Grammar.{Opcode, skip};
 ghost use Rattle.sre_model.specs.Board.{BoardValue};
@@ -10,7 +10,7 @@ ghost use Rattle.sre_model.specs.declared.Point.TheVariants.{Instruction, Longer
 ghost use Rattle.sre_model.specs.Machine.{HasRun, Advances, SkipsBoth};
 ghost use Rattle.sre_request.specs.Requests.{run_of};
 
-use crate::machine::{choose, operand, refuses};
+use crate::machine::{choose, first_literal, lacks, operand, refuses};
 use sre_board::Board;
 use sre_chars::constants::SreOpcode;
 use sre_chars::string::{StrDrive, StringCursor};
@@ -30,6 +30,41 @@ fn may_grow(greatest: u32, count: usize) -> bool
     greatest == u32::MAX || count < greatest as usize
 }
 
+// The cursor behind one character more of the run at a place, which has so many of them, if it may be longer.
+#[inline(always)]
+fn one_longer<S: StrDrive>(
+    req: &Request<'_, S>,
+    place: usize,
+    tail: usize,
+    opcode: SreOpcode,
+    count: usize,
+    cursor: StringCursor,
+) -> Option<StringCursor>
+    requires tail { tail ≡ skip (run_of req.now).words (place + 1) }
+    requires opcode { Opcode (run_of req.now).words (place + 4) opcode }
+    requires stands { HasRun (run_of req.now) (Longer place count) cursor }
+    ensures longer { MatchOption result
+        ((b : BoardValue) → Advances (run_of req.now) (Longer place count) cursor b Next.Back b)
+        (λ after. SkipsBoth (run_of req.now) (Longer place count) cursor (Instruction tail) (Longer place (count + 1))
+        after) }
+    ensures inside { MatchOption result ⊤
+        (λ after. (cursor.position < (run_of req.now).subject.end) × (after.position ≡ cursor.position + 1)) }
+{
+    let greatest = operand(req, place, 3);
+    if !may_grow(greatest, count) {
+        return None;
+    }
+    if cursor.position() >= req.end() {
+        return None;
+    }
+    let (character, after) = read(req, cursor);
+    if takes(req, place + 4, opcode, character) {
+        Some(after)
+    } else {
+        None
+    }
+}
+
 // The first of the longer counts of which something may come, if there is one: that count, and the cursor behind it.
 #[inline(always)]
 fn first_longer<S: StrDrive>(
@@ -45,27 +80,23 @@ fn first_longer<S: StrDrive>(
         ((b : BoardValue) → Advances (run_of req.now) (Longer place least) start b Next.Back b)
         (λ x. SkipsBoth (run_of req.now) (Longer place least) start (Instruction tail) (Longer place x.0) x.1) }
 {
-    let greatest = operand(req, place, 3);
-    let test = place + 4;
-    let opcode = one_character::opcode(req, test);
-    let mut cursor = start;
-    let mut count = least;
+    let _greatest = operand(req, place, 3);
+    let opcode = one_character::opcode(req, place + 4);
+    let Some(nearest) = one_longer(req, place, tail, opcode, least, start) else {
+        return None;
+    };
+    let wanted = first_literal(req, tail, nearest);
+    let mut cursor = nearest;
+    let mut count = least + 1;
     'count: loop {
-        if !may_grow(greatest, count) {
-            return None;
-        }
-        if cursor.position() >= req.end() {
-            return None;
-        }
-        let (character, after) = read(req, cursor);
-        if !takes(req, test, opcode, character) {
-            return None;
-        }
-        cursor = after;
-        count += 1;
-        if !refuses(req, tail, cursor) {
+        if !lacks(req, wanted, cursor) {
             return Some((count, cursor));
         }
+        let Some(after) = one_longer(req, place, tail, opcode, count, cursor) else {
+            return None;
+        };
+        cursor = after;
+        count += 1;
     }
 }
 

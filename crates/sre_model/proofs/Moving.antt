@@ -315,6 +315,12 @@ pub both_skips : (r : Run) (pt : Point) (start : StringCursor) (i : ℕ) (second
     → Refuses r i c.position → SkipsBoth r pt start (Instruction i) second c → Skips r pt start second c
 both_skips r pt start i second c none s b all limit g = both_pass r i second c b none all limit (s.skips b all limit g)
 
+-- what a point comes to without a turn comes to two
+pub skips_then : (r : Run) (pt pt' first second : Point) (c c' c'' : StringCursor) → Skips r pt c pt' c'
+    → SkipsBoth r pt' c' first second c'' → SkipsBoth r pt c first second c''
+skips_then r pt pt' first second c c' c'' skips s =
+    record { runs = s.runs; others = s.others; skips = λ b all limit g. s.skips b all limit (skips b all limit g) }
+
 -- the second waits on the board, and the machine goes on at the first
 pub both_wait : (r : Run) (i : ℕ) (z : Spot) (c : StringCursor) (b b' : BoardValue) (cs : List Choice)
     → z.position ≡ c.position → b'.choices ≡ Else z.point z.frames c z.marks ∷ cs → (all : List Way) (limit : ℕ)

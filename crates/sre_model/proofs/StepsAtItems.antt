@@ -185,8 +185,9 @@ mark_moves r i p v fs m w wv =
 pub mark_refuses : (r : Run) (i p : ℕ) → Opcode r.words i opcode.MARK → Refuses r (i + 2) p → Refuses r i p
 mark_refuses r i p w none fs m os n d =
     let h = (in_family opcode.MARK Marking refl w d).1 in
-    nothing_after (spot_at (Instruction (i + 2)) fs p (set_mark m h.number p)) (mark_moves r i p h.number fs m w h.there)
-    (λ os' n' e. none fs (set_mark m h.number p) os' n' e) d
+    let set = set_mark m h.number p in
+    nothing_after (spot_at (Instruction (i + 2)) fs p set) (mark_moves r i p h.number fs m w h.there)
+    (λ os' n' e. none fs set os' n' e) d
 
 pub mark_run : (r : Run) (i : ℕ) (c : StringCursor) → Opcode r.words i opcode.MARK → HasRun r (Instruction i) c
     → HasRun r (Instruction (i + 2)) c

@@ -349,18 +349,21 @@ module _ (r : Run) (i n high : ℕ) (c : StringCursor) (h : RunWords r.words i) 
       is = rw (more, taken, moved_on, leads) refl;
     }
 
-    pub longer_both : (b : BoardValue) (all : List Way) (limit : ℕ) → Goes r all limit (Longer i n) c b
+    longer_both : (b : BoardValue) (all : List Way) (limit : ℕ) → Goes r all limit (Longer i n) c b
         → GoesBoth r all limit (spot (Instruction tail) after b) (spot (Longer i (n + 1)) after b) after b.choices
     longer_both b all limit g =
         turn_splits r (Longer i n) c b (spot (Instruction tail) after b) (spot (Longer i (n + 1)) after b) after
         (longer_moves b.frames b.marks) there refl refl all limit g
 
-    pub longer_runs : HasRun r (Longer i n) c → HasRun r (Instruction tail) after × HasRun r (Longer i (n + 1)) after
-    longer_runs x =
-        let s = run_splits _ _ (longer_moves x.frames x.marks) x.runs in (
-          has_run r (Instruction tail) x.frames x.marks after there s.0,
-          has_run r (Longer i (n + 1)) x.frames x.marks after there s.1,
-        )
+    pub longer_skips : HasRun r (Longer i n) c
+        → SkipsBoth r (Longer i n) c (Instruction tail) (Longer i (n + 1)) after
+    longer_skips x =
+        let s = run_splits _ _ (longer_moves x.frames x.marks) x.runs in
+        record {
+          runs = has_run r (Instruction tail) x.frames x.marks after there s.0;
+          others = has_run r (Longer i (n + 1)) x.frames x.marks after there s.1;
+          skips = longer_both;
+        }
 
 -- what was read tells whether the test passes
 pub longer_passes : (r : Run) (i ch : ℕ) (takes : Bool) (c : StringCursor) (h : RunWords r.words i)

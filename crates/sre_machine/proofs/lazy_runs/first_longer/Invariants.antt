@@ -1,13 +1,13 @@
 use Rattle.std.proofs.Common.{◌-◌}
-use Rattle.sre_model.specs.declared.Point.TheVariants.{Longer}
-use Rattle.sre_model.specs.Machine.{HasRun, Skips}
+use Rattle.sre_model.specs.declared.Point.TheVariants.{Instruction, Longer}
+use Rattle.sre_model.specs.Machine.{Run, SkipsBoth}
 use Rattle.sre_request.specs.Requests.{run_of}
 use Rattle.sre_machine.proofs.lazy_runs.first_longer.Given as goal
 
 abbrev pub invariant-count : goal.invariant-count
 invariant-count g l = record {
-  at : HasRun (run_of l.req) (Longer l.place l.count) l.cursor;
-  same : Skips (run_of l.req) (Longer l.place l.least) l.fn.start (Longer l.place l.count) l.cursor;
+  both : (let r : Run = run_of l.req in let first = Longer l.place l.least in
+      SkipsBoth r first l.fn.start (Instruction l.tail) (Longer l.place l.count) l.cursor);
 }
 
 abbrev pub decreases-count : goal.decreases-count

@@ -49,6 +49,6 @@ alternative-preserved g c =
           c.alternative.invariant.at).1;
       same = λ b all limit x.
           both_pass (run_of c.args.req.now) _ _ c.args.cursor b (c.refuses_here.ensures c.if-not-refuses_here.false)
-          all limit (alternatives_both (run_of c.args.req.now) _ _ c.args.cursor b c.word_at-length.ensures.word l all limit
-          (c.alternative.invariant.same b all limit x));
+          all limit (alternatives_both (run_of c.args.req.now) _ _ c.args.cursor b c.word_at-length.ensures.word l
+          all limit (c.alternative.invariant.same b all limit x));
     }
