@@ -1,5 +1,5 @@
--- References: whether what a tree can pass depends on the marks that stand.
--- For a search, which passes over starts by it; what sre_engine makes public does not rest on it.
+-- References: whether a tree asks which groups are present, or what they hold.
+-- Of the meaning: what sre_engine makes public rests on it.
 use Rattle.std.specs.Prelude.{Bool, true, false, ◌||◌}
 use Rattle.sre_model.specs.Tree.{Tree, Empty, Then, Item, Fail, One, At, Mark, Branch, Loop, Run, PossessiveLoop}
 use Rattle.sre_model.specs.Tree.{Atomic, Look, Reference, Exists, ExistsElse, Trees, Only, Or}

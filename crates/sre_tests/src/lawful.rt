@@ -70,6 +70,24 @@ static LAWFUL: [&[u32]; 47] = [
     &[12, 0, 9, 12, 1, 4, 15, 1, 15, 4, 12, 0, 2, 1],
 ];
 
+// words, and whether a reference or a condition is among them
+static REFERRING: [(&[u32], bool); 10] = [
+    (&[1], false),
+    (&[38, 0, 1], true),
+    (&[12, 0, 2, 1], true),
+    // its number as an operand, in a run and in a set
+    (&[17, 11, 16, 12, 1], false),
+    (&[24, 6, 11, 12, 16, 30, 1, 13, 4, 16, 11, 0, 1], false),
+    // in the second alternative, behind a branch, and nowhere in one
+    (&[7, 5, 16, 97, 15, 7, 5, 11, 0, 15, 2, 0, 1], true),
+    (&[7, 5, 16, 97, 15, 2, 0, 11, 0, 1], true),
+    (&[7, 5, 16, 97, 15, 7, 5, 16, 11, 15, 2, 0, 1], false),
+    // in a loop in an atomic group in a look
+    (&[4, 13, 0, 27, 9, 23, 5, 0, 1, 11, 0, 18, 1, 1, 1], true),
+    // behind a block
+    (&[14, 4, 0, 0, 0, 34, 0, 1], true),
+];
+
 // A code shows what it was made of; less than its words is cut short, and there are none behind them.
 fn accepted(rt: &impl Abort, alloc: Global, uni: &UniTable, words: &[u32]) -> Result<(), Fail> {
     let code = Code::check(alloc, words, uni)?;
@@ -126,6 +144,16 @@ fn a_code_shows_the_words_behind_its_block(rt: HostRuntime) -> Result<(), Fail> 
         assert!(rt; code.items() == words.split_at(length).1, "{words:?}");
         let cut = Code::check(alloc, code.items(), &uni)?;
         assert!(rt; cut.items() == code.items(), "{words:?}");
+    }
+    Ok(())
+}
+
+#[test]
+fn references_are_reported(rt: HostRuntime) -> Result<(), Fail> {
+    let uni = UniTable::new(rt.alloc(), &[], &[], &[])?;
+    for &(words, refers) in &REFERRING {
+        let code = Code::check(rt.alloc(), words, &uni)?;
+        assert_eq!(rt; code.refers(), refers, "{words:?}");
     }
     Ok(())
 }
