@@ -183,6 +183,13 @@ big_charset_says ws table i c count holds w e b = rw (← e) (record {
       );
 })
 
+-- NEGATE
+pub negated : (ws : List ℕ) (i j : ℕ) (set : List SetItem) → Opcode ws i opcode.NEGATE → SetStands ws i j set
+    → (rest : List SetItem) × SetStands ws (i + 1) j rest × (set ≡ Negate ∷ rest)
+negated ws i j set w s =
+    let f = is_negate ws i j set w (begun ws i j opcode.NEGATE set w (λ e. cc) s) s.items in
+    (f.0, behind ws j (i + 1) f.0 f.2.1 s.ends, f.1)
+
 -- the whole set
 pub set_begins : (ws : List ℕ) (i : ℕ) → HasSet ws i → (o : SreOpcode) × Opcode ws i o
 set_begins ws i h = go h.set h.stands
@@ -233,12 +240,12 @@ pub left_turned : (ws : List ℕ) (table : Table) (start c i : ℕ) (taken : Boo
 left_turned ws table start c i taken l w = record {
   each = λ j set s.
       let f = l.each j set s in
-      let g = is_negate ws i j f.0 w (begun ws i j opcode.NEGATE f.0 w (λ e. cc) f.1) f.1.items in
-      (g.0, behind ws j (i + 1) g.0 g.2.1 f.1.ends, f.2 ∙ ap (λ x. verdict table taken x c) g.1);
+      let g = negated ws i j f.0 w f.1 in
+      (g.0, g.1, f.2 ∙ ap (λ x. verdict table taken x c) g.2);
 }
 
 -- no item begins with FAILURE
-nothing_left : (ws : List ℕ) (i j : ℕ) (set : List SetItem) → Opcode ws i opcode.FAILURE
+pub nothing_left : (ws : List ℕ) (i j : ℕ) (set : List SetItem) → Opcode ws i opcode.FAILURE
     → SetStands ws i j set → set ≡ []
 nothing_left ws i j [] w s = refl
 nothing_left ws i j (x ∷ rest) w s = absurd (unlike x (begins ws i j opcode.FAILURE x rest w s.items))

@@ -1,1 +1,2 @@
+pub mod AsciiMembers
 pub mod Repeating

@@ -2,24 +2,28 @@
 //!
 //! The opcode is looked at once, before a loop of its own that holds what it needs of the words.
 
-ghost use Rattle.std.specs.Prelude.{◌≡◌, ℕ, ◌+◌, ◌-◌, ◌<◌, ◌≤◌, Bool, true, false, cond, length, slice_range};
+ghost use Rattle.std.specs.Prelude.{⊤, ◌≡◌, ℕ, ◌+◌, ◌-◌, ◌<◌, ◌≤◌, Bool, true, false, cond, List, length};
+ghost use Rattle.std.specs.Prelude.{slice_range};
 ghost use Rattle.sre_chars.specs.Numbers.{category_number};
 ghost use Rattle.sre_chars.specs.Categories.{category};
-ghost use Rattle.sre_chars.specs.Tables.{ascii_table, is_between};
-ghost use Rattle.sre_model.specs.Tree.{Test, Charset};
-ghost use Rattle.sre_model.specs.Characters.{item_holds, holds};
+ghost use Rattle.sre_chars.specs.Tables.{Table, is_between};
+ghost use Rattle.sre_model.specs.Tree.{Test, SetItem, Charset};
+ghost use Rattle.sre_model.specs.Characters.{item_holds, is_member, holds};
 ghost use Rattle.sre_model.specs.Subject.{passes};
 ghost use Rattle.sre_model.specs.CountedRuns.{Ended};
 ghost use Rattle.sre_model.specs.Ways.{most_from, run_length, longest_run};
 ghost use Rattle.sre_model.specs.Grammar.{Opcode};
-ghost use Rattle.sre_model.specs.Standing.{TestStands, HasTest};
+ghost use Rattle.sre_model.specs.Standing.{SetStands, TestStands, HasTest};
 ghost use Rattle.sre_request.specs.Requests.{end_of, run_of};
+ghost use Rattle.sre_request.specs.AsciiSets.{IsAsciiPart};
 
+use crate::ascii::ascii_members;
 use crate::one_character::{opcode, takes};
 use crate::operands::{category_code, operand, word};
 use crate::request::Request;
-use crate::set::{has_bit, is_between};
+use crate::set::{has_bit, is_between, is_member};
 use crate::text::read;
+use sre_ascii::AsciiSet;
 use sre_chars::constants::{MAXREPEAT, SreCatCode, SreOpcode};
 use sre_chars::string::{StrDrive, StringCursor, UniTable, category};
 
@@ -91,10 +95,14 @@ fn run_tested<S: StrDrive>(
 
 // A test with its operands at hand.
 trait Taker {
-    ghost takes: { Self → ℕ → Bool };
+    // What is known of its operands.
+    ghost fits: { Self → Type 0 };
+    // Whether it takes a character.
+    ghost says: { Self → ℕ → Bool → Type 0 };
 
     fn takes(&self, character: u32) -> bool
-        ensures { result ≡ takes self.now character };
+        requires { fits self.now }
+        ensures { says self.now character result };
 }
 
 // Takes the characters from low to high.
@@ -105,7 +113,9 @@ struct Between {
 }
 
 impl Taker for Between {
-    ghost takes = { λ b c. is_between b.low b.high c };
+    ghost fits = { λ b. ⊤ };
+
+    ghost says = { λ b c taken. taken ≡ is_between b.low b.high c };
 
     #[inline(always)]
     fn takes(&self, character: u32) -> bool {
@@ -118,11 +128,13 @@ impl Taker for Between {
 struct Bits<'a> {
     words: &'a [u32],
     place: usize,
-    ghost room: { place + 9 ≤ length words.now },
 }
 
 impl<'a> Taker for Bits<'a> {
-    ghost takes = { λ b c. item_holds ascii_table (Charset (slice_range b.words.now (b.place + 1) (b.place + 9))) c };
+    ghost fits = { λ b. b.place + 9 ≤ length b.words.now };
+
+    ghost says = { λ b c taken. (table : Table)
+        → taken ≡ item_holds table (Charset (slice_range b.words.now (b.place + 1) (b.place + 9))) c };
 
     #[inline(always)]
     fn takes(&self, character: u32) -> bool {
@@ -138,11 +150,37 @@ struct OfCategory<'a> {
 }
 
 impl<'a> Taker for OfCategory<'a> {
-    ghost takes = { λ o c. category o.uni.now (category_number o.code) c };
+    ghost fits = { λ o. ⊤ };
+
+    ghost says = { λ o c taken. taken ≡ category o.uni.now (category_number o.code) c };
 
     #[inline(always)]
     fn takes(&self, character: u32) -> bool {
         category(self.uni, self.code, character)
+    }
+}
+
+// Takes the characters of a set, of which the ASCII ones are at hand.
+#[derive(Clone, Copy)]
+struct OfSet<'a> {
+    words: &'a [u32],
+    uni: &'a UniTable,
+    set: usize,
+    ascii: AsciiSet,
+}
+
+impl<'a> Taker for OfSet<'a> {
+    ghost fits = { λ o. IsAsciiPart o.words.now o.uni.now o.set o.ascii };
+
+    ghost says = { λ o c taken. (j : ℕ) (set : List SetItem) → SetStands o.words.now o.set j set
+        → taken ≡ is_member o.uni.now set c };
+
+    #[inline(always)]
+    fn takes(&self, character: u32) -> bool {
+        if character < 128 {
+            return self.ascii.contains(character);
+        }
+        is_member(self.words, self.uni, self.set, character)
     }
 }
 
@@ -156,8 +194,9 @@ fn run_while<S: StrDrive, T: Taker>(
     most: usize,
     start: StringCursor,
 ) -> (usize, StringCursor)
-    requires taker { (j c : ℕ) (t : Test) → TestStands (run_of req.now).words place j t
-        → T.takes taker.now c ≡ holds (run_of req.now).subject.table t c }
+    requires fits { T.fits taker.now }
+    requires taker { (j c : ℕ) (taken : Bool) (t : Test) → TestStands (run_of req.now).words place j t
+        → T.says taker.now c taken → taken ≡ holds (run_of req.now).subject.table t c }
     requires stands { (run_of req.now).stands start start.position }
     requires most { most ≤ req.now.end - start.position }
     ensures { Ended (run_of req.now) place wanted most start result.1 result.0 }
@@ -173,6 +212,35 @@ fn run_while<S: StrDrive, T: Taker>(
         count += 1;
     }
     (count, cursor)
+}
+
+// The same of an IN at a place, of any items.
+#[inline(always)]
+fn run_in_items<S: StrDrive>(
+    req: &Request<'_, S>,
+    place: usize,
+    wanted: bool,
+    most: usize,
+    start: StringCursor,
+) -> (usize, StringCursor)
+    requires code { Opcode (run_of req.now).words place SreOpcode.IN }
+    requires test { HasTest (run_of req.now).words place }
+    requires stands { (run_of req.now).stands start start.position }
+    requires most { most ≤ req.now.end - start.position }
+    ensures { Ended (run_of req.now) place wanted most start result.1 result.0 }
+{
+    let (words, set) = (req.pattern_codes().items(), place + 2);
+    let Some(ascii) = ascii_members(words, set) else {
+        return run_tested(req, place, SreOpcode::IN, wanted, most, start);
+    };
+    let uni = req.pattern_codes().uni();
+    let of_set = OfSet {
+        words,
+        uni,
+        set,
+        ascii,
+    };
+    run_while(req, place, &of_set, wanted, most, start)
 }
 
 // The same of an IN at a place. A set of one RANGE, CATEGORY or CHARSET is told by its length and first word, and has a
@@ -207,7 +275,7 @@ fn run_in_set<S: StrDrive>(
         let bits = Bits { words, place: set };
         return run_while(req, place, &bits, wanted, most, start);
     }
-    run_tested(req, place, SreOpcode::IN, wanted, most, start)
+    run_in_items(req, place, wanted, most, start)
 }
 
 // The longest run of characters of which the test at a place says what is wanted, from a cursor on, of at most so many

@@ -28,7 +28,7 @@ struct Item {
 
 // The opcode of an item, or the FAILURE that ends the set.
 #[inline(always)]
-fn opcode(words: &[u32], place: usize) -> SreOpcode
+pub(crate) fn opcode(words: &[u32], place: usize) -> SreOpcode
     requires { HasSet words.now place }
     ensures { Opcode words.now place result }
 {
@@ -225,7 +225,8 @@ fn one_item(words: &[u32], uni: &UniTable, place: usize, opcode: SreOpcode, char
     }
 }
 
-/// Whether the set whose items begin at `start` takes a character.
+/// Whether the set whose items begin at `start` takes a character. It is out of line, since many tests call it.
+#[inline(never)]
 pub(crate) fn is_member(words: &[u32], uni: &UniTable, start: usize, character: u32) -> bool
     requires { HasSet words.now start }
     ensures { (j : ℕ) (set : List SetItem) → SetStands words.now start j set

@@ -1,0 +1,9 @@
+use Rattle.std.proofs.Common.{◌-◌, length}
+use Rattle.sre_request.specs.AsciiSets.{AsciiLeft}
+use Rattle.sre_request.proofs.ascii.ascii_members.Given as goal
+
+abbrev pub invariant-item : goal.invariant-item
+invariant-item l = AsciiLeft l.words l.start l.place l.taken l.members l.left
+
+abbrev pub decreases-item : goal.decreases-item
+decreases-item l = length l.words - l.place
