@@ -9,8 +9,20 @@ ghost use Rattle.sre_model.specs.Subject.{before, after, is_on_nothing, is_bound
 ghost use Rattle.sre_request.specs.Requests.{run_of};
 
 use crate::request::Request;
+use sre_ascii::AsciiSet;
 use sre_chars::constants::{SreAtCode, SreCatCode};
-use sre_chars::string::{StrDrive, StringCursor, category};
+use sre_chars::string::{StrDrive, StringCursor, UniTable, category};
+
+// Whether a character is in a category: a bit tells of an ASCII one, where it is cheaper than to compare.
+#[inline(always)]
+fn is_in(uni: &UniTable, code: SreCatCode, character: u32) -> bool
+    ensures { result ≡ category uni.now (category_number code) character }
+{
+    if character < 128 && code != SreCatCode::LINEBREAK {
+        return AsciiSet::of_category(code).contains(character);
+    }
+    category(uni, code, character)
+}
 
 // Whether the character before a cursor is in a category; none is before the text's start.
 #[inline(always)]
@@ -23,7 +35,7 @@ fn is_behind<S: StrDrive>(req: &Request<'_, S>, code: SreCatCode, cursor: String
         return false;
     }
     let character = req.string().back_peek(&cursor);
-    category(req.pattern_codes().uni(), code, character)
+    is_in(req.pattern_codes().uni(), code, character)
 }
 
 // Whether the character at a cursor is in a category; none is at the window's end.
@@ -37,7 +49,7 @@ fn is_ahead<S: StrDrive>(req: &Request<'_, S>, code: SreCatCode, cursor: StringC
         return false;
     }
     let character = req.string().peek(&cursor);
-    category(req.pattern_codes().uni(), code, character)
+    is_in(req.pattern_codes().uni(), code, character)
 }
 
 // Whether a linebreak at a cursor is the window's last character.

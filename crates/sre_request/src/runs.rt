@@ -9,6 +9,7 @@ ghost use Rattle.sre_chars.specs.Categories.{category};
 ghost use Rattle.sre_chars.specs.Tables.{Table, is_between};
 ghost use Rattle.sre_model.specs.Tree.{Test, SetItem, Charset};
 ghost use Rattle.sre_model.specs.Characters.{item_holds, is_member, holds};
+ghost use Rattle.sre_ascii.specs.Sets.{contains};
 ghost use Rattle.sre_model.specs.Subject.{passes};
 ghost use Rattle.sre_model.specs.CountedRuns.{Ended};
 ghost use Rattle.sre_model.specs.Ways.{most_from, run_length, longest_run};
@@ -21,11 +22,11 @@ use crate::ascii::ascii_members;
 use crate::one_character::{opcode, takes};
 use crate::operands::{category_code, operand, word};
 use crate::request::Request;
-use crate::set::{has_bit, is_between, is_member};
+use crate::set::{has_bit, is_between, is_in_category, is_member};
 use crate::text::read;
 use sre_ascii::AsciiSet;
 use sre_chars::constants::{MAXREPEAT, SreCatCode, SreOpcode};
-use sre_chars::string::{StrDrive, StringCursor, UniTable, category};
+use sre_chars::string::{StrDrive, StringCursor, UniTable};
 
 // How many characters a run from a cursor may have: those that are left, up to the greatest count.
 #[inline(always)]
@@ -142,21 +143,25 @@ impl<'a> Taker for Bits<'a> {
     }
 }
 
-// Takes the characters of a category.
+// Takes the characters of a category, of which the ASCII ones are at hand.
 #[derive(Clone, Copy)]
 struct OfCategory<'a> {
     uni: &'a UniTable,
     code: SreCatCode,
+    ascii: AsciiSet,
 }
 
 impl<'a> Taker for OfCategory<'a> {
-    ghost fits = { λ o. ⊤ };
+    ghost fits = { λ o. (c : ℕ) → c < 128 → contains o.ascii c ≡ category o.uni.now (category_number o.code) c };
 
     ghost says = { λ o c taken. taken ≡ category o.uni.now (category_number o.code) c };
 
     #[inline(always)]
     fn takes(&self, character: u32) -> bool {
-        category(self.uni, self.code, character)
+        if character < 128 {
+            return self.ascii.contains(character);
+        }
+        is_in_category(self.uni, self.code, character)
     }
 }
 
@@ -269,7 +274,15 @@ fn run_in_set<S: StrDrive>(
     }
     if skip == 4 && first == SreOpcode::CATEGORY as u32 {
         let (uni, code) = (req.pattern_codes().uni(), category_code(words, set + 1));
-        return run_while(req, place, &OfCategory { uni, code }, wanted, most, start);
+        let ascii = AsciiSet::of_category(code);
+        return run_while(
+            req,
+            place,
+            &OfCategory { uni, code, ascii },
+            wanted,
+            most,
+            start,
+        );
     }
     if skip == 11 && first == SreOpcode::CHARSET as u32 {
         let bits = Bits { words, place: set };

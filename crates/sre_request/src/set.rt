@@ -108,9 +108,9 @@ fn range_ignoring_case(words: &[u32], uni: &UniTable, place: usize, character: u
     }
 }
 
-// Whether a character is in a category. It is out of line for the same reason.
+/// Whether a character is in a category. It is out of line for the same reason.
 #[inline(never)]
-fn is_in_category(uni: &UniTable, code: SreCatCode, character: u32) -> bool
+pub(crate) fn is_in_category(uni: &UniTable, code: SreCatCode, character: u32) -> bool
     ensures { result ≡ category uni.now (category_number code) character }
 {
     category(uni, code, character)
