@@ -1,16 +1,16 @@
 -- The first accepted outcome of a run is the match.
 use Rattle.std.specs.Prelude.{⊤}
-use Rattle.std.proofs.Common.{[], ◌≡◌, ◌≤◌, ◌<◌, ◌+◌, ℕ, Bool, true, false, nat_eq, arith, Option, Some, None, refl}
+use Rattle.std.proofs.Common.{[], ◌≡◌, ◌≤◌, ℕ, Bool, true, false, arith, Option, Some, None, refl}
 use Rattle.std.proofs.Common.{sym, ap, ◌∙◌, subst}
-use Rattle.std.proofs.lemmas.Bool.Decides.{nat_tests}
 use Rattle.sre_chars.specs.declared.string.StringCursor.{StringCursor}
 use Rattle.sre_model.specs.Tree.{Tree}
 use Rattle.sre_model.specs.Marks.{Marks, no_marks}
 use Rattle.sre_model.specs.Ways.{ways}
 use Rattle.sre_model.specs.Found.{Asked, Match, subject_of, is_accepted, at_start, found}
 use Rattle.sre_model.specs.Machine.{Run, Decides, outcomes}
+use Rattle.sre_engine.specs.Starts.{NoneBetween}
 use Rattle.sre_engine.specs.Answers.{Shown, Answers, AnswersAnywhere, given, AnswersAlike}
-use Rattle.sre_model.proofs.FoundLaws.{match_of_first, first_accepted-filter, at_start-is, least-found, none-found}
+use Rattle.sre_model.proofs.FoundLaws.{match_of_first, first_accepted-filter, at_start-is, least-found}
 
 -- what a run for a request decides about; the words are those of its tree, whatever they are
 abbrev run_for : Asked → (StringCursor → ℕ → Type 0) → Run
@@ -79,21 +79,7 @@ told stands (Some m) b shown some =
 
 -- no start before a position has a match
 abbrev pub NoneBefore : Asked → Tree → ℕ → Type 0
-NoneBefore a t p = (s : ℕ) → a.start ≤ s → s < p → at_start a t s ≡ None
-
-pub none_further : (a : Asked) (t : Tree) (p q : ℕ) → NoneBefore a t p → at_start a t p ≡ None → q ≡ p + 1
-    → NoneBefore a t q
-none_further a t p q before here next s from less = by_place (nat_eq s p) refl
-  where
-    by_place : (c : Bool) → nat_eq s p ≡ c → at_start a t s ≡ None
-    by_place true y = let is : p ≡ s = grind (arith, nat_tests) in subst (λ x. at_start a t x ≡ None) is here
-    by_place false n = before s from (grind (arith, nat_tests))
-
--- none of the window's starts has a match
-pub found_none : (a : Asked) (t : Tree) (p : ℕ) → NoneBefore a t p → at_start a t p ≡ None → a.end ≤ p
-    → found a t ≡ None
-found_none a t p before here past =
-    none-found a t (λ s from to. none_further a t p (p + 1) before here refl s from (omega arith))
+NoneBefore a t p = NoneBetween a t a.start p
 
 -- the first that has one
 pub found_first : (a : Asked) (t : Tree) (p : ℕ) (m : Match) → NoneBefore a t p → at_start a t p ≡ Some m → a.start ≤ p

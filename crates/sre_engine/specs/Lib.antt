@@ -19,3 +19,4 @@ pub mod Answers
 pub mod Walks
 pub mod Iterators
 pub mod Listed
+pub mod Starts

@@ -14,6 +14,8 @@ pub mod WalkLaws
 pub mod FirstWays
 pub mod FirstCharacters
 pub mod MarksApart
+pub mod LeadingRuns
+pub mod LeadingWords
 pub mod CodesRead
 pub mod Blocks
 pub mod Members

@@ -10,6 +10,7 @@ pub mod Width
 pub mod Found
 pub mod FirstCharacters
 pub mod References
+pub mod LeadingRuns
 pub mod WalkBounds
 pub mod Shown
 pub mod Rows

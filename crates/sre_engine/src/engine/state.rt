@@ -14,6 +14,7 @@ ghost use Rattle.sre_engine.specs.Answers.{Answers, AnswersAlike, Spans};
 ghost use Rattle.sre_growth.specs.Refusal.{Refused};
 
 use crate::engine::first_characters::{Wanted, first_wanted, is_hopeless};
+use crate::engine::leading_run::{leading_run, start_behind};
 use sre_board::{Board, Marks};
 use sre_chars::string::{StrDrive, StringCursor};
 use sre_growth::Refusal;
@@ -218,16 +219,17 @@ impl<A: Allocator + Copy> State<A> {
     {
         let mut start = from;
         let wanted = first_wanted(req.pattern_codes().items());
+        let lead = leading_run(req);
         self.board.clear(); // of an earlier search
         'start: loop {
             if let Some(end) = attempt(req, wanted, start, &mut self.board)? {
                 (self.start, self.cursor) = (start.position(), end);
                 return Ok(true);
             }
-            if start.position() >= req.end() {
-                return Ok(false);
+            match start_behind(req, lead, start) {
+                None => return Ok(false),
+                Some(next) => start = next,
             }
-            req.string().skip(&mut start, 1);
         }
     }
 

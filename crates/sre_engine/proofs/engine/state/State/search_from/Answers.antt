@@ -1,10 +1,11 @@
-use Rattle.std.proofs.Common.{◌≡◌, ℕ, ◌≤◌, ◌+◌, true, false, List, refl, sym, ap, ◌∙◌, subst, arith, rules}
-use Rattle.sre_model.specs.Found.{found}
+use Rattle.std.proofs.Common.{◌≡◌, ℕ, true, false, List, None, refl, sym, ap, ◌∙◌, subst, arith, rules}
+use Rattle.sre_model.specs.Found.{found, at_start}
 use Rattle.sre_model.specs.Grammar.{WholeItems}
 use Rattle.sre_code.specs.Codes.{words_of, items_of, hints_of}
-use Rattle.sre_request.specs.Requests.{end_of, code_of, asked_of, stands_in}
-use Rattle.sre_engine.proofs.Answering.{answers_yes, answers_no, answers_alike, none_at, some_at, span_at, none_further}
-use Rattle.sre_engine.proofs.Answering.{found_none, found_first}
+use Rattle.sre_request.specs.Requests.{code_of, asked_of, stands_in}
+use Rattle.sre_engine.specs.Starts.{NoneUntil}
+use Rattle.sre_engine.proofs.Answering.{answers_yes, answers_no, answers_alike, none_at, some_at, span_at, found_first}
+use Rattle.sre_engine.proofs.LeadingStarts.{none_joined, found_none_behind}
 use Rattle.sre_code.proofs.Checked.{code_tree, items_whole}
 use Rattle.sre_engine.proofs.engine.state.State.search_from.Goals as goal
 
@@ -34,40 +35,39 @@ returns-in-Some-clause-span g c = λ _.
       record { starts = refl; forward = omega (arith, c.position.ensures, s.0); inside = s.1 },
     )
 
-pub returns-then-position-end-clause-ok : goal.returns-then-position-end-clause-ok
-returns-then-position-end-clause-ok g c = λ t whole.
-    let asked = c.args.req.now in
-    let past : end_of asked ≤ c.start.start.position = omega arith in
-    answers_no (stands_in asked) _ _
-    (found_none (asked_of asked) t _ (c.start.invariant.before t whole)
-    (none_at (stands_in asked) (asked_of asked) t _ c.in_ok-end.field-0 c.attempt.new.board.marks
-    (c.in_ok-end.ensures.found t whole) c.in_default.is) past)
-
 pub returns-in-Some-clause-alike : goal.returns-in-Some-clause-alike
 returns-in-Some-clause-alike g c = λ t whole.
     answers_alike (λ asked. found asked t) (asked_of c.args.req.now) (stands_in c.args.req.now) true _
     (returns-in-Some-clause-ok g c t whole)
 
-pub returns-then-position-end-clause-alike : goal.returns-then-position-end-clause-alike
-returns-then-position-end-clause-alike g c = λ t whole.
+pub returns-in-None-clause-ok : goal.returns-in-None-clause-ok
+returns-in-None-clause-ok g c = λ t whole.
+    let asked = c.args.req.now in
+    let none : at_start (asked_of asked) t c.start.start.position ≡ None =
+    none_at (stands_in asked) (asked_of asked) t _ c.in_ok-end.field-0 c.attempt.new.board.marks
+    (c.in_ok-end.ensures.found t whole) c.in_default.is in
+    let behind = subst (NoneUntil (asked_of asked) t c.start.start.position) c.in-None.is
+    (c.start_behind.ensures.none t (items_whole asked.pattern_codes t whole) none) in
+    answers_no (stands_in asked) _ _
+    (found_none_behind (asked_of asked) t c.start.start.position (c.start.invariant.before t whole) behind)
+
+pub returns-in-None-clause-alike : goal.returns-in-None-clause-alike
+returns-in-None-clause-alike g c = λ t whole.
     answers_alike (λ asked. found asked t) (asked_of c.args.req.now) (stands_in c.args.req.now) false _
-    (returns-then-position-end-clause-ok g c t whole)
+    (returns-in-None-clause-ok g c t whole)
 
 pub start-preserved : goal.start-preserved
 start-preserved g c =
     let asked = c.args.req.now in
-    let at : c.skip.new.cursor.position ≡ c.start.start.position + 1 =
-    (g.met.S.StrDrive.stands_at c.string.result c.skip.new.cursor _ c.skip.ensures).0 in
+    let next = c.in-Some-start_behind.ensures in
     record {
-      stands =
-          subst (λ (s : g.row.S.Denot). g.S.StrDrive.stands s c.skip.new.cursor c.skip.new.cursor.position)
-          c.string.ensures
-          (subst (λ n. g.S.StrDrive.stands c.string.result c.skip.new.cursor n) (sym at) c.skip.ensures);
-      from = omega (arith, c.start.invariant.from, at);
-      inside = omega (arith, at);
+      stands = next.stands;
+      from = omega (arith, c.start.invariant.from, next.next.0);
+      inside = next.next.1;
       fresh = search rules;
       before = λ t whole.
-          none_further (asked_of asked) t _ _ (c.start.invariant.before t whole)
+          none_joined (asked_of asked) t _ _ (c.start.invariant.before t whole)
+          (next.none t (items_whole asked.pattern_codes t whole)
           (none_at (stands_in asked) (asked_of asked) t _ c.in_ok-end.field-0 c.attempt.new.board.marks
-          (c.in_ok-end.ensures.found t whole) c.in_default.is) at;
+          (c.in_ok-end.ensures.found t whole) c.in_default.is));
     }

@@ -1,0 +1,73 @@
+-- Behind a start that has no match, and the run that leads from there.
+use Rattle.std.proofs.Common.{◌≡◌, ◌≤◌, ◌<◌, ◌+◌, ℕ, Bool, true, false, nat_lt, List, Option, Some, None, MatchOption}
+use Rattle.std.proofs.Common.{refl, sym, ap, ◌∙◌, subst, arith}
+use Rattle.std.proofs.lemmas.Bool.Decides.{nat_tests}
+use Rattle.sre_chars.specs.declared.string.StringCursor.{StringCursor}
+use Rattle.sre_model.specs.Tree.{Tree, Test}
+use Rattle.sre_model.specs.Subject.{char_at}
+use Rattle.sre_model.specs.Characters.{holds}
+use Rattle.sre_model.specs.Ways.{unlimited, longest_run}
+use Rattle.sre_model.specs.Found.{Asked, subject_of, at_start, found}
+use Rattle.sre_model.specs.Standing.{TestStands}
+use Rattle.sre_model.specs.LeadingRuns.{RunLeads, FrontStands, RunStands}
+use Rattle.sre_engine.specs.Starts.{NoneBetween, NoneUntil}
+use Rattle.sre_model.proofs.Passing.{read_passes}
+use Rattle.sre_model.proofs.LeadingRuns.{none_in_run}
+use Rattle.sre_model.proofs.FoundLaws.{none-found}
+use Rattle.sre_engine.proofs.Answering.{NoneBefore}
+
+module _ (a : Asked) (t : Tree) where
+  -- the start alone
+  pub none_here : (p : ℕ) → at_start a t p ≡ None → NoneBetween a t p (p + 1)
+  none_here p none s from to = let same : p ≡ s = omega arith in subst (λ q. at_start a t q ≡ None) same none
+
+  -- one more start, or the window's end
+  pub none_until : (p last : ℕ) (result : Option StringCursor) → NoneBetween a t p (last + 1)
+      → MatchOption result (a.end ≤ last) (λ next. (next.position ≡ last + 1) × (next.position ≤ a.end))
+      → NoneUntil a t p result
+  none_until p last None none past = λ s from to. none s from (omega arith)
+  none_until p last (Some next) none at = λ s from to. none s from (omega (arith, at.0))
+
+  module _ (ws : List ℕ) (place p : ℕ) (none : at_start a t p ≡ None) where
+    -- up to a run's end
+    pub none_behind_run : (k : ℕ) → RunStands ws t None place
+        → ((j : ℕ) (x : Test) → TestStands ws place j x → k ≡ longest_run (subject_of a) x unlimited p)
+        → NoneBetween a t p (p + k + 1)
+    none_behind_run k r count s from to = by_front r.front r.before r.leads
+      where
+        by_front : (front : Option Test) → FrontStands ws None front → RunLeads t front r.test → at_start a t s ≡ None
+        by_front None before leads =
+            let here : p + 0 ≡ p = omega arith in
+            none_in_run a t None r.test p s leads refl none from
+            (omega (arith, count r.end r.test r.stands, ap (longest_run (subject_of a) r.test unlimited) here))
+        by_front (Some x) before leads = absurd before
+
+    -- up to the place of the test in front of it from which the run would begin at its end
+    pub none_behind_front : (first ch k : ℕ) (takes : Bool) → RunStands ws t (Some first) place → p < a.end
+        → ch ≡ char_at (subject_of a) p
+        → ((j : ℕ) (x : Test) → TestStands ws first j x → takes ≡ holds a.table x ch) → takes ≡ true
+        → ((j : ℕ) (x : Test) → TestStands ws place j x → k ≡ longest_run (subject_of a) x unlimited (p + 1))
+        → NoneBetween a t p (p + 1 + k)
+    none_behind_front first ch k takes r inside read taken held count s from to =
+        by_front r.front r.before r.leads
+      where
+        by_front : (front : Option Test) → FrontStands ws (Some first) front → RunLeads t front r.test
+            → at_start a t s ≡ None
+        by_front None before leads = absurd before
+        by_front (Some x) before leads =
+            none_in_run a t (Some x) r.test p s leads
+            (read_passes (subject_of a) x p ch true inside read (sym held ∙ taken before.0 x before.1)) none from
+            (omega (arith, count r.end r.test r.stands))
+
+  -- with the starts before
+  pub none_joined : (p q : ℕ) → NoneBefore a t p → NoneBetween a t p q → NoneBefore a t q
+  none_joined p q before behind s from to = by_place (nat_lt s p) refl
+    where
+      by_place : (b : Bool) → nat_lt s p ≡ b → at_start a t s ≡ None
+      by_place true y = before s from (grind (arith, nat_tests))
+      by_place false n = behind s (grind (arith, nat_tests)) to
+
+  -- up to the window's end
+  pub found_none_behind : (p : ℕ) → NoneBefore a t p → NoneBetween a t p (a.end + 1) → found a t ≡ None
+  found_none_behind p before behind =
+      none-found a t (λ s from to. none_joined p (a.end + 1) before behind s from (omega arith))

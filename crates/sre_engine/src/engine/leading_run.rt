@@ -1,0 +1,166 @@
+//! The run that a code begins with: where no match starts at its start, none starts inside it.
+//!
+//! A start inside the run has its own run end at the same place, so that it leads to no end which the run's start has
+//! not tried. A search that goes on behind the run passes over each character once.
+
+ghost use Rattle.std.specs.Prelude.{◌≡◌, ◌+◌, ◌^◌, ◌<◌, ◌≤◌, length, IfSome, MatchOption, None, true};
+ghost use Rattle.sre_model.specs.Tree.{Tree};
+ghost use Rattle.sre_model.specs.Grammar.{Word, Opcode, WholeItems};
+ghost use Rattle.sre_model.specs.Found.{at_start};
+ghost use Rattle.sre_model.specs.Machine.{family, Testing};
+ghost use Rattle.sre_model.specs.LeadingRuns.{RunStands};
+ghost use Rattle.sre_request.specs.Requests.{end_of, asked_of, run_of};
+ghost use Rattle.sre_engine.specs.Starts.{NoneUntil};
+
+use sre_chars::constants::SreOpcode;
+use sre_chars::string::{StrDrive, StringCursor};
+use sre_request::one_character::{opcode, takes, test_end};
+use sre_request::runs::longest_run;
+use sre_request::text::read;
+use sre_request::{Request, operands};
+use std::convert::TryFrom;
+
+/// A run with no greatest count that a code's words begin with: the place of its test, and that of the one test of a
+/// character that stands before it, if one does.
+#[derive(Clone, Copy)]
+pub(crate) struct LeadingRun {
+    first: Option<usize>,
+    test: usize,
+}
+
+// Whether an opcode is that of a test of one character.
+fn is_test(opcode: SreOpcode) -> bool
+    ensures { result ≡ true → family opcode ≡ Testing }
+{
+    macro_rules! is_one_of {
+        ($($test:ident)*) => {
+            match opcode {
+                $(SreOpcode::$test => true,)*
+                _ => false,
+            }
+        };
+    }
+    is_one_of!(
+        ANY ANY_ALL CATEGORY
+        LITERAL LITERAL_IGNORE LITERAL_LOC_IGNORE LITERAL_UNI_IGNORE
+        NOT_LITERAL NOT_LITERAL_IGNORE NOT_LITERAL_LOC_IGNORE NOT_LITERAL_UNI_IGNORE
+        IN IN_IGNORE IN_LOC_IGNORE IN_UNI_IGNORE
+    )
+}
+
+// The opcode at a place, if one is there.
+#[inline(always)]
+fn opcode_at<S: StrDrive>(req: &Request<'_, S>, place: usize) -> Option<SreOpcode>
+    requires { place < length (run_of req.now).words }
+    ensures { IfSome result (λ opcode. Opcode (run_of req.now).words place opcode) }
+{
+    SreOpcode::try_from(operands::word(req.pattern_codes().items(), place)).ok()
+}
+
+// The word some places on.
+#[inline(always)]
+fn operand_at<S: StrDrive>(req: &Request<'_, S>, place: usize, offset: usize) -> u32
+    requires { place + offset < length (run_of req.now).words }
+    ensures word { Word (run_of req.now).words (place + offset) result }
+    ensures room { place + 2 ^ 33 < 2 ^ 64 }
+{
+    operands::operand(req.pattern_codes().items(), place, offset)
+}
+
+/// The run that the words begin with, if they begin with one that has no greatest count, behind at most one test of a
+/// character.
+pub(crate) fn leading_run<S: StrDrive>(req: &Request<'_, S>) -> Option<LeadingRun>
+    ensures { (t : Tree) → WholeItems (run_of req.now).words t
+        → IfSome result (λ lead. RunStands (run_of req.now).words t lead.first lead.test) }
+{
+    let mut place = 0;
+    let mut first = None;
+    'item: loop {
+        let opcode = opcode_at(req, place)?;
+        match opcode {
+            SreOpcode::REPEAT_ONE | SreOpcode::MIN_REPEAT_ONE | SreOpcode::POSSESSIVE_REPEAT_ONE =>
+                {
+                    if operand_at(req, place, 3) != u32::MAX {
+                        return None;
+                    }
+                    let test = place + 4;
+                    return Some(LeadingRun { first, test });
+                }
+            _ => {
+                if first.is_some() || !is_test(opcode) {
+                    return None;
+                }
+                first = Some(place);
+                place = test_end(req, place, opcode);
+            }
+        }
+    }
+}
+
+// The cursor one character on, in the window.
+#[inline(always)]
+fn one_on<S: StrDrive>(req: &Request<'_, S>, start: StringCursor) -> Option<StringCursor>
+    requires stands { (run_of req.now).stands start start.position }
+    ensures next { MatchOption result (end_of req.now ≤ start.position)
+        (λ next. (next.position ≡ start.position + 1) × (next.position ≤ end_of req.now)) }
+    ensures stands { IfSome result (λ next. (run_of req.now).stands next next.position) }
+{
+    if start.position() >= req.end() {
+        return None;
+    }
+    Some(read(req, start).1)
+}
+
+// The next start that a match may have, behind a start that has none and the run that leads from there.
+fn behind_run<S: StrDrive>(
+    req: &Request<'_, S>,
+    lead: LeadingRun,
+    start: StringCursor,
+) -> Option<StringCursor>
+    requires stands { (run_of req.now).stands start start.position }
+    requires inside { start.position ≤ end_of req.now }
+    requires lead { (t : Tree) → WholeItems (run_of req.now).words t
+        → RunStands (run_of req.now).words t lead.first lead.test }
+    ensures next { IfSome result (λ next. (start.position < next.position) × (next.position ≤ end_of req.now)) }
+    ensures stands { IfSome result (λ next. (run_of req.now).stands next next.position) }
+    ensures none { (t : Tree) → WholeItems (run_of req.now).words t
+        → at_start (asked_of req.now) t start.position ≡ None
+        → NoneUntil (asked_of req.now) t start.position result }
+{
+    let Some(first) = lead.first else {
+        let run = longest_run(req, lead.test, u32::MAX, start);
+        return one_on(req, run.1);
+    };
+    if start.position() >= req.end() {
+        return None;
+    }
+    let (character, after) = read(req, start);
+    if !takes(req, first, opcode(req, first), character) {
+        return Some(after);
+    }
+    let run = longest_run(req, lead.test, u32::MAX, after);
+    Some(run.1)
+}
+
+/// The next start that a match may have, behind one that has none: one character on, or behind the run that leads.
+#[inline(always)]
+pub(crate) fn start_behind<S: StrDrive>(
+    req: &Request<'_, S>,
+    lead: Option<LeadingRun>,
+    start: StringCursor,
+) -> Option<StringCursor>
+    requires stands { (run_of req.now).stands start start.position }
+    requires inside { start.position ≤ end_of req.now }
+    requires lead { (t : Tree) → WholeItems (run_of req.now).words t
+        → IfSome lead (λ run. RunStands (run_of req.now).words t run.first run.test) }
+    ensures next { IfSome result (λ next. (start.position < next.position) × (next.position ≤ end_of req.now)) }
+    ensures stands { IfSome result (λ next. (run_of req.now).stands next next.position) }
+    ensures none { (t : Tree) → WholeItems (run_of req.now).words t
+        → at_start (asked_of req.now) t start.position ≡ None
+        → NoneUntil (asked_of req.now) t start.position result }
+{
+    match lead {
+        None => one_on(req, start),
+        Some(run) => behind_run(req, run, start),
+    }
+}

@@ -1,0 +1,222 @@
+-- Starts inside the run that a tree begins with have no match where the run's own start has none.
+use Rattle.std.proofs.Common.{◌≡◌, ◌≤◌, ◌<◌, ◌+◌, ◌-◌, ℕ, zero, suc, List, [], ◌∷◌, ◌++◌, Bool, true, false, cond}
+use Rattle.std.proofs.Common.{map, nat_le, nat_lt, Option, Some, None, refl, sym, ap, subst, arith}
+use Rattle.std.specs.List.{flat_map, AllByRecursion}
+use Rattle.std.proofs.lemmas.Bool.Decides.{nat_tests}
+use Rattle.std.proofs.lemmas.List.{append-nil}
+use Rattle.sre_model.specs.Tree.{Tree, Then, One, Run, Test, RunKind, GreedyRun, LazyRun, PossessiveRun}
+use Rattle.sre_model.specs.Marks.{Marks, no_marks}
+use Rattle.sre_model.specs.Subject.{Subject, passes}
+use Rattle.sre_model.specs.Ways.{Way, unlimited, run_length, longest_run, rising, falling, counts, ways}
+use Rattle.sre_model.specs.Found.{Asked, Match, subject_of, is_accepted, first_accepted, at_start}
+use Rattle.sre_model.specs.LeadingRuns.{front_passes, front_length, NoneEnds, RunLeads}
+use Rattle.sre_model.proofs.Each.{each-flat_map, each-map}
+use Rattle.sre_model.proofs.Longest.{run_passes, run_stopped, run_inside, run_has}
+
+-- Lists
+
+each_left : {X : Type 0} (P : X → Type 0) (xs ys : List X) → AllByRecursion P (xs ++ ys) → AllByRecursion P xs
+each_left P [] ys h = tt
+each_left P (x ∷ xs) ys h = (h.0, each_left P xs ys h.1)
+
+each_right : {X : Type 0} (P : X → Type 0) (xs ys : List X) → AllByRecursion P (xs ++ ys) → AllByRecursion P ys
+each_right P [] ys h = h
+each_right P (x ∷ xs) ys h = each_right P xs ys h.1
+
+-- what holds of all that each element gives holds of what each gives
+each_of_flat_map : {X Y : Type 0} (Q : Y → Type 0) (f : X → List Y) (xs : List X) → AllByRecursion Q (flat_map f xs)
+    → AllByRecursion (λ x. AllByRecursion Q (f x)) xs
+each_of_flat_map Q f [] h = tt
+each_of_flat_map Q f (x ∷ xs) h =
+    (each_left Q (f x) (flat_map f xs) h, each_of_flat_map Q f xs (each_right Q (f x) (flat_map f xs) h))
+
+-- and what holds of all images of each image
+each_of_map : {X Y : Type 0} (Q : Y → Type 0) (f : X → Y) (xs : List X) → AllByRecursion Q (map f xs)
+    → AllByRecursion (λ x. Q (f x)) xs
+each_of_map Q f [] h = tt
+each_of_map Q f (x ∷ xs) h = (h.0, each_of_map Q f xs h.1)
+
+-- Counts
+
+-- c is one of a run's counts, where k is the longest
+abbrev IsCount : RunKind → ℕ → ℕ → ℕ → Type 0
+IsCount PossessiveRun low k c = (low ≤ k) × (c ≡ k)
+IsCount kind low k c = (low ≤ c) × (c ≤ k)
+
+module _ (P : ℕ → Type 0) where
+  falling_each : (low n : ℕ) → ((c : ℕ) → low ≤ c → c < low + n → P c) → AllByRecursion P (falling low n)
+  falling_each low zero h = tt
+  falling_each low (suc n) h =
+      (h (low + n) (omega arith) (omega arith), falling_each low n (λ c l k. h c l (omega arith)))
+
+  each_falling : (low n c : ℕ) → AllByRecursion P (falling low n) → low ≤ c → c < low + n → P c
+  each_falling low zero c h l k = absurd (omega arith)
+  each_falling low (suc n) c h l k = by_place (nat_lt c (low + n)) refl (λ k. each_falling low n c h.1 l k)
+    where
+      by_place : (b : Bool) → nat_lt c (low + n) ≡ b → (c < low + n → P c) → P c
+      by_place true y later = later (grind (arith, nat_tests))
+      by_place false y later = let is : low + n ≡ c = grind (arith, nat_tests) in subst P is h.0
+
+  rising_each : (low n : ℕ) → ((c : ℕ) → low ≤ c → c < low + n → P c) → AllByRecursion P (rising low n)
+  rising_each low zero h = tt
+  rising_each low (suc n) h =
+      (h low (omega arith) (omega arith), rising_each (low + 1) n (λ c l k. h c (omega arith) (omega arith)))
+
+  each_rising : (low n c : ℕ) → AllByRecursion P (rising low n) → low ≤ c → c < low + n → P c
+  each_rising low zero c h l k = absurd (omega arith)
+  each_rising low (suc n) c h l k =
+      by_place (nat_lt low c) refl (λ l. each_rising (low + 1) n c h.1 l (omega arith))
+    where
+      by_place : (b : Bool) → nat_lt low c ≡ b → (low + 1 ≤ c → P c) → P c
+      by_place true y later = later (grind (arith, nat_tests))
+      by_place false y later = let is : low ≡ c = grind (arith, nat_tests) in subst P is h.0
+
+  counts_each : (kind : RunKind) (low k : ℕ) → ((c : ℕ) → IsCount kind low k c → P c)
+      → AllByRecursion P (counts kind low k)
+  counts_each GreedyRun low k h = falling_each low (k + 1 - low) (λ c l n. h c (l, omega arith))
+  counts_each LazyRun low k h = rising_each low (k + 1 - low) (λ c l n. h c (l, omega arith))
+  counts_each PossessiveRun low k h = by_test (nat_le low k) refl
+    where
+      by_test : (b : Bool) → nat_le low k ≡ b → AllByRecursion P (cond b (k ∷ []) [])
+      by_test true y = (h k (grind (arith, nat_tests), refl), tt)
+      by_test false n = tt
+
+  each_count : (kind : RunKind) (low k c : ℕ) → AllByRecursion P (counts kind low k) → IsCount kind low k c → P c
+  each_count GreedyRun low k c h i = each_falling low (k + 1 - low) c h i.0 (omega (arith, i.0, i.1))
+  each_count LazyRun low k c h i = each_rising low (k + 1 - low) c h i.0 (omega (arith, i.0, i.1))
+  each_count PossessiveRun low k c h i =
+      let yes_ : nat_le low k ≡ true = grind (arith, nat_tests, i.0) in
+      let first : AllByRecursion P (k ∷ []) = rw yes_ at h in
+      subst P (sym i.1) first.0
+
+-- a count from d characters later is one of the run's own
+count_later : (kind : RunKind) (low k d c : ℕ) → d ≤ k → IsCount kind low (k - d) c → IsCount kind low k (d + c)
+count_later GreedyRun low k d c l i = (omega (arith, i.0), omega (arith, i.1))
+count_later LazyRun low k d c l i = (omega (arith, i.0), omega (arith, i.1))
+count_later PossessiveRun low k d c l i = (omega (arith, i.0), omega (arith, i.1))
+
+-- Runs
+
+-- the run from d characters later ends where it does
+run_later : (s : Subject) (t : Test) (p d : ℕ) → d ≤ longest_run s t unlimited p
+    → longest_run s t unlimited (p + d) ≡ longest_run s t unlimited p - d
+run_later s t p d l =
+    run_has s t (s.end - (p + d)) (p + d) (longest_run s t unlimited p - d)
+    (omega (arith, run_inside s t (s.end - p) p)) passed stopped
+  where
+    k : ℕ
+    k = run_length s t (s.end - p) p
+
+    passed : (c : ℕ) → c < k - d → passes s t (p + d + c) ≡ true
+    passed c h =
+        let same : p + d + c ≡ p + (d + c) = omega arith in
+        rw same (run_passes s t (s.end - p) p (d + c) (omega arith))
+
+    stopped : k - d < s.end - (p + d) → passes s t (p + d + (k - d)) ≡ false
+    stopped h =
+        let same : p + d + (k - d) ≡ p + k = omega arith in
+        rw same (run_stopped s t (s.end - p) p (omega arith))
+
+-- Trees
+
+module _ (s : Subject) (accepts : ℕ → Bool) (kind : RunKind) (low : ℕ) (test : Test) (rest : Tree) (p : ℕ)
+    (m : Marks) where
+  -- the way of a count
+  abbrev counted : ℕ → Way
+  counted c = record { stop = p + c; marks = m }
+
+  -- what follows a run is what follows each of its counts
+  run_none : ((c : ℕ) → IsCount kind low (longest_run s test unlimited p) c → NoneEnds accepts (ways s rest (p + c) m))
+      → NoneEnds accepts (ways s (Then (Run kind low unlimited test) rest) p m)
+  run_none h =
+      each-flat_map (λ (w : Way). NoneEnds accepts (ways s rest w.stop w.marks)) (λ (w : Way). accepts w.stop ≡ false)
+      (λ w. ways s rest w.stop w.marks) (λ w x. x) _
+      (each-map (λ c. NoneEnds accepts (ways s rest (p + c) m)) _ counted (λ c x. x) _
+      (counts_each _ kind low (longest_run s test unlimited p) h))
+
+  none_run : NoneEnds accepts (ways s (Then (Run kind low unlimited test) rest) p m) → (c : ℕ)
+      → IsCount kind low (longest_run s test unlimited p) c → NoneEnds accepts (ways s rest (p + c) m)
+  none_run h c i =
+      each_count (λ c. NoneEnds accepts (ways s rest (p + c) m)) kind low (longest_run s test unlimited p) c
+      (each_of_map (λ (w : Way). NoneEnds accepts (ways s rest w.stop w.marks)) counted _
+      (each_of_flat_map (λ (w : Way). accepts w.stop ≡ false) (λ w. ways s rest w.stop w.marks) _ h)) i
+
+-- no way from inside the run ends accepted where none from its start does
+later_none : (s : Subject) (accepts : ℕ → Bool) (kind : RunKind) (low : ℕ) (test : Test) (rest : Tree) (p d : ℕ)
+    (m : Marks) → d ≤ longest_run s test unlimited p
+    → NoneEnds accepts (ways s (Then (Run kind low unlimited test) rest) p m)
+    → NoneEnds accepts (ways s (Then (Run kind low unlimited test) rest) (p + d) m)
+later_none s accepts kind low test rest p d m l h = run_none s accepts kind low test rest (p + d) m each
+  where
+    each : (c : ℕ) → IsCount kind low (longest_run s test unlimited (p + d)) c
+        → NoneEnds accepts (ways s rest (p + d + c) m)
+    each c i =
+        let left : IsCount kind low (longest_run s test unlimited p - d) c =
+        subst (λ k. IsCount kind low k c) (run_later s test p d l) i in
+        let same : p + (d + c) ≡ p + d + c = omega arith in
+        subst (λ q. NoneEnds accepts (ways s rest q m)) same
+        (none_run s accepts kind low test rest p m h (d + c) (count_later kind low _ d c l left))
+
+-- a run that begins the tree
+pub run_leads : (kind : RunKind) (low : ℕ) (test : Test) (rest : Tree)
+    → RunLeads (Then (Run kind low unlimited test) rest) None test
+run_leads kind low test rest = record {
+  none = λ s accepts p q m _ from to h.
+      let there : p + (q - p) ≡ q = omega arith in
+      let here : p + 0 ≡ p = omega arith in
+      let within : q - p ≤ longest_run s test unlimited p = omega (arith, ap (longest_run s test unlimited) here) in
+      subst (λ r. NoneEnds accepts (ways s (Then (Run kind low unlimited test) rest) r m)) there
+      (later_none s accepts kind low test rest p (q - p) m within h);
+}
+
+-- a test in front of it
+pub front_leads : (x test : Test) (rest : Tree) → RunLeads rest None test → RunLeads (Then (One x) rest) (Some x) test
+front_leads x test rest l = record { none = none }
+  where
+    none : (s : Subject) (accepts : ℕ → Bool) (p q : ℕ) (m : Marks) → passes s x p ≡ true → p ≤ q
+        → q ≤ p + longest_run s test unlimited (p + 1) → NoneEnds accepts (ways s (Then (One x) rest) p m)
+        → NoneEnds accepts (ways s (Then (One x) rest) q m)
+    none s accepts p q m pass from to h = by_test (passes s x q) refl
+      where
+        here : p + 1 + 0 ≡ p + 1
+        here = omega arith
+
+        behind : NoneEnds accepts (ways s rest (p + 1) m)
+        behind = each_left _ (ways s rest (p + 1) m) [] (rw pass at h)
+
+        by_test : (b : Bool) → passes s x q ≡ b → NoneEnds accepts (ways s (Then (One x) rest) q m)
+        by_test true y =
+            rw (y, append-nil) (l.none s accepts (p + 1) (q + 1) m refl (omega arith)
+            (omega (arith, ap (longest_run s test unlimited) here)) behind)
+        by_test false n = rw n tt
+
+-- Matches
+
+-- no match at a start says that no way from it ends accepted
+abbrev accepts_at : Asked → ℕ → Bool
+accepts_at a p = is_accepted a (record { stop = p; marks = no_marks })
+
+refused_each : (a : Asked) (s : ℕ) (ws : List Way) → first_accepted a s ws ≡ None → NoneEnds (accepts_at a) ws
+refused_each a s [] e = tt
+refused_each a s (w ∷ ws) e = by_test (is_accepted a w) refl (refused_each a s ws)
+  where
+    by_test : (b : Bool) → is_accepted a w ≡ b → (first_accepted a s ws ≡ None → NoneEnds (accepts_at a) ws)
+        → NoneEnds (accepts_at a) (w ∷ ws)
+    by_test true y later =
+        let some : Match = record { start = s; end = w.stop; marks = w.marks } in
+        let never : Some some ≡ None = rw y at e in
+        absurd (cc)
+    by_test false n later = (n, later (rw n at e))
+
+each_refused : (a : Asked) (s : ℕ) (ws : List Way) → NoneEnds (accepts_at a) ws → first_accepted a s ws ≡ None
+each_refused a s [] h = refl
+each_refused a s (w ∷ ws) h = let no_ : is_accepted a w ≡ false = h.0 in rw no_ (each_refused a s ws h.1)
+
+-- where a run leads the tree, no match at p says the same of the starts behind it
+pub none_in_run : (a : Asked) (t : Tree) (front : Option Test) (test : Test) (p q : ℕ) → RunLeads t front test
+    → front_passes (subject_of a) front p ≡ true → at_start a t p ≡ None → p ≤ q
+    → q ≤ p + longest_run (subject_of a) test unlimited (p + front_length front) → at_start a t q ≡ None
+none_in_run a t front test p q l pass none from to =
+    each_refused a q (ways (subject_of a) t q no_marks)
+    (l.none (subject_of a) (accepts_at a) p q no_marks pass from to
+    (refused_each a p (ways (subject_of a) t p no_marks) none))

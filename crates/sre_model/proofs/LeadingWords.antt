@@ -1,0 +1,190 @@
+-- Which words begin with a run.
+use Rattle.std.proofs.Common.{◌≡◌, ◌≢◌, ℕ, ◌+◌, ◌-◌, ◌<◌, ◌⊎◌, inl, inr, List, length, Option, Some, None, refl, sym}
+use Rattle.std.proofs.Common.{ap, ◌∙◌, subst, arith}
+use Rattle.sre_chars.specs.declared.constants.SreOpcode.{SreOpcode}
+use Rattle.sre_chars.specs.declared.constants.SreOpcode.TheVariants as opcode
+use Rattle.sre_model.specs.Tree.{Tree, Empty, Then, Item, One, Run, Test, RunKind}
+use Rattle.sre_model.specs.Ways.{unlimited}
+use Rattle.sre_model.specs.Grammar.{Word, Opcode, item_opcode, Reads, ReadsItem, WholeItems}
+use Rattle.sre_model.specs.Roles.{Role, ToTest, role}
+use Rattle.sre_model.specs.Standing.{TestStands, HasTest}
+use Rattle.sre_model.specs.Machine.{family, family_of, Testing}
+use Rattle.sre_model.specs.LeadingRuns.{RunLeads, FrontStands, RunStands}
+use Rattle.sre_model.proofs.Words.{same_word, same_opcode, word_within, opcode_within}
+use Rattle.sre_model.proofs.Families.{items_of, kind_of, OfOne, OfRun, is_one, is_run}
+use Rattle.sre_model.proofs.Places.{test_past}
+use Rattle.sre_model.proofs.LeadingRuns.{run_leads, front_leads}
+
+-- a run that leads what is left of a tree, behind what stands in front, leads the whole
+abbrev LeadsOn : Option Test → Tree → Tree → Type 0
+LeadsOn None left whole = (front : Option Test) (test : Test) → RunLeads left front test → RunLeads whole front test
+LeadsOn (Some x) left whole = (test : Test) → RunLeads left None test → RunLeads whole (Some x) test
+
+-- the words from a place on are what is left of a tree, up to a SUCCESS, behind a test at a place, if there is one
+pub record RunAhead (ws : List ℕ) (whole : Tree) (i : ℕ) (first : Option ℕ) : Type 0 where
+  pub left : Tree
+  pub end : ℕ
+  pub front : Option Test
+  pub reads : Reads ws i end left
+  pub ends : Opcode ws end opcode.SUCCESS
+  pub before : FrontStands ws first front
+  pub leads : LeadsOn front left whole
+
+pub whole_ahead : (ws : List ℕ) (t : Tree) → WholeItems ws t → RunAhead ws t 0 None
+whole_ahead ws t w = record {
+  left = t;
+  end = length ws - 1;
+  front = None;
+  reads = w.0;
+  ends = w.1;
+  before = tt;
+  leads = λ front test l. l;
+}
+
+-- the same, where what is left begins with an item
+record ItemAhead (ws : List ℕ) (whole : Tree) (i : ℕ) (first : Option ℕ) : Type 0 where
+  pub item : Item
+  pub rest : Tree
+  pub after : ℕ
+  pub end : ℕ
+  pub front : Option Test
+  pub here : ReadsItem ws i after item
+  pub behind : Reads ws after end rest
+  pub ends : Opcode ws end opcode.SUCCESS
+  pub before : FrontStands ws first front
+  pub leads : LeadsOn front (Then item rest) whole
+
+module _ (ws : List ℕ) (t : Tree) (i : ℕ) (first : Option ℕ) (a : RunAhead ws t i first) where
+  pub ahead_within : i < length ws
+  ahead_within = by_tree a.left a.reads
+    where
+      by_tree : (x : Tree) → Reads ws i a.end x → i < length ws
+      by_tree Empty e = opcode_within ws i opcode.SUCCESS (subst (λ k. Opcode ws k opcode.SUCCESS) (sym e) a.ends)
+      by_tree (Then item rest) r = opcode_within ws i (item_opcode item) r.1.0
+
+  item_ahead : (o : SreOpcode) → o ≢ opcode.SUCCESS → Opcode ws i o → ItemAhead ws t i first
+  item_ahead o other w = by_tree a.left a.reads a.leads
+    where
+      by_tree : (x : Tree) → Reads ws i a.end x → LeadsOn a.front x t → ItemAhead ws t i first
+      by_tree Empty e leads =
+          let end_ : Opcode ws i opcode.SUCCESS = subst (λ k. Opcode ws k opcode.SUCCESS) (sym e) a.ends in
+          absurd (other (same_opcode ws i o opcode.SUCCESS w end_))
+      by_tree (Then item rest) r leads = record {
+        item = item;
+        rest = rest;
+        after = r.0;
+        end = a.end;
+        front = a.front;
+        here = r.1;
+        behind = r.2;
+        ends = a.ends;
+        before = a.before;
+        leads = leads;
+      }
+
+-- Runs
+
+abbrev pub IsRunOpcode : SreOpcode → Type 0
+IsRunOpcode o = (o ≡ opcode.REPEAT_ONE) ⊎ ((o ≡ opcode.MIN_REPEAT_ONE) ⊎ (o ≡ opcode.POSSESSIVE_REPEAT_ONE))
+
+run_is_run : (o : SreOpcode) → IsRunOpcode o → kind_of o ≡ OfRun
+run_is_run o (inl e) = ap kind_of e
+run_is_run o (inr (inl e)) = ap kind_of e
+run_is_run o (inr (inr e)) = ap kind_of e
+
+run_no_end : (o : SreOpcode) → IsRunOpcode o → o ≢ opcode.SUCCESS
+run_no_end o run e = let never : OfRun ≡ kind_of opcode.SUCCESS = sym (run_is_run o run) ∙ ap kind_of e in cc
+
+-- a run that leads what is left leads the whole
+run_first : (front : Option Test) (left whole : Tree) (test : Test) → LeadsOn front left whole
+    → RunLeads left None test → RunLeads whole front test
+run_first None left whole test on l = on None test l
+run_first (Some x) left whole test on l = on test l
+
+module _ (ws : List ℕ) (t : Tree) (i : ℕ) (first : Option ℕ) (o : SreOpcode) (a : RunAhead ws t i first)
+    (run : IsRunOpcode o) (w : Opcode ws i o) where
+  abbrev here : ItemAhead ws t i first
+  here = item_ahead ws t i first a o (run_no_end o run) w
+
+  abbrev is : (kind : RunKind) × (low : ℕ) × (high : ℕ) × (test : Test) × (here.item ≡ Run kind low high test)
+      × ReadsItem ws i here.after (Run kind low high test)
+  is = is_run ws i here.after here.item (record { code = o; there = w; begins = run_is_run o run }) here.here
+
+  pub run_operands : i + 3 < length ws
+  run_operands = word_within ws (i + 3) is.2 is.5.1.2
+
+  pub run_stands : Word ws (i + 3) unlimited → RunStands ws t first (i + 4)
+  run_stands wide =
+      let high : is.2 ≡ unlimited = same_word ws (i + 3) is.2 unlimited is.5.1.2 wide in
+      let same : here.item ≡ Run is.0 is.1 unlimited is.3 = is.4 ∙ ap (λ n. Run is.0 is.1 n is.3) high in
+      record {
+        front = here.front;
+        test = is.3;
+        end = here.after - 1;
+        before = here.before;
+        stands = record { code = is.5.1.4; operands = is.5.1.5 };
+        leads =
+            run_first here.front (Then (Run is.0 is.1 unlimited is.3) here.rest) t is.3
+            (subst (λ x. LeadsOn here.front (Then x here.rest) t) same here.leads)
+            (run_leads is.0 is.1 is.3 here.rest);
+      }
+
+-- Tests
+
+test_is_one : (o : SreOpcode) → family o ≡ Testing → kind_of o ≡ OfOne
+test_is_one o e = by_role (role o) e
+  where
+    by_role : (r : Role) → family_of r ≡ Testing → items_of r ≡ OfOne
+    by_role (ToTest kind) e = refl
+    by_role r e = absurd (cc)
+
+test_no_end : (o : SreOpcode) → family o ≡ Testing → o ≢ opcode.SUCCESS
+test_no_end o tests e = let never : OfOne ≡ kind_of opcode.SUCCESS = sym (test_is_one o tests) ∙ ap kind_of e in cc
+
+-- a run behind a test, of which none stands in front
+behind_front : (ws : List ℕ) (front : Option Test) (x test : Test) (rest whole : Tree) → FrontStands ws None front
+    → LeadsOn front (Then (One x) rest) whole → RunLeads rest None test → RunLeads whole (Some x) test
+behind_front ws None x test rest whole none on l = on (Some x) test (front_leads x test rest l)
+behind_front ws (Some y) x test rest whole some on l = absurd some
+
+module _ (ws : List ℕ) (t : Tree) (i : ℕ) (o : SreOpcode) (a : RunAhead ws t i None) (tests : family o ≡ Testing)
+    (w : Opcode ws i o) where
+  abbrev at : ItemAhead ws t i None
+  at = item_ahead ws t i None a o (test_no_end o tests) w
+
+  abbrev one : (x : Test) × (at.item ≡ One x) × ReadsItem ws i at.after (One x)
+  one = is_one ws i at.after at.item (record { code = o; there = w; begins = test_is_one o tests }) at.here
+
+  stands : TestStands ws i at.after one.0
+  stands = record { code = one.2.0; operands = one.2.1 }
+
+  pub test_ahead : HasTest ws i
+  test_ahead = record { end = at.after; test = one.0; stands = stands }
+
+  pub test_further : (j : ℕ) → ((k : ℕ) (x : Test) → TestStands ws i k x → j ≡ k) → i < j
+  test_further j ends = omega (arith, ends at.after one.0 stands, test_past one.0 ws i at.after one.2.1)
+
+  pub behind_test : (j : ℕ) → ((k : ℕ) (x : Test) → TestStands ws i k x → j ≡ k) → RunAhead ws t j (Some i)
+  behind_test j ends = record {
+    left = at.rest;
+    end = at.end;
+    front = Some one.0;
+    reads = subst (λ k. Reads ws k at.end at.rest) (sym (ends at.after one.0 stands)) at.behind;
+    ends = at.ends;
+    before = (at.after, stands);
+    leads = λ test l.
+        behind_front ws at.front one.0 test at.rest t at.before
+        (subst (λ x. LeadsOn at.front (Then x at.rest) t) one.1 at.leads) l;
+  }
+
+-- What is known of a run that is found
+
+pub run_test : (ws : List ℕ) (t : Tree) (first : Option ℕ) (place : ℕ) → RunStands ws t first place → HasTest ws place
+run_test ws t first place r = record { end = r.end; test = r.test; stands = r.stands }
+
+pub front_test : (ws : List ℕ) (t : Tree) (first place : ℕ) → RunStands ws t (Some first) place → HasTest ws first
+front_test ws t first place r = by_front r.front r.before
+  where
+    by_front : (front : Option Test) → FrontStands ws (Some first) front → HasTest ws first
+    by_front None before = absurd before
+    by_front (Some x) before = record { end = before.0; test = x; stands = before.1 }
