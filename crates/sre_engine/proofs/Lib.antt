@@ -1,3 +1,4 @@
 pub mod Answering
 pub mod LeadingStarts
 pub mod Walking
+pub mod Starting

@@ -1,9 +1,58 @@
--- Starts from which there is no match.
+-- Starts from which there is no match: barred by what has to come first, or passed behind a start that has none.
 -- Words of the search's contracts; what sre_engine makes public does not rest on it.
-use Rattle.std.specs.Prelude.{ℕ, ◌+◌, ◌≡◌, ◌≤◌, ◌<◌, Option, Some, None}
+use Rattle.std.specs.Prelude.{ℕ, ◌≡◌, ◌<◌, ◌≤◌, ◌+◌, ◌-◌, ◌⊎◌, false, List, Option, Some, None}
+use Rattle.sre_chars.specs.declared.constants.SreAtCode.{SreAtCode}
 use Rattle.sre_chars.specs.declared.string.StringCursor.{StringCursor}
 use Rattle.sre_model.specs.Tree.{Tree}
+use Rattle.sre_model.specs.Grammar.{WholeItems}
 use Rattle.sre_model.specs.Found.{Asked, at_start}
+use Rattle.sre_model.specs.Subject.{Subject, holds_at}
+use Rattle.sre_model.specs.Machine.{Run}
+use Rattle.sre_model.specs.Standing.{HasTest}
+use Rattle.sre_model.specs.FirstCharacters.{NoWay, NotPassed}
+use Rattle.sre_engine.specs.declared.engine.first_characters.First.{First}
+use Rattle.sre_engine.specs.declared.engine.first_characters.Wanted.{Wanted}
+use Rattle.sre_engine.specs.declared.engine.first_characters.Wanted.TheVariants.{Anything, Test}
+
+-- a position code, where there is one, does not hold at a position
+abbrev pub IsElsewhere : Subject → Option SreAtCode → ℕ → Type 0
+IsElsewhere s None p = ⊥
+IsElsewhere s (Some code) p = holds_at s code p ≡ false
+
+-- what is wanted is not at a position
+abbrev pub IsLacking : List ℕ → Subject → Wanted → ℕ → Type 0
+IsLacking ws s Anything p = ⊥
+IsLacking ws s (Test place) p = NotPassed ws s place p
+
+-- at a start fewer characters are before it than is looked back, or its code does not hold, or what is wanted so far
+-- back is not there
+abbrev pub Barred : List ℕ → Subject → First → ℕ → Type 0
+Barred ws s first p = (p < first.back) ⊎ (IsElsewhere s first.at p ⊎ IsLacking ws s first.wanted (p - first.back))
+
+-- from a start that is barred no tree of the words has a way
+pub record Bars (ws : List ℕ) (first : First) : Type 0 where
+  pub none : (t : Tree) → WholeItems ws t → (s : Subject) (p : ℕ) → Barred ws s first p → NoWay s t p
+
+-- where a test is wanted, one is at its place
+abbrev pub TestsThere : List ℕ → Wanted → Type 0
+TestsThere ws Anything = Unit {0}
+TestsThere ws (Test place) = HasTest ws place
+
+-- each start from one on is barred, up to and with the window's end
+pub record AllBarred (r : Run) (first : First) (from : ℕ) : Type 0 where
+  pub each : (q : ℕ) → from ≤ q → q ≤ r.subject.end → Barred r.words r.subject first q
+
+-- a cursor stands in the window, and each start from one on is barred up to it
+pub record BarredUpTo (r : Run) (first : First) (from : ℕ) (cursor : StringCursor) : Type 0 where
+  pub stands : r.stands cursor cursor.position
+  pub after : from ≤ cursor.position
+  pub inside : cursor.position ≤ r.subject.end
+  pub each : (q : ℕ) → from ≤ q → q < cursor.position → Barred r.words r.subject first q
+
+-- the next start at which a match may begin, where there is one
+abbrev pub NextStart : Run → First → ℕ → Option StringCursor → Type 0
+NextStart r first from None = AllBarred r first from
+NextStart r first from (Some cursor) = BarredUpTo r first from cursor
 
 -- no start from p up to before q has a match
 abbrev pub NoneBetween : Asked → Tree → ℕ → ℕ → Type 0

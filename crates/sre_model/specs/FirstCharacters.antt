@@ -1,15 +1,16 @@
--- First characters: which character each way of a tree asks for, at its start or before it.
+-- First characters: where a tree has no way, as its first words tell it.
 -- Words of the search's contracts; what sre_engine makes public does not rest on it.
-use Rattle.std.specs.Prelude.{ℕ, ◌-◌, ◌≡◌, Bool, true, not, ◌||◌, nat_lt, []}
-use Rattle.sre_model.specs.Tree.{Tree, Literal, Plain}
+use Rattle.std.specs.Prelude.{ℕ, ◌≡◌, false, List, []}
+use Rattle.sre_model.specs.Tree.{Tree, Test}
 use Rattle.sre_model.specs.Marks.{Marks}
 use Rattle.sre_model.specs.Subject.{Subject, passes}
 use Rattle.sre_model.specs.Ways.{ways}
+use Rattle.sre_model.specs.Standing.{TestStands}
 
--- the character so far back from p is not v: another one is there, or the window ends, or fewer stand before p
-abbrev pub lacks : Subject → ℕ → ℕ → ℕ → Bool
-lacks s back v p = nat_lt p back || not (passes s (Literal Plain v) (p - back))
+-- from a position the tree has no way, whatever the marks
+pub record NoWay (s : Subject) (t : Tree) (p : ℕ) : Type 0 where
+  pub none : (m : Marks) → ways s t p m ≡ []
 
--- each way of the tree has the character v so far back from its start: where that is lacking there is no way
-pub record Wants (t : Tree) (back v : ℕ) : Type 0 where
-  pub none : (s : Subject) (p : ℕ) (m : Marks) → lacks s back v p ≡ true → ways s t p m ≡ []
+-- the test at a place of the words does not pass at a position
+pub record NotPassed (ws : List ℕ) (s : Subject) (place p : ℕ) : Type 0 where
+  pub each : (j : ℕ) (t : Test) → TestStands ws place j t → passes s t p ≡ false

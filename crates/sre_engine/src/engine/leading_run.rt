@@ -3,15 +3,15 @@
 //! A start inside the run has its own run end at the same place, so that it leads to no end which the run's start has
 //! not tried. A search that goes on behind the run passes over each character once.
 
-ghost use Rattle.std.specs.Prelude.{◌≡◌, ◌+◌, ◌^◌, ◌<◌, ◌≤◌, length, IfSome, MatchOption, None, true};
+ghost use Rattle.std.specs.Prelude.{◌≡◌, ◌+◌, ◌^◌, ◌<◌, ◌≤◌, length, IfSome, MatchOption, None};
 ghost use Rattle.sre_model.specs.Tree.{Tree};
 ghost use Rattle.sre_model.specs.Grammar.{Word, Opcode, WholeItems};
 ghost use Rattle.sre_model.specs.Found.{at_start};
-ghost use Rattle.sre_model.specs.Machine.{family, Testing};
 ghost use Rattle.sre_model.specs.LeadingRuns.{RunStands};
 ghost use Rattle.sre_request.specs.Requests.{end_of, asked_of, run_of};
 ghost use Rattle.sre_engine.specs.Starts.{NoneUntil};
 
+use crate::engine::first_characters::is_test;
 use sre_chars::constants::SreOpcode;
 use sre_chars::string::{StrDrive, StringCursor};
 use sre_request::one_character::{opcode, takes, test_end};
@@ -26,26 +26,6 @@ use std::convert::TryFrom;
 pub(crate) struct LeadingRun {
     first: Option<usize>,
     test: usize,
-}
-
-// Whether an opcode is that of a test of one character.
-fn is_test(opcode: SreOpcode) -> bool
-    ensures { result ≡ true → family opcode ≡ Testing }
-{
-    macro_rules! is_one_of {
-        ($($test:ident)*) => {
-            match opcode {
-                $(SreOpcode::$test => true,)*
-                _ => false,
-            }
-        };
-    }
-    is_one_of!(
-        ANY ANY_ALL CATEGORY
-        LITERAL LITERAL_IGNORE LITERAL_LOC_IGNORE LITERAL_UNI_IGNORE
-        NOT_LITERAL NOT_LITERAL_IGNORE NOT_LITERAL_LOC_IGNORE NOT_LITERAL_UNI_IGNORE
-        IN IN_IGNORE IN_LOC_IGNORE IN_UNI_IGNORE
-    )
 }
 
 // The opcode at a place, if one is there.

@@ -1,11 +1,10 @@
 //! A state: what a search leaves of a match.
 
-ghost use Rattle.std.specs.Prelude.{◌≡◌, ◌≤◌, length, IfOk, IfSome, OnErr, true, false, None};
+ghost use Rattle.std.specs.Prelude.{◌≡◌, ◌≤◌, length, IfOk, OnErr, true, false, None};
 ghost use Rattle.sre_model.specs.Tree.{Tree};
 ghost use Rattle.sre_model.specs.Grammar.{Whole};
 ghost use Rattle.sre_model.specs.Marks.{no_marks};
 ghost use Rattle.sre_model.specs.Found.{matched, found};
-ghost use Rattle.sre_model.specs.FirstCharacters.{Wants};
 ghost use Rattle.sre_model.specs.Board.{bare};
 ghost use Rattle.sre_model.specs.Machine.{Decides, outcomes};
 ghost use Rattle.sre_code.specs.Codes.{words_of};
@@ -13,7 +12,7 @@ ghost use Rattle.sre_request.specs.Requests.{string_of, start_of, end_of, code_o
 ghost use Rattle.sre_engine.specs.Answers.{Answers, AnswersAlike, Spans};
 ghost use Rattle.sre_growth.specs.Refusal.{Refused};
 
-use crate::engine::first_characters::{Wanted, first_wanted, is_hopeless};
+use crate::engine::first_characters::{First, next_start};
 use crate::engine::leading_run::{leading_run, start_behind};
 use sre_board::{Board, Marks};
 use sre_chars::string::{StrDrive, StringCursor};
@@ -65,19 +64,16 @@ impl<A: Allocator + Copy> Model for State<A> {
     ghost view = { λ s. record { marks = s.board.marks; start = s.start; cursor = s.cursor } };
 }
 
-// The first accepted way from a cursor, on an empty board: the cursor at its end, and its marks on the board. Where the
-// wanted character is lacking there is none, which takes no run. Without a way, or with an error, the board is empty.
+// The first accepted way from a cursor, on an empty board: the cursor at its end, and its marks on the board. Without a
+// way, or with an error, the board is empty.
 #[inline(always)]
 fn attempt<S: StrDrive, A: Allocator>(
     req: &Request<'_, S>,
-    wanted: Option<Wanted>,
     start: StringCursor,
     board: &mut Board<A>,
 ) -> Result<Option<StringCursor>, SreError>
     requires stands { (run_of req.now).stands start start.position }
     requires inside { start.position ≤ end_of req.now }
-    requires wanted { (t : Tree) → Whole (words_of (code_of req.now)) t
-        → IfSome wanted (λ w. Wants t w.back w.character) }
     requires fresh { board.old ≡ bare no_marks }
     ensures found { (t : Tree) → Whole (words_of (code_of req.now)) t
         → IfOk result
@@ -86,11 +82,6 @@ fn attempt<S: StrDrive, A: Allocator>(
     ensures err { OnErr result (board.new ≡ bare no_marks) }
     ensures refused { OnErr result Refused }
 {
-    if let Some(wanted) = wanted {
-        if is_hopeless(req, start, wanted) {
-            return Ok(None);
-        }
-    }
     match run(req, start, board) {
         Ok(Some(end)) => Ok(Some(end)),
         Ok(None) => {
@@ -168,7 +159,7 @@ impl<A: Allocator + Copy> State<A> {
     {
         let start = req.string().create_cursor(req.start());
         self.board.clear(); // of an earlier match
-        match attempt(req, None, start, &mut self.board)? {
+        match attempt(req, start, &mut self.board)? {
             Some(end) => {
                 (self.start, self.cursor) = (req.start(), end);
                 Ok(true)
@@ -218,17 +209,21 @@ impl<A: Allocator + Copy> State<A> {
         ensures refused { OnErr result Refused }
     {
         let mut start = from;
-        let wanted = first_wanted(req.pattern_codes().items());
+        let first = First::of_items(req.pattern_codes().items());
         let lead = leading_run(req);
         self.board.clear(); // of an earlier search
         'start: loop {
-            if let Some(end) = attempt(req, wanted, start, &mut self.board)? {
+            match next_start(req, first, start) {
+                None => return Ok(false),
+                Some(next) => start = next,
+            }
+            if let Some(end) = attempt(req, start, &mut self.board)? {
                 (self.start, self.cursor) = (start.position(), end);
                 return Ok(true);
             }
             match start_behind(req, lead, start) {
                 None => return Ok(false),
-                Some(next) => start = next,
+                Some(behind) => start = behind,
             }
         }
     }

@@ -5,6 +5,7 @@ use Rattle.sre_model.specs.Grammar.{Whole}
 use Rattle.sre_model.specs.Board.{bare}
 use Rattle.sre_code.specs.Codes.{words_of}
 use Rattle.sre_request.specs.Requests.{start_of, end_of, code_of, asked_of, run_of}
+use Rattle.sre_engine.specs.Starts.{Bars}
 use Rattle.sre_engine.proofs.Answering.{NoneBefore}
 use Rattle.sre_engine.proofs.engine.state.State.search_from.Given as goal
 
@@ -14,6 +15,7 @@ invariant-start g l = record {
   from : start_of l.req ≤ l.start.position;
   inside : l.start.position ≤ end_of l.req;
   fresh : l.self-inside.board ≡ bare no_marks;
+  bars : Bars (run_of l.req).words l.first;
   before : (t : Tree) → Whole (words_of (code_of l.req)) t → NoneBefore (asked_of l.req) t l.start.position;
 }
 

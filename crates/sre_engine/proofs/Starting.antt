@@ -1,0 +1,93 @@
+-- Which starts are barred, and what being barred rules out.
+use Rattle.std.proofs.Common.{◌≡◌, ◌≤◌, ◌<◌, ◌+◌, ◌-◌, ℕ, false, List, arith, inl, inr, sym, subst, refl, Some, None}
+use Rattle.std.proofs.lemmas.Bool.{cases_lt}
+use Rattle.sre_chars.specs.declared.constants.SreAtCode.{SreAtCode}
+use Rattle.sre_chars.specs.declared.string.StringCursor.{StringCursor}
+use Rattle.sre_model.specs.Tree.{Tree}
+use Rattle.sre_model.specs.Grammar.{WholeItems}
+use Rattle.sre_model.specs.Marks.{no_marks}
+use Rattle.sre_model.specs.Found.{Asked, subject_of, at_start, found}
+use Rattle.sre_model.specs.Subject.{Subject, holds_at}
+use Rattle.sre_model.specs.Machine.{Run}
+use Rattle.sre_model.specs.FirstCharacters.{NoWay}
+use Rattle.sre_model.proofs.Passing.{stands_at_own}
+use Rattle.sre_model.proofs.FoundLaws.{none-found}
+use Rattle.sre_model.proofs.FirstCharacters.{Leads}
+use Rattle.sre_engine.specs.declared.engine.first_characters.First.{First}
+use Rattle.sre_engine.specs.declared.engine.first_characters.Wanted.{Wanted}
+use Rattle.sre_engine.specs.declared.engine.first_characters.Wanted.TheVariants.{Anything}
+use Rattle.sre_engine.proofs.Answering.{NoneBefore}
+use Rattle.sre_engine.specs.Starts.{IsElsewhere, IsLacking, Barred, Bars, AllBarred, BarredUpTo}
+
+-- a description bars, if each of its three reasons leaves no way
+pub bars_if : (ws : List ℕ) (i : ℕ) (f : First) → ((t : Tree) → WholeItems ws t → Leads ws t i f.back)
+    → ((t : Tree) → WholeItems ws t → (s : Subject) (p : ℕ) → IsElsewhere s f.at p → NoWay s t p)
+    → ((t : Tree) → WholeItems ws t → (s : Subject) (p : ℕ) → IsLacking ws s f.wanted (p - f.back) → NoWay s t p)
+    → Bars ws f
+bars_if ws i f leads at wanted = record {
+  none = λ t whole s p barred. elim barred [
+    | (inl near) ↦ (leads t whole).near s p near
+    | (inr (inl elsewhere)) ↦ at t whole s p elsewhere
+    | (inr (inr lacking)) ↦ wanted t whole s p lacking
+  ];
+}
+
+-- where anything is wanted, nothing is lacking
+pub nothing_lacks : (ws : List ℕ) (s : Subject) (w : Wanted) (p : ℕ) → w ≡ Anything → IsLacking ws s w p → ⊥
+nothing_lacks ws s w p is lacking = subst (λ v. IsLacking ws s v p) is lacking
+
+-- a start at which the code does not hold
+pub barred_by_code : (ws : List ℕ) (s : Subject) (f : First) (code : SreAtCode) (q : ℕ) → f.at ≡ Some code
+    → holds_at s code q ≡ false → Barred ws s f q
+barred_by_code ws s f code q is fails = inr (inl (subst (λ a. IsElsewhere s a q) (sym is) fails))
+
+module _ (r : Run) (f : First) (a : ℕ) (c d : StringCursor) (x : BarredUpTo r f a c) where
+  -- from a cursor on, too
+  pub up_to_further : BarredUpTo r f c.position d → BarredUpTo r f a d
+  up_to_further y = record {
+    stands = y.stands;
+    after = omega (arith, x.after, y.after);
+    inside = y.inside;
+    each = λ q from to. elim (cases_lt q c.position) [
+      | (inl before) ↦ x.each q from before
+      | (inr behind) ↦ y.each q behind to
+    ];
+  }
+
+  -- at the cursor, too
+  pub up_to_next : Barred r.words r.subject f c.position → c.position < r.subject.end → d.position ≡ c.position + 1
+      → r.stands d (c.position + 1) → BarredUpTo r f a d
+  up_to_next here l at there = record {
+    stands = stands_at_own r.stands d (c.position + 1) at there;
+    after = omega (arith, x.after, at);
+    inside = omega (arith, l, at);
+    each = λ q from to. elim (cases_lt q c.position) [
+      | (inl before) ↦ x.each q from before
+      | (inr behind) ↦
+          let same : c.position ≡ q = omega (arith, behind, to, at) in
+          subst (λ p. Barred r.words r.subject f p) same here
+    ];
+  }
+
+-- where a description bars a start, no match begins
+module _ (r : Run) (a : Asked) (t : Tree) (f : First) (same : r.subject ≡ subject_of a) (bars : Bars r.words f)
+    (whole : WholeItems r.words t) where
+  barred_start : (q : ℕ) → Barred r.words r.subject f q → at_start a t q ≡ None
+  barred_start q barred =
+      let here = subst (λ s. Barred r.words s f q) same barred in
+      let none = (bars.none t whole (subject_of a) q here).none no_marks in
+      rw none refl
+
+  pub passed_none : (p : ℕ) (c : StringCursor) → NoneBefore a t p → BarredUpTo r f p c → NoneBefore a t c.position
+  passed_none p c before x s from less = elim (cases_lt s p) [
+    | (inl earlier) ↦ before s from earlier
+    | (inr later) ↦ barred_start s (x.each s later less)
+  ]
+
+  pub found_nowhere : (p : ℕ) → NoneBefore a t p → AllBarred r f p → found a t ≡ None
+  found_nowhere p before x =
+      none-found a t
+      (λ s from to. elim (cases_lt s p) [
+        | (inl earlier) ↦ before s from earlier
+        | (inr later) ↦ barred_start s (x.each s later (subst (λ (y : Subject). s ≤ y.end) (sym same) to))
+      ])
