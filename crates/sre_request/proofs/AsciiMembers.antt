@@ -1,6 +1,6 @@
 -- The ASCII characters of a set, item by item.
-use Rattle.std.proofs.Common.{ℕ, ◌+◌, ◌≡◌, ◌<◌, Bool, true, false, not, cond, ◌&&◌, ◌||◌, nat_eq, nat_lt, List, refl, sym}
-use Rattle.std.proofs.Common.{◌∙◌, ap, subst, slice_range, arith}
+use Rattle.std.proofs.Common.{ℕ, ◌+◌, ◌≡◌, ◌<◌, Bool, true, false, not, cond, ◌&&◌, ◌||◌, nat_eq, nat_lt, List, refl}
+use Rattle.std.proofs.Common.{sym, ◌∙◌, ap, subst, slice_range, arith}
 use Rattle.std.proofs.lemmas.Bool.Decides.{nat_tests}
 use Rattle.sre_ascii.specs.Sets.{contains}
 use Rattle.sre_ascii.specs.declared.AsciiSet.{AsciiSet}

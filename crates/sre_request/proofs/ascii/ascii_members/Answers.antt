@@ -6,7 +6,8 @@ use Rattle.sre_request.proofs.AsciiMembers.{ascii_all, ascii_there, ascii_past, 
 use Rattle.sre_request.proofs.ascii.ascii_members.Goals as goal
 
 pub item-init : goal.item-init
-item-init c = ascii_all c.args.words.now c.args.start _ _ _ c.new-members.ensures c.new.ensures c.complement-left.ensures
+item-init c =
+    ascii_all c.args.words.now c.args.start _ _ _ c.new-members.ensures c.new.ensures c.complement-left.ensures
 
 pub opcode-requires : goal.opcode-requires
 opcode-requires c =
