@@ -25,3 +25,8 @@ whole_of code =
 pub items_whole : (code : Code) (t : Tree) → Whole (words_of code) t → WholeItems (items_of code) t
 unfolding items_of
 items_whole code t w = w.1
+
+-- and a tree of its items is the code's
+pub whole_items : (code : Code) (t : Tree) → WholeItems (items_of code) t → Whole (words_of code) t
+unfolding items_of
+whole_items code t w = ((code_tree (words_of code) (hints_of code) code.checked).1.0, w)

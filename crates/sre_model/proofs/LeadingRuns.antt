@@ -4,13 +4,15 @@ use Rattle.std.proofs.Common.{map, nat_le, nat_lt, Option, Some, None, refl, sym
 use Rattle.std.specs.List.{flat_map, AllByRecursion}
 use Rattle.std.proofs.lemmas.Bool.Decides.{nat_tests}
 use Rattle.std.proofs.lemmas.List.{append-nil}
-use Rattle.sre_model.specs.Tree.{Tree, Then, One, Run, Test, RunKind, GreedyRun, LazyRun, PossessiveRun}
-use Rattle.sre_model.specs.Marks.{Marks, no_marks}
+use Rattle.sre_model.specs.Tree.{Tree, Then, One, Mark, Run, Test, RunKind, GreedyRun, LazyRun, PossessiveRun}
+use Rattle.sre_model.specs.Marks.{Marks, no_marks, set_mark}
+use Rattle.sre_model.specs.References.{refers}
 use Rattle.sre_model.specs.Subject.{Subject, passes}
 use Rattle.sre_model.specs.Ways.{Way, unlimited, run_length, longest_run, rising, falling, counts, ways}
 use Rattle.sre_model.specs.Found.{Asked, Match, subject_of, is_accepted, first_accepted, at_start}
 use Rattle.sre_model.specs.LeadingRuns.{front_passes, front_length, NoneEnds, RunLeads}
 use Rattle.sre_model.proofs.Each.{each-flat_map, each-map}
+use Rattle.sre_model.proofs.MarksApart.{SameStops, ways-apart}
 use Rattle.sre_model.proofs.Longest.{run_passes, run_stopped, run_inside, run_has}
 
 -- Lists
@@ -189,6 +191,25 @@ front_leads x test rest l = record { none = none }
             rw (y, append-nil) (l.none s accepts (p + 1) (q + 1) m refl (omega arith)
             (omega (arith, ap (longest_run s test unlimited) here)) behind)
         by_test false n = rw n tt
+
+-- a mark in front of it, where nothing behind it depends on marks
+none_apart : (accepts : ℕ → Bool) (xs ys : List Way) → SameStops xs ys → NoneEnds accepts xs → NoneEnds accepts ys
+none_apart accepts [] [] same h = tt
+none_apart accepts [] (y ∷ ys) same h = absurd same
+none_apart accepts (x ∷ xs) [] same h = tt
+none_apart accepts (x ∷ xs) (y ∷ ys) same h =
+    (subst (λ q. accepts q ≡ false) same.0 h.0, none_apart accepts xs ys same.1 h.1)
+
+pub mark_leads : (n : ℕ) (rest : Tree) (front : Option Test) (test : Test) → refers rest ≡ false
+    → RunLeads rest front test → RunLeads (Then (Mark n) rest) front test
+mark_leads n rest front test apart l = record {
+  none = λ s accepts p q m pass from to h.
+      let behind : NoneEnds accepts (ways s rest p (set_mark m n p)) =
+      each_left _ (ways s rest p (set_mark m n p)) [] h in
+      rw append-nil (none_apart accepts (ways s rest q (set_mark m n p)) (ways s rest q (set_mark m n q))
+      (ways-apart s rest apart q (set_mark m n p) (set_mark m n q))
+      (l.none s accepts p q (set_mark m n p) pass from to behind));
+}
 
 -- Matches
 

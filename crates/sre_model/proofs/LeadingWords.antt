@@ -1,9 +1,11 @@
 -- Which words begin with a run.
-use Rattle.std.proofs.Common.{◌≡◌, ◌≢◌, ℕ, ◌+◌, ◌-◌, ◌<◌, ◌⊎◌, inl, inr, List, length, Option, Some, None, refl, sym}
-use Rattle.std.proofs.Common.{ap, ◌∙◌, subst, arith}
+use Rattle.std.proofs.Common.{◌≡◌, ◌≢◌, ℕ, ◌+◌, ◌-◌, ◌<◌, ◌⊎◌, inl, inr, List, length, Option, Some, None, refl}
+use Rattle.std.proofs.Common.{false, sym, ap, ◌∙◌, subst, arith}
+use Rattle.std.proofs.lemmas.Bool.{or_parts}
 use Rattle.sre_chars.specs.declared.constants.SreOpcode.{SreOpcode}
 use Rattle.sre_chars.specs.declared.constants.SreOpcode.TheVariants as opcode
-use Rattle.sre_model.specs.Tree.{Tree, Empty, Then, Item, One, Run, Test, RunKind}
+use Rattle.sre_model.specs.Tree.{Tree, Empty, Then, Item, One, Mark, Run, Test, RunKind}
+use Rattle.sre_model.specs.References.{refers, item_refers}
 use Rattle.sre_model.specs.Ways.{unlimited}
 use Rattle.sre_model.specs.Grammar.{Word, Opcode, item_opcode, Reads, ReadsItem, WholeItems}
 use Rattle.sre_model.specs.Roles.{Role, ToTest, role}
@@ -11,9 +13,9 @@ use Rattle.sre_model.specs.Standing.{TestStands, HasTest}
 use Rattle.sre_model.specs.Machine.{family, family_of, Testing}
 use Rattle.sre_model.specs.LeadingRuns.{RunLeads, FrontStands, RunStands}
 use Rattle.sre_model.proofs.Words.{same_word, same_opcode, word_within, opcode_within}
-use Rattle.sre_model.proofs.Families.{items_of, kind_of, OfOne, OfRun, is_one, is_run}
+use Rattle.sre_model.proofs.Families.{items_of, kind_of, OfOne, OfRun, is_one, is_mark, is_run}
 use Rattle.sre_model.proofs.Places.{test_past}
-use Rattle.sre_model.proofs.LeadingRuns.{run_leads, front_leads}
+use Rattle.sre_model.proofs.LeadingRuns.{run_leads, front_leads, mark_leads}
 
 -- a run that leads what is left of a tree, behind what stands in front, leads the whole
 abbrev LeadsOn : Option Test → Tree → Tree → Type 0
@@ -29,6 +31,7 @@ pub record RunAhead (ws : List ℕ) (whole : Tree) (i : ℕ) (first : Option ℕ
   pub ends : Opcode ws end opcode.SUCCESS
   pub before : FrontStands ws first front
   pub leads : LeadsOn front left whole
+  pub apart : refers whole ≡ false → refers left ≡ false
 
 pub whole_ahead : (ws : List ℕ) (t : Tree) → WholeItems ws t → RunAhead ws t 0 None
 whole_ahead ws t w = record {
@@ -39,6 +42,7 @@ whole_ahead ws t w = record {
   ends = w.1;
   before = tt;
   leads = λ front test l. l;
+  apart = λ r. r;
 }
 
 -- the same, where what is left begins with an item
@@ -53,6 +57,7 @@ record ItemAhead (ws : List ℕ) (whole : Tree) (i : ℕ) (first : Option ℕ) :
   pub ends : Opcode ws end opcode.SUCCESS
   pub before : FrontStands ws first front
   pub leads : LeadsOn front (Then item rest) whole
+  pub apart : refers whole ≡ false → refers rest ≡ false
 
 module _ (ws : List ℕ) (t : Tree) (i : ℕ) (first : Option ℕ) (a : RunAhead ws t i first) where
   pub ahead_within : i < length ws
@@ -63,13 +68,14 @@ module _ (ws : List ℕ) (t : Tree) (i : ℕ) (first : Option ℕ) (a : RunAhead
       by_tree (Then item rest) r = opcode_within ws i (item_opcode item) r.1.0
 
   item_ahead : (o : SreOpcode) → o ≢ opcode.SUCCESS → Opcode ws i o → ItemAhead ws t i first
-  item_ahead o other w = by_tree a.left a.reads a.leads
+  item_ahead o other w = by_tree a.left a.reads a.leads a.apart
     where
-      by_tree : (x : Tree) → Reads ws i a.end x → LeadsOn a.front x t → ItemAhead ws t i first
-      by_tree Empty e leads =
+      by_tree : (x : Tree) → Reads ws i a.end x → LeadsOn a.front x t → (refers t ≡ false → refers x ≡ false)
+          → ItemAhead ws t i first
+      by_tree Empty e leads apart =
           let end_ : Opcode ws i opcode.SUCCESS = subst (λ k. Opcode ws k opcode.SUCCESS) (sym e) a.ends in
           absurd (other (same_opcode ws i o opcode.SUCCESS w end_))
-      by_tree (Then item rest) r leads = record {
+      by_tree (Then item rest) r leads apart = record {
         item = item;
         rest = rest;
         after = r.0;
@@ -80,6 +86,7 @@ module _ (ws : List ℕ) (t : Tree) (i : ℕ) (first : Option ℕ) (a : RunAhead
         ends = a.ends;
         before = a.before;
         leads = leads;
+        apart = λ none. (or_parts (item_refers item) (refers rest) (apart none)).1;
       }
 
 -- Runs
@@ -175,7 +182,34 @@ module _ (ws : List ℕ) (t : Tree) (i : ℕ) (o : SreOpcode) (a : RunAhead ws t
     leads = λ test l.
         behind_front ws at.front one.0 test at.rest t at.before
         (subst (λ x. LeadsOn at.front (Then x at.rest) t) one.1 at.leads) l;
+    apart = at.apart;
   }
+
+-- Marks
+
+-- a mark lets what is behind it lead, where nothing there depends on marks
+behind_mark : (front : Option Test) (n : ℕ) (rest whole : Tree) → refers rest ≡ false
+    → LeadsOn front (Then (Mark n) rest) whole → LeadsOn front rest whole
+behind_mark None n rest whole apart on = λ front test l. on front test (mark_leads n rest front test apart l)
+behind_mark (Some x) n rest whole apart on = λ test l. on test (mark_leads n rest None test apart l)
+
+pub mark_ahead : (ws : List ℕ) (t : Tree) (i : ℕ) (first : Option ℕ) → refers t ≡ false → RunAhead ws t i first
+    → Opcode ws i opcode.MARK → RunAhead ws t (i + 2) first
+mark_ahead ws t i first none a w =
+    let here : ItemAhead ws t i first = item_ahead ws t i first a opcode.MARK (λ e. cc) w in
+    let is = is_mark ws i here.after here.item (record { code = opcode.MARK; there = w; begins = refl }) here.here in
+    record {
+      left = here.rest;
+      end = here.end;
+      front = here.front;
+      reads = subst (λ k. Reads ws k here.end here.rest) is.2.1.1 here.behind;
+      ends = here.ends;
+      before = here.before;
+      leads =
+          behind_mark here.front is.0 here.rest t (here.apart none)
+          (subst (λ x. LeadsOn here.front (Then x here.rest) t) is.1 here.leads);
+      apart = here.apart;
+    }
 
 -- What is known of a run that is found
 

@@ -32,7 +32,8 @@ pub(crate) struct LeadingRun {
 #[inline(always)]
 fn opcode_at<S: StrDrive>(req: &Request<'_, S>, place: usize) -> Option<SreOpcode>
     requires { place < length (run_of req.now).words }
-    ensures { IfSome result (λ opcode. Opcode (run_of req.now).words place opcode) }
+    ensures opcode { IfSome result (λ opcode. Opcode (run_of req.now).words place opcode) }
+    ensures room { place + 2 ^ 33 < 2 ^ 64 }
 {
     SreOpcode::try_from(operands::word(req.pattern_codes().items(), place)).ok()
 }
@@ -48,7 +49,7 @@ fn operand_at<S: StrDrive>(req: &Request<'_, S>, place: usize, offset: usize) ->
 }
 
 /// The run that the words begin with, if they begin with one that has no greatest count, behind at most one test of a
-/// character.
+/// character, and behind marks where the code refers to none.
 pub(crate) fn leading_run<S: StrDrive>(req: &Request<'_, S>) -> Option<LeadingRun>
     ensures { (t : Tree) → WholeItems (run_of req.now).words t
         → IfSome result (λ lead. RunStands (run_of req.now).words t lead.first lead.test) }
@@ -58,6 +59,12 @@ pub(crate) fn leading_run<S: StrDrive>(req: &Request<'_, S>) -> Option<LeadingRu
     'item: loop {
         let opcode = opcode_at(req, place)?;
         match opcode {
+            SreOpcode::MARK => {
+                if req.pattern_codes().refers() {
+                    return None;
+                }
+                place += 2;
+            }
             SreOpcode::REPEAT_ONE | SreOpcode::MIN_REPEAT_ONE | SreOpcode::POSSESSIVE_REPEAT_ONE =>
                 {
                     if operand_at(req, place, 3) != u32::MAX {

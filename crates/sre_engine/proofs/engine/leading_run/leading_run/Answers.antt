@@ -1,12 +1,16 @@
-use Rattle.std.proofs.Common.{ℕ, ◌≡◌, ◌-◌, ◌<◌, false, length, Option, Some, None, refl, subst, arith, rules}
+use Rattle.std.proofs.Common.{ℕ, ◌≡◌, ◌+◌, ◌-◌, ◌<◌, false, length, Option, Some, None, refl, sym, ◌∙◌, subst, arith}
+use Rattle.std.proofs.Common.{rules}
 use Rattle.std.specs.Option.{is_some}
+use Rattle.sre_chars.specs.declared.constants.SreOpcode.TheVariants as opcode
 use Rattle.sre_model.specs.Tree.{Tree}
-use Rattle.sre_model.specs.Grammar.{WholeItems}
+use Rattle.sre_model.specs.Grammar.{Opcode, Whole, WholeItems}
+use Rattle.sre_code.specs.Codes.{words_of}
+use Rattle.sre_code.specs.declared.code.Code.{Code}
 use Rattle.sre_request.specs.Requests.{run_of}
 use Rattle.sre_model.proofs.TreeOf.{tree_of}
 use Rattle.sre_model.proofs.LeadingWords.{RunAhead, whole_ahead, ahead_within, run_operands, run_stands, test_ahead}
-use Rattle.sre_model.proofs.LeadingWords.{test_further, behind_test}
-use Rattle.sre_code.proofs.Checked.{whole_of}
+use Rattle.sre_model.proofs.LeadingWords.{test_further, behind_test, mark_ahead}
+use Rattle.sre_code.proofs.Checked.{whole_of, whole_items}
 use Rattle.sre_engine.proofs.engine.leading_run.leading_run.Goals as goal
 use Rattle.sre_engine.proofs.engine.leading_run.leading_run.Goals.{Else-not-is_test}
 use Rattle.sre_engine.proofs.engine.leading_run.leading_run.Given.{Over}
@@ -21,18 +25,37 @@ item-init g c =
       ahead = λ t whole. whole_ahead words t whole;
     }
 
+pub item-preserved-in-MARK : goal.item-preserved-in-MARK
+item-preserved-in-MARK g c =
+    let words = (run_of c.args.req.now).words in
+    let code = c.args.req.now.pattern_codes in
+    let here : Opcode words c.item.place opcode.MARK =
+    subst (Opcode words c.item.place) c.in-MARK.is c.in_ok-opcode.ensures.opcode in
+    let none : c.refers.result ≡ false = search rules in
+    let apart = λ (t : Tree) (whole : WholeItems words t).
+    sym (c.refers.ensures t
+    (subst (λ (x : Code). Whole (words_of x) t) (sym c.pattern_codes.ensures) (whole_items code t whole))) ∙ none in
+    let behind = λ (t : Tree) (whole : WholeItems words t).
+    mark_ahead words t c.item.place c.item.first (apart t whole) (c.item.invariant.ahead t whole) here in
+    record {
+      within =
+          ahead_within words (tree_of words) (c.item.place + 2) c.item.first
+          (behind (tree_of words) (whole_of code));
+      ahead = behind;
+    }
+
 pub operand_at-requires : goal.operand_at-requires
 operand_at-requires g c =
     let words = (run_of c.args.req.now).words in
     run_operands words (tree_of words) c.item.place c.item.first c.in_ok-opcode.opcode
     (c.item.invariant.ahead (tree_of words) (whole_of c.args.req.now.pattern_codes)) c.in-REPEAT_ONE.is
-    c.in_ok-opcode.ensures
+    c.in_ok-opcode.ensures.opcode
 
 pub returns-in-REPEAT_ONE : goal.returns-in-REPEAT_ONE
 returns-in-REPEAT_ONE g c = λ t whole.
     let words = (run_of c.args.req.now).words in
     run_stands words t c.item.place c.item.first c.in_ok-opcode.opcode (c.item.invariant.ahead t whole)
-    c.in-REPEAT_ONE.is c.in_ok-opcode.ensures (search rules)
+    c.in-REPEAT_ONE.is c.in_ok-opcode.ensures.opcode (search rules)
 
 -- no test stands in front
 no_front : (first : Option ℕ) → false ≡ is_some first → first ≡ None
@@ -49,11 +72,11 @@ pub test_end-place-requires : goal.test_end-place-requires
 test_end-place-requires g c =
     let words = (run_of c.args.req.now).words in
     record {
-      code = c.in_ok-opcode.ensures;
+      code = c.in_ok-opcode.ensures.opcode;
       stands =
           test_ahead words (tree_of words) c.item.place c.in_ok-opcode.opcode
           (ahead g c (tree_of words) (whole_of c.args.req.now.pattern_codes)) (c.is_test.ensures c.if-not-is_test.false)
-          c.in_ok-opcode.ensures;
+          c.in_ok-opcode.ensures.opcode;
     }
 
 pub item-smaller : goal.item-smaller
@@ -62,7 +85,7 @@ item-smaller g c =
     let further =
     test_further words (tree_of words) c.item.place c.in_ok-opcode.opcode
     (ahead g c.before (tree_of words) (whole_of c.args.req.now.pattern_codes))
-    (c.is_test.ensures c.if-not-is_test.false) c.in_ok-opcode.ensures c.test_end-place.result
+    (c.is_test.ensures c.if-not-is_test.false) c.in_ok-opcode.ensures.opcode c.test_end-place.result
     c.test_end-place.ensures in
     let within : c.item.place < length words = c.item.invariant.within in
     let smaller : length words - c.test_end-place.result < length words - c.item.place = omega arith in
@@ -73,7 +96,7 @@ item-preserved g c =
     let words = (run_of c.args.req.now).words in
     let behind = λ (t : Tree) (whole : WholeItems words t).
     behind_test words t c.item.place c.in_ok-opcode.opcode (ahead g c.before t whole)
-    (c.is_test.ensures c.if-not-is_test.false) c.in_ok-opcode.ensures c.test_end-place.result
+    (c.is_test.ensures c.if-not-is_test.false) c.in_ok-opcode.ensures.opcode c.test_end-place.result
     c.test_end-place.ensures in
     record {
       within =
