@@ -4,6 +4,7 @@
 //! over the words. [`turns::run`] answers with the first accepted way.
 #![tactic(auto)]
 
+mod branches;
 mod groups;
 mod lazy_runs;
 mod loops;

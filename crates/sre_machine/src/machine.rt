@@ -15,6 +15,7 @@ ghost use Rattle.sre_model.specs.Machine.{family, Testing, HasRun, IsAt, IsBack,
 ghost use Rattle.sre_model.specs.Machine.{DemandsAny, Skips, SkipsBoth, Stands};
 ghost use Rattle.sre_request.specs.Requests.{end_of, run_of};
 
+use crate::branches::{alternatives, branch};
 use crate::groups::{condition, reference};
 use crate::lazy_runs::{longer, min_repeat_one};
 use crate::loops::{max_until, min_until, repeat};
@@ -56,7 +57,11 @@ pub(super) fn operand<S: StrDrive>(req: &Request<'_, S>, place: usize, offset: u
 
 // The opcode at a place that the machine has come to.
 #[inline(always)]
-fn opcode<S: StrDrive>(req: &Request<'_, S>, place: usize, cursor: StringCursor) -> SreOpcode
+pub(super) fn opcode<S: StrDrive>(
+    req: &Request<'_, S>,
+    place: usize,
+    cursor: StringCursor,
+) -> SreOpcode
     requires { HasRun (run_of req.now) (Instruction place) cursor }
     ensures code { Opcode (run_of req.now).words place result }
     ensures room { place + 2 ^ 33 < 2 ^ 64 }
@@ -195,28 +200,6 @@ pub(super) fn refuses<S: StrDrive>(req: &Request<'_, S>, place: usize, cursor: S
     lacks(req, wanted, cursor)
 }
 
-// The same at a LITERAL alone: a choice among many alternatives has no time to look behind MARKs.
-#[inline(always)]
-fn refuses_here<S: StrDrive>(req: &Request<'_, S>, place: usize, cursor: StringCursor) -> bool
-    requires { HasRun (run_of req.now) (Instruction place) cursor }
-    ensures { result ≡ true → Refuses (run_of req.now) place cursor.position }
-{
-    match opcode(req, place, cursor) {
-        SreOpcode::LITERAL => {
-            if cursor.position() >= req.end() {
-                return true;
-            }
-            let value = operand(req, place, 1);
-            let next = read(req, cursor);
-            if next.0 == value {
-                return false;
-            }
-            true
-        }
-        _ => false,
-    }
-}
-
 // Goes on at an instruction, with another point to be tried after it.
 #[inline(always)]
 pub(super) fn choose<S: StrDrive, A: Allocator>(
@@ -231,55 +214,6 @@ pub(super) fn choose<S: StrDrive, A: Allocator>(
     let _ = req.end();
     board.save(other, cursor)?;
     Ok(Next::At(place, cursor))
-}
-
-// The first alternative from a length word on of which something may come, if there is one: its length word.
-#[inline(always)]
-fn first_alternative<S: StrDrive>(
-    req: &Request<'_, S>,
-    start: usize,
-    cursor: StringCursor,
-) -> Option<usize>
-    requires { HasRun (run_of req.now) (Alternatives start) cursor }
-    ensures { MatchOption result
-        ((b : BoardValue) → Advances (run_of req.now) (Alternatives start) cursor b Next.Back b)
-        (λ place. HasRun (run_of req.now) (Alternatives place) cursor × (0 < word (run_of req.now).words place)
-        × Skips (run_of req.now) (Alternatives start) cursor (Alternatives place) cursor) }
-{
-    let mut place = start;
-    'alternative: loop {
-        let length = word_at(req, place) as usize;
-        if length == 0 {
-            return None;
-        }
-        if !refuses_here(req, place + 1, cursor) {
-            return Some(place);
-        }
-        place += length;
-    }
-}
-
-/// The alternatives of a BRANCH from a length word on: `length body JUMP skip ... 0`.
-#[inline(always)]
-fn alternatives<S: StrDrive, A: Allocator>(
-    req: &Request<'_, S>,
-    board: &mut Board<A>,
-    start: usize,
-    cursor: StringCursor,
-) -> Result<Next, Refusal>
-    requires { HasRun (run_of req.now) (Alternatives start) cursor }
-    ensures { IfOk result (λ next. Advances (run_of req.now) (Alternatives start) cursor board.old next board.new) }
-{
-    let Some(place) = first_alternative(req, start, cursor) else {
-        return Ok(Next::Back);
-    };
-    let length = word_at(req, place) as usize;
-    let after = place + length;
-    let following = word_at(req, after);
-    if following == 0 {
-        return Ok(Next::At(place + 1, cursor));
-    }
-    Ok(choose(req, board, place + 1, Point::Alternatives(after), cursor)?)
 }
 
 // The first of the shorter counts of a run of which something may come, if there is one: how many are left behind it,
@@ -391,22 +325,6 @@ pub(super) fn back<S: StrDrive, A: Allocator>(
             Point::Inside(region) => Ok(Some(without_outcome(board, region, choice.1))),
         },
     }
-}
-
-/// `BRANCH length body JUMP skip ... 0`: the first alternative, then the others.
-#[inline(always)]
-fn branch<S: StrDrive, A: Allocator>(
-    req: &Request<'_, S>,
-    board: &mut Board<A>,
-    place: usize,
-    cursor: StringCursor,
-) -> Result<Next, Refusal>
-    requires opcode { Opcode (run_of req.now).words place SreOpcode.BRANCH }
-    requires room { place + 2 ^ 33 < 2 ^ 64 }
-    requires stands { HasRun (run_of req.now) (Instruction place) cursor }
-    ensures { IfOk result (λ next. Advances (run_of req.now) (Instruction place) cursor board.old next board.new) }
-{
-    Ok(alternatives(req, board, place + 1, cursor)?)
 }
 
 /// One instruction.

@@ -23,6 +23,11 @@ run_passes s t (suc n) p c l = go (passes s t p) refl l (λ d k. run_passes s t 
     go true y k later = at c y (rw y at k) later
     go false y k later = let none : c < 0 = rw y at k in absurd (omega arith)
 
+-- a run is empty where the first character does not pass
+pub run_none : (s : Subject) (t : Test) (n p : ℕ) → passes s t p ≡ false → run_length s t n p ≡ 0
+run_none s t zero p no_ = refl
+run_none s t (suc n) p no_ = rw no_ refl
+
 -- and the character behind it does not, unless it is as long as it may be
 pub run_stopped : (s : Subject) (t : Test) (n p : ℕ) → run_length s t n p < n
     → passes s t (p + run_length s t n p) ≡ false

@@ -25,7 +25,7 @@ use Rattle.sre_model.specs.Machine.{Running, Repeating, Looping, RepeatingPosses
 use Rattle.sre_model.specs.Machine.{Asking, Nothing, Placed}
 use Rattle.sre_model.specs.Machine.{InFamily, Moves, MovesAt, Runs, turns, Comes, stops, ends, goes, splits, enters}
 use Rattle.sre_model.specs.Machine.{Run, Waits, otherwise, kept, Goes, GoesBoth, Later, spot, HasRun, IsAt, Refuses}
-use Rattle.sre_model.specs.Machine.{Skips, SkipsBoth}
+use Rattle.sre_model.specs.Machine.{Skips, SkipsBoth, Exhausted, Continues}
 use Rattle.sre_model.specs.declared.Next.TheVariants as next
 use Rattle.sre_model.proofs.Words.{same_word, same_opcode, same_at, opcode_within}
 use Rattle.sre_model.proofs.Unique.{test_same, same_reference_fold}
@@ -183,6 +183,14 @@ run_goes {ws} {s} {x} y h d = go (comes (Go y) h d)
   where
     go : {os : List Way} {n : ℕ} → Comes ws s x (Go y) os n → CanRun ws s y
     go (goes e) = record { outcomes = _; turns = _; runs = e }
+
+-- what comes of a turn that goes to another spot comes of that spot, in fewer turns
+pub run_on : {ws : List ℕ} {s : Subject} {x : Spot} {os : List Way} {n : ℕ} (y : Spot) → Moves ws s x (Go y)
+    → Runs ws s x os n → (k : ℕ) × (k ≤ n) × Runs ws s y os k
+run_on {ws} {s} {x} y h d = go (comes (Go y) h d)
+  where
+    go : {os : List Way} {n : ℕ} → Comes ws s x (Go y) os n → (k : ℕ) × (k ≤ n) × Runs ws s y os k
+    go (goes {n = k} e) = (k, omega arith, e)
 
 -- nothing comes of a turn that goes to where nothing comes
 pub nothing_after : {ws : List ℕ} {s : Subject} {x : Spot} {os : List Way} {n : ℕ} (y : Spot) → Moves ws s x (Go y)
@@ -411,6 +419,113 @@ pub both_last : (r : Run) (i : ℕ) (z : Spot) (c : StringCursor) (b : BoardValu
     → (all : List Way) (limit : ℕ) → GoesBoth r all limit (spot (Instruction i) c b) z c b.choices
     → Later r all limit (next.At i c) b
 both_last r i z c b none = both_first r z i c b b.choices (λ os n x. run_nothing none x) refl
+
+-- each run takes a turn
+pub some_turns : {ws : List ℕ} {s : Subject} {x : Spot} {os : List Way} {n : ℕ} → Runs ws s x os n → 1 ≤ n
+some_turns {ws} {s} (turns mv h d) = go d
+  where
+    go : {x : Spot} {mv : Move} {os : List Way} {n : ℕ} → Comes ws s x mv os n → 1 ≤ n
+    go stops = omega arith
+    go ends = omega arith
+    go (goes e) = omega arith
+    go (splits e f) = omega arith
+    go (enters e f) = omega arith
+
+-- of a spot that splits, where nothing comes of the first
+pub run_second : {ws : List ℕ} {s : Subject} {x : Spot} {os : List Way} {n : ℕ} (y z : Spot) → Moves ws s x (Split y z)
+    → ((os : List Way) (n : ℕ) → Runs ws s y os n → os ≡ []) → Runs ws s x os n
+    → (k : ℕ) × (k ≤ n) × Runs ws s z os k
+run_second {ws} {s} {x} y z h none d = go (comes (Split y z) h d)
+  where
+    go : {os : List Way} {n : ℕ} → Comes ws s x (Split y z) os n → (k : ℕ) × (k ≤ n) × Runs ws s z os k
+    go (splits {os₁ = os₁} {os₂ = os₂} {n₁ = n₁} {n₂ = n₂} e f) = (
+      n₂,
+      omega arith,
+      subst (λ o. Runs ws s z o n₂) (sym (ap (λ o. o ++ os₂) (none os₁ n₁ e))) f,
+    )
+
+-- nothing comes of a point: the machine goes back
+pub exhausted_back : (r : Run) (pt : Point) (c : StringCursor) (b : BoardValue) → Exhausted r pt c.position
+    → (all : List Way) (limit : ℕ) → Goes r all limit pt c b → Later r all limit next.Back b
+exhausted_back r pt c b none all limit g = (
+  omega (arith, some_turns g.runs, g.within),
+  record {
+    later = g.later;
+    waits =
+        subst (λ x. Waits r b.choices x all g.later) (none b.frames b.marks g.now g.turns g.runs) g.waits;
+    within = omega (arith, some_turns g.runs, g.within);
+  },
+)
+
+module _ (r : Run) (pt pt' : Point) (c c' : StringCursor) (on : Continues r pt c pt' c') where
+  pub continues_goes : (b : BoardValue) (all : List Way) (limit : ℕ) → Goes r all limit pt c b
+      → Goes r all limit pt' c' b
+  continues_goes b all limit g =
+      let x = on.runs b.frames b.marks g.now g.turns g.runs in
+      record {
+        now = g.now;
+        turns = x.0;
+        later = g.later;
+        stands = on.stands;
+        placed = g.placed;
+        runs = x.2;
+        waits = g.waits;
+        within = omega (arith, g.within, x.1);
+      }
+
+  pub continues_run : HasRun r pt c → HasRun r pt' c'
+  continues_run h =
+      let x = on.runs h.frames h.marks h.outcomes h.turns h.runs in
+      has_run r pt' h.frames h.marks c' on.stands (record { outcomes = h.outcomes; turns = x.0; runs = x.2 })
+
+  pub continues_exhausted : Exhausted r pt' c'.position → Exhausted r pt c.position
+  continues_exhausted none fs m os n d = let x = on.runs fs m os n d in none fs m os x.0 x.2
+
+  pub continues_then : (pt'' : Point) (c'' : StringCursor) → Continues r pt' c' pt'' c'' → Continues r pt c pt'' c''
+  continues_then pt'' c'' then =
+      record {
+        stands = then.stands;
+        runs = λ fs m os n d.
+            let x = on.runs fs m os n d in
+            let y = then.runs fs m os x.0 x.2 in (y.0, omega (arith, x.1, y.1), y.2);
+      }
+
+pub continues_here : (r : Run) (pt : Point) (c : StringCursor) → HasRun r pt c → Continues r pt c pt c
+continues_here r pt c x = record { stands = x.stands; runs = λ fs m os n d. (n, omega arith, d) }
+
+-- the machine goes on at an instruction: at where that continues
+pub later_continues : (r : Run) (i j : ℕ) (c c' : StringCursor) (b : BoardValue)
+    → Continues r (Instruction i) c (Instruction j) c' → (all : List Way) (limit : ℕ)
+    → Later r all limit (next.At i c) b → Later r all limit (next.At j c') b
+later_continues r i j c c' b on all limit l =
+    (l.0, continues_goes r (Instruction i) (Instruction j) c c' on b all (limit - 1) l.1)
+
+-- the second of two points continues at another point, or nothing comes of it
+pub both_continue : (r : Run) (y : Spot) (pt pt' : Point) (c : StringCursor) (b : BoardValue)
+    → Continues r pt c pt' c → (all : List Way) (limit : ℕ) → GoesBoth r all limit y (spot pt c b) c b.choices
+    → GoesBoth r all limit y (spot pt' c b) c b.choices
+both_continue r y pt pt' c b on all limit g =
+    let x = on.runs b.frames b.marks g.next g.further g.others in
+    record {
+      now = g.now;
+      next = g.next;
+      turns = g.turns;
+      further = x.0;
+      later = g.later;
+      stands = g.stands;
+      placed = g.placed;
+      others_placed = g.others_placed;
+      runs = g.runs;
+      others = x.2;
+      waits = g.waits;
+      within = omega (arith, g.within, x.1);
+    }
+
+pub both_exhausted : (r : Run) (i : ℕ) (pt : Point) (c : StringCursor) (b : BoardValue) → Exhausted r pt c.position
+    → (all : List Way) (limit : ℕ) → GoesBoth r all limit (spot (Instruction i) c b) (spot pt c b) c b.choices
+    → Later r all limit (next.At i c) b
+both_exhausted r i pt c b none =
+    both_first r (spot pt c b) i c b b.choices (λ os n d. none b.frames b.marks os n d) refl
 
 -- a region is entered: what comes of it waits on the board, and the machine goes on at its body
 pub turn_enters : (r : Run) (pt : Point) (fs : List Frame) (j : ℕ) (g : Region) (c c' : StringCursor)

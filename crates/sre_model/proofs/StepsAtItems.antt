@@ -18,11 +18,11 @@ use Rattle.sre_model.specs.declared.Frame.{Frame}
 use Rattle.sre_model.specs.declared.Point.TheVariants.{Instruction}
 use Rattle.sre_model.specs.Moves.{spot_at, Go}
 use Rattle.sre_model.specs.Machine.{family, Failing, Ending, Testing, Standing, Marking, Jumping, Nothing, Run, Moves}
-use Rattle.sre_model.specs.Machine.{Goes, Later, HasRun, Refuses, Demands}
+use Rattle.sre_model.specs.Machine.{Goes, Later, HasRun, Refuses, Demands, Continues}
 use Rattle.sre_model.specs.Standing.{TestStands, HasTest}
 use Rattle.sre_model.specs.declared.Next.TheVariants as next
 use Rattle.sre_model.proofs.Words.{same_word, at_low, word_of, word_within}
-use Rattle.sre_model.proofs.Moving.{in_family, at_instruction, run_nothing, run_goes, nothing_after, has_run}
+use Rattle.sre_model.proofs.Moving.{in_family, at_instruction, run_nothing, run_goes, run_on, nothing_after, has_run}
 use Rattle.sre_model.proofs.Moving.{turn_stops, turn_ends, turn_goes}
 use Rattle.sre_model.proofs.Passing.{past_end, read_passes, stands_at_own}
 use Rattle.sre_model.proofs.Placed.{set_placed}
@@ -171,6 +171,32 @@ refuses_test : (r : Run) (i j p : ℕ) (t : Test) (o : SreOpcode) → Opcode r.w
 refuses_test r i j p t o w f st n fs m os k x =
     run_nothing (at_instruction o Testing f w (record { end = j; test = t; stands = st; is = rw n refl })) x
 
+-- what was read tells whether nothing comes of a test, or what is behind it
+module _ (r : Run) (i ch : ℕ) (o : SreOpcode) (takes : Bool) (c : StringCursor) (w : Opcode r.words i o)
+    (f : family o ≡ Testing) (there : HasTest r.words i) (inside : c.position < r.subject.end)
+    (read : ch ≡ char_at r.subject c.position)
+    (says : (j : ℕ) (t : Test) → TestStands r.words i j t → takes ≡ holds r.subject.table t ch) where
+  passes_as_read : passes r.subject there.test c.position ≡ takes
+  passes_as_read =
+      read_passes r.subject there.test c.position ch takes inside read (says there.end there.test there.stands)
+
+  pub test_misses : takes ≡ false → Refuses r i c.position
+  test_misses n = refuses_test r i there.end c.position there.test o w f there.stands (passes_as_read ∙ n)
+
+  pub test_continues : (end : ℕ) (after : StringCursor) → takes ≡ true
+      → ((j : ℕ) (t : Test) → TestStands r.words i j t → end ≡ j) → after.position ≡ c.position + 1
+      → r.stands after after.position → Continues r (Instruction i) c (Instruction end) after
+  test_continues end after y ends moved_on stands = record {
+    stands = stands;
+    runs = λ fs m os n d. run_on (spot_at (Instruction end) fs after.position m)
+        (at_instruction o Testing f w (record {
+          end = there.end;
+          test = there.test;
+          stands = there.stands;
+          is = rw (passes_as_read ∙ y, moved_on, ends there.end there.test there.stands) refl;
+        })) d;
+  }
+
 -- a literal demands its character, and nothing comes of a mark behind which nothing comes
 pub literal_demands : (r : Run) (i v : ℕ) → Opcode r.words i opcode.LITERAL → Word r.words (i + 1) v → Demands r i v
 literal_demands r i v w wv p n =
@@ -209,20 +235,3 @@ other_character s v ch p e unlike =
 
     other : (v ch : ℕ) → v ≢ ch → nat_eq v ch ≡ false
     other v ch ne = grind (arith, nat_tests)
-
--- a literal that is not the character refuses, and so does each at the window's end
-pub literal_refuses : (r : Run) (i v ch : ℕ) (c : StringCursor) → Opcode r.words i opcode.LITERAL
-    → Word r.words (i + 1) v → c.position < r.subject.end → ch ≡ char_at r.subject c.position → ch ≢ v
-    → Refuses r i c.position
-literal_refuses r i v ch c w wv l e unlike =
-    refuses_test r i (i + 2) c.position (Literal Plain v) opcode.LITERAL w refl (literal_there r.words i v w wv)
-    (read_passes r.subject (Literal Plain v) c.position ch false l e (sym (other v ch (λ x. unlike (sym x)))))
-  where
-    other : (v ch : ℕ) → v ≢ ch → nat_eq v ch ≡ false
-    other v ch ne = grind (arith, nat_tests)
-
-pub literal_past : (r : Run) (i : ℕ) (c : StringCursor) → Opcode r.words i opcode.LITERAL → HasRun r (Instruction i) c
-    → r.subject.end ≤ c.position → Refuses r i c.position
-literal_past r i c w x l =
-    let t = test_there r i c opcode.LITERAL w refl x in
-    refuses_test r i t.end c.position t.test opcode.LITERAL w refl t.stands (past_end r.subject t.test c.position l)

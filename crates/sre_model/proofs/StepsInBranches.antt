@@ -10,10 +10,11 @@ use Rattle.sre_model.specs.Board.{BoardValue}
 use Rattle.sre_model.specs.declared.Point.TheVariants.{Instruction, Alternatives}
 use Rattle.sre_model.specs.Moves.{Spot, spot_at, Stop, Go, Split, to_point}
 use Rattle.sre_model.specs.Machine.{Branching, Moves, Runs, turns, Run, Goes, GoesBoth, Later, spot, HasRun}
+use Rattle.sre_model.specs.Machine.{Refuses, Exhausted, Continues}
 use Rattle.sre_model.specs.declared.Next.TheVariants as next
 use Rattle.sre_model.proofs.Words.{word_within}
 use Rattle.sre_model.proofs.Moving.{at_instruction, has_run, run_goes, run_splits, turn_stops, turn_goes, turn_splits}
-use Rattle.sre_model.proofs.Moving.{both_last}
+use Rattle.sre_model.proofs.Moving.{run_nothing, run_second}
 
 pub positive : (n : ℕ) → (n ≡ 0 → ⊥) → 0 < n
 positive zero no_ = absurd (no_ refl)
@@ -75,10 +76,18 @@ alternatives_run r q v c w l x =
       has_run r (Alternatives (q + v)) x.frames x.marks c x.stands t.1,
     )
 
-pub alternatives_last : (r : Run) (i q : ℕ) (c : StringCursor) (b : BoardValue) {v : ℕ} → Word r.words q v → v ≡ 0
-    → (all : List Way) (limit : ℕ)
-    → GoesBoth r all limit (spot (Instruction i) c b) (spot (Alternatives q) c b) c b.choices
-    → Later r all limit (next.At i c) b
-alternatives_last r i q c b {v} w e =
-    both_last r i (spot (Alternatives q) c b) c b
-    (alternatives_stop r.words r.subject q v (spot (Alternatives q) c b) refl w e)
+pub alternatives_exhausted : (r : Run) (q v p : ℕ) → Word r.words q v → v ≡ 0 → Exhausted r (Alternatives q) p
+alternatives_exhausted r q v p w e fs m os n d =
+    run_nothing (alternatives_stop r.words r.subject q v (spot_at (Alternatives q) fs p m) refl w e) d
+
+-- of an alternative of which nothing comes, the others are left
+pub alternatives_pass : (r : Run) (q v : ℕ) (c : StringCursor) → Word r.words q v → 0 < v
+    → r.stands c c.position → Refuses r (q + 1) c.position
+    → Continues r (Alternatives q) c (Alternatives (q + v)) c
+alternatives_pass r q v c w l stands none = record {
+  stands = stands;
+  runs = λ fs m os n d.
+      run_second (spot_at (Instruction (q + 1)) fs c.position m) (spot_at (Alternatives (q + v)) fs c.position m)
+      (alternatives_move r.words r.subject q v (spot_at (Alternatives q) fs c.position m) refl w l)
+      (λ os' n' e. none fs m os' n' e) d;
+}

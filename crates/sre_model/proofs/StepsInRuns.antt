@@ -1,6 +1,6 @@
 -- Turns at a run of one test, and at its shorter counts.
 use Rattle.std.proofs.Common.{◌≡◌, ℕ, suc, ◌+◌, ◌-◌, ◌<◌, ◌≤◌, Bool, true, false, ◌&&◌, ◌||◌, nat_eq, nat_lt, List}
-use Rattle.std.proofs.Common.{length, refl, sym, arith}
+use Rattle.std.proofs.Common.{length, refl, sym, ◌∙◌, arith}
 use Rattle.std.proofs.lemmas.Bool.Decides.{nat_tests}
 use Rattle.sre_chars.specs.declared.constants.SreOpcode.TheVariants as opcode
 use Rattle.sre_chars.specs.declared.string.StringCursor.{StringCursor}
@@ -17,14 +17,14 @@ use Rattle.sre_model.specs.declared.Point.TheVariants.{Instruction, Shorter, Lon
 use Rattle.sre_model.specs.Moves.{spot_at, Stop, Split, Go}
 use Rattle.sre_model.specs.MovesInRuns.{RunOperands}
 use Rattle.sre_model.specs.Machine.{family, Running, Moves, Runs, turns, Run, Goes, GoesBoth, Later, spot, HasRun}
-use Rattle.sre_model.specs.Machine.{Skips, SkipsBoth}
+use Rattle.sre_model.specs.Machine.{Skips, SkipsBoth, Refuses}
 use Rattle.sre_model.specs.Standing.{TestStands, HasTest}
 use Rattle.sre_model.specs.declared.Next.TheVariants as next
 use Rattle.sre_model.proofs.Words.{word_of, word_there, opcode_within}
 use Rattle.sre_model.proofs.Passing.{past_end, read_passes}
-use Rattle.sre_model.proofs.Longest.{goes_on, run_at_most, run_inside}
+use Rattle.sre_model.proofs.Longest.{goes_on, run_at_most, run_inside, run_none}
 use Rattle.sre_model.proofs.Moving.{in_family, at_instruction, has_run, run_splits, turn_stops, turn_splits, both_last}
-use Rattle.sre_model.proofs.Moving.{turn_goes}
+use Rattle.sre_model.proofs.Moving.{turn_goes, run_nothing}
 use Rattle.sre_model.proofs.StepsInBranches.{positive}
 
 -- shorter counts
@@ -52,7 +52,7 @@ shorter_none r t k c b e = turn_stops r (Shorter t k) c b (shorter_stop r t k c.
 pub shorter_past : (r : Run) (t k : ℕ) (c : StringCursor) → 0 < k → HasRun r (Shorter t k) c → 1 ≤ c.position
 shorter_past r t k c l x = omega (arith, shorter_within r x.runs)
 
-pub shorter_both : (r : Run) (t k j : ℕ) (c c' : StringCursor) (b : BoardValue) → k ≡ suc j
+shorter_both : (r : Run) (t k j : ℕ) (c c' : StringCursor) (b : BoardValue) → k ≡ suc j
     → c.position ≡ c'.position + 1 → r.stands c' c'.position → (all : List Way) (limit : ℕ)
     → Goes r all limit (Shorter t k) c b
     → GoesBoth r all limit (spot (Instruction t) c' b) (spot (Shorter t j) c' b) c' b.choices
@@ -61,7 +61,7 @@ shorter_both r t k j c c' b e place there all limit g =
     (shorter_moves r t k j c.position c'.position b.frames b.marks e place (shorter_within r g.runs))
     there refl refl all limit g
 
-pub shorter_run : (r : Run) (t k j : ℕ) (c c' : StringCursor) → k ≡ suc j → c.position ≡ c'.position + 1
+shorter_run : (r : Run) (t k j : ℕ) (c c' : StringCursor) → k ≡ suc j → c.position ≡ c'.position + 1
     → r.stands c' c'.position → HasRun r (Shorter t k) c → HasRun r (Instruction t) c' × HasRun r (Shorter t j) c'
 shorter_run r t k j c c' e place there x =
     let s = run_splits _ _
@@ -125,6 +125,27 @@ run_short r i low high count c b w t wl wh k l =
       operands = record { lowest = wl; highest = wh; stands = t.stands };
       is = rw (longest, short) refl;
     }))
+
+-- a run that may not be empty refuses where its test does not take the character that was read
+pub run_misses : (r : Run) (i low ch : ℕ) (takes : Bool) (c : StringCursor) → Opcode r.words i opcode.REPEAT_ONE
+    → (there : HasTest r.words (i + 4)) → Word r.words (i + 2) low → (low ≡ 0 → ⊥) → c.position < r.subject.end
+    → ch ≡ char_at r.subject c.position
+    → ((j : ℕ) (t : Test) → TestStands r.words (i + 4) j t → takes ≡ holds r.subject.table t ch) → takes ≡ false
+    → Refuses r i c.position
+run_misses r i low ch takes c w there wl some inside read says n fs m os k d =
+    let h = (in_family opcode.REPEAT_ONE (Running GreedyRun) refl w d).1 in
+    let missed : passes r.subject there.test c.position ≡ false =
+    read_passes r.subject there.test c.position ch takes inside read (says there.end there.test there.stands) ∙ n in
+    let none : longest_run r.subject there.test h.high c.position ≡ 0 = run_none r.subject there.test _ _ missed in
+    let short : nat_lt 0 low ≡ true = grind (arith, nat_tests, positive low some) in
+    run_nothing (at_instruction opcode.REPEAT_ONE (Running GreedyRun) refl w (record {
+      low = low;
+      high = h.high;
+      end = there.end;
+      test = there.test;
+      operands = record { lowest = wl; highest = h.operands.highest; stands = there.stands };
+      is = rw (none, short) refl;
+    })) d
 
 module _ (r : Run) (i v low high count : ℕ) (c after : StringCursor) (w : Opcode r.words i opcode.REPEAT_ONE)
     (t : HasTest r.words (i + 4)) (wv : Word r.words (i + 1) v) (wl : Word r.words (i + 2) low)

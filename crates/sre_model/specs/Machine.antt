@@ -1,6 +1,6 @@
 -- The machine: what standing at a point of the words means, and what a turn keeps.
 -- Words of the machine's contracts; what sre_engine makes public does not rest on it.
-use Rattle.std.specs.Prelude.{⊤, ℕ, suc, ◌+◌, ◌-◌, ◌≡◌, ◌≤◌, Bool, false, List, [], ◌∷◌, ◌++◌, drop, length}
+use Rattle.std.specs.Prelude.{⊤, ℕ, suc, ◌+◌, ◌-◌, ◌≡◌, ◌<◌, ◌≤◌, Bool, false, List, [], ◌∷◌, ◌++◌, drop, length}
 use Rattle.std.specs.Prelude.{Option, Some, None}
 use Rattle.std.specs.List.{filter}
 use Rattle.sre_chars.specs.declared.constants.SreOpcode.{SreOpcode}
@@ -9,7 +9,7 @@ use Rattle.sre_model.specs.Tree.{Tree, Order, RunKind, Sign, Literal, Plain}
 use Rattle.sre_model.specs.Roles.{Role, ToFail, ToEnd, ToTest, ToStand, ToMark, ToBranch, ToJump, ToRun, ToRepeat}
 use Rattle.sre_model.specs.Roles.{ToLoop, ToRepeatPossessively, ToGroup, ToLook, ToRefer, ToAsk, ToNothing, role}
 use Rattle.sre_model.specs.Marks.{Marks, mark_at, no_marks}
-use Rattle.sre_model.specs.Subject.{Subject, passes}
+use Rattle.sre_model.specs.Subject.{Subject, char_at, passes}
 use Rattle.sre_model.specs.Ways.{Way, here, ways}
 use Rattle.sre_model.specs.Grammar.{Opcode}
 use Rattle.sre_model.specs.Board.{Choice, Else, Keep, BoardValue}
@@ -268,11 +268,15 @@ pub record SkipsBoth (r : Run) (pt : Point) (c : StringCursor) (first second : P
   pub skips : (b : BoardValue) (all : List Way) (limit : ℕ) → Goes r all limit pt c b
       → GoesBoth r all limit (spot first c' b) (spot second c' b) c' b.choices
 
--- nothing comes of standing at an instruction and a position
-abbrev pub Refuses : Run → ℕ → ℕ → Type 0
-Refuses r i p =
+-- nothing comes of standing at a point and a position
+abbrev pub Exhausted : Run → Point → ℕ → Type 0
+Exhausted r pt p =
     (fs : List Frame) (m : Marks) (os : List Way) (n : ℕ)
-    → Runs r.words r.subject (spot_at (Instruction i) fs p m) os n → os ≡ []
+    → Runs r.words r.subject (spot_at pt fs p m) os n → os ≡ []
+
+-- the same of an instruction
+abbrev pub Refuses : Run → ℕ → ℕ → Type 0
+Refuses r i p = Exhausted r (Instruction i) p
 
 -- the accepted outcomes of a tree from a position, with no marks
 abbrev pub outcomes : Run → Tree → ℕ → List Way
@@ -296,3 +300,17 @@ Demands r i v = (p : ℕ) → passes r.subject (Literal Plain v) p ≡ false →
 abbrev pub DemandsAny : Run → ℕ → Option ℕ → Type 0
 DemandsAny r i None = ⊤
 DemandsAny r i (Some v) = Demands r i v
+
+-- what comes of one point and cursor comes of another, in no more turns
+pub record Continues (r : Run) (pt : Point) (c : StringCursor) (pt' : Point) (c' : StringCursor) : Type 0 where
+  pub stands : r.stands c' c'.position
+  pub runs : (fs : List Frame) (m : Marks) (os : List Way) (n : ℕ)
+      → Runs r.words r.subject (spot_at pt fs c.position m) os n
+      → (k : ℕ) × (k ≤ n) × Runs r.words r.subject (spot_at pt' fs c'.position m) os k
+
+-- the character at a cursor inside the window, and the cursor behind it
+pub record IsRead (r : Run) (c : StringCursor) (ch : ℕ) (after : StringCursor) : Type 0 where
+  pub inside : c.position < r.subject.end
+  pub character : ch ≡ char_at r.subject c.position
+  pub position : after.position ≡ c.position + 1
+  pub stands : r.stands after after.position

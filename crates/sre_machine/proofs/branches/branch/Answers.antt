@@ -2,7 +2,7 @@ use Rattle.std.proofs.Common.{arith}
 use Rattle.sre_request.specs.Requests.{run_of}
 use Rattle.sre_model.proofs.StepsInBranches.{branch_run, branch_step}
 use Rattle.sre_model.proofs.GoingBack.{later_again}
-use Rattle.sre_machine.proofs.machine.branch.Goals as goal
+use Rattle.sre_machine.proofs.branches.branch.Goals as goal
 
 pub overflow_add-place : goal.overflow_add-place
 overflow_add-place g c = omega (arith, c.requires.room)

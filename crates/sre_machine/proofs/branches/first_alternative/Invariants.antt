@@ -1,13 +1,13 @@
 use Rattle.std.proofs.Common.{length, ◌-◌}
 use Rattle.sre_model.specs.declared.Point.TheVariants.{Alternatives}
-use Rattle.sre_model.specs.Machine.{HasRun, Skips}
+use Rattle.sre_model.specs.Machine.{HasRun, Continues}
 use Rattle.sre_request.specs.Requests.{run_of}
-use Rattle.sre_machine.proofs.machine.first_alternative.Given as goal
+use Rattle.sre_machine.proofs.branches.first_alternative.Given as goal
 
 abbrev pub invariant-alternative : goal.invariant-alternative
 invariant-alternative g l = record {
   at : HasRun (run_of l.req) (Alternatives l.place) l.cursor;
-  same : Skips (run_of l.req) (Alternatives l.start) l.cursor (Alternatives l.place) l.cursor;
+  on : Continues (run_of l.req) (Alternatives l.start) l.cursor (Alternatives l.place) l.cursor;
 }
 
 abbrev pub decreases-alternative : goal.decreases-alternative

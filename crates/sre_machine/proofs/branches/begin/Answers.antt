@@ -1,0 +1,6 @@
+use Rattle.sre_request.specs.Requests.{run_of}
+use Rattle.sre_model.proofs.Moving.{reached_within}
+use Rattle.sre_machine.proofs.branches.begin.Goals as goal
+
+pub word_at-requires : goal.word_at-requires
+word_at-requires g c = reached_within (run_of c.args.req.now) c.args.place c.args.cursor c.requires.stands

@@ -1,0 +1,26 @@
+use Rattle.std.proofs.lemmas.Bool.{not-true}
+use Rattle.std.proofs.Common.{arith}
+use Rattle.sre_model.specs.Tree.{GreedyRun}
+use Rattle.sre_request.specs.Requests.{run_of}
+use Rattle.sre_model.proofs.StepsInRuns.{run_there, run_misses}
+use Rattle.sre_machine.proofs.branches.misses_run.Goals as goal
+
+pub operand-least-requires : goal.operand-least-requires
+operand-least-requires g c =
+    let x = run_there (run_of c.args.req.now) GreedyRun _ c.args.cursor c.requires.opcode c.requires.stands in
+    omega (arith, x.operands)
+
+pub opcode-requires : goal.opcode-requires
+opcode-requires g c =
+    (run_there (run_of c.args.req.now) GreedyRun _ c.args.cursor c.requires.opcode c.requires.stands).test
+
+pub takes-requires-clause-stands : goal.takes-requires-clause-stands
+takes-requires-clause-stands g c =
+    (run_there (run_of c.args.req.now) GreedyRun _ c.args.cursor c.requires.opcode c.requires.stands).test
+
+pub returns : goal.returns
+returns g c = λ missed.
+    let there = run_there (run_of c.args.req.now) GreedyRun _ c.args.cursor c.requires.opcode c.requires.stands in
+    run_misses (run_of c.args.req.now) c.args.place c.operand-least.result c.args.character c.takes.result c.args.cursor
+    c.requires.opcode there.test c.operand-least.ensures.word c.if-least-eq0.false c.requires.inside
+    c.requires.character c.takes.ensures (not-true c.takes.result missed)

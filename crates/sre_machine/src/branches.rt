@@ -1,0 +1,293 @@
+//! Branches: `BRANCH length body JUMP skip ... 0`.
+//!
+//! The character at the cursor is read once for all alternatives. One that has to begin with another character is
+//! passed over, and of one that begins with a test the rest alone is left. A choice is saved only where something may
+//! come of an alternative behind the first.
+
+ghost use Rattle.std.specs.Prelude.{◌≡◌, ◌+◌, ◌<◌, ◌^◌, true, IfOk, MatchOption};
+ghost use Rattle.sre_model.specs.Subject.{char_at};
+ghost use Rattle.sre_model.specs.Grammar.{word, Opcode};
+ghost use Rattle.sre_model.specs.declared.Point.TheVariants.{Instruction, Alternatives};
+ghost use Rattle.sre_model.specs.declared.Point.{Point};
+ghost use Rattle.sre_model.specs.Machine.{family, Testing, HasRun, Advances, Chooses, Refuses, Exhausted, Continues};
+ghost use Rattle.sre_model.specs.Machine.{IsRead};
+ghost use Rattle.sre_request.specs.Requests.{end_of, run_of};
+
+use crate::machine::{choose, opcode, operand, word_at};
+use sre_board::Board;
+use sre_chars::constants::SreOpcode;
+use sre_chars::string::{StrDrive, StringCursor};
+use sre_growth::Refusal;
+use sre_model::{Next, Point};
+use sre_request::one_character::{takes, test_end};
+use sre_request::text::read;
+use sre_request::{Request, one_character};
+use std::alloc::Allocator;
+
+// Whether a test of one character does not take the one at the cursor.
+#[inline(always)]
+fn misses<S: StrDrive>(
+    req: &Request<'_, S>,
+    opcode: SreOpcode,
+    place: usize,
+    character: u32,
+    cursor: StringCursor,
+) -> bool
+    requires opcode { Opcode (run_of req.now).words place opcode }
+    requires tests { family opcode ≡ Testing }
+    requires stands { HasRun (run_of req.now) (Instruction place) cursor }
+    requires inside { cursor.position < end_of req.now }
+    requires character { character ≡ char_at (run_of req.now).subject cursor.position }
+    ensures { result ≡ true → Refuses (run_of req.now) place cursor.position }
+{
+    !takes(req, place, opcode, character)
+}
+
+// Whether a run that may not be empty has no first character.
+#[inline(always)]
+fn misses_run<S: StrDrive>(
+    req: &Request<'_, S>,
+    place: usize,
+    character: u32,
+    cursor: StringCursor,
+) -> bool
+    requires opcode { Opcode (run_of req.now).words place SreOpcode.REPEAT_ONE }
+    requires stands { HasRun (run_of req.now) (Instruction place) cursor }
+    requires inside { cursor.position < end_of req.now }
+    requires character { character ≡ char_at (run_of req.now).subject cursor.position }
+    ensures { result ≡ true → Refuses (run_of req.now) place cursor.position }
+{
+    let least = operand(req, place, 2);
+    let test = place + 4;
+    if least == 0 {
+        return false;
+    }
+    !takes(req, test, one_character::opcode(req, test), character)
+}
+
+// Whether nothing can come of standing at an instruction: behind MARKs a test stands there, or a run, and it does not
+// take the character at the cursor.
+#[inline(never)]
+fn begins_otherwise<S: StrDrive>(
+    req: &Request<'_, S>,
+    start: usize,
+    character: u32,
+    cursor: StringCursor,
+) -> bool
+    requires stands { HasRun (run_of req.now) (Instruction start) cursor }
+    requires inside { cursor.position < end_of req.now }
+    requires character { character ≡ char_at (run_of req.now).subject cursor.position }
+    ensures { result ≡ true → Refuses (run_of req.now) start cursor.position }
+{
+    let mut place = start;
+    macro_rules! by_opcode {
+        ($($test:ident)*) => {
+            'mark: loop {
+                match opcode(req, place, cursor) {
+                    SreOpcode::MARK => {
+                        let _number = operand(req, place, 1);
+                        place += 2;
+                    }
+                    SreOpcode::REPEAT_ONE => return misses_run(req, place, character, cursor),
+                    $(SreOpcode::$test => {
+                        return misses(req, SreOpcode::$test, place, character, cursor);
+                    })*
+                    _ => return false,
+                }
+            }
+        };
+    }
+    by_opcode!(LITERAL LITERAL_IGNORE LITERAL_UNI_IGNORE IN IN_IGNORE IN_UNI_IGNORE)
+}
+
+// Behind a test of one character, if it takes the one at the cursor.
+#[inline(always)]
+fn behind_test<S: StrDrive>(
+    req: &Request<'_, S>,
+    opcode: SreOpcode,
+    place: usize,
+    character: u32,
+    after: StringCursor,
+    cursor: StringCursor,
+) -> Option<(usize, StringCursor)>
+    requires opcode { Opcode (run_of req.now).words place opcode }
+    requires tests { family opcode ≡ Testing }
+    requires stands { HasRun (run_of req.now) (Instruction place) cursor }
+    requires read { IsRead (run_of req.now) cursor character after }
+    ensures { MatchOption result (Refuses (run_of req.now) place cursor.position)
+        (λ x. Continues (run_of req.now) (Instruction place) cursor (Instruction x.0) x.1) }
+{
+    if takes(req, place, opcode, character) {
+        Some((test_end(req, place, opcode), after))
+    } else {
+        None
+    }
+}
+
+// Where the machine goes on from an instruction, if something may come of it: behind a literal or a set that takes the
+// character, and else at the instruction itself.
+#[inline(always)]
+fn begin<S: StrDrive>(
+    req: &Request<'_, S>,
+    place: usize,
+    character: u32,
+    after: StringCursor,
+    cursor: StringCursor,
+) -> Option<(usize, StringCursor)>
+    requires stands { HasRun (run_of req.now) (Instruction place) cursor }
+    requires read { IsRead (run_of req.now) cursor character after }
+    ensures { MatchOption result (Refuses (run_of req.now) place cursor.position)
+        (λ x. Continues (run_of req.now) (Instruction place) cursor (Instruction x.0) x.1) }
+{
+    if word_at(req, place) == SreOpcode::LITERAL as u32 {
+        return behind_test(req, SreOpcode::LITERAL, place, character, after, cursor);
+    }
+    match opcode(req, place, cursor) {
+        SreOpcode::IN => behind_test(req, SreOpcode::IN, place, character, after, cursor),
+        SreOpcode::LITERAL_UNI_IGNORE => {
+            behind_test(
+                req,
+                SreOpcode::LITERAL_UNI_IGNORE,
+                place,
+                character,
+                after,
+                cursor,
+            )
+        }
+        _ => {
+            if begins_otherwise(req, place, character, cursor) {
+                None
+            } else {
+                Some((place, cursor))
+            }
+        }
+    }
+}
+
+// An alternative of which something may come: its length word, and where the machine goes on in it.
+#[derive(Clone, Copy)]
+struct Alternative {
+    length_word: usize,
+    place: usize,
+    cursor: StringCursor,
+}
+
+// The first alternative from a length word on of which something may come, if there is one.
+#[inline(always)]
+fn first_alternative<S: StrDrive>(
+    req: &Request<'_, S>,
+    start: usize,
+    character: u32,
+    after: StringCursor,
+    cursor: StringCursor,
+) -> Option<Alternative>
+    requires stands { HasRun (run_of req.now) (Alternatives start) cursor }
+    requires read { IsRead (run_of req.now) cursor character after }
+    ensures { MatchOption result (Exhausted (run_of req.now) (Alternatives start) cursor.position)
+        (λ x. HasRun (run_of req.now) (Alternatives x.length_word) cursor
+        × (0 < word (run_of req.now).words x.length_word)
+        × Continues (run_of req.now) (Alternatives start) cursor (Alternatives x.length_word) cursor
+        × Continues (run_of req.now) (Instruction (x.length_word + 1)) cursor (Instruction x.place) x.cursor) }
+{
+    let mut place = start;
+    'alternative: loop {
+        let length = word_at(req, place) as usize;
+        if length == 0 {
+            return None;
+        }
+        if let Some(begun) = begin(req, place + 1, character, after, cursor) {
+            return Some(Alternative {
+                length_word: place,
+                place: begun.0,
+                cursor: begun.1,
+            });
+        }
+        place += length;
+    }
+}
+
+// The alternatives from a length word on, where no character is left to tell which of them may come.
+#[inline(never)]
+fn alternatives_at_end<S: StrDrive, A: Allocator>(
+    req: &Request<'_, S>,
+    board: &mut Board<A>,
+    place: usize,
+    cursor: StringCursor,
+) -> Result<Next, Refusal>
+    requires { HasRun (run_of req.now) (Alternatives place) cursor }
+    ensures { IfOk result (λ next. Advances (run_of req.now) (Alternatives place) cursor board.old next board.new) }
+{
+    let length = word_at(req, place) as usize;
+    if length == 0 {
+        return Ok(Next::Back);
+    }
+    Ok(choose(
+        req,
+        board,
+        place + 1,
+        Point::Alternatives(place + length),
+        cursor,
+    )?)
+}
+
+// Goes on in an alternative, with the others from a length word on to be tried after it.
+#[inline(always)]
+fn choose_alternative<S: StrDrive, A: Allocator>(
+    req: &Request<'_, S>,
+    board: &mut Board<A>,
+    first: Alternative,
+    others: usize,
+    cursor: StringCursor,
+) -> Result<Next, Refusal>
+    requires { Continues (run_of req.now) (Instruction (first.length_word + 1)) cursor
+        (Instruction first.place) first.cursor }
+    ensures { IfOk result (λ next.
+        Chooses (run_of req.now) (Instruction (first.length_word + 1)) (Alternatives others) cursor
+        board.old next board.new) }
+{
+    let _ = req.end();
+    board.save(Point::Alternatives(others), cursor)?;
+    Ok(Next::At(first.place, first.cursor))
+}
+
+/// The alternatives of a BRANCH from a length word on: `length body JUMP skip ... 0`.
+#[inline(always)]
+pub(super) fn alternatives<S: StrDrive, A: Allocator>(
+    req: &Request<'_, S>,
+    board: &mut Board<A>,
+    start: usize,
+    cursor: StringCursor,
+) -> Result<Next, Refusal>
+    requires { HasRun (run_of req.now) (Alternatives start) cursor }
+    ensures { IfOk result (λ next. Advances (run_of req.now) (Alternatives start) cursor board.old next board.new) }
+{
+    if cursor.position() >= req.end() {
+        return Ok(alternatives_at_end(req, board, start, cursor)?);
+    }
+    let (character, after) = read(req, cursor);
+    let Some(first) = first_alternative(req, start, character, after, cursor) else {
+        return Ok(Next::Back);
+    };
+    let length = word_at(req, first.length_word) as usize;
+    let following = first.length_word + length;
+    let Some(other) = first_alternative(req, following, character, after, cursor) else {
+        return Ok(Next::At(first.place, first.cursor));
+    };
+    Ok(choose_alternative(req, board, first, other.length_word, cursor)?)
+}
+
+/// `BRANCH length body JUMP skip ... 0`: the first alternative, then the others.
+#[inline(always)]
+pub(super) fn branch<S: StrDrive, A: Allocator>(
+    req: &Request<'_, S>,
+    board: &mut Board<A>,
+    place: usize,
+    cursor: StringCursor,
+) -> Result<Next, Refusal>
+    requires opcode { Opcode (run_of req.now).words place SreOpcode.BRANCH }
+    requires room { place + 2 ^ 33 < 2 ^ 64 }
+    requires stands { HasRun (run_of req.now) (Instruction place) cursor }
+    ensures { IfOk result (λ next. Advances (run_of req.now) (Instruction place) cursor board.old next board.new) }
+{
+    Ok(alternatives(req, board, place + 1, cursor)?)
+}
