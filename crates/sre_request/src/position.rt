@@ -73,8 +73,9 @@ fn is_on_nothing<S: StrDrive>(req: &Request<'_, S>, cursor: StringCursor) -> boo
     cursor.position() == 0 && req.end() == 0
 }
 
-// Whether one of the characters on both sides is of a category, and the other is not.
-#[inline(always)]
+// Whether one of the characters on both sides is of a category, and the other is not. Out of line: the machine's turn
+// is one function, which is inlined in its loop only while it is small.
+#[inline(never)]
 fn is_boundary<S: StrDrive>(req: &Request<'_, S>, word: SreCatCode, cursor: StringCursor) -> bool
     requires { (run_of req.now).stands cursor cursor.position }
     ensures { result ≡ is_boundary (run_of req.now).subject

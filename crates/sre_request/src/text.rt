@@ -77,8 +77,8 @@ pub fn back_by<S: StrDrive>(
     before
 }
 
-/// The cursor at a position of the text, reached from a cursor at hand.
-#[inline(always)]
+/// The cursor at a position of the text, reached from a cursor at hand. Out of line: only references need it.
+#[inline(never)]
 pub fn cursor_at<S: StrDrive>(
     req: &Request<'_, S>,
     cursor: StringCursor,
