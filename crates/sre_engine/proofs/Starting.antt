@@ -9,32 +9,28 @@ use Rattle.sre_model.specs.Marks.{no_marks}
 use Rattle.sre_model.specs.Found.{Asked, subject_of, at_start, found}
 use Rattle.sre_model.specs.Subject.{Subject, holds_at}
 use Rattle.sre_model.specs.Machine.{Run}
-use Rattle.sre_model.specs.FirstCharacters.{NoWay}
+use Rattle.sre_model.specs.FirstCharacters.{NoWay, TreeStands, Leads}
 use Rattle.sre_model.proofs.Passing.{stands_at_own}
 use Rattle.sre_model.proofs.FoundLaws.{none-found}
-use Rattle.sre_model.proofs.FirstCharacters.{Leads}
+use Rattle.sre_model.proofs.FirstCharacters.{whole_stands}
 use Rattle.sre_engine.specs.declared.engine.first_characters.First.{First}
-use Rattle.sre_engine.specs.declared.engine.first_characters.Wanted.{Wanted}
-use Rattle.sre_engine.specs.declared.engine.first_characters.Wanted.TheVariants.{Anything}
 use Rattle.sre_engine.proofs.Answering.{NoneBefore}
 use Rattle.sre_engine.specs.Starts.{IsElsewhere, IsLacking, Barred, Bars, AllBarred, BarredUpTo}
 
--- a description bars, if each of its three reasons leaves no way
-pub bars_if : (ws : List ℕ) (i : ℕ) (f : First) → ((t : Tree) → WholeItems ws t → Leads ws t i f.back)
-    → ((t : Tree) → WholeItems ws t → (s : Subject) (p : ℕ) → IsElsewhere s f.at p → NoWay s t p)
-    → ((t : Tree) → WholeItems ws t → (s : Subject) (p : ℕ) → IsLacking ws s f.wanted (p - f.back) → NoWay s t p)
-    → Bars ws f
+-- a description of what the first words lead to bars
+pub bars_if : (ws : List ℕ) (i : ℕ) (f : First) → ((t : Tree) → TreeStands ws 0 t → Leads ws t i f.back)
+    → ((t : Tree) → TreeStands ws 0 t → (s : Subject) (p : ℕ) → IsElsewhere s f.at p → NoWay s t p)
+    → ((t : Tree) → TreeStands ws i t → (s : Subject) (p : ℕ) → IsLacking ws s f.wanted p → NoWay s t p) → Bars ws f
 bars_if ws i f leads at wanted = record {
-  none = λ t whole s p barred. elim barred [
-    | (inl near) ↦ (leads t whole).near s p near
-    | (inr (inl elsewhere)) ↦ at t whole s p elsewhere
-    | (inr (inr lacking)) ↦ wanted t whole s p lacking
-  ];
+  none = λ t whole s p barred.
+      let stands = whole_stands ws t whole in
+      let l = leads t stands in
+      elim barred [
+        | (inl near) ↦ l.near s p near
+        | (inr (inl elsewhere)) ↦ at t stands s p elsewhere
+        | (inr (inr lacking)) ↦ l.leads s p (wanted l.tree l.stands s (p - f.back) lacking)
+      ];
 }
-
--- where anything is wanted, nothing is lacking
-pub nothing_lacks : (ws : List ℕ) (s : Subject) (w : Wanted) (p : ℕ) → w ≡ Anything → IsLacking ws s w p → ⊥
-nothing_lacks ws s w p is lacking = subst (λ v. IsLacking ws s v p) is lacking
 
 -- a start at which the code does not hold
 pub barred_by_code : (ws : List ℕ) (s : Subject) (f : First) (code : SreAtCode) (q : ℕ) → f.at ≡ Some code

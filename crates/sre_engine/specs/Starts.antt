@@ -1,28 +1,35 @@
 -- Starts from which there is no match: barred by what has to come first, or passed behind a start that has none.
 -- Words of the search's contracts; what sre_engine makes public does not rest on it.
-use Rattle.std.specs.Prelude.{ℕ, ◌≡◌, ◌<◌, ◌≤◌, ◌+◌, ◌-◌, ◌⊎◌, false, List, Option, Some, None}
+use Rattle.std.specs.Prelude.{ℕ, ◌≡◌, ◌<◌, ◌≤◌, ◌+◌, ◌-◌, ◌⊎◌, ◌||◌, nat_le, false, List, Option, Some, None}
 use Rattle.sre_chars.specs.declared.constants.SreAtCode.{SreAtCode}
+use Rattle.sre_ascii.specs.declared.AsciiSet.{AsciiSet}
+use Rattle.sre_ascii.specs.Sets.{contains}
 use Rattle.sre_chars.specs.declared.string.StringCursor.{StringCursor}
 use Rattle.sre_model.specs.Tree.{Tree}
 use Rattle.sre_model.specs.Grammar.{WholeItems}
 use Rattle.sre_model.specs.Found.{Asked, at_start}
-use Rattle.sre_model.specs.Subject.{Subject, holds_at}
+use Rattle.sre_model.specs.Subject.{Subject, after, holds_at}
 use Rattle.sre_model.specs.Machine.{Run}
 use Rattle.sre_model.specs.Standing.{HasTest}
 use Rattle.sre_model.specs.FirstCharacters.{NoWay, NotPassed}
 use Rattle.sre_engine.specs.declared.engine.first_characters.First.{First}
 use Rattle.sre_engine.specs.declared.engine.first_characters.Wanted.{Wanted}
-use Rattle.sre_engine.specs.declared.engine.first_characters.Wanted.TheVariants.{Anything, Test}
+use Rattle.sre_engine.specs.declared.engine.first_characters.Wanted.TheVariants.{Anything, Test, Characters}
 
 -- a position code, where there is one, does not hold at a position
 abbrev pub IsElsewhere : Subject → Option SreAtCode → ℕ → Type 0
 IsElsewhere s None p = ⊥
 IsElsewhere s (Some code) p = holds_at s code p ≡ false
 
+-- no character of a set and none past ASCII is at a position
+pub record NotAmong (s : Subject) (set : AsciiSet) (p : ℕ) : Type 0 where
+  pub none : after s (λ c. nat_le 128 c || contains set c) p ≡ false
+
 -- what is wanted is not at a position
 abbrev pub IsLacking : List ℕ → Subject → Wanted → ℕ → Type 0
 IsLacking ws s Anything p = ⊥
 IsLacking ws s (Test place) p = NotPassed ws s place p
+IsLacking ws s (Characters set) p = NotAmong s set p
 
 -- at a start fewer characters are before it than is looked back, or its code does not hold, or what is wanted so far
 -- back is not there
@@ -37,6 +44,14 @@ pub record Bars (ws : List ℕ) (first : First) : Type 0 where
 abbrev pub TestsThere : List ℕ → Wanted → Type 0
 TestsThere ws Anything = Unit {0}
 TestsThere ws (Test place) = HasTest ws place
+TestsThere ws (Characters set) = Unit {0}
+
+-- a cursor stands in the window, and up to it what is wanted is lacking from another one on
+pub record Found (r : Run) (wanted : Wanted) (start cursor : StringCursor) : Type 0 where
+  pub stands : r.stands cursor cursor.position
+  pub from : start.position ≤ cursor.position
+  pub inside : cursor.position ≤ r.subject.end
+  pub each : (q : ℕ) → start.position ≤ q → q < cursor.position → IsLacking r.words r.subject wanted q
 
 -- each start from one on is barred, up to and with the window's end
 pub record AllBarred (r : Run) (first : First) (from : ℕ) : Type 0 where

@@ -1,29 +1,38 @@
 -- Where the first words of a code leave no way.
-use Rattle.std.proofs.Common.{◌≡◌, ◌≢◌, ℕ, zero, suc, ◌+◌, ◌-◌, ◌<◌, ◌≤◌, Bool, true, false, List, [], length, nat_lt, nat_le, ◌⊎◌}
+use Rattle.std.proofs.Common.{◌≡◌, ◌≢◌, ℕ, zero, suc, ◌+◌, ◌-◌, ◌<◌, Bool, true, false, List, [], length, nat_lt}
+use Rattle.std.proofs.Common.{nat_le, ◌⊎◌}
 use Rattle.std.proofs.Common.{inl, inr, refl, sym, ap, ◌∙◌, subst, arith}
+use Rattle.std.proofs.lemmas.Bool.{cases_lt}
 use Rattle.std.proofs.lemmas.Bool.Decides.{nat_tests}
 use Rattle.sre_chars.specs.Numbers.{at_number}
 use Rattle.sre_chars.specs.declared.constants.SreOpcode.{SreOpcode}
 use Rattle.sre_chars.specs.declared.constants.SreOpcode.TheVariants as opcode
 use Rattle.sre_chars.specs.declared.constants.SreAtCode.{SreAtCode}
-use Rattle.sre_model.specs.Tree.{Tree, Empty, Then, Item, One, At, Mark, Loop, Run, PossessiveLoop, Atomic, Look, Test}
-use Rattle.sre_model.specs.Tree.{Order, Greedy, Lazy, RunKind, GreedyRun, LazyRun, PossessiveRun, Sign, Positive, Negative}
+use Rattle.sre_model.specs.Tree.{Tree, Empty, Then, Item, One, At, Mark, Branch, Loop, Run, PossessiveLoop, Atomic}
+use Rattle.sre_model.specs.Tree.{Look, Test}
+use Rattle.sre_model.specs.Tree.{Trees, Only, Or, Order, Greedy, Lazy, RunKind, GreedyRun, LazyRun, PossessiveRun, Sign}
+use Rattle.sre_model.specs.Tree.{Positive, Negative}
 use Rattle.sre_model.specs.Marks.{Marks, set_mark}
 use Rattle.sre_model.specs.Subject.{Subject, passes, holds_at}
 use Rattle.sre_model.specs.Grammar.{Word, Opcode, skip, look_opcode, item_opcode, until_opcode}
-use Rattle.sre_model.specs.Grammar.{Reads, Operands, ReadsItem, WholeItems}
-use Rattle.sre_model.specs.Roles.{Role, ToTest, role}
+use Rattle.sre_model.specs.Grammar.{Reads, ReadsBranch, Operands, ReadsItem, WholeItems}
+use Rattle.sre_model.specs.Roles.{Role, ToTest, ToEnd, ToLoop, ToJump, role}
 use Rattle.sre_model.specs.Machine.{Testing, family_of, family}
 use Rattle.sre_model.specs.Ways.{ways, most_from, longest_run}
 use Rattle.sre_model.specs.Standing.{HasTest}
-use Rattle.sre_model.specs.FirstCharacters.{NoWay, NotPassed}
+use Rattle.sre_model.specs.FirstCharacters.{NoWay, NoneOf, NotPassed, is_end, TreeStands, HasTree, HasAlternatives}
+use Rattle.sre_model.specs.FirstCharacters.{Leads}
 use Rattle.sre_model.proofs.Words.{same_word, same_opcode, same_at, word_within, opcode_within}
 use Rattle.sre_model.proofs.Longest.{run_has}
-use Rattle.sre_model.proofs.Families.{Kind, OfOne, OfAt, OfMark, OfLoop, OfRun, OfPossessiveLoop, OfAtomic, OfLook, OfNone}
-use Rattle.sre_model.proofs.Families.{items_of, kind_of, HasKind, is_one, is_at, is_mark, is_loop}
+use Rattle.sre_model.proofs.Families.{Kind, OfOne, OfAt, OfMark, OfLoop, OfRun, OfPossessiveLoop, OfAtomic, OfLook}
+use Rattle.sre_model.proofs.Families.{OfNone}
+use Rattle.sre_model.proofs.Families.{OfBranch, items_of, kind_of, HasKind, is_branch, is_one, is_at, is_mark, is_loop}
 use Rattle.sre_model.proofs.Families.{is_run, is_possessive, is_atomic, is_look}
 
 -- Which opcodes begin what is looked at
+
+pub kind_here : (ws : List ℕ) (i : ℕ) (o : SreOpcode) (k : Kind) → Opcode ws i o → kind_of o ≡ k → HasKind ws i k
+kind_here ws i o k w e = record { code = o; there = w; begins = e }
 
 pub test_kind_here : (ws : List ℕ) (i : ℕ) (o : SreOpcode) → Opcode ws i o → family o ≡ Testing → HasKind ws i OfOne
 test_kind_here ws i o w e = record { code = o; there = w; begins = by_role (role o) e }
@@ -85,7 +94,8 @@ atomic_none s body rest p w = record { none = λ m. rw (w.none m) refl }
 -- a look whose body begins before the text, or has no way
 look_near : (s : Subject) (back : ℕ) (body rest : Tree) (p : ℕ) → p < back
     → NoWay s (Then (Look Positive back body) rest) p
-look_near s back body rest p l = let e : nat_lt p back ≡ true = grind (arith, nat_tests) in record { none = λ m. rw e refl }
+look_near s back body rest p l =
+    let e : nat_lt p back ≡ true = grind (arith, nat_tests) in record { none = λ m. rw e refl }
 
 look_none : (s : Subject) (back : ℕ) (body rest : Tree) (p : ℕ) → NoWay s body (p - back)
     → NoWay s (Then (Look Positive back body) rest) p
@@ -95,241 +105,259 @@ look_none s back body rest p w = record { none = λ m. by_start m (nat_lt p back
     by_start m true e = rw e refl
     by_start m false e = rw (e, w.none m) refl
 
+-- alternatives, each of which has no way
+branch_none : (s : Subject) (ts : Trees) (rest : Tree) (p : ℕ) → NoneOf s ts p → NoWay s (Then (Branch ts) rest) p
+branch_none s ts rest p w = record { none = λ m. rw (w.none m) refl }
+
+pub only_none : (s : Subject) (t : Tree) (p : ℕ) → NoWay s t p → NoneOf s (Only t) p
+only_none s t p w = record { none = λ m. w.none m }
+
+pub or_none : (s : Subject) (t : Tree) (ts : Trees) (p : ℕ) → NoWay s t p → NoneOf s ts p → NoneOf s (Or t ts) p
+or_none s t ts p w x = record { none = λ m. rw (w.none m, x.none m) refl }
+
 -- Where words leave no way
 
--- the words from a place on are a tree, up to an opcode that begins no item; where it has no way so far back, nor has
--- the whole
-pub record Leads (ws : List ℕ) (whole : Tree) (i far : ℕ) : Type 0 where
-  pub tree : Tree
-  pub end : ℕ
-  pub reads : Reads ws i end tree
-  pub ends : HasKind ws end OfNone
-  pub near : (s : Subject) (p : ℕ) → p < far → NoWay s whole p
-  pub leads : (s : Subject) (p : ℕ) → NoWay s tree (p - far) → NoWay s whole p
+ends_kind : (r : Role) → is_end r ≡ true → items_of r ≡ OfNone
+ends_kind ToEnd e = refl
+ends_kind (ToLoop order) e = refl
+ends_kind ToJump e = refl
+ends_kind r e = absurd (cc)
 
-ends_with : (ws : List ℕ) (end : ℕ) (o : SreOpcode) → kind_of o ≡ OfNone → Opcode ws end o → HasKind ws end OfNone
-ends_with ws end o e w = record { code = o; there = w; begins = e }
+pub stands_up_to : (ws : List ℕ) (i end : ℕ) (t : Tree) (o : SreOpcode) → Reads ws i end t → Opcode ws end o
+    → is_end (role o) ≡ true → TreeStands ws i t
+stands_up_to ws i end t o r w e = record { end = end; reads = r; code = o; there = w; ends = e }
 
-pub whole_leads : (ws : List ℕ) (t : Tree) → WholeItems ws t → Leads ws t 0 0
-whole_leads ws t w = record {
+pub whole_stands : (ws : List ℕ) (t : Tree) → WholeItems ws t → TreeStands ws 0 t
+whole_stands ws t w = stands_up_to ws 0 (length ws - 1) t opcode.SUCCESS w.0 w.1 refl
+
+pub leads_start : (ws : List ℕ) (t : Tree) (i : ℕ) → TreeStands ws i t → Leads ws t i 0
+leads_start ws t i x = record {
   tree = t;
-  end = length ws - 1;
-  reads = w.0;
-  ends = ends_with ws (length ws - 1) opcode.SUCCESS refl w.1;
+  stands = x;
   near = λ s p l. absurd (omega (arith, l));
-  leads = λ s p x. let here : p - 0 ≡ p = omega arith in subst (λ q. NoWay s t q) here x;
+  leads = λ s p w. let here : p - 0 ≡ p = omega arith in subst (λ q. NoWay s t q) here w;
 }
 
-pub leads_within : (ws : List ℕ) (t : Tree) (i far : ℕ) → Leads ws t i far → i < length ws
-leads_within ws t i far l = by_tree l.tree l.reads
-  where
-    by_tree : (x : Tree) → Reads ws i l.end x → i < length ws
-    by_tree Empty e =
-        opcode_within ws i l.ends.code (subst (λ k. Opcode ws k l.ends.code) (sym e) l.ends.there)
-    by_tree (Then item rest) r = opcode_within ws i (item_opcode item) r.1.0
+-- from one place to a further one
+leads_on : (ws : List ℕ) (t : Tree) (i k far more back : ℕ) (l : Leads ws t i far) → Leads ws l.tree k more
+    → back ≡ far + more → Leads ws t k back
+leads_on ws t i k far more back l x sum = record {
+  tree = x.tree;
+  stands = x.stands;
+  near = λ s p less. elim (cases_lt p far) [
+    | (inl near) ↦ l.near s p near
+    | (inr past) ↦ l.leads s p (x.near s (p - far) (omega (arith, sum, less, past)))
+  ];
+  leads = λ s p w.
+      let there : p - back ≡ p - far - more = omega (arith, sum) in
+      l.leads s p (x.leads s (p - far) (subst (λ q. NoWay s x.tree q) there w));
+}
 
--- the same, where the tree begins with an item
-record Begins (ws : List ℕ) (whole : Tree) (i far : ℕ) : Type 0 where
-  pub item : Item
-  pub rest : Tree
-  pub after : ℕ
-  pub end : ℕ
-  pub here : ReadsItem ws i after item
-  pub behind : Reads ws after end rest
-  pub ends : HasKind ws end OfNone
-  pub near : (s : Subject) (p : ℕ) → p < far → NoWay s whole p
-  pub leads : (s : Subject) (p : ℕ) → NoWay s (Then item rest) (p - far) → NoWay s whole p
-
--- where an item with that first word leaves no way
-leads_as : {ws : List ℕ} {t : Tree} {i far : ℕ} (b : Begins ws t i far) (item : Item) (s : Subject) (p : ℕ)
-    → b.item ≡ item → NoWay s (Then item b.rest) (p - far) → NoWay s t p
-leads_as {far = far} b item s p same w =
-    b.leads s p (subst (λ x. NoWay s (Then x b.rest) (p - far)) (sym same) w)
-
--- an opcode at a place where the words lead the whole
-module _ (ws : List ℕ) (t : Tree) (i far : ℕ) (l : Leads ws t i far) where
-  begins : (k : Kind) → k ≢ OfNone → HasKind ws i k → Begins ws t i far
-  begins k other h = by_tree l.tree l.reads l.leads
+-- a tree at a place, by the opcode there
+module _ (ws : List ℕ) (t : Tree) (i : ℕ) (x : TreeStands ws i t) where
+  stands_within : i < length ws
+  stands_within = by_tree t x.reads
     where
-      by_tree : (x : Tree) → Reads ws i l.end x → ((s : Subject) (p : ℕ) → NoWay s x (p - far) → NoWay s t p)
-          → Begins ws t i far
-      by_tree Empty e leads =
-          let there : Opcode ws i l.ends.code = subst (λ j. Opcode ws j l.ends.code) (sym e) l.ends.there in
-          let same : h.code ≡ l.ends.code = same_opcode ws i h.code l.ends.code h.there there in
-          absurd (other (sym h.begins ∙ ap kind_of same ∙ l.ends.begins))
-      by_tree (Then item rest) r leads = record {
+      by_tree : (u : Tree) → Reads ws i x.end u → i < length ws
+      by_tree Empty e = opcode_within ws i x.code (subst (λ k. Opcode ws k x.code) (sym e) x.there)
+      by_tree (Then item rest) r = opcode_within ws i (item_opcode item) r.1.0
+
+  -- the item with which the tree begins
+  record Begins : Type 0 where
+    pub item : Item
+    pub rest : Tree
+    pub after : ℕ
+    pub here : ReadsItem ws i after item
+    pub behind : TreeStands ws after rest
+    pub none : (s : Subject) (p : ℕ) → NoWay s (Then item rest) p → NoWay s t p
+
+  begins : (k : Kind) → k ≢ OfNone → HasKind ws i k → Begins
+  begins k other h = by_tree t x.reads (λ s p w. w)
+    where
+      by_tree : (u : Tree) → Reads ws i x.end u → ((s : Subject) (p : ℕ) → NoWay s u p → NoWay s t p) → Begins
+      by_tree Empty e none =
+          let there : Opcode ws i x.code = subst (λ j. Opcode ws j x.code) (sym e) x.there in
+          let same : h.code ≡ x.code = same_opcode ws i h.code x.code h.there there in
+          absurd (other (sym h.begins ∙ ap kind_of same ∙ ends_kind (role x.code) x.ends))
+      by_tree (Then item rest) r none = record {
         item = item;
         rest = rest;
         after = r.0;
-        end = l.end;
         here = r.1;
-        behind = r.2;
-        ends = l.ends;
-        near = l.near;
-        leads = leads;
+        behind = stands_up_to ws r.0 x.end rest x.code r.2 x.there x.ends;
+        none = none;
       }
 
+  -- where that item is another form of it
+  none_as : (b : Begins) (item : Item) (s : Subject) (p : ℕ) → b.item ≡ item → NoWay s (Then item b.rest) p
+      → NoWay s t p
+  none_as b item s p same w = b.none s p (subst (λ y. NoWay s (Then y b.rest) p) (sym same) w)
+
+  -- on behind it, or inside
+  leads_to : (k back : ℕ) (u : Tree) → TreeStands ws k u → ((s : Subject) (p : ℕ) → p < back → NoWay s t p)
+      → ((s : Subject) (p : ℕ) → NoWay s u (p - back) → NoWay s t p) → Leads ws t k back
+  leads_to k back u y near leads = record { tree = u; stands = y; near = near; leads = leads }
+
+  leads_inside : (k : ℕ) (u : Tree) → TreeStands ws k u → ((s : Subject) (p : ℕ) → NoWay s u p → NoWay s t p)
+      → Leads ws t k 0
+  leads_inside k u y none =
+      leads_to k 0 u y (λ s p l. absurd (omega (arith, l)))
+      (λ s p w. let here : p - 0 ≡ p = omega arith in none s p (subst (λ q. NoWay s u q) here w))
+
+  leads_behind : (b : Begins) (k : ℕ) → b.after ≡ k → ((s : Subject) (p : ℕ) → NoWay s b.rest p → NoWay s t p)
+      → Leads ws t k 0
+  leads_behind b k e none = leads_inside k b.rest (subst (λ n. TreeStands ws n b.rest) e b.behind) none
+
   -- a test
-  pub test_leads : HasKind ws i OfOne → HasTest ws i
-  test_leads h =
-      let b : Begins ws t i far = begins OfOne (λ e. cc) h in
+  pub test_there : HasKind ws i OfOne → HasTest ws i
+  test_there h =
+      let b : Begins = begins OfOne (λ e. cc) h in
       let is = is_one ws i b.after b.item h b.here in
       record { end = b.after; test = is.0; stands = record { code = is.2.0; operands = is.2.1 } }
 
-  pub test_bars : HasKind ws i OfOne → (s : Subject) (p : ℕ) → NotPassed ws s i (p - far) → NoWay s t p
+  pub test_bars : HasKind ws i OfOne → (s : Subject) (p : ℕ) → NotPassed ws s i p → NoWay s t p
   test_bars h s p fails =
-      let b : Begins ws t i far = begins OfOne (λ e. cc) h in
+      let b : Begins = begins OfOne (λ e. cc) h in
       let is = is_one ws i b.after b.item h b.here in
-      leads_as b (One is.0) s p is.1
-      (one_none s is.0 b.rest (p - far)
-      (fails.each b.after is.0 (record { code = is.2.0; operands = is.2.1 })))
+      none_as b (One is.0) s p is.1
+      (one_none s is.0 b.rest p (fails.each b.after is.0 (record { code = is.2.0; operands = is.2.1 })))
 
   -- a run of a test that owes a character
-  pub run_leads : HasKind ws i OfRun → HasTest ws (i + 4)
-  run_leads h =
-      let b : Begins ws t i far = begins OfRun (λ e. cc) h in
+  pub run_operand : HasKind ws i OfRun → i + 2 < length ws
+  run_operand h =
+      let b : Begins = begins OfRun (λ e. cc) h in
+      let is = is_run ws i b.after b.item h b.here in
+      word_within ws (i + 2) is.1 is.5.1.1
+
+  pub run_there : HasKind ws i OfRun → HasTest ws (i + 4)
+  run_there h =
+      let b : Begins = begins OfRun (λ e. cc) h in
       let is = is_run ws i b.after b.item h b.here in
       let operands = is.5.1 in
       record { end = b.after - 1; test = is.3; stands = record { code = operands.4; operands = operands.5 } }
 
-  pub run_operand : HasKind ws i OfRun → i + 2 < length ws
-  run_operand h =
-      let b : Begins ws t i far = begins OfRun (λ e. cc) h in
-      let is = is_run ws i b.after b.item h b.here in
-      word_within ws (i + 2) is.1 is.5.1.1
-
   pub run_bars : (low : ℕ) → HasKind ws i OfRun → Word ws (i + 2) low → 0 < low → (s : Subject) (p : ℕ)
-      → NotPassed ws s (i + 4) (p - far) → NoWay s t p
+      → NotPassed ws s (i + 4) p → NoWay s t p
   run_bars low h w owed s p fails =
-      let b : Begins ws t i far = begins OfRun (λ e. cc) h in
+      let b : Begins = begins OfRun (λ e. cc) h in
       let is = is_run ws i b.after b.item h b.here in
       let operands = is.5.1 in
       let same : is.1 ≡ low = same_word ws (i + 2) is.1 low operands.1 w in
-      leads_as b (Run is.0 is.1 is.2 is.3) s p is.4
-      (run_none s is.0 is.1 is.2 is.3 b.rest (p - far) (omega (arith, same, owed))
+      none_as b (Run is.0 is.1 is.2 is.3) s p is.4
+      (run_none s is.0 is.1 is.2 is.3 b.rest p (omega (arith, same, owed))
       (fails.each (b.after - 1) is.3 (record { code = operands.4; operands = operands.5 })))
 
+  -- BRANCH: its alternatives
+  pub branch_there : HasKind ws i OfBranch → HasAlternatives ws (i + 1)
+  branch_there h =
+      let b : Begins = begins OfBranch (λ e. cc) h in
+      let is = is_branch ws i b.after b.item h b.here in
+      record { end = b.after; trees = is.0; reads = is.2.1 }
+
+  pub branch_bars : HasKind ws i OfBranch → (s : Subject) (p : ℕ)
+      → ((j : ℕ) (ts : Trees) → ReadsBranch ws (i + 1) j ts → NoneOf s ts p) → NoWay s t p
+  branch_bars h s p each =
+      let b : Begins = begins OfBranch (λ e. cc) h in
+      let is = is_branch ws i b.after b.item h b.here in
+      none_as b (Branch is.0) s p is.1 (branch_none s is.0 b.rest p (each b.after is.0 is.2.1))
+
   -- AT: where its code does not hold, and on behind it
-  pub at_bars : (a : SreAtCode) → HasKind ws i OfAt → Word ws (i + 1) (at_number a) → (s : Subject) (p : ℕ)
-      → holds_at s a (p - far) ≡ false → NoWay s t p
+  pub at_operand : HasKind ws i OfAt → i + 1 < length ws
+  at_operand h =
+      let b : Begins = begins OfAt (λ e. cc) h in
+      let is = is_at ws i b.after b.item h b.here in
+      word_within ws (i + 1) (at_number is.0) is.2.1.0
+
+  at_bars : (a : SreAtCode) → HasKind ws i OfAt → Word ws (i + 1) (at_number a) → (s : Subject) (p : ℕ)
+      → holds_at s a p ≡ false → NoWay s t p
   at_bars a h w s p fails =
-      let b : Begins ws t i far = begins OfAt (λ e. cc) h in
+      let b : Begins = begins OfAt (λ e. cc) h in
       let is = is_at ws i b.after b.item h b.here in
       let same : is.0 ≡ a = same_at ws (i + 1) is.0 a is.2.1.0 w in
-      leads_as b (At a) s p (is.1 ∙ ap At same) (at_none s a b.rest (p - far) fails)
+      none_as b (At a) s p (is.1 ∙ ap At same) (at_none s a b.rest p fails)
 
-  pub at_leads : HasKind ws i OfAt → Leads ws t (i + 2) far
+  pub at_leads : HasKind ws i OfAt → Leads ws t (i + 2) 0
   at_leads h =
-      let b : Begins ws t i far = begins OfAt (λ e. cc) h in
+      let b : Begins = begins OfAt (λ e. cc) h in
       let is = is_at ws i b.after b.item h b.here in
-      record {
-        tree = b.rest;
-        end = b.end;
-        reads = subst (λ k. Reads ws k b.end b.rest) is.2.1.1 b.behind;
-        ends = b.ends;
-        near = b.near;
-        leads = λ s p x. leads_as b (At is.0) s p is.1 (at_passed s is.0 b.rest (p - far) x);
-      }
+      leads_behind b (i + 2) is.2.1.1 (λ s p w. none_as b (At is.0) s p is.1 (at_passed s is.0 b.rest p w))
 
   -- MARK: on behind it
-  pub mark_leads : HasKind ws i OfMark → Leads ws t (i + 2) far
+  pub mark_leads : HasKind ws i OfMark → Leads ws t (i + 2) 0
   mark_leads h =
-      let b : Begins ws t i far = begins OfMark (λ e. cc) h in
+      let b : Begins = begins OfMark (λ e. cc) h in
       let is = is_mark ws i b.after b.item h b.here in
-      record {
-        tree = b.rest;
-        end = b.end;
-        reads = subst (λ k. Reads ws k b.end b.rest) is.2.1.1 b.behind;
-        ends = b.ends;
-        near = b.near;
-        leads = λ s p x. leads_as b (Mark is.0) s p is.1 (mark_none s is.0 b.rest (p - far) x);
-      }
+      leads_behind b (i + 2) is.2.1.1 (λ s p w. none_as b (Mark is.0) s p is.1 (mark_none s is.0 b.rest p w))
 
   -- ATOMIC_GROUP: on inside
-  pub atomic_leads : HasKind ws i OfAtomic → Leads ws t (i + 2) far
+  pub atomic_leads : HasKind ws i OfAtomic → Leads ws t (i + 2) 0
   atomic_leads h =
-      let b : Begins ws t i far = begins OfAtomic (λ e. cc) h in
+      let b : Begins = begins OfAtomic (λ e. cc) h in
       let is = is_atomic ws i b.after b.item h b.here in
-      record {
-        tree = is.0;
-        end = b.after - 1;
-        reads = is.2.1.1;
-        ends = ends_with ws (b.after - 1) opcode.SUCCESS refl is.2.1.2;
-        near = b.near;
-        leads = λ s p x. leads_as b (Atomic is.0) s p is.1 (atomic_none s is.0 b.rest (p - far) x);
-      }
+      leads_inside (i + 2) is.0 (stands_up_to ws (i + 2) (b.after - 1) is.0 opcode.SUCCESS is.2.1.1 is.2.1.2 refl)
+      (λ s p w. none_as b (Atomic is.0) s p is.1 (atomic_none s is.0 b.rest p w))
 
   -- loops that owe a body: on inside
   loop_operand : HasKind ws i OfLoop → i + 2 < length ws
   loop_operand h =
-      let b : Begins ws t i far = begins OfLoop (λ e. cc) h in
+      let b : Begins = begins OfLoop (λ e. cc) h in
       let is = is_loop ws i b.after b.item h b.here in
       word_within ws (i + 2) is.1 is.5.1.0
 
-  loop_leads : (low : ℕ) → HasKind ws i OfLoop → Word ws (i + 2) low → 0 < low → Leads ws t (i + 4) far
+  loop_leads : (low : ℕ) → HasKind ws i OfLoop → Word ws (i + 2) low → 0 < low → Leads ws t (i + 4) 0
   loop_leads low h w owed =
-      let b : Begins ws t i far = begins OfLoop (λ e. cc) h in
+      let b : Begins = begins OfLoop (λ e. cc) h in
       let is = is_loop ws i b.after b.item h b.here in
       let operands = is.5.1 in
       let same : is.1 ≡ low = same_word ws (i + 2) is.1 low operands.0 w in
-      record {
-        tree = is.3;
-        end = skip ws (i + 1);
-        reads = operands.3;
-        ends = ends_with ws (skip ws (i + 1)) (until_opcode is.0) (until_ends is.0) operands.4;
-        near = b.near;
-        leads = λ s p x.
-            leads_as b (Loop is.0 is.1 is.2 is.3) s p is.4
-            (loop_none s is.0 is.1 is.2 is.3 b.rest (p - far) (omega (arith, same, owed)) x);
-      }
+      leads_inside (i + 4) is.3
+      (stands_up_to ws (i + 4) (skip ws (i + 1)) is.3 (until_opcode is.0) operands.3 operands.4 (until_ends is.0))
+      (λ s p v.
+      none_as b (Loop is.0 is.1 is.2 is.3) s p is.4
+      (loop_none s is.0 is.1 is.2 is.3 b.rest p (omega (arith, same, owed)) v))
     where
-      until_ends : (o : Order) → kind_of (until_opcode o) ≡ OfNone
+      until_ends : (o : Order) → is_end (role (until_opcode o)) ≡ true
       until_ends Greedy = refl
       until_ends Lazy = refl
 
   possessive_operand : HasKind ws i OfPossessiveLoop → i + 2 < length ws
   possessive_operand h =
-      let b : Begins ws t i far = begins OfPossessiveLoop (λ e. cc) h in
+      let b : Begins = begins OfPossessiveLoop (λ e. cc) h in
       let is = is_possessive ws i b.after b.item h b.here in
       word_within ws (i + 2) is.0 is.4.1.0
 
   possessive_leads : (low : ℕ) → HasKind ws i OfPossessiveLoop → Word ws (i + 2) low → 0 < low
-      → Leads ws t (i + 4) far
+      → Leads ws t (i + 4) 0
   possessive_leads low h w owed =
-      let b : Begins ws t i far = begins OfPossessiveLoop (λ e. cc) h in
+      let b : Begins = begins OfPossessiveLoop (λ e. cc) h in
       let is = is_possessive ws i b.after b.item h b.here in
       let operands = is.4.1 in
       let same : is.0 ≡ low = same_word ws (i + 2) is.0 low operands.0 w in
-      record {
-        tree = is.2;
-        end = skip ws (i + 1);
-        reads = operands.3;
-        ends = ends_with ws (skip ws (i + 1)) opcode.SUCCESS refl operands.4;
-        near = b.near;
-        leads = λ s p x.
-            leads_as b (PossessiveLoop is.0 is.1 is.2) s p is.3
-            (possessive_none s is.0 is.1 is.2 b.rest (p - far) (omega (arith, same, owed)) x);
-      }
+      leads_inside (i + 4) is.2
+      (stands_up_to ws (i + 4) (skip ws (i + 1)) is.2 opcode.SUCCESS operands.3 operands.4 refl)
+      (λ s p v.
+      none_as b (PossessiveLoop is.0 is.1 is.2) s p is.3
+      (possessive_none s is.0 is.1 is.2 b.rest p (omega (arith, same, owed)) v))
 
   pub body_operand : HasKind ws i OfLoop ⊎ HasKind ws i OfPossessiveLoop → i + 2 < length ws
   body_operand (inl h) = loop_operand h
   body_operand (inr h) = possessive_operand h
 
   pub body_leads : (low : ℕ) → HasKind ws i OfLoop ⊎ HasKind ws i OfPossessiveLoop → Word ws (i + 2) low → 0 < low
-      → Leads ws t (i + 4) far
+      → Leads ws t (i + 4) 0
   body_leads low (inl h) w owed = loop_leads low h w owed
   body_leads low (inr h) w owed = possessive_leads low h w owed
 
   -- a positive look: on inside, further back
   positive_look : Opcode ws i opcode.ASSERT
-      → (b : Begins ws t i far) × (back : ℕ) × (body : Tree) × (b.item ≡ Look Positive back body)
+      → (b : Begins) × (back : ℕ) × (body : Tree) × (b.item ≡ Look Positive back body)
       × Operands ws i b.after (Look Positive back body)
   positive_look w = by_sign (is_look ws i b.after b.item h b.here)
     where
       h : HasKind ws i OfLook
       h = record { code = opcode.ASSERT; there = w; begins = refl }
 
-      b : Begins ws t i far
+      b : Begins
       b = begins OfLook (λ e. cc) h
 
       positive : (g : Sign) → opcode.ASSERT ≡ look_opcode g → g ≡ Positive
@@ -338,7 +366,7 @@ module _ (ws : List ℕ) (t : Tree) (i far : ℕ) (l : Leads ws t i far) where
 
       by_sign : (g : Sign) × (back : ℕ) × (body : Tree) × (b.item ≡ Look g back body)
           × ReadsItem ws i b.after (Look g back body)
-          → (b : Begins ws t i far) × (back : ℕ) × (body : Tree) × (b.item ≡ Look Positive back body)
+          → (b : Begins) × (back : ℕ) × (body : Tree) × (b.item ≡ Look Positive back body)
           × Operands ws i b.after (Look Positive back body)
       by_sign is =
           let sign = positive is.0 (same_opcode ws i opcode.ASSERT (look_opcode is.0) w is.4.0) in
@@ -347,28 +375,35 @@ module _ (ws : List ℕ) (t : Tree) (i far : ℕ) (l : Leads ws t i far) where
   pub look_operand : Opcode ws i opcode.ASSERT → i + 2 < length ws
   look_operand w = let is = positive_look w in word_within ws (i + 2) is.1 is.4.1
 
-  pub look_leads : (n further : ℕ) → Opcode ws i opcode.ASSERT → Word ws (i + 2) n → further ≡ far + n
-      → Leads ws t (i + 3) further
-  look_leads n further w wn sum =
+  pub look_leads : (back : ℕ) → Opcode ws i opcode.ASSERT → Word ws (i + 2) back → Leads ws t (i + 3) back
+  look_leads back w there =
       let is = positive_look w in
       let b = is.0 in
-      let back_ : is.1 ≡ n = same_word ws (i + 2) is.1 n is.4.1 wn in
-      record {
-        tree = is.2;
-        end = b.after - 1;
-        reads = is.4.2;
-        ends = ends_with ws (b.after - 1) opcode.SUCCESS refl is.4.3;
-        near = λ s p k. by_start b is.1 is.2 is.3 back_ s p k (nat_lt p far) refl;
-        leads = λ s p x.
-            let there : p - further ≡ p - far - is.1 = omega (arith, sum, back_) in
-            leads_as b (Look Positive is.1 is.2) s p is.3
-            (look_none s is.1 is.2 b.rest (p - far) (subst (λ q. NoWay s is.2 q) there x));
-      }
-    where
-      by_start : (b : Begins ws t i far) (back : ℕ) (body : Tree) → b.item ≡ Look Positive back body → back ≡ n
-          → (s : Subject) (p : ℕ) → p < further → (c : Bool) → nat_lt p far ≡ c → NoWay s t p
-      by_start b back body is same s p k true e = b.near s p (grind (arith, nat_tests))
-      by_start b back body is same s p k false e =
-          let past : far ≤ p = grind (arith, nat_tests) in
-          leads_as b (Look Positive back body) s p is
-          (look_near s back body b.rest (p - far) (omega (arith, sum, same, k, past)))
+      let same : is.1 ≡ back = same_word ws (i + 2) is.1 back is.4.1 there in
+      let is_item : b.item ≡ Look Positive back is.2 = is.3 ∙ ap (λ n. Look Positive n is.2) same in
+      leads_to (i + 3) back is.2
+      (stands_up_to ws (i + 3) (b.after - 1) is.2 opcode.SUCCESS is.4.2 is.4.3 refl)
+      (λ s p less. none_as b (Look Positive back is.2) s p is_item (look_near s back is.2 b.rest p less))
+      (λ s p v. none_as b (Look Positive back is.2) s p is_item (look_none s back is.2 b.rest p v))
+
+-- The place that the words of a start lead to
+module _ (ws : List ℕ) (start i far : ℕ) (l : (t : Tree) → TreeStands ws start t → Leads ws t i far) where
+  pub leads_tree : HasTree ws start → HasTree ws i
+  leads_tree x = let at = l x.tree x.stands in record { tree = at.tree; stands = at.stands }
+
+  pub leads_further : (k more back : ℕ) → ((t : Tree) → TreeStands ws i t → Leads ws t k more) → back ≡ far + more
+      → (t : Tree) → TreeStands ws start t → Leads ws t k back
+  leads_further k more back on sum t x =
+      let at = l t x in leads_on ws t i k far more back at (on at.tree at.stands) sum
+
+  -- a position code there, where nothing is looked back
+  pub at_bars_there : (a : SreAtCode) → far ≡ 0 → HasKind ws i OfAt → Word ws (i + 1) (at_number a) → (t : Tree)
+      → TreeStands ws start t → (s : Subject) (p : ℕ) → holds_at s a p ≡ false → NoWay s t p
+  at_bars_there a none h w t x s p fails =
+      let at = l t x in
+      let here : p - far ≡ p = omega (arith, none) in
+      at.leads s p
+      (at_bars ws at.tree i at.stands a h w s (p - far) (subst (λ q. holds_at s a q ≡ false) (sym here) fails))
+
+pub tree_within : (ws : List ℕ) (i : ℕ) → HasTree ws i → i < length ws
+tree_within ws i x = stands_within ws x.tree i x.stands

@@ -213,7 +213,7 @@ impl<A: Allocator + Copy> State<A> {
         let lead = leading_run(req);
         self.board.clear(); // of an earlier search
         'start: loop {
-            match next_start(req, first, start) {
+            match next_start(req, &first, start) {
                 None => return Ok(false),
                 Some(next) => start = next,
             }

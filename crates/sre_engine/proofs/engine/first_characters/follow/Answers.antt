@@ -1,0 +1,125 @@
+use Rattle.std.proofs.Common.{◌≡◌, ◌⊎◌, ◌+◌, ℕ, List, inl, inr, refl, ap, subst, Option, None, Some, IfSome, rules}
+use Rattle.std.proofs.Common.{arith}
+use Rattle.sre_chars.specs.declared.constants.SreOpcode.{SreOpcode}
+use Rattle.sre_chars.specs.declared.constants.SreOpcode.TheVariants as opcode
+use Rattle.sre_chars.specs.declared.constants.SreAtCode.{SreAtCode}
+use Rattle.sre_chars.specs.Numbers.{at_number}
+use Rattle.sre_model.specs.Tree.{Tree}
+use Rattle.sre_model.specs.Subject.{Subject}
+use Rattle.sre_model.specs.Grammar.{Word, Opcode}
+use Rattle.sre_model.specs.FirstCharacters.{NoWay, TreeStands, Leads}
+use Rattle.sre_model.proofs.Families.{OfMark, OfAtomic, OfAt, OfLoop, OfPossessiveLoop, kind_of, HasKind}
+use Rattle.sre_model.proofs.FirstCharacters.{leads_start, leads_tree, leads_further, tree_within, kind_here}
+use Rattle.sre_model.proofs.FirstCharacters.{mark_leads, atomic_leads, look_operand, look_leads, at_operand, at_leads}
+use Rattle.sre_model.proofs.FirstCharacters.{at_bars_there, body_operand, body_leads}
+use Rattle.sre_engine.specs.Starts.{IsElsewhere}
+use Rattle.sre_engine.proofs.engine.first_characters.follow.Goals as goal
+
+pub item-init : goal.item-init
+item-init c = record {
+  within = tree_within c.args.words.now c.args.start c.requires;
+  leads = λ t stands. leads_start c.args.words.now t c.args.start stands;
+  at = λ t stands s p e. absurd e;
+}
+
+pub item-preserved-in-MARK : goal.item-preserved-in-MARK
+item-preserved-in-MARK c =
+    let ws = c.args.words.now in
+    let code : Opcode ws c.item.reached.place opcode.MARK = search rules in
+    let further = leads_further ws _ _ _ c.item.invariant.leads _ 0 c.item.reached.back
+    (λ u stands. mark_leads ws u _ stands (kind_here _ _ opcode.MARK OfMark code refl)) (omega arith) in
+    record {
+      within = tree_within ws _ (leads_tree ws _ _ _ further c.requires);
+      leads = further;
+      at = c.item.invariant.at;
+    }
+
+pub item-preserved-in-ATOMIC_GROUP : goal.item-preserved-in-ATOMIC_GROUP
+item-preserved-in-ATOMIC_GROUP c =
+    let ws = c.args.words.now in
+    let code : Opcode ws c.item.reached.place opcode.ATOMIC_GROUP = search rules in
+    let further = leads_further ws _ _ _ c.item.invariant.leads _ 0 c.item.reached.back
+    (λ u stands. atomic_leads ws u _ stands (kind_here _ _ opcode.ATOMIC_GROUP OfAtomic code refl)) (omega arith) in
+    record {
+      within = tree_within ws _ (leads_tree ws _ _ _ further c.requires);
+      leads = further;
+      at = c.item.invariant.at;
+    }
+
+pub operand-far-requires : goal.operand-far-requires
+operand-far-requires c =
+    let ws = c.args.words.now in
+    let code : Opcode ws c.item.reached.place opcode.ASSERT = search rules in
+    let here = leads_tree ws _ _ _ c.item.invariant.leads c.requires in
+    look_operand ws here.tree _ here.stands code
+
+pub item-preserved-in-ASSERT : goal.item-preserved-in-ASSERT
+item-preserved-in-ASSERT c =
+    let ws = c.args.words.now in
+    let code : Opcode ws c.item.reached.place opcode.ASSERT = search rules in
+    let further = leads_further ws _ _ _ c.item.invariant.leads _ _ _
+    (λ u stands. look_leads ws u _ stands _ code c.operand-far.ensures.word) (search rules) in
+    record {
+      within = tree_within ws _ (leads_tree ws _ _ _ further c.requires);
+      leads = further;
+      at = c.item.invariant.at;
+    }
+
+pub first_position-reached-requires : goal.first_position-reached-requires
+first_position-reached-requires c =
+    let ws = c.args.words.now in
+    let code : Opcode ws c.item.reached.place opcode.AT = search rules in
+    let here = leads_tree ws _ _ _ c.item.invariant.leads c.requires in
+    at_operand ws here.tree _ here.stands (kind_here _ _ opcode.AT OfAt code refl)
+
+-- what the position code that is kept rules out
+position_bars : (ws : List ℕ) (start i far : ℕ) (before code : Option SreAtCode)
+    (l : (t : Tree) → TreeStands ws start t → Leads ws t i far) → HasKind ws i OfAt
+    → ((t : Tree) → TreeStands ws start t → (s : Subject) (p : ℕ) → IsElsewhere s before p → NoWay s t p)
+    → (code ≡ before) ⊎ ((far ≡ 0) × IfSome code (λ a. Word ws (i + 1) (at_number a))) → (t : Tree)
+    → TreeStands ws start t → (s : Subject) (p : ℕ) → IsElsewhere s code p → NoWay s t p
+position_bars ws start i far before code l h at (inl same) t stands s p fails =
+    at t stands s p (subst (λ a. IsElsewhere s a p) same fails)
+position_bars ws start i far before None l h at (inr own) t stands s p fails = absurd fails
+position_bars ws start i far before (Some a) l h at (inr own) t stands s p fails =
+    at_bars_there ws start i far l a own.0 h own.1 t stands s p fails
+
+pub item-preserved-in-AT : goal.item-preserved-in-AT
+item-preserved-in-AT c =
+    let ws = c.args.words.now in
+    let code : Opcode ws c.item.reached.place opcode.AT = search rules in
+    let here = kind_here _ _ opcode.AT OfAt code refl in
+    let further = leads_further ws _ _ _ c.item.invariant.leads _ 0 c.item.reached.back
+    (λ u stands. at_leads ws u _ stands here) (omega arith) in
+    record {
+      within = tree_within ws _ (leads_tree ws _ _ _ further c.requires);
+      leads = further;
+      at =
+          position_bars ws _ _ _ c.item.reached.at _ c.item.invariant.leads here c.item.invariant.at
+          c.first_position-reached.ensures;
+    }
+
+loop_here : (ws : List ℕ) (i : ℕ) (o : SreOpcode) → Opcode ws i o
+    → (o ≡ opcode.REPEAT) ⊎ (o ≡ opcode.POSSESSIVE_REPEAT) → HasKind ws i OfLoop ⊎ HasKind ws i OfPossessiveLoop
+loop_here ws i o w (inl e) = inl (kind_here ws i o OfLoop w (ap kind_of e))
+loop_here ws i o w (inr e) = inr (kind_here ws i o OfPossessiveLoop w (ap kind_of e))
+
+pub operand-requires : goal.operand-requires
+operand-requires c =
+    let ws = c.args.words.now in
+    let code : Opcode ws c.item.reached.place c.in-Ok.opcode = search rules in
+    let here = leads_tree ws _ _ _ c.item.invariant.leads c.requires in
+    body_operand ws here.tree _ here.stands (loop_here _ _ _ code c.in-REPEAT.is)
+
+pub item-preserved : goal.item-preserved
+item-preserved c =
+    let ws = c.args.words.now in
+    let code : Opcode ws c.item.reached.place c.in-Ok.opcode = search rules in
+    let further = leads_further ws _ _ _ c.item.invariant.leads _ 0 c.item.reached.back
+    (λ u stands. body_leads ws u _ stands _ (loop_here _ _ _ code c.in-REPEAT.is) c.operand.ensures.word (omega arith))
+    (omega arith) in
+    record {
+      within = tree_within ws _ (leads_tree ws _ _ _ further c.requires);
+      leads = further;
+      at = c.item.invariant.at;
+    }

@@ -1,0 +1,17 @@
+use Rattle.std.proofs.Common.{◌-◌, ◌<◌, ℕ, length}
+use Rattle.sre_model.specs.Tree.{Tree}
+use Rattle.sre_model.specs.Subject.{Subject}
+use Rattle.sre_model.specs.FirstCharacters.{NoWay, TreeStands, Leads}
+use Rattle.sre_engine.specs.Starts.{IsElsewhere}
+use Rattle.sre_engine.proofs.engine.first_characters.follow.Given as goal
+
+abbrev pub invariant-item : goal.invariant-item
+invariant-item l = record {
+  within : l.reached.place < length l.words;
+  leads : (t : Tree) → TreeStands l.words l.fn.start t → Leads l.words t l.reached.place l.reached.back;
+  at : (t : Tree) → TreeStands l.words l.fn.start t → (s : Subject) (p : ℕ) → IsElsewhere s l.reached.at p
+      → NoWay s t p;
+}
+
+abbrev pub decreases-item : goal.decreases-item
+decreases-item l = length l.words - l.reached.place
