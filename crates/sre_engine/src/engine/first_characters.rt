@@ -45,6 +45,20 @@ pub(crate) struct First {
 }
 
 impl First {
+    /// What a code's items tell, but for what the alternatives of a branch begin with.
+    pub(crate) fn of_tests(words: &[u32]) -> First
+        requires { AreItems words.now }
+        ensures bars { Bars words.now result }
+        ensures test { TestsThere words.now result.wanted }
+    {
+        let reached = follow(words, 0);
+        First {
+            back: reached.back,
+            at: reached.at,
+            wanted: test_at(words, reached.place),
+        }
+    }
+
     /// What a code's items tell.
     pub(crate) fn of_items(words: &[u32]) -> First
         requires { AreItems words.now }
@@ -137,6 +151,22 @@ fn wanted_at(words: &[u32], place: usize) -> Wanted
         → NoWay s t p }
     ensures test { TestsThere words.now result }
 {
+    let Ok(SreOpcode::BRANCH) = SreOpcode::try_from(word(words, place)) else {
+        return test_at(words, place);
+    };
+    if let Some(characters) = first_characters(words, place + 1) {
+        return Wanted::Characters(characters);
+    }
+    Wanted::Anything
+}
+
+// What a test or a run that owes a character asks for.
+fn test_at(words: &[u32], place: usize) -> Wanted
+    requires { HasTree words.now place }
+    ensures bars { (t : Tree) → TreeStands words.now place t → (s : Subject) (p : ℕ) → IsLacking words.now s result p
+        → NoWay s t p }
+    ensures test { TestsThere words.now result }
+{
     let Ok(opcode) = SreOpcode::try_from(word(words, place)) else {
         return Wanted::Anything;
     };
@@ -144,12 +174,6 @@ fn wanted_at(words: &[u32], place: usize) -> Wanted
         SreOpcode::REPEAT_ONE | SreOpcode::MIN_REPEAT_ONE | SreOpcode::POSSESSIVE_REPEAT_ONE => {
             if operand(words, place, 2) > 0 {
                 return Wanted::Test(place + 4);
-            }
-            Wanted::Anything
-        }
-        SreOpcode::BRANCH => {
-            if let Some(characters) = first_characters(words, place + 1) {
-                return Wanted::Characters(characters);
             }
             Wanted::Anything
         }

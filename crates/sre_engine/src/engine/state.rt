@@ -4,12 +4,13 @@ ghost use Rattle.std.specs.Prelude.{◌≡◌, ◌≤◌, length, IfOk, OnErr, t
 ghost use Rattle.sre_model.specs.Tree.{Tree};
 ghost use Rattle.sre_model.specs.Grammar.{Whole};
 ghost use Rattle.sre_model.specs.Marks.{no_marks};
-ghost use Rattle.sre_model.specs.Found.{matched, found};
+ghost use Rattle.sre_model.specs.Found.{matched, at_start, found};
 ghost use Rattle.sre_model.specs.Board.{bare};
 ghost use Rattle.sre_model.specs.Machine.{Decides, outcomes};
 ghost use Rattle.sre_code.specs.Codes.{words_of};
 ghost use Rattle.sre_request.specs.Requests.{string_of, start_of, end_of, code_of, asked_of, stands_in, run_of};
 ghost use Rattle.sre_engine.specs.Answers.{Answers, AnswersAlike, Spans};
+ghost use Rattle.sre_engine.specs.Starts.{NoneBetween};
 ghost use Rattle.sre_growth.specs.Refusal.{Refused};
 
 use crate::engine::first_characters::{First, next_start};
@@ -208,22 +209,54 @@ impl<A: Allocator + Copy> State<A> {
         ensures err { OnErr result (self.new.marks ≡ no_marks) }
         ensures refused { OnErr result Refused }
     {
-        let mut start = from;
+        self.board.clear(); // of an earlier search
+        let first = First::of_tests(req.pattern_codes().items());
+        let Some(start) = next_start(req, &first, from) else {
+            return Ok(false);
+        };
+        if let Some(end) = attempt(req, start, &mut self.board)? {
+            (self.start, self.cursor) = (start.position(), end);
+            return Ok(true);
+        }
+        self.search_behind(req, start)
+    }
+
+    // Goes on with a search behind the first of its starts that was tried. Only now it is worth to read in the words
+    // with what alternatives begin, and whether a run leads: most steps of a walk end at the first start that is tried.
+    fn search_behind<S: StrDrive>(
+        &mut self,
+        req: &Request<'_, S>,
+        tried: StringCursor,
+    ) -> Result<bool, SreError>
+        requires stands { stands_in req.now tried tried.position }
+        requires from { start_of req.now ≤ tried.position }
+        requires inside { tried.position ≤ end_of req.now }
+        requires none { (t : Tree) → Whole (words_of (code_of req.now)) t
+            → NoneBetween (asked_of req.now) t (start_of req.now) tried.position
+            × (at_start (asked_of req.now) t tried.position ≡ None) }
+        ensures ok { (t : Tree) → Whole (words_of (code_of req.now)) t
+            → IfOk result (λ b. Answers (stands_in req.now) (found (asked_of req.now) t) b self.new) }
+        ensures span { IfOk result
+            (λ b. b ≡ true → (start_of req.now ≤ self.new.start) × Spans self.new.start (end_of req.now) self.new) }
+        ensures no { IfOk result (λ b. b ≡ false → self.new.marks ≡ no_marks) }
+        ensures err { OnErr result (self.new.marks ≡ no_marks) }
+        ensures refused { OnErr result Refused }
+    {
+        self.board.clear();
         let first = First::of_items(req.pattern_codes().items());
         let lead = leading_run(req);
-        self.board.clear(); // of an earlier search
+        let mut start = tried;
         'start: loop {
-            match next_start(req, &first, start) {
+            let Some(behind) = start_behind(req, lead, start) else {
+                return Ok(false);
+            };
+            match next_start(req, &first, behind) {
                 None => return Ok(false),
                 Some(next) => start = next,
             }
             if let Some(end) = attempt(req, start, &mut self.board)? {
                 (self.start, self.cursor) = (start.position(), end);
                 return Ok(true);
-            }
-            match start_behind(req, lead, start) {
-                None => return Ok(false),
-                Some(behind) => start = behind,
             }
         }
     }

@@ -1,5 +1,6 @@
-use Rattle.std.proofs.Common.{◌-◌, ◌≤◌, ◌≡◌}
+use Rattle.std.proofs.Common.{◌-◌, ◌≤◌, ◌≡◌, None}
 use Rattle.sre_model.specs.Tree.{Tree}
+use Rattle.sre_model.specs.Found.{at_start}
 use Rattle.sre_model.specs.Marks.{no_marks}
 use Rattle.sre_model.specs.Grammar.{Whole}
 use Rattle.sre_model.specs.Board.{bare}
@@ -7,7 +8,7 @@ use Rattle.sre_code.specs.Codes.{words_of}
 use Rattle.sre_request.specs.Requests.{start_of, end_of, code_of, asked_of, run_of}
 use Rattle.sre_engine.specs.Starts.{Bars}
 use Rattle.sre_engine.proofs.Answering.{NoneBefore}
-use Rattle.sre_engine.proofs.engine.state.State.search_from.Given as goal
+use Rattle.sre_engine.proofs.engine.state.State.search_behind.Given as goal
 
 abbrev pub invariant-start : goal.invariant-start
 invariant-start g l = record {
@@ -16,7 +17,8 @@ invariant-start g l = record {
   inside : l.start.position ≤ end_of l.req;
   fresh : l.self-inside.board ≡ bare no_marks;
   bars : Bars (run_of l.req).words l.first;
-  before : (t : Tree) → Whole (words_of (code_of l.req)) t → NoneBefore (asked_of l.req) t l.start.position;
+  none : (t : Tree) → Whole (words_of (code_of l.req)) t
+      → NoneBefore (asked_of l.req) t l.start.position × (at_start (asked_of l.req) t l.start.position ≡ None);
 }
 
 abbrev pub decreases-start : goal.decreases-start

@@ -1,0 +1,73 @@
+use Rattle.std.proofs.Common.{◌≡◌, ◌≤◌, ◌+◌, true, None, refl, subst, arith, rules}
+use Rattle.sre_model.specs.Found.{at_start}
+use Rattle.sre_code.specs.Codes.{words_of, hints_of}
+use Rattle.sre_request.specs.Requests.{code_of, asked_of, stands_in, run_of}
+use Rattle.sre_engine.specs.Starts.{NoneUntil}
+use Rattle.sre_engine.proofs.Answering.{answers_yes, answers_no, none_at, some_at, span_at, found_first}
+use Rattle.sre_engine.proofs.LeadingStarts.{none_joined, found_none_behind}
+use Rattle.sre_engine.proofs.Starting.{passed_none, found_nowhere}
+use Rattle.sre_code.proofs.Checked.{code_tree, items_whole}
+use Rattle.sre_engine.proofs.engine.state.State.search_behind.Goals as goal
+
+pub returns-in_default-clause-ok : goal.returns-in_default-clause-ok
+returns-in_default-clause-ok g c = λ t whole.
+    let asked = c.args.req.now in
+    let none = c.start.invariant.none t whole in
+    let behind = subst (NoneUntil (asked_of asked) t c.start.start.position) c.in_default.is
+    (c.start_behind.ensures.none t (items_whole asked.pattern_codes t whole) none.1) in
+    answers_no (stands_in asked) _ _ (found_none_behind (asked_of asked) t c.start.start.position none.0 behind)
+
+pub returns-in-None-clause-ok : goal.returns-in-None-clause-ok
+returns-in-None-clause-ok g c = λ t whole.
+    let asked = c.args.req.now in
+    let items = items_whole asked.pattern_codes t whole in
+    let none = c.start.invariant.none t whole in
+    answers_no (stands_in asked) _ _
+    (found_nowhere (run_of asked) (asked_of asked) t c.of_items-first.result refl c.start.invariant.bars items _
+    (none_joined (asked_of asked) t _ _ none.0 (c.in-Some.ensures.none t items none.1)) c.in-None.ensures)
+
+pub returns-in-Some-2-clause-ok : goal.returns-in-Some-2-clause-ok
+returns-in-Some-2-clause-ok g c = λ t whole.
+    let asked = c.args.req.now in
+    let items = items_whole asked.pattern_codes t whole in
+    let none = c.start.invariant.none t whole in
+    let before = passed_none (run_of asked) (asked_of asked) t c.of_items-first.result refl
+    c.start.invariant.bars items _ _
+    (none_joined (asked_of asked) t _ _ none.0 (c.in-Some.ensures.none t items none.1)) c.in-Some-next_start.ensures in
+    let some = some_at (stands_in asked) (asked_of asked) t _ c.in_ok-end.field-0 c.attempt.new.board.marks
+    (c.in_ok-end.ensures.found t whole) c.in-Some-2.end c.in-Some-2.is in
+    answers_yes (stands_in asked) _ c.in-Some-next_start.next.position c.in-Some-2.end _ c.position.ensures refl some.0
+    (found_first (asked_of asked) t _ _ before some.1
+    (omega (arith, c.start.invariant.from, c.in-Some.ensures.next.0, c.in-Some-next_start.ensures.after))
+    c.in-Some-next_start.ensures.inside refl)
+
+pub returns-in-Some-2-clause-span : goal.returns-in-Some-2-clause-span
+returns-in-Some-2-clause-span g c = λ _.
+    let asked = c.args.req.now in
+    let tree = code_tree (words_of (code_of asked)) (hints_of (code_of asked)) (code_of asked).checked in
+    let next = c.in-Some-next_start.ensures in
+    let s = span_at (stands_in asked) (asked_of asked) tree.0 _ c.in_ok-end.field-0 c.attempt.new.board.marks
+    (c.in_ok-end.ensures.found tree.0 tree.1) next.inside c.in-Some-2.end c.in-Some-2.is in (
+      omega (arith, c.start.invariant.from, c.in-Some.ensures.next.0, next.after, c.position.ensures),
+      record { starts = refl; forward = omega (arith, c.position.ensures, s.0); inside = s.1 },
+    )
+
+pub start-preserved : goal.start-preserved
+start-preserved g c =
+    let asked = c.args.req.now in
+    let next = c.in-Some-next_start.ensures in
+    record {
+      stands = next.stands;
+      from = omega (arith, c.start.invariant.from, c.in-Some.ensures.next.0, next.after);
+      inside = next.inside;
+      fresh = search rules;
+      bars = c.start.invariant.bars;
+      none = λ t whole.
+          let items = items_whole asked.pattern_codes t whole in
+          let none = c.start.invariant.none t whole in (
+            passed_none (run_of asked) (asked_of asked) t c.of_items-first.result refl c.start.invariant.bars items _ _
+                (none_joined (asked_of asked) t _ _ none.0 (c.in-Some.ensures.none t items none.1)) next,
+            none_at (stands_in asked) (asked_of asked) t _ c.in_ok-end.field-0 c.attempt.new.board.marks
+                (c.in_ok-end.ensures.found t whole) c.in_default-2.is,
+          );
+    }
