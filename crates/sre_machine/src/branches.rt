@@ -4,9 +4,12 @@
 //! passed over, and of one that begins with a test the rest alone is left. A choice is saved only where something may
 //! come of an alternative behind the first.
 
-ghost use Rattle.std.specs.Prelude.{◌≡◌, ◌+◌, ◌<◌, ◌^◌, true, IfOk, MatchOption};
+ghost use Rattle.std.specs.Prelude.{◌≡◌, ℕ, ◌+◌, ◌<◌, ◌^◌, true, false, IfOk, MatchOption};
+ghost use Rattle.sre_model.specs.Tree.{Test};
+ghost use Rattle.sre_model.specs.Characters.{holds};
 ghost use Rattle.sre_model.specs.Subject.{char_at};
 ghost use Rattle.sre_model.specs.Grammar.{word, Opcode};
+ghost use Rattle.sre_model.specs.Standing.{TestStands, HasTest};
 ghost use Rattle.sre_model.specs.declared.Point.TheVariants.{Instruction, Alternatives};
 ghost use Rattle.sre_model.specs.declared.Point.{Point};
 ghost use Rattle.sre_model.specs.Machine.{family, Testing, HasRun, Advances, Chooses, Refuses, Exhausted, Continues};
@@ -43,6 +46,21 @@ fn misses<S: StrDrive>(
     !takes(req, place, opcode, character)
 }
 
+// Whether a test may take a character; one that a run seldom has is not asked.
+#[inline(always)]
+fn may_take<S: StrDrive>(req: &Request<'_, S>, place: usize, character: u32) -> bool
+    requires { HasTest (run_of req.now).words place }
+    ensures { result ≡ false → (j : ℕ) (t : Test) → TestStands (run_of req.now).words place j t
+        → holds (run_of req.now).subject.table t character ≡ false }
+{
+    match one_character::opcode(req, place) {
+        SreOpcode::IN => takes(req, place, SreOpcode::IN, character),
+        SreOpcode::LITERAL => takes(req, place, SreOpcode::LITERAL, character),
+        SreOpcode::NOT_LITERAL => takes(req, place, SreOpcode::NOT_LITERAL, character),
+        _ => true,
+    }
+}
+
 // Whether a run that may not be empty has no first character.
 #[inline(always)]
 fn misses_run<S: StrDrive>(
@@ -58,11 +76,10 @@ fn misses_run<S: StrDrive>(
     ensures { result ≡ true → Refuses (run_of req.now) place cursor.position }
 {
     let least = operand(req, place, 2);
-    let test = place + 4;
     if least == 0 {
         return false;
     }
-    !takes(req, test, one_character::opcode(req, test), character)
+    !may_take(req, place + 4, character)
 }
 
 // Whether nothing can come of standing at an instruction: behind MARKs a test stands there, or a run, and it does not
@@ -97,7 +114,7 @@ fn begins_otherwise<S: StrDrive>(
             }
         };
     }
-    by_opcode!(LITERAL LITERAL_IGNORE LITERAL_UNI_IGNORE IN IN_IGNORE IN_UNI_IGNORE)
+    by_opcode!(LITERAL LITERAL_IGNORE LITERAL_UNI_IGNORE IN IN_UNI_IGNORE)
 }
 
 // Behind a test of one character, if it takes the one at the cursor.
@@ -124,6 +141,40 @@ fn behind_test<S: StrDrive>(
     }
 }
 
+// Behind a JUMP if one stands at a place, and else at the place.
+#[inline(always)]
+fn behind_jump<S: StrDrive>(req: &Request<'_, S>, place: usize, cursor: StringCursor) -> usize
+    requires { HasRun (run_of req.now) (Instruction place) cursor }
+    ensures { Continues (run_of req.now) (Instruction place) cursor (Instruction result) cursor }
+{
+    if word_at(req, place) == SreOpcode::JUMP as u32 {
+        let skip = operand(req, place, 1);
+        return place + 1 + skip as usize;
+    }
+    place
+}
+
+// Behind a set that takes the character at the cursor, and behind the JUMP that ends an alternative of one character.
+#[inline(always)]
+fn behind_set<S: StrDrive>(
+    req: &Request<'_, S>,
+    place: usize,
+    character: u32,
+    after: StringCursor,
+    cursor: StringCursor,
+) -> Option<(usize, StringCursor)>
+    requires opcode { Opcode (run_of req.now).words place SreOpcode.IN }
+    requires stands { HasRun (run_of req.now) (Instruction place) cursor }
+    requires read { IsRead (run_of req.now) cursor character after }
+    ensures { MatchOption result (Refuses (run_of req.now) place cursor.position)
+        (λ x. Continues (run_of req.now) (Instruction place) cursor (Instruction x.0) x.1) }
+{
+    let Some(behind) = behind_test(req, SreOpcode::IN, place, character, after, cursor) else {
+        return None;
+    };
+    Some((behind_jump(req, behind.0, behind.1), behind.1))
+}
+
 // Where the machine goes on from an instruction, if something may come of it: behind a literal or a set that takes the
 // character, and else at the instruction itself.
 #[inline(always)]
@@ -143,6 +194,7 @@ fn begin<S: StrDrive>(
         return behind_test(req, SreOpcode::LITERAL, place, character, after, cursor);
     }
     match opcode(req, place, cursor) {
+<<<<<<< HEAD
         SreOpcode::IN => behind_test(req, SreOpcode::IN, place, character, after, cursor),
         SreOpcode::NOT_LITERAL => {
             behind_test(
@@ -154,6 +206,9 @@ fn begin<S: StrDrive>(
                 cursor,
             )
         }
+=======
+        SreOpcode::IN => behind_set(req, place, character, after, cursor),
+>>>>>>> 9740132 (A run's first test refuses an alternative, and a set of one character goes on behind its JUMP)
         SreOpcode::LITERAL_UNI_IGNORE => {
             behind_test(
                 req,

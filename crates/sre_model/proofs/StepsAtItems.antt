@@ -153,6 +153,15 @@ jump_step r i v c b w wv all limit g =
     (record { there = word_within r.words (i + 1) v wv; is = rw (word_of r.words (i + 1) v wv) refl }))
     g.stands g.placed refl all limit g
 
+pub jump_continues : (r : Run) (i v : ℕ) (c : StringCursor) → Opcode r.words i opcode.JUMP → Word r.words (i + 1) v
+    → r.stands c c.position → Continues r (Instruction i) c (Instruction (i + 1 + v)) c
+jump_continues r i v c w wv stands = record {
+  stands = stands;
+  runs = λ fs m os n d. run_on (spot_at (Instruction (i + 1 + v)) fs c.position m)
+      (at_instruction opcode.JUMP Jumping refl w
+      (record { there = word_within r.words (i + 1) v wv; is = rw (word_of r.words (i + 1) v wv) refl })) d;
+}
+
 -- a LITERAL that is not the character, or that stands at the window's end
 pub literal_there : (ws : List ℕ) (i v : ℕ) → Opcode ws i opcode.LITERAL → Word ws (i + 1) v
     → TestStands ws i (i + 2) (Literal Plain v)

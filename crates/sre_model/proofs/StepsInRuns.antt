@@ -127,15 +127,15 @@ run_short r i low high count c b w t wl wh k l =
     }))
 
 -- a run that may not be empty refuses where its test does not take the character that was read
-pub run_misses : (r : Run) (i low ch : ℕ) (takes : Bool) (c : StringCursor) → Opcode r.words i opcode.REPEAT_ONE
+pub run_misses : (r : Run) (i low ch : ℕ) (c : StringCursor) → Opcode r.words i opcode.REPEAT_ONE
     → (there : HasTest r.words (i + 4)) → Word r.words (i + 2) low → (low ≡ 0 → ⊥) → c.position < r.subject.end
     → ch ≡ char_at r.subject c.position
-    → ((j : ℕ) (t : Test) → TestStands r.words (i + 4) j t → takes ≡ holds r.subject.table t ch) → takes ≡ false
+    → ((j : ℕ) (t : Test) → TestStands r.words (i + 4) j t → holds r.subject.table t ch ≡ false)
     → Refuses r i c.position
-run_misses r i low ch takes c w there wl some inside read says n fs m os k d =
+run_misses r i low ch c w there wl some inside read says fs m os k d =
     let h = (in_family opcode.REPEAT_ONE (Running GreedyRun) refl w d).1 in
     let missed : passes r.subject there.test c.position ≡ false =
-    read_passes r.subject there.test c.position ch takes inside read (says there.end there.test there.stands) ∙ n in
+    read_passes r.subject there.test c.position ch false inside read (sym (says there.end there.test there.stands)) in
     let none : longest_run r.subject there.test h.high c.position ≡ 0 = run_none r.subject there.test _ _ missed in
     let short : nat_lt 0 low ≡ true = grind (arith, nat_tests, positive low some) in
     run_nothing (at_instruction opcode.REPEAT_ONE (Running GreedyRun) refl w (record {

@@ -10,17 +10,13 @@ operand-least-requires g c =
     let x = run_there (run_of c.args.req.now) GreedyRun _ c.args.cursor c.requires.opcode c.requires.stands in
     omega (arith, x.operands)
 
-pub opcode-requires : goal.opcode-requires
-opcode-requires g c =
-    (run_there (run_of c.args.req.now) GreedyRun _ c.args.cursor c.requires.opcode c.requires.stands).test
-
-pub takes-requires-clause-stands : goal.takes-requires-clause-stands
-takes-requires-clause-stands g c =
+pub may_take-requires : goal.may_take-requires
+may_take-requires g c =
     (run_there (run_of c.args.req.now) GreedyRun _ c.args.cursor c.requires.opcode c.requires.stands).test
 
 pub returns : goal.returns
 returns g c = λ missed.
     let there = run_there (run_of c.args.req.now) GreedyRun _ c.args.cursor c.requires.opcode c.requires.stands in
-    run_misses (run_of c.args.req.now) c.args.place c.operand-least.result c.args.character c.takes.result c.args.cursor
+    run_misses (run_of c.args.req.now) c.args.place c.operand-least.result c.args.character c.args.cursor
     c.requires.opcode there.test c.operand-least.ensures.word c.if-least-eq0.false c.requires.inside
-    c.requires.character c.takes.ensures (not-true c.takes.result missed)
+    c.requires.character (c.may_take.ensures (not-true c.may_take.result missed))

@@ -1,0 +1,12 @@
+use Rattle.sre_request.specs.Requests.{run_of}
+use Rattle.sre_model.proofs.Moving.{continues_run, continues_then}
+use Rattle.sre_machine.proofs.branches.behind_set.Goals as goal
+
+pub behind_jump-requires : goal.behind_jump-requires
+behind_jump-requires g c =
+    continues_run (run_of c.args.req.now) _ _ c.args.cursor c.in-Some.behind.1 c.in-Some.ensures c.requires.stands
+
+pub returns : goal.returns
+returns g c =
+    continues_then (run_of c.args.req.now) _ _ c.args.cursor c.in-Some.behind.1 c.in-Some.ensures _
+    c.in-Some.behind.1 c.behind_jump.ensures
