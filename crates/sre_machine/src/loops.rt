@@ -1,17 +1,18 @@
 //! Loops: `REPEAT skip least greatest body`, and MAX_UNTIL or MIN_UNTIL behind the body, where the skip leads.
 //!
 //! The board holds the loops in progress. A body of which nothing can come is not begun, and an end of which nothing
-//! can come is not saved: so a loop over a text that decides by its next character saves nothing.
+//! can come is not saved: so a loop over a text that decides by its next character saves nothing. The first body of a
+//! greedy loop is tried in the turn of its REPEAT.
 
 ghost use Rattle.std.specs.Prelude.{◌≡◌, ℕ, ◌+◌, IfOk, min};
 ghost use Rattle.sre_model.specs.Ways.{Way, unlimited, may_repeat};
 ghost use Rattle.sre_model.specs.Grammar.{Opcode};
 ghost use Rattle.sre_model.specs.declared.Point.TheVariants.{Instruction};
 ghost use Rattle.sre_model.specs.MovesInLoops.{next_frame};
-ghost use Rattle.sre_model.specs.Machine.{HasRun, IsAt, Advances};
+ghost use Rattle.sre_model.specs.Machine.{IsAt, Advances, with_loop};
 ghost use Rattle.sre_request.specs.Requests.{run_of};
 
-use crate::machine::{operand, refuses};
+use crate::machine::{opcode, operand, refuses};
 use sre_board::Board;
 use sre_chars::constants::SreOpcode;
 use sre_chars::string::{StrDrive, StringCursor};
@@ -44,7 +45,7 @@ pub(super) fn next_frame(frame: Frame, last: Option<usize>) -> Frame
     }
 }
 
-/// `REPEAT skip least greatest body`: begins a loop, at its end.
+/// `REPEAT skip least greatest body`: begins a loop, at its end, which tries a greedy loop's first body at once.
 #[inline(always)]
 pub(super) fn repeat<S: StrDrive, A: Allocator>(
     req: &Request<'_, S>,
@@ -53,36 +54,43 @@ pub(super) fn repeat<S: StrDrive, A: Allocator>(
     cursor: StringCursor,
 ) -> Result<Next, Refusal>
     requires opcode { Opcode (run_of req.now).words place SreOpcode.REPEAT }
-    requires stands { HasRun (run_of req.now) (Instruction place) cursor }
-    ensures { IfOk result (λ next. Advances (run_of req.now) (Instruction place) cursor board.old next board.new) }
-{
-    let skip = operand(req, place, 1);
-    board.enter(Frame {
-        repeat: place,
-        count: 0,
-        last: None,
-    })?;
-    Ok(Next::At(place + 1 + skip as usize, cursor))
-}
-
-/// MAX_UNTIL: a further body first, then the loop's end.
-#[inline(always)]
-pub(super) fn max_until<S: StrDrive, A: Allocator>(
-    req: &Request<'_, S>,
-    board: &mut Board<A>,
-    place: usize,
-    cursor: StringCursor,
-) -> Result<Next, Refusal>
-    requires opcode { Opcode (run_of req.now).words place SreOpcode.MAX_UNTIL }
     requires stands { IsAt (run_of req.now) (Instruction place) cursor board.old }
     ensures { IfOk result (λ next. Advances (run_of req.now) (Instruction place) cursor board.old next board.new) }
 {
+    let skip = operand(req, place, 1);
+    let end = place + 1 + skip as usize;
+    let frame = Frame {
+        repeat: place,
+        count: 0,
+        last: None,
+    };
+    match opcode(req, end, cursor) {
+        SreOpcode::MAX_UNTIL => Ok(further(req, board, end, frame, cursor)?),
+        _ => {
+            board.enter(frame)?;
+            Ok(Next::At(end, cursor))
+        }
+    }
+}
+
+// A further body of a greedy loop that was taken off the board, or its end.
+#[inline(always)]
+fn further<S: StrDrive, A: Allocator>(
+    req: &Request<'_, S>,
+    board: &mut Board<A>,
+    place: usize,
+    frame: Frame,
+    cursor: StringCursor,
+) -> Result<Next, Refusal>
+    requires opcode { Opcode (run_of req.now).words place SreOpcode.MAX_UNTIL }
+    requires stands { IsAt (run_of req.now) (Instruction place) cursor (with_loop frame board.old) }
+    ensures { IfOk result
+        (λ next. Advances (run_of req.now) (Instruction place) cursor (with_loop frame board.old) next board.new) }
+{
     let _opcode = operand(req, place, 0);
-    let frame = board.top();
     let least = operand(req, frame.repeat, 2);
     let greatest = operand(req, frame.repeat, 3);
     let body = frame.repeat + 4;
-    board.leave();
     if frame.count < least {
         board.enter(next_frame(frame, frame.last))?;
         return Ok(Next::At(body, cursor));
@@ -101,6 +109,23 @@ pub(super) fn max_until<S: StrDrive, A: Allocator>(
     board.save(Point::Instruction(place + 1), cursor)?;
     board.enter(next)?;
     Ok(Next::At(body, cursor))
+}
+
+/// MAX_UNTIL: a further body first, then the loop's end.
+#[inline(always)]
+pub(super) fn max_until<S: StrDrive, A: Allocator>(
+    req: &Request<'_, S>,
+    board: &mut Board<A>,
+    place: usize,
+    cursor: StringCursor,
+) -> Result<Next, Refusal>
+    requires opcode { Opcode (run_of req.now).words place SreOpcode.MAX_UNTIL }
+    requires stands { IsAt (run_of req.now) (Instruction place) cursor board.old }
+    ensures { IfOk result (λ next. Advances (run_of req.now) (Instruction place) cursor board.old next board.new) }
+{
+    let frame = board.top();
+    board.leave();
+    Ok(further(req, board, place, frame, cursor)?)
 }
 
 /// MIN_UNTIL: the loop's end first, then a further body.

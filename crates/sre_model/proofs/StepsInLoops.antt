@@ -1,6 +1,6 @@
 -- Turns at a loop: its REPEAT, and the MAX_UNTIL or MIN_UNTIL that ends a body.
-use Rattle.std.proofs.Common.{◌≡◌, ℕ, ◌+◌, ◌<◌, ◌≤◌, true, false, nat_lt, List, ◌∷◌, length, drop, Some, refl, sym, ◌∙◌}
-use Rattle.std.proofs.Common.{subst, arith}
+use Rattle.std.proofs.Common.{◌≡◌, ℕ, ◌+◌, ◌-◌, ◌<◌, ◌≤◌, true, false, nat_lt, List, ◌∷◌, length, drop, Some, refl}
+use Rattle.std.proofs.Common.{sym, ◌∙◌, subst, arith}
 use Rattle.std.proofs.lemmas.Bool.Decides.{nat_tests}
 use Rattle.sre_chars.specs.declared.constants.SreOpcode.TheVariants as opcode
 use Rattle.sre_chars.specs.declared.string.StringCursor.{StringCursor}
@@ -12,11 +12,13 @@ use Rattle.sre_model.specs.declared.Frame.{Frame}
 use Rattle.sre_model.specs.declared.Point.TheVariants.{Instruction}
 use Rattle.sre_model.specs.Moves.{Spot, Move, Go}
 use Rattle.sre_model.specs.MovesInLoops.{first_frame, next_frame, at_body, behind, in_order, until_move}
-use Rattle.sre_model.specs.Machine.{family, Repeating, Looping, Moves, Run, Goes, Later, spot, HasRun, IsAt, Refuses}
+use Rattle.sre_model.specs.Machine.{family, Repeating, Looping, Moves, Run, Goes, Later, Stands, spot, HasRun, IsAt}
+use Rattle.sre_model.specs.Machine.{Refuses, with_loop}
+use Rattle.sre_model.specs.declared.Next.{Next}
 use Rattle.sre_model.specs.declared.Next.TheVariants as next
 use Rattle.sre_model.proofs.Words.{word_of, word_within}
-use Rattle.sre_model.proofs.Moving.{in_family, at_instruction, has_run, run_splits, turn_goes, turn_splits, both_wait}
-use Rattle.sre_model.proofs.Moving.{both_first, both_second}
+use Rattle.sre_model.proofs.Moving.{in_family, at_instruction, has_run, run_goes, run_splits, turn_goes, turn_splits}
+use Rattle.sre_model.proofs.Moving.{both_wait, both_first, both_second}
 
 -- REPEAT
 pub repeat_operand : (r : Run) (i : ℕ) (c : StringCursor) → Opcode r.words i opcode.REPEAT → HasRun r (Instruction i) c
@@ -32,6 +34,60 @@ repeat_step r i v c b b' w wv eb all limit g =
     (turn_goes r (Instruction i) c b (Instruction (i + 1 + v)) c entered (at_instruction opcode.REPEAT Repeating refl w
     (record { there = word_within r.words (i + 1) v wv; is = rw (word_of r.words (i + 1) v wv) refl }))
     g.stands g.placed refl all limit g)
+
+-- it comes to the loop's end
+pub repeat_begun : (r : Run) (i v : ℕ) (c : StringCursor) (b : BoardValue) → Opcode r.words i opcode.REPEAT
+    → Word r.words (i + 1) v → IsAt r (Instruction i) c b
+    → IsAt r (Instruction (i + 1 + v)) c (with_loop (first_frame i) b)
+repeat_begun r i v c b w wv x =
+    let begun : BoardValue = with_loop (first_frame i) b in
+    let y = run_goes (spot (Instruction (i + 1 + v)) c begun) (at_instruction opcode.REPEAT Repeating refl w
+    (record { there = word_within r.words (i + 1) v wv; is = rw (word_of r.words (i + 1) v wv) refl })) x.runs in
+    record { outcomes = y.outcomes; turns = y.turns; stands = x.stands; placed = x.placed; runs = y.runs }
+
+-- what stands with fewer turns left stands with more
+pub stands_more : (r : Run) (all : List Way) (k limit : ℕ) (n : Next) (b : BoardValue) → k ≤ limit
+    → Stands r all k n b → Stands r all limit n b
+stands_more r all k limit (next.At i c) b h g = record {
+  now = g.now;
+  turns = g.turns;
+  later = g.later;
+  stands = g.stands;
+  placed = g.placed;
+  runs = g.runs;
+  waits = g.waits;
+  within = omega (arith, g.within);
+}
+stands_more r all k limit (next.Again c) b h g = record {
+  now = g.now;
+  turns = g.turns;
+  later = g.later;
+  stands = g.stands;
+  placed = g.placed;
+  runs = g.runs;
+  waits = g.waits;
+  within = omega (arith, g.within);
+}
+stands_more r all k limit next.Back b h g =
+    record { later = g.later; waits = g.waits; within = omega (arith, g.within) }
+stands_more r all k limit (next.Done c) b h g = record {
+  later = g.later;
+  stands = g.stands;
+  placed = g.placed;
+  waits = g.waits;
+  within = omega (arith, g.within);
+}
+
+-- a turn at the loop's end, taken in the same turn
+pub repeat_further : (r : Run) (i v : ℕ) (c : StringCursor) (b b' : BoardValue) (n : Next)
+    → Opcode r.words i opcode.REPEAT → Word r.words (i + 1) v
+    → ((all : List Way) (limit : ℕ) → Goes r all limit (Instruction (i + 1 + v)) c (with_loop (first_frame i) b)
+    → Later r all limit n b') → (all : List Way) (limit : ℕ) → Goes r all limit (Instruction i) c b
+    → Later r all limit n b'
+repeat_further r i v c b b' n w wv h all limit g =
+    let begun = repeat_step r i v c b (with_loop (first_frame i) b) w wv refl all limit g in
+    let later = h all (limit - 1) begun.1 in
+    (begun.0, stands_more r all (limit - 1 - 1) (limit - 1) n b' (omega arith) later.1)
 
 until_family : (o : Order) → family (until_opcode o) ≡ Looping o
 until_family Greedy = refl
@@ -218,15 +274,6 @@ pub entered_board : (b left entered : BoardValue) (f g : Frame) → left ≡ rec
     → entered ≡ record left { frames = g ∷ left.frames } → g ≡ f → entered ≡ record b { frames = f ∷ drop 1 b.frames }
 entered_board b left entered f g el ee eg = rw (ee, el, eg) refl
 
-pub saved_board : (b left saved entered : BoardValue) (f g : Frame) (i : ℕ) (c : StringCursor)
-    → left ≡ record b { frames = drop 1 b.frames }
-    → saved ≡ record left { choices = Else (Instruction i) left.frames c left.marks ∷ left.choices }
-    → entered ≡ record saved { frames = g ∷ saved.frames } → g ≡ f → entered ≡ record b {
-      frames = f ∷ drop 1 b.frames;
-      choices = Else (Instruction i) (drop 1 b.frames) c b.marks ∷ b.choices;
-    }
-saved_board b left saved entered f g i c el es ee eg = rw (ee, es, el, eg) refl
-
 pub lazy_board : (b left entered saved again : BoardValue) (f g : Frame) (i : ℕ) (c : StringCursor)
     → left ≡ record b { frames = drop 1 b.frames } → entered ≡ record left { frames = g ∷ left.frames }
     → saved ≡ record entered { choices = Else (Instruction i) entered.frames c entered.marks ∷ entered.choices }
@@ -235,3 +282,19 @@ pub lazy_board : (b left entered saved again : BoardValue) (f g : Frame) (i : �
       choices = Else (Instruction i) (f ∷ drop 1 b.frames) c b.marks ∷ b.choices;
     }
 lazy_board b left entered saved again f g i c el ee es ea eg = rw (ea, es, ee, el, eg) refl
+
+-- the same of a loop that was taken off the board
+pub taken_off : (b left : BoardValue) (f : Frame) → left ≡ record b { frames = drop 1 b.frames }
+    → b.frames ≡ f ∷ drop 1 b.frames → with_loop f left ≡ b
+taken_off b left f el inside = rw (el, ← inside) refl
+
+pub entered_on : (b entered : BoardValue) (f g : Frame) → entered ≡ with_loop g b → g ≡ f → entered ≡ with_loop f b
+entered_on b entered f g ee eg = rw (ee, eg) refl
+
+pub saved_on : (b saved entered : BoardValue) (f g : Frame) (i : ℕ) (c : StringCursor)
+    → saved ≡ record b { choices = Else (Instruction i) b.frames c b.marks ∷ b.choices }
+    → entered ≡ record saved { frames = g ∷ saved.frames } → g ≡ f → entered ≡ record b {
+      frames = f ∷ b.frames;
+      choices = Else (Instruction i) b.frames c b.marks ∷ b.choices;
+    }
+saved_on b saved entered f g i c es ee eg = rw (ee, es, eg) refl

@@ -228,6 +228,10 @@ without_outcome (NotAhead t) c = next.At t c
 without_outcome Owed c = next.Back
 without_outcome (Further t) c = next.At t c
 
+-- a loop is on the board
+abbrev pub with_loop : Frame → BoardValue → BoardValue
+with_loop f b = record b { frames = f ∷ b.frames }
+
 -- a possessive loop is left where a further body has none
 abbrev pub without_loop : Region → BoardValue → BoardValue
 without_loop (Further t) b = record b { frames = drop 1 b.frames }

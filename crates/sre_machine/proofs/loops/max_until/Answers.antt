@@ -1,100 +1,19 @@
-use Rattle.std.proofs.Common.{sym, ap, ◌∙◌, Some, arith}
-use Rattle.sre_model.specs.Tree.{Greedy}
-use Rattle.sre_model.specs.MovesInLoops.{next_frame}
+use Rattle.std.proofs.Common.{sym, subst}
+use Rattle.sre_model.specs.Board.{BoardValue}
+use Rattle.sre_model.specs.declared.Point.TheVariants.{Instruction}
+use Rattle.sre_model.specs.Machine.{IsAt, Goes}
 use Rattle.sre_request.specs.Requests.{run_of}
-use Rattle.sre_model.proofs.StepsInLoops.{until_below, until_done, until_runs, until_refused, until_alone, until_greedy}
-use Rattle.sre_model.proofs.StepsInLoops.{saved_board, entered_board}
-use Rattle.sre_model.proofs.StepsInLoops.{until_operands}
+use Rattle.sre_model.proofs.StepsInLoops.{taken_off}
 use Rattle.sre_machine.proofs.loops.max_until.Goals as goal
 
-pub returns-then-frame-least : goal.returns-then-frame-least
-returns-then-frame-least g c =
-    until_below (run_of c.args.req.now) Greedy c.args.place c.operand-least.result c.operand-greatest.result
-    c.args.cursor c.args.board.now c.enter.new.self c.top-frame.result (record {
-      code = c.requires.opcode;
-      inside = c.top-frame.ensures;
-      lowest = c.operand-least.ensures.word;
-      highest = c.operand-greatest.ensures.word;
-    }) c.if-frame-least.true (entered_board c.args.board.now c.leave.new.self c.enter.new.self _ _ c.leave.ensures
-    c.in_ok-enter.ensures c.next_frame.ensures)
-
-pub returns-then-not-may_repeat : goal.returns-then-not-may_repeat
-returns-then-not-may_repeat g c =
-    until_done (run_of c.args.req.now) Greedy c.args.place c.operand-least.result c.operand-greatest.result
-    c.args.cursor c.args.board.now c.leave.new.self c.top-frame.result (record {
-      code = c.requires.opcode;
-      inside = c.top-frame.ensures;
-      lowest = c.operand-least.ensures.word;
-      highest = c.operand-greatest.ensures.word;
-    }) (omega arith) (sym c.if-not-may_repeat.ensures) c.leave.ensures
-
-pub refuses-requires : goal.refuses-requires
-refuses-requires g c =
-    (until_runs (run_of c.args.req.now) Greedy c.args.place c.operand-least.result c.operand-greatest.result
-    c.args.cursor c.args.board.now c.top-frame.result (record {
-      code = c.requires.opcode;
-      inside = c.top-frame.ensures;
-      lowest = c.operand-least.ensures.word;
-      highest = c.operand-greatest.ensures.word;
-    }) (omega arith) (sym c.if-not-may_repeat.ensures) c.requires.stands).0
-
-pub returns-then-refuses : goal.returns-then-refuses
-returns-then-refuses g c =
-    until_refused (run_of c.args.req.now) Greedy c.args.place c.operand-least.result c.operand-greatest.result
-    c.args.cursor c.args.board.now c.leave.new.self c.top-frame.result (record {
-      code = c.requires.opcode;
-      inside = c.top-frame.ensures;
-      lowest = c.operand-least.ensures.word;
-      highest = c.operand-greatest.ensures.word;
-    }) (omega arith) (sym c.if-not-may_repeat.ensures) (c.refuses.ensures c.if-refuses.true) c.leave.ensures
-
-pub refuses-requires-2 : goal.refuses-requires-2
-refuses-requires-2 g c =
-    (until_runs (run_of c.args.req.now) Greedy c.args.place c.operand-least.result c.operand-greatest.result
-    c.args.cursor c.args.board.now c.top-frame.result (record {
-      code = c.requires.opcode;
-      inside = c.top-frame.ensures;
-      lowest = c.operand-least.ensures.word;
-      highest = c.operand-greatest.ensures.word;
-    }) (omega arith) (sym c.if-not-may_repeat.ensures) c.requires.stands).1
-
-pub returns-then-refuses-2 : goal.returns-then-refuses-2
-returns-then-refuses-2 g c =
-    until_alone (run_of c.args.req.now) Greedy c.args.place c.operand-least.result c.operand-greatest.result
-    c.args.cursor c.args.board.now c.enter-then-refuses-2.new.self c.top-frame.result (record {
-      code = c.requires.opcode;
-      inside = c.top-frame.ensures;
-      lowest = c.operand-least.ensures.word;
-      highest = c.operand-greatest.ensures.word;
-    }) (omega arith) (sym c.if-not-may_repeat.ensures) (c.refuses-2.ensures c.if-refuses-2.true)
-    (entered_board c.args.board.now c.leave.new.self c.enter-then-refuses-2.new.self _ _ c.leave.ensures
-    c.in_ok-enter-2.ensures
-    (c.next_frame-next.ensures ∙ ap (λ p. next_frame c.top-frame.result (Some p)) c.position.ensures))
+pub further-requires-clause-stands : goal.further-requires-clause-stands
+further-requires-clause-stands g c =
+    subst (λ (b : BoardValue). IsAt (run_of c.args.req.now) (Instruction c.args.place) c.args.cursor b)
+    (sym (taken_off c.args.board.now c.leave.new.self c.top-frame.result c.leave.ensures c.top-frame.ensures))
+    c.requires.stands
 
 pub returns : goal.returns
-returns g c =
-    until_greedy (run_of c.args.req.now) c.args.place c.operand-least.result c.operand-greatest.result c.args.cursor
-    c.args.board.now c.enter-2.new.self c.top-frame.result (record {
-      code = c.requires.opcode;
-      inside = c.top-frame.ensures;
-      lowest = c.operand-least.ensures.word;
-      highest = c.operand-greatest.ensures.word;
-    }) (omega arith) (sym c.if-not-may_repeat.ensures) (saved_board c.args.board.now c.leave.new.self c.save.new.self
-    c.enter-2.new.self _ _ _ _ c.leave.ensures c.in_ok-save.ensures c.in_ok-enter-3.ensures
-    (c.next_frame-next.ensures ∙ ap (λ p. next_frame c.top-frame.result (Some p)) c.position.ensures))
-
-pub operand-least-requires : goal.operand-least-requires
-operand-least-requires g c =
-    omega (
-      arith,
-      until_operands (run_of c.args.req.now) Greedy c.args.place c.args.cursor c.args.board.now
-          c.top-frame.result c.requires.opcode c.requires.stands c.top-frame.ensures,
-    )
-
-pub operand-greatest-requires : goal.operand-greatest-requires
-operand-greatest-requires g c =
-    omega (
-      arith,
-      until_operands (run_of c.args.req.now) Greedy c.args.place c.args.cursor c.args.board.now
-          c.top-frame.result c.requires.opcode c.requires.stands c.top-frame.ensures,
-    )
+returns g c = λ all limit st.
+    c.in_ok-further.ensures all limit
+    (subst (λ (b : BoardValue). Goes (run_of c.args.req.now) all limit (Instruction c.args.place) c.args.cursor b)
+    (sym (taken_off c.args.board.now c.leave.new.self c.top-frame.result c.leave.ensures c.top-frame.ensures)) st)
