@@ -194,8 +194,7 @@ fn begin<S: StrDrive>(
         return behind_test(req, SreOpcode::LITERAL, place, character, after, cursor);
     }
     match opcode(req, place, cursor) {
-<<<<<<< HEAD
-        SreOpcode::IN => behind_test(req, SreOpcode::IN, place, character, after, cursor),
+        SreOpcode::IN => behind_set(req, place, character, after, cursor),
         SreOpcode::NOT_LITERAL => {
             behind_test(
                 req,
@@ -206,9 +205,6 @@ fn begin<S: StrDrive>(
                 cursor,
             )
         }
-=======
-        SreOpcode::IN => behind_set(req, place, character, after, cursor),
->>>>>>> 9740132 (A run's first test refuses an alternative, and a set of one character goes on behind its JUMP)
         SreOpcode::LITERAL_UNI_IGNORE => {
             behind_test(
                 req,
