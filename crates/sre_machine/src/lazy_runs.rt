@@ -66,7 +66,8 @@ fn one_longer<S: StrDrive>(
 }
 
 // The first of the longer counts of which something may come, if there is one: that count, and the cursor behind it.
-#[inline(always)]
+// It is out of line, so that its loop has the registers to itself.
+#[inline(never)]
 fn first_longer<S: StrDrive>(
     req: &Request<'_, S>,
     place: usize,
