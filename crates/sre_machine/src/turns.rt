@@ -69,8 +69,9 @@ impl Plan for Brand {
     ghost limit = { 0 };
 }
 
-// Turns until the whole is decided: the cursor at the first accepted outcome's end, where there is one.
-#[inline(always)]
+// Turns until the whole is decided: the cursor at the first accepted outcome's end, where there is one. One function out
+// of line, whatever its size, so that `run` itself is inlined where a search tries its starts.
+#[inline(never)]
 fn turns<L: Ledger, K: Plan, S: StrDrive, A: Allocator>(
     req: &Request<'_, S>,
     board: &mut Board<A>,
@@ -125,6 +126,7 @@ fn turns_from<L: Ledger, K: Plan, S: StrDrive, A: Allocator>(
 
 /// Runs the machine from a cursor, on an empty board: the cursor at the end of the first accepted way, whose marks are
 /// then on the board, or `None` where no way is accepted.
+#[inline(always)]
 pub fn run<S: StrDrive, A: Allocator>(
     req: &Request<'_, S>,
     start: StringCursor,
