@@ -222,10 +222,12 @@ pub(super) fn choose<S: StrDrive, A: Allocator>(
 fn first_shorter<S: StrDrive>(
     req: &Request<'_, S>,
     tail: usize,
+    wanted: Option<u32>,
     count: usize,
     start: StringCursor,
 ) -> Option<(usize, StringCursor)>
-    requires { HasRun (run_of req.now) (Shorter tail count) start }
+    requires wanted { DemandsAny (run_of req.now) tail wanted }
+    requires stands { HasRun (run_of req.now) (Shorter tail count) start }
     ensures { MatchOption result
         ((b : BoardValue) → Advances (run_of req.now) (Shorter tail count) start b Next.Back b)
         (λ x. SkipsBoth (run_of req.now) (Shorter tail count) start (Instruction tail) (Shorter tail x.0) x.1) }
@@ -233,9 +235,8 @@ fn first_shorter<S: StrDrive>(
     if count == 0 {
         return None;
     }
-    let nearest = back_one(req, start);
-    let Some(value) = first_literal(req, tail, nearest) else {
-        return Some((count - 1, nearest));
+    let Some(value) = wanted else {
+        return Some((count - 1, back_one(req, start)));
     };
     let mut cursor = start;
     let mut left = count;
@@ -252,9 +253,33 @@ fn first_shorter<S: StrDrive>(
     }
 }
 
-/// The shorter counts of a run, so many of them, each followed by the run's tail.
+/// The shorter counts of a run, so many of them, each followed by the run's tail, whose first character is at hand if
+/// the words tell it.
 #[inline(always)]
 fn shorter<S: StrDrive, A: Allocator>(
+    req: &Request<'_, S>,
+    board: &mut Board<A>,
+    tail: usize,
+    wanted: Option<u32>,
+    count: usize,
+    start: StringCursor,
+) -> Result<Next, Refusal>
+    requires wanted { DemandsAny (run_of req.now) tail wanted }
+    requires stands { HasRun (run_of req.now) (Shorter tail count) start }
+    ensures { IfOk result (λ next. Advances (run_of req.now) (Shorter tail count) start board.old next board.new) }
+{
+    let Some(found) = first_shorter(req, tail, wanted, count, start) else {
+        return Ok(Next::Back);
+    };
+    if found.0 == 0 {
+        return Ok(Next::At(tail, found.1));
+    }
+    Ok(choose(req, board, tail, Point::Shorter(tail, found.0), found.1)?)
+}
+
+/// The shorter counts of a run that were saved.
+#[inline(always)]
+fn shorter_again<S: StrDrive, A: Allocator>(
     req: &Request<'_, S>,
     board: &mut Board<A>,
     tail: usize,
@@ -264,13 +289,12 @@ fn shorter<S: StrDrive, A: Allocator>(
     requires { HasRun (run_of req.now) (Shorter tail count) start }
     ensures { IfOk result (λ next. Advances (run_of req.now) (Shorter tail count) start board.old next board.new) }
 {
-    let Some(found) = first_shorter(req, tail, count, start) else {
+    if count == 0 {
         return Ok(Next::Back);
-    };
-    if found.0 == 0 {
-        return Ok(Next::At(tail, found.1));
     }
-    Ok(choose(req, board, tail, Point::Shorter(tail, found.0), found.1)?)
+    let nearest = back_one(req, start);
+    let wanted = first_literal(req, tail, nearest);
+    Ok(shorter(req, board, tail, wanted, count, start)?)
 }
 
 /// `REPEAT_ONE skip least greatest test SUCCESS`: the longest run of the test, then the shorter ones.
@@ -294,8 +318,9 @@ fn repeat_one<S: StrDrive, A: Allocator>(
     }
     let tail = place + 1 + skip;
     let left = run.0 - least;
-    if refuses(req, tail, run.1) {
-        return Ok(shorter(req, board, tail, left, run.1)?);
+    let wanted = first_literal(req, tail, run.1);
+    if lacks(req, wanted, run.1) {
+        return Ok(shorter(req, board, tail, wanted, left, run.1)?);
     }
     if left == 0 {
         return Ok(Next::At(tail, run.1));
@@ -319,7 +344,9 @@ pub(super) fn back<S: StrDrive, A: Allocator>(
         Some(choice) => match choice.0 {
             Point::Instruction(place) => Ok(Some(Next::At(place, choice.1))),
             Point::Alternatives(place) => Ok(Some(alternatives(req, board, place, choice.1)?)),
-            Point::Shorter(tail, count) => Ok(Some(shorter(req, board, tail, count, choice.1)?)),
+            Point::Shorter(tail, count) => Ok(Some(shorter_again(
+                req, board, tail, count, choice.1,
+            )?)),
             Point::Longer(place, count) => Ok(Some(longer(req, board, place, count, choice.1)?)),
             Point::Again => Ok(Some(Next::Again(choice.1))),
             Point::Inside(region) => Ok(Some(without_outcome(board, region, choice.1))),

@@ -1,6 +1,6 @@
-use Rattle.std.proofs.Common.{◌-◌}
+use Rattle.std.proofs.Common.{◌-◌, subst}
 use Rattle.sre_model.specs.declared.Point.TheVariants.{Instruction, Shorter}
-use Rattle.sre_model.specs.Machine.{SkipsBoth}
+use Rattle.sre_model.specs.Machine.{SkipsBoth, Demands, DemandsAny}
 use Rattle.sre_request.specs.Requests.{run_of}
 use Rattle.sre_model.proofs.StepsInRuns.{shorter_none, shorter_past, shorter_skips}
 use Rattle.sre_model.proofs.StepsInBranches.{positive}
@@ -12,21 +12,14 @@ pub returns-then-count-eq0 : goal.returns-then-count-eq0
 returns-then-count-eq0 g c = λ b all limit x.
     shorter_none (run_of c.args.req.now) c.args.tail _ _ b c.if-count-eq0.true all limit x
 
-pub back_one-nearest-requires-clause-past : goal.back_one-nearest-requires-clause-past
-back_one-nearest-requires-clause-past g c =
-    shorter_past (run_of c.args.req.now) c.args.tail _ _ (positive _ c.if-count-eq0.false) c.requires
-
-pub first_literal-requires : goal.first_literal-requires
-first_literal-requires g c =
-    (shorter_skips (run_of c.args.req.now) _ c.args.start c.args.tail _ c.args.start c.back_one-nearest.result
-    c.if-count-eq0.false c.back_one-nearest.ensures.position c.back_one-nearest.ensures.stands c.requires
-    (λ b all limit x. x)).runs
+pub back_one-requires-clause-past : goal.back_one-requires-clause-past
+back_one-requires-clause-past g c =
+    shorter_past (run_of c.args.req.now) c.args.tail _ _ (positive _ c.if-count-eq0.false) c.requires.stands
 
 pub returns-in_default : goal.returns-in_default
 returns-in_default g c =
-    shorter_skips (run_of c.args.req.now) _ c.args.start c.args.tail _ c.args.start c.back_one-nearest.result
-    c.if-count-eq0.false c.back_one-nearest.ensures.position c.back_one-nearest.ensures.stands c.requires
-    (λ b all limit x. x)
+    shorter_skips (run_of c.args.req.now) _ c.args.start c.args.tail _ c.args.start c.back_one.result
+    c.if-count-eq0.false c.back_one.ensures.position c.back_one.ensures.stands c.requires.stands (λ b all limit x. x)
 
 pub returns-then-left-eq0 : goal.returns-then-left-eq0
 returns-then-left-eq0 g c = λ b all limit x.
@@ -51,6 +44,8 @@ count-preserved g c =
     (Shorter c.args.tail (c.count.left - 1)) before =
     shorter_skips r _ c.args.start c.args.tail _ c.count.cursor before c.if-left-eq0.false
     c.read_back-step.ensures.position c.read_back-step.ensures.stands c.count.invariant.at c.count.invariant.same in
-    let none = c.in-Some.ensures before.position (other_character r.subject c.in-Some.value c.read_back-step.result.0
+    let demands : Demands r c.args.tail c.in-Some.value =
+    subst (λ w. DemandsAny r c.args.tail w) c.in-Some.is c.requires.wanted in
+    let none = demands before.position (other_character r.subject c.in-Some.value c.read_back-step.result.0
     before.position c.read_back-step.ensures.character c.if-step-value.false) in
     record { at = s.others; same = both_skips r _ c.args.start _ _ before none s }

@@ -31,8 +31,8 @@ returns-then-run-least g c =
     (run_there (run_of c.args.req.now) GreedyRun _ c.args.cursor c.requires.opcode c.requires.stands).test
     c.operand-least.ensures.word c.operand-greatest.ensures.word c.longest_run-run.ensures.count c.if-run-least.true
 
-pub refuses-requires : goal.refuses-requires
-refuses-requires g c =
+pub first_literal-wanted-requires : goal.first_literal-wanted-requires
+first_literal-wanted-requires g c =
     (run_runs (run_of c.args.req.now) _ c.operand-skip.result c.operand-least.result c.operand-greatest.result
     c.longest_run-run.result.0 c.args.cursor c.longest_run-run.result.1 c.requires.opcode
     (run_there (run_of c.args.req.now) GreedyRun _ c.args.cursor c.requires.opcode c.requires.stands).test
@@ -40,8 +40,8 @@ refuses-requires g c =
     c.longest_run-run.ensures.count c.if-run-least.false c.longest_run-run.ensures.position
     c.longest_run-run.ensures.stands c.requires.stands).0
 
-pub shorter-requires : goal.shorter-requires
-shorter-requires g c =
+pub shorter-requires-clause-stands : goal.shorter-requires-clause-stands
+shorter-requires-clause-stands g c =
     (run_runs (run_of c.args.req.now) _ c.operand-skip.result c.operand-least.result c.operand-greatest.result
     c.longest_run-run.result.0 c.args.cursor c.longest_run-run.result.1 c.requires.opcode
     (run_there (run_of c.args.req.now) GreedyRun _ c.args.cursor c.requires.opcode c.requires.stands).test
@@ -49,10 +49,10 @@ shorter-requires g c =
     c.longest_run-run.ensures.count c.if-run-least.false c.longest_run-run.ensures.position
     c.longest_run-run.ensures.stands c.requires.stands).1
 
-pub returns-then-refuses : goal.returns-then-refuses
-returns-then-refuses g c = λ all limit x.
+pub returns-then-lacks : goal.returns-then-lacks
+returns-then-lacks g c = λ all limit x.
     c.in_ok-shorter.ensures all limit (both_pass (run_of c.args.req.now) _ _ c.longest_run-run.result.1 c.args.board.now
-    (c.refuses.ensures c.if-refuses.true) all limit
+    (c.lacks.ensures c.if-lacks.true _ c.first_literal-wanted.ensures) all limit
     (run_both (run_of c.args.req.now) _ c.operand-skip.result c.operand-least.result c.operand-greatest.result
     c.longest_run-run.result.0 c.args.cursor c.longest_run-run.result.1 c.requires.opcode
     (run_there (run_of c.args.req.now) GreedyRun _ c.args.cursor c.requires.opcode c.requires.stands).test
