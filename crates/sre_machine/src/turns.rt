@@ -69,8 +69,8 @@ impl Plan for Brand {
     ghost limit = { 0 };
 }
 
-// Turns until the whole is decided: the cursor at the first accepted outcome's end, where there is one. One function out
-// of line, whatever its size, so that `run` itself is inlined where a search tries its starts.
+// Turns until the whole is decided: the cursor at the first accepted outcome's end, where there is one. It is one
+// function out of line, whatever its size, so that `run` itself is inlined where a search tries its starts.
 #[inline(never)]
 fn turns<L: Ledger, K: Plan, S: StrDrive, A: Allocator>(
     req: &Request<'_, S>,
