@@ -1,8 +1,7 @@
 //! References to groups, and conditions on them: `GROUPREF group` and its three foldings, and
 //! `GROUPREF_EXISTS group skip`.
 
-ghost use Rattle.std.specs.Prelude.{◌≡◌, ◌+◌, ◌≤◌, nat_le};
-ghost use Rattle.sre_model.specs.Board.{BoardValue};
+ghost use Rattle.std.specs.Prelude.{◌≡◌, ◌+◌, nat_le};
 ghost use Rattle.sre_model.specs.Grammar.{Opcode};
 ghost use Rattle.sre_model.specs.declared.Point.TheVariants.{Instruction};
 ghost use Rattle.sre_model.specs.Roles.{ToRefer, role};

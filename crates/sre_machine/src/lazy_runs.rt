@@ -2,8 +2,8 @@
 //!
 //! Behind the least count each try of a longer one takes one test, and never looks ahead.
 
-ghost use Rattle.std.specs.Prelude.{⊤, ◌≡◌, ℕ, ◌+◌, ◌<◌, ◌||◌, nat_eq, nat_lt, List, IfOk, MatchOption};
-ghost use Rattle.sre_model.specs.Ways.{Way, unlimited};
+ghost use Rattle.std.specs.Prelude.{⊤, ◌≡◌, ◌+◌, ◌<◌, ◌||◌, nat_eq, nat_lt, IfOk, MatchOption};
+ghost use Rattle.sre_model.specs.Ways.{unlimited};
 ghost use Rattle.sre_model.specs.Grammar.{Opcode, skip};
 ghost use Rattle.sre_model.specs.Board.{BoardValue};
 ghost use Rattle.sre_model.specs.declared.Point.TheVariants.{Instruction, Longer};

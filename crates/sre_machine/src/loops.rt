@@ -4,8 +4,8 @@
 //! can come is not saved: so a loop over a text that decides by its next character saves nothing. The first body of a
 //! greedy loop is tried in the turn of its REPEAT.
 
-ghost use Rattle.std.specs.Prelude.{◌≡◌, ℕ, ◌+◌, IfOk, min};
-ghost use Rattle.sre_model.specs.Ways.{Way, unlimited, may_repeat};
+ghost use Rattle.std.specs.Prelude.{◌≡◌, ◌+◌, IfOk};
+ghost use Rattle.sre_model.specs.Ways.{may_repeat};
 ghost use Rattle.sre_model.specs.Grammar.{Opcode};
 ghost use Rattle.sre_model.specs.declared.Point.TheVariants.{Instruction};
 ghost use Rattle.sre_model.specs.MovesInLoops.{next_frame};

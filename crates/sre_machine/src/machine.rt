@@ -4,16 +4,15 @@
 //! Each opcode's function says that the accepted outcomes of the whole stay what they were, in one turn less. What is
 //! still to be tried waits on the board, and a choice of which nothing can come is not put there.
 
-ghost use Rattle.std.specs.Prelude.{◌≡◌, ℕ, ◌+◌, ◌^◌, ◌<◌, ◌≤◌, [], List, length, IfOk, MatchOption, true};
-ghost use Rattle.sre_model.specs.Subject.{char_at};
+ghost use Rattle.std.specs.Prelude.{◌≡◌, ℕ, ◌+◌, ◌^◌, ◌<◌, [], List, length, IfOk, MatchOption, true};
 ghost use Rattle.sre_model.specs.Ways.{Way};
 ghost use Rattle.sre_model.specs.Grammar.{Word, word, Opcode};
 ghost use Rattle.sre_model.specs.Board.{BoardValue};
 ghost use Rattle.sre_model.specs.declared.Point.TheVariants.{Instruction, Alternatives, Shorter};
 ghost use Rattle.sre_model.specs.declared.Point.{Point};
 ghost use Rattle.sre_model.specs.Machine.{family, Testing, HasRun, IsAt, IsBack, Advances, Chooses, Retreats, Refuses};
-ghost use Rattle.sre_model.specs.Machine.{DemandsAny, Skips, SkipsBoth, Stands};
-ghost use Rattle.sre_request.specs.Requests.{end_of, run_of};
+ghost use Rattle.sre_model.specs.Machine.{DemandsAny, SkipsBoth, Stands};
+ghost use Rattle.sre_request.specs.Requests.{run_of};
 
 use crate::branches::{alternatives, branch};
 use crate::groups::{condition, reference};

@@ -3,7 +3,7 @@
 //! A region waits on the board while its body is in progress. Its body has at most one outcome that counts,
 //! the first: so the choices inside it go as soon as the body ends.
 
-ghost use Rattle.std.specs.Prelude.{◌≡◌, ◌-◌, ◌≤◌, [], IfOk, MatchOption};
+ghost use Rattle.std.specs.Prelude.{◌≡◌, ◌-◌, [], IfOk, MatchOption};
 ghost use Rattle.sre_model.specs.Grammar.{Opcode};
 ghost use Rattle.sre_model.specs.Board.{from_region};
 ghost use Rattle.sre_model.specs.declared.Point.TheVariants.{Instruction};

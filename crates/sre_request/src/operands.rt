@@ -1,6 +1,6 @@
 //! Words read as operands, in words of which a proof knows what stands there.
 
-ghost use Rattle.std.specs.Prelude.{ℕ, ◌+◌, ◌<◌, ◌^◌, length};
+ghost use Rattle.std.specs.Prelude.{◌+◌, ◌<◌, ◌^◌, length};
 ghost use Rattle.sre_chars.specs.Numbers.{category_number};
 ghost use Rattle.sre_model.specs.Grammar.{Word};
 ghost use Rattle.sre_model.specs.Standing.{AreWords, HasCategory};

@@ -11,7 +11,7 @@ ghost use Rattle.sre_chars.specs.Categories.{category};
 ghost use Rattle.sre_chars.specs.Tables.{Table, is_between};
 ghost use Rattle.sre_model.specs.Tree.{SetItem, RangeUniIgnore, Charset, BigCharset};
 ghost use Rattle.sre_model.specs.Characters.{item_holds, is_member};
-ghost use Rattle.sre_model.specs.Grammar.{Word, Opcode, word, bytes_of, BlocksBelow};
+ghost use Rattle.sre_model.specs.Grammar.{Opcode, word, bytes_of, BlocksBelow};
 ghost use Rattle.sre_model.specs.Standing.{SetStands, HasSet, ItemSays};
 
 use crate::operands::{category_code, operand, word};

@@ -5,7 +5,7 @@
 
 ghost use Rattle.std.specs.Prelude.{◌≡◌, Option};
 ghost use Rattle.sre_model.specs.Tree.{Tree};
-ghost use Rattle.sre_model.specs.Grammar.{Opcode, WholeItems};
+ghost use Rattle.sre_model.specs.Grammar.{WholeItems};
 ghost use Rattle.sre_model.specs.References.{refers};
 ghost use Rattle.sre_model.specs.Roles.{role};
 ghost use Rattle.sre_code.specs.Instructions.{own_words, NextAt};
