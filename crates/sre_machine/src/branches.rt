@@ -196,14 +196,7 @@ fn begin<S: StrDrive>(
     match opcode(req, place, cursor) {
         SreOpcode::IN => behind_set(req, place, character, after, cursor),
         SreOpcode::NOT_LITERAL => {
-            behind_test(
-                req,
-                SreOpcode::NOT_LITERAL,
-                place,
-                character,
-                after,
-                cursor,
-            )
+            behind_test(req, SreOpcode::NOT_LITERAL, place, character, after, cursor)
         }
         SreOpcode::LITERAL_UNI_IGNORE => {
             behind_test(
