@@ -26,7 +26,7 @@ use sre_chars::constants::{SreAtCode, SreOpcode};
 use sre_chars::string::{StrDrive, StringCursor};
 use sre_growth::Refusal;
 use sre_model::{Next, Point};
-use sre_request::one_character::{takes, test_end};
+use sre_request::one_character::{takes, takes_seldom, test_end};
 use sre_request::position::holds_at;
 use sre_request::runs::longest_run;
 use sre_request::text::{back_one, read, read_back};
@@ -92,6 +92,31 @@ fn test<S: StrDrive>(
         Next::At(test_end(req, place, opcode), after)
     } else {
         Next::Back
+    }
+}
+
+/// A test that is seldom met: all of them share one read of the character.
+#[inline(always)]
+fn seldom_test<S: StrDrive>(
+    req: &Request<'_, S>,
+    opcode: SreOpcode,
+    place: usize,
+    cursor: StringCursor,
+) -> Next
+    requires opcode { Opcode (run_of req.now).words place opcode }
+    requires tests { family opcode ≡ Testing }
+    requires stands { HasRun (run_of req.now) (Instruction place) cursor }
+    ensures { (b : BoardValue) → Advances (run_of req.now) (Instruction place) cursor b result b }
+{
+    if cursor.position() >= req.end() {
+        Next::Back
+    } else {
+        let (character, after) = read(req, cursor);
+        if takes_seldom(req, place, opcode, character) {
+            Next::At(test_end(req, place, opcode), after)
+        } else {
+            Next::Back
+        }
     }
 }
 
@@ -365,10 +390,11 @@ pub(super) fn instruction<S: StrDrive, A: Allocator>(
     requires { IsAt (run_of req.now) (Instruction place) cursor board.old }
     ensures { IfOk result (λ next. Advances (run_of req.now) (Instruction place) cursor board.old next board.new) }
 {
-    // An arm for each test and each reference, so that each knows its own opcode.
+    let code = opcode(req, place, cursor);
+    // An arm for each frequent test and each reference, so that each knows its own opcode.
     macro_rules! by_opcode {
-        ($($test:ident)*; $($reference:ident)*) => {
-            match opcode(req, place, cursor) {
+        ($($test:ident)*; $($seldom:ident)*; $($reference:ident)*) => {
+            match code {
                 SreOpcode::FAILURE => Ok(Next::Back),
                 SreOpcode::SUCCESS => Ok(Next::Done(cursor)),
                 SreOpcode::AT => Ok(at(req, place, cursor)),
@@ -387,6 +413,7 @@ pub(super) fn instruction<S: StrDrive, A: Allocator>(
                 SreOpcode::ASSERT_NOT => assert_not(req, board, place, cursor),
                 SreOpcode::GROUPREF_EXISTS => Ok(condition(req, board, place, cursor)),
                 $(SreOpcode::$test => Ok(test(req, SreOpcode::$test, place, cursor)),)*
+                $(SreOpcode::$seldom)|* => Ok(seldom_test(req, code, place, cursor)),
                 $(SreOpcode::$reference => {
                     Ok(reference(req, board, SreOpcode::$reference, place, cursor))
                 })*
@@ -401,10 +428,10 @@ pub(super) fn instruction<S: StrDrive, A: Allocator>(
         };
     }
     by_opcode!(
-        ANY ANY_ALL CATEGORY
-        LITERAL LITERAL_IGNORE LITERAL_LOC_IGNORE LITERAL_UNI_IGNORE
-        NOT_LITERAL NOT_LITERAL_IGNORE NOT_LITERAL_LOC_IGNORE NOT_LITERAL_UNI_IGNORE
-        IN IN_IGNORE IN_LOC_IGNORE IN_UNI_IGNORE;
+        ANY ANY_ALL LITERAL LITERAL_UNI_IGNORE NOT_LITERAL IN IN_UNI_IGNORE;
+        CATEGORY LITERAL_IGNORE LITERAL_LOC_IGNORE
+        NOT_LITERAL_IGNORE NOT_LITERAL_LOC_IGNORE NOT_LITERAL_UNI_IGNORE
+        IN_IGNORE IN_LOC_IGNORE;
         GROUPREF GROUPREF_IGNORE GROUPREF_LOC_IGNORE GROUPREF_UNI_IGNORE
     )
 }

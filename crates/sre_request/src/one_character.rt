@@ -92,6 +92,22 @@ pub fn takes<S: StrDrive>(
     )
 }
 
+/// What `takes` says, out of line: for the tests that are seldom met.
+#[inline(never)]
+pub fn takes_seldom<S: StrDrive>(
+    req: &Request<'_, S>,
+    place: usize,
+    opcode: SreOpcode,
+    character: u32,
+) -> bool
+    requires code { Opcode (run_of req.now).words place opcode }
+    requires stands { HasTest (run_of req.now).words place }
+    ensures { (j : ℕ) (t : Test) → TestStands (run_of req.now).words place j t
+        → result ≡ holds (run_of req.now).subject.table t character }
+{
+    takes(req, place, opcode, character)
+}
+
 /// Where the words of the test whose opcode is at a place end.
 #[inline(always)]
 pub fn test_end<S: StrDrive>(req: &Request<'_, S>, place: usize, opcode: SreOpcode) -> usize

@@ -15,7 +15,7 @@ pub returns-in-ANY_ALL : goal.returns-in-ANY_ALL
 returns-in-ANY_ALL g c = c.test-in-ANY_ALL.ensures _
 
 pub returns-in-CATEGORY : goal.returns-in-CATEGORY
-returns-in-CATEGORY g c = c.test-in-CATEGORY.ensures _
+returns-in-CATEGORY g c = c.seldom_test.ensures _
 
 pub returns-in-IN : goal.returns-in-IN
 returns-in-IN g c = c.test-in-IN.ensures _
@@ -26,32 +26,11 @@ returns-in-LITERAL g c = c.test-in-LITERAL.ensures _
 pub returns-in-NOT_LITERAL : goal.returns-in-NOT_LITERAL
 returns-in-NOT_LITERAL g c = c.test-in-NOT_LITERAL.ensures _
 
-pub returns-in-IN_IGNORE : goal.returns-in-IN_IGNORE
-returns-in-IN_IGNORE g c = c.test-in-IN_IGNORE.ensures _
-
-pub returns-in-LITERAL_IGNORE : goal.returns-in-LITERAL_IGNORE
-returns-in-LITERAL_IGNORE g c = c.test-in-LITERAL_IGNORE.ensures _
-
-pub returns-in-NOT_LITERAL_IGNORE : goal.returns-in-NOT_LITERAL_IGNORE
-returns-in-NOT_LITERAL_IGNORE g c = c.test-in-NOT_LITERAL_IGNORE.ensures _
-
-pub returns-in-IN_LOC_IGNORE : goal.returns-in-IN_LOC_IGNORE
-returns-in-IN_LOC_IGNORE g c = c.test-in-IN_LOC_IGNORE.ensures _
-
-pub returns-in-LITERAL_LOC_IGNORE : goal.returns-in-LITERAL_LOC_IGNORE
-returns-in-LITERAL_LOC_IGNORE g c = c.test-in-LITERAL_LOC_IGNORE.ensures _
-
-pub returns-in-NOT_LITERAL_LOC_IGNORE : goal.returns-in-NOT_LITERAL_LOC_IGNORE
-returns-in-NOT_LITERAL_LOC_IGNORE g c = c.test-in-NOT_LITERAL_LOC_IGNORE.ensures _
-
 pub returns-in-IN_UNI_IGNORE : goal.returns-in-IN_UNI_IGNORE
 returns-in-IN_UNI_IGNORE g c = c.test-in-IN_UNI_IGNORE.ensures _
 
 pub returns-in-LITERAL_UNI_IGNORE : goal.returns-in-LITERAL_UNI_IGNORE
 returns-in-LITERAL_UNI_IGNORE g c = c.test-in-LITERAL_UNI_IGNORE.ensures _
-
-pub returns-in-NOT_LITERAL_UNI_IGNORE : goal.returns-in-NOT_LITERAL_UNI_IGNORE
-returns-in-NOT_LITERAL_UNI_IGNORE g c = c.test-in-NOT_LITERAL_UNI_IGNORE.ensures _
 
 pub returns-in-AT : goal.returns-in-AT
 returns-in-AT g c = c.at.ensures _
