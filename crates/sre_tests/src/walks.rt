@@ -114,7 +114,11 @@ pub fn gives<S: StrDrive, A: Allocator + Copy>(
         }
     }
     for _ in 0..4 {
-        if walk.next().is_some() || !has_none(walk.state().marks()) {
+        if let Some(item) = walk.next() {
+            item?; // memory may be refused to the last search, too
+            return Ok(false);
+        }
+        if !has_none(walk.state().marks()) {
             return Ok(false);
         }
     }
