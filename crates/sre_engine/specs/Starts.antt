@@ -47,7 +47,7 @@ TestsThere ws (Test place) = HasTest ws place
 TestsThere ws (Characters set) = Unit {0}
 
 -- a cursor stands in the window, and up to it what is wanted is lacking from another one on
-pub record Found (r : Run) (wanted : Wanted) (start cursor : StringCursor) : Type 0 where
+pub record WantedFrom (r : Run) (wanted : Wanted) (start cursor : StringCursor) : Type 0 where
   pub stands : r.stands cursor cursor.position
   pub from : start.position ≤ cursor.position
   pub inside : cursor.position ≤ r.subject.end

@@ -2,7 +2,7 @@
 //!
 //! The character at the cursor is read once for all alternatives. One that has to begin with another character is
 //! passed over, and of one that begins with a test the rest alone is left. A choice is saved only where something may
-//! come of an alternative behind the first.
+//! come of an alternative behind the first. At the window's end no character tells, and each alternative is tried.
 
 ghost use Rattle.std.specs.Prelude.{◌≡◌, ℕ, ◌+◌, ◌<◌, ◌^◌, true, false, IfOk, MatchOption};
 ghost use Rattle.sre_model.specs.Tree.{Test};

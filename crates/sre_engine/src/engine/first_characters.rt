@@ -10,7 +10,7 @@ ghost use Rattle.sre_model.specs.Grammar.{Word, AreItems, ReadsBranch};
 ghost use Rattle.sre_model.specs.Machine.{family, Testing};
 ghost use Rattle.sre_model.specs.FirstCharacters.{NoWay, NoneOf, TreeStands, HasTree, HasAlternatives, Leads};
 ghost use Rattle.sre_request.specs.Requests.{end_of, run_of};
-ghost use Rattle.sre_engine.specs.Starts.{IsElsewhere, NotAmong, IsLacking, Bars, TestsThere, Found, NextStart};
+ghost use Rattle.sre_engine.specs.Starts.{IsElsewhere, NotAmong, IsLacking, Bars, TestsThere, WantedFrom, NextStart};
 
 use sre_ascii::AsciiSet;
 use sre_chars::constants::{SreAtCode, SreOpcode};
@@ -45,8 +45,8 @@ pub(crate) struct First {
 }
 
 impl First {
-    /// What a code's items tell, but for what the alternatives of a branch begin with.
-    pub(crate) fn of_tests(words: &[u32]) -> First
+    /// What a code's items tell; what the alternatives of a branch begin with only where they are to be read.
+    pub(crate) fn of_items(words: &[u32], alternatives: bool) -> First
         requires { AreItems words.now }
         ensures bars { Bars words.now result }
         ensures test { TestsThere words.now result.wanted }
@@ -55,21 +55,7 @@ impl First {
         First {
             back: reached.back,
             at: reached.at,
-            wanted: test_at(words, reached.place),
-        }
-    }
-
-    /// What a code's items tell.
-    pub(crate) fn of_items(words: &[u32]) -> First
-        requires { AreItems words.now }
-        ensures bars { Bars words.now result }
-        ensures test { TestsThere words.now result.wanted }
-    {
-        let reached = follow(words, 0);
-        First {
-            back: reached.back,
-            at: reached.at,
-            wanted: wanted_at(words, reached.place),
+            wanted: wanted_at(words, reached.place, alternatives),
         }
     }
 }
@@ -144,24 +130,8 @@ fn first_position(words: &[u32], reached: Reached) -> Option<SreAtCode>
 }
 
 // What is wanted of the character at which a tree at a place begins: what a test, a run that owes a character, or the
-// alternatives of a branch ask for.
-fn wanted_at(words: &[u32], place: usize) -> Wanted
-    requires { HasTree words.now place }
-    ensures bars { (t : Tree) → TreeStands words.now place t → (s : Subject) (p : ℕ) → IsLacking words.now s result p
-        → NoWay s t p }
-    ensures test { TestsThere words.now result }
-{
-    let Ok(SreOpcode::BRANCH) = SreOpcode::try_from(word(words, place)) else {
-        return test_at(words, place);
-    };
-    if let Some(characters) = first_characters(words, place + 1) {
-        return Wanted::Characters(characters);
-    }
-    Wanted::Anything
-}
-
-// What a test or a run that owes a character asks for.
-fn test_at(words: &[u32], place: usize) -> Wanted
+// alternatives of a branch, where they are to be read, ask for.
+fn wanted_at(words: &[u32], place: usize, alternatives: bool) -> Wanted
     requires { HasTree words.now place }
     ensures bars { (t : Tree) → TreeStands words.now place t → (s : Subject) (p : ℕ) → IsLacking words.now s result p
         → NoWay s t p }
@@ -174,6 +144,15 @@ fn test_at(words: &[u32], place: usize) -> Wanted
         SreOpcode::REPEAT_ONE | SreOpcode::MIN_REPEAT_ONE | SreOpcode::POSSESSIVE_REPEAT_ONE => {
             if operand(words, place, 2) > 0 {
                 return Wanted::Test(place + 4);
+            }
+            Wanted::Anything
+        }
+        SreOpcode::BRANCH => {
+            if !alternatives {
+                return Wanted::Anything;
+            }
+            if let Some(characters) = first_characters(words, place + 1) {
+                return Wanted::Characters(characters);
             }
             Wanted::Anything
         }
@@ -280,7 +259,7 @@ fn first_among<S: StrDrive>(
 ) -> StringCursor
     requires stands { (run_of req.now).stands start start.position }
     requires inside { start.position ≤ end_of req.now }
-    ensures { Found (run_of req.now) (Wanted.Characters characters) start result }
+    ensures { WantedFrom (run_of req.now) (Wanted.Characters characters) start result }
 {
     let mut cursor = start;
     'character: while cursor.position() < req.end() {
@@ -303,7 +282,7 @@ fn first_wanted<S: StrDrive>(
     requires test { TestsThere (run_of req.now).words wanted.now }
     requires stands { (run_of req.now).stands start start.position }
     requires inside { start.position ≤ end_of req.now }
-    ensures { Found (run_of req.now) wanted.now start result }
+    ensures { WantedFrom (run_of req.now) wanted.now start result }
 {
     match *wanted {
         Wanted::Anything => start,

@@ -210,7 +210,7 @@ impl<A: Allocator + Copy> State<A> {
         ensures refused { OnErr result Refused }
     {
         self.board.clear(); // of an earlier search
-        let first = First::of_tests(req.pattern_codes().items());
+        let first = First::of_items(req.pattern_codes().items(), false);
         let Some(start) = next_start(req, &first, from) else {
             return Ok(false);
         };
@@ -243,7 +243,7 @@ impl<A: Allocator + Copy> State<A> {
         ensures refused { OnErr result Refused }
     {
         self.board.clear();
-        let first = First::of_items(req.pattern_codes().items());
+        let first = First::of_items(req.pattern_codes().items(), true);
         let lead = leading_run(req);
         let mut start = tried;
         'start: loop {

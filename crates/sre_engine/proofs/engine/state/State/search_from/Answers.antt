@@ -18,11 +18,11 @@ pub returns-in_default-clause-ok : goal.returns-in_default-clause-ok
 returns-in_default-clause-ok g c = λ t whole.
     let asked = c.args.req.now in
     let read = c.items.ensures.same ∙ ap items_of c.pattern_codes.ensures in
-    let bars : Bars (items_of asked.pattern_codes) c.of_tests-first.result =
-    subst (λ (ws : List ℕ). Bars ws c.of_tests-first.result) read c.of_tests-first.ensures.bars in
+    let bars : Bars (items_of asked.pattern_codes) c.of_items-first.result =
+    subst (λ (ws : List ℕ). Bars ws c.of_items-first.result) read c.of_items-first.ensures.bars in
     let at : c.args.from.position ≡ start_of asked = search rules in
     answers_no (stands_in asked) _ _
-    (found_nowhere (run_of asked) (asked_of asked) t c.of_tests-first.result refl bars
+    (found_nowhere (run_of asked) (asked_of asked) t c.of_items-first.result refl bars
     (items_whole asked.pattern_codes t whole) _ (none_yet (asked_of asked) t _ at) c.in_default.ensures)
 
 pub returns-in_default-clause-alike : goal.returns-in_default-clause-alike
@@ -34,10 +34,10 @@ pub returns-in-Some-2-clause-ok : goal.returns-in-Some-2-clause-ok
 returns-in-Some-2-clause-ok g c = λ t whole.
     let asked = c.args.req.now in
     let read = c.items.ensures.same ∙ ap items_of c.pattern_codes.ensures in
-    let bars : Bars (items_of asked.pattern_codes) c.of_tests-first.result =
-    subst (λ (ws : List ℕ). Bars ws c.of_tests-first.result) read c.of_tests-first.ensures.bars in
+    let bars : Bars (items_of asked.pattern_codes) c.of_items-first.result =
+    subst (λ (ws : List ℕ). Bars ws c.of_items-first.result) read c.of_items-first.ensures.bars in
     let at : c.args.from.position ≡ start_of asked = search rules in
-    let before = passed_none (run_of asked) (asked_of asked) t c.of_tests-first.result refl bars
+    let before = passed_none (run_of asked) (asked_of asked) t c.of_items-first.result refl bars
     (items_whole asked.pattern_codes t whole) _ _ (none_yet (asked_of asked) t _ at) c.in-Some.ensures in
     let some = some_at (stands_in asked) (asked_of asked) t _ c.in_ok-end.field-0 c.attempt.new.board.marks
     (c.in_ok-end.ensures.found t whole) c.in-Some-2.end c.in-Some-2.is in
@@ -65,10 +65,10 @@ pub search_behind-requires-clause-none : goal.search_behind-requires-clause-none
 search_behind-requires-clause-none g c = λ t whole.
     let asked = c.args.req.now in
     let read = c.items.ensures.same ∙ ap items_of c.pattern_codes.ensures in
-    let bars : Bars (items_of asked.pattern_codes) c.of_tests-first.result =
-    subst (λ (ws : List ℕ). Bars ws c.of_tests-first.result) read c.of_tests-first.ensures.bars in
+    let bars : Bars (items_of asked.pattern_codes) c.of_items-first.result =
+    subst (λ (ws : List ℕ). Bars ws c.of_items-first.result) read c.of_items-first.ensures.bars in
     let at : c.args.from.position ≡ start_of asked = search rules in (
-      passed_none (run_of asked) (asked_of asked) t c.of_tests-first.result refl bars
+      passed_none (run_of asked) (asked_of asked) t c.of_items-first.result refl bars
           (items_whole asked.pattern_codes t whole) _ _ (none_yet (asked_of asked) t _ at) c.in-Some.ensures,
       none_at (stands_in asked) (asked_of asked) t _ c.in_ok-end.field-0 c.attempt.new.board.marks
           (c.in_ok-end.ensures.found t whole) c.in_default-2.is,
