@@ -1,6 +1,6 @@
 -- Turns at a run of one test, and at its shorter counts.
 use Rattle.std.proofs.Common.{◌≡◌, ℕ, suc, ◌+◌, ◌-◌, ◌<◌, ◌≤◌, Bool, true, false, ◌&&◌, ◌||◌, nat_eq, nat_lt, List}
-use Rattle.std.proofs.Common.{length, refl, sym, ◌∙◌, arith}
+use Rattle.std.proofs.Common.{length, refl, sym, arith}
 use Rattle.std.proofs.lemmas.Bool.Decides.{nat_tests}
 use Rattle.sre_chars.specs.declared.constants.SreOpcode.TheVariants as opcode
 use Rattle.sre_chars.specs.declared.string.StringCursor.{StringCursor}

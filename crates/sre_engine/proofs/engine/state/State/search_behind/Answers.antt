@@ -1,5 +1,4 @@
-use Rattle.std.proofs.Common.{◌≡◌, ◌≤◌, ◌+◌, true, None, refl, subst, arith, rules}
-use Rattle.sre_model.specs.Found.{at_start}
+use Rattle.std.proofs.Common.{refl, subst, arith, rules}
 use Rattle.sre_code.specs.Codes.{words_of, hints_of}
 use Rattle.sre_request.specs.Requests.{code_of, asked_of, stands_in, run_of}
 use Rattle.sre_engine.specs.Starts.{NoneUntil}

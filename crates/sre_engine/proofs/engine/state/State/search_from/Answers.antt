@@ -1,4 +1,4 @@
-use Rattle.std.proofs.Common.{◌≡◌, ◌≤◌, ℕ, true, false, List, refl, ap, ◌∙◌, subst, arith, rules}
+use Rattle.std.proofs.Common.{◌≡◌, ℕ, true, false, List, refl, ap, ◌∙◌, subst, arith, rules}
 use Rattle.sre_model.specs.Tree.{Tree}
 use Rattle.sre_model.specs.Found.{Asked, found}
 use Rattle.sre_code.specs.Codes.{words_of, items_of, hints_of}
