@@ -3,8 +3,8 @@
 //! A [`Code`] is a view of words that the grammar (`specs/Grammar.antt`) relates to a tree, of which there is then
 //! exactly one, together with a table of characters. An information block at the front is passed over: nothing in it
 //! is read but its skip. [`Code::check`] reads the words behind it once from left to right, with a stack of its own for
-//! the parts that are open, and on the way adds up the least number of characters that a match passes. Of words that are
-//! a code a scan with no stack then tells whether they ask for groups.
+//! the parts that are open, and on the way adds up the least number of characters that a match passes. A scan of words
+//! that are a code then tells, with no stack, whether they ask for groups.
 
 ghost use Rattle.std.specs.Prelude.{◌≡◌, ◌≢◌, ◌≤◌, length, IfOk, IfErr, OnOk, OnErr};
 ghost use Rattle.sre_model.specs.Tree.{Tree};
