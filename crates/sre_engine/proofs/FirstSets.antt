@@ -1,23 +1,19 @@
 -- The ASCII characters with which a tree may begin.
-use Rattle.std.proofs.Common.{◌≢◌, ◌≡◌, ◌+◌, ◌-◌, ◌≤◌, ◌<◌, ℕ, Bool, true, false, ◌&&◌, ◌||◌, nat_lt, nat_le, nat_eq}
-use Rattle.std.proofs.Common.{List}
-use Rattle.std.proofs.Common.{length, refl, sym, ap, ◌∙◌, subst, arith}
+use Rattle.std.proofs.Common.{◌≢◌, ◌≡◌, ◌+◌, ◌-◌, ◌≤◌, ◌<◌, ℕ, Bool, true, false, ◌&&◌, ◌||◌, nat_lt, nat_le}
+use Rattle.std.proofs.Common.{List, length, refl, ap, subst, arith}
 use Rattle.std.proofs.lemmas.Bool.Decides.{nat_tests}
-use Rattle.sre_chars.specs.Tables.{Table, lower_ascii}
 use Rattle.sre_chars.specs.declared.constants.SreOpcode.TheVariants as opcode
 use Rattle.sre_ascii.specs.declared.AsciiSet.{AsciiSet}
 use Rattle.sre_ascii.specs.Sets.{contains}
-use Rattle.sre_model.specs.Tree.{Tree, Trees, Only, Or, Test, Literal, Fold, Plain, Ascii, Locale, Unicode}
-use Rattle.sre_model.specs.Characters.{is_literal as takes_as_literal, holds}
+use Rattle.sre_model.specs.Tree.{Tree, Trees, Only, Or, Test}
+use Rattle.sre_model.specs.Characters.{holds}
 use Rattle.sre_model.specs.Subject.{Subject, char_at, passes}
-use Rattle.sre_model.specs.Roles.{OfLiteral}
-use Rattle.sre_model.specs.Grammar.{Word, word, Opcode, skip, test_opcode, literal_opcode, ReadsBranch}
-use Rattle.sre_model.specs.Standing.{TestStands}
-use Rattle.sre_model.specs.FirstCharacters.{NoWay, NoneOf, TreeStands, HasTree, HasAlternatives, Leads}
-use Rattle.sre_model.proofs.Words.{same_word, same_opcode, word_of, word_within, opcode_within}
+use Rattle.sre_model.specs.Grammar.{Word, word, skip, ReadsBranch}
+use Rattle.sre_model.specs.FirstCharacters.{NoWay, NoneOf, NotPassed, TreeStands, HasTree, HasAlternatives, Leads}
+use Rattle.sre_model.proofs.Words.{same_word, word_of, word_within, opcode_within}
 use Rattle.sre_model.proofs.Places.{alternative_long}
-use Rattle.sre_model.proofs.Families.{HasTestKind, HasKind, OfOne, is_literal}
-use Rattle.sre_model.proofs.FirstCharacters.{stands_up_to, test_there, test_bars, only_none, or_none}
+use Rattle.sre_model.proofs.FirstCharacters.{stands_up_to, only_none, or_none}
+use Rattle.sre_request.specs.AsciiSets.{Covers}
 use Rattle.sre_engine.specs.Starts.{NotAmong}
 
 -- a test takes no ASCII character but those of a set
@@ -57,69 +53,12 @@ union_lacks s a b set p is lacks =
     by_place true false false false w x y z lacking =
         (record { none = rw (w, x, y) refl }, record { none = rw (w, x, z) refl })
 
--- literals
-
-one_of : (f : Fold) (ws : List ℕ) (i : ℕ) → Opcode ws i (literal_opcode f) → HasKind ws i OfOne
-one_of Plain ws i w = record { code = opcode.LITERAL; there = w; begins = refl }
-one_of Ascii ws i w = record { code = opcode.LITERAL_IGNORE; there = w; begins = refl }
-one_of Locale ws i w = record { code = opcode.LITERAL_LOC_IGNORE; there = w; begins = refl }
-one_of Unicode ws i w = record { code = opcode.LITERAL_UNI_IGNORE; there = w; begins = refl }
-
-literal_of : (f : Fold) (ws : List ℕ) (i : ℕ) → Opcode ws i (literal_opcode f) → HasTestKind ws i OfLiteral
-literal_of Plain ws i w = record { code = opcode.LITERAL; there = w; begins = refl }
-literal_of Ascii ws i w = record { code = opcode.LITERAL_IGNORE; there = w; begins = refl }
-literal_of Locale ws i w = record { code = opcode.LITERAL_LOC_IGNORE; there = w; begins = refl }
-literal_of Unicode ws i w = record { code = opcode.LITERAL_UNI_IGNORE; there = w; begins = refl }
-
-same_fold : (f g : Fold) → literal_opcode f ≡ literal_opcode g → g ≡ f
-same_fold Plain Plain e = refl
-same_fold Ascii Ascii e = refl
-same_fold Locale Locale e = refl
-same_fold Unicode Unicode e = refl
-same_fold f g e = absurd (cc)
-
-module _ (ws : List ℕ) (i : ℕ) (f : Fold) (w : Opcode ws i (literal_opcode f)) where
-  -- which test that is
-  literal_test : (j : ℕ) (t : Test) → TestStands ws i j t → (v : ℕ) × (t ≡ Literal f v) × Word ws (i + 1) v
-  literal_test j t x =
-      let is = is_literal ws i j t (literal_of f ws i w) x.code x.operands in
-      let there = subst (λ (u : Test). Opcode ws i (test_opcode u)) is.2 x.code in
-      let same = same_fold f is.0 (same_opcode ws i (literal_opcode f) (literal_opcode is.0) w there) in
-      (is.1, is.2 ∙ ap (λ g. Literal g is.1) same, is.3.0)
-
-  pub literal_operand : HasTree ws i → i + 1 < length ws
-  literal_operand x =
-      let test = test_there ws x.tree i x.stands (one_of f ws i w) in
-      let is = literal_test test.end test.test test.stands in
-      word_within ws (i + 1) is.0 is.2
-
-  pub literal_bars : (t : Tree) → TreeStands ws i t → (v : ℕ) (set : AsciiSet) → Word ws (i + 1) v
-      → ((table : Table) (c : ℕ) → c < 128 → takes_as_literal table f v c ≡ true → contains set c ≡ true)
-      → (s : Subject) (p : ℕ) → NotAmong s set p → NoWay s t p
-  literal_bars t x v set there covers s p lacks =
-      test_bars ws t i x (one_of f ws i w) s p (record {
-        each = λ j u y.
-            let is = literal_test j u y in
-            let same : u ≡ Literal f v =
-            is.1 ∙ ap (λ n. Literal f n) (same_word ws (i + 1) is.0 v is.2 there) in
-            subst (λ (n : Test). passes s n p ≡ false) (sym same)
-            (among_covers s set (Literal f v) p (covers s.table) lacks);
-      })
-
-pub plain_covers : (v : ℕ) (set : AsciiSet) → ((c : ℕ) → contains set c ≡ (nat_lt c 128 && nat_eq c v))
-    → (table : Table) (c : ℕ) → c < 128 → takes_as_literal table Plain v c ≡ true → contains set c ≡ true
-plain_covers v set is table c l e = is c ∙ grind (arith, nat_tests)
-
-pub ascii_covers : (v : ℕ) (set : AsciiSet) → ((c : ℕ) → c < 128 → lower_ascii c ≡ v → contains set c ≡ true)
-    → (table : Table) (c : ℕ) → c < 128 → takes_as_literal table Ascii v c ≡ true → contains set c ≡ true
-ascii_covers v set is table c l e = is c l (grind (arith, nat_tests))
-
-pub unicode_covers : (v : ℕ) (set : AsciiSet) → ((c : ℕ) → c < 128 → lower_ascii c ≡ v → contains set c ≡ true)
-    → (table : Table) (c : ℕ) → c < 128 → takes_as_literal table Unicode v c ≡ true → contains set c ≡ true
-unicode_covers v set is table c l e =
-    let low : nat_lt c 128 ≡ true = grind (arith, nat_tests) in
-    let same : nat_eq v (lower_ascii c) ≡ true = rw low at e in
-    is c l (grind (arith, nat_tests))
+-- a test that takes no ASCII character but those of a set does not pass where none of them is
+pub taken_bars : (ws : List ℕ) (place : ℕ) (set : AsciiSet) → Covers ws place set → (s : Subject) (p : ℕ)
+    → NotAmong s set p → NotPassed ws s place p
+taken_bars ws place set covers s p lacks = record {
+  each = λ j t x. among_covers s set t p (covers s.table j t x) lacks;
+}
 
 -- alternatives
 
@@ -168,15 +107,16 @@ alternatives_next ws place v x w =
 pub alternatives_within : (ws : List ℕ) (place : ℕ) → HasAlternatives ws place → place < length ws
 alternatives_within ws place x = branch_within ws place x.end x.trees x.reads
 
--- what bars a tree that a place leads to bars the one there
-pub own_bars : (ws : List ℕ) (place i back : ℕ) (set : AsciiSet)
+-- where the test does not pass that takes the first character of a tree that a place leads to, the one there has no way
+pub own_bars : (ws : List ℕ) (place i back test : ℕ) (set : AsciiSet)
     → ((t : Tree) → TreeStands ws place t → Leads ws t i back) → back ≡ 0
-    → ((t : Tree) → TreeStands ws i t → (s : Subject) (p : ℕ) → NotAmong s set p → NoWay s t p) → (t : Tree)
-    → TreeStands ws place t → (s : Subject) (p : ℕ) → NotAmong s set p → NoWay s t p
-own_bars ws place i back set leads none bars t x s p lacks =
+    → ((t : Tree) → TreeStands ws i t → (s : Subject) (p : ℕ) → NotPassed ws s test p → NoWay s t p)
+    → Covers ws test set → (t : Tree) → TreeStands ws place t → (s : Subject) (p : ℕ) → NotAmong s set p → NoWay s t p
+own_bars ws place i back test set leads none bars covers t x s p lacks =
     let l = leads t x in
     let here : p ≡ p - back = omega (arith, none) in
-    l.leads s p (bars l.tree l.stands s (p - back) (subst (λ q. NotAmong s set q) here lacks))
+    let there = subst (λ q. NotAmong s set q) here lacks in
+    l.leads s p (bars l.tree l.stands s (p - back) (taken_bars ws test set covers s (p - back) there))
 
 -- one more alternative
 module _ (ws : List ℕ) (j : ℕ) (ts : Trees) (place length_ next after : ℕ) (set own union : AsciiSet)

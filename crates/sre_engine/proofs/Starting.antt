@@ -1,5 +1,5 @@
 -- Which starts are barred, and what being barred rules out.
-use Rattle.std.proofs.Common.{◌≡◌, ◌≤◌, ◌<◌, ◌+◌, ◌-◌, ℕ, false, List, arith, inl, inr, sym, subst, refl, Some, None}
+use Rattle.std.proofs.Common.{◌≡◌, ◌≤◌, ◌<◌, ◌-◌, ℕ, false, List, arith, inl, inr, sym, subst, refl, Some, None}
 use Rattle.std.proofs.lemmas.Bool.{cases_lt}
 use Rattle.sre_chars.specs.declared.constants.SreAtCode.{SreAtCode}
 use Rattle.sre_chars.specs.declared.string.StringCursor.{StringCursor}
@@ -10,12 +10,11 @@ use Rattle.sre_model.specs.Found.{Asked, subject_of, at_start, found}
 use Rattle.sre_model.specs.Subject.{Subject, holds_at}
 use Rattle.sre_model.specs.Machine.{Run}
 use Rattle.sre_model.specs.FirstCharacters.{NoWay, TreeStands, Leads}
-use Rattle.sre_model.proofs.Passing.{stands_at_own}
 use Rattle.sre_model.proofs.FoundLaws.{none-found}
 use Rattle.sre_model.proofs.FirstCharacters.{whole_stands}
 use Rattle.sre_engine.specs.declared.engine.first_characters.First.{First}
 use Rattle.sre_engine.proofs.Answering.{NoneBefore}
-use Rattle.sre_engine.specs.Starts.{IsElsewhere, IsLacking, Barred, Bars, AllBarred, BarredUpTo}
+use Rattle.sre_engine.specs.Starts.{IsElsewhere, IsLacking, Barred, Bars, AllBarred, BarredUpTo, HeldFrom, HeldNowhere}
 
 -- a description of what the first words lead to bars
 pub bars_if : (ws : List ℕ) (i : ℕ) (f : First) → ((t : Tree) → TreeStands ws 0 t → Leads ws t i f.back)
@@ -32,15 +31,10 @@ bars_if ws i f leads at wanted = record {
       ];
 }
 
--- a start at which the code does not hold
-pub barred_by_code : (ws : List ℕ) (s : Subject) (f : First) (code : SreAtCode) (q : ℕ) → f.at ≡ Some code
-    → holds_at s code q ≡ false → Barred ws s f q
-barred_by_code ws s f code q is fails = inr (inl (subst (λ a. IsElsewhere s a q) (sym is) fails))
-
-module _ (r : Run) (f : First) (a : ℕ) (c d : StringCursor) (x : BarredUpTo r f a c) where
+module _ (r : Run) (f : First) (a : ℕ) (c : StringCursor) (x : BarredUpTo r f a c) where
   -- from a cursor on, too
-  pub up_to_further : BarredUpTo r f c.position d → BarredUpTo r f a d
-  up_to_further y = record {
+  pub up_to_further : (d : StringCursor) → BarredUpTo r f c.position d → BarredUpTo r f a d
+  up_to_further d y = record {
     stands = y.stands;
     after = omega (arith, x.after, y.after);
     inside = y.inside;
@@ -50,20 +44,30 @@ module _ (r : Run) (f : First) (a : ℕ) (c d : StringCursor) (x : BarredUpTo r 
     ];
   }
 
-  -- at the cursor, too
-  pub up_to_next : Barred r.words r.subject f c.position → c.position < r.subject.end → d.position ≡ c.position + 1
-      → r.stands d (c.position + 1) → BarredUpTo r f a d
-  up_to_next here l at there = record {
-    stands = stands_at_own r.stands d (c.position + 1) at there;
-    after = omega (arith, x.after, at);
-    inside = omega (arith, l, at);
-    each = λ q from to. elim (cases_lt q c.position) [
+  module _ (code : SreAtCode) (is : f.at ≡ Some code) (fails : holds_at r.subject code c.position ≡ false) where
+    -- a start from which on the code does not hold up to another one
+    unheld : (q : ℕ) → a ≤ q → (c.position < q → holds_at r.subject code q ≡ false) → Barred r.words r.subject f q
+    unheld q from none = elim (cases_lt q c.position) [
       | (inl before) ↦ x.each q from before
-      | (inr behind) ↦
-          let same : c.position ≡ q = omega (arith, behind, to, at) in
-          subst (λ p. Barred r.words r.subject f p) same here
-    ];
-  }
+      | (inr behind) ↦ inr (inl (subst (λ o. IsElsewhere r.subject o q) (sym is) (elim (cases_lt c.position q) [
+        | (inl later) ↦ none later
+        | (inr up) ↦ let same : c.position ≡ q = omega (arith, behind, up) in
+            subst (λ p. holds_at r.subject code p ≡ false) same fails
+      ])))
+    ]
+
+    -- from a cursor at which the code does not hold on to where it may
+    pub up_to_held : (d : StringCursor) → HeldFrom r code c.position d → BarredUpTo r f a d
+    up_to_held d y = record {
+      stands = y.stands;
+      after = omega (arith, x.after, y.behind);
+      inside = y.inside;
+      each = λ q from to. unheld q from (λ later. y.each q later to);
+    }
+
+    -- and where it holds nowhere
+    pub all_unheld : HeldNowhere r code c.position → AllBarred r f a
+    all_unheld y = record { each = λ q from to. unheld q from (λ later. y.each q later to) }
 
 -- where a description bars a start, no match begins
 module _ (r : Run) (a : Asked) (t : Tree) (f : First) (same : r.subject ≡ subject_of a) (bars : Bars r.words f)

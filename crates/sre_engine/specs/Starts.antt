@@ -69,6 +69,22 @@ abbrev pub NextStart : Run → First → ℕ → Option StringCursor → Type 0
 NextStart r first from None = AllBarred r first from
 NextStart r first from (Some cursor) = BarredUpTo r first from cursor
 
+-- a cursor stands in the window behind a position, and a position code holds nowhere between them
+pub record HeldFrom (r : Run) (code : SreAtCode) (p : ℕ) (cursor : StringCursor) : Type 0 where
+  pub stands : r.stands cursor cursor.position
+  pub behind : p < cursor.position
+  pub inside : cursor.position ≤ r.subject.end
+  pub each : (q : ℕ) → p < q → q < cursor.position → holds_at r.subject code q ≡ false
+
+-- a position code holds nowhere behind a position, up to and with the window's end
+pub record HeldNowhere (r : Run) (code : SreAtCode) (p : ℕ) : Type 0 where
+  pub each : (q : ℕ) → p < q → q ≤ r.subject.end → holds_at r.subject code q ≡ false
+
+-- the next position at which a position code may hold, where there is one
+abbrev pub NextHeld : Run → SreAtCode → ℕ → Option StringCursor → Type 0
+NextHeld r code p None = HeldNowhere r code p
+NextHeld r code p (Some cursor) = HeldFrom r code p cursor
+
 -- no start from p up to before q has a match
 abbrev pub NoneBetween : Asked → Tree → ℕ → ℕ → Type 0
 NoneBetween a t p q = (s : ℕ) → p ≤ s → s < q → at_start a t s ≡ None

@@ -2,6 +2,7 @@
 
 mod first_characters;
 mod leading_run;
+mod next_start;
 mod search_iter;
 mod state;
 mod walk;

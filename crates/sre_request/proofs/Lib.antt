@@ -1,2 +1,3 @@
 pub mod AsciiMembers
+mod AsciiTests
 pub mod Repeating

@@ -4,9 +4,9 @@ use Rattle.std.specs.Prelude.{ℕ, ◌≡◌, ◌<◌, Bool, true, ◌&&◌, ◌
 use Rattle.sre_ascii.specs.Sets.{contains}
 use Rattle.sre_ascii.specs.declared.AsciiSet.{AsciiSet}
 use Rattle.sre_chars.specs.Tables.{Table}
-use Rattle.sre_model.specs.Tree.{SetItem}
-use Rattle.sre_model.specs.Characters.{verdict, is_member}
-use Rattle.sre_model.specs.Standing.{SetStands, HasSet, ItemSays}
+use Rattle.sre_model.specs.Tree.{SetItem, Test}
+use Rattle.sre_model.specs.Characters.{verdict, is_member, holds}
+use Rattle.sre_model.specs.Standing.{SetStands, HasSet, ItemSays, TestStands}
 
 -- the item at i holds for the ASCII characters of a set, and the next one begins at next
 pub record HoldsFor (ws : List ℕ) (i : ℕ) (members : AsciiSet) (next : ℕ) : Type 0 where
@@ -23,3 +23,9 @@ pub record IsAsciiPart (ws : List ℕ) (table : Table) (i : ℕ) (members : Asci
   pub stands : HasSet ws i
   pub agrees : (j : ℕ) (set : List SetItem) → SetStands ws i j set → (c : ℕ) → c < 128
       → contains members c ≡ is_member table set c
+
+-- the test at i takes no ASCII character but some of members
+abbrev pub Covers : List ℕ → ℕ → AsciiSet → Type 0
+Covers ws i members =
+    (table : Table) (j : ℕ) (t : Test) → TestStands ws i j t → (c : ℕ) → c < 128 → holds table t c ≡ true
+    → contains members c ≡ true

@@ -1,20 +1,22 @@
-//! Sets whose ASCII characters are at hand.
+//! Sets and tests whose ASCII characters are at hand.
 //!
-//! Most characters are ASCII, and of these a bit tells what a walk over the items would.
+//! Most characters are ASCII, and of these a bit tells what a walk over a set's items, or the test itself, would.
 
-ghost use Rattle.std.specs.Prelude.{◌≡◌, ℕ, ◌+◌, ◌<◌, ◌≤◌, ◌&&◌, ◌||◌, List, IfSome, length, slice_range};
+ghost use Rattle.std.specs.Prelude.{◌≡◌, ℕ, ◌+◌, ◌<◌, ◌≤◌, ◌&&◌, ◌||◌, true, List, IfSome, length, slice_range};
 ghost use Rattle.sre_ascii.specs.Sets.{contains};
-ghost use Rattle.sre_chars.specs.Tables.{Table};
+ghost use Rattle.sre_chars.specs.Tables.{Table, lower_ascii};
 ghost use Rattle.sre_model.specs.Tree.{SetItem, Charset};
 ghost use Rattle.sre_model.specs.Characters.{item_holds, is_member};
 ghost use Rattle.sre_model.specs.Grammar.{Opcode};
-ghost use Rattle.sre_model.specs.Standing.{SetStands, HasSet};
-ghost use Rattle.sre_request.specs.AsciiSets.{HoldsFor};
+ghost use Rattle.sre_model.specs.Standing.{SetStands, HasSet, HasTest};
+ghost use Rattle.sre_request.specs.AsciiSets.{HoldsFor, Covers};
 
-use crate::operands::{category_code, operand};
+use crate::operands::{category_code, operand, word};
 use crate::set::opcode;
 use sre_ascii::AsciiSet;
 use sre_chars::constants::SreOpcode;
+use sre_chars::string::upper_ascii;
+use std::convert::TryFrom;
 
 // The ASCII characters for which an item of a set holds, and where the next item begins.
 #[derive(Clone, Copy)]
@@ -109,5 +111,34 @@ pub(crate) fn ascii_members(words: &[u32], start: usize) -> Option<AsciiSet>
                 place = item.next;
             }
         }
+    }
+}
+
+// The ASCII characters that have a character as their lower case.
+fn either_case(character: u32) -> AsciiSet
+    ensures { (c : ℕ) → c < 128 → lower_ascii c ≡ character → contains result c ≡ true }
+{
+    AsciiSet::of_character(character).union(AsciiSet::of_character(upper_ascii(character)))
+}
+
+/// ASCII characters among which are all that the test at a place takes. Known are those of ANY, of a literal, also one
+/// that ignores case by ASCII's or Unicode's rules, of a negated literal, of a category, and of a set whose items are
+/// each a LITERAL, a RANGE, a CATEGORY, a CHARSET or a NEGATE.
+pub fn ascii_taken(words: &[u32], place: usize) -> Option<AsciiSet>
+    requires { HasTest words.now place }
+    ensures { IfSome result (λ taken. Covers words.now place taken) }
+{
+    match SreOpcode::try_from(word(words, place)).ok()? {
+        SreOpcode::ANY => Some(AsciiSet::of_character(10).complement()),
+        SreOpcode::LITERAL => Some(AsciiSet::of_character(operand(words, place, 1))),
+        SreOpcode::LITERAL_IGNORE | SreOpcode::LITERAL_UNI_IGNORE => {
+            Some(either_case(operand(words, place, 1)))
+        }
+        SreOpcode::NOT_LITERAL => {
+            Some(AsciiSet::of_character(operand(words, place, 1)).complement())
+        }
+        SreOpcode::CATEGORY => Some(AsciiSet::of_category(category_code(words, place + 1))),
+        SreOpcode::IN => ascii_members(words, place + 2),
+        _ => None,
     }
 }

@@ -4,7 +4,7 @@
 //! Each function rests on what stands at a place of the words, and says what the definitions say of it.
 #![tactic(auto)]
 
-mod ascii;
+pub mod ascii;
 pub mod one_character;
 pub mod operands;
 pub mod position;

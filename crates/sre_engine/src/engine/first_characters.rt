@@ -1,25 +1,21 @@
-//! What has to come first in each match, as a code's first words tell it, and the starts at which it does not.
+//! What has to come first in each match, as a code's first words tell it.
 
-ghost use Rattle.std.specs.Prelude.{◌≡◌, ◌⊎◌, ◌+◌, ◌-◌, ◌<◌, ◌≤◌, ℕ, length, true, IfSome};
+ghost use Rattle.std.specs.Prelude.{◌≡◌, ◌⊎◌, ◌+◌, ◌<◌, ℕ, length, true, IfSome};
 ghost use Rattle.sre_chars.specs.Numbers.{at_number};
-ghost use Rattle.sre_chars.specs.Tables.{lower_ascii};
 ghost use Rattle.sre_ascii.specs.Sets.{contains};
 ghost use Rattle.sre_model.specs.Tree.{Tree, Trees};
 ghost use Rattle.sre_model.specs.Subject.{Subject};
 ghost use Rattle.sre_model.specs.Grammar.{Word, AreItems, ReadsBranch};
+ghost use Rattle.sre_model.specs.Standing.{HasTest};
 ghost use Rattle.sre_model.specs.Machine.{family, Testing};
-ghost use Rattle.sre_model.specs.FirstCharacters.{NoWay, NoneOf, TreeStands, HasTree, HasAlternatives, Leads};
-ghost use Rattle.sre_request.specs.Requests.{end_of, run_of};
-ghost use Rattle.sre_engine.specs.Starts.{IsElsewhere, NotAmong, IsLacking, Bars, TestsThere, WantedFrom, NextStart};
+ghost use Rattle.sre_model.specs.FirstCharacters.{NoWay, NoneOf, NotPassed, Leads};
+ghost use Rattle.sre_model.specs.FirstCharacters.{TreeStands, HasTree, HasAlternatives};
+ghost use Rattle.sre_engine.specs.Starts.{IsElsewhere, NotAmong, IsLacking, Bars, TestsThere};
 
 use sre_ascii::AsciiSet;
 use sre_chars::constants::{SreAtCode, SreOpcode};
-use sre_chars::string::{StrDrive, StringCursor, upper_ascii};
-use sre_request::Request;
+use sre_request::ascii::ascii_taken;
 use sre_request::operands::{operand, word};
-use sre_request::position::holds_at;
-use sre_request::runs::first_taken;
-use sre_request::text::{back_by, cursor_at, read};
 use std::convert::TryFrom;
 
 /// What is wanted of the character at a position.
@@ -37,11 +33,11 @@ pub(crate) enum Wanted {
 #[derive(Clone, Copy)]
 pub(crate) struct First {
     // How many characters before its start.
-    back: usize,
+    pub(super) back: usize,
     // The position code that holds at its start.
-    at: Option<SreAtCode>,
+    pub(super) at: Option<SreAtCode>,
     // What is wanted so far back.
-    wanted: Wanted,
+    pub(super) wanted: Wanted,
 }
 
 impl First {
@@ -129,39 +125,48 @@ fn first_position(words: &[u32], reached: Reached) -> Option<SreAtCode>
     }
 }
 
-// What is wanted of the character at which a tree at a place begins: what a test, a run that owes a character, or the
-// alternatives of a branch, where they are to be read, ask for.
+// The place of the test that takes the character at which a tree at a place begins: its own, or that of a run that owes
+// a character.
+fn wanted_test(words: &[u32], place: usize) -> Option<usize>
+    requires { HasTree words.now place }
+    ensures bars { (t : Tree) → TreeStands words.now place t
+        → IfSome result (λ test. (s : Subject) (p : ℕ) → NotPassed words.now s test p → NoWay s t p) }
+    ensures test { IfSome result (λ test. HasTest words.now test) }
+{
+    let opcode = SreOpcode::try_from(word(words, place)).ok()?;
+    match opcode {
+        SreOpcode::REPEAT_ONE | SreOpcode::MIN_REPEAT_ONE | SreOpcode::POSSESSIVE_REPEAT_ONE => {
+            if operand(words, place, 2) > 0 {
+                return Some(place + 4);
+            }
+            None
+        }
+        _ => {
+            if is_test(opcode) {
+                return Some(place);
+            }
+            None
+        }
+    }
+}
+
+// What is wanted of the character at which a tree at a place begins: what a test asks for, or the alternatives of a
+// branch, where they are to be read.
 fn wanted_at(words: &[u32], place: usize, alternatives: bool) -> Wanted
     requires { HasTree words.now place }
     ensures bars { (t : Tree) → TreeStands words.now place t → (s : Subject) (p : ℕ) → IsLacking words.now s result p
         → NoWay s t p }
     ensures test { TestsThere words.now result }
 {
-    let Ok(opcode) = SreOpcode::try_from(word(words, place)) else {
+    if let Some(test) = wanted_test(words, place) {
+        return Wanted::Test(test);
+    }
+    if !alternatives || word(words, place) != SreOpcode::BRANCH as u32 {
         return Wanted::Anything;
-    };
-    match opcode {
-        SreOpcode::REPEAT_ONE | SreOpcode::MIN_REPEAT_ONE | SreOpcode::POSSESSIVE_REPEAT_ONE => {
-            if operand(words, place, 2) > 0 {
-                return Wanted::Test(place + 4);
-            }
-            Wanted::Anything
-        }
-        SreOpcode::BRANCH => {
-            if !alternatives {
-                return Wanted::Anything;
-            }
-            if let Some(characters) = first_characters(words, place + 1) {
-                return Wanted::Characters(characters);
-            }
-            Wanted::Anything
-        }
-        _ => {
-            if is_test(opcode) {
-                return Wanted::Test(place);
-            }
-            Wanted::Anything
-        }
+    }
+    match first_characters(words, place + 1) {
+        Some(characters) => Wanted::Characters(characters),
+        None => Wanted::Anything,
     }
 }
 
@@ -189,7 +194,8 @@ pub(crate) fn is_test(opcode: SreOpcode) -> bool
     }
 }
 
-// The ASCII characters with which the alternatives from a length word on may begin, if each tells its own.
+// The ASCII characters with which the alternatives from a length word on may begin, if each begins with a test that
+// tells its own.
 fn first_characters(words: &[u32], start: usize) -> Option<AsciiSet>
     requires { HasAlternatives words.now start }
     ensures { (j : ℕ) (ts : Trees) → ReadsBranch words.now start j ts
@@ -203,158 +209,12 @@ fn first_characters(words: &[u32], start: usize) -> Option<AsciiSet>
         if reached.back > 0 {
             return None;
         }
-        let own = literal_characters(words, reached.place)?;
+        let test = wanted_test(words, reached.place)?;
+        let own = ascii_taken(words, test)?;
         characters = characters.union(own);
         place += length;
         if word(words, place) == 0 {
             return Some(characters);
         }
-    }
-}
-
-// The ASCII characters that a literal takes with which a tree at a place begins, if it begins with one.
-fn literal_characters(words: &[u32], place: usize) -> Option<AsciiSet>
-    requires { HasTree words.now place }
-    ensures { (t : Tree) → TreeStands words.now place t
-        → IfSome result (λ set. (s : Subject) (p : ℕ) → NotAmong s set p → NoWay s t p) }
-{
-    let Ok(opcode) = SreOpcode::try_from(word(words, place)) else {
-        return None;
-    };
-    match opcode {
-        SreOpcode::LITERAL => Some(AsciiSet::of_character(operand(words, place, 1))),
-        SreOpcode::LITERAL_IGNORE => Some(either_case(operand(words, place, 1))),
-        SreOpcode::LITERAL_UNI_IGNORE => Some(either_case(operand(words, place, 1))),
-        _ => None,
-    }
-}
-
-// The ASCII characters that have a character as their lower case.
-fn either_case(character: u32) -> AsciiSet
-    ensures { (c : ℕ) → c < 128 → lower_ascii c ≡ character → contains result c ≡ true }
-{
-    AsciiSet::of_character(character).union(AsciiSet::of_character(upper_ascii(character)))
-}
-
-// The cursor some characters back, with no step where there are none.
-#[inline(always)]
-fn looked_at<S: StrDrive>(req: &Request<'_, S>, cursor: StringCursor, back: usize) -> StringCursor
-    requires stands { (run_of req.now).stands cursor cursor.position }
-    requires past { back ≤ cursor.position }
-    ensures position { result.position ≡ cursor.position - back }
-    ensures stands { (run_of req.now).stands result result.position }
-{
-    if back == 0 {
-        return cursor;
-    }
-    back_by(req, cursor, back)
-}
-
-// The first cursor from one on whose character is one of a set or past ASCII, or the one at the window's end.
-#[inline(always)]
-fn first_among<S: StrDrive>(
-    req: &Request<'_, S>,
-    characters: AsciiSet,
-    start: StringCursor,
-) -> StringCursor
-    requires stands { (run_of req.now).stands start start.position }
-    requires inside { start.position ≤ end_of req.now }
-    ensures { WantedFrom (run_of req.now) (Wanted.Characters characters) start result }
-{
-    let mut cursor = start;
-    'character: while cursor.position() < req.end() {
-        let (character, after) = read(req, cursor);
-        if character >= 128 || characters.contains(character) {
-            return cursor;
-        }
-        cursor = after;
-    }
-    cursor
-}
-
-// The first cursor from one on at which what is wanted is, or the one at the window's end.
-#[inline(always)]
-fn first_wanted<S: StrDrive>(
-    req: &Request<'_, S>,
-    wanted: &Wanted,
-    start: StringCursor,
-) -> StringCursor
-    requires test { TestsThere (run_of req.now).words wanted.now }
-    requires stands { (run_of req.now).stands start start.position }
-    requires inside { start.position ≤ end_of req.now }
-    ensures { WantedFrom (run_of req.now) wanted.now start result }
-{
-    match *wanted {
-        Wanted::Anything => start,
-        Wanted::Test(place) => first_taken(req, place, start),
-        Wanted::Characters(characters) => first_among(req, characters, start),
-    }
-}
-
-// The first cursor from one on at which what is wanted so far back is.
-#[inline(always)]
-fn next_wanted<S: StrDrive>(
-    req: &Request<'_, S>,
-    first: &First,
-    start: StringCursor,
-) -> Option<StringCursor>
-    requires test { TestsThere (run_of req.now).words first.now.wanted }
-    requires stands { (run_of req.now).stands start start.position }
-    requires inside { start.position ≤ end_of req.now }
-    ensures { NextStart (run_of req.now) first.now start.position result }
-{
-    if first.back > req.end() {
-        return None;
-    }
-    let from = if start.position() < first.back {
-        cursor_at(req, start, first.back)
-    } else {
-        start
-    };
-    if let Wanted::Anything = first.wanted {
-        return Some(from);
-    }
-    let found = first_wanted(req, &first.wanted, looked_at(req, from, first.back));
-    if found.position() >= req.end() {
-        return None;
-    }
-    if first.back == 0 {
-        return Some(found);
-    }
-    if req.end() - found.position() < first.back {
-        return None;
-    }
-    let mut after = found;
-    req.string().skip(&mut after, first.back);
-    Some(after)
-}
-
-/// The first cursor from one on at which a match may begin, where there is one.
-#[inline(never)]
-pub(crate) fn next_start<S: StrDrive>(
-    req: &Request<'_, S>,
-    first: &First,
-    start: StringCursor,
-) -> Option<StringCursor>
-    requires test { TestsThere (run_of req.now).words first.now.wanted }
-    requires stands { (run_of req.now).stands start start.position }
-    requires inside { start.position ≤ end_of req.now }
-    ensures { NextStart (run_of req.now) first.now start.position result }
-{
-    let mut cursor = start;
-    'start: loop {
-        let Some(wanted) = next_wanted(req, first, cursor) else {
-            return None;
-        };
-        let Some(code) = first.at else {
-            return Some(wanted);
-        };
-        if holds_at(req, code, wanted) {
-            return Some(wanted);
-        }
-        if wanted.position() >= req.end() {
-            return None;
-        }
-        cursor = read(req, wanted).1;
     }
 }

@@ -13,8 +13,9 @@ ghost use Rattle.sre_engine.specs.Answers.{Answers, AnswersAlike, Spans};
 ghost use Rattle.sre_engine.specs.Starts.{NoneBetween};
 ghost use Rattle.sre_growth.specs.Refusal.{Refused};
 
-use crate::engine::first_characters::{First, next_start};
+use crate::engine::first_characters::First;
 use crate::engine::leading_run::{leading_run, start_behind};
+use crate::engine::next_start::next_start;
 use sre_board::{Board, Marks};
 use sre_chars::string::{StrDrive, StringCursor};
 use sre_growth::Refusal;

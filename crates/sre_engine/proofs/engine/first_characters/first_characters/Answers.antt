@@ -8,8 +8,8 @@ pub follow-reached-requires : goal.follow-reached-requires
 follow-reached-requires c =
     alternatives_tree c.args.words.now _ (left_there c.args.words.now _ _ _ c.requires c.alternative.invariant)
 
-pub literal_characters-requires : goal.literal_characters-requires
-literal_characters-requires c =
+pub wanted_test-requires : goal.wanted_test-requires
+wanted_test-requires c =
     leads_tree c.args.words.now _ _ _ c.follow-reached.ensures.leads
     (alternatives_tree c.args.words.now _ (left_there c.args.words.now _ _ _ c.requires c.alternative.invariant))
 
@@ -28,7 +28,8 @@ returns-then-word-eq0 c = λ j ts reads.
     let ws = c.args.words.now in
     left_done ws j ts _ _ _ _ _ _ _ (c.alternative.invariant j ts reads) c.word-length.ensures.word refl
     c.word.ensures.word
-    (own_bars ws _ _ _ _ c.follow-reached.ensures.leads (omega arith) c.in_ok-own.ensures) c.union-characters.ensures
+    (own_bars ws _ _ _ _ _ c.follow-reached.ensures.leads (omega arith) c.in_ok-test.ensures.bars c.in_ok-own.ensures)
+    c.union-characters.ensures
     (omega arith)
 
 pub alternative-smaller : goal.alternative-smaller
@@ -42,5 +43,6 @@ alternative-preserved c = λ j ts reads.
     let ws = c.args.words.now in
     left_more ws j ts _ _ _ _ _ _ _ (c.alternative.invariant j ts reads) c.word-length.ensures.word refl
     c.word.ensures.word
-    (own_bars ws _ _ _ _ c.follow-reached.ensures.leads (omega arith) c.in_ok-own.ensures) c.union-characters.ensures
+    (own_bars ws _ _ _ _ _ c.follow-reached.ensures.leads (omega arith) c.in_ok-test.ensures.bars c.in_ok-own.ensures)
+    c.union-characters.ensures
     (λ e. absurd (omega arith))

@@ -1,7 +1,7 @@
 use Rattle.std.proofs.Common.{◌-◌}
 use Rattle.sre_request.specs.Requests.{run_of, end_of}
 use Rattle.sre_engine.specs.Starts.{BarredUpTo}
-use Rattle.sre_engine.proofs.engine.first_characters.next_start.Given as goal
+use Rattle.sre_engine.proofs.engine.next_start.next_start.Given as goal
 
 abbrev pub invariant-start : goal.invariant-start
 invariant-start g l = BarredUpTo (run_of l.req) l.first l.fn.start.position l.cursor

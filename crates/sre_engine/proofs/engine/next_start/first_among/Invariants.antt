@@ -2,7 +2,7 @@ use Rattle.std.proofs.Common.{◌-◌}
 use Rattle.sre_request.specs.Requests.{run_of, end_of}
 use Rattle.sre_engine.specs.Starts.{WantedFrom}
 use Rattle.sre_engine.specs.declared.engine.first_characters.Wanted.TheVariants.{Characters}
-use Rattle.sre_engine.proofs.engine.first_characters.first_among.Given as goal
+use Rattle.sre_engine.proofs.engine.next_start.first_among.Given as goal
 
 abbrev pub invariant-character : goal.invariant-character
 invariant-character g l = WantedFrom (run_of l.req) (Characters l.characters) l.fn.start l.cursor

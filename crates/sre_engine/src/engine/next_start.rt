@@ -1,0 +1,169 @@
+//! The starts at which a match may begin, as what has to come first tells: the others are passed with no run.
+
+ghost use Rattle.std.specs.Prelude.{◌≡◌, ◌-◌, ◌≤◌};
+ghost use Rattle.sre_request.specs.Requests.{end_of, run_of};
+ghost use Rattle.sre_engine.specs.Starts.{TestsThere, WantedFrom, NextStart, NextHeld};
+
+use crate::engine::first_characters::{First, Wanted};
+use sre_ascii::AsciiSet;
+use sre_chars::constants::SreAtCode;
+use sre_chars::string::{StrDrive, StringCursor};
+use sre_request::Request;
+use sre_request::position::holds_at;
+use sre_request::runs::first_taken;
+use sre_request::text::{back_by, cursor_at, read};
+
+// The cursor some characters back, with no step where there are none.
+#[inline(always)]
+fn looked_at<S: StrDrive>(req: &Request<'_, S>, cursor: StringCursor, back: usize) -> StringCursor
+    requires stands { (run_of req.now).stands cursor cursor.position }
+    requires past { back ≤ cursor.position }
+    ensures position { result.position ≡ cursor.position - back }
+    ensures stands { (run_of req.now).stands result result.position }
+{
+    if back == 0 {
+        return cursor;
+    }
+    back_by(req, cursor, back)
+}
+
+// The first cursor from one on whose character is one of a set or past ASCII, or the one at the window's end.
+#[inline(always)]
+fn first_among<S: StrDrive>(
+    req: &Request<'_, S>,
+    characters: AsciiSet,
+    start: StringCursor,
+) -> StringCursor
+    requires stands { (run_of req.now).stands start start.position }
+    requires inside { start.position ≤ end_of req.now }
+    ensures { WantedFrom (run_of req.now) (Wanted.Characters characters) start result }
+{
+    let mut cursor = start;
+    'character: while cursor.position() < req.end() {
+        let (character, after) = read(req, cursor);
+        if character >= 128 || characters.contains(character) {
+            return cursor;
+        }
+        cursor = after;
+    }
+    cursor
+}
+
+// The first cursor from one on at which what is wanted is, or the one at the window's end.
+#[inline(always)]
+fn first_wanted<S: StrDrive>(
+    req: &Request<'_, S>,
+    wanted: &Wanted,
+    start: StringCursor,
+) -> StringCursor
+    requires test { TestsThere (run_of req.now).words wanted.now }
+    requires stands { (run_of req.now).stands start start.position }
+    requires inside { start.position ≤ end_of req.now }
+    ensures { WantedFrom (run_of req.now) wanted.now start result }
+{
+    match *wanted {
+        Wanted::Anything => start,
+        Wanted::Test(place) => first_taken(req, place, start),
+        Wanted::Characters(characters) => first_among(req, characters, start),
+    }
+}
+
+// The first cursor from one on at which what is wanted so far back is.
+#[inline(always)]
+fn next_wanted<S: StrDrive>(
+    req: &Request<'_, S>,
+    first: &First,
+    start: StringCursor,
+) -> Option<StringCursor>
+    requires test { TestsThere (run_of req.now).words first.now.wanted }
+    requires stands { (run_of req.now).stands start start.position }
+    requires inside { start.position ≤ end_of req.now }
+    ensures { NextStart (run_of req.now) first.now start.position result }
+{
+    if first.back > req.end() {
+        return None;
+    }
+    let from = if start.position() < first.back {
+        cursor_at(req, start, first.back)
+    } else {
+        start
+    };
+    if let Wanted::Anything = first.wanted {
+        return Some(from);
+    }
+    let found = first_wanted(req, &first.wanted, looked_at(req, from, first.back));
+    if found.position() >= req.end() {
+        return None;
+    }
+    if first.back == 0 {
+        return Some(found);
+    }
+    if req.end() - found.position() < first.back {
+        return None;
+    }
+    let mut after = found;
+    req.string().skip(&mut after, first.back);
+    Some(after)
+}
+
+// The cursor at which the line behind one begins, where there is such a line.
+#[inline(always)]
+fn next_line<S: StrDrive>(req: &Request<'_, S>, cursor: StringCursor) -> Option<StringCursor>
+    requires { (run_of req.now).stands cursor cursor.position }
+    ensures { NextHeld (run_of req.now) SreAtCode.BEGINNING_LINE cursor.position result }
+{
+    let mut next = cursor;
+    'character: while next.position() < req.end() {
+        let (character, after) = read(req, next);
+        next = after;
+        if character == u32::from('\n') {
+            return Some(next);
+        }
+    }
+    None
+}
+
+// The next cursor behind one at which a position code may hold, where there is one.
+#[inline(always)]
+fn next_held<S: StrDrive>(
+    req: &Request<'_, S>,
+    code: SreAtCode,
+    cursor: StringCursor,
+) -> Option<StringCursor>
+    requires { (run_of req.now).stands cursor cursor.position }
+    ensures { NextHeld (run_of req.now) code cursor.position result }
+{
+    if cursor.position() >= req.end() {
+        return None;
+    }
+    match code {
+        SreAtCode::BEGINNING | SreAtCode::BEGINNING_STRING => None,
+        SreAtCode::BEGINNING_LINE => next_line(req, cursor),
+        _ => Some(read(req, cursor).1),
+    }
+}
+
+/// The first cursor from one on at which a match may begin, where there is one.
+#[inline(never)]
+pub(crate) fn next_start<S: StrDrive>(
+    req: &Request<'_, S>,
+    first: &First,
+    start: StringCursor,
+) -> Option<StringCursor>
+    requires test { TestsThere (run_of req.now).words first.now.wanted }
+    requires stands { (run_of req.now).stands start start.position }
+    requires inside { start.position ≤ end_of req.now }
+    ensures { NextStart (run_of req.now) first.now start.position result }
+{
+    let mut cursor = start;
+    'start: loop {
+        let wanted = next_wanted(req, first, cursor)?;
+        let Some(code) = first.at else {
+            return Some(wanted);
+        };
+        if holds_at(req, code, wanted) {
+            return Some(wanted);
+        }
+        cursor = next_held(req, code, wanted)?;
+    }
+}
