@@ -1,6 +1,6 @@
 -- The ASCII characters with which a tree may begin.
 use Rattle.std.proofs.Common.{◌≢◌, ◌≡◌, ◌+◌, ◌-◌, ◌≤◌, ◌<◌, ℕ, Bool, true, false, ◌&&◌, ◌||◌, nat_lt, nat_le}
-use Rattle.std.proofs.Common.{List, length, refl, ap, subst, arith}
+use Rattle.std.proofs.Common.{List, length, refl, ap, ◌∙◌, subst, arith}
 use Rattle.std.proofs.lemmas.Bool.Decides.{nat_tests}
 use Rattle.sre_chars.specs.declared.constants.SreOpcode.TheVariants as opcode
 use Rattle.sre_ascii.specs.declared.AsciiSet.{AsciiSet}
@@ -13,13 +13,13 @@ use Rattle.sre_model.specs.FirstCharacters.{NoWay, NoneOf, NotPassed, TreeStands
 use Rattle.sre_model.proofs.Words.{same_word, word_of, word_within, opcode_within}
 use Rattle.sre_model.proofs.Places.{alternative_long}
 use Rattle.sre_model.proofs.FirstCharacters.{stands_up_to, only_none, or_none}
-use Rattle.sre_request.specs.AsciiSets.{Covers}
+use Rattle.sre_request.specs.AsciiSets.{TakesAscii}
 use Rattle.sre_engine.specs.Starts.{NotAmong}
 
--- a test takes no ASCII character but those of a set
-among_covers : (s : Subject) (set : AsciiSet) (t : Test) (p : ℕ)
-    → ((c : ℕ) → c < 128 → holds s.table t c ≡ true → contains set c ≡ true) → NotAmong s set p → passes s t p ≡ false
-among_covers s set t p covers lacks =
+-- a test that takes the ASCII characters of a set alone does not pass where none of them is, and none past ASCII
+among_taken : (s : Subject) (set : AsciiSet) (t : Test) (p : ℕ)
+    → ((c : ℕ) → c < 128 → contains set c ≡ holds s.table t c) → NotAmong s set p → passes s t p ≡ false
+among_taken s set t p is lacks =
     by_place (nat_lt p s.end) (nat_le 128 (char_at s p)) (holds s.table t (char_at s p)) refl refl refl lacks.none
   where
     by_place : (a b c : Bool) → nat_lt p s.end ≡ a → nat_le 128 (char_at s p) ≡ b → holds s.table t (char_at s p) ≡ c
@@ -29,7 +29,7 @@ among_covers s set t p covers lacks =
     by_place true true true e f h lacking = let y : true ≡ false = rw (e, f) at lacking in absurd (cc)
     by_place true false true e f h lacking =
         let low : char_at s p < 128 = grind (arith, nat_tests) in
-        let there = covers (char_at s p) low h in
+        let there = is (char_at s p) low ∙ h in
         let y : true ≡ false = rw (e, f, there) at lacking in
         absurd (cc)
 
@@ -53,11 +53,10 @@ union_lacks s a b set p is lacks =
     by_place true false false false w x y z lacking =
         (record { none = rw (w, x, y) refl }, record { none = rw (w, x, z) refl })
 
--- a test that takes no ASCII character but those of a set does not pass where none of them is
-pub taken_bars : (ws : List ℕ) (place : ℕ) (set : AsciiSet) → Covers ws place set → (s : Subject) (p : ℕ)
+taken_bars : (ws : List ℕ) (place : ℕ) (set : AsciiSet) → TakesAscii ws place set → (s : Subject) (p : ℕ)
     → NotAmong s set p → NotPassed ws s place p
-taken_bars ws place set covers s p lacks = record {
-  each = λ j t x. among_covers s set t p (covers s.table j t x) lacks;
+taken_bars ws place set is s p lacks = record {
+  each = λ j t x. among_taken s set t p (is s.table j t x) lacks;
 }
 
 -- alternatives
@@ -111,12 +110,12 @@ alternatives_within ws place x = branch_within ws place x.end x.trees x.reads
 pub own_bars : (ws : List ℕ) (place i back test : ℕ) (set : AsciiSet)
     → ((t : Tree) → TreeStands ws place t → Leads ws t i back) → back ≡ 0
     → ((t : Tree) → TreeStands ws i t → (s : Subject) (p : ℕ) → NotPassed ws s test p → NoWay s t p)
-    → Covers ws test set → (t : Tree) → TreeStands ws place t → (s : Subject) (p : ℕ) → NotAmong s set p → NoWay s t p
-own_bars ws place i back test set leads none bars covers t x s p lacks =
+    → TakesAscii ws test set → (t : Tree) → TreeStands ws place t → (s : Subject) (p : ℕ) → NotAmong s set p → NoWay s t p
+own_bars ws place i back test set leads none bars is t x s p lacks =
     let l = leads t x in
     let here : p ≡ p - back = omega (arith, none) in
     let there = subst (λ q. NotAmong s set q) here lacks in
-    l.leads s p (bars l.tree l.stands s (p - back) (taken_bars ws test set covers s (p - back) there))
+    l.leads s p (bars l.tree l.stands s (p - back) (taken_bars ws test set is s (p - back) there))
 
 -- one more alternative
 module _ (ws : List ℕ) (j : ℕ) (ts : Trees) (place length_ next after : ℕ) (set own union : AsciiSet)

@@ -13,35 +13,34 @@ use Rattle.sre_model.specs.Characters.{is_member, holds}
 use Rattle.sre_model.specs.Grammar.{Word, Opcode, test_opcode, TestOperands}
 use Rattle.sre_model.specs.Standing.{SetStands}
 use Rattle.sre_model.proofs.Words.{same_word, same_opcode}
-use Rattle.sre_request.specs.AsciiSets.{Covers}
+use Rattle.sre_request.specs.AsciiSets.{TakesAscii}
 
 -- those of a category
 pub category_taken : (ws : List ℕ) (i : ℕ) (code : SreCatCode) (taken : AsciiSet) → Opcode ws i opcode.CATEGORY
     → Word ws (i + 1) (category_number code)
     → ((table : Table) (c : ℕ) → contains taken c ≡ (nat_lt c 128 && category table (category_number code) c))
-    → Covers ws i taken
+    → TakesAscii ws i taken
 category_taken ws i code taken w there is table j t s c l =
     go t (same_opcode ws i opcode.CATEGORY (test_opcode t) w s.code) s.operands
   where
-    go : (u : Test) → opcode.CATEGORY ≡ test_opcode u → TestOperands ws i j u → holds table u c ≡ true
-        → contains taken c ≡ true
-    go (InCategory own) e h takes =
-        let same : category_number own ≡ category_number code =
-        same_word ws (i + 1) (category_number own) (category_number code) h.0 there in
-        let has : category table (category_number code) c ≡ true = rw same at takes in
+    go : (u : Test) → opcode.CATEGORY ≡ test_opcode u → TestOperands ws i j u → contains taken c ≡ holds table u c
+    go (InCategory own) e h =
+        let same : category_number code ≡ category_number own =
+        same_word ws (i + 1) (category_number code) (category_number own) there h.0 in
         let low : nat_lt c 128 ≡ true = grind (arith, nat_tests) in
-        is table c ∙ ap (λ b. nat_lt c 128 && b) has ∙ ap (λ b. b && true) low
-    go u e h takes = absurd (grind arith)
+        is table c ∙ ap (λ b. b && category table (category_number code) c) low ∙ ap (λ n. category table n c) same
+    go u e h = absurd (grind arith)
 
 -- those of a set
 pub set_taken : (ws : List ℕ) (i : ℕ) (members : Option AsciiSet) → Opcode ws i opcode.IN
     → ((table : Table) (j : ℕ) (set : List SetItem) → SetStands ws (i + 2) j set
     → IfSome members (λ taken. (c : ℕ) → c < 128 → contains taken c ≡ is_member table set c))
-    → IfSome members (λ taken. Covers ws i taken)
+    → IfSome members (λ taken. TakesAscii ws i taken)
 set_taken ws i None w is = tt
-set_taken ws i (Some taken) w is = λ table j t s. go table j t (same_opcode ws i opcode.IN (test_opcode t) w s.code) s.operands
+set_taken ws i (Some taken) w is = λ table j t s.
+    go table j t (same_opcode ws i opcode.IN (test_opcode t) w s.code) s.operands
   where
     go : (table : Table) (j : ℕ) (t : Test) → opcode.IN ≡ test_opcode t → TestOperands ws i j t → (c : ℕ) → c < 128
-        → holds table t c ≡ true → contains taken c ≡ true
-    go table j (In Plain set) e h c l takes = is table (j - 1) set (record { items = h.1; ends = h.2 }) c l ∙ takes
-    go table j t e h c l takes = absurd (grind arith)
+        → contains taken c ≡ holds table t c
+    go table j (In Plain set) e h c l = is table (j - 1) set (record { items = h.1; ends = h.2 }) c l
+    go table j t e h c l = absurd (grind arith)

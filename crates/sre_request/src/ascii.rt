@@ -2,20 +2,20 @@
 //!
 //! Most characters are ASCII, and of these a bit tells what a walk over a set's items, or the test itself, would.
 
-ghost use Rattle.std.specs.Prelude.{◌≡◌, ℕ, ◌+◌, ◌<◌, ◌≤◌, ◌&&◌, ◌||◌, true, List, IfSome, length, slice_range};
+ghost use Rattle.std.specs.Prelude.{◌≡◌, ℕ, ◌+◌, ◌<◌, ◌≤◌, ◌&&◌, ◌||◌, nat_eq, true, List, IfSome, IsSome, length, slice_range};
 ghost use Rattle.sre_ascii.specs.Sets.{contains};
 ghost use Rattle.sre_chars.specs.Tables.{Table, lower_ascii};
 ghost use Rattle.sre_model.specs.Tree.{SetItem, Charset};
 ghost use Rattle.sre_model.specs.Characters.{item_holds, is_member};
 ghost use Rattle.sre_model.specs.Grammar.{Opcode};
 ghost use Rattle.sre_model.specs.Standing.{SetStands, HasSet, HasTest};
-ghost use Rattle.sre_request.specs.AsciiSets.{HoldsFor, Covers};
+ghost use Rattle.sre_request.specs.AsciiSets.{HoldsFor, TakesAscii, is_told};
 
 use crate::operands::{category_code, operand, word};
 use crate::set::opcode;
 use sre_ascii::AsciiSet;
 use sre_chars::constants::SreOpcode;
-use sre_chars::string::upper_ascii;
+use sre_chars::string::{lower_ascii, upper_ascii};
 use std::convert::TryFrom;
 
 // The ASCII characters for which an item of a set holds, and where the next item begins.
@@ -116,17 +116,21 @@ pub(crate) fn ascii_members(words: &[u32], start: usize) -> Option<AsciiSet>
 
 // The ASCII characters that have a character as their lower case.
 fn either_case(character: u32) -> AsciiSet
-    ensures { (c : ℕ) → c < 128 → lower_ascii c ≡ character → contains result c ≡ true }
+    ensures { (c : ℕ) → c < 128 → contains result c ≡ nat_eq character (lower_ascii c) }
 {
+    if lower_ascii(character) != character {
+        return AsciiSet::new();
+    }
     AsciiSet::of_character(character).union(AsciiSet::of_character(upper_ascii(character)))
 }
 
-/// ASCII characters among which are all that the test at a place takes. Known are those of ANY, of a literal, also one
-/// that ignores case by ASCII's or Unicode's rules, of a negated literal, of a category, and of a set whose items are
-/// each a LITERAL, a RANGE, a CATEGORY, a CHARSET or a NEGATE.
+/// The ASCII characters that the test at a place takes. Told are those of ANY, of a literal, also of one that ignores
+/// case by ASCII's or Unicode's rules, of a negated literal, of a category, and of a set whose items are each a
+/// LITERAL, a RANGE, a CATEGORY, a CHARSET or a NEGATE.
 pub fn ascii_taken(words: &[u32], place: usize) -> Option<AsciiSet>
     requires { HasTest words.now place }
-    ensures { IfSome result (λ taken. Covers words.now place taken) }
+    ensures taken { IfSome result (λ taken. TakesAscii words.now place taken) }
+    ensures told { (o : SreOpcode) → Opcode words.now place o → is_told o ≡ true → IsSome result }
 {
     match SreOpcode::try_from(word(words, place)).ok()? {
         SreOpcode::ANY => Some(AsciiSet::of_character(10).complement()),
