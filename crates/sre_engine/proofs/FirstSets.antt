@@ -110,7 +110,8 @@ alternatives_within ws place x = branch_within ws place x.end x.trees x.reads
 pub own_bars : (ws : List ℕ) (place i back test : ℕ) (set : AsciiSet)
     → ((t : Tree) → TreeStands ws place t → Leads ws t i back) → back ≡ 0
     → ((t : Tree) → TreeStands ws i t → (s : Subject) (p : ℕ) → NotPassed ws s test p → NoWay s t p)
-    → TakesAscii ws test set → (t : Tree) → TreeStands ws place t → (s : Subject) (p : ℕ) → NotAmong s set p → NoWay s t p
+    → TakesAscii ws test set → (t : Tree) → TreeStands ws place t → (s : Subject) (p : ℕ) → NotAmong s set p
+    → NoWay s t p
 own_bars ws place i back test set leads none bars is t x s p lacks =
     let l = leads t x in
     let here : p ≡ p - back = omega (arith, none) in

@@ -4,14 +4,15 @@
 //! Each opcode's function says that the accepted outcomes of the whole stay what they were, in one turn less. What is
 //! still to be tried waits on the board, and a choice of which nothing can come is not put there.
 
-ghost use Rattle.std.specs.Prelude.{◌≡◌, ℕ, ◌+◌, ◌^◌, ◌<◌, [], List, length, IfOk, MatchOption, true};
+ghost use Rattle.std.specs.Prelude.{◌≡◌, ◌⊎◌, ℕ, ◌+◌, ◌^◌, ◌<◌, [], List, length, IfOk, MatchOption, true};
 ghost use Rattle.sre_model.specs.Ways.{Way};
 ghost use Rattle.sre_model.specs.Grammar.{Word, word, Opcode};
 ghost use Rattle.sre_model.specs.Board.{BoardValue};
 ghost use Rattle.sre_model.specs.declared.Point.TheVariants.{Instruction, Alternatives, Shorter};
 ghost use Rattle.sre_model.specs.declared.Point.{Point};
 ghost use Rattle.sre_model.specs.Machine.{family, Testing, HasRun, IsAt, IsBack, Advances, Chooses, Retreats, Refuses};
-ghost use Rattle.sre_model.specs.Machine.{DemandsAny, SkipsBoth, Stands};
+ghost use Rattle.sre_model.specs.Machine.{DemandsAny, Excludes, SkipsBoth, Stands};
+ghost use Rattle.sre_model.specs.Standing.{HasTest};
 ghost use Rattle.sre_request.specs.Requests.{run_of};
 
 use crate::branches::{alternatives, branch};
@@ -321,6 +322,28 @@ fn shorter_again<S: StrDrive, A: Allocator>(
     Ok(shorter(req, board, tail, wanted, count, start)?)
 }
 
+// Whether only the longest count of a run has to be tried: none is left, or the run's test does not take the character
+// that has to come behind the run, so that none of the run's own is that character. The latter is asked of a
+// NOT_LITERAL alone, as in `[^>]*>`, of which a comparison tells it.
+#[inline(always)]
+fn is_only_count<S: StrDrive>(
+    req: &Request<'_, S>,
+    test: usize,
+    wanted: Option<u32>,
+    left: usize,
+) -> bool
+    requires { HasTest (run_of req.now).words test }
+    ensures { result ≡ true → (left ≡ 0) ⊎ Excludes (run_of req.now).words test wanted }
+{
+    if left == 0 {
+        return true;
+    }
+    let Some(character) = wanted else {
+        return false;
+    };
+    word_at(req, test) == SreOpcode::NOT_LITERAL as u32 && operand(req, test, 1) == character
+}
+
 /// `REPEAT_ONE skip least greatest test SUCCESS`: the longest run of the test, then the shorter ones.
 #[inline(always)]
 fn repeat_one<S: StrDrive, A: Allocator>(
@@ -343,10 +366,14 @@ fn repeat_one<S: StrDrive, A: Allocator>(
     let tail = place + 1 + skip;
     let left = run.0 - least;
     let wanted = first_literal(req, tail, run.1);
+    let is_only = is_only_count(req, place + 4, wanted, left);
     if lacks(req, wanted, run.1) {
+        if is_only {
+            return Ok(Next::Back);
+        }
         return Ok(shorter(req, board, tail, wanted, left, run.1)?);
     }
-    if left == 0 {
+    if is_only {
         return Ok(Next::At(tail, run.1));
     }
     Ok(choose(req, board, tail, Point::Shorter(tail, left), run.1)?)

@@ -1,8 +1,8 @@
 -- Which characters a test passes, in terms of a text that is read.
-use Rattle.std.proofs.Common.{◌≡◌, ℕ, ◌<◌, ◌≤◌, Bool, true, false, nat_lt, refl, sym, ap, ◌∙◌, subst, arith}
+use Rattle.std.proofs.Common.{◌≡◌, ℕ, ◌<◌, ◌≤◌, Bool, true, false, nat_lt, nat_eq, refl, sym, ap, ◌∙◌, subst, arith}
 use Rattle.std.proofs.lemmas.Bool.Decides.{nat_tests}
 use Rattle.sre_chars.specs.declared.string.StringCursor.{StringCursor}
-use Rattle.sre_model.specs.Tree.{Test}
+use Rattle.sre_model.specs.Tree.{Test, Literal, Plain}
 use Rattle.sre_model.specs.Characters.{holds}
 use Rattle.sre_model.specs.Subject.{Subject, passes, char_at}
 
@@ -15,6 +15,19 @@ read_passes s t p c b l e h =
 
 pub past_end : (s : Subject) (t : Test) (p : ℕ) → s.end ≤ p → passes s t p ≡ false
 past_end s t p l = let e : nat_lt p s.end ≡ false = grind (arith, nat_tests) in rw e refl
+
+-- where a test passes, the character is none that it does not take
+pub other_taken : (s : Subject) (t : Test) (v p : ℕ) → passes s t p ≡ true → holds s.table t v ≡ false
+    → passes s (Literal Plain v) p ≡ false
+other_taken s t v p taken unlike = by_place (nat_lt p s.end) (nat_eq v (char_at s p)) refl refl
+  where
+    by_place : (a b : Bool) → nat_lt p s.end ≡ a → nat_eq v (char_at s p) ≡ b → passes s (Literal Plain v) p ≡ false
+    by_place false b e f = rw e refl
+    by_place true false e f = rw (e, f) refl
+    by_place true true e f =
+        let same : v ≡ char_at s p = grind (arith, nat_tests) in
+        let here : holds s.table t v ≡ true = ap (λ c. holds s.table t c) same ∙ (rw e at taken) in
+        absurd (cc)
 
 -- a cursor that stands at a position stands at its own
 pub stands_at_own : (stands : StringCursor → ℕ → Type 0) (c : StringCursor) (p : ℕ) → c.position ≡ p → stands c p

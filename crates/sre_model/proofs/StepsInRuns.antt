@@ -1,6 +1,6 @@
 -- Turns at a run of one test, and at its shorter counts.
-use Rattle.std.proofs.Common.{◌≡◌, ℕ, suc, ◌+◌, ◌-◌, ◌<◌, ◌≤◌, Bool, true, false, ◌&&◌, ◌||◌, nat_eq, nat_lt, List}
-use Rattle.std.proofs.Common.{length, refl, sym, arith}
+use Rattle.std.proofs.Common.{◌≡◌, ◌⊎◌, inl, inr, ℕ, zero, suc, ◌+◌, ◌-◌, ◌<◌, ◌≤◌, Bool, true, false, ◌&&◌, ◌||◌}
+use Rattle.std.proofs.Common.{nat_eq, nat_lt, List, length, Option, refl, sym, subst, arith}
 use Rattle.std.proofs.lemmas.Bool.Decides.{nat_tests}
 use Rattle.sre_chars.specs.declared.constants.SreOpcode.TheVariants as opcode
 use Rattle.sre_chars.specs.declared.string.StringCursor.{StringCursor}
@@ -17,14 +17,14 @@ use Rattle.sre_model.specs.declared.Point.TheVariants.{Instruction, Shorter, Lon
 use Rattle.sre_model.specs.Moves.{spot_at, Stop, Split, Go}
 use Rattle.sre_model.specs.MovesInRuns.{RunOperands}
 use Rattle.sre_model.specs.Machine.{family, Running, Moves, Runs, turns, Run, Goes, GoesBoth, Later, spot, HasRun}
-use Rattle.sre_model.specs.Machine.{Skips, SkipsBoth, Refuses}
+use Rattle.sre_model.specs.Machine.{Skips, SkipsBoth, Exhausted, Refuses, Demands, DemandsAny, Excludes}
 use Rattle.sre_model.specs.Standing.{TestStands, HasTest}
 use Rattle.sre_model.specs.declared.Next.TheVariants as next
 use Rattle.sre_model.proofs.Words.{word_of, word_there, opcode_within}
-use Rattle.sre_model.proofs.Passing.{past_end, read_passes}
-use Rattle.sre_model.proofs.Longest.{goes_on, run_at_most, run_inside, run_none}
+use Rattle.sre_model.proofs.Passing.{past_end, read_passes, other_taken}
+use Rattle.sre_model.proofs.Longest.{goes_on, run_passes, run_at_most, run_inside, run_none}
 use Rattle.sre_model.proofs.Moving.{in_family, at_instruction, has_run, run_splits, turn_stops, turn_splits, both_last}
-use Rattle.sre_model.proofs.Moving.{turn_goes, run_nothing}
+use Rattle.sre_model.proofs.Moving.{turn_goes, run_nothing, run_second}
 use Rattle.sre_model.proofs.StepsInBranches.{positive}
 
 -- shorter counts
@@ -87,6 +87,18 @@ pub shorter_last : (r : Run) (i t k : ℕ) (c : StringCursor) (b : BoardValue) �
     → Later r all limit (next.At i c) b
 shorter_last r i t k c b e =
     both_last r i (spot (Shorter t k) c b) c b (shorter_stop r t k c.position b.frames b.marks e)
+
+-- where the tail refuses at each of the shorter counts, nothing comes of them
+shorter_exhausted : (r : Run) (t k p : ℕ) → ((q : ℕ) → p ≤ q + k → q < p → Refuses r t q) → Exhausted r (Shorter t k) p
+shorter_exhausted r t zero p none fs m os n d = run_nothing (shorter_stop r t 0 p fs m refl) d
+shorter_exhausted r t (suc j) p none fs m os n d =
+    let l : suc j ≤ p = shorter_within r d in
+    let rest =
+    run_second (spot_at (Instruction t) fs (p - 1) m) (spot_at (Shorter t j) fs (p - 1) m)
+    (shorter_moves r t (suc j) j p (p - 1) fs m refl (omega (arith, l)) l)
+    (λ os n e. none (p - 1) (omega (arith, l)) (omega (arith, l)) fs m os n e) d in
+    shorter_exhausted r t j (p - 1) (λ q from to. none q (omega (arith, from, l)) (omega (arith, to))) fs m os rest.0
+    rest.2
 
 -- a run: the words that stand behind its opcode
 pub record RunWords (ws : List ℕ) (i : ℕ) : Type 0 where
@@ -181,6 +193,25 @@ module _ (r : Run) (i v low high count : ℕ) (c after : StringCursor) (w : Opco
         has_run r (Instruction (i + 1 + v)) x.frames x.marks after there s.0,
         has_run r (Shorter (i + 1 + v) (count - low)) x.frames x.marks after there s.1,
       )
+
+  -- where none is left, or the tail asks for a character that the test does not take
+  pub run_only : (wanted : Option ℕ) → ((count - low ≡ 0) ⊎ Excludes r.words (i + 4) wanted)
+      → DemandsAny r (i + 1 + v) wanted → Exhausted r (Shorter (i + 1 + v) (count - low)) after.position
+  run_only wanted (inl none) demands =
+      shorter_exhausted r (i + 1 + v) (count - low) after.position (λ q from to. absurd (omega (arith, none, from, to)))
+  run_only wanted (inr x) demands =
+      let asks : Demands r (i + 1 + v) x.character = subst (λ o. DemandsAny r (i + 1 + v) o) x.known demands in
+      let unlike = x.each r.subject.table t.end t.test t.stands in
+      shorter_exhausted r (i + 1 + v) (count - low) after.position
+      (λ q from to.
+      let least : c.position + low ≤ q = omega (arith, from, moved_on, l) in
+      let inside : q - c.position < longest_run r.subject t.test high c.position =
+      omega (arith, k t.end t.test t.stands, least, to, moved_on) in
+      let taken : passes r.subject t.test (c.position + (q - c.position)) ≡ true =
+      run_passes r.subject t.test _ c.position (q - c.position) inside in
+      let here : c.position + (q - c.position) ≡ q = omega (arith, least) in
+      asks q (other_taken r.subject t.test x.character q (subst (λ p. passes r.subject t.test p ≡ true) here taken)
+      unlike))
 
 -- POSSESSIVE_REPEAT_ONE
 module _ (r : Run) (i low high count : ℕ) (c : StringCursor) (b : BoardValue)

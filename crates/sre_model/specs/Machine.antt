@@ -5,13 +5,16 @@ use Rattle.std.specs.Prelude.{Option, Some, None}
 use Rattle.std.specs.List.{filter}
 use Rattle.sre_chars.specs.declared.constants.SreOpcode.{SreOpcode}
 use Rattle.sre_chars.specs.declared.string.StringCursor.{StringCursor}
-use Rattle.sre_model.specs.Tree.{Tree, Order, RunKind, Sign, Literal, Plain}
+use Rattle.sre_chars.specs.Tables.{Table}
+use Rattle.sre_model.specs.Tree.{Tree, Order, RunKind, Sign, Test, Literal, Plain}
+use Rattle.sre_model.specs.Characters.{holds}
 use Rattle.sre_model.specs.Roles.{Role, ToFail, ToEnd, ToTest, ToStand, ToMark, ToBranch, ToJump, ToRun, ToRepeat}
 use Rattle.sre_model.specs.Roles.{ToLoop, ToRepeatPossessively, ToGroup, ToLook, ToRefer, ToAsk, ToNothing, role}
 use Rattle.sre_model.specs.Marks.{Marks, mark_at, no_marks}
 use Rattle.sre_model.specs.Subject.{Subject, char_at, passes}
 use Rattle.sre_model.specs.Ways.{Way, here, ways}
 use Rattle.sre_model.specs.Grammar.{Opcode}
+use Rattle.sre_model.specs.Standing.{TestStands}
 use Rattle.sre_model.specs.Board.{Choice, Else, Keep, BoardValue}
 use Rattle.sre_model.specs.declared.Frame.{Frame}
 use Rattle.sre_model.specs.declared.Region.TheVariants.{AtomicGroup, Ahead, NotAhead, Owed, Further}
@@ -304,6 +307,12 @@ Demands r i v = (p : ℕ) → passes r.subject (Literal Plain v) p ≡ false →
 abbrev pub DemandsAny : Run → ℕ → Option ℕ → Type 0
 DemandsAny r i None = ⊤
 DemandsAny r i (Some v) = Demands r i v
+
+-- the test at i does not take the character that is known
+pub record Excludes (ws : List ℕ) (i : ℕ) (wanted : Option ℕ) : Type 0 where
+  pub character : ℕ
+  pub known : wanted ≡ Some character
+  pub each : (table : Table) (j : ℕ) (t : Test) → TestStands ws i j t → holds table t character ≡ false
 
 -- what comes of one point and cursor comes of another, in no more turns
 pub record Continues (r : Run) (pt : Point) (c : StringCursor) (pt' : Point) (c' : StringCursor) : Type 0 where

@@ -1,5 +1,6 @@
 -- The ASCII characters that a test takes.
-use Rattle.std.proofs.Common.{ℕ, ◌+◌, ◌-◌, ◌≡◌, ◌<◌, ◌&&◌, true, nat_lt, List, Option, None, Some, IfSome, ap, ◌∙◌, arith}
+use Rattle.std.proofs.Common.{ℕ, ◌+◌, ◌-◌, ◌≡◌, ◌<◌, ◌&&◌, true, nat_lt, List, Option, None, Some, IfSome, ap}
+use Rattle.std.proofs.Common.{◌∙◌, arith}
 use Rattle.std.proofs.lemmas.Bool.Decides.{nat_tests}
 use Rattle.sre_ascii.specs.Sets.{contains}
 use Rattle.sre_ascii.specs.declared.AsciiSet.{AsciiSet}

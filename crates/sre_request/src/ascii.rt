@@ -2,7 +2,8 @@
 //!
 //! Most characters are ASCII, and of these a bit tells what a walk over a set's items, or the test itself, would.
 
-ghost use Rattle.std.specs.Prelude.{◌≡◌, ℕ, ◌+◌, ◌<◌, ◌≤◌, ◌&&◌, ◌||◌, nat_eq, true, List, IfSome, IsSome, length, slice_range};
+ghost use Rattle.std.specs.Prelude.{◌≡◌, ℕ, ◌+◌, ◌<◌, ◌≤◌, ◌&&◌, ◌||◌, nat_eq, true, List, length, slice_range};
+ghost use Rattle.std.specs.Prelude.{IfSome, IsSome};
 ghost use Rattle.sre_ascii.specs.Sets.{contains};
 ghost use Rattle.sre_chars.specs.Tables.{Table, lower_ascii};
 ghost use Rattle.sre_model.specs.Tree.{SetItem, Charset};

@@ -1,8 +1,8 @@
 use Rattle.std.proofs.Common.{arith}
 use Rattle.sre_model.specs.Tree.{GreedyRun}
 use Rattle.sre_request.specs.Requests.{run_of}
-use Rattle.sre_model.proofs.StepsInRuns.{run_there, run_short, run_both, run_runs, shorter_last}
-use Rattle.sre_model.proofs.Moving.{both_pass}
+use Rattle.sre_model.proofs.StepsInRuns.{run_there, run_short, run_both, run_runs, run_only}
+use Rattle.sre_model.proofs.Moving.{both_pass, both_exhausted, exhausted_back}
 use Rattle.sre_machine.proofs.machine.repeat_one.Goals as goal
 
 pub operand-skip-requires : goal.operand-skip-requires
@@ -60,9 +60,39 @@ returns-then-lacks g c = λ all limit x.
     c.longest_run-run.ensures.count c.if-run-least.false c.longest_run-run.ensures.position
     c.longest_run-run.ensures.stands c.args.board.now all limit x))
 
-pub returns-then-left-eq0 : goal.returns-then-left-eq0
-returns-then-left-eq0 g c = λ all limit x.
-    shorter_last (run_of c.args.req.now) _ _ _ c.longest_run-run.result.1 c.args.board.now c.if-left-eq0.true all limit
+pub is_only_count-is_only-requires : goal.is_only_count-is_only-requires
+is_only_count-is_only-requires g c =
+    (run_there (run_of c.args.req.now) GreedyRun _ c.args.cursor c.requires.opcode c.requires.stands).test
+
+pub returns-then-is_only : goal.returns-then-is_only
+returns-then-is_only g c = λ all limit x.
+    exhausted_back (run_of c.args.req.now) _ c.longest_run-run.result.1 c.args.board.now
+    (run_only (run_of c.args.req.now) _ c.operand-skip.result c.operand-least.result c.operand-greatest.result
+    c.longest_run-run.result.0 c.args.cursor c.longest_run-run.result.1 c.requires.opcode
+    (run_there (run_of c.args.req.now) GreedyRun _ c.args.cursor c.requires.opcode c.requires.stands).test
+    c.operand-skip.ensures.word c.operand-least.ensures.word c.operand-greatest.ensures.word
+    c.longest_run-run.ensures.count c.if-run-least.false c.longest_run-run.ensures.position
+    c.longest_run-run.ensures.stands _ (c.is_only_count-is_only.ensures c.if-is_only.true)
+    c.first_literal-wanted.ensures) all limit
+    (both_pass (run_of c.args.req.now) _ _ c.longest_run-run.result.1 c.args.board.now
+    (c.lacks.ensures c.if-lacks.true _ c.first_literal-wanted.ensures) all limit
+    (run_both (run_of c.args.req.now) _ c.operand-skip.result c.operand-least.result c.operand-greatest.result
+    c.longest_run-run.result.0 c.args.cursor c.longest_run-run.result.1 c.requires.opcode
+    (run_there (run_of c.args.req.now) GreedyRun _ c.args.cursor c.requires.opcode c.requires.stands).test
+    c.operand-skip.ensures.word c.operand-least.ensures.word c.operand-greatest.ensures.word
+    c.longest_run-run.ensures.count c.if-run-least.false c.longest_run-run.ensures.position
+    c.longest_run-run.ensures.stands c.args.board.now all limit x))
+
+pub returns-then-is_only-2 : goal.returns-then-is_only-2
+returns-then-is_only-2 g c = λ all limit x.
+    both_exhausted (run_of c.args.req.now) _ _ c.longest_run-run.result.1 c.args.board.now
+    (run_only (run_of c.args.req.now) _ c.operand-skip.result c.operand-least.result c.operand-greatest.result
+    c.longest_run-run.result.0 c.args.cursor c.longest_run-run.result.1 c.requires.opcode
+    (run_there (run_of c.args.req.now) GreedyRun _ c.args.cursor c.requires.opcode c.requires.stands).test
+    c.operand-skip.ensures.word c.operand-least.ensures.word c.operand-greatest.ensures.word
+    c.longest_run-run.ensures.count c.if-run-least.false c.longest_run-run.ensures.position
+    c.longest_run-run.ensures.stands _ (c.is_only_count-is_only.ensures c.if-is_only-2.true)
+    c.first_literal-wanted.ensures) all limit
     (run_both (run_of c.args.req.now) _ c.operand-skip.result c.operand-least.result c.operand-greatest.result
     c.longest_run-run.result.0 c.args.cursor c.longest_run-run.result.1 c.requires.opcode
     (run_there (run_of c.args.req.now) GreedyRun _ c.args.cursor c.requires.opcode c.requires.stands).test

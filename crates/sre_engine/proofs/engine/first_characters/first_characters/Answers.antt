@@ -28,7 +28,8 @@ returns-then-word-eq0 c = λ j ts reads.
     let ws = c.args.words.now in
     left_done ws j ts _ _ _ _ _ _ _ (c.alternative.invariant j ts reads) c.word-length.ensures.word refl
     c.word.ensures.word
-    (own_bars ws _ _ _ _ _ c.follow-reached.ensures.leads (omega arith) c.in_ok-test.ensures.bars c.in_ok-own.ensures.taken)
+    (own_bars ws _ _ _ _ _ c.follow-reached.ensures.leads (omega arith) c.in_ok-test.ensures.bars
+    c.in_ok-own.ensures.taken)
     c.union-characters.ensures
     (omega arith)
 
@@ -43,6 +44,7 @@ alternative-preserved c = λ j ts reads.
     let ws = c.args.words.now in
     left_more ws j ts _ _ _ _ _ _ _ (c.alternative.invariant j ts reads) c.word-length.ensures.word refl
     c.word.ensures.word
-    (own_bars ws _ _ _ _ _ c.follow-reached.ensures.leads (omega arith) c.in_ok-test.ensures.bars c.in_ok-own.ensures.taken)
+    (own_bars ws _ _ _ _ _ c.follow-reached.ensures.leads (omega arith) c.in_ok-test.ensures.bars
+    c.in_ok-own.ensures.taken)
     c.union-characters.ensures
     (λ e. absurd (omega arith))

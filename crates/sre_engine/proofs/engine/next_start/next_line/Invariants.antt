@@ -8,7 +8,8 @@ abbrev pub invariant-character : goal.invariant-character
 invariant-character g l = record {
   stands : (run_of l.req).stands l.next l.next.position;
   from : l.fn.cursor.position ≤ l.next.position;
-  each : (q : ℕ) → l.fn.cursor.position < q → q ≤ l.next.position → holds_at (run_of l.req).subject BEGINNING_LINE q ≡ false;
+  each : (q : ℕ) → l.fn.cursor.position < q → q ≤ l.next.position
+      → holds_at (run_of l.req).subject BEGINNING_LINE q ≡ false;
 }
 
 abbrev pub decreases-character : goal.decreases-character
