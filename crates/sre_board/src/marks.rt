@@ -1,6 +1,7 @@
 //! Marks: the positions that a match has set.
 
-ghost use Rattle.std.specs.Prelude.{◌≡◌, ℕ, ◌+◌, ◌*◌, ◌<◌, ◌≤◌, length, Option, None, IfOk, slice_index_or, slice_set};
+ghost use Rattle.std.specs.Prelude.{◌≡◌, ℕ, ◌+◌, ◌*◌, ◌^◌, ◌<◌, ◌≤◌, length, Option, None, Some, IfOk};
+ghost use Rattle.std.specs.Prelude.{slice_index_or, slice_set};
 ghost use Rattle.sre_model.specs.Marks.{no_marks, set_mark, lengthened};
 ghost use Rattle.sre_board.specs.Trail.{restored, undo};
 
@@ -81,6 +82,28 @@ fn put<A: Allocator>(raw: &mut Vec<Option<usize>, A>, entry: usize, value: Optio
     }
 }
 
+// Sets an entry of a list that is lengthened with absent ones where it is shorter; on an error it is as it was. Most
+// marks are set in turn, so that an entry is the next one.
+#[inline(always)]
+fn set_entry<A: Allocator>(
+    raw: &mut Vec<Option<usize>, A>,
+    entry: usize,
+    position: usize,
+) -> Result<(), Refusal>
+    requires { entry < 2 ^ 32 }
+    ensures { IfOk result (λ _. raw.new.items ≡ slice_set (lengthened entry raw.old.items) entry (Some position)) }
+{
+    if raw.len() == entry {
+        sre_growth::push(raw, Some(position))?;
+        return Ok(());
+    }
+    if raw.len() < entry {
+        sre_growth::resize(raw, entry + 1, None)?;
+    }
+    raw[entry] = Some(position);
+    Ok(())
+}
+
 impl<A: Allocator> Marks<A> {
     /// No marks: an empty list, and the last index -1. It takes no memory.
     pub fn new(alloc: A) -> Marks<A>
@@ -139,11 +162,7 @@ impl<A: Allocator> Marks<A> {
     pub(crate) fn set(&mut self, n: u32, position: usize) -> Result<(), Refusal>
         ensures { IfOk result (λ _. self.new ≡ set_mark self.old n position) }
     {
-        let place = n as usize;
-        if self.raw.len() <= place {
-            sre_growth::resize(&mut self.raw, place + 1, None)?;
-        }
-        self.raw[place] = Some(position);
+        set_entry(&mut self.raw, n as usize, position)?;
         if n % 2 == 1 {
             self.last = (n - 1) / 2 + 1;
         }
