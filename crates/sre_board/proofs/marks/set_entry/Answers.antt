@@ -11,7 +11,8 @@ appended raw n value e =
     let one : n + 1 - length raw ≡ 1 = omega (arith, e) in
     let none : n - n ≡ 0 = omega arith in
     let there = set-append_right raw (None ∷ []) n n value e (omega arith) in
-    sym (ap (λ k. slice_set (raw ++ replicate k None) n value) one ∙ there ∙ ap (λ k. raw ++ slice_set (None ∷ []) k value) none)
+    let here = there ∙ ap (λ k. raw ++ slice_set (None ∷ []) k value) none in
+    sym (ap (λ k. slice_set (raw ++ replicate k None) n value) one ∙ here)
 
 pub returns-then-len-entry : goal.returns-then-len-entry
 returns-then-len-entry g c =
