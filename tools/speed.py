@@ -162,31 +162,33 @@ def spent(run, who):
     return after.ru_utime + after.ru_stime - before.ru_utime - before.ru_stime, given
 
 
-def python_time(pattern, asked, runs):
-    """The least time of CPython on these words, in seconds, and its answer."""
+def python_time(pattern, asked):
+    """The time of CPython on these words, in seconds."""
     ask = getattr(pattern, 'finditer' if asked.verb == 'walk' else asked.verb)
-    best = math.inf
-    for _ in range(runs):
-        start = time.process_time()
-        found = ask(asked.text)
-        if asked.verb == 'walk':
-            for _match in found:
-                pass
-        best = min(best, time.process_time() - start)
+    start = time.process_time()
+    found = ask(asked.text)
+    if asked.verb == 'walk':
+        for _match in found:
+            pass
+    return time.process_time() - start
+
+
+def python_answer(pattern, asked):
+    """What CPython answers, as the program writes it."""
     if asked.verb != 'walk':
-        return best, words.match_answer(found)
-    return best, ' '.join('{}..{}'.format(*match.span()) for match in ask(asked.text)) or 'none'
+        return words.match_answer(getattr(pattern, asked.verb)(asked.text))
+    return ' '.join('{}..{}'.format(*match.span()) for match in pattern.finditer(asked.text)) or 'none'
 
 
-def program_time(program, line, repeat, runs, room):
-    """The least time of the program for a case, in seconds, and its answer."""
+def program_time(program, line, repeat, room):
+    """The time of the program for a case, in seconds, and its answer."""
     path = os.path.join(room, 'case')
     words.write_lines(path, [line] * repeat)
 
     def run():
         return subprocess.run([program, path], capture_output=True, text=True, check=True).stdout
-    times, answers = zip(*(spent(run, resource.RUSAGE_CHILDREN) for _ in range(runs)))
-    return min(times) / repeat, answers[0].split('\n', 1)[0]
+    took, answers = spent(run, resource.RUSAGE_CHILDREN)
+    return took / repeat, answers.split('\n', 1)[0]
 
 
 def measure(work, options, room):
@@ -196,14 +198,19 @@ def measure(work, options, room):
     asked = words.Asked(work.verb, text.encode() if work.is_bytes else text)
     whole = words.compiled(pattern, int(work.flags))
     groups = whole.tree.state.groups
-    reading, _ = program_time(options.program, words.case_line([1], asked._replace(verb='match')),
-                              options.repeat, options.runs, room)
+    empty = words.case_line([1], asked._replace(verb='match'))
     for code in (words.without_block(whole.words), whole.words):
         python = _sre.compile(None, whole.flags | whole.tree.state.flags, code, groups - 1, {}, (None,) * groups)
-        theirs, wanted = python_time(python, asked, options.runs)
-        ours, given = program_time(options.program, words.case_line(code, asked),
-                                   options.repeat, options.runs, room)
-        yield theirs * 1e9 / len(text), max(ours - reading, 1e-9) * 1e9 / len(text), given == wanted
+        line = words.case_line(code, asked)
+        # One run of each in turn, so that a slow moment of the machine is one for all.
+        theirs, ours, reading = (min(times) for times in zip(*(
+            (python_time(python, asked),
+             program_time(options.program, line, options.repeat, room)[0],
+             program_time(options.program, empty, options.repeat, room)[0])
+            for _ in range(options.runs))))
+        given = program_time(options.program, line, 1, room)[1]
+        agrees = given == python_answer(python, asked)
+        yield theirs * 1e9 / len(text), max(ours - reading, 1e-9) * 1e9 / len(text), agrees
 
 
 def arguments():
