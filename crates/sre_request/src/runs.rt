@@ -44,19 +44,18 @@ fn most<S: StrDrive>(req: &Request<'_, S>, high: u32, cursor: StringCursor) -> u
 
 // A run of any characters, each of which is taken.
 #[inline(always)]
-fn run_any<S: StrDrive>(
+fn run_any<S: StrDrive, const WANTED: bool>(
     req: &Request<'_, S>,
-    wanted: bool,
     most: usize,
     start: StringCursor,
 ) -> (usize, StringCursor)
     requires stands { (run_of req.now).stands start start.position }
     requires most { most ≤ req.now.end - start.position }
-    ensures count { result.0 ≡ cond wanted most 0 }
+    ensures count { result.0 ≡ cond WANTED most 0 }
     ensures position { result.1.position ≡ start.position + result.0 }
     ensures stands { (run_of req.now).stands result.1 result.1.position }
 {
-    if !wanted {
+    if !WANTED {
         return (0, start);
     }
     let mut after = start;
@@ -67,11 +66,10 @@ fn run_any<S: StrDrive>(
 // The longest run of characters of which the test whose opcode is at a place says what is wanted, and the cursor behind
 // it.
 #[inline(always)]
-fn run_tested<S: StrDrive>(
+fn run_tested<S: StrDrive, const WANTED: bool>(
     req: &Request<'_, S>,
     place: usize,
     opcode: SreOpcode,
-    wanted: bool,
     most: usize,
     start: StringCursor,
 ) -> (usize, StringCursor)
@@ -79,13 +77,13 @@ fn run_tested<S: StrDrive>(
     requires test { HasTest (run_of req.now).words place }
     requires stands { (run_of req.now).stands start start.position }
     requires most { most ≤ req.now.end - start.position }
-    ensures { Ended (run_of req.now) place wanted most start result.1 result.0 }
+    ensures { Ended (run_of req.now) place WANTED most start result.1 result.0 }
 {
     let mut cursor = start;
     let mut count = 0;
     'character: while count < most {
         let (character, after) = read(req, cursor);
-        if takes(req, place, opcode, character) != wanted {
+        if takes(req, place, opcode, character) != WANTED {
             return (count, cursor);
         }
         cursor = after;
@@ -191,11 +189,10 @@ impl<'a> Taker for OfSet<'a> {
 
 // The same of the test at a place whose operands are at hand.
 #[inline(always)]
-fn run_while<S: StrDrive, T: Taker>(
+fn run_while<S: StrDrive, T: Taker, const WANTED: bool>(
     req: &Request<'_, S>,
     place: usize,
     taker: &T,
-    wanted: bool,
     most: usize,
     start: StringCursor,
 ) -> (usize, StringCursor)
@@ -204,13 +201,13 @@ fn run_while<S: StrDrive, T: Taker>(
         → T.says taker.now c taken → taken ≡ holds (run_of req.now).subject.table t c }
     requires stands { (run_of req.now).stands start start.position }
     requires most { most ≤ req.now.end - start.position }
-    ensures { Ended (run_of req.now) place wanted most start result.1 result.0 }
+    ensures { Ended (run_of req.now) place WANTED most start result.1 result.0 }
 {
     let mut cursor = start;
     let mut count = 0;
     'character: while count < most {
         let (character, after) = read(req, cursor);
-        if taker.takes(character) != wanted {
+        if taker.takes(character) != WANTED {
             return (count, cursor);
         }
         cursor = after;
@@ -221,10 +218,9 @@ fn run_while<S: StrDrive, T: Taker>(
 
 // The same of an IN at a place, of any items.
 #[inline(always)]
-fn run_in_items<S: StrDrive>(
+fn run_in_items<S: StrDrive, const WANTED: bool>(
     req: &Request<'_, S>,
     place: usize,
-    wanted: bool,
     most: usize,
     start: StringCursor,
 ) -> (usize, StringCursor)
@@ -232,11 +228,11 @@ fn run_in_items<S: StrDrive>(
     requires test { HasTest (run_of req.now).words place }
     requires stands { (run_of req.now).stands start start.position }
     requires most { most ≤ req.now.end - start.position }
-    ensures { Ended (run_of req.now) place wanted most start result.1 result.0 }
+    ensures { Ended (run_of req.now) place WANTED most start result.1 result.0 }
 {
     let (words, set) = (req.pattern_codes().items(), place + 2);
     let Some(ascii) = ascii_members(words, set) else {
-        return run_tested(req, place, SreOpcode::IN, wanted, most, start);
+        return run_tested::<S, WANTED>(req, place, SreOpcode::IN, most, start);
     };
     let uni = req.pattern_codes().uni();
     let of_set = OfSet {
@@ -245,16 +241,15 @@ fn run_in_items<S: StrDrive>(
         set,
         ascii,
     };
-    run_while(req, place, &of_set, wanted, most, start)
+    run_while::<S, OfSet<'_>, WANTED>(req, place, &of_set, most, start)
 }
 
 // The same of an IN at a place. A set of one RANGE, CATEGORY or CHARSET is told by its length and first word, and has a
 // loop of its own.
 #[inline(always)]
-fn run_in_set<S: StrDrive>(
+fn run_in_set<S: StrDrive, const WANTED: bool>(
     req: &Request<'_, S>,
     place: usize,
-    wanted: bool,
     most: usize,
     start: StringCursor,
 ) -> (usize, StringCursor)
@@ -262,7 +257,7 @@ fn run_in_set<S: StrDrive>(
     requires test { HasTest (run_of req.now).words place }
     requires stands { (run_of req.now).stands start start.position }
     requires most { most ≤ req.now.end - start.position }
-    ensures { Ended (run_of req.now) place wanted most start result.1 result.0 }
+    ensures { Ended (run_of req.now) place WANTED most start result.1 result.0 }
 {
     let words = req.pattern_codes().items();
     let (skip, set) = (operand(words, place, 1), place + 2);
@@ -270,50 +265,48 @@ fn run_in_set<S: StrDrive>(
     if skip == 5 && first == SreOpcode::RANGE as u32 {
         let low = operand(words, set, 1);
         let high = operand(words, set, 2);
-        return run_while(req, place, &Between { low, high }, wanted, most, start);
+        return run_while::<S, Between, WANTED>(req, place, &Between { low, high }, most, start);
     }
     if skip == 4 && first == SreOpcode::CATEGORY as u32 {
         let (uni, code) = (req.pattern_codes().uni(), category_code(words, set + 1));
         let ascii = AsciiSet::of_category(code);
-        return run_while(
+        return run_while::<S, OfCategory<'_>, WANTED>(
             req,
             place,
             &OfCategory { uni, code, ascii },
-            wanted,
             most,
             start,
         );
     }
     if skip == 11 && first == SreOpcode::CHARSET as u32 {
         let bits = Bits { words, place: set };
-        return run_while(req, place, &bits, wanted, most, start);
+        return run_while::<S, Bits<'_>, WANTED>(req, place, &bits, most, start);
     }
-    run_in_items(req, place, wanted, most, start)
+    run_in_items::<S, WANTED>(req, place, most, start)
 }
 
 // The longest run of characters of which the test at a place says what is wanted, from a cursor on, of at most so many
 // characters of the window, and the cursor behind it.
 #[inline(always)]
-fn run_wanted<S: StrDrive>(
+fn run_wanted<S: StrDrive, const WANTED: bool>(
     req: &Request<'_, S>,
     place: usize,
-    wanted: bool,
     most: usize,
     start: StringCursor,
 ) -> (usize, StringCursor)
     requires test { HasTest (run_of req.now).words place }
     requires stands { (run_of req.now).stands start start.position }
     requires most { most ≤ req.now.end - start.position }
-    ensures { Ended (run_of req.now) place wanted most start result.1 result.0 }
+    ensures { Ended (run_of req.now) place WANTED most start result.1 result.0 }
 {
     // An arm for each opcode, so that each loop knows its own.
     macro_rules! run_each {
         ($($opcode:ident)*) => {
             match opcode(req, place) {
-                SreOpcode::ANY_ALL => run_any(req, wanted, most, start),
-                SreOpcode::IN => run_in_set(req, place, wanted, most, start),
+                SreOpcode::ANY_ALL => run_any::<S, WANTED>(req, most, start),
+                SreOpcode::IN => run_in_set::<S, WANTED>(req, place, most, start),
                 $(SreOpcode::$opcode => {
-                    run_tested(req, place, SreOpcode::$opcode, wanted, most, start)
+                    run_tested::<S, WANTED>(req, place, SreOpcode::$opcode, most, start)
                 })*
                 _ => unreachable!(),
             }
@@ -344,7 +337,7 @@ pub fn run_up_to<S: StrDrive>(
     ensures position { result.1.position ≡ start.position + result.0 }
     ensures stands { (run_of req.now).stands result.1 result.1.position }
 {
-    run_wanted(req, place, true, most, start)
+    run_wanted::<S, true>(req, place, most, start)
 }
 
 /// The longest run of the test at a place from a cursor on: how many characters it has, inside the window and up to
@@ -387,6 +380,6 @@ pub fn first_taken<S: StrDrive>(
     ensures stands { (run_of req.now).stands result result.position }
 {
     let left = req.end().saturating_sub(start.position());
-    let found = run_wanted(req, place, false, left, start);
+    let found = run_wanted::<S, false>(req, place, left, start);
     found.1
 }
