@@ -211,6 +211,3 @@ fn join(low: u32, high: u32) -> u64
 {
     u64::from(low) | (u64::from(high) << 32)
 }
-
-#[cfg(test)]
-mod tests;

@@ -18,12 +18,9 @@ use sre_model::{Frame, Point, Region};
 use std::alloc::Allocator;
 use std::marker::Model;
 
-#[cfg(test)]
-mod tests;
-
 /// A choice: where to go on, with which loops, and how many changes and chains there were when it was made.
 #[derive(Clone, Copy)]
-pub(crate) struct Saved {
+pub struct Saved {
     pub point: Point,
     pub cursor: StringCursor,
     pub frame: usize,

@@ -10,5 +10,5 @@ mod chains;
 mod marks;
 mod trail;
 
-pub use board::Board;
-pub use marks::Marks;
+pub use board::{Board, Saved};
+pub use marks::{Change, Marks};

@@ -21,7 +21,7 @@ pub struct Marks<A: Allocator> {
 
 /// What stood at a mark before it was set.
 #[derive(Clone, Copy)]
-pub(crate) enum Former {
+pub enum Former {
     /// Nothing: the list ended before it, and had this length.
     Past(usize),
     /// An absent entry.
@@ -32,7 +32,7 @@ pub(crate) enum Former {
 
 /// What takes the setting of a mark back: what stood there, and the last index, 0 where there was none.
 #[derive(Clone, Copy)]
-pub(crate) struct Change {
+pub struct Change {
     pub former: Former,
     pub mark: u32,
     pub last: u32,

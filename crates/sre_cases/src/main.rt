@@ -1,17 +1,8 @@
 //! `sre_cases FILE` answers the cases of FILE, a line for each.
 #![tactic(auto)]
 
-mod answer;
-mod cases;
-#[cfg(test)]
-mod fakes;
-mod line;
-mod number;
-mod output;
-mod program;
-
-use cases::CaseFault;
-use program::{run, tell};
+use sre_lines::cases::CaseFault;
+use sre_lines::program::{run, tell};
 use std::io::BufWriter;
 use std::process::ExitCode;
 use std::{env, fs, io};

@@ -6,6 +6,6 @@ mod category;
 pub mod constants;
 pub mod string;
 mod table;
-#[cfg(test)]
-mod tests;
 mod text;
+
+pub use table::lists;

@@ -11,9 +11,7 @@ ghost use Rattle.sre_chars.specs.Errors.{list_fault, table_fault};
 ghost use Rattle.std.specs.List.Sorted.{IsNonDecreasingBy};
 ghost use Rattle.sre_growth.specs.Refusal.{Refused};
 
-mod lists;
-#[cfg(test)]
-mod tests;
+pub mod lists;
 
 use lists::{Lists, checked_lists, std_lists};
 use sre_growth::Refusal;

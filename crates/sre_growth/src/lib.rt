@@ -85,6 +85,3 @@ pub fn from_slice<T: Copy, A: Allocator>(alloc: A, items: &[T]) -> Result<Vec<T,
         Err(cause) => Err(Refusal { cause }),
     }
 }
-
-#[cfg(test)]
-mod tests;

@@ -57,6 +57,3 @@ unsafe impl<B: Allocator> Allocator for Refusing<B> {
         self.inner.deallocate(ptr, size, align);
     }
 }
-
-#[cfg(test)]
-mod tests;

@@ -1,3 +1,4 @@
 pub mod AsciiMembers
 mod AsciiTests
 pub mod Repeating
+mod TestOperands

@@ -25,10 +25,10 @@ pub fn ask<S: StrDrive, A: Allocator + Copy>(
     state: &mut State<A>,
 ) -> Result<Option<Ends>, SreError> {
     let found = match call {
-        Call::Match => state.pymatch(&req)?,
-        Call::Search => state.search(req)?,
+        Call::Match => state.pymatch(&req),
+        Call::Search => state.search(req),
     };
-    if !found {
+    if !found? {
         return Ok(None);
     }
     let end = state.cursor();

@@ -64,13 +64,9 @@ static CASES: [Case; 6] = [
 ];
 
 // A text whose middle stands 100,000 times.
-fn long_text(alloc: Global, parts: (&str, &str, &str)) -> Result<String, Fail> {
-    let mut text = String::from_str(alloc, parts.0)?;
-    for _ in 0..100_000 {
-        text.push_str(parts.1)?;
-    }
-    text.push_str(parts.2)?;
-    Ok(text)
+fn long_text(alloc: Global, (front, middle, end): (&str, &str, &str)) -> Result<String, Fail> {
+    let middle = middle.repeat(alloc, 100_000)?;
+    Ok(format!(in alloc; "{front}{middle}{end}")?)
 }
 
 // The letter a inside 100,000 atomic groups, each of which ends just before the one around it.

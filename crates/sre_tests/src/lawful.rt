@@ -5,7 +5,6 @@ use sre_engine::code::{CodeError, Hints};
 use sre_engine::string::lower_unicode;
 use sre_engine::{Code, UniTable};
 use std::alloc::Global;
-use std::process::Abort;
 use std::test::Fail;
 
 const NO_LIMIT: u32 = u32::MAX;
@@ -88,42 +87,41 @@ static REFERRING: [(&[u32], bool); 10] = [
     (&[14, 4, 0, 0, 0, 34, 0, 1], true),
 ];
 
-// A code shows what it was made of; less than its words is cut short, and there are none behind them.
-fn accepted(rt: &impl Abort, alloc: Global, uni: &UniTable, words: &[u32]) -> Result<(), Fail> {
+// Whether a code shows what it was made of.
+fn shows(alloc: Global, uni: &UniTable, words: &[u32]) -> Result<bool, Fail> {
     let code = Code::check(alloc, words, uni)?;
-    assert!(rt; code.words() == words, "{words:?}");
-    assert_eq!(rt; lower_unicode(code.uni(), 201), 233);
     let none = Hints {
         width: None,
         prefix: None,
         literal: false,
         first_set: false,
     };
-    assert_eq!(rt; code.hints(), none);
+    Ok(code.words() == words && lower_unicode(code.uni(), 201) == 233 && code.hints() == none)
+}
+
+// Whether less than the words is cut short, and there are none behind them.
+fn is_whole(alloc: Global, words: &[u32]) -> Result<bool, Fail> {
     for cut in 0..words.len() {
-        let error = refusal(alloc, &words[..cut]);
-        assert_eq!(rt; error, Some(CodeError::Truncated(cut)), "{words:?}");
+        if refusal(alloc, &words[..cut]) != Some(CodeError::Truncated(cut)) {
+            return Ok(false);
+        }
     }
     let mut longer = words.to_vec(alloc)?;
     longer.push(1)?;
-    let error = refusal(alloc, &longer);
-    assert_eq!(rt;
-        error,
-        Some(CodeError::TrailingWords(words.len())),
-        "{words:?}"
-    );
-    Ok(())
+    Ok(refusal(alloc, &longer) == Some(CodeError::TrailingWords(words.len())))
 }
 
 #[test]
 fn lawful_words_are_accepted(rt: HostRuntime) -> Result<(), Fail> {
     let uni = UniTable::new(rt.alloc(), &[(201, 233)], &[], &[])?;
     for &words in &LAWFUL {
-        accepted(&rt, rt.alloc(), &uni, words)?;
+        let lawful = shows(rt.alloc(), &uni, words)? && is_whole(rt.alloc(), words)?;
+        assert!(rt; lawful, "{words:?}");
     }
     // the first 256 characters are in the first block, which is empty, the next ones in the second, and so on
     let two_blocks = set_of_blocks(rt.alloc(), &[13, 84, 10, 2, 256], 76)?;
-    accepted(&rt, rt.alloc(), &uni, &two_blocks)
+    assert!(rt; shows(rt.alloc(), &uni, &two_blocks)? && is_whole(rt.alloc(), &two_blocks)?);
+    Ok(())
 }
 
 // Codes with a block, whose claims do not matter, and how many words it has.
@@ -140,10 +138,10 @@ fn a_code_shows_the_words_behind_its_block(rt: HostRuntime) -> Result<(), Fail> 
     let uni = UniTable::ascii(alloc);
     for &(words, length) in &BLOCKS {
         let code = Code::check(alloc, words, &uni)?;
-        assert!(rt; code.words() == words, "{words:?}");
-        assert!(rt; code.items() == words.split_at(length).1, "{words:?}");
         let cut = Code::check(alloc, code.items(), &uni)?;
-        assert!(rt; cut.items() == code.items(), "{words:?}");
+        let items = words.split_at(length).1;
+        let same = code.words() == words && code.items() == items && cut.items() == items;
+        assert!(rt; same, "{words:?}");
     }
     Ok(())
 }
@@ -153,7 +151,7 @@ fn references_are_reported(rt: HostRuntime) -> Result<(), Fail> {
     let uni = UniTable::new(rt.alloc(), &[], &[], &[])?;
     for &(words, refers) in &REFERRING {
         let code = Code::check(rt.alloc(), words, &uni)?;
-        assert_eq!(rt; code.refers(), refers, "{words:?}");
+        assert!(rt; code.refers() == refers, "{words:?}");
     }
     Ok(())
 }

@@ -8,30 +8,29 @@ use std::alloc::Global;
 use std::convert::TryFrom;
 use std::test::Fail;
 
-// What the words stand in.
-#[derive(Clone, Copy)]
-enum Around {
-    Branch,
-    Loop,
-    AtomicGroup,
-    Look,
-}
+// A part round items: its opcode, what its length word counts beside the items, what stands behind that word, and what
+// stands behind the items.
+type Around = (u32, u32, &'static [u32], &'static [u32]);
+
+// A branch, a look, a loop and an atomic group.
+static PARTS: [Around; 4] = [
+    (7, 3, &[], &[15, 2, 0]),
+    (4, 3, &[0], &[1]),
+    (23, 3, &[0, 1], &[18]),
+    (27, 2, &[], &[1]),
+];
 
 // Items, inside one more part.
-fn inside(alloc: Global, around: Around, items: &[u32]) -> Result<Vec<u32>, Fail> {
+fn inside(
+    alloc: Global,
+    (opcode, beside, front, end): Around,
+    items: &[u32],
+) -> Result<Vec<u32>, Fail> {
     let length = u32::try_from(items.len())?;
-    let mut words = match around {
-        Around::Branch => Vec::from_slice(alloc, &[7, length.saturating_add(3)])?,
-        Around::Loop => Vec::from_slice(alloc, &[23, length.saturating_add(3), 0, 1])?,
-        Around::AtomicGroup => Vec::from_slice(alloc, &[27, length.saturating_add(2)])?,
-        Around::Look => Vec::from_slice(alloc, &[4, length.saturating_add(3), 0])?,
-    };
+    let mut words = Vec::from_slice(alloc, &[opcode, length.saturating_add(beside)])?;
+    words.extend_from_slice(front)?;
     words.extend_from_slice(items)?;
-    match around {
-        Around::Branch => words.extend_from_slice(&[15, 2, 0])?,
-        Around::Loop => words.push(18)?,
-        Around::AtomicGroup | Around::Look => words.push(1)?,
-    }
+    words.extend_from_slice(end)?;
     Ok(words)
 }
 
@@ -39,13 +38,8 @@ fn inside(alloc: Global, around: Around, items: &[u32]) -> Result<Vec<u32>, Fail
 fn nested(alloc: Global, opcode: u32, behind: &[u32]) -> Result<Vec<u32>, Fail> {
     let mut words = Vec::from_slice(alloc, &[opcode, 97])?;
     for _ in 0..10 {
-        for around in [
-            Around::Branch,
-            Around::Look,
-            Around::Loop,
-            Around::AtomicGroup,
-        ] {
-            words = inside(alloc, around, &words)?;
+        for &part in &PARTS {
+            words = inside(alloc, part, &words)?;
         }
     }
     words.extend_from_slice(behind)?;
@@ -73,10 +67,10 @@ fn a_check_fails_where_memory_is_refused(rt: HostRuntime) -> Result<(), Fail> {
             let heap = Refusing::new(alloc, refused);
             let error = check_in(&heap, words, &uni).err();
             if heap.left() == 0 {
-                assert_eq!(rt; error, Some(CodeError::Memory));
+                assert!(rt; error == Some(CodeError::Memory));
                 refusals = refusals.saturating_add(1);
             } else {
-                assert_eq!(rt; error, fault);
+                assert!(rt; error == fault);
             }
         }
         assert!(rt; growths <= refusals && refusals < 19);

@@ -27,6 +27,20 @@ const REGIONS: &[u32] = &[
     1,
 ];
 
+// Whether a state that was refused memory has no marks, and then serves over a text of another type and over the same.
+fn serves_again(
+    call: Call,
+    of_bytes: Request<'_, &[u8]>,
+    of_text: Request<'_, &str>,
+    state: &mut State<&Refusing<Global>>,
+    wanted: Shown<'_>,
+) -> Result<bool, SreError> {
+    let none = state.marks().raw().is_empty() && state.marks().last_index() == -1;
+    let of_text = shows(call, of_text, state, wanted)?;
+    let of_bytes = shows(call, of_bytes, state, wanted)?;
+    Ok(none && of_text && of_bytes)
+}
+
 // Refuses each request for memory of a call in turn, until it asks for fewer: how many were refused.
 fn refused_in_turn(
     rt: &impl Abort,
@@ -46,10 +60,7 @@ fn refused_in_turn(
             }
             Err(error) => assert!(rt; error == SreError::Memory && heap.left() == 0),
         }
-        assert!(rt; state.marks().raw().is_empty() && state.marks().last_index() == -1);
-        // the same state, over a text of another type and over the same one
-        assert!(rt; shows(call, of_text, &mut state, wanted)?);
-        assert!(rt; shows(call, of_bytes, &mut state, wanted)?);
+        assert!(rt; serves_again(call, of_bytes, of_text, &mut state, wanted)?);
     }
     assert!(rt; false, "the requests have no end");
     Ok(0)

@@ -66,32 +66,31 @@ static STEPS: [Step; 10] = [
     ),
 ];
 
-// Whether a state, which may have served before, shows what a step says.
+// Whether a state, which may have served before, shows what is wanted over a window of a text.
+fn shows_in<S: StrDrive>(
+    state: &mut State<Global>,
+    code: Code<'_>,
+    call: Call,
+    text: S,
+    (start, end): (usize, usize),
+    shown: Shown<'_>,
+) -> Result<bool, SreError> {
+    let req = Request::new(text, start, end, code, false);
+    shows(call, req, state, shown)
+}
+
+// And what a step says, over a text of either type.
 fn answers(
     state: &mut State<Global>,
     code: Code<'_>,
     call: Call,
     text: Text,
-    (start, end): (usize, usize),
+    window: (usize, usize),
     shown: Shown<'_>,
 ) -> Result<bool, SreError> {
     match text {
-        Text::Characters(text) => {
-            shows(
-                call,
-                Request::new(text, start, end, code, false),
-                state,
-                shown,
-            )
-        }
-        Text::Bytes(bytes) => {
-            shows(
-                call,
-                Request::new(bytes, start, end, code, false),
-                state,
-                shown,
-            )
-        }
+        Text::Characters(text) => shows_in(state, code, call, text, window, shown),
+        Text::Bytes(bytes) => shows_in(state, code, call, bytes, window, shown),
     }
 }
 

@@ -92,11 +92,13 @@ fn shows<S: StrDrive, A: Allocator + Copy>(
     req: &Request<'_, S>,
     (start, end, marks, last): Span,
 ) -> bool {
-    let next = (req.start(), req.must_advance());
-    next == (end, start == end)
-        && (state.start(), state.cursor().position()) == (start, end)
-        && state.marks().raw() == marks
-        && state.marks().last_index() == last
+    let shown = state.marks();
+    req.start() == end
+        && req.must_advance() == (start == end)
+        && state.start() == start
+        && state.cursor().position() == end
+        && shown.raw() == marks
+        && shown.last_index() == last
 }
 
 /// Whether a walk gives these matches, and then none, with no marks, however often it is asked.
@@ -127,7 +129,9 @@ pub fn gives<S: StrDrive, A: Allocator + Copy>(
 
 // Whether a match in a list is this one.
 fn is_match<A: Allocator>(found: &Found<A>, (start, end, marks, last): Span) -> bool {
-    (found.start, found.end, found.last_index) == (start, end, last)
+    found.start == start
+        && found.end == end
+        && found.last_index == last
         && found.marks.as_slice() == marks
 }
 
@@ -169,15 +173,9 @@ fn walks_have_their_matches(rt: HostRuntime) -> Result<(), Fail> {
     let uni = UniTable::ascii(alloc);
     for (words, text, flags, wanted) in &ROWS {
         let code = Code::check(alloc, words, &uni)?;
-        let bytes = text.as_bytes();
-        assert!(rt;
-            walks(alloc, *text, code, *flags, wanted)?,
-            "{words:?} {text:?}"
-        );
-        assert!(rt;
-            walks(alloc, bytes, code, *flags, wanted)?,
-            "{words:?} {text:?}"
-        );
+        let of_text = walks(alloc, *text, code, *flags, wanted)?;
+        let of_bytes = walks(alloc, text.as_bytes(), code, *flags, wanted)?;
+        assert!(rt; of_text && of_bytes, "{words:?} {text:?}");
     }
     Ok(())
 }

@@ -13,12 +13,12 @@ ghost use Rattle.sre_chars.specs.Errors.{last_of, is_scalar_entry, entry_fault, 
 use super::{Listing, UniError};
 use std::alloc::Allocator;
 
-// The lists of a table.
+/// The lists of a table.
 #[derive(Drop)]
-pub(super) struct Lists<A: Allocator + Copy> {
-    pub(super) lower: Vec<(u32, u32), A>,
-    pub(super) upper: Vec<(u32, u32), A>,
-    pub(super) alnum: Vec<(u32, u32), A>,
+pub struct Lists<A: Allocator + Copy> {
+    pub lower: Vec<(u32, u32), A>,
+    pub upper: Vec<(u32, u32), A>,
+    pub alnum: Vec<(u32, u32), A>,
 }
 
 // The case that a character is taken to.
@@ -28,8 +28,8 @@ enum Case {
     Upper,
 }
 
-// Copies three lists, once they are known to have no fault.
-pub(super) fn checked_lists<A: Allocator + Copy>(
+/// Copies three lists, once they are known to have no fault.
+pub fn checked_lists<A: Allocator + Copy>(
     alloc: A,
     lower: &[(u32, u32)],
     upper: &[(u32, u32)],
@@ -52,8 +52,8 @@ pub(super) fn checked_lists<A: Allocator + Copy>(
     })
 }
 
-// The lists of std: both ways into the other case, and its alphanumerics, past ASCII.
-pub(super) fn std_lists<A: Allocator + Copy>(alloc: A) -> Result<Lists<A>, UniError>
+/// The lists of std: both ways into the other case, and its alphanumerics, past ASCII.
+pub fn std_lists<A: Allocator + Copy>(alloc: A) -> Result<Lists<A>, UniError>
     ensures lawful { IfOk result (λ lists.
         table_fault (table_of lists.lower.items lists.upper.items lists.alnum.items) ≡ None) }
     ensures refused { IsOkUnless result UniError.Memory }

@@ -1,8 +1,0 @@
--- The flush writes nothing that was not answered.
-use Rattle.sre_cases.proofs.Flushed.{failed_flush}
-use Rattle.sre_cases.proofs.program.answer_bytes.Goals as goal
-
-pub returns-in-Err-clause-stopped : goal.returns-in-Err-clause-stopped
-returns-in-Err-clause-stopped g c =
-    failed_flush _ _ _ c.args.file.now c.run_cases-ran.result c.run_cases-ran.ensures.answers
-    c.run_cases-ran.ensures.stopped c.flush.ensures.bytes

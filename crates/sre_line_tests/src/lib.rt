@@ -1,0 +1,13 @@
+//! Tests of the program's lines: worked cases, failed writes, refused memory, and what faults and answers are written as.
+//!
+//! They stand in a crate of their own, since a crate with tests is proved twice.
+#![tactic(auto)]
+
+#[cfg(test)]
+mod fakes;
+#[cfg(test)]
+mod lines;
+#[cfg(test)]
+mod rows;
+#[cfg(test)]
+mod runs;

@@ -1,0 +1,46 @@
+-- What answers and faults are written as.
+use Rattle.std.specs.Prelude.{ℕ, ◌≤◌, Bool, true, false, Option, Some, None, List, [], ◌∷◌, ◌++◌, codes}
+use Rattle.std.specs.Fmt.{decimal}
+use Rattle.std.specs.List.{flat_map}
+use Rattle.sre_lines.specs.declared.cases.CaseFault.{CaseFault}
+use Rattle.sre_lines.specs.declared.cases.CaseFault.TheVariants.{Usage, CannotRead, NotACase, NoMemory, OutputFailed}
+
+abbrev pub yes_no_text : Bool → List ℕ
+yes_no_text true = codes "yes"
+yes_no_text false = codes "no"
+
+-- a number, or `-` for none
+abbrev pub number_text : Option ℕ → List ℕ
+number_text (Some n) = decimal n
+number_text None = codes "-"
+
+abbrev pub prefix_text : Option (ℕ × ℕ) → List ℕ
+prefix_text (Some prefix) = decimal prefix.0 ++ (44 ∷ decimal prefix.1)
+prefix_text None = codes "-"
+
+-- the hints of a code
+abbrev pub hints_text : Option ℕ → Option (ℕ × ℕ) → Bool → Bool → List ℕ
+hints_text width prefix literal first_set =
+    codes "ok width " ++ number_text width ++ codes " prefix " ++ prefix_text prefix
+    ++ codes " literal " ++ yes_no_text literal ++ codes " set " ++ yes_no_text first_set
+
+-- marks divided by commas, or `none` where there are none
+abbrev pub marks_text : List (Option ℕ) → List ℕ
+marks_text [] = codes "none"
+marks_text (mark ∷ marks) = number_text mark ++ flat_map (λ m. 44 ∷ number_text m) marks
+
+-- the line of a fault
+abbrev pub fault_text : CaseFault → List ℕ → List ℕ
+fault_text Usage name = codes "usage: sre_cases FILE"
+fault_text CannotRead name = name ++ codes ": cannot be read"
+fault_text (NotACase line) name = codes "line " ++ decimal line ++ codes ": not a case"
+fault_text NoMemory name = codes "no memory"
+fault_text OutputFailed name = codes "output failed"
+
+-- a fault of the cases of a file, whose lines count from 1
+abbrev pub IsFaultOfCases : CaseFault → Type 0
+IsFaultOfCases Usage = ⊥
+IsFaultOfCases CannotRead = ⊥
+IsFaultOfCases (NotACase line) = 1 ≤ line
+IsFaultOfCases NoMemory = Unit {0}
+IsFaultOfCases OutputFailed = Unit {0}

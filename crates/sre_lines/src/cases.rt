@@ -1,0 +1,305 @@
+//! The cases of a file, and their answers.
+
+ghost use Rattle.std.specs.Prelude.{◌≡◌, ◌≤◌, ◌++◌, ◌∷◌, [], ℕ, List, IfErr, OnErr, OnOk, string_bytes};
+ghost use Rattle.std.specs.Io.KnownBytes.{Appends};
+ghost use Rattle.sre_lines.specs.Answers.{fault_text, IsFaultOfCases};
+ghost use Rattle.sre_chars.specs.Tables.{ascii_table};
+ghost use Rattle.sre_engine.specs.Tree.{Tree};
+ghost use Rattle.sre_engine.specs.Grammar.{Whole};
+ghost use Rattle.sre_engine.specs.Codes.{words_of, uni_of};
+ghost use Rattle.sre_engine.specs.Requests.{asked_of, code_of};
+ghost use Rattle.sre_lines.specs.Cases.{IsAnswer, IsAnswerOf, asked, found_text};
+ghost use Rattle.sre_lines.specs.Fields.{IsCase};
+ghost use Rattle.sre_lines.specs.Lines.{lines_of, Answered, IsNoCase, IsBegun, StopsAt};
+
+mod walked;
+
+use crate::answer::{push_hints, push_match};
+use crate::cases::walked::push_walk;
+use crate::line::{
+    Case, Finding, LineFault, Operands, Subject, TextForm, Window, read_case, split_once,
+};
+use crate::output::write_whole;
+use sre_engine::code::CodeError;
+use sre_engine::engine::{SreError, State};
+use sre_engine::{Code, Request, StrDrive, UniTable};
+use std::alloc::{AllocError, Allocator, Global};
+use std::io::{self, Write};
+
+/// Why the program ends with status 1.
+#[derive(Clone, Copy, PartialEq, Eq, Debug)]
+pub enum CaseFault {
+    /// There isn't exactly one argument, or it is no UTF-8.
+    Usage,
+    /// The file cannot be read.
+    CannotRead,
+    /// The line of this number is no case; all lines count, from 1 on.
+    NotACase(u64),
+    /// Memory was refused outside a case.
+    NoMemory,
+    /// A write failed.
+    OutputFailed,
+}
+
+/// Answers the lines of a file in order, a line for each case. Lines end at byte 10, also the last
+/// one where that byte is missing; empty lines and those that begin with `#` are no cases.
+///
+/// The faults are `NotACase`, `NoMemory` and `OutputFailed`. The answers to earlier lines are written
+/// then, and after a failed write perhaps a part of the next one, with nothing behind it. A refusal of
+/// memory to a case itself is its answer `memory`.
+pub fn run_cases<W: Write>(alloc: Global, file: &[u8], out: &mut W) -> Result<(), CaseFault>
+    ensures answers { OnOk result (Answered (W.contents out.old) (W.contents out.new) (lines_of file.now)) }
+    ensures faults { IfErr result IsFaultOfCases }
+    ensures stopped { IfErr result (StopsAt (W.contents out.old) (W.contents out.new) (lines_of file.now)) }
+{
+    answer_lines(alloc, alloc, file, out)
+}
+
+/// Answers the lines. The words are checked on `alloc`; all else that grows does so on `heap`.
+pub fn answer_lines<A: Allocator + Copy, W: Write>(
+    alloc: Global,
+    heap: A,
+    file: &[u8],
+    out: &mut W,
+) -> Result<(), CaseFault>
+    ensures answers { OnOk result (Answered (W.contents out.old) (W.contents out.new) (lines_of file.now)) }
+    ensures faults { IfErr result IsFaultOfCases }
+    ensures stopped { IfErr result (StopsAt (W.contents out.old) (W.contents out.new) (lines_of file.now)) }
+{
+    let mut desk = Desk {
+        alloc,
+        table: UniTable::ascii(alloc),
+        operands: Operands {
+            words: Vec::new(heap),
+            text: Vec::new(heap),
+        },
+        state: State::new(heap),
+        answer: String::new(heap),
+    };
+    let mut number = 0u64;
+    let mut left = file;
+    let _bytes = file.len();
+    'lines: loop {
+        number += 1;
+        let Some((line, others)) = split_once(left, b'\n') else {
+            return answer_line(&mut desk, left, number, out);
+        };
+        match answer_line(&mut desk, line, number, out) {
+            Ok(()) => left = others,
+            Err(fault) => return Err(fault),
+        }
+    }
+}
+
+// What answers one line after the other. Its memory, the state's too, serves all of them.
+#[derive(Drop)]
+struct Desk<A: Allocator + Copy> {
+    alloc: Global,
+    table: UniTable,
+    operands: Operands<A>,
+    state: State<A>,
+    answer: String<A>,
+}
+
+// Answers one line, where it is a case.
+fn answer_line<A: Allocator + Copy, W: Write>(
+    desk: &mut Desk<A>,
+    line: &[u8],
+    number: u64,
+    out: &mut W,
+) -> Result<(), CaseFault>
+    requires number { 1 ≤ number }
+    requires table { desk.old.table ≡ ascii_table }
+    ensures table { desk.new.table ≡ ascii_table }
+    ensures answers { OnOk result (Answered (W.contents out.old) (W.contents out.new) (line.now ∷ [])) }
+    ensures faults { IfErr result IsFaultOfCases }
+    ensures begun { IfErr result (λ fault. (part : List ℕ) × IsBegun fault line.now part
+        × Appends (W.contents out.old) (W.contents out.new) part) }
+    ensures no_case { IfErr result
+        (λ fault. (n : ℕ) → fault ≡ CaseFault.NotACase n → (n ≡ number) × IsNoCase line.now) }
+{
+    if line.is_empty() || line[0] == b'#' {
+        return Ok(());
+    }
+    let case = match read_case(line, &mut desk.operands) {
+        Ok(case) => case,
+        Err(LineFault::NotACase) => return Err(CaseFault::NotACase(number)),
+        Err(LineFault::NoMemory) => return Err(CaseFault::NoMemory),
+    };
+    let Ok(()) = write_answer(desk, case, out) else {
+        return Err(CaseFault::OutputFailed);
+    };
+    Ok(())
+}
+
+// Writes the answer to the case that was read last, with the byte that ends its line.
+fn write_answer<A: Allocator + Copy, W: Write>(
+    desk: &mut Desk<A>,
+    case: Case,
+    out: &mut W,
+) -> io::Result<()>
+    requires { IsCase case desk.old.operands.words.items desk.old.operands.text.items }
+    ensures table { desk.new.table ≡ desk.old.table }
+    ensures answer { OnOk result ((said : List ℕ)
+        × IsAnswer desk.old.table case desk.old.operands.words.items desk.old.operands.text.items said
+        × Appends (W.contents out.old) (W.contents out.new) (said ++ 10 ∷ [])) }
+    ensures part { OnErr result ((said part rest : List ℕ)
+        × IsAnswer desk.old.table case desk.old.operands.words.items desk.old.operands.text.items said
+        × (part ++ rest ≡ said ++ 10 ∷ []) × Appends (W.contents out.old) (W.contents out.new) part) }
+{
+    desk.answer.clear();
+    let answered = push_answer(
+        desk.alloc,
+        &desk.table,
+        case,
+        &desk.operands,
+        &mut desk.state,
+        &mut desk.answer,
+    );
+    match answered {
+        Ok(()) => write_whole(desk.answer.as_bytes(), out),
+        Err(AllocError) => write_whole(b"memory\n", out),
+    }
+}
+
+// Appends the answer to a case, with the byte that ends its line.
+fn push_answer<A: Allocator + Copy>(
+    alloc: Global,
+    table: &UniTable,
+    case: Case,
+    operands: &Operands<A>,
+    state: &mut State<A>,
+    answer: &mut String<A>,
+) -> Result<(), AllocError>
+    requires { IsCase case operands.now.words.items operands.now.text.items }
+    ensures { OnOk result
+        ((said : List ℕ) × IsAnswer table.now case operands.now.words.items operands.now.text.items said
+        × (string_bytes answer.new ≡ string_bytes answer.old ++ (said ++ 10 ∷ []))) }
+{
+    push_verdict(alloc, table, case, operands, state, answer)?;
+    answer.push_str("\n")
+}
+
+// Appends the answer to a case.
+fn push_verdict<A: Allocator + Copy>(
+    alloc: Global,
+    table: &UniTable,
+    case: Case,
+    operands: &Operands<A>,
+    state: &mut State<A>,
+    answer: &mut String<A>,
+) -> Result<(), AllocError>
+    requires { IsCase case operands.now.words.items operands.now.text.items }
+    ensures { OnOk result
+        ((said : List ℕ) × IsAnswer table.now case operands.now.words.items operands.now.text.items said
+        × (string_bytes answer.new ≡ string_bytes answer.old ++ said)) }
+{
+    let heap = *operands.words.allocator();
+    match Code::check(alloc, operands.words.as_slice(), table) {
+        Ok(code) => push_code_answer(heap, code, case, operands.text.as_slice(), state, answer),
+        Err(CodeError::Memory) => Err(AllocError),
+        Err(_) => answer.push_str("refused"),
+    }
+}
+
+// Appends the answer to a case whose words are a code.
+fn push_code_answer<A: Allocator + Copy>(
+    heap: A,
+    code: Code<'_>,
+    case: Case,
+    text: &[u8],
+    state: &mut State<A>,
+    answer: &mut String<A>,
+) -> Result<(), AllocError>
+    requires { IsCase case (words_of code) text.now }
+    ensures { (t : Tree) → Whole (words_of code.entry) t → OnOk result ((said : List ℕ)
+        × IsAnswerOf t (uni_of code.entry) case (words_of code.entry) text.now said
+        × (string_bytes answer.new ≡ string_bytes answer.old ++ said)) }
+{
+    match case {
+        Case::Check => push_hints(answer, &code.hints()),
+        Case::Find(finding, subject) => match subject.text {
+            TextForm::Bytes => push_found(
+                heap,
+                finding,
+                request(text, subject, code),
+                state,
+                answer,
+            ),
+            TextForm::Utf8 => {
+                let Ok(text) = str::from_utf8(text) else {
+                    unreachable!()
+                };
+                push_found(heap, finding, request(text, subject, code), state, answer)
+            }
+        },
+    }
+}
+
+// What a case asks of its text.
+fn request<'a, S: StrDrive>(text: S, subject: Subject, code: Code<'a>) -> Request<'a, S>
+    ensures asked { asked_of result ≡ asked subject (uni_of code.entry) (S.text text) }
+    ensures code { code_of result ≡ code.entry }
+{
+    let (start, end) = match subject.window {
+        Window::Whole => (0, text.count()),
+        Window::Span { start, end } => (start, end),
+    };
+    let mut request = Request::new(text, start, end, code, subject.flags.match_all);
+    request.set_must_advance(subject.flags.must_advance);
+    request
+}
+
+// Appends the match that is found, or `no`; of a walk, all matches, with a state of its own on `heap`.
+fn push_found<S: StrDrive, A: Allocator + Copy>(
+    heap: A,
+    finding: Finding,
+    request: Request<'_, S>,
+    state: &mut State<A>,
+    answer: &mut String<A>,
+) -> Result<(), AllocError>
+    ensures { (t : Tree) → Whole (words_of (code_of request.entry)) t
+        → OnOk result (string_bytes answer.new ≡ string_bytes answer.old
+        ++ found_text finding (asked_of request.entry) t) }
+{
+    let found = match finding {
+        Finding::Match => state.pymatch(&request),
+        Finding::Search => state.search(request),
+        Finding::Walk => return push_walk(heap, request, answer),
+    };
+    match found {
+        Ok(true) => {
+            let end = state.cursor().position();
+            let marks = state.marks();
+            push_match(answer, state.start(), end, marks.last_index(), marks.raw())
+        }
+        Ok(false) => answer.push_str("no"),
+        Err(SreError::Memory) => Err(AllocError),
+    }
+}
+
+/// Writes the line that tells a fault, with `name` where the file is named.
+pub fn write_fault<W: Write>(fault: &CaseFault, name: &str, out: &mut W) -> Result<(), CaseFault>
+    ensures line { OnOk result (Appends (W.contents out.old) (W.contents out.new)
+        (fault_text fault.now name.now ++ 10 ∷ [])) }
+    ensures failed { IfErr result (λ failure. failure ≡ CaseFault.OutputFailed) }
+{
+    match write_line(fault, name, out) {
+        Ok(()) => Ok(()),
+        Err(_) => Err(CaseFault::OutputFailed),
+    }
+}
+
+// Writes the line that tells a fault.
+fn write_line<W: Write>(fault: &CaseFault, name: &str, out: &mut W) -> io::Result<()>
+    ensures { OnOk result (Appends (W.contents out.old) (W.contents out.new)
+        (fault_text fault.now name.now ++ 10 ∷ [])) }
+{
+    match fault {
+        CaseFault::Usage => writeln!(out, "usage: sre_cases FILE"),
+        CaseFault::CannotRead => writeln!(out, "{name}: cannot be read"),
+        CaseFault::NotACase(line) => writeln!(out, "line {line}: not a case"),
+        CaseFault::NoMemory => writeln!(out, "no memory"),
+        CaseFault::OutputFailed => writeln!(out, "output failed"),
+    }
+}

@@ -1,0 +1,9 @@
+//! The program's lines: cases in a file, and an answer to each.
+#![tactic(auto)]
+
+pub mod answer;
+pub mod cases;
+pub mod line;
+mod number;
+mod output;
+pub mod program;

@@ -1,0 +1,309 @@
+//! Lines as cases.
+//!
+//! A case is `check WORDS`, or `match`, `search` or `walk` with WORDS TEXT WINDOW FLAGS, its fields divided by single
+//! spaces. A line is read whole before its words are checked, and any other line is refused.
+
+ghost use Rattle.std.specs.Prelude.{◌≡◌, ◌≢◌, ℕ, ◌^◌, ◌<◌, ◌++◌, ◌∷◌, List, All, Contains, IfSome, IfNone, IfOk, OnOk};
+ghost use Rattle.std.specs.Prelude.{[], IsTrue, ◌↔◌};
+ghost use Rattle.std.specs.Fmt.{decimal};
+ghost use Rattle.sre_lines.specs.Fields.{verb_text, words_text, window_text, IsWindow, flags_text, form_text};
+ghost use Rattle.sre_lines.specs.Fields.{bytes_text, subject_text, case_text, IsText, AreWords, IsSubject, IsCase};
+
+use crate::number::{decimal_number, read_hex};
+use std::alloc::{AllocFailed, Allocator};
+
+/// Why a line gave no case.
+#[derive(Clone, Copy, PartialEq, Eq, Debug)]
+pub enum LineFault {
+    /// The line is no case.
+    NotACase,
+    /// Memory was refused before the line was known to be a case.
+    NoMemory,
+}
+
+impl<T: Drop> From<AllocFailed<T>> for LineFault {
+    ghost use Rattle.std.specs.Prelude.{◌≡◌};
+    ghost use Rattle.sre_lines.specs.declared.line.LineFault.TheVariants.{NoMemory};
+
+    ghost from_gives = { λ _ fault. fault ≡ NoMemory };
+
+    fn from(_failed: AllocFailed<T>) -> LineFault {
+        LineFault::NoMemory
+    }
+}
+
+// What a case begins with.
+#[derive(Clone, Copy)]
+enum Verb {
+    Check,
+    Find(Finding),
+}
+
+/// What a case asks. Its words and its text stand in [`Operands`].
+#[derive(Clone, Copy)]
+pub enum Case {
+    /// Whether the words are a code, and its hints.
+    Check,
+    /// A match, or all of a walk.
+    Find(Finding, Subject),
+}
+
+/// Where a match may start, and how many are told.
+#[derive(Clone, Copy)]
+pub enum Finding {
+    /// `match`: at the window's start.
+    Match,
+    /// `search`: anywhere in the window, and the least start counts.
+    Search,
+    /// `walk`: the same again and again, from the end of the match before.
+    Walk,
+}
+
+/// How the text of a case is searched.
+#[derive(Clone, Copy)]
+pub struct Subject {
+    pub text: TextForm,
+    pub window: Window,
+    pub flags: Flags,
+}
+
+/// What the bytes of a text stand for.
+#[derive(Clone, Copy)]
+pub enum TextForm {
+    /// `b:`, each byte a character.
+    Bytes,
+    /// `s:`, the characters of UTF-8 text (RFC 3629).
+    Utf8,
+}
+
+/// The positions that a case asks about; a request cuts them at the text's end.
+#[derive(Clone, Copy)]
+pub enum Window {
+    /// `all`, the whole text.
+    Whole,
+    /// `START..END`
+    Span { start: usize, end: usize },
+}
+
+/// The flags of a case, `-` for none.
+#[derive(Clone, Copy)]
+pub struct Flags {
+    /// `f`: the match has to end at the window's end.
+    pub match_all: bool,
+    /// `a`: the match has to end past the window's start.
+    pub must_advance: bool,
+}
+
+/// The words and the text of the line that was read last. Their memory serves line after line.
+#[derive(Drop)]
+pub struct Operands<A: Allocator> {
+    pub words: Vec<u32, A>,
+    pub text: Vec<u8, A>,
+}
+
+/// Reads a line, and leaves its words and its text in `operands`.
+pub fn read_case<A: Allocator>(line: &[u8], operands: &mut Operands<A>) -> Result<Case, LineFault>
+    ensures read { IfOk result (λ case. case_text case operands.new.words.items operands.new.text.items ≡ line.now) }
+    ensures lawful { IfOk result (λ case. IsCase case operands.new.words.items operands.new.text.items) }
+    ensures refused { result ≡ Err LineFault.NotACase → (case : Case) (words text : List ℕ) → IsCase case words text
+        → case_text case words text ≢ line.now }
+{
+    let Some((verb, fields)) = split_once(line, b' ') else {
+        return Err(LineFault::NotACase);
+    };
+    match verb_of(verb) {
+        Some(Verb::Check) => {
+            read_words(fields, &mut operands.words)?;
+            Ok(Case::Check)
+        }
+        Some(Verb::Find(finding)) => Ok(Case::Find(finding, read_subject(fields, operands)?)),
+        None => Err(LineFault::NotACase),
+    }
+}
+
+// The verb that a field writes.
+fn verb_of(field: &[u8]) -> Option<Verb>
+    ensures written { IfSome result (λ verb. verb_text verb ≡ field.now) }
+    ensures refused { IfNone result ((verb : Verb) → verb_text verb ≢ field.now) }
+{
+    match field {
+        b"check" => Some(Verb::Check),
+        b"match" => Some(Verb::Find(Finding::Match)),
+        b"search" => Some(Verb::Find(Finding::Search)),
+        b"walk" => Some(Verb::Find(Finding::Walk)),
+        _ => None,
+    }
+}
+
+// Reads the fields WORDS TEXT WINDOW FLAGS, first those that take no memory.
+fn read_subject<A: Allocator>(
+    fields: &[u8],
+    operands: &mut Operands<A>,
+) -> Result<Subject, LineFault>
+    ensures read { IfOk result (λ subject. words_text operands.new.words.items
+        ++ subject_text subject operands.new.text.items ≡ fields.now) }
+    ensures words { OnOk result (AreWords operands.new.words.items) }
+    ensures subject { IfOk result (λ subject. IsSubject subject operands.new.text.items) }
+    ensures refused { result ≡ Err LineFault.NotACase → (subject : Subject) (words text : List ℕ) → AreWords words
+        → IsSubject subject text → words_text words ++ subject_text subject text ≢ fields.now }
+{
+    let Some((words, fields)) = split_once(fields, b' ') else {
+        return Err(LineFault::NotACase);
+    };
+    let Some((text, fields)) = split_once(fields, b' ') else {
+        return Err(LineFault::NotACase);
+    };
+    let Some((window, flags)) = split_once(fields, b' ') else {
+        return Err(LineFault::NotACase);
+    };
+    let Some(window) = window_of(window) else {
+        return Err(LineFault::NotACase);
+    };
+    let Some(flags) = flags_of(flags) else {
+        return Err(LineFault::NotACase);
+    };
+    read_words(words, &mut operands.words)?;
+    let text = read_text(text, &mut operands.text)?;
+    Ok(Subject {
+        text,
+        window,
+        flags,
+    })
+}
+
+// Reads numbers up to 4294967295 divided by commas, or `-` for none.
+fn read_words<A: Allocator>(field: &[u8], words: &mut Vec<u32, A>) -> Result<(), LineFault>
+    ensures read { OnOk result (words_text words.new.items ≡ field.now) }
+    ensures fit { OnOk result (AreWords words.new.items) }
+    ensures refused { result ≡ Err LineFault.NotACase → (ws : List ℕ) → AreWords ws → words_text ws ≢ field.now }
+{
+    words.clear();
+    if field == b"-".as_slice() {
+        return Ok(());
+    }
+    let mut left = field;
+    'words: loop {
+        let Some((digits, others)) = split_once(left, b',') else {
+            return push_word(left, words);
+        };
+        push_word(digits, words)?;
+        left = others;
+    }
+}
+
+// Reads one word more.
+fn push_word<A: Allocator>(digits: &[u8], words: &mut Vec<u32, A>) -> Result<(), LineFault>
+    ensures read { OnOk result
+        ((w : ℕ) × (decimal w ≡ digits.now) × (words.new.items ≡ words.old.items ++ w ∷ []) × (w < 2 ^ 32)) }
+    ensures refused { result ≡ Err LineFault.NotACase → (w : ℕ) → w < 2 ^ 32 → decimal w ≢ digits.now }
+{
+    let Some(word) = word_of(digits) else {
+        return Err(LineFault::NotACase);
+    };
+    words.push(word)?;
+    Ok(())
+}
+
+// The word that a field writes.
+#[tactic(auto, using(crate::proofs::Numbers::too_large_is_not_written))]
+fn word_of(digits: &[u8]) -> Option<u32>
+    ensures written { IfSome result (λ n. decimal n ≡ digits.now) }
+    ensures refused { IfNone result ((n : ℕ) → n < 2 ^ 32 → decimal n ≢ digits.now) }
+{
+    let number = decimal_number(digits)?;
+    if number > u64::from(u32::MAX) {
+        return None;
+    }
+    Some(number as u32)
+}
+
+// Reads the form of a text and its bytes.
+fn read_text<A: Allocator>(field: &[u8], text: &mut Vec<u8, A>) -> Result<TextForm, LineFault>
+    ensures read { IfOk result (λ form. bytes_text form text.new.items ≡ field.now) }
+    ensures fit { OnOk result (All (λ b. b < 256) text.new.items) }
+    ensures is_text { IfOk result (λ form. IsText form text.new.items) }
+    ensures refused { result ≡ Err LineFault.NotACase → (form : TextForm) (bytes : List ℕ) → All (λ b. b < 256) bytes
+        → IsText form bytes → bytes_text form bytes ≢ field.now }
+{
+    let Some((form, digits)) = split_once(field, b':') else {
+        return Err(LineFault::NotACase);
+    };
+    let Some(form) = form_of(form) else {
+        return Err(LineFault::NotACase);
+    };
+    read_hex(digits, text)?;
+    if !is_text(form, text.as_slice()) {
+        return Err(LineFault::NotACase);
+    }
+    Ok(form)
+}
+
+// The form of a text that a letter tells.
+fn form_of(letter: &[u8]) -> Option<TextForm>
+    ensures written { IfSome result (λ form. form_text form ≡ letter.now) }
+    ensures refused { IfNone result ((form : TextForm) → form_text form ≢ letter.now) }
+{
+    match letter {
+        b"b" => Some(TextForm::Bytes),
+        b"s" => Some(TextForm::Utf8),
+        _ => None,
+    }
+}
+
+// Whether bytes are a text of this form.
+fn is_text(form: TextForm, bytes: &[u8]) -> bool
+    ensures { IsTrue result ↔ IsText form bytes.now }
+{
+    match form {
+        TextForm::Bytes => true,
+        TextForm::Utf8 => str::from_utf8(bytes).is_ok(),
+    }
+}
+
+// The window that a field writes.
+fn window_of(field: &[u8]) -> Option<Window>
+    ensures written { IfSome result (λ window. window_text window ≡ field.now) }
+    ensures fits { IfSome result IsWindow }
+    ensures refused { IfNone result ((window : Window) → IsWindow window → window_text window ≢ field.now) }
+{
+    if field == b"all".as_slice() {
+        return Some(Window::Whole);
+    }
+    let (start, rest) = split_once(field, b'.')?;
+    let (between, end) = split_once(rest, b'.')?;
+    if !between.is_empty() {
+        return None;
+    }
+    Some(Window::Span {
+        start: decimal_number(start)? as usize,
+        end: decimal_number(end)? as usize,
+    })
+}
+
+// The flags that a field writes.
+fn flags_of(field: &[u8]) -> Option<Flags>
+    ensures written { IfSome result (λ flags. flags_text flags ≡ field.now) }
+    ensures refused { IfNone result ((flags : Flags) → flags_text flags ≢ field.now) }
+{
+    let (match_all, must_advance) = match field {
+        b"-" => (false, false),
+        b"f" => (true, false),
+        b"a" => (false, true),
+        b"fa" => (true, true),
+        _ => return None,
+    };
+    Some(Flags {
+        match_all,
+        must_advance,
+    })
+}
+
+/// What stands before the first such byte, and what after it.
+pub fn split_once(field: &[u8], at: u8) -> Option<(&[u8], &[u8])>
+    ensures parts { IfSome result (λ parts. parts.0.now ++ at ∷ parts.1.now ≡ field.now) }
+    ensures first { IfSome result (λ parts. ¬ (Contains parts.0.now at)) }
+    ensures none { IfNone result (¬ (Contains field.now at)) }
+{
+    let i = field.iter().position(|byte| *byte == at)?;
+    Some((&field[..i], &field[i + 1..]))
+}

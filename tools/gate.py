@@ -1,0 +1,301 @@
+#!/usr/bin/env python3
+"""The gate: `rt ci`, the wrong bodies in bundles, and the case files over the programs that were built.
+
+    gate.py [cases]
+
+`rt ci` proves each crate and its tests from nothing, tries the must-fail edits, and runs the tests and the stored run.
+Once it has proved the crates below a crate, that crate's wrong bodies are tried (`wrong_bodies.py`), where cores are
+idle. With `cases` only the case files are run, over what an earlier run or `rt run` left. In the end the gate tells the
+minutes of each phase, by the clock and of processors, and the dearest functions of the crates that have wrong bodies.
+The last line counts what passed.
+"""
+import os
+import re
+import resource
+import shutil
+import subprocess
+import sys
+import tempfile
+import threading
+import time
+from concurrent.futures import ThreadPoolExecutor
+
+import wrong_bodies
+
+ROOT = wrong_bodies.ROOT
+BEGAN = time.monotonic()
+PRINTING = threading.Lock()
+
+
+def tell(line):
+    with PRINTING:
+        print(line, flush=True)
+
+
+def minutes(seconds):
+    return f"{int(seconds) // 60}:{int(seconds) % 60:02}"
+
+
+def fields_of(pid):
+    """What the system tells of a process, from its state on."""
+    return wrong_bodies.read(f"/proc/{pid}/stat").rpartition(")")[2].split()
+
+
+def processor_seconds(fields):
+    """What a process has taken, with those that it has waited for."""
+    return sum(int(it) for it in fields[11:15]) / os.sysconf("SC_CLK_TCK")
+
+
+class Phases:
+    """Each phase's end by the clock, and its time of processors."""
+
+    def __init__(self):
+        self.until, self.taken, self.lock = {}, {}, threading.Lock()
+
+    def reach(self, phase):
+        self.until[phase] = time.monotonic() - BEGAN
+
+    def take(self, phase, seconds):
+        with self.lock:
+            self.taken[phase] = self.taken.get(phase, 0) + seconds
+
+    def tell(self):
+        used = resource.getrusage(resource.RUSAGE_CHILDREN)
+        whole = used.ru_utime + used.ru_stime
+        self.take("builds, tests and runs", max(0, whole - sum(self.taken.values())))
+        self.reach("builds, tests and runs")
+        for phase, seconds in self.taken.items():
+            tell(f"minutes: {phase} until {minutes(self.until[phase])}, {minutes(seconds)} of processors")
+        tell(f"minutes: all until {minutes(time.monotonic() - BEGAN)}, {minutes(whole)} of processors")
+
+
+class Checks:
+    """The checks that `rt ci` runs: how many there are now, and what each kind has taken."""
+
+    def __init__(self, rt, phases):
+        self.rt, self.phases, self.seen, self.running = rt, phases, {}, 0
+
+    def kind(self, pid):
+        with open(f"/proc/{pid}/cmdline", "rb") as file:
+            words = file.read().decode(errors="replace").split("\0")
+        if not words[0].endswith("/rattle"):
+            return None
+        if "rt-edit-" in os.readlink(f"/proc/{pid}/cwd"):
+            return "must-fail edits"
+        return "proofs of tests" if "--test" in words else "proofs"
+
+    def look(self):
+        running = 0
+        for pid in filter(str.isdigit, os.listdir("/proc")):
+            try:
+                fields = fields_of(pid)
+                kind = self.kind(pid) if int(fields[1]) == self.rt.pid else None
+            except (OSError, IndexError):
+                continue
+            if kind:
+                self.seen[pid, fields[19]] = kind, processor_seconds(fields)
+                self.phases.reach(kind)
+                running += 1
+        self.running = running
+
+    def watch(self):
+        while self.rt.poll() is None:
+            self.look()
+            time.sleep(0.25)
+        self.running = 0
+        for kind, seconds in self.seen.values():
+            self.phases.take(kind, seconds)
+
+
+class Prover:
+    """`rt ci`, with its lines passed on; that crates are proved can be waited for."""
+
+    def __init__(self, phases, rlibs):
+        self.rlibs, self.proved, self.tests, self.last = rlibs, {}, 0, ""
+        self.changed = threading.Condition()
+        # one job a check takes the least of processors
+        given = {**os.environ, "RT_JOBS": str(os.cpu_count())}
+        self.rt = subprocess.Popen(
+            ["rt", "ci"], cwd=ROOT, env=given, text=True, errors="replace",
+            stdin=subprocess.DEVNULL, stdout=subprocess.PIPE, stderr=subprocess.STDOUT,
+        )
+        self.checks = Checks(self.rt, phases)
+
+    def follow(self):
+        for line in self.rt.stdout:
+            self.last = line.rstrip("\n")
+            tell(self.last)
+            self.tests += bool(re.fullmatch(r"test .* \.\.\. ok", self.last))
+            ended = re.fullmatch(r"rt: (\w+) (proved|NOT PROVED)", self.last)
+            if ended:
+                self.end(ended[1], ended[2] == "proved")
+        self.rt.wait()
+        with self.changed:
+            self.changed.notify_all()
+
+    def end(self, name, is_proved):
+        made = f"{ROOT}/crates/{name}/out/rlib/{name}.rlib"
+        if is_proved and os.path.isdir(made):
+            # in the end rt ci puts back what stood there
+            shutil.copytree(made, f"{self.rlibs}/{name}/{name}.rlib")
+        with self.changed:
+            self.proved[name] = is_proved
+            self.changed.notify_all()
+
+    def are_proved(self, names):
+        """Waits until these crates are proved, or one of them cannot be any more: whether they are."""
+        with self.changed:
+            self.changed.wait_for(
+                lambda: self.rt.poll() is not None
+                or all(it in self.proved for it in names)
+                or not all(self.proved.get(it, True) for it in names)
+            )
+            return all(self.proved.get(it) for it in names)
+
+    def counts(self):
+        found = re.fullmatch(r"(\d+) passed, (\d+) failed", self.last)
+        passed, failed = (int(found[1]), int(found[2])) if found else (0, 1)
+        if not self.tests:
+            tell("no test was run")
+        return passed, failed + (not self.tests)
+
+
+class Bundles:
+    """The wrong bodies of all crates: a crate's are tried once those below it are proved, where cores are idle."""
+
+    def __init__(self, prover, phases, room):
+        self.prover, self.phases, self.room, self.kit = prover, phases, room, wrong_bodies.kit()
+        self.passed, self.failed, self.dearest = 0, 0, []
+        self.running, self.turn = 0, threading.Condition()
+
+    def check(self, command, folder, costs=None):
+        """Runs a check where a core is idle, and gives what it says. `costs` gets what each function took."""
+        with self.turn:
+            while self.running + self.prover.checks.running >= os.cpu_count():
+                self.turn.wait(1)
+            self.running += 1
+        try:
+            return self.said(["nice", *command], folder, [] if costs is None else costs)
+        finally:
+            self.phases.reach("wrong bodies")
+            with self.turn:
+                self.running -= 1
+                self.turn.notify_all()
+
+    def said(self, command, folder, costs):
+        check = subprocess.Popen(
+            command, cwd=folder, text=True, errors="replace",
+            stdin=subprocess.DEVNULL, stdout=subprocess.PIPE, stderr=subprocess.STDOUT,
+        )
+        said, before = [], None
+        for line in check.stdout:
+            said.append(line)
+            ended = re.match(r"checked (\S+), \d+ of \d+", line)
+            if ended or "ahead of the check" in line:
+                now = processor_seconds(fields_of(check.pid))
+                if ended and before is not None:
+                    costs.append((now - before, ended[1]))
+                before = now
+        _, status, used = os.wait4(check.pid, 0)
+        check.returncode = os.waitstatus_to_exitcode(status)
+        self.phases.take("wrong bodies", used.ru_utime + used.ru_stime)
+        return "".join(said)
+
+    def count(self, is_well, line):
+        tell(line)
+        with self.turn:
+            self.passed += is_well
+            self.failed += not is_well
+
+    def of_crate(self, crate, pool):
+        """Tries a crate as it is, and gives the trials of its bundles, which run in the pool."""
+        made, bad = wrong_bodies.bundles(wrong_bodies.bodies_of(crate), crate)
+        for line in bad:
+            self.count(False, line)
+        words = crate.words(self.kit, lambda it: f"{self.prover.rlibs}/{it.name}")
+        trial, costs = wrong_bodies.Trial(crate, self.kit, words, self.room), []
+        if not self.prover.are_proved([it.name for it in crate.below()]):
+            self.count(False, f"wrong bodies of {crate.name}: not tried, since a crate below it is not proved")
+        elif not wrong_bodies.is_proved(trial.unchanged(lambda *it: self.check(*it, costs))):
+            self.count(False, f"wrong bodies of {crate.name}: not tried, since the crate is not proved")
+        else:
+            self.dearest += costs
+            return [pool.submit(self.of_bundle, trial, *it) for it in enumerate(made)]
+        return []
+
+    def of_bundle(self, trial, number, bundle):
+        for is_well, line in trial.bundle(number, bundle, self.check):
+            self.count(is_well, line)
+
+    def run(self):
+        crates = [it for it in wrong_bodies.crates().values() if wrong_bodies.bodies_of(it)]
+        with ThreadPoolExecutor(64) as pool:
+            for trials in [pool.submit(self.of_crate, it, pool) for it in crates]:
+                for it in trials.result():
+                    it.result()
+
+    def tell(self):
+        for seconds, name in sorted(self.dearest, reverse=True)[:10]:
+            tell(f"dearest: {seconds:5.1f} s {name}")
+
+
+class Cases:
+    """The case files, over the program as each compiler built it."""
+
+    def __init__(self):
+        self.passed, self.failed = 0, 0
+
+    def answers(self, program, path):
+        """Whether a program answers NAME.txt as NAME.expected says, with status 0 and no word on standard error, or,
+        where there is a NAME.fault, with status 1 and that line there."""
+        ran = subprocess.run([program, f"{os.path.basename(path)}.txt"], cwd=os.path.dirname(path), capture_output=True)
+        wanted = wrong_bodies.read(f"{path}.expected").encode()
+        fault = wrong_bodies.read(f"{path}.fault").encode() if os.path.isfile(f"{path}.fault") else b""
+        return (ran.returncode, ran.stdout, ran.stderr) == (int(bool(fault)), wanted, fault) and bool(wanted or fault)
+
+    def run(self):
+        out = f"{ROOT}/crates/sre_cases/out/sre_cases"
+        for program in [out, *(it for it in [f"{out}.by-rattle"] if os.path.isfile(it))]:
+            for at in (f"{ROOT}/crates/sre_cases/cases", f"{ROOT}/examples"):
+                for name in sorted(it[: -len(".expected")] for it in os.listdir(at) if it.endswith(".expected")):
+                    is_well = os.path.isfile(program) and self.answers(program, f"{at}/{name}")
+                    self.passed += is_well
+                    self.failed += not is_well
+                    if not is_well:
+                        tell(f"case file {name}: FAILED by {os.path.basename(program)}")
+
+
+def proved(room):
+    """Runs all but the case files, and gives how many passed and failed."""
+    phases = Phases()
+    prover = Prover(phases, f"{room}/rlibs")
+    try:
+        bundles = Bundles(prover, phases, room)
+        others = [threading.Thread(target=it) for it in (prover.follow, prover.checks.watch)]
+        for it in others:
+            it.start()
+        bundles.run()
+        for it in others:
+            it.join()
+    finally:
+        prover.rt.terminate()
+    passed, failed = prover.counts()
+    bundles.tell()
+    phases.tell()
+    tell(f"{prover.tests} tests, {bundles.passed} bodies in bundles")
+    return passed + bundles.passed, failed + bundles.failed
+
+
+def main(words):
+    passed, failed, cases = 0, 0, Cases()
+    if words != ["cases"]:
+        with tempfile.TemporaryDirectory(prefix="gate-") as room:
+            passed, failed = proved(room)
+    cases.run()
+    passed, failed = passed + cases.passed, failed + cases.failed
+    tell(f"{passed} passed, {failed} failed")
+    return 0 if passed and not failed else 1
+
+
+if __name__ == "__main__":
+    sys.exit(main(sys.argv[1:]))
