@@ -196,8 +196,7 @@ class Bundles:
                 if ended and before is not None:
                     costs.append((now - before, ended[1]))
                 before = now
-        _, status, used = os.wait4(check.pid, 0)
-        check.returncode = os.waitstatus_to_exitcode(status)
+        _, check.returncode, used = os.wait4(check.pid, 0)
         self.phases.take("wrong bodies", used.ru_utime + used.ru_stime)
         return "".join(said)
 

@@ -157,6 +157,7 @@ def judged(bundle, crate, said):
     is_judged = lines[-1].startswith(("logic=not-proved", "logic=proved"))
     open_goals = refusals(said, crate)
     named = set(re.findall(rf"(?m)^fn {crate.name}::(\S+):", said))
+    others = ", ".join(it for it in open_goals if open_goals[it] and it not in {body.function for body in bundle["bodies"]})
     for body in bundle["bodies"]:
         goals = open_goals.get(body.function)
         label = body.label(crate)
@@ -168,7 +169,8 @@ def judged(bundle, crate, said):
         elif goals:
             yield body.is_wrong, f"{label}: {'refused' if body.is_wrong else 'REFUSED'}: {goals[0]}"
         else:
-            yield not body.is_wrong, f"{label}: {'NOT REFUSED' if body.is_wrong else 'not refused'}"
+            elsewhere = f"; goals are open in {others}" if body.is_wrong and others else ""
+            yield not body.is_wrong, f"{label}: {'NOT REFUSED' if body.is_wrong else 'not refused'}{elsewhere}"
 
 
 class Trial:
