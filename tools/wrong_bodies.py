@@ -137,16 +137,21 @@ def bundles(bodies, crate, is_alone=False):
 
 def refusals(said, crate):
     """What a check says of each function that is not proved: the goals of its own that stay open."""
-    open_goals = {}
-    for name, why in re.findall(rf"(?m)^fn {crate.name}::(\S+): (?:no proof|not proved)(.*)", said):
-        open_goals[name] = re.findall(r"`search` did not prove `([^`]+)`", why)
-    answers = r"(?m)^(?:\./)?proofs/(\S+)/(?:Answers|Invariants|Proof)\.antt:\d+:\d+: error: (.*)"
-    goals = r"(?m)^note: (`[^`]+`) of proofs/(\S+)/(?:Answers|Invariants)\.antt must prove"
-    told = [(path, goal.strip("`")) for goal, path in re.findall(goals, said)]
-    told += [(path, it.split("`")[1]) for path, it in re.findall(answers, said) if it[0] == "`" and not TAKEN_AWAY.search(it)]
-    for path, goal in told:
+    open_goals, told = {}, []
+    for line in said.split("\n"):
+        goal = re.match(r"note: \S+:\d+:\d+: it is not proved .*\(`([^`]+)`\)", line)
+        ended = re.match(rf"(?:fn|impl|struct|enum) (?:{crate.name}::(\S+): (no proof|not proved)(.*))?", line)
+        if goal:
+            told.append(goal[1])
+        elif ended:
+            # the notes on a function's goals stand before its own line
+            if ended[1] and line.startswith("fn "):
+                open_goals[ended[1]] = told + re.findall(r"`search` did not prove `([^`]+)`", ended[3])
+            told = []
+    answers = r"(?m)^(?:\./)?proofs/(\S+)/(?:Answers|Invariants|Proof)\.antt:\d+:\d+: error: `([^`]+)`(.*)"
+    for path, goal, why in re.findall(answers, said):
         name = path.replace("/", "::")
-        if name in open_goals and goal not in open_goals[name]:
+        if name in open_goals and not TAKEN_AWAY.search(why):
             open_goals[name].append(goal)
     return open_goals
 
