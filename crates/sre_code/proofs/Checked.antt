@@ -1,18 +1,23 @@
 -- The tree of checked words.
 use Rattle.std.proofs.Common.{ℕ, List, sym, subst}
-use Rattle.std.proofs.Math.Logic.{∥∥₁_map}
+use Rattle.std.proofs.Math.Logic.{∥∥₁_map, ∥∥₁_elim}
+use Rattle.std.proofs.Props.{props}
+use Rattle.sre_chars.specs.Tables.{Table}
 use Rattle.sre_model.specs.Tree.{Tree}
 use Rattle.sre_model.specs.Grammar.{Whole, IsCode, WholeItems}
 use Rattle.sre_code.specs.Hinted.{Confirmed}
 use Rattle.sre_code.specs.declared.code.Hints.{Hints}
 use Rattle.sre_code.specs.declared.code.Code.{Code}
-use Rattle.sre_code.specs.Codes.{words_of, items_of, hints_of}
+use Rattle.sre_code.specs.Codes.{words_of, items_of, uni_of, hints_of}
 use Rattle.sre_model.proofs.Props.{kept_tree}
+use Rattle.sre_model.proofs.Unique.{whole_same}
+use Rattle.sre_model.proofs.ClaimProps.{first_set_prop}
 use Rattle.sre_model.proofs.TreeOf.{tree_of, whole-read}
 
 -- the one tree of a code
-pub code_tree : (ws : List ℕ) (hints : Hints) → ∥ ((t : Tree) × Whole ws t × Confirmed ws t hints) ∥₁ → IsCode ws
-code_tree ws hints c = kept_tree ws (∥∥₁_map c (λ x. (x.0, x.1)))
+pub code_tree : {table : Table} (ws : List ℕ) (hints : Hints)
+    → ∥ ((t : Tree) × Whole ws t × Confirmed ws table t hints) ∥₁ → IsCode ws
+code_tree {table} ws hints c = kept_tree ws (∥∥₁_map c (λ x. (x.0, x.1)))
 
 -- it is the one that the reader gives of the words behind the block
 pub whole_of : (code : Code) → WholeItems (items_of code) (tree_of (items_of code))
@@ -30,3 +35,14 @@ items_whole code t w = w.1
 pub whole_items : (code : Code) (t : Tree) → WholeItems (items_of code) t → Whole (words_of code) t
 unfolding items_of
 whole_items code t w = ((code_tree (words_of code) (hints_of code) code.checked).1.0, w)
+
+-- what is confirmed of its tree is confirmed in one way
+confirmed_prop : (ws : List ℕ) (table : Table) (t : Tree) (hints : Hints) → IsProp (Confirmed ws table t hints)
+confirmed_prop ws table t hints = hlevel (props, first_set_prop ws table t)
+
+pub code_confirmed : (code : Code) (t : Tree) → Whole (words_of code) t
+    → Confirmed (words_of code) (uni_of code) t (hints_of code)
+code_confirmed code t w =
+    ∥∥₁_elim code.checked (confirmed_prop (words_of code) (uni_of code) t (hints_of code))
+    (λ x. subst (λ u. Confirmed (words_of code) (uni_of code) u (hints_of code))
+    (whole_same (words_of code) x.0 t x.1 w) x.2)

@@ -12,4 +12,8 @@ pub mod ReadConditions
 pub mod Descending
 pub mod ReadFronts
 pub mod Checked
+pub mod Borders
+pub mod Prefixes
+pub mod Claimed
+pub mod FirstSets
 pub mod Scanning

@@ -1,26 +1,19 @@
 -- The block at the front, and what a check says of words whose items it has read.
-use Rattle.std.proofs.Common.{ℕ, ◌≡◌, ◌≢◌, false, List}
-use Rattle.std.proofs.Common.{length, drop, refl, sym, subst, arith}
-use Rattle.std.proofs.lemmas.Bool.Decides.{nat_tests}
+use Rattle.std.proofs.Common.{ℕ, ◌≡◌, ◌≢◌, List}
+use Rattle.std.proofs.Common.{drop, sym, subst}
+use Rattle.sre_chars.specs.Tables.{Table}
 use Rattle.sre_model.specs.Tree.{Tree}
-use Rattle.sre_model.specs.Grammar.{word, has_block, Whole, WholeItems}
-use Rattle.sre_model.proofs.Words.{word_past}
+use Rattle.sre_model.specs.Grammar.{behind_block, Whole, WholeItems}
 use Rattle.sre_model.specs.Grammar.{IsCode}
 use Rattle.sre_code.specs.Fronts.{Fronts}
+use Rattle.sre_model.specs.Width.{width}
 use Rattle.sre_code.specs.Descent.{HasWhole, WholeFrom, Fails}
+use Rattle.sre_code.specs.Hinted.{Confirmed}
+use Rattle.sre_code.specs.declared.code.Hints.{Hints}
 use Rattle.sre_code.specs.declared.code.error.CodeError.{CodeError}
 use Rattle.sre_code.specs.declared.code.error.CodeError.TheVariants.{Memory}
 use Rattle.sre_growth.specs.Refusal.{Refused}
 use Rattle.sre_code.proofs.Descending.{descent_items, descent_refused, descent_grows}
-
--- no block
-pub no_front : (ws : List ℕ) → word ws 0 ≢ 14 → Fronts ws 0
-no_front ws ne =
-    let none : has_block ws ≡ false = grind (arith, nat_tests) in
-    record { fits = rw none refl; within = omega arith; behind = rw none refl }
-
-pub empty_front : (ws : List ℕ) → length ws ≡ 0 → Fronts ws 0
-empty_front ws e = no_front ws (λ k. omega (arith, k, word_past ws 0 (omega (arith, e))))
 
 -- what follows of the items for all the words
 module _ (ws : List ℕ) (n : ℕ) (f : Fronts ws n) where
@@ -38,6 +31,16 @@ module _ (ws : List ℕ) (n : ℕ) (f : Fronts ws n) where
 
   pub front_grows : (e : CodeError) (t : Tree) → Fails (drop n ws) (WholeFrom (drop n ws) 0) e → Whole ws t → Refused
   front_grows e t x w = descent_grows (drop n ws) e t x (behind t w)
+
+  -- what is confirmed of a tree of that width is confirmed of the words' tree
+  pub front_confirmed : (W : ℕ) (table : Table) (hints : Hints) → HasWhole (drop n ws) 0 W
+      → ((t : Tree) → WholeItems (drop n ws) t → W ≡ width t → Confirmed ws table t hints)
+      → ∥ ((t : Tree) × Whole ws t × Confirmed ws table t hints) ∥₁
+  front_confirmed W table hints h each =
+      let t = h.body.0.0 in
+      let whole : WholeItems (behind_block ws) t =
+      subst (λ (xs : List ℕ). WholeItems xs t) f.behind (h.body.0.1, h.body.1) in
+      ∣ (t, (f.fits, whole), each t (h.body.0.1, h.body.1) h.body.0.2) ∣₁
 
 -- what `check_in` answers
 pub ruleset front_laws = (front_code, front_refused, front_grows)

@@ -1,13 +1,22 @@
 -- The information block that a check passes over.
 -- Words of the check's contracts; what sre_engine makes public does not rest on it.
-use Rattle.std.specs.Prelude.{ℕ, ◌≡◌, ◌≤◌, true, List, length, drop, Result, Ok, Err}
+use Rattle.std.specs.Prelude.{ℕ, ◌≡◌, ◌≢◌, ◌<◌, ◌≤◌, true, false, List, length, drop, Result, Ok, Err}
 use Rattle.sre_model.specs.Tree.{Tree}
-use Rattle.sre_model.specs.Grammar.{Whole, behind_block, fits_block}
+use Rattle.sre_model.specs.Grammar.{Whole, skip, has_block, behind_block, fits_block}
 use Rattle.sre_code.specs.Reading.{Within}
 use Rattle.sre_code.specs.declared.code.error.CodeError.{CodeError}
 
+-- a block is there, of so many words
+pub record HasBlock (ws : List ℕ) (n : ℕ) : Type 0 where
+  pub there : has_block ws ≡ true
+  pub skips : n ≡ skip ws 1
+  pub long : 5 ≤ n
+  pub within : n < length ws
+
 -- so many words are the block
 pub record Fronts (ws : List ℕ) (n : ℕ) : Type 0 where
+  pub none : n ≡ 0 → has_block ws ≡ false
+  pub block : n ≢ 0 → HasBlock ws n
   pub fits : fits_block ws ≡ true
   pub within : n ≤ length ws
   pub behind : drop n ws ≡ behind_block ws

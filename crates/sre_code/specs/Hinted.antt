@@ -1,9 +1,14 @@
 -- What is known of a code.
 -- Public clauses rest on it.
-use Rattle.std.specs.Prelude.{◌≡◌, ℕ, List, false, None}
+use Rattle.std.specs.Prelude.{◌≡◌, ◌↔◌, IsTrue, ℕ, List}
+use Rattle.sre_chars.specs.Tables.{Table}
 use Rattle.sre_model.specs.Tree.{Tree}
+use Rattle.sre_model.specs.Claims.{confirmed_width, confirmed_prefix, is_literal, HasFirstSet}
 use Rattle.sre_code.specs.declared.code.Hints.{Hints}
 
--- each hint is there exactly where it is confirmed, which none is
-abbrev pub Confirmed : List ℕ → Tree → Hints → Type 0
-Confirmed words tree hints = hints ≡ record { width = None; prefix = None; literal = false; first_set = false }
+-- each hint is there exactly where the tree confirms it; a set's members are those by the code's table
+pub record Confirmed (words : List ℕ) (table : Table) (tree : Tree) (hints : Hints) : Type 0 where
+  pub width : hints.width ≡ confirmed_width words tree
+  pub prefix : hints.prefix ≡ confirmed_prefix words tree
+  pub literal : hints.literal ≡ is_literal words tree
+  pub first_set : IsTrue hints.first_set ↔ HasFirstSet words table tree

@@ -2,6 +2,9 @@ pub mod Refusals
 pub mod Hinted
 pub mod Reading
 pub mod Fronts
+pub mod Borders
+pub mod Prefixes
+pub mod FirstSets
 pub mod Instructions
 pub mod Steps
 pub mod Descent

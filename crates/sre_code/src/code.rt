@@ -1,10 +1,11 @@
 //! Checked words.
 //!
 //! A [`Code`] is a view of words that the grammar (`specs/Grammar.antt`) relates to a tree, of which there is then
-//! exactly one, together with a table of characters. An information block at the front is passed over: nothing in it
-//! is read but its skip. [`Code::check`] reads the words behind it once from left to right, with a stack of its own for
-//! the parts that are open, and on the way adds up the least number of characters that a match passes. A scan of words
-//! that are a code then tells, with no stack, whether they ask for groups.
+//! exactly one, together with a table of characters. An information block at the front is passed over: the grammar asks
+//! nothing of it but its skip. [`Code::check`] reads the words behind it once from left to right, with a stack of its
+//! own for the parts that are open, and on the way adds up the least number of characters that a match passes. A scan
+//! of words that are a code then tells, with no stack, whether they ask for groups; and what the block claims is
+//! compared with the first items, which confirm it or not.
 
 ghost use Rattle.std.specs.Prelude.{◌≡◌, ◌≢◌, ◌≤◌, length, IfOk, IfErr, OnOk, OnErr};
 ghost use Rattle.sre_model.specs.Tree.{Tree};
@@ -16,14 +17,18 @@ ghost use Rattle.sre_code.specs.Refusals.{place_of};
 ghost use Rattle.sre_growth.specs.Refusal.{Refused};
 
 mod block;
+mod borders;
 mod branch;
 mod character;
 pub(crate) mod check;
+mod claims;
 mod condition;
 mod descent;
 mod error;
+mod first_set;
 mod item;
 mod part;
+mod prefix;
 mod references;
 mod region;
 mod repeat;
@@ -36,7 +41,7 @@ pub use error::CodeError;
 use sre_chars::string::UniTable;
 use std::alloc::Global;
 
-/// What is known of a code beside its tree; none of it is taken from the words unless it is confirmed.
+/// What the information block claims and the tree confirms; each is there exactly where it is confirmed.
 #[derive(Clone, Copy, PartialEq, Eq, Debug)]
 pub struct Hints {
     /// No match is shorter than this number of characters.
@@ -59,7 +64,7 @@ pub struct Code<'a> {
     has_reference: bool,
     ghost behind: { items.now ≡ behind_block words.now },
     ghost scanned: { (tree : Tree) → Whole words.now tree → has_reference ≡ refers tree },
-    pub ghost checked: { ∥ ((tree : Tree) × Whole words.now tree × Confirmed words.now tree hints) ∥₁ },
+    pub ghost checked: { ∥ ((tree : Tree) × Whole words.now tree × Confirmed words.now uni.now tree hints) ∥₁ },
 }
 
 impl<'a> Code<'a> {
@@ -113,7 +118,8 @@ impl<'a> Code<'a> {
     #[inline(always)]
     pub fn hints(&self) -> Hints
         ensures same { result ≡ hints_of self.now }
-        ensures confirmed { (tree : Tree) → Whole (words_of self.now) tree → Confirmed (words_of self.now) tree result }
+        ensures confirmed { (tree : Tree) → Whole (words_of self.now) tree
+            → Confirmed (words_of self.now) (uni_of self.now) tree result }
     {
         self.hints
     }

@@ -2,6 +2,8 @@
 #![tactic(auto)]
 
 pub mod code;
+pub mod members;
+pub mod operands;
 
 pub use code::Code;
 pub use code::check::check_in;

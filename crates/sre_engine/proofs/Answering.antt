@@ -90,3 +90,7 @@ found_first a t p m before here from to start = least-found a t m (record {
   here = subst (λ q. at_start a t q ≡ Some m) (sym start) here;
   least = λ r l k. before r l (omega arith);
 })
+
+-- before the first start there is none
+pub none_yet : (a : Asked) (t : Tree) (p : ℕ) → p ≡ a.start → NoneBefore a t p
+none_yet a t p at s from less = absurd (omega (arith, at, from, less))

@@ -3,3 +3,12 @@ pub mod LeadingStarts
 pub mod Walking
 pub mod Starting
 pub mod FirstSets
+pub mod Anchored
+pub mod WideWays
+pub mod Steps
+pub mod PrefixWays
+pub mod Searching
+pub mod Claiming
+pub mod FirstMembers
+pub mod AmongMembers
+pub mod Hinting

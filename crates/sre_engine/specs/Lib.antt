@@ -8,8 +8,11 @@ pub use Rattle.sre_model.specs.Loops
 pub use Rattle.sre_model.specs.Grammar
 pub use Rattle.sre_model.specs.References
 pub use Rattle.sre_model.specs.Width
+pub use Rattle.sre_model.specs.Claims
 pub use Rattle.sre_model.specs.Found
 pub use Rattle.sre_model.specs.WalkBounds
+pub use Rattle.sre_model.specs.Anchors
+pub use Rattle.sre_model.specs.Prefixes
 pub use Rattle.sre_code.specs.Refusals
 pub use Rattle.sre_code.specs.Hinted
 pub use Rattle.sre_code.specs.Codes
@@ -20,3 +23,7 @@ pub mod Walks
 pub mod Iterators
 pub mod Listed
 pub mod Starts
+pub mod Scans
+pub mod Members
+pub mod Counts
+pub mod Prefixed

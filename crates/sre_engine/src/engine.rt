@@ -1,12 +1,16 @@
 //! What is asked of the machine: a match, a search, the walk over all matches.
 
+mod anchors;
 mod first_characters;
 mod leading_run;
+mod members;
 mod next_start;
+mod prefix;
 mod search_iter;
 mod state;
 mod walk;
 mod whole_walk;
+mod widths;
 
 pub use search_iter::SearchIter;
 pub use sre_board::Marks;

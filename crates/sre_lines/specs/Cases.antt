@@ -80,7 +80,7 @@ found_text Walk a t = walk_text (walk a t)
 -- the answer to a case whose words are a tree's
 abbrev pub IsAnswerOf : Tree → Table → Case → List ℕ → List ℕ → List ℕ → Type 0
 IsAnswerOf t table Check words text answer =
-    (hints : Hints) × Confirmed words t hints
+    (hints : Hints) × Confirmed words table t hints
     × (answer ≡ hints_text hints.width hints.prefix hints.literal hints.first_set)
 IsAnswerOf t table (Find finding subject) words text answer =
     answer ≡ found_text finding (asked subject table (characters subject.text text)) t

@@ -1,10 +1,11 @@
 //! The machine's loop: turns until the whole is decided.
 
-ghost use Rattle.std.specs.Prelude.{◌≡◌, ℕ, ◌+◌, ◌<◌, ◌≤◌, [], List, IfOk};
+ghost use Rattle.std.specs.Prelude.{◌≡◌, ℕ, ◌+◌, ◌*◌, ◌^◌, ◌<◌, ◌≤◌, [], List, IfOk};
 ghost use Rattle.sre_model.specs.Marks.{no_marks};
 ghost use Rattle.sre_model.specs.Tree.{Tree};
 ghost use Rattle.sre_model.specs.Ways.{Way};
 ghost use Rattle.sre_model.specs.Grammar.{WholeItems};
+ghost use Rattle.sre_model.specs.Prefixes.{behind_items, ReadsBehind};
 ghost use Rattle.sre_model.specs.Board.{bare};
 ghost use Rattle.sre_model.specs.Machine.{Stands, SaysAccepted, Decides, outcomes};
 ghost use Rattle.sre_request.specs.Requests.{end_of, run_of};
@@ -75,14 +76,15 @@ impl Plan for Brand {
 fn turns<L: Ledger, K: Plan, S: StrDrive, A: Allocator>(
     req: &Request<'_, S>,
     board: &mut Board<A>,
+    place: usize,
     start: StringCursor,
     turned: &mut Turned<L>,
 ) -> Result<Option<StringCursor>, Refusal>
     requires new { turned.old ≡ 0 }
-    requires stands { Stands (run_of req.now) K.all K.limit (Next.At 0 start) board.old }
+    requires stands { Stands (run_of req.now) K.all K.limit (Next.At place start) board.old }
     ensures { IfOk result (λ found. Decides (run_of req.now) K.all found board.new.marks) }
 {
-    let mut next = Next::At(0, start);
+    let mut next = Next::At(place, start);
     'turn: loop {
         turned.tick();
         match next {
@@ -105,40 +107,47 @@ fn turns<L: Ledger, K: Plan, S: StrDrive, A: Allocator>(
     }
 }
 
-// Turns from the start, on an empty board.
+// Turns from the place behind some literals, on an empty board.
 #[inline(always)]
 fn turns_from<L: Ledger, K: Plan, S: StrDrive, A: Allocator>(
     req: &Request<'_, S>,
     board: &mut Board<A>,
+    literals: usize,
     start: StringCursor,
     blank: Blank,
 ) -> Result<Option<StringCursor>, Refusal>
     requires name { blank.name ≡ L.name }
     requires parts { blank.parts ≡ L.parts }
     requires some { 0 < blank.parts }
-    requires stands { Stands (run_of req.now) K.all K.limit (Next.At 0 start) board.old }
+    requires room { 2 * literals < 2 ^ 64 }
+    requires stands { Stands (run_of req.now) K.all K.limit (Next.At (2 * literals) start) board.old }
     ensures { IfOk result (λ found. Decides (run_of req.now) K.all found board.new.marks) }
 {
     let (book, share) = blank.open::<L>();
     let mut turned = Turned { book, share };
-    turns::<L, K, S, A>(req, board, start, &mut turned)
+    turns::<L, K, S, A>(req, board, 2 * literals, start, &mut turned)
 }
 
-/// Runs the machine from a cursor, on an empty board: the cursor at the end of the first accepted way, whose marks are
-/// then on the board, or `None` where no way is accepted.
+/// Runs the machine from a cursor behind some literals that the words begin with, on an empty board: the cursor at the
+/// end of the first accepted way of what follows these literals, whose marks are then on the board, or `None` where no
+/// way is accepted.
 #[inline(always)]
-pub fn run<S: StrDrive, A: Allocator>(
+pub fn run_behind<S: StrDrive, A: Allocator>(
     req: &Request<'_, S>,
+    literals: usize,
     start: StringCursor,
     board: &mut Board<A>,
 ) -> Result<Option<StringCursor>, Refusal>
     requires stands { (run_of req.now).stands start start.position }
     requires inside { start.position ≤ end_of req.now }
     requires fresh { board.old ≡ bare no_marks }
+    requires behind { (t : Tree) → WholeItems (run_of req.now).words t → ReadsBehind (run_of req.now).words literals t }
+    requires room { 2 * literals < 2 ^ 64 }
     ensures { (t : Tree) → WholeItems (run_of req.now).words t
         → IfOk result
-        (λ found. Decides (run_of req.now) (outcomes (run_of req.now) t start.position) found board.new.marks) }
+        (λ found. Decides (run_of req.now)
+        (outcomes (run_of req.now) (behind_items literals t) start.position) found board.new.marks) }
 {
     know_words(req.pattern_codes().items());
-    turns_from::<Brand, Brand, S, A>(req, board, start, Blank::new(1))
+    turns_from::<Brand, Brand, S, A>(req, board, literals, start, Blank::new(1))
 }

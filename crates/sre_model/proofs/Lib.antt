@@ -5,6 +5,8 @@ pub mod Places
 pub mod Widths
 pub mod Unique
 pub mod Props
+pub mod SetWords
+pub mod ClaimProps
 pub mod Each
 pub mod Bounds
 pub mod LoopCases
@@ -43,6 +45,7 @@ pub mod Ran
 pub mod TreeOf
 pub mod CutOff
 mod ReaderRows
+mod HintRows
 pub mod Passing
 pub mod GoingBack
 pub mod Start

@@ -22,7 +22,7 @@ between A B one pa pb x y =
       is_prop→PathP (λ j. B (p j)) (λ j. pb (p j)) x.2 y.2 i,
     )
 
-set_prop : (s : List SetItem) (ws : List ℕ) (i j : ℕ) → IsProp (ReadsSet ws i j s)
+pub set_prop : (s : List SetItem) (ws : List ℕ) (i j : ℕ) → IsProp (ReadsSet ws i j s)
 set_prop [] ws i j = hlevel props
 set_prop (Single v ∷ s) ws i j = hlevel (props, set_prop s ws (i + 2) j)
 set_prop (Range l h ∷ s) ws i j = hlevel (props, set_prop s ws (i + 3) j)

@@ -1,12 +1,13 @@
 -- How a run begins, and how it ends.
 use Rattle.std.proofs.Common.{◌≡◌, ℕ, ◌+◌, ◌-◌, ◌≤◌, ◌++◌, Bool, true, false, List, [], ◌∷◌, refl, sym, ap, ◌∙◌, subst}
-use Rattle.std.proofs.Common.{arith}
+use Rattle.std.proofs.Common.{arith, length}
 use Rattle.std.specs.List.{filter}
+use Rattle.sre_chars.specs.declared.constants.SreOpcode.TheVariants as opcode
 use Rattle.sre_chars.specs.declared.string.StringCursor.{StringCursor}
 use Rattle.sre_model.specs.Tree.{Tree}
 use Rattle.sre_model.specs.Marks.{no_marks}
 use Rattle.sre_model.specs.Ways.{Way, ways}
-use Rattle.sre_model.specs.Grammar.{WholeItems}
+use Rattle.sre_model.specs.Grammar.{Opcode, Reads}
 use Rattle.sre_model.specs.Standing.{AreWords}
 use Rattle.sre_model.specs.Board.{Choice, Else, Keep, from_region, BoardValue, bare}
 use Rattle.sre_model.specs.declared.Point.TheVariants.{Instruction}
@@ -18,12 +19,13 @@ use Rattle.sre_model.proofs.Outcomes.{region}
 use Rattle.sre_model.proofs.Placed.{none_placed}
 use Rattle.sre_model.proofs.Ran.{ran}
 
--- a run from a cursor has the tree's accepted ways
-pub started : (r : Run) (t : Tree) (c : StringCursor) (b : BoardValue) → AreWords r.words → WholeItems r.words t
+-- a run from a cursor and a place has the accepted ways of the tree whose words are those from there on
+pub started : (r : Run) (i : ℕ) (t : Tree) (c : StringCursor) (b : BoardValue) → AreWords r.words
+    → Reads r.words i (length r.words - 1) t → Opcode r.words (length r.words - 1) opcode.SUCCESS
     → r.stands c c.position → c.position ≤ r.subject.end → b ≡ bare no_marks
-    → Goes r (outcomes r t c.position) (cost r.subject t ending c.position no_marks) (Instruction 0) c b
-started r t c b v whole stands inside fresh =
-    subst (λ x. Goes r (outcomes r t c.position) (cost r.subject t ending c.position no_marks) (Instruction 0) c x)
+    → Goes r (outcomes r t c.position) (cost r.subject t ending c.position no_marks) (Instruction i) c b
+started r i t c b v reads ends stands inside fresh =
+    subst (λ x. Goes r (outcomes r t c.position) (cost r.subject t ending c.position no_marks) (Instruction i) c x)
     (sym fresh)
     (record {
       now = ways r.subject t c.position no_marks;
@@ -32,8 +34,8 @@ started r t c b v whole stands inside fresh =
       stands = stands;
       placed = none_placed r.subject;
       runs =
-          region r.words r.subject 0 _ (λ q k. ways r.subject t q k) (λ C q k. cost r.subject t C q k)
-          (ran r.words r.subject 0 _ t v whole.0) whole.1 [] c.position no_marks inside;
+          region r.words r.subject i _ (λ q k. ways r.subject t q k) (λ C q k. cost r.subject t C q k)
+          (ran r.words r.subject i _ t v reads) ends [] c.position no_marks inside;
       waits = outermost;
       within = omega arith;
     })

@@ -99,7 +99,7 @@ same_reference_fold ws i f g x y = same_member reference_opcode fold_of referenc
 longer : (ws : List ℕ) (i p j : ℕ) (s : List SetItem) → i < p → ReadsSet ws p j s → i < j
 longer ws i p j s lt r = omega (arith, set_within ws p j s r)
 
-set_same : (a b : List SetItem) (ws : List ℕ) (i j : ℕ) → ReadsSet ws i j a → ReadsSet ws i j b → a ≡ b
+pub set_same : (a b : List SetItem) (ws : List ℕ) (i j : ℕ) → ReadsSet ws i j a → ReadsSet ws i j b → a ≡ b
 set_same [] [] ws i j r s = refl
 set_same [] (Single v ∷ b) ws i j r s = absurd (omega (arith, r, set_within ws (i + 2) j b s.2))
 set_same [] (Range l h ∷ b) ws i j r s = absurd (omega (arith, r, set_within ws (i + 3) j b s.3))

@@ -7,8 +7,11 @@ pub mod Loops
 pub mod Grammar
 pub mod Roles
 pub mod Width
+pub mod Claims
 pub mod Found
 pub mod FirstCharacters
+pub mod Anchors
+pub mod Prefixes
 pub mod References
 pub mod LeadingRuns
 pub mod WalkBounds

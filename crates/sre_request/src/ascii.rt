@@ -12,11 +12,11 @@ ghost use Rattle.sre_model.specs.Grammar.{Opcode};
 ghost use Rattle.sre_model.specs.Standing.{SetStands, HasSet, HasTest};
 ghost use Rattle.sre_request.specs.AsciiSets.{HoldsFor, TakesAscii, is_told};
 
-use crate::operands::{category_code, operand, word};
-use crate::set::opcode;
 use sre_ascii::AsciiSet;
 use sre_chars::constants::SreOpcode;
 use sre_chars::string::{lower_ascii, upper_ascii};
+use sre_code::members::opcode;
+use sre_code::operands::{category_code, operand, word};
 use std::convert::TryFrom;
 
 // The ASCII characters for which an item of a set holds, and where the next item begins.
@@ -85,7 +85,7 @@ fn union_if(members: AsciiSet, others: AsciiSet, wanted: bool) -> AsciiSet
 /// The ASCII characters that the set whose items begin at `start` takes, if each item is a LITERAL, a RANGE, a
 /// CATEGORY, a CHARSET or a NEGATE.
 #[inline(never)]
-pub(crate) fn ascii_members(words: &[u32], start: usize) -> Option<AsciiSet>
+pub fn ascii_members(words: &[u32], start: usize) -> Option<AsciiSet>
     requires { HasSet words.now start }
     ensures { (table : Table) (j : ℕ) (set : List SetItem) → SetStands words.now start j set
         → IfSome result (λ members. (c : ℕ) → c < 128 → contains members c ≡ is_member table set c) }

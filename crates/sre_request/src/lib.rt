@@ -6,12 +6,11 @@
 
 pub mod ascii;
 pub mod one_character;
-pub mod operands;
 pub mod position;
 pub mod references;
 mod request;
 pub mod runs;
-mod set;
 pub mod text;
 
 pub use request::Request;
+pub use sre_code::operands;

@@ -9,11 +9,11 @@ ghost use Rattle.sre_model.specs.Grammar.{Opcode};
 ghost use Rattle.sre_model.specs.Standing.{SetStands, HasSet, TestStands, HasTest};
 ghost use Rattle.sre_request.specs.Requests.{run_of};
 
-use crate::operands::{category_code, operand, word};
 use crate::request::Request;
-use crate::set::is_member;
 use sre_chars::constants::SreOpcode;
 use sre_chars::string::{StrDrive, UniTable, category, lower_ascii, lower_unicode, upper_ascii};
+use sre_code::members::is_member;
+use sre_code::operands::{category_code, operand, word};
 use std::convert::TryFrom;
 
 // Whether a value is a character or one of its ASCII cases.

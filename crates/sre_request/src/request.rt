@@ -1,6 +1,6 @@
 //! What is asked of a search.
 
-ghost use Rattle.std.specs.Prelude.{⊤, ◌≡◌, ◌≤◌, length};
+ghost use Rattle.std.specs.Prelude.{⊤, ◌≡◌, ◌+◌, ◌^◌, ◌≤◌, length};
 
 use sre_chars::string::StrDrive;
 use sre_code::Code;
@@ -14,7 +14,7 @@ pub struct Request<'a, S: StrDrive> {
     pattern_codes: Code<'a>,
     match_all: bool,
     must_advance: bool,
-    ghost in_window: { (start ≤ end) × (end ≤ length (S.text string)) },
+    ghost in_window: { ((start ≤ end) × (end ≤ length (S.text string))) × (end + 1 ≤ 2 ^ 63) },
 }
 
 impl<'a, S: StrDrive> Clone for Request<'a, S> {
@@ -30,7 +30,7 @@ impl<'a, S: StrDrive> Clone for Request<'a, S> {
 impl<'a, S: StrDrive> Copy for Request<'a, S> {}
 
 impl<'a, S: StrDrive> Request<'a, S> {
-    ghost use Rattle.std.specs.Prelude.{◌≡◌, ◌≤◌, length, min, false};
+    ghost use Rattle.std.specs.Prelude.{◌≡◌, ◌^◌, ◌<◌, ◌≤◌, length, min, false};
     ghost use Rattle.sre_request.specs.Requests.{string_of, start_of, end_of, code_of, match_all_of, must_advance_of};
 
     /// A request over the window from `start` to `end` of a text: `end` is held at the number of characters, and
@@ -93,11 +93,12 @@ impl<'a, S: StrDrive> Request<'a, S> {
     }
 
     /// The position at which the window ends: characters from it on are not seen.
-    /// It is at most the number of the text's characters.
+    /// It is at most the number of the text's characters, and so below 2^63.
     #[inline(always)]
     pub fn end(&self) -> usize
         ensures value { result ≡ end_of self.now }
         ensures in_text { result ≤ length (S.text (string_of self.now)) }
+        ensures bounded { result < 2 ^ 63 }
     {
         self.end
     }

@@ -20,13 +20,13 @@ ghost use Rattle.sre_request.specs.AsciiSets.{IsAsciiPart};
 
 use crate::ascii::ascii_members;
 use crate::one_character::{opcode, takes};
-use crate::operands::{category_code, operand, word};
 use crate::request::Request;
-use crate::set::{has_bit, is_between, is_in_category, is_member};
 use crate::text::read;
 use sre_ascii::AsciiSet;
 use sre_chars::constants::{MAXREPEAT, SreCatCode, SreOpcode};
 use sre_chars::string::{StrDrive, StringCursor, UniTable};
+use sre_code::members::{has_bit, is_between, is_in_category, is_member};
+use sre_code::operands::{category_code, operand, word};
 
 // How many characters a run from a cursor may have: those that are left, up to the greatest count.
 #[inline(always)]

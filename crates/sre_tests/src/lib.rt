@@ -15,6 +15,8 @@ mod boards;
 #[cfg(test)]
 mod characters;
 #[cfg(test)]
+mod counts;
+#[cfg(test)]
 mod faults;
 #[cfg(test)]
 mod flags;

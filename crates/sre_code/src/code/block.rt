@@ -1,6 +1,6 @@
 //! The information block at the front: `<INFO> <skip> <flags> <least width> <greatest width> ..`.
 //!
-//! Its skip leads behind it. What stands in it from its flags on is not read.
+//! Its skip leads behind it. What stands in it from its flags on is read for hints alone (`claims`).
 
 ghost use Rattle.sre_code.specs.Fronts.{BlockAt};
 

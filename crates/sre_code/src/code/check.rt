@@ -8,7 +8,7 @@ ghost use Rattle.sre_code.specs.Codes.{words_of, uni_of};
 ghost use Rattle.sre_growth.specs.Refusal.{Refused};
 
 use crate::code::descent::descend;
-use crate::code::{Code, CodeError, Hints, block, references};
+use crate::code::{Code, CodeError, block, claims, references};
 use sre_chars::string::UniTable;
 use std::alloc::Allocator;
 
@@ -28,20 +28,15 @@ pub fn check_in<'a, A: Allocator + Copy>(
 {
     let length = block::length(words)?;
     let items = words.split_at(length).1;
-    if let Err(error) = descend(alloc, items, 0) {
-        return Err(error.moved(length));
-    }
-    let hints = Hints {
-        width: None,
-        prefix: None,
-        literal: false,
-        first_set: false,
+    let least = match descend(alloc, items, 0) {
+        Ok(least) => least,
+        Err(error) => return Err(error.moved(length)),
     };
     Ok(Code {
         words,
         items,
         uni,
-        hints,
+        hints: claims::confirmed(words, length, uni, items, least),
         has_reference: references::has_reference(items),
     })
 }

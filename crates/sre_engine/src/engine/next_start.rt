@@ -15,7 +15,11 @@ use sre_request::text::{back_by, cursor_at, read};
 
 // The cursor some characters back, with no step where there are none.
 #[inline(always)]
-fn looked_at<S: StrDrive>(req: &Request<'_, S>, cursor: StringCursor, back: usize) -> StringCursor
+pub(super) fn looked_at<S: StrDrive>(
+    req: &Request<'_, S>,
+    cursor: StringCursor,
+    back: usize,
+) -> StringCursor
     requires stands { (run_of req.now).stands cursor cursor.position }
     requires past { back ≤ cursor.position }
     ensures position { result.position ≡ cursor.position - back }

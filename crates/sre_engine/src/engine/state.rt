@@ -1,25 +1,36 @@
 //! A state: what a search leaves of a match.
 
-ghost use Rattle.std.specs.Prelude.{◌≡◌, ◌≤◌, length, IfOk, OnErr, true, false, None};
+ghost use Rattle.std.specs.Prelude.{◌≡◌, ◌+◌, ◌-◌, ◌*◌, ◌^◌, ◌<◌, ◌≤◌, ℕ, length, IfOk, OnErr, true, false, Some};
+ghost use Rattle.std.specs.Prelude.{None};
 ghost use Rattle.sre_model.specs.Tree.{Tree};
-ghost use Rattle.sre_model.specs.Grammar.{Whole};
+ghost use Rattle.sre_model.specs.Grammar.{Whole, WholeItems};
 ghost use Rattle.sre_model.specs.Marks.{no_marks};
 ghost use Rattle.sre_model.specs.Found.{matched, at_start, found};
+ghost use Rattle.sre_model.specs.Anchors.{is_anchored};
+ghost use Rattle.sre_model.specs.Prefixes.{behind_items, ReadsBehind};
 ghost use Rattle.sre_model.specs.Board.{bare};
 ghost use Rattle.sre_model.specs.Machine.{Decides, outcomes};
-ghost use Rattle.sre_code.specs.Codes.{words_of};
+ghost use Rattle.sre_code.specs.Codes.{words_of, hints_of};
 ghost use Rattle.sre_request.specs.Requests.{string_of, start_of, end_of, code_of, asked_of, stands_in, run_of};
 ghost use Rattle.sre_engine.specs.Answers.{Answers, AnswersAlike, Spans};
+ghost use Rattle.sre_engine.specs.Counts.{CountsUpTo};
+ghost use Rattle.sre_engine.specs.Prefixed.{IsPrefix, IsLast, FitsAt};
 ghost use Rattle.sre_engine.specs.Starts.{NoneBetween};
 ghost use Rattle.sre_growth.specs.Refusal.{Refused};
 
+use crate::engine::anchors::is_anchored;
 use crate::engine::first_characters::First;
 use crate::engine::leading_run::{leading_run, start_behind};
+use crate::engine::members::next_member;
 use crate::engine::next_start::next_start;
+use crate::engine::prefix::{
+    Prefix, Spot, behind_literals, find, go_on, may_end, prefix_of, start_of,
+};
+use crate::engine::widths::{is_past, last_start};
 use sre_board::{Board, Marks};
 use sre_chars::string::{StrDrive, StringCursor};
 use sre_growth::Refusal;
-use sre_machine::turns::run;
+use sre_machine::turns::run_behind;
 use sre_request::Request;
 use std::alloc::Allocator;
 use std::marker::Model;
@@ -48,7 +59,7 @@ impl From<Refusal> for SreError {
     }
 }
 
-/// The marks, the start and the end of a match, and the memory in which a search runs.
+/// The marks, the start and the end of a match, the counts of a search, and the memory in which it runs.
 ///
 /// A state serves any number of searches, over texts of any kind. Its memory is kept from one to the next.
 #[derive(Drop)]
@@ -56,6 +67,8 @@ pub struct State<A: Allocator + Copy> {
     board: Board<A>,
     start: usize,
     cursor: StringCursor,
+    compared: u64,
+    started: u64,
 }
 
 impl<A: Allocator + Copy> Model for State<A> {
@@ -63,28 +76,43 @@ impl<A: Allocator + Copy> Model for State<A> {
 
     ghost Value = { Shown };
 
-    ghost view = { λ s. record { marks = s.board.marks; start = s.start; cursor = s.cursor } };
+    ghost view = { λ s. record {
+      marks = s.board.marks;
+      start = s.start;
+      cursor = s.cursor;
+      compared = s.compared;
+      started = s.started;
+    } };
 }
 
-// The first accepted way from a cursor, on an empty board: the cursor at its end, and its marks on the board. Without a
-// way, or with an error, the board is empty.
+// The first accepted way of what follows some literals, from a cursor and on an empty board: the cursor at its end, and
+// its marks on the board. Without a way, or with an error, the board is empty. No other function begins a run of the
+// machine, and this one begins one.
 #[inline(always)]
 fn attempt<S: StrDrive, A: Allocator>(
     req: &Request<'_, S>,
+    literals: usize,
     start: StringCursor,
     board: &mut Board<A>,
+    started: &mut u64,
 ) -> Result<Option<StringCursor>, SreError>
     requires stands { (run_of req.now).stands start start.position }
     requires inside { start.position ≤ end_of req.now }
     requires fresh { board.old ≡ bare no_marks }
+    requires behind { (t : Tree) → WholeItems (run_of req.now).words t → ReadsBehind (run_of req.now).words literals t }
+    requires few { 2 * literals < 2 ^ 64 }
+    requires room { started.old + 1 < 2 ^ 64 }
+    ensures counted { started.new ≡ started.old + 1 }
     ensures found { (t : Tree) → Whole (words_of (code_of req.now)) t
         → IfOk result
-        (λ found. Decides (run_of req.now) (outcomes (run_of req.now) t start.position) found board.new.marks) }
+        (λ found. Decides (run_of req.now) (outcomes (run_of req.now) (behind_items literals t) start.position) found
+        board.new.marks) }
     ensures none { result ≡ Ok None → board.new ≡ bare no_marks }
     ensures err { OnErr result (board.new ≡ bare no_marks) }
     ensures refused { OnErr result Refused }
 {
-    match run(req, start, board) {
+    *started += 1;
+    match run_behind(req, literals, start, board) {
         Ok(Some(end)) => Ok(Some(end)),
         Ok(None) => {
             board.clear();
@@ -98,14 +126,22 @@ fn attempt<S: StrDrive, A: Allocator>(
 }
 
 impl<A: Allocator + Copy> State<A> {
-    /// A state with no marks, start 0 and the default cursor. It takes no memory.
+    /// A state with no marks, start 0, the default cursor, and nothing counted. It takes no memory.
     pub fn new(alloc: A) -> State<A>
-        ensures { result ≡ record { marks = no_marks; start = 0; cursor = record { position = 0; offset = 0 } } }
+        ensures { result ≡ record {
+          marks = no_marks;
+          start = 0;
+          cursor = record { position = 0; offset = 0 };
+          compared = 0;
+          started = 0;
+        } }
     {
         State {
             board: Board::new(alloc),
             start: 0,
             cursor: StringCursor::default(),
+            compared: 0,
+            started: 0,
         }
     }
 
@@ -120,7 +156,7 @@ impl<A: Allocator + Copy> State<A> {
     pub fn start(&self) -> usize
         ensures { result ≡ self.now.start }
     {
-        self.start
+        self.start // of the match
     }
 
     /// A cursor that stands where the match ends. It is left open where the last search found none.
@@ -130,12 +166,29 @@ impl<A: Allocator + Copy> State<A> {
         self.cursor
     }
 
+    /// How many comparisons of a character with a word of a confirmed prefix the last search made, one that was given
+    /// up among them. Only a search counts.
+    pub fn compared(&self) -> u64
+        ensures { result ≡ self.now.compared }
+    {
+        self.compared
+    }
+
+    /// How many runs of the machine the last search began, one that was given up among them. Only a search counts.
+    pub fn started(&self) -> u64
+        ensures { result ≡ self.now.started }
+    {
+        self.started
+    }
+
     /// Stands at a position of a request's text, with no marks.
     pub fn reset<S: StrDrive>(&mut self, req: &Request<'_, S>, start: usize)
         requires { start ≤ length (S.text (string_of req.now)) }
         ensures marks { self.new.marks ≡ no_marks }
         ensures start { self.new.start ≡ start }
         ensures cursor { S.stands (string_of req.now) self.new.cursor start }
+        ensures compared { self.new.compared ≡ self.old.compared }
+        ensures started { self.new.started ≡ self.old.started }
     {
         self.board.clear();
         (self.start, self.cursor) = (start, req.string().create_cursor(start));
@@ -158,10 +211,13 @@ impl<A: Allocator + Copy> State<A> {
         ensures no { IfOk result (λ b. b ≡ false → self.new.marks ≡ no_marks) }
         ensures err { OnErr result (self.new.marks ≡ no_marks) }
         ensures refused { OnErr result Refused }
+        ensures compared { self.new.compared ≡ self.old.compared }
+        ensures started { self.new.started ≡ self.old.started }
     {
         let start = req.string().create_cursor(req.start());
+        let mut own = 0; // no search
         self.board.clear(); // of an earlier match
-        match attempt(req, start, &mut self.board)? {
+        match attempt(req, 0, start, &mut self.board, &mut own)? {
             Some(end) => {
                 (self.start, self.cursor) = (req.start(), end);
                 Ok(true)
@@ -177,6 +233,11 @@ impl<A: Allocator + Copy> State<A> {
     /// `must_advance` an empty match is refused at the window's start alone. Equal characters, tables, windows,
     /// flags and trees have equal answers, whatever types the texts are of.
     ///
+    /// A start at which no match begins by the code's hints is passed, and `started` and `compared` tell what the
+    /// search took: at most one run at each start, none at which a confirmed width does not fit, with a confirmed
+    /// prefix only where it stands, and with a confirmed first set only at its members; and at most two comparisons
+    /// with a confirmed prefix for each character. Where the prefix is all of the code, there is no run and no error.
+    ///
     /// An error means that a growth of the state's memory was refused. After it, as after `Ok(false)`, there are no
     /// marks, start and cursor are open, and the state serves again, with a text of any type.
     pub fn search<S: StrDrive>(&mut self, req: Request<'_, S>) -> Result<bool, SreError>
@@ -189,6 +250,14 @@ impl<A: Allocator + Copy> State<A> {
         ensures no { IfOk result (λ b. b ≡ false → self.new.marks ≡ no_marks) }
         ensures err { OnErr result (self.new.marks ≡ no_marks) }
         ensures refused { OnErr result Refused }
+        ensures counts { CountsUpTo (asked_of req.entry) (code_of req.entry) (end_of req.entry + 1) (end_of req.entry)
+            self.new }
+        ensures up_to_match { IfOk result (λ b. b ≡ true → CountsUpTo (asked_of req.entry) (code_of req.entry)
+            (self.new.start + 1) self.new.cursor.position self.new) }
+        ensures anchored { (t : Tree) → Whole (words_of (code_of req.entry)) t
+            → is_anchored t ≡ true → self.new.started ≤ 1 }
+        ensures literal { (l k : ℕ) → (hints_of (code_of req.entry)).prefix ≡ Some (l, k)
+            → (hints_of (code_of req.entry)).literal ≡ true → OnErr result ⊥ }
     {
         self.search_from(&req, req.string().create_cursor(req.start()))
     }
@@ -202,39 +271,81 @@ impl<A: Allocator + Copy> State<A> {
         requires { stands_in req.now from (start_of req.now) }
         ensures ok { (t : Tree) → Whole (words_of (code_of req.now)) t
             → IfOk result (λ b. Answers (stands_in req.now) (found (asked_of req.now) t) b self.new) }
-        ensures alike { (t : Tree) → Whole (words_of (code_of req.now)) t
-            → IfOk result (λ b. AnswersAlike (λ asked. found asked t) (asked_of req.now) b self.new) }
         ensures span { IfOk result
             (λ b. b ≡ true → (start_of req.now ≤ self.new.start) × Spans self.new.start (end_of req.now) self.new) }
         ensures no { IfOk result (λ b. b ≡ false → self.new.marks ≡ no_marks) }
         ensures err { OnErr result (self.new.marks ≡ no_marks) }
         ensures refused { OnErr result Refused }
+        ensures counts { CountsUpTo (asked_of req.now) (code_of req.now) (end_of req.now + 1) (end_of req.now)
+            self.new }
+        ensures up_to_match { IfOk result (λ b. b ≡ true → CountsUpTo (asked_of req.now) (code_of req.now)
+            (self.new.start + 1) self.new.cursor.position self.new) }
+        ensures anchored { (t : Tree) → Whole (words_of (code_of req.now)) t
+            → is_anchored t ≡ true → self.new.started ≤ 1 }
+        ensures literal { (l k : ℕ) → (hints_of (code_of req.now)).prefix ≡ Some (l, k)
+            → (hints_of (code_of req.now)).literal ≡ true → OnErr result ⊥ }
     {
-        self.board.clear(); // of an earlier search
-        let first = First::of_items(req.pattern_codes().items(), false);
-        let Some(start) = next_start(req, &first, from) else {
-            return Ok(false);
-        };
-        if let Some(end) = attempt(req, start, &mut self.board)? {
-            (self.start, self.cursor) = (start.position(), end);
-            return Ok(true);
+        if let Some(prefix) = prefix_of(req) {
+            if prefix.whole {
+                return Ok(self.search_whole(req, &prefix, from));
+            }
+            return self.search_places(req, &prefix, from);
         }
-        self.search_behind(req, start)
+        if req.pattern_codes().hints().first_set {
+            return self.search_members(req, from);
+        }
+        if is_anchored(req) {
+            return self.search_anchored(req, from);
+        }
+        self.search_starts(req, from)
     }
 
-    // Goes on with a search behind the first of its starts that was tried. Only now it is worth to read in the words
-    // with what alternatives begin, and whether a run leads: most steps of a walk end at the first start that is tried.
-    fn search_behind<S: StrDrive>(
+    // Searches the places where a prefix stands, which is all of the code.
+    fn search_whole<S: StrDrive>(
         &mut self,
         req: &Request<'_, S>,
-        tried: StringCursor,
+        prefix: &Prefix<'_>,
+        from: StringCursor,
+    ) -> bool
+        requires stands { stands_in req.now from (start_of req.now) }
+        requires is { IsPrefix (code_of req.now) prefix.now.words.now prefix.now.literals prefix.now.whole }
+        requires all { prefix.now.whole ≡ true }
+        ensures ok { (t : Tree) → Whole (words_of (code_of req.now)) t
+            → Answers (stands_in req.now) (found (asked_of req.now) t) result self.new }
+        ensures span { result ≡ true
+            → (start_of req.now ≤ self.new.start) × Spans self.new.start (end_of req.now) self.new }
+        ensures no { result ≡ false → self.new.marks ≡ no_marks }
+        ensures counts { CountsUpTo (asked_of req.now) (code_of req.now) (end_of req.now + 1) (end_of req.now)
+            self.new }
+        ensures up_to_match { result ≡ true → CountsUpTo (asked_of req.now) (code_of req.now) (self.new.start + 1)
+            self.new.cursor.position self.new }
+    {
+        self.board.clear(); // of an earlier search
+        (self.compared, self.started) = (0, 0);
+        let mut spot = Spot {
+            cursor: from,
+            matched: 0,
+        };
+        'place: while find(req, prefix, &mut self.compared, &mut spot) {
+            if may_end(req, spot.cursor) {
+                (self.start, self.cursor) = (start_of(prefix, spot), spot.cursor);
+                return true;
+            }
+            spot = go_on(req, prefix, &self.compared, spot);
+        }
+        false
+    }
+
+    // Searches the places where a prefix stands. At each that is found the machine runs behind the first literals.
+    fn search_places<S: StrDrive>(
+        &mut self,
+        req: &Request<'_, S>,
+        prefix: &Prefix<'_>,
+        from: StringCursor,
     ) -> Result<bool, SreError>
-        requires stands { stands_in req.now tried tried.position }
-        requires from { start_of req.now ≤ tried.position }
-        requires inside { tried.position ≤ end_of req.now }
-        requires none { (t : Tree) → Whole (words_of (code_of req.now)) t
-            → NoneBetween (asked_of req.now) t (start_of req.now) tried.position
-            × (at_start (asked_of req.now) t tried.position ≡ None) }
+        requires stands { stands_in req.now from (start_of req.now) }
+        requires is { IsPrefix (code_of req.now) prefix.now.words.now prefix.now.literals prefix.now.whole }
+        requires more { prefix.now.whole ≡ false }
         ensures ok { (t : Tree) → Whole (words_of (code_of req.now)) t
             → IfOk result (λ b. Answers (stands_in req.now) (found (asked_of req.now) t) b self.new) }
         ensures span { IfOk result
@@ -242,6 +353,186 @@ impl<A: Allocator + Copy> State<A> {
         ensures no { IfOk result (λ b. b ≡ false → self.new.marks ≡ no_marks) }
         ensures err { OnErr result (self.new.marks ≡ no_marks) }
         ensures refused { OnErr result Refused }
+        ensures counts { CountsUpTo (asked_of req.now) (code_of req.now) (end_of req.now + 1) (end_of req.now)
+            self.new }
+        ensures up_to_match { IfOk result (λ b. b ≡ true → CountsUpTo (asked_of req.now) (code_of req.now)
+            (self.new.start + 1) self.new.cursor.position self.new) }
+    {
+        self.board.clear(); // of an earlier search
+        (self.compared, self.started) = (0, 0);
+        let last = last_start(req);
+        let mut spot = Spot {
+            cursor: from,
+            matched: 0,
+        };
+        'place: while find(req, prefix, &mut self.compared, &mut spot) {
+            let start = start_of(prefix, spot);
+            if is_past(last, start) {
+                return Ok(false);
+            }
+            let behind = behind_literals(req, prefix, spot);
+            if let Some(end) = attempt(
+                req,
+                prefix.literals,
+                behind,
+                &mut self.board,
+                &mut self.started,
+            )? {
+                (self.start, self.cursor) = (start, end);
+                return Ok(true);
+            }
+            spot = go_on(req, prefix, &self.compared, spot);
+        }
+        Ok(false)
+    }
+
+    // Matches at the window's start, the only one at which a code may match that is anchored at the text's.
+    fn search_anchored<S: StrDrive>(
+        &mut self,
+        req: &Request<'_, S>,
+        from: StringCursor,
+    ) -> Result<bool, SreError>
+        requires stands { stands_in req.now from (start_of req.now) }
+        requires plain { (hints_of (code_of req.now)).prefix ≡ None }
+        requires no_set { (hints_of (code_of req.now)).first_set ≡ false }
+        requires anchored { (t : Tree) → Whole (words_of (code_of req.now)) t → is_anchored t ≡ true }
+        ensures ok { (t : Tree) → Whole (words_of (code_of req.now)) t
+            → IfOk result (λ b. Answers (stands_in req.now) (found (asked_of req.now) t) b self.new) }
+        ensures span { IfOk result
+            (λ b. b ≡ true → (start_of req.now ≤ self.new.start) × Spans self.new.start (end_of req.now) self.new) }
+        ensures no { IfOk result (λ b. b ≡ false → self.new.marks ≡ no_marks) }
+        ensures err { OnErr result (self.new.marks ≡ no_marks) }
+        ensures refused { OnErr result Refused }
+        ensures counts { CountsUpTo (asked_of req.now) (code_of req.now) (end_of req.now + 1) (end_of req.now)
+            self.new }
+        ensures up_to_match { IfOk result (λ b. b ≡ true → CountsUpTo (asked_of req.now) (code_of req.now)
+            (self.new.start + 1) self.new.cursor.position self.new) }
+        ensures once { self.new.started ≤ 1 }
+    {
+        self.board.clear(); // of an earlier search
+        (self.compared, self.started) = (0, 0);
+        if is_past(last_start(req), from.position()) {
+            return Ok(false);
+        }
+        if let Some(end) = attempt(req, 0, from, &mut self.board, &mut self.started)? {
+            (self.start, self.cursor) = (from.position(), end);
+            return Ok(true);
+        }
+        Ok(false)
+    }
+
+    // Searches the places of the members of a confirmed first set.
+    fn search_members<S: StrDrive>(
+        &mut self,
+        req: &Request<'_, S>,
+        from: StringCursor,
+    ) -> Result<bool, SreError>
+        requires stands { stands_in req.now from (start_of req.now) }
+        requires plain { (hints_of (code_of req.now)).prefix ≡ None }
+        requires set { (hints_of (code_of req.now)).first_set ≡ true }
+        ensures ok { (t : Tree) → Whole (words_of (code_of req.now)) t
+            → IfOk result (λ b. Answers (stands_in req.now) (found (asked_of req.now) t) b self.new) }
+        ensures span { IfOk result
+            (λ b. b ≡ true → (start_of req.now ≤ self.new.start) × Spans self.new.start (end_of req.now) self.new) }
+        ensures no { IfOk result (λ b. b ≡ false → self.new.marks ≡ no_marks) }
+        ensures err { OnErr result (self.new.marks ≡ no_marks) }
+        ensures refused { OnErr result Refused }
+        ensures counts { CountsUpTo (asked_of req.now) (code_of req.now) (end_of req.now + 1) (end_of req.now)
+            self.new }
+        ensures up_to_match { IfOk result (λ b. b ≡ true → CountsUpTo (asked_of req.now) (code_of req.now)
+            (self.new.start + 1) self.new.cursor.position self.new) }
+    {
+        self.board.clear(); // of an earlier search
+        (self.compared, self.started) = (0, 0);
+        let last = last_start(req);
+        let mut start = from;
+        'start: loop {
+            let Some(next) = next_member(req, start) else {
+                return Ok(false);
+            };
+            if is_past(last, next.position()) {
+                return Ok(false);
+            }
+            if let Some(end) = attempt(req, 0, next, &mut self.board, &mut self.started)? {
+                (self.start, self.cursor) = (next.position(), end);
+                return Ok(true);
+            }
+            let Some(behind) = start_behind(req, leading_run(req), next) else {
+                return Ok(false);
+            };
+            start = behind;
+        }
+    }
+
+    // Searches the starts, where neither a prefix nor a first set is confirmed.
+    fn search_starts<S: StrDrive>(
+        &mut self,
+        req: &Request<'_, S>,
+        from: StringCursor,
+    ) -> Result<bool, SreError>
+        requires stands { stands_in req.now from (start_of req.now) }
+        requires plain { (hints_of (code_of req.now)).prefix ≡ None }
+        requires no_set { (hints_of (code_of req.now)).first_set ≡ false }
+        ensures ok { (t : Tree) → Whole (words_of (code_of req.now)) t
+            → IfOk result (λ b. Answers (stands_in req.now) (found (asked_of req.now) t) b self.new) }
+        ensures span { IfOk result
+            (λ b. b ≡ true → (start_of req.now ≤ self.new.start) × Spans self.new.start (end_of req.now) self.new) }
+        ensures no { IfOk result (λ b. b ≡ false → self.new.marks ≡ no_marks) }
+        ensures err { OnErr result (self.new.marks ≡ no_marks) }
+        ensures refused { OnErr result Refused }
+        ensures counts { CountsUpTo (asked_of req.now) (code_of req.now) (end_of req.now + 1) (end_of req.now)
+            self.new }
+        ensures up_to_match { IfOk result (λ b. b ≡ true → CountsUpTo (asked_of req.now) (code_of req.now)
+            (self.new.start + 1) self.new.cursor.position self.new) }
+    {
+        self.board.clear(); // of an earlier search
+        (self.compared, self.started) = (0, 0);
+        let last = last_start(req);
+        let first = First::of_items(req.pattern_codes().items(), false);
+        let Some(start) = next_start(req, &first, from) else {
+            return Ok(false);
+        };
+        if is_past(last, start.position()) {
+            return Ok(false);
+        }
+        if let Some(end) = attempt(req, 0, start, &mut self.board, &mut self.started)? {
+            (self.start, self.cursor) = (start.position(), end);
+            return Ok(true);
+        }
+        self.search_behind(req, last, start)
+    }
+
+    // Goes on with a search behind the first of its starts that was tried. Only now it is worth to read in the words
+    // with what alternatives begin, and whether a run leads: most steps of a walk end at the first start that is tried.
+    fn search_behind<S: StrDrive>(
+        &mut self,
+        req: &Request<'_, S>,
+        last: Option<usize>,
+        tried: StringCursor,
+    ) -> Result<bool, SreError>
+        requires plain { (hints_of (code_of req.now)).prefix ≡ None }
+        requires no_set { (hints_of (code_of req.now)).first_set ≡ false }
+        requires last { IsLast (asked_of req.now) (code_of req.now) last }
+        requires stands { stands_in req.now tried tried.position }
+        requires from { start_of req.now ≤ tried.position }
+        requires fits { FitsAt last tried.position }
+        requires inside { tried.position ≤ end_of req.now }
+        requires none { (t : Tree) → Whole (words_of (code_of req.now)) t
+            → NoneBetween (asked_of req.now) t (start_of req.now) tried.position
+            × (at_start (asked_of req.now) t tried.position ≡ None) }
+        requires once { self.old.started ≡ 1 }
+        requires uncompared { self.old.compared ≡ 0 }
+        ensures ok { (t : Tree) → Whole (words_of (code_of req.now)) t
+            → IfOk result (λ b. Answers (stands_in req.now) (found (asked_of req.now) t) b self.new) }
+        ensures span { IfOk result
+            (λ b. b ≡ true → (start_of req.now ≤ self.new.start) × Spans self.new.start (end_of req.now) self.new) }
+        ensures no { IfOk result (λ b. b ≡ false → self.new.marks ≡ no_marks) }
+        ensures err { OnErr result (self.new.marks ≡ no_marks) }
+        ensures refused { OnErr result Refused }
+        ensures counts { CountsUpTo (asked_of req.now) (code_of req.now) (end_of req.now + 1) (end_of req.now)
+            self.new }
+        ensures up_to_match { IfOk result (λ b. b ≡ true → CountsUpTo (asked_of req.now) (code_of req.now)
+            (self.new.start + 1) self.new.cursor.position self.new) }
     {
         self.board.clear();
         let first = First::of_items(req.pattern_codes().items(), true);
@@ -255,7 +546,10 @@ impl<A: Allocator + Copy> State<A> {
                 None => return Ok(false),
                 Some(next) => start = next,
             }
-            if let Some(end) = attempt(req, start, &mut self.board)? {
+            if is_past(last, start.position()) {
+                return Ok(false);
+            }
+            if let Some(end) = attempt(req, 0, start, &mut self.board, &mut self.started)? {
                 (self.start, self.cursor) = (start.position(), end);
                 return Ok(true);
             }

@@ -1,6 +1,10 @@
-use Rattle.std.proofs.Common.{ℕ, List, subst}
-use Rattle.sre_code.specs.Descent.{WholeFrom, Fails}
-use Rattle.sre_code.proofs.ReadFronts.{front_refused, front_grows}
+use Rattle.std.proofs.Common.{ℕ, ◌≡◌, List, subst}
+use Rattle.sre_model.specs.Tree.{Tree}
+use Rattle.sre_model.specs.Grammar.{WholeItems}
+use Rattle.sre_model.specs.Width.{width}
+use Rattle.sre_code.specs.Hinted.{Confirmed}
+use Rattle.sre_code.specs.Descent.{WholeFrom, Fails, HasWhole}
+use Rattle.sre_code.proofs.ReadFronts.{front_refused, front_grows, front_confirmed}
 use Rattle.sre_code.proofs.code.check.check_in.Goals as goal
 
 pub returns-in-Err-clause-refused : goal.returns-in-Err-clause-refused
@@ -15,3 +19,14 @@ returns-in-Err-clause-grows g c = λ tree.
     let fails = subst (λ (ws : List ℕ). Fails ws (WholeFrom ws 0) c.in-Err.error) c.split_at.ensures.back
     c.in-Err.ensures in
     front_grows c.args.words.now _ c.in_ok-length.ensures c.in-Err.error tree fails
+
+pub invariant_of-result-clause-checked : goal.invariant_of-result-clause-checked
+invariant_of-result-clause-checked g c =
+    let words = c.args.words.now in
+    let n = c.in_ok-length.length in
+    let least = c.in-Ok.least in
+    let hints = c.confirmed.result in
+    front_confirmed words n c.in_ok-length.ensures least c.args.uni.now hints
+    (subst (λ (ws : List ℕ). HasWhole ws 0 least) c.split_at.ensures.back c.in-Ok.ensures)
+    (subst (λ (ws : List ℕ). (t : Tree) → WholeItems ws t → least ≡ width t → Confirmed words c.args.uni.now t hints)
+    c.split_at.ensures.back c.confirmed.ensures)

@@ -1,6 +1,7 @@
 use Rattle.std.proofs.Common.{Option, subst}
 use Rattle.sre_chars.specs.declared.string.StringCursor.{StringCursor}
 use Rattle.sre_model.specs.Machine.{Decides, outcomes}
+use Rattle.sre_model.specs.Prefixes.{behind_items}
 use Rattle.sre_request.specs.Requests.{run_of}
 use Rattle.sre_code.proofs.Checked.{items_whole}
 use Rattle.sre_engine.proofs.engine.state.attempt.Goals as goal
@@ -8,11 +9,13 @@ use Rattle.sre_engine.proofs.engine.state.attempt.Goals as goal
 pub returns-in-Ok-Some-clause-found : goal.returns-in-Ok-Some-clause-found
 returns-in-Ok-Some-clause-found g c = λ t whole.
     let r = run_of c.args.req.now in
-    subst (λ (end : Option StringCursor). Decides r (outcomes r t c.args.start.position) end c.run.new.board.marks)
+    subst (λ (end : Option StringCursor). Decides r (outcomes r (behind_items c.args.literals t)
+    c.args.start.position) end c.run_behind.new.board.marks)
     c.in-Ok-Some.field-0-is (c.in-Ok-Some.ensures t (items_whole c.args.req.now.pattern_codes t whole))
 
 pub returns-in-Ok-None-clause-found : goal.returns-in-Ok-None-clause-found
 returns-in-Ok-None-clause-found g c = λ t whole.
     let r = run_of c.args.req.now in
-    subst (λ (end : Option StringCursor). Decides r (outcomes r t c.args.start.position) end c.run.new.board.marks)
+    subst (λ (end : Option StringCursor). Decides r (outcomes r (behind_items c.args.literals t)
+    c.args.start.position) end c.run_behind.new.board.marks)
     c.in-Ok-None.field-0-is (c.in-Ok-None.ensures t (items_whole c.args.req.now.pattern_codes t whole))

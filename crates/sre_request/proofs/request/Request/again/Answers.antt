@@ -15,4 +15,4 @@ returns g c =
       must_advance = r.must_advance;
       in_window = w;
     })
-    (×_prop le_prop le_prop _ _)
+    (×_prop (×_prop le_prop le_prop) le_prop _ _)

@@ -1,9 +1,11 @@
-use Rattle.std.proofs.Common.{refl, subst, arith, rules}
+use Rattle.std.proofs.Common.{◌≡◌, true, false, refl, sym, ◌∙◌, subst, arith, rules}
 use Rattle.sre_code.specs.Codes.{words_of, hints_of}
 use Rattle.sre_request.specs.Requests.{code_of, asked_of, stands_in, run_of}
 use Rattle.sre_engine.specs.Starts.{NoneUntil}
 use Rattle.sre_engine.proofs.Answering.{answers_yes, answers_no, none_at, some_at, span_at, found_first}
 use Rattle.sre_engine.proofs.LeadingStarts.{none_joined, found_none_behind}
+use Rattle.sre_engine.specs.Prefixed.{FitsAt}
+use Rattle.sre_engine.proofs.Hinting.{past_none, counts_tried}
 use Rattle.sre_engine.proofs.Starting.{passed_none, found_nowhere}
 use Rattle.sre_code.proofs.Checked.{code_tree, items_whole}
 use Rattle.sre_engine.proofs.engine.state.State.search_behind.Goals as goal
@@ -35,7 +37,9 @@ returns-in-Some-2-clause-ok g c = λ t whole.
     (none_joined (asked_of asked) t _ _ none.0 (c.in-Some.ensures.none t items none.1)) c.in-Some-next_start.ensures in
     let some = some_at (stands_in asked) (asked_of asked) t _ c.in_ok-end.field-0 c.attempt.new.board.marks
     (c.in_ok-end.ensures.found t whole) c.in-Some-2.end c.in-Some-2.is in
-    answers_yes (stands_in asked) _ c.in-Some-next_start.next.position c.in-Some-2.end _ c.position.ensures refl some.0
+    answers_yes (stands_in asked) _ c.in-Some-next_start.next.position c.in-Some-2.end _ c.position-in-Some-2.ensures
+    refl
+    some.0
     (found_first (asked_of asked) t _ _ before some.1
     (omega (arith, c.start.invariant.from, c.in-Some.ensures.next.0, c.in-Some-next_start.ensures.after))
     c.in-Some-next_start.ensures.inside refl)
@@ -47,8 +51,8 @@ returns-in-Some-2-clause-span g c = λ _.
     let next = c.in-Some-next_start.ensures in
     let s = span_at (stands_in asked) (asked_of asked) tree.0 _ c.in_ok-end.field-0 c.attempt.new.board.marks
     (c.in_ok-end.ensures.found tree.0 tree.1) next.inside c.in-Some-2.end c.in-Some-2.is in (
-      omega (arith, c.start.invariant.from, c.in-Some.ensures.next.0, next.after, c.position.ensures),
-      record { starts = refl; forward = omega (arith, c.position.ensures, s.0); inside = s.1 },
+      omega (arith, c.start.invariant.from, c.in-Some.ensures.next.0, next.after, c.position-in-Some-2.ensures),
+      record { starts = refl; forward = omega (arith, c.position-in-Some-2.ensures, s.0); inside = s.1 },
     )
 
 pub start-preserved : goal.start-preserved
@@ -60,6 +64,17 @@ start-preserved g c =
       from = omega (arith, c.start.invariant.from, c.in-Some.ensures.next.0, next.after);
       inside = next.inside;
       fresh = search rules;
+      fits = subst (FitsAt c.args.last) c.position.ensures (c.is_past.ensures.fits c.if-is_past.false);
+      once =
+          omega (
+            arith,
+            c.start.invariant.once,
+            c.start.invariant.from,
+            c.in-Some.ensures.next.0,
+            next.after,
+            c.attempt.ensures.counted,
+          );
+      uncompared = c.start.invariant.uncompared;
       bars = c.start.invariant.bars;
       none = λ t whole.
           let items = items_whole asked.pattern_codes t whole in
@@ -70,3 +85,76 @@ start-preserved g c =
                 (c.in_ok-end.ensures.found t whole) c.in_default-2.is,
           );
     }
+
+pub returns-in_default-clause-counts : goal.returns-in_default-clause-counts
+returns-in_default-clause-counts g c =
+    let asked = c.args.req.now in
+    let inv = c.start.invariant in
+    counts_tried (asked_of asked) (code_of asked) c.args.last _ c.start.start.position _ _ c.requires.plain
+    c.requires.no_set c.requires.last
+    inv.fits inv.from inv.once inv.uncompared (omega (arith, inv.inside))
+
+pub returns-in-None-clause-counts : goal.returns-in-None-clause-counts
+returns-in-None-clause-counts g c =
+    let asked = c.args.req.now in
+    let inv = c.start.invariant in
+    counts_tried (asked_of asked) (code_of asked) c.args.last _ c.start.start.position _ _ c.requires.plain
+    c.requires.no_set c.requires.last
+    inv.fits inv.from inv.once inv.uncompared (omega (arith, inv.inside))
+
+pub returns-then-is_past-clause-counts : goal.returns-then-is_past-clause-counts
+returns-then-is_past-clause-counts g c =
+    let asked = c.args.req.now in
+    let inv = c.start.invariant in
+    counts_tried (asked_of asked) (code_of asked) c.args.last _ c.start.start.position _ _ c.requires.plain
+    c.requires.no_set c.requires.last
+    inv.fits inv.from inv.once inv.uncompared (omega (arith, inv.inside))
+
+pub returns-in_err-end-clause-counts : goal.returns-in_err-end-clause-counts
+returns-in_err-end-clause-counts g c =
+    let asked = c.args.req.now in
+    let inv = c.start.invariant in
+    let next = c.in-Some-next_start.ensures in
+    let fits : FitsAt c.args.last c.in-Some-next_start.next.position =
+    subst (FitsAt c.args.last) c.position.ensures (c.is_past.ensures.fits c.if-is_past.false) in
+    counts_tried (asked_of asked) (code_of asked) c.args.last _ c.in-Some-next_start.next.position _ _ c.requires.plain
+    c.requires.no_set c.requires.last fits (omega (arith, inv.from, c.in-Some.ensures.next.0, next.after))
+    (omega (arith, inv.once, inv.from, c.in-Some.ensures.next.0, next.after, c.attempt.ensures.counted)) inv.uncompared
+    (omega (arith, next.inside))
+
+pub returns-in-Some-2-clause-counts : goal.returns-in-Some-2-clause-counts
+returns-in-Some-2-clause-counts g c =
+    let asked = c.args.req.now in
+    let inv = c.start.invariant in
+    let next = c.in-Some-next_start.ensures in
+    let fits : FitsAt c.args.last c.in-Some-next_start.next.position =
+    subst (FitsAt c.args.last) c.position.ensures (c.is_past.ensures.fits c.if-is_past.false) in
+    counts_tried (asked_of asked) (code_of asked) c.args.last _ c.in-Some-next_start.next.position _ _ c.requires.plain
+    c.requires.no_set c.requires.last fits (omega (arith, inv.from, c.in-Some.ensures.next.0, next.after))
+    (omega (arith, inv.once, inv.from, c.in-Some.ensures.next.0, next.after, c.attempt.ensures.counted)) inv.uncompared
+    (omega (arith, next.inside))
+
+pub returns-in-Some-2-clause-up_to_match : goal.returns-in-Some-2-clause-up_to_match
+returns-in-Some-2-clause-up_to_match g c = λ _.
+    let asked = c.args.req.now in
+    let inv = c.start.invariant in
+    let next = c.in-Some-next_start.ensures in
+    let fits : FitsAt c.args.last c.in-Some-next_start.next.position =
+    subst (FitsAt c.args.last) c.position.ensures (c.is_past.ensures.fits c.if-is_past.false) in
+    counts_tried (asked_of asked) (code_of asked) c.args.last _ c.in-Some-next_start.next.position _ _ c.requires.plain
+    c.requires.no_set c.requires.last fits (omega (arith, inv.from, c.in-Some.ensures.next.0, next.after))
+    (omega (arith, inv.once, inv.from, c.in-Some.ensures.next.0, next.after, c.attempt.ensures.counted)) inv.uncompared
+    (omega (arith, c.position-in-Some-2.ensures))
+
+pub returns-then-is_past-clause-ok : goal.returns-then-is_past-clause-ok
+returns-then-is_past-clause-ok g c = λ t whole.
+    let asked = c.args.req.now in
+    let items = items_whole asked.pattern_codes t whole in
+    let none = c.start.invariant.none t whole in
+    let before = passed_none (run_of asked) (asked_of asked) t c.of_items-first.result refl
+    c.start.invariant.bars items _ _
+    (none_joined (asked_of asked) t _ _ none.0 (c.in-Some.ensures.none t items none.1)) c.in-Some-next_start.ensures in
+    let past : ¬ (FitsAt c.args.last c.in-Some-next_start.next.position) =
+    subst (λ p. ¬ (FitsAt c.args.last p)) c.position.ensures (c.is_past.ensures.past c.if-is_past.true) in
+    answers_no (stands_in asked) _ _
+    (past_none (asked_of asked) (code_of asked) c.args.last t _ c.requires.last whole past before)

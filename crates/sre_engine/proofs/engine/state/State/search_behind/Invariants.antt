@@ -1,4 +1,4 @@
-use Rattle.std.proofs.Common.{◌-◌, ◌≤◌, ◌≡◌, None}
+use Rattle.std.proofs.Common.{◌+◌, ◌-◌, ◌≤◌, ◌≡◌, None}
 use Rattle.sre_model.specs.Tree.{Tree}
 use Rattle.sre_model.specs.Found.{at_start}
 use Rattle.sre_model.specs.Marks.{no_marks}
@@ -6,6 +6,7 @@ use Rattle.sre_model.specs.Grammar.{Whole}
 use Rattle.sre_model.specs.Board.{bare}
 use Rattle.sre_code.specs.Codes.{words_of}
 use Rattle.sre_request.specs.Requests.{start_of, end_of, code_of, asked_of, run_of}
+use Rattle.sre_engine.specs.Prefixed.{FitsAt}
 use Rattle.sre_engine.specs.Starts.{Bars}
 use Rattle.sre_engine.proofs.Answering.{NoneBefore}
 use Rattle.sre_engine.proofs.engine.state.State.search_behind.Given as goal
@@ -16,6 +17,9 @@ invariant-start g l = record {
   from : start_of l.req ≤ l.start.position;
   inside : l.start.position ≤ end_of l.req;
   fresh : l.self-inside.board ≡ bare no_marks;
+  fits : FitsAt l.last l.start.position;
+  once : l.self-inside.started ≤ l.start.position - start_of l.req + 1;
+  uncompared : l.self-inside.compared ≡ 0;
   bars : Bars (run_of l.req).words l.first;
   none : (t : Tree) → Whole (words_of (code_of l.req)) t
       → NoneBefore (asked_of l.req) t l.start.position × (at_start (asked_of l.req) t l.start.position ≡ None);

@@ -1,75 +1,18 @@
-use Rattle.std.proofs.Common.{◌≡◌, ℕ, true, false, List, refl, ap, ◌∙◌, subst, arith, rules}
-use Rattle.sre_model.specs.Tree.{Tree}
-use Rattle.sre_model.specs.Found.{Asked, found}
-use Rattle.sre_code.specs.Codes.{words_of, items_of, hints_of}
-use Rattle.sre_request.specs.Requests.{start_of, code_of, asked_of, stands_in, run_of}
-use Rattle.sre_engine.specs.Starts.{Bars}
-use Rattle.sre_engine.proofs.Answering.{answers_yes, answers_no, answers_alike, none_at, some_at, span_at, found_first}
-use Rattle.sre_engine.proofs.Answering.{NoneBefore}
-use Rattle.sre_engine.proofs.Starting.{passed_none, found_nowhere}
-use Rattle.sre_code.proofs.Checked.{code_tree, items_whole}
+use Rattle.std.proofs.Common.{◌≡◌, true, false, sym, ◌∙◌}
+use Rattle.sre_code.proofs.Checked.{items_whole}
+use Rattle.sre_engine.proofs.Searching.{anchored_never}
 use Rattle.sre_engine.proofs.engine.state.State.search_from.Goals as goal
 
--- before the first start there is none
-none_yet : (a : Asked) (t : Tree) (p : ℕ) → p ≡ a.start → NoneBefore a t p
-none_yet a t p at s from less = absurd (omega (arith, at, from, less))
+pub returns-in-Some-clause-anchored : goal.returns-in-Some-clause-anchored
+returns-in-Some-clause-anchored g c = λ t whole e.
+    absurd (anchored_never _ t c.in-Some.prefix.words.now (c.in-Some.ensures.some.spelled t whole)
+    c.in-Some.prefix.confirmed.some e)
 
-pub returns-in_default-clause-ok : goal.returns-in_default-clause-ok
-returns-in_default-clause-ok g c = λ t whole.
-    let asked = c.args.req.now in
-    let read = c.items.ensures.same ∙ ap items_of c.pattern_codes.ensures in
-    let bars : Bars (items_of asked.pattern_codes) c.of_items-first.result =
-    subst (λ (ws : List ℕ). Bars ws c.of_items-first.result) read c.of_items-first.ensures.bars in
-    let at : c.args.from.position ≡ start_of asked = search rules in
-    answers_no (stands_in asked) _ _
-    (found_nowhere (run_of asked) (asked_of asked) t c.of_items-first.result refl bars
-    (items_whole asked.pattern_codes t whole) _ (none_yet (asked_of asked) t _ at) c.in_default.ensures)
+pub search_anchored-requires-clause-anchored : goal.search_anchored-requires-clause-anchored
+search_anchored-requires-clause-anchored g c = λ t whole.
+    sym (c.is_anchored.ensures t (items_whole c.args.req.now.pattern_codes t whole)) ∙ c.if-is_anchored.true
 
-pub returns-in_default-clause-alike : goal.returns-in_default-clause-alike
-returns-in_default-clause-alike g c = λ t whole.
-    answers_alike (λ asked. found asked t) (asked_of c.args.req.now) (stands_in c.args.req.now) false _
-    (returns-in_default-clause-ok g c t whole)
-
-pub returns-in-Some-2-clause-ok : goal.returns-in-Some-2-clause-ok
-returns-in-Some-2-clause-ok g c = λ t whole.
-    let asked = c.args.req.now in
-    let read = c.items.ensures.same ∙ ap items_of c.pattern_codes.ensures in
-    let bars : Bars (items_of asked.pattern_codes) c.of_items-first.result =
-    subst (λ (ws : List ℕ). Bars ws c.of_items-first.result) read c.of_items-first.ensures.bars in
-    let at : c.args.from.position ≡ start_of asked = search rules in
-    let before = passed_none (run_of asked) (asked_of asked) t c.of_items-first.result refl bars
-    (items_whole asked.pattern_codes t whole) _ _ (none_yet (asked_of asked) t _ at) c.in-Some.ensures in
-    let some = some_at (stands_in asked) (asked_of asked) t _ c.in_ok-end.field-0 c.attempt.new.board.marks
-    (c.in_ok-end.ensures.found t whole) c.in-Some-2.end c.in-Some-2.is in
-    answers_yes (stands_in asked) _ c.in-Some.start.position c.in-Some-2.end _ c.position.ensures refl some.0
-    (found_first (asked_of asked) t _ _ before some.1
-    (omega (arith, at, c.in-Some.ensures.after)) c.in-Some.ensures.inside refl)
-
-pub returns-in-Some-2-clause-alike : goal.returns-in-Some-2-clause-alike
-returns-in-Some-2-clause-alike g c = λ t whole.
-    answers_alike (λ asked. found asked t) (asked_of c.args.req.now) (stands_in c.args.req.now) true _
-    (returns-in-Some-2-clause-ok g c t whole)
-
-pub returns-in-Some-2-clause-span : goal.returns-in-Some-2-clause-span
-returns-in-Some-2-clause-span g c = λ _.
-    let asked = c.args.req.now in
-    let tree = code_tree (words_of (code_of asked)) (hints_of (code_of asked)) (code_of asked).checked in
-    let at : c.args.from.position ≡ start_of asked = search rules in
-    let s = span_at (stands_in asked) (asked_of asked) tree.0 _ c.in_ok-end.field-0 c.attempt.new.board.marks
-    (c.in_ok-end.ensures.found tree.0 tree.1) c.in-Some.ensures.inside c.in-Some-2.end c.in-Some-2.is in (
-      omega (arith, at, c.in-Some.ensures.after, c.position.ensures),
-      record { starts = refl; forward = omega (arith, c.position.ensures, s.0); inside = s.1 },
-    )
-
-pub search_behind-requires-clause-none : goal.search_behind-requires-clause-none
-search_behind-requires-clause-none g c = λ t whole.
-    let asked = c.args.req.now in
-    let read = c.items.ensures.same ∙ ap items_of c.pattern_codes.ensures in
-    let bars : Bars (items_of asked.pattern_codes) c.of_items-first.result =
-    subst (λ (ws : List ℕ). Bars ws c.of_items-first.result) read c.of_items-first.ensures.bars in
-    let at : c.args.from.position ≡ start_of asked = search rules in (
-      passed_none (run_of asked) (asked_of asked) t c.of_items-first.result refl bars
-          (items_whole asked.pattern_codes t whole) _ _ (none_yet (asked_of asked) t _ at) c.in-Some.ensures,
-      none_at (stands_in asked) (asked_of asked) t _ c.in_ok-end.field-0 c.attempt.new.board.marks
-          (c.in_ok-end.ensures.found t whole) c.in_default-2.is,
-    )
+pub returns-clause-anchored : goal.returns-clause-anchored
+returns-clause-anchored g c = λ t whole is.
+    let said = c.is_anchored.ensures t (items_whole c.args.req.now.pattern_codes t whole) in
+    let never : true ≡ false = sym is ∙ sym said ∙ c.if-is_anchored.false in absurd (cc never)

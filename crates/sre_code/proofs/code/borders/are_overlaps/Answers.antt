@@ -1,0 +1,7 @@
+use Rattle.sre_code.proofs.Borders.{overlaps_told}
+use Rattle.sre_code.proofs.code.borders.are_overlaps.Goals as goal
+
+pub returns : goal.returns
+returns c =
+    overlaps_told c.args.prefix.now c.args.overlaps.now c.are_right.result c.requires.long c.are_right.ensures.0
+    c.are_right.ensures.1

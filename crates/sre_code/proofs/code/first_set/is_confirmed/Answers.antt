@@ -1,0 +1,33 @@
+use Rattle.sre_code.proofs.FirstSets.{no_set_with_prefix, no_set_flag, no_set_room, no_set_failure, first_set_told}
+use Rattle.sre_code.proofs.FirstSets.{set_there}
+use Rattle.sre_code.proofs.code.first_set.is_confirmed.Goals as goal
+use Rattle.sre_code.proofs.code.first_set.is_confirmed.Goals.{then-words-eq1-via-then-words-eq1}
+use Rattle.sre_code.proofs.code.first_set.is_confirmed.Goals.{then-words-eq1-via-else-words-eq1+then-words-eq0}
+use Rattle.sre_code.proofs.code.first_set.is_confirmed.Goals.{
+  then-words-eq1-via-else-words-eq1+else-words-eq0+then-end-lt6,
+}
+
+pub returns-then-words-eq1 : goal.returns-then-words-eq1
+returns-then-words-eq1 c = λ tree whole.
+    elim c.then-words-eq1.branch [
+      | then-words-eq1-via-then-words-eq1 w ↦
+          no_set_with_prefix c.args.words.now c.args.uni.now tree c.args.end c.requires.block w.if-words-eq1.true
+      | then-words-eq1-via-else-words-eq1+then-words-eq0 w ↦
+          no_set_flag c.args.words.now c.args.uni.now tree w.if-words-eq0.true
+      | then-words-eq1-via-else-words-eq1+else-words-eq0+then-end-lt6 w ↦
+          no_set_room c.args.words.now c.args.uni.now tree c.args.end c.requires.block w.if-end-lt6.true
+    ]
+
+pub returns-then-words-end : goal.returns-then-words-end
+returns-then-words-end c = λ tree whole.
+    no_set_failure c.args.words.now c.args.uni.now tree c.args.end c.requires.block c.if-words-end.true
+
+pub first_in-requires-clause-set : goal.first_in-requires-clause-set
+first_in-requires-clause-set c =
+    set_there c.args.words.now c.args.end c.requires.block c.if-words-end.false c.in-Ok.ensures
+
+pub returns : goal.returns
+returns c = λ tree whole.
+    first_set_told c.args.words.now c.args.uni.now tree c.args.items.now c.args.end c.behind_marks.result
+    c.first_in.result c.requires.block c.requires.ends c.if-words-eq1.false c.if-words-eq0.false
+    c.if-end-lt6.false c.if-words-end.false c.in-Ok.ensures c.behind_marks.ensures c.first_in.ensures whole

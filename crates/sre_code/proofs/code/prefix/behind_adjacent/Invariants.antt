@@ -1,0 +1,10 @@
+use Rattle.std.proofs.Common.{length, drop, ◌≤◌}
+use Rattle.sre_model.specs.Claims.{behind_adjacent}
+use Rattle.sre_code.proofs.Prefixes.{SameLeft}
+use Rattle.sre_code.proofs.code.prefix.behind_adjacent.Given as goal
+
+abbrev pub invariant-literal : goal.invariant-literal
+invariant-literal l = record {
+  within : l.place ≤ length l.words;
+  left : SameLeft l.words 0 l.place (behind_adjacent l.literals) (behind_adjacent (drop l.literal-index l.literals));
+}

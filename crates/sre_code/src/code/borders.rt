@@ -1,0 +1,58 @@
+//! Border lengths: of each front of a prefix, the greatest number of words, fewer than all, that it begins and ends
+//! with.
+//!
+//! The border of a front that is a word longer is a border of the front before, or of its border, and so on, with that
+//! word behind it. So the claimed border lengths, each of which was confirmed before it is asked, lead to the next one:
+//! in time that is linear in the words, and without memory.
+
+ghost use Rattle.std.specs.Prelude.{◌≡◌, ◌+◌, ◌<◌, ◌≤◌, ◌↔◌, IsTrue, length};
+ghost use Rattle.sre_model.specs.Claims.{are_overlaps};
+ghost use Rattle.sre_code.specs.Borders.{Longest, RightUpTo, Right};
+
+/// The border length of the first `n + 1` words of the prefix.
+#[tactic(auto, using(crate::proofs::Borders::next_border_laws))]
+fn next_border(prefix: &[u32], overlaps: &[u32], n: usize) -> usize
+    requires some { 0 < n }
+    requires within { n < length prefix.now }
+    requires long { length overlaps.now ≡ length prefix.now }
+    requires right { RightUpTo prefix.now overlaps.now n }
+    ensures { Longest prefix.now (n + 1) result }
+{
+    let mut border = overlaps[n - 1] as usize;
+    'border: while border > 0 && prefix[border] != prefix[n] {
+        border = overlaps[border - 1] as usize;
+    }
+    if prefix[border] == prefix[n] {
+        border + 1
+    } else {
+        0
+    }
+}
+
+/// Whether each overlap word is the border length of its front of the prefix.
+#[tactic(auto, using(crate::proofs::Borders::overlaps_laws))]
+fn are_right(prefix: &[u32], overlaps: &[u32]) -> bool
+    requires some { 0 < length prefix.now }
+    requires long { length overlaps.now ≡ length prefix.now }
+    ensures { IsTrue result ↔ Right prefix.now overlaps.now }
+{
+    if overlaps[0] != 0 {
+        return false;
+    }
+    'front: for n in 1..prefix.len() {
+        if overlaps[n] as usize != next_border(prefix, overlaps, n) {
+            return false;
+        }
+    }
+    true
+}
+
+/// The same, in terms of the fronts' border lengths.
+#[tactic(auto, using(crate::proofs::Borders::overlaps_told))]
+pub fn are_overlaps(prefix: &[u32], overlaps: &[u32]) -> bool
+    requires some { 0 < length prefix.now }
+    requires long { length overlaps.now ≡ length prefix.now }
+    ensures { result ≡ are_overlaps prefix.now 1 overlaps.now }
+{
+    are_right(prefix, overlaps)
+}

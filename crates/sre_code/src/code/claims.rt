@@ -1,0 +1,75 @@
+//! Hints: what the block claims of the items, and the items confirm.
+//!
+//! `<INFO> <skip> <flags> <least width> <greatest width>`, and behind these, as the flags say, a prefix or a set.
+
+ghost use Rattle.std.specs.Prelude.{◌≡◌, ◌≤◌};
+ghost use Rattle.sre_model.specs.Tree.{Tree};
+ghost use Rattle.sre_model.specs.Grammar.{WholeItems};
+ghost use Rattle.sre_model.specs.Width.{width};
+ghost use Rattle.sre_model.specs.Claims.{confirmed_width, behind_prefix, is_literal};
+ghost use Rattle.sre_code.specs.Fronts.{Fronts, HasBlock};
+ghost use Rattle.sre_code.specs.Prefixes.{Ends, LeftAt};
+ghost use Rattle.sre_code.specs.Hinted.{Confirmed};
+
+use crate::code::{Hints, first_set, prefix};
+use sre_chars::string::UniTable;
+
+/// The least width that the block claims, where the items have at least that.
+fn width(words: &[u32], length: usize, least: u32) -> Option<u32>
+    requires { HasBlock words.now length }
+    ensures { (tree : Tree) → least ≡ width tree → result ≡ confirmed_width words.now tree }
+{
+    if words[3] <= least {
+        Some(words[3])
+    } else {
+        None
+    }
+}
+
+/// Whether the items behind the prefix, which go on at a place, are none, and all its literals are there to be skipped.
+#[tactic(auto, using(crate::proofs::Claimed::literal_laws))]
+fn is_literal(words: &[u32], length: usize, items: &[u32], place: usize) -> bool
+    requires block { HasBlock words.now length }
+    requires long { 9 ≤ length }
+    requires left { LeftAt items.now 0 place (behind_prefix words.now) }
+    ensures { (tree : Tree) → WholeItems items.now tree → result ≡ is_literal words.now tree }
+{
+    if words[2] / 2 % 2 == 0 || words[5] != words[6] {
+        return false;
+    }
+    let _length = items.len();
+    place + 1 == items.len()
+}
+
+/// The hints, where the first words are the block and `least` is the least width of the items behind it.
+#[tactic(auto, using(crate::proofs::Claimed::hints_laws))]
+pub fn confirmed(words: &[u32], length: usize, uni: &UniTable, items: &[u32], least: u32) -> Hints
+    requires front { Fronts words.now length }
+    requires ends { Ends items.now }
+    ensures { (tree : Tree) → WholeItems items.now tree → least ≡ width tree
+        → Confirmed words.now uni.now tree result }
+{
+    if length == 0 {
+        return Hints {
+            width: None,
+            prefix: None,
+            literal: false,
+            first_set: false,
+        };
+    }
+    let width = width(words, length, least);
+    match prefix::behind(words, length, items) {
+        Some(place) => Hints {
+            width,
+            prefix: Some((words[5], words[6])),
+            literal: is_literal(words, length, items, place),
+            first_set: false,
+        },
+        None => Hints {
+            width,
+            prefix: None,
+            literal: false,
+            first_set: first_set::is_confirmed(words, length, uni, items),
+        },
+    }
+}

@@ -1,0 +1,159 @@
+-- Where the members of a confirmed first set are, and what a search along them comes to.
+use Rattle.std.proofs.Common.{◌≡◌, ◌≤◌, ◌<◌, ◌+◌, ◌-◌, ◌&&◌, ℕ, List, Bool, true, false, Option, Some, None, refl, sym}
+use Rattle.std.proofs.Common.{ap, ◌∙◌, subst, arith, inl, inr, nat_lt, IfSome}
+use Rattle.std.proofs.lemmas.Bool.{cases_lt}
+use Rattle.std.proofs.lemmas.Bool.Decides.{nat_tests}
+use Rattle.sre_ascii.specs.Sets.{contains}
+use Rattle.sre_ascii.specs.declared.AsciiSet.{AsciiSet}
+use Rattle.sre_chars.specs.Tables.{Table}
+use Rattle.sre_chars.specs.declared.string.StringCursor.{StringCursor}
+use Rattle.sre_model.specs.Tree.{Tree, SetItem}
+use Rattle.sre_model.specs.Marks.{no_marks}
+use Rattle.sre_model.specs.Characters.{is_member}
+use Rattle.sre_model.specs.Subject.{char_at}
+use Rattle.sre_model.specs.Grammar.{Whole, IsCode, skip}
+use Rattle.sre_model.specs.Claims.{HasFirstSet}
+use Rattle.sre_model.specs.Standing.{HasSet, SetStands}
+use Rattle.sre_model.specs.Found.{Asked, subject_of, at_start, found}
+use Rattle.sre_model.specs.Prefixes.{how_many}
+use Rattle.sre_code.specs.Codes.{words_of, uni_of, hints_of}
+use Rattle.sre_code.specs.declared.code.Code.{Code}
+use Rattle.sre_code.proofs.Checked.{code_tree, code_confirmed}
+use Rattle.sre_engine.specs.Answers.{Shown}
+use Rattle.sre_engine.specs.Counts.{CountsUpTo}
+use Rattle.sre_engine.specs.Members.{IsFirstSet, is_among, NoMember, AtMember, NextMember, AreTold}
+use Rattle.sre_engine.specs.Prefixed.{IsLast, FitsAt}
+use Rattle.sre_engine.proofs.Answering.{NoneBefore}
+use Rattle.sre_engine.proofs.FirstMembers.{unmembered, no_prefix}
+use Rattle.sre_engine.proofs.PrefixWays.{how_many_grows, how_many_here}
+use Rattle.sre_engine.proofs.Searching.{none_on, none_in_window, few_counted}
+
+module _ (code : Code) (is : (hints_of code).first_set ≡ true) where
+  pub first_set : (t : Tree) → Whole (words_of code) t → HasFirstSet (words_of code) (uni_of code) t
+  first_set t w = (code_confirmed code t w).first_set.0 is
+
+  tree : IsCode (words_of code)
+  tree = code_tree (words_of code) (hints_of code) code.checked
+
+  there : HasFirstSet (words_of code) (uni_of code) tree.0
+  there = first_set tree.0 tree.1
+
+  pub set_there : HasSet (words_of code) 5
+  set_there = record { end = _; set = there.set; stands = record { items = there.items; ends = there.ends } }
+
+  pub some_set : (set : List SetItem) × IsFirstSet (words_of code) set
+  some_set = (there.set, (there.items, there.ends))
+
+  -- a start whose character is no member has no match
+  unmembered_at : (a : Asked) (t : Tree) (p : ℕ) → a.table ≡ uni_of code → Whole (words_of code) t
+      → ((set : List SetItem) → IsFirstSet (words_of code) set → is_among a set p ≡ false) → at_start a t p ≡ None
+  unmembered_at a t p table w outside =
+      let set = first_set t w in
+      let first = subst (λ u. HasFirstSet (words_of code) u t) (sym table) set in
+      let no_way = unmembered (subject_of a) first.set p (outside first.set (first.items, first.ends)) t first.first in
+      let none = no_way.none no_marks in
+      rw none refl
+
+  module _ (a : Asked) (t : Tree) (table : a.table ≡ uni_of code) (w : Whole (words_of code) t) where
+    none_to : (p q : ℕ) → NoneBefore a t p
+        → ((set : List SetItem) → IsFirstSet (words_of code) set → NoMember a set p q) → NoneBefore a t q
+    none_to p q before none =
+        none_on a t p q before (λ s from to. unmembered_at a t s table w (λ set own. (none set own).each s from to))
+
+    -- up to the next member no start has a match
+    pub none_to_member : (p : ℕ) (next : StringCursor) → NoneBefore a t p → AtMember a (words_of code) p next
+        → NoneBefore a t next.position
+    none_to_member p next before x = none_to p next.position before x.none
+
+    -- at the window's end there is no character
+    at_end : (set : List SetItem) → is_among a set a.end ≡ false
+    at_end set =
+        let past : nat_lt a.end a.end ≡ false = grind (arith, nat_tests) in
+        ap (λ b. b && is_member a.table set (char_at (subject_of a) a.end)) past
+
+    -- where no member is left there is none in the window
+    pub none_left : (p : ℕ) → NoneBefore a t p → NextMember a (words_of code) p None → found a t ≡ None
+    none_left p before none =
+        none_in_window a t (none_to p (a.end + 1) before (λ set own. record {
+          each = λ s from to. elim (cases_lt s a.end) [
+            | (inl less) ↦ (none set own).each s from less
+            | (inr more) ↦
+                let same : a.end ≡ s = omega (arith, more, to) in
+                subst (λ q. is_among a set q ≡ false) same (at_end set)
+          ];
+        }))
+
+-- How many members there are
+
+-- a start that was tried at a member is one more
+pub members_more : (a : Asked) (set : List SetItem) (n p : ℕ) → a.start ≤ p → is_among a set p ≡ true
+    → n ≤ how_many (is_among a set) a.start (p - a.start) → n + 1 ≤ how_many (is_among a set) a.start (p + 1 - a.start)
+members_more a set n p from member few =
+    let at : a.start + (p - a.start) ≡ p = omega (arith, from) in
+    let up : p + 1 - a.start ≡ p - a.start + 1 = omega (arith, from) in
+    let one = how_many_here (is_among a set) a.start (p - a.start)
+    (subst (λ q. is_among a set q ≡ true) (sym at) member) in
+    omega (arith, few, one, ap (how_many (is_among a set) a.start) up)
+
+-- members up to a further position
+pub members_later : (a : Asked) (set : List SetItem) (n p q : ℕ)
+    → n ≤ how_many (is_among a set) a.start (p - a.start) → p ≤ q → n ≤ how_many (is_among a set) a.start (q - a.start)
+members_later a set n p q few l =
+    omega (
+      arith,
+      few,
+      how_many_grows (is_among a set) a.start (p - a.start) (q - a.start)
+          (omega (arith, l)),
+    )
+
+-- the starts that were tried are at members before a position
+abbrev pub TriedAtMembers : Asked → List ℕ → ℕ → ℕ → Type 0
+TriedAtMembers a words n p =
+    (set : List SetItem) → IsFirstSet words set → n ≤ how_many (is_among a set) a.start (p - a.start)
+
+pub few_tried : (a : Asked) (code : Code) (n p : ℕ) → (hints_of code).first_set ≡ true
+    → TriedAtMembers a (words_of code) n p → n ≤ p - a.start
+few_tried a code n p is tried =
+    let set = some_set code is in
+    omega (arith, tried set.0 set.1, few_counted (is_among a set.0) a.start (p - a.start))
+
+-- the counts
+pub counts_members : (a : Asked) (code : Code) (s : Shown) (p to seen : ℕ) → (hints_of code).first_set ≡ true
+    → TriedAtMembers a (words_of code) s.started p → p ≤ to
+    → ((w : ℕ) → (hints_of code).width ≡ Some w → s.started ≤ a.end + 1 - (a.start + w))
+    → s.compared ≡ 0 → CountsUpTo a code to seen s
+counts_members a code s p to seen is tried l fit none =
+    let plain = no_prefix code is in
+    record {
+      once = omega (arith, few_tried a code s.started p is tried, l);
+      fitting = fit;
+      places = λ l k e. let never : None ≡ Some (l, k) = sym plain ∙ e in absurd (cc);
+      literal = λ l k e y. let never : None ≡ Some (l, k) = sym plain ∙ e in absurd (cc);
+      members = λ yes set own. members_later a set s.started p to (tried set own) l;
+      compared = omega (arith, none);
+      uncompared = λ e. none;
+    }
+
+-- one more run, at the next member
+pub tried_more : (a : Asked) (words : List ℕ) (n m p : ℕ) (next : StringCursor) → a.start ≤ p → m ≡ n + 1
+    → TriedAtMembers a words n p → AtMember a words p next → TriedAtMembers a words m (next.position + 1)
+tried_more a words n m p next from one tried x = λ set own.
+    let later = members_later a set n p next.position (tried set own) x.from in
+    let more = members_more a set n next.position (omega (arith, from, x.from)) (x.member set own) later in
+    subst (λ k. k ≤ how_many (is_among a set) a.start (next.position + 1 - a.start)) (sym one) more
+
+-- and at a start where a width fits
+pub fit_more : (a : Asked) (code : Code) (last : Option ℕ) (n m p next : ℕ) → IsLast a code last → FitsAt last next
+    → a.start ≤ p → p ≤ next → n ≤ p - a.start → m ≡ n + 1
+    → (w : ℕ) → (hints_of code).width ≡ Some w → m ≤ a.end + 1 - (a.start + w)
+fit_more a code last n m p next is fits from l few one w e =
+    let wide = is.fits next fits w e in omega (arith, wide, from, l, few, one)
+
+-- the ASCII characters that are told of each set there are those of the first one
+pub told : (words : List ℕ) (members : Option AsciiSet)
+    → ((table : Table) (j : ℕ) (set : List SetItem) → SetStands words 5 j set
+    → IfSome members (λ x. (c : ℕ) → c < 128 → contains x c ≡ is_member table set c)) → AreTold words members
+told words None each = tt
+told words (Some x) each = record {
+  each = λ table set own. each table (skip words 1 - 1) set (record { items = own.0; ends = own.1 });
+}

@@ -1,0 +1,194 @@
+-- What a confirmed claim tells of the tree.
+use Rattle.std.proofs.Common.{◌≡◌, ◌≤◌, ◌<◌, ◌+◌, ◌-◌, ◌*◌, ◌/◌, ◌%◌, ◌&&◌, ℕ, zero, suc, List, [], ◌∷◌, Bool, true}
+use Rattle.std.proofs.Common.{false}
+use Rattle.std.proofs.Common.{cond}
+use Rattle.std.proofs.Common.{length, take, drop, slice_range, nat_eq, nat_lt, nat_le, Option, Some, None, is_some}
+use Rattle.std.proofs.Common.{refl}
+use Rattle.std.proofs.Common.{sym, ap, ◌∙◌, subst, arith, length-drop}
+use Rattle.std.proofs.lemmas.Bool.{and_parts, leb-true}
+use Rattle.std.proofs.lemmas.Bool.Decides.{nat_tests}
+use Rattle.sre_chars.specs.declared.constants.SreOpcode.TheVariants as opcode
+use Rattle.sre_model.specs.Tree.{Tree, Empty, Then, One, Mark, Literal, Plain}
+use Rattle.sre_model.specs.Width.{width}
+use Rattle.sre_model.specs.Grammar.{word, skip, has_block, behind_block, Whole}
+use Rattle.sre_model.specs.Claims.{has_flag, has_prefix, prefix_length, prefix_skip, prefix_words, overlap_words}
+use Rattle.sre_model.specs.Claims.{are_overlaps, behind_adjacent, behind_spread, then_spread, behind_literals}
+use Rattle.sre_model.specs.Claims.{behind_prefix, confirmed_width, confirmed_prefix, is_literal, is_at_end}
+use Rattle.sre_model.specs.Prefixes.{spells, behind_items, is_empty, prefix_of, overlaps_of}
+use Rattle.sre_model.proofs.Words.{opcode_within}
+
+-- Lists of words and trees
+
+spread_spells : (vs : List ℕ) (t : Tree) → is_some (behind_spread vs t) ≡ true → spells 0 t vs ≡ true
+spread_spells [] t h = refl
+spread_spells (v ∷ vs) (Then (One (Literal Plain u)) rest) h = by_test (nat_eq u v) h (spread_spells vs rest)
+  where
+    by_test : (b : Bool) → is_some (cond b (behind_spread vs rest) None) ≡ true
+        → (is_some (behind_spread vs rest) ≡ true → spells 0 rest vs ≡ true) → (b && spells 0 rest vs) ≡ true
+    by_test true y later = later y
+    by_test false y later = absurd (let never : false ≡ true = y in cc never)
+spread_spells (v ∷ vs) (Then (Mark n) rest) h = spread_spells (v ∷ vs) rest h
+spread_spells (v ∷ vs) t h = absurd (let never : false ≡ true = h in cc never)
+
+adjacent_spells : (k : ℕ) (vs : List ℕ) (t : Tree)
+    → is_some (then_spread (drop k vs) (behind_adjacent (take k vs) t)) ≡ true → spells k t vs ≡ true
+adjacent_spells zero vs t h = spread_spells vs t h
+adjacent_spells (suc k) [] t h = refl
+adjacent_spells (suc k) (v ∷ vs) (Then (One (Literal Plain u)) rest) h =
+    by_test (nat_eq u v) h (adjacent_spells k vs rest)
+  where
+    by_test : (b : Bool)
+        → is_some (then_spread (drop k vs) (cond b (behind_adjacent (take k vs) rest) None)) ≡ true
+        → (is_some (then_spread (drop k vs) (behind_adjacent (take k vs) rest)) ≡ true → spells k rest vs ≡ true)
+        → (b && spells (suc k - 1) rest vs) ≡ true
+    by_test true y later =
+        let less : k ≡ suc k - 1 = omega arith in subst (λ n. spells n rest vs ≡ true) less (later y)
+    by_test false y later = absurd (let never : false ≡ true = y in cc never)
+adjacent_spells (suc k) (v ∷ vs) t h = absurd (let never : false ≡ true = h in cc never)
+
+adjacent_behind : (k : ℕ) (vs : List ℕ) (t r : Tree) → k ≤ length vs → behind_adjacent (take k vs) t ≡ Some r
+    → behind_items k t ≡ r
+adjacent_behind zero vs t r l e = let same : Some t ≡ Some r = e in cc
+adjacent_behind (suc k) [] t r l e = absurd (omega (arith, l))
+adjacent_behind (suc k) (v ∷ vs) (Then (One (Literal Plain u)) rest) r l e =
+    by_test (nat_eq u v) e (adjacent_behind k vs rest r (omega (arith, l)))
+  where
+    by_test : (b : Bool) → cond b (behind_adjacent (take k vs) rest) None ≡ Some r
+        → (behind_adjacent (take k vs) rest ≡ Some r → behind_items k rest ≡ r) → behind_items k rest ≡ r
+    by_test true y later = later y
+    by_test false y later = absurd (let never : None ≡ Some r = y in cc never)
+adjacent_behind (suc k) (v ∷ vs) t r l e = absurd (let never : None ≡ Some r = e in cc never)
+
+nothing_left : (vs : List ℕ) (o : Option Tree) → length vs ≡ 0 → is_at_end (then_spread vs o) ≡ true → o ≡ Some Empty
+nothing_left [] (Some Empty) l e = refl
+nothing_left [] (Some (Then x rest)) l e = absurd (let never : false ≡ true = e in cc never)
+nothing_left [] None l e = absurd (let never : false ≡ true = e in cc never)
+nothing_left (v ∷ vs) o l e = absurd (omega (arith, l))
+
+-- The width
+
+pub width_told : (ws : List ℕ) (t : Tree) (w : ℕ) → confirmed_width ws t ≡ Some w → w ≤ width t
+width_told ws t w e = by_test (has_block ws && nat_le (word ws 3) (width t)) refl e
+  where
+    by_test : (b : Bool) → (has_block ws && nat_le (word ws 3) (width t)) ≡ b
+        → cond b (Some (word ws 3)) None ≡ Some w → w ≤ width t
+    by_test true y same =
+        let le = leb-true (word ws 3) (width t) (and_parts (has_block ws) (nat_le (word ws 3) (width t)) y).1 in
+        let is : word ws 3 ≡ w = cc same in
+        omega (arith, le, is)
+    by_test false y same = absurd (let never : None ≡ Some w = same in cc never)
+
+-- The prefix
+
+abbrev either_hint : ℕ × ℕ → Option (ℕ × ℕ) → ℕ × ℕ
+either_hint d (Some x) = x
+either_hint d None = d
+
+five_true : (a b c d e : Bool) → (a && b && c && d && e) ≡ true
+    → (a ≡ true) × (b ≡ true) × (c ≡ true) × (d ≡ true) × (e ≡ true)
+five_true true true true true true h = (refl, refl, refl, refl, refl)
+five_true a b c d e h = absurd (let never : false ≡ true = h in cc never)
+
+-- what is claimed and confirmed
+pub record Claimed (ws : List ℕ) (t : Tree) (l k : ℕ) : Type 0 where
+  pub length_is : prefix_length ws ≡ l
+  pub skip_is : prefix_skip ws ≡ k
+  pub has : has_prefix ws ≡ true
+  pub left : is_some (behind_literals (prefix_skip ws) (prefix_words ws) t) ≡ true
+
+pub claim : (ws : List ℕ) (t : Tree) (l k : ℕ) → confirmed_prefix ws t ≡ Some (l, k) → Claimed ws t l k
+claim ws t l k e = by_test (is_some (behind_prefix ws t)) refl e
+  where
+    by_has : (b : Bool) → is_some (cond b (behind_literals (prefix_skip ws) (prefix_words ws) t) None) ≡ true
+        → (b ≡ true) × (is_some (behind_literals (prefix_skip ws) (prefix_words ws) t) ≡ true)
+    by_has true y = (refl, y)
+    by_has false y = absurd (let never : false ≡ true = y in cc never)
+
+    by_test : (b : Bool) → is_some (behind_prefix ws t) ≡ b
+        → cond {A = Option (ℕ × ℕ)} b (Some (prefix_length ws, prefix_skip ws)) None ≡ Some (l, k) → Claimed ws t l k
+    by_test true y same =
+        let pair : (prefix_length ws, prefix_skip ws) ≡ (l, k) = ap (either_hint (l, k)) same in
+        let both = by_has (has_prefix ws) y in
+        record {
+          length_is = ap (λ (x : ℕ × ℕ). x.0) pair;
+          skip_is = ap (λ (x : ℕ × ℕ). x.1) pair;
+          has = both.0;
+          left = both.1;
+        }
+    by_test false y same = absurd (let never : None ≡ Some (l, k) = same in cc never)
+
+module _ (ws : List ℕ) (t : Tree) (l k : ℕ) (w : Whole ws t) (c : Claimed ws t l k) where
+  parts : (has_flag 1 ws ≡ true) × (nat_lt 0 (prefix_length ws) ≡ true)
+      × (nat_le (prefix_skip ws) (prefix_length ws) ≡ true)
+      × (nat_eq (skip ws 1) (7 + 2 * prefix_length ws) ≡ true)
+      × (are_overlaps (prefix_words ws) 1 (overlap_words ws) ≡ true)
+  parts = five_true _ _ _ _ _ c.has
+
+  pub claim_some : 1 ≤ l
+  claim_some =
+      let is = parts.1 in
+      let less : 0 < prefix_length ws = grind (arith, nat_tests) in
+      omega (arith, less, c.length_is)
+
+  pub claim_few : k ≤ l
+  claim_few =
+      let le = leb-true (prefix_skip ws) (prefix_length ws) parts.2 in omega (arith, le, c.length_is, c.skip_is)
+
+  block : has_block ws ≡ true
+  block = (and_parts (has_block ws) (nat_eq (word ws 2 / 1 % 2) 1) parts.0).0
+
+  pub claim_room : 7 + l + l ≤ length ws
+  claim_room =
+      let is = parts.3 in
+      let to : skip ws 1 ≡ 7 + 2 * prefix_length ws = grind (arith, nat_tests) in
+      let some = opcode_within (behind_block ws) (length (behind_block ws) - 1) opcode.SUCCESS w.1.1 in
+      let at : cond (has_block ws) (skip ws 1) 0 ≡ skip ws 1 = rw block refl in
+      let long = length-drop (cond (has_block ws) (skip ws 1) 0) ws in
+      omega (arith, some, long, at, to, c.length_is)
+
+  pub claim_overlaps : are_overlaps (prefix_of ws l) 1 (overlaps_of ws l) ≡ true
+  claim_overlaps =
+      let n : ℕ = prefix_length ws in
+      let twice : 7 + 2 * n ≡ 7 + n + n = omega arith in
+      let own : are_overlaps (prefix_of ws n) 1 (overlaps_of ws n) ≡ true =
+      subst (λ e. are_overlaps (slice_range ws 7 (7 + n)) 1 (slice_range ws (7 + n) e) ≡ true) twice parts.4 in
+      subst (λ m. are_overlaps (prefix_of ws m) 1 (overlaps_of ws m) ≡ true) c.length_is own
+
+  pub claim_spells : spells k t (prefix_of ws l) ≡ true
+  claim_spells =
+      let own : spells (prefix_skip ws) t (prefix_of ws (prefix_length ws)) ≡ true =
+      adjacent_spells (prefix_skip ws) (prefix_words ws) t c.left in
+      subst (λ m. spells k t (prefix_of ws m) ≡ true) c.length_is
+      (subst (λ n. spells n t (prefix_of ws (prefix_length ws)) ≡ true) c.skip_is own)
+
+  -- and it is the whole
+  pub claim_whole : length (prefix_of ws l) ≡ l → is_literal ws t ≡ true
+      → (k ≡ l) × (is_empty (behind_items k t) ≡ true)
+  claim_whole long e =
+      let three = and_parts (has_flag 2 ws && nat_eq (prefix_skip ws) (prefix_length ws)) (is_at_end (behind_prefix ws
+      t))
+      (shuffled e) in
+      let two = and_parts (has_flag 2 ws) (nat_eq (prefix_skip ws) (prefix_length ws)) three.0 in
+      let is = two.1 in
+      let same : prefix_skip ws ≡ prefix_length ws = grind (arith, nat_tests) in
+      let equal : k ≡ l = sym c.skip_is ∙ same ∙ c.length_is in
+      let words : length (prefix_words ws) ≡ l = subst (λ m. length (prefix_of ws m) ≡ l) (sym c.length_is) long in
+      let ended : is_at_end (behind_literals (prefix_skip ws) (prefix_words ws) t) ≡ true =
+      subst (λ b. is_at_end (cond b (behind_literals (prefix_skip ws) (prefix_words ws) t) None) ≡ true) c.has three.1
+      in
+      let none : length (drop (prefix_skip ws) (prefix_words ws)) ≡ 0 =
+      omega (arith, length-drop (prefix_skip ws) (prefix_words ws), words, c.skip_is, equal) in
+      let left = nothing_left (drop (prefix_skip ws) (prefix_words ws))
+      (behind_adjacent (take (prefix_skip ws) (prefix_words ws)) t) none ended in
+      let rest = adjacent_behind (prefix_skip ws) (prefix_words ws) t Empty
+      (omega (arith, words, c.skip_is, equal)) left in
+      (equal, subst (λ n. is_empty (behind_items n t) ≡ true) c.skip_is (ap is_empty rest))
+    where
+      shuffled : (has_flag 2 ws && nat_eq (prefix_skip ws) (prefix_length ws) && is_at_end (behind_prefix ws t)) ≡ true
+          → ((has_flag 2 ws && nat_eq (prefix_skip ws) (prefix_length ws)) && is_at_end (behind_prefix ws t)) ≡ true
+      shuffled h = by_test (has_flag 2 ws) (nat_eq (prefix_skip ws) (prefix_length ws)) (is_at_end (behind_prefix ws
+          t)) h
+        where
+          by_test : (x y z : Bool) → (x && y && z) ≡ true → ((x && y) && z) ≡ true
+          by_test true true true h = refl
+          by_test x y z h = absurd (let never : false ≡ true = h in cc never)

@@ -1,0 +1,73 @@
+-- Where the first character is no member of the first set no match begins.
+use Rattle.std.proofs.Common.{◌≡◌, ℕ, List, Bool, true, false, ◌&&◌, nat_eq, nat_lt, None, refl, sym, ◌∙◌}
+use Rattle.std.proofs.Common.{subst, arith}
+use Rattle.std.proofs.lemmas.Bool.Decides.{nat_tests}
+use Rattle.sre_model.specs.Tree.{Tree, Empty, Then, One, Mark, At, Branch, Trees, Only, Or, Literal, In, Plain, SetItem}
+use Rattle.sre_chars.specs.Tables.{Table}
+use Rattle.sre_model.specs.Anchors.{is_anchored}
+use Rattle.sre_model.specs.Characters.{is_member}
+use Rattle.sre_model.specs.Marks.{set_mark}
+use Rattle.sre_model.specs.Subject.{Subject, char_at, passes, after}
+use Rattle.sre_model.specs.Claims.{behind_marks, TestIn, EachTestIn, FirstIn}
+use Rattle.sre_model.specs.FirstCharacters.{NoWay, NoneOf}
+use Rattle.sre_code.specs.Codes.{words_of, hints_of}
+use Rattle.sre_code.specs.declared.code.Code.{Code}
+use Rattle.sre_code.proofs.Checked.{code_tree, code_confirmed}
+
+module _ (s : Subject) (set : List SetItem) (p : ℕ) (no : after s (is_member s.table set) p ≡ false) where
+  -- behind marks
+  marks_none : (t : Tree) → NoWay s (behind_marks t) p → NoWay s t p
+  marks_none Empty w = w
+  marks_none (Then (Mark n) rest) w =
+      let ih = marks_none rest w in record { none = λ m. rw (ih.none (set_mark m n p)) refl }
+  marks_none (Then x rest) w = w
+
+  literal_none : (v : ℕ) → is_member s.table set v ≡ true → passes s (Literal Plain v) p ≡ false
+  literal_none v member = by_test (nat_lt p s.end) (nat_eq v (char_at s p)) refl no
+    where
+      by_test : (a b : Bool) → nat_eq v (char_at s p) ≡ b → (a && is_member s.table set (char_at s p)) ≡ false
+          → (a && b) ≡ false
+      by_test true true y none =
+          let same : v ≡ char_at s p = grind (arith, nat_tests) in
+          let there : is_member s.table set (char_at s p) ≡ true =
+          subst (λ c. is_member s.table set c ≡ true) same member in
+          absurd (let never : true ≡ false = sym there ∙ none in cc never)
+      by_test true false y none = refl
+      by_test false b y none = refl
+
+  test_none : (t : Tree) → TestIn s.table set t → NoWay s t p
+  test_none (Then (One (Literal Plain v)) rest) is =
+      let fails = literal_none v is in record { none = λ m. rw fails refl }
+  test_none (Then (One (In Plain items)) rest) is =
+      let fails : passes s (In Plain items) p ≡ false =
+      subst (λ (own : List SetItem). passes s (In Plain own) p ≡ false) (sym is) no in
+      record { none = λ m. rw fails refl }
+  test_none t is = absurd is
+
+  each_none : (ts : Trees) → EachTestIn s.table set ts → NoneOf s ts p
+  each_none (Only t) is = let w = marks_none t (test_none (behind_marks t) is) in record { none = λ m. w.none m }
+  each_none (Or t ts) is =
+      let w = marks_none t (test_none (behind_marks t) is.0) in
+      let x = each_none ts is.1 in
+      record { none = λ m. rw (w.none m, x.none m) refl }
+
+  first_none : (t : Tree) → FirstIn s.table set t → NoWay s t p
+  first_none (Then (Branch ts) rest) is = let w = each_none ts is in record { none = λ m. rw (w.none m) refl }
+  first_none t is = test_none t is
+
+  pub unmembered : (t : Tree) → FirstIn s.table set (behind_marks t) → NoWay s t p
+  unmembered t is = marks_none t (first_none (behind_marks t) is)
+
+-- a code with a first set has no prefix
+pub no_prefix : (code : Code) → (hints_of code).first_set ≡ true → (hints_of code).prefix ≡ None
+no_prefix code is =
+    let tree = code_tree (words_of code) (hints_of code) code.checked in
+    let said = code_confirmed code tree.0 tree.1 in
+    let set = said.first_set.0 is in
+    said.prefix ∙ (rw set.no_prefix refl)
+
+-- nor does it begin with a position code
+pub set_unanchored : (table : Table) (set : List SetItem) (t : Tree) → FirstIn table set (behind_marks t)
+    → is_anchored t ≡ true → ⊥
+set_unanchored table set (Then (At a) rest) first is = first
+set_unanchored table set t first is = let never : false ≡ true = is in absurd (cc never)

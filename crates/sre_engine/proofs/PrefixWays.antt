@@ -1,0 +1,184 @@
+-- Each way of a tree begins with its prefix.
+use Rattle.std.proofs.Common.{◌≡◌, ◌≤◌, ◌<◌, ◌+◌, ◌-◌, ◌*◌, ◌&&◌, ℕ, zero, suc, List, [], ◌∷◌, Bool, true, false}
+use Rattle.std.proofs.Common.{cond, length, slice_index, nat_lt, nat_eq, refl, sym, ap, ◌∙◌, subst, arith}
+use Rattle.std.specs.List.{flat_map}
+use Rattle.std.proofs.lemmas.List.{append-nil}
+use Rattle.std.proofs.lemmas.Bool.{and_parts}
+use Rattle.std.proofs.lemmas.Bool.Decides.{nat_tests}
+use Rattle.sre_model.specs.Tree.{Tree, Then, One, Mark, Literal, Plain}
+use Rattle.sre_model.specs.Marks.{Marks, set_mark}
+use Rattle.sre_model.specs.Subject.{Subject, char_at, passes}
+use Rattle.sre_model.specs.Ways.{Way, here, ways}
+use Rattle.sre_model.specs.Grammar.{Reads}
+use Rattle.sre_model.specs.FirstCharacters.{NoWay}
+use Rattle.sre_model.specs.Prefixes.{spells, behind_items, stands_at, how_many}
+use Rattle.sre_model.proofs.Each.{each-cond}
+use Rattle.sre_engine.specs.Scans.{Fits, Stands}
+use Rattle.sre_engine.proofs.WideWays.{Far, EachFar, on-far, shorter, ways-far}
+
+-- a mark is none of the first literals
+marked_never : (k : ℕ) (b : Bool) → (nat_eq (suc k) 0 && b) ≡ true → ⊥
+marked_never k b e =
+    let y = (and_parts (nat_eq (suc k) 0) b e).0 in
+    let z : suc k ≡ 0 = grind (arith, nat_tests) in
+    omega (arith, z)
+
+module _ (s : Subject) where
+  -- where the words do not stand there is no way
+  pub spelled_none : (k : ℕ) (t : Tree) (vs : List ℕ) (p : ℕ) → spells k t vs ≡ true → stands_at s vs p ≡ false
+      → NoWay s t p
+  spelled_none k t [] p e none = absurd (cc)
+  spelled_none k (Then (One (Literal Plain u)) rest) (v ∷ vs) p e none =
+      let parts = and_parts (nat_eq u v) (spells (k - 1) rest vs) e in
+      by_test (passes s (Literal Plain u) p) refl (spelled_none (k - 1) rest vs (p + 1) parts.1)
+    where
+      same : u ≡ v
+      same = let is = (and_parts (nat_eq u v) (spells (k - 1) rest vs) e).0 in grind (arith, nat_tests)
+
+      by_test : (b : Bool) → passes s (Literal Plain u) p ≡ b
+          → (stands_at s vs (p + 1) ≡ false → NoWay s rest (p + 1)) → NoWay s (Then (One (Literal Plain u)) rest) p
+      by_test true y ih =
+          let there : passes s (Literal Plain v) p ≡ true = subst (λ w. passes s (Literal Plain w) p ≡ true) same y in
+          let later : stands_at s vs (p + 1) ≡ false = rw there at none in
+          record { none = λ m. rw (y, (ih later).none m) refl }
+      by_test false n ih = record { none = λ m. rw n refl }
+  spelled_none k (Then (Mark n) rest) (v ∷ vs) p e none =
+      let parts = and_parts (nat_eq k 0) (spells k rest (v ∷ vs)) e in
+      let ih = spelled_none k rest (v ∷ vs) p parts.1 none in
+      record { none = λ m. rw (ih.none (set_mark m n p)) refl }
+  spelled_none k t (v ∷ vs) p e none = absurd (cc)
+
+  -- each way is at least as long
+  pub spelled_far : (k : ℕ) (t : Tree) (vs : List ℕ) (p : ℕ) (m : Marks) → spells k t vs ≡ true
+      → EachFar (length vs) p (ways s t p m)
+  spelled_far k t [] p m e = shorter s _ 0 p (omega arith) (ways s t p m) (ways-far s t p m)
+  spelled_far k (Then (One (Literal Plain u)) rest) (v ∷ vs) p m e =
+      let parts = and_parts (nat_eq u v) (spells (k - 1) rest vs) e in
+      let one : List Way = cond (passes s (Literal Plain u) p) (here (p + 1) m) [] in
+      shorter s (1 + length vs) (suc (length vs)) p (omega arith) (flat_map (λ w. ways s rest w.stop w.marks) one)
+      (on-far s 1 (length vs) p (λ w. ways s rest w.stop w.marks)
+      (λ w. spelled_far (k - 1) rest vs w.stop w.marks parts.1) one
+      (each-cond (Far 1 p) (passes s (Literal Plain u) p) (here (p + 1) m) [] (λ _. (omega arith, tt)) (λ _. tt)))
+  spelled_far k (Then (Mark n) rest) (v ∷ vs) p m e =
+      let parts = and_parts (nat_eq k 0) (spells k rest (v ∷ vs)) e in
+      let one : List Way = here p (set_mark m n p) in
+      shorter s (0 + suc (length vs)) (suc (length vs)) p (omega arith)
+      (flat_map (λ w. ways s rest w.stop w.marks) one)
+      (on-far s 0 (suc (length vs)) p (λ w. ways s rest w.stop w.marks)
+      (λ w. spelled_far k rest (v ∷ vs) w.stop w.marks parts.1) one (omega arith, tt))
+  spelled_far k t (v ∷ vs) p m e = absurd (cc)
+
+  -- where they stand the ways are those behind the first literals
+  pub spelled_ways : (k : ℕ) (t : Tree) (vs : List ℕ) (p : ℕ) (m : Marks) → spells k t vs ≡ true → k ≤ length vs
+      → stands_at s vs p ≡ true → ways s t p m ≡ ways s (behind_items k t) (p + k) m
+  spelled_ways zero t vs p m e l stands =
+      let at : p ≡ p + 0 = omega arith in ap (λ q. ways s t q m) at
+  spelled_ways (suc k) t [] p m e l stands = absurd (omega (arith, l))
+  spelled_ways (suc k) (Then (One (Literal Plain u)) rest) (v ∷ vs) p m e l stands =
+      let parts = and_parts (nat_eq u v) (spells (suc k - 1) rest vs) e in
+      let less : suc k - 1 ≡ k = omega arith in
+      let on : spells k rest vs ≡ true = subst (λ n. spells n rest vs ≡ true) less parts.1 in
+      let is = parts.0 in
+      let same : v ≡ u = grind (arith, nat_tests) in
+      let there = and_parts (passes s (Literal Plain v) p) (stands_at s vs (p + 1)) stands in
+      let taken : passes s (Literal Plain u) p ≡ true =
+      subst (λ w. passes s (Literal Plain w) p ≡ true) same there.0 in
+      let ih = spelled_ways k rest vs (p + 1) m on (omega (arith, l)) there.1 in
+      let at : p + 1 + k ≡ p + suc k = omega arith in
+      rw taken (append-nil (ways s rest (p + 1) m) ∙ ih ∙ ap (λ q. ways s (behind_items k rest) q m) at)
+  spelled_ways (suc k) (Then (Mark n) rest) (v ∷ vs) p m e l stands =
+      absurd (marked_never k (spells (suc k) rest (v ∷ vs)) e)
+  spelled_ways (suc k) t (v ∷ vs) p m e l stands = let never : false ≡ true = e in absurd (cc never)
+
+  -- where characters are words they stand
+  pub stand_fit : (vs : List ℕ) (p : ℕ) → p + length vs ≤ s.end → Fits s.text vs p (length vs)
+      → stands_at s vs p ≡ true
+  stand_fit [] p inside fits = refl
+  stand_fit (v ∷ vs) p inside fits =
+      let here : p + 0 ≡ p = omega arith in
+      let first : char_at s p ≡ v = ap (slice_index s.text) (sym here) ∙ fits.same 0 (omega arith) in
+      let taken : passes s (Literal Plain v) p ≡ true =
+      let le : p < s.end = omega (arith, inside) in
+      let y : nat_lt p s.end ≡ true = grind (arith, nat_tests) in
+      let z : nat_eq v (char_at s p) ≡ true = grind (arith, nat_tests) in
+      rw (y, z) refl in
+      rw taken
+      (stand_fit vs (p + 1) (omega (arith, inside)) (record {
+        same = λ i less.
+            let at : p + 1 + i ≡ p + suc i = omega arith in
+            ap (slice_index s.text) at ∙ fits.same (suc i) (omega (arith, less));
+      }))
+
+  -- and the other way round
+  one_more : (v : ℕ) (vs : List ℕ) (p : ℕ) → passes s (Literal Plain v) p ≡ true
+      → Fits s.text vs (p + 1) (length vs) → Fits s.text (v ∷ vs) p (length (v ∷ vs))
+  one_more v vs p here fits = record { same = by_place }
+    where
+      first : slice_index s.text (p + 0) ≡ v
+      first =
+          let e = (and_parts (nat_lt p s.end) (nat_eq v (char_at s p)) here).1 in
+          let at : p + 0 ≡ p = omega arith in
+          let is : char_at s p ≡ v = grind (arith, nat_tests) in
+          ap (slice_index s.text) at ∙ is
+
+      by_place : (i : ℕ) → i < length (v ∷ vs) → slice_index s.text (p + i) ≡ slice_index (v ∷ vs) i
+      by_place zero less = first
+      by_place (suc i) less =
+          let at : p + suc i ≡ p + 1 + i = omega arith in
+          ap (slice_index s.text) at ∙ fits.same i (omega (arith, less))
+
+  stand_inside : (v p : ℕ) → passes s (Literal Plain v) p ≡ true → p < s.end
+  stand_inside v p here =
+      let e = (and_parts (nat_lt p s.end) (nat_eq v (char_at s p)) here).0 in grind (arith, nat_tests)
+
+  fit_stand : (v : ℕ) (vs : List ℕ) (p : ℕ) → stands_at s (v ∷ vs) p ≡ true → Stands s.text (v ∷ vs) s.end p
+  fit_stand v [] p stands =
+      let there = and_parts (passes s (Literal Plain v) p) true stands in
+      record {
+        within = omega (arith, stand_inside v p there.0);
+        fits = one_more v [] p there.0 (record { same = λ i less. absurd (omega (arith, less)) });
+      }
+  fit_stand v (u ∷ us) p stands =
+      let there = and_parts (passes s (Literal Plain v) p) (stands_at s (u ∷ us) (p + 1)) stands in
+      let ih = fit_stand u us (p + 1) there.1 in
+      record { within = omega (arith, ih.within); fits = one_more v (u ∷ us) p there.0 ih.fits }
+
+  pub stand_parts : (vs : List ℕ) (p : ℕ) → 0 < length vs → stands_at s vs p ≡ true → Stands s.text vs s.end p
+  stand_parts [] p some e = absurd (omega (arith, some))
+  stand_parts (v ∷ vs) p some e = fit_stand v vs p e
+
+-- the words behind the first literals
+pub reads_behind : (ws : List ℕ) (k : ℕ) (t : Tree) (vs : List ℕ) (i j : ℕ) → spells k t vs ≡ true → k ≤ length vs
+    → Reads ws i j t → Reads ws (i + 2 * k) j (behind_items k t)
+reads_behind ws zero t vs i j e l r =
+    let at : i ≡ i + 2 * 0 = omega arith in subst (λ n. Reads ws n j t) at r
+reads_behind ws (suc k) t [] i j e l r = absurd (omega (arith, l))
+reads_behind ws (suc k) (Then (One (Literal Plain u)) rest) (v ∷ vs) i j e l r =
+    let parts = and_parts (nat_eq u v) (spells (suc k - 1) rest vs) e in
+    let less : suc k - 1 ≡ k = omega arith in
+    let on : spells k rest vs ≡ true = subst (λ n. spells n rest vs ≡ true) less parts.1 in
+    let at : r.0 + 2 * k ≡ i + 2 * suc k = omega (arith, r.1.1.1) in
+    subst (λ n. Reads ws n j (behind_items k rest)) at
+    (reads_behind ws k rest vs r.0 j on (omega (arith, l)) r.2)
+reads_behind ws (suc k) (Then (Mark n) rest) (v ∷ vs) i j e l r =
+    absurd (marked_never k (spells (suc k) rest (v ∷ vs)) e)
+reads_behind ws (suc k) t (v ∷ vs) i j e l r = let never : false ≡ true = e in absurd (cc never)
+
+-- counting
+module _ (test : ℕ → Bool) (a : ℕ) where
+  grown : (n k : ℕ) → how_many test a n ≤ how_many test a (n + k)
+  grown n zero = let e : n + 0 ≡ n = omega arith in omega (arith, ap (how_many test a) e)
+  grown n (suc k) =
+      let e : n + suc k ≡ suc (n + k) = omega arith in
+      omega (arith, grown n k, ap (how_many test a) e)
+
+  pub how_many_grows : (m n : ℕ) → m ≤ n → how_many test a m ≤ how_many test a n
+  how_many_grows m n l =
+      let e : m + (n - m) ≡ n = omega (arith, l) in omega (arith, grown m (n - m), ap (how_many test a) e)
+
+  pub how_many_here : (n : ℕ) → test (a + n) ≡ true → how_many test a n + 1 ≤ how_many test a (n + 1)
+  how_many_here n holds =
+      let e : n + 1 ≡ suc n = omega arith in
+      let bit : Bool → ℕ = λ b. cond b 1 0 in
+      let one : bit (test (a + n)) ≡ bit true = ap bit holds in
+      omega (arith, ap (how_many test a) e, one)

@@ -1,0 +1,220 @@
+-- What a search along the places of a prefix comes to.
+use Rattle.std.proofs.Common.{◌≡◌, ◌≤◌, ◌<◌, ◌+◌, ◌-◌, ◌*◌, ◌||◌, ◌&&◌, ℕ, zero, suc, List, [], ◌∷◌, Bool, true, false}
+use Rattle.std.proofs.Common.{not}
+use Rattle.std.proofs.Common.{cond}
+use Rattle.std.proofs.Common.{length, nat_eq, Option, Some, None, refl, sym, ap, ◌∙◌, subst, arith, inl, inr}
+use Rattle.std.specs.List.{filter}
+use Rattle.std.proofs.lemmas.Bool.{cases_lt}
+use Rattle.std.proofs.lemmas.Bool.Decides.{nat_tests}
+use Rattle.sre_chars.specs.declared.string.StringCursor.{StringCursor}
+use Rattle.sre_model.specs.Tree.{Tree, Empty, Then, At}
+use Rattle.sre_model.specs.Anchors.{is_anchored}
+use Rattle.sre_model.specs.Marks.{Marks, no_marks}
+use Rattle.sre_model.specs.Ways.{Way, here, ways}
+use Rattle.sre_model.specs.Width.{width}
+use Rattle.sre_model.specs.Grammar.{Whole}
+use Rattle.sre_model.specs.Found.{Asked, Match, subject_of, is_accepted, first_accepted, at_start, found}
+use Rattle.sre_model.specs.Machine.{Run, Decides, outcomes}
+use Rattle.sre_model.specs.Prefixes.{spells, behind_items, is_empty, stands_at, how_many}
+use Rattle.sre_model.proofs.FoundLaws.{none-found}
+use Rattle.sre_code.specs.Codes.{words_of, hints_of}
+use Rattle.sre_model.specs.Prefixes.{prefix_of}
+use Rattle.sre_code.specs.declared.code.Code.{Code}
+use Rattle.sre_engine.specs.Answers.{Shown}
+use Rattle.sre_engine.specs.Counts.{CountsUpTo}
+use Rattle.sre_engine.specs.Prefixed.{IsPrefix}
+use Rattle.sre_engine.specs.Scans.{Stands, NoPlace}
+use Rattle.sre_engine.proofs.Answering.{NoneBefore}
+use Rattle.sre_engine.proofs.WideWays.{EachFar, narrow_none}
+use Rattle.sre_engine.proofs.PrefixWays.{spelled_none, spelled_far, spelled_ways, stand_fit, stand_parts}
+use Rattle.sre_engine.proofs.PrefixWays.{how_many_grows}
+use Rattle.sre_engine.proofs.PrefixWays.{how_many_here}
+use Rattle.sre_engine.proofs.FirstMembers.{no_prefix}
+
+-- at a start where the least width does not fit there is no match
+pub narrow_at : (a : Asked) (t : Tree) (w p : ℕ) → w ≤ width t → p ≤ a.end → a.end < p + w → at_start a t p ≡ None
+narrow_at a t w p l inside narrow =
+    let none = narrow_none (subject_of a) t w p no_marks l inside narrow in rw none refl
+
+no_item : (t : Tree) → is_empty t ≡ true → t ≡ Empty
+no_item Empty e = refl
+no_item (Then x rest) e = absurd (cc)
+
+-- more positions are counted
+pub few_counted : (test : ℕ → Bool) (a n : ℕ) → how_many test a n ≤ n
+few_counted test a zero = omega arith
+few_counted test a (suc n) = by_test (test (a + n)) (few_counted test a n)
+  where
+    by_test : (b : Bool) → how_many test a n ≤ n → how_many test a n + cond b 1 0 ≤ suc n
+    by_test true l = omega (arith, l)
+    by_test false l = omega (arith, l)
+
+-- none has a match up to a position, and from there on to another one
+pub none_on : (a : Asked) (t : Tree) (p q : ℕ) → NoneBefore a t p → ((s : ℕ) → p ≤ s → s < q → at_start a t s ≡ None)
+    → NoneBefore a t q
+none_on a t p q before behind s from to = elim (cases_lt s p) [
+  | (inl less) ↦ before s from less
+  | (inr more) ↦ behind s more to
+]
+
+pub none_further : (a : Asked) (t : Tree) (p : ℕ) → NoneBefore a t p → at_start a t p ≡ None → NoneBefore a t (p + 1)
+none_further a t p before none =
+    none_on a t p (p + 1) before
+    (λ s from to. let same : p ≡ s = omega (arith, from, to) in subst (λ q. at_start a t q ≡ None) same none)
+
+pub none_in_window : (a : Asked) (t : Tree) → NoneBefore a t (a.end + 1) → found a t ≡ None
+none_in_window a t before = none-found a t (λ s from to. before s from (omega (arith, to)))
+
+-- what a hint says
+abbrev either_hint : ℕ × ℕ → Option (ℕ × ℕ) → ℕ × ℕ
+either_hint d (Some x) = x
+either_hint d None = d
+
+-- with the words of a prefix
+module _ (a : Asked) (code : Code) (vs : List ℕ) (k : ℕ) (whole : Bool) (is : IsPrefix code vs k whole)
+    (some : 0 < length vs) where
+  -- where they do not stand no match begins
+  unplaced_at : (t : Tree) → Whole (words_of code) t → (p : ℕ) → (Stands a.text vs a.end p → ⊥) → at_start a t p ≡ None
+  unplaced_at t w p nowhere = by_test (stands_at (subject_of a) vs p) refl
+    where
+      by_test : (b : Bool) → stands_at (subject_of a) vs p ≡ b → at_start a t p ≡ None
+      by_test true y = absurd (nowhere (stand_parts (subject_of a) vs p some y))
+      by_test false n =
+          let none = (spelled_none (subject_of a) k t vs p (is.spelled t w) n).none no_marks in rw none refl
+
+  pub none_unplaced : (t : Tree) → Whole (words_of code) t → (p q : ℕ) → NoneBefore a t p
+      → NoPlace a.text vs a.end p q → NoneBefore a t q
+  none_unplaced t w p q before x =
+      none_on a t p q before (λ s from to. unplaced_at t w s (λ stands. x.none s from to stands))
+
+  module _ (s : ℕ) (stands : Stands a.text vs a.end s) where
+    there : stands_at (subject_of a) vs s ≡ true
+    there = stand_fit (subject_of a) vs s stands.within stands.fits
+
+    -- where they stand the ways are those behind the first literals
+    ways_behind : (t : Tree) → Whole (words_of code) t
+        → ways (subject_of a) t s no_marks ≡ ways (subject_of a) (behind_items k t) (s + k) no_marks
+    ways_behind t w = spelled_ways (subject_of a) k t vs s no_marks (is.spelled t w) is.few there
+
+    pub decided_behind : (r : Run) → r.subject ≡ subject_of a → (t : Tree) → Whole (words_of code) t → (p : ℕ)
+        → p ≡ s + k → (d : Option StringCursor) (m : Marks)
+        → Decides r (outcomes r (behind_items k t) p) d m → Decides r (outcomes r t s) d m
+    decided_behind r same t w p at d m decides =
+        let from : ways r.subject (behind_items k t) p no_marks ≡ ways r.subject t s no_marks =
+        ap (λ x. ways x (behind_items k t) p no_marks) same
+        ∙ ap (λ q. ways (subject_of a) (behind_items k t) q no_marks) at
+        ∙ sym (ways_behind t w) ∙ ap (λ x. ways x t s no_marks) (sym same) in
+        subst (λ ws. Decides r (filter r.accepts ws) d m) from decides
+
+    -- and a match ends behind them
+    pub far_end : (t : Tree) → Whole (words_of code) t → (m : Match) → at_start a t s ≡ Some m → s + length vs ≤ m.end
+    far_end t w m e =
+        by_ways (ways (subject_of a) t s no_marks) (spelled_far (subject_of a) k t vs s no_marks (is.spelled t w)) e
+      where
+        by_ways : (ws : List Way) → EachFar (length vs) s ws → first_accepted a s ws ≡ Some m → s + length vs ≤ m.end
+        by_ways [] far e = absurd (cc)
+        by_ways (x ∷ ws) far e = by_test (is_accepted a x) refl (by_ways ws far.1)
+          where
+            by_test : (c : Bool) → is_accepted a x ≡ c
+                → (first_accepted a s ws ≡ Some m → s + length vs ≤ m.end) → s + length vs ≤ m.end
+            by_test true y later =
+                let same : Some (record { start = s; end = x.stop; marks = x.marks }) ≡ Some m = rw y at e in
+                let ends : x.stop ≡ m.end = cc in
+                omega (arith, ends, far.0)
+            by_test false n later = later (rw n at e)
+
+    -- where they are all, the place is the match, if its end is accepted
+    pub whole_at : whole ≡ true → (t : Tree) → Whole (words_of code) t → (q : ℕ) → q ≡ s + length vs → a.start ≤ s
+        → at_start a t s
+        ≡ cond {A = Option Match} (not a.match_all || nat_eq q a.end)
+        (Some (record { start = s; end = q; marks = no_marks })) None
+    whole_at all t w q at from =
+        ap (first_accepted a s) alone
+        ∙ (let moved : nat_eq q a.start ≡ false = grind (arith, nat_tests, some) in
+        by_flags a.match_all a.must_advance (nat_eq q a.end) (nat_eq q a.start) moved)
+      where
+        alone : ways (subject_of a) t s no_marks ≡ here q no_marks
+        alone =
+            let rest = is.rest all t w in
+            let end : s + k ≡ q = omega (arith, rest.0, at) in
+            ways_behind t w
+            ∙ ap (λ u. ways (subject_of a) u (s + k) no_marks) (no_item (behind_items k t) rest.1)
+            ∙ ap (λ p. here p no_marks) end
+
+        match : Option Match
+        match = Some (record { start = s; end = q; marks = no_marks })
+
+        by_flags : (all advance ends starts : Bool) → starts ≡ false
+            → cond ((not all || ends) && (not advance || not starts)) match None ≡ cond (not all || ends) match None
+        by_flags true true true false n = refl
+        by_flags true true false false n = refl
+        by_flags true false true false n = refl
+        by_flags true false false false n = refl
+        by_flags false true ends false n = refl
+        by_flags false false ends false n = refl
+        by_flags all advance ends true n = absurd (cc)
+
+    -- one more of the places
+    pub places_more : (n : ℕ) → a.start ≤ s → n ≤ how_many (stands_at (subject_of a) vs) a.start (s - a.start)
+        → n + 1 ≤ how_many (stands_at (subject_of a) vs) a.start (s + 1 - a.start)
+    places_more n from few =
+        let at : a.start + (s - a.start) ≡ s = omega (arith, from) in
+        let up : s + 1 - a.start ≡ s - a.start + 1 = omega (arith, from) in
+        let one = how_many_here (stands_at (subject_of a) vs) a.start (s - a.start)
+        (subst (λ q. stands_at (subject_of a) vs q ≡ true) (sym at) there) in
+        omega (arith, few, one, ap (how_many (stands_at (subject_of a) vs) a.start) up)
+
+  -- places up to a further position
+  pub places_later : (n p q : ℕ) → n ≤ how_many (stands_at (subject_of a) vs) a.start (p - a.start) → p ≤ q
+      → n ≤ how_many (stands_at (subject_of a) vs) a.start (q - a.start)
+  places_later n p q few l =
+      omega (
+        arith,
+        few,
+        how_many_grows (stands_at (subject_of a) vs) a.start (p - a.start) (q - a.start)
+            (omega (arith, l)),
+      )
+
+  -- the counts
+  pub counts_at : (s : Shown) (p to seen : ℕ)
+      → s.started ≤ how_many (stands_at (subject_of a) vs) a.start (p - a.start)
+      → ((w : ℕ) → (hints_of code).width ≡ Some w → s.started ≤ a.end + 1 - (a.start + w))
+      → (whole ≡ true → s.started ≡ 0) → p ≤ to → s.compared ≤ 2 * (seen - a.start) → CountsUpTo a code to seen s
+  counts_at s p to seen few fit none l cost =
+      let further = places_later s.started p to few l in
+      record {
+        once = omega (arith, further, few_counted (stands_at (subject_of a) vs) a.start (to - a.start));
+        fitting = fit;
+        places = λ l' k' e.
+            let same : Some (length vs, k) ≡ Some (l', k') = sym is.hint ∙ e in
+            let pair : (length vs, k) ≡ (l', k') = ap (either_hint (length vs, k)) same in
+            let long : length vs ≡ l' = ap (λ (x : ℕ × ℕ). x.0) pair in
+            let words : vs ≡ prefix_of (words_of code) l' = is.is ∙ ap (prefix_of (words_of code)) long in
+            subst (λ ws. s.started ≤ how_many (stands_at (subject_of a) ws) a.start (to - a.start)) words further;
+        literal = λ l' k' e y. none (is.all ∙ y);
+        members = λ e.
+            let never : Some (length vs, k) ≡ None = sym is.hint ∙ no_prefix code e in absurd (cc);
+        compared = cost;
+        uncompared = λ e. let never : Some (length vs, k) ≡ None = sym is.hint ∙ e in absurd (cc);
+      }
+
+-- where neither a prefix nor a first set is confirmed
+pub counts_plain : (a : Asked) (code : Code) (s : Shown) (to seen : ℕ) → (hints_of code).prefix ≡ None
+    → (hints_of code).first_set ≡ false → s.started ≤ to - a.start
+    → ((w : ℕ) → (hints_of code).width ≡ Some w → s.started ≤ a.end + 1 - (a.start + w))
+    → s.compared ≡ 0 → CountsUpTo a code to seen s
+counts_plain a code s to seen plain no_set once fit none = record {
+  once = once;
+  fitting = fit;
+  places = λ l k e. let never : None ≡ Some (l, k) = sym plain ∙ e in absurd (cc);
+  literal = λ l k e y. let never : None ≡ Some (l, k) = sym plain ∙ e in absurd (cc);
+  members = λ yes. let never : true ≡ false = sym yes ∙ no_set in absurd (cc never);
+  compared = omega (arith, none);
+  uncompared = λ e. none;
+}
+
+-- a tree with a prefix begins with no position code
+pub anchored_never : (k : ℕ) (t : Tree) (vs : List ℕ) → spells k t vs ≡ true → 0 < length vs → is_anchored t ≡ true → ⊥
+anchored_never k t [] e some is = omega (arith, some)
+anchored_never k (Then (At a) rest) (v ∷ vs) e some is = let never : false ≡ true = e in absurd (cc never)
+anchored_never k t (v ∷ vs) e some is = let never : false ≡ true = is in absurd (cc never)

@@ -1,0 +1,20 @@
+use Rattle.std.proofs.Common.{◌≡◌, ◌∙◌, ap, subst, sym, List, ℕ}
+use Rattle.sre_code.specs.Codes.{words_of}
+use Rattle.sre_request.specs.Requests.{code_of}
+use Rattle.sre_model.specs.Standing.{HasSet}
+use Rattle.sre_engine.specs.Members.{AreTold}
+use Rattle.sre_engine.proofs.AmongMembers.{set_there, told}
+use Rattle.sre_engine.proofs.engine.members.members_told.Goals as goal
+
+pub ascii_members-requires : goal.ascii_members-requires
+ascii_members-requires g c =
+    let read : c.words.result.now ≡ words_of (code_of c.args.req.now) =
+    c.words.ensures.same ∙ ap words_of c.pattern_codes.ensures in
+    subst (λ (ws : List ℕ). HasSet ws 5) (sym read) (set_there (code_of c.args.req.now) c.requires)
+
+pub returns : goal.returns
+returns g c =
+    let read : c.words.result.now ≡ words_of (code_of c.args.req.now) =
+    c.words.ensures.same ∙ ap words_of c.pattern_codes.ensures in
+    subst (λ (ws : List ℕ). AreTold ws c.ascii_members.result) read
+    (told c.words.result.now c.ascii_members.result c.ascii_members.ensures)

@@ -1,0 +1,12 @@
+use Rattle.std.proofs.Common.{◌≡◌, ◌∙◌, ap, subst, sym, List, ℕ}
+use Rattle.sre_code.specs.Codes.{words_of}
+use Rattle.sre_request.specs.Requests.{code_of}
+use Rattle.sre_model.specs.Standing.{HasSet}
+use Rattle.sre_engine.proofs.AmongMembers.{set_there}
+use Rattle.sre_engine.proofs.engine.members.takes.Goals as goal
+
+pub is_member-requires : goal.is_member-requires
+is_member-requires g c =
+    let read : c.words.result.now ≡ words_of (code_of c.args.req.now) =
+    c.words.ensures.same ∙ ap words_of c.pattern_codes-code.ensures in
+    subst (λ (ws : List ℕ). HasSet ws 5) (sym read) (set_there (code_of c.args.req.now) c.requires.set)

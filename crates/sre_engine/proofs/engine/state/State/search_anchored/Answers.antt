@@ -1,0 +1,50 @@
+use Rattle.std.proofs.Common.{◌≡◌, refl, subst, arith, rules}
+use Rattle.sre_code.specs.Codes.{words_of, hints_of}
+use Rattle.sre_code.proofs.Checked.{code_tree}
+use Rattle.sre_request.specs.Requests.{start_of, code_of, asked_of, stands_in}
+use Rattle.sre_engine.specs.Prefixed.{FitsAt}
+use Rattle.sre_engine.proofs.Anchored.{anchored_nowhere}
+use Rattle.sre_engine.proofs.Answering.{answers_yes, answers_no, none_at, some_at, span_at, found_first, none_yet}
+use Rattle.sre_engine.proofs.Hinting.{past_none, counts_tried}
+use Rattle.sre_engine.proofs.engine.state.State.search_anchored.Goals as goal
+
+pub returns-then-is_past-clause-ok : goal.returns-then-is_past-clause-ok
+returns-then-is_past-clause-ok g c = λ t whole.
+    let asked = c.args.req.now in
+    let at : c.args.from.position ≡ start_of asked = search rules in
+    let past : ¬ (FitsAt c.last_start.result c.args.from.position) =
+    subst (λ p. ¬ (FitsAt c.last_start.result p)) c.position.ensures (c.is_past.ensures.past c.if-is_past.true) in
+    answers_no (stands_in asked) _ _
+    (past_none (asked_of asked) (code_of asked) c.last_start.result t _ c.last_start.ensures whole past
+    (none_yet (asked_of asked) t _ at))
+
+pub returns-in-Some-clause-ok : goal.returns-in-Some-clause-ok
+returns-in-Some-clause-ok g c = λ t whole.
+    let asked = c.args.req.now in
+    let at : c.args.from.position ≡ start_of asked = search rules in
+    let some = some_at (stands_in asked) (asked_of asked) t _ c.in_ok-end.field-0 c.attempt.new.board.marks
+    (c.in_ok-end.ensures.found t whole) c.in-Some.end c.in-Some.is in
+    answers_yes (stands_in asked) _ c.args.from.position c.in-Some.end _ c.position-in-Some.ensures refl some.0
+    (found_first (asked_of asked) t _ _ (none_yet (asked_of asked) t _ at) some.1 (omega (arith, at))
+    (omega (arith, at, asked.in_window.0)) refl)
+
+pub returns-in-Some-clause-span : goal.returns-in-Some-clause-span
+returns-in-Some-clause-span g c = λ _.
+    let asked = c.args.req.now in
+    let at : c.args.from.position ≡ start_of asked = search rules in
+    let tree = code_tree (words_of (code_of asked)) (hints_of (code_of asked)) (code_of asked).checked in
+    let s = span_at (stands_in asked) (asked_of asked) tree.0 _ c.in_ok-end.field-0 c.attempt.new.board.marks
+    (c.in_ok-end.ensures.found tree.0 tree.1) (omega (arith, at, asked.in_window.0)) c.in-Some.end c.in-Some.is in (
+      omega (arith, at, c.position-in-Some.ensures),
+      record { starts = refl; forward = omega (arith, c.position-in-Some.ensures, s.0); inside = s.1 },
+    )
+
+pub returns-clause-ok : goal.returns-clause-ok
+returns-clause-ok g c = λ t whole.
+    let asked = c.args.req.now in
+    let at : c.args.from.position ≡ start_of asked = search rules in
+    answers_no (stands_in asked) _ _
+    (anchored_nowhere (asked_of asked) t c.args.from.position (c.requires.anchored t whole)
+    (none_yet (asked_of asked) t _ at)
+    (none_at (stands_in asked) (asked_of asked) t _ c.in_ok-end.field-0 c.attempt.new.board.marks
+    (c.in_ok-end.ensures.found t whole) c.in_default.is))

@@ -1,0 +1,172 @@
+use Rattle.std.proofs.Common.{◌≡◌, ◌≤◌, ◌+◌, ℕ, Some, refl, sym, subst, arith, rules}
+use Rattle.sre_model.specs.Found.{at_start}
+use Rattle.sre_code.specs.Codes.{words_of, hints_of}
+use Rattle.sre_code.proofs.Checked.{code_tree, items_whole}
+use Rattle.sre_request.specs.Requests.{start_of, code_of, asked_of, stands_in, run_of}
+use Rattle.sre_engine.specs.Prefixed.{FitsAt}
+use Rattle.sre_engine.specs.Starts.{NoneUntil}
+use Rattle.sre_engine.proofs.Answering.{answers_yes, answers_no, none_at, some_at, span_at, found_first}
+use Rattle.sre_engine.proofs.Hinting.{past_none}
+use Rattle.sre_engine.proofs.LeadingStarts.{none_joined, found_none_behind}
+use Rattle.sre_engine.proofs.AmongMembers.{none_left, none_to_member, counts_members, tried_more, fit_more}
+use Rattle.sre_engine.proofs.AmongMembers.{members_later}
+use Rattle.sre_engine.proofs.engine.state.State.search_members.Goals as goal
+
+pub returns-in_default-clause-ok : goal.returns-in_default-clause-ok
+returns-in_default-clause-ok g c = λ t whole.
+    let asked = c.args.req.now in
+    answers_no (stands_in asked) _ _
+    (none_left (code_of asked) c.requires.set (asked_of asked) t refl whole c.start.start.position
+    (c.start.invariant.none t whole) c.in_default.ensures.next)
+
+pub returns-in_default-clause-counts : goal.returns-in_default-clause-counts
+returns-in_default-clause-counts g c =
+    let asked = c.args.req.now in
+    let inv = c.start.invariant in
+    counts_members (asked_of asked) (code_of asked) _ c.start.start.position _ _ c.requires.set inv.tried
+    (omega (arith, inv.inside)) inv.fit inv.uncompared
+
+pub returns-then-is_past-clause-ok : goal.returns-then-is_past-clause-ok
+returns-then-is_past-clause-ok g c = λ t whole.
+    let asked = c.args.req.now in
+    let before = none_to_member (code_of asked) c.requires.set (asked_of asked) t refl whole _ _
+    (c.start.invariant.none t whole) c.in-Some.ensures.next in
+    let past : ¬ (FitsAt c.last_start-last.result c.in-Some.next.position) =
+    subst (λ p. ¬ (FitsAt c.last_start-last.result p)) c.position.ensures (c.is_past.ensures.past c.if-is_past.true) in
+    answers_no (stands_in asked) _ _
+    (past_none (asked_of asked) (code_of asked) c.last_start-last.result t _ c.last_start-last.ensures whole past
+    before)
+
+pub returns-then-is_past-clause-counts : goal.returns-then-is_past-clause-counts
+returns-then-is_past-clause-counts g c =
+    let asked = c.args.req.now in
+    let inv = c.start.invariant in
+    counts_members (asked_of asked) (code_of asked) _ c.start.start.position _ _ c.requires.set inv.tried
+    (omega (arith, inv.inside)) inv.fit inv.uncompared
+
+pub returns-in_err-end-clause-counts : goal.returns-in_err-end-clause-counts
+returns-in_err-end-clause-counts g c =
+    let asked = c.args.req.now in
+    let inv = c.start.invariant in
+    let next = c.in-Some.ensures.next in
+    let fits : FitsAt c.last_start-last.result c.in-Some.next.position =
+    subst (FitsAt c.last_start-last.result) c.position.ensures (c.is_past.ensures.fits c.if-is_past.false) in
+    counts_members (asked_of asked) (code_of asked) _ (c.in-Some.next.position + 1) _ _ c.requires.set
+    (tried_more (asked_of asked) (words_of (code_of asked)) _ _ _ c.in-Some.next inv.from c.attempt.ensures.counted
+    inv.tried next)
+    (omega (arith, next.inside))
+    (fit_more (asked_of asked) (code_of asked) c.last_start-last.result _ _ _ c.in-Some.next.position
+    c.last_start-last.ensures fits inv.from next.from inv.few c.attempt.ensures.counted)
+    inv.uncompared
+
+pub returns-in-Some-2-clause-counts : goal.returns-in-Some-2-clause-counts
+returns-in-Some-2-clause-counts g c =
+    let asked = c.args.req.now in
+    let inv = c.start.invariant in
+    let next = c.in-Some.ensures.next in
+    let fits : FitsAt c.last_start-last.result c.in-Some.next.position =
+    subst (FitsAt c.last_start-last.result) c.position.ensures (c.is_past.ensures.fits c.if-is_past.false) in
+    counts_members (asked_of asked) (code_of asked) _ (c.in-Some.next.position + 1) _ _ c.requires.set
+    (tried_more (asked_of asked) (words_of (code_of asked)) _ _ _ c.in-Some.next inv.from c.attempt.ensures.counted
+    inv.tried next)
+    (omega (arith, next.inside))
+    (fit_more (asked_of asked) (code_of asked) c.last_start-last.result _ _ _ c.in-Some.next.position
+    c.last_start-last.ensures fits inv.from next.from inv.few c.attempt.ensures.counted)
+    inv.uncompared
+
+pub returns-in-Some-2-clause-up_to_match : goal.returns-in-Some-2-clause-up_to_match
+returns-in-Some-2-clause-up_to_match g c = λ _.
+    let asked = c.args.req.now in
+    let inv = c.start.invariant in
+    let next = c.in-Some.ensures.next in
+    let fits : FitsAt c.last_start-last.result c.in-Some.next.position =
+    subst (FitsAt c.last_start-last.result) c.position.ensures (c.is_past.ensures.fits c.if-is_past.false) in
+    counts_members (asked_of asked) (code_of asked) _ (c.in-Some.next.position + 1) _ _ c.requires.set
+    (tried_more (asked_of asked) (words_of (code_of asked)) _ _ _ c.in-Some.next inv.from c.attempt.ensures.counted
+    inv.tried next)
+    (omega (arith, c.position-in-Some-2.ensures))
+    (fit_more (asked_of asked) (code_of asked) c.last_start-last.result _ _ _ c.in-Some.next.position
+    c.last_start-last.ensures fits inv.from next.from inv.few c.attempt.ensures.counted)
+    inv.uncompared
+
+pub returns-in-Some-2-clause-ok : goal.returns-in-Some-2-clause-ok
+returns-in-Some-2-clause-ok g c = λ t whole.
+    let asked = c.args.req.now in
+    let next = c.in-Some.ensures.next in
+    let before = none_to_member (code_of asked) c.requires.set (asked_of asked) t refl whole _ _
+    (c.start.invariant.none t whole) next in
+    let some = some_at (stands_in asked) (asked_of asked) t _ c.in_ok-end.field-0 c.attempt.new.board.marks
+    (c.in_ok-end.ensures.found t whole) c.in-Some-2.end c.in-Some-2.is in
+    answers_yes (stands_in asked) _ c.in-Some.next.position c.in-Some-2.end _ c.position-in-Some-2.ensures refl some.0
+    (found_first (asked_of asked) t _ _ before some.1 (omega (arith, c.start.invariant.from, next.from))
+    (omega (arith, next.inside)) refl)
+
+pub returns-in-Some-2-clause-span : goal.returns-in-Some-2-clause-span
+returns-in-Some-2-clause-span g c = λ _.
+    let asked = c.args.req.now in
+    let next = c.in-Some.ensures.next in
+    let tree = code_tree (words_of (code_of asked)) (hints_of (code_of asked)) (code_of asked).checked in
+    let s = span_at (stands_in asked) (asked_of asked) tree.0 _ c.in_ok-end.field-0 c.attempt.new.board.marks
+    (c.in_ok-end.ensures.found tree.0 tree.1) (omega (arith, next.inside)) c.in-Some-2.end c.in-Some-2.is in (
+      omega (arith, c.start.invariant.from, next.from, c.position-in-Some-2.ensures),
+      record { starts = refl; forward = omega (arith, c.position-in-Some-2.ensures, s.0); inside = s.1 },
+    )
+
+pub returns-in_default-start_behind-clause-ok : goal.returns-in_default-start_behind-clause-ok
+returns-in_default-start_behind-clause-ok g c = λ t whole.
+    let asked = c.args.req.now in
+    let before = none_to_member (code_of asked) c.requires.set (asked_of asked) t refl whole _ _
+    (c.start.invariant.none t whole) c.in-Some.ensures.next in
+    let none = none_at (stands_in asked) (asked_of asked) t _ c.in_ok-end.field-0 c.attempt.new.board.marks
+    (c.in_ok-end.ensures.found t whole) c.in_default-2.is in
+    let behind = subst (NoneUntil (asked_of asked) t c.in-Some.next.position) c.in_default-start_behind.is
+    (c.start_behind.ensures.none t (items_whole asked.pattern_codes t whole) none) in
+    answers_no (stands_in asked) _ _ (found_none_behind (asked_of asked) t c.in-Some.next.position before behind)
+
+pub returns-in_default-start_behind-clause-counts : goal.returns-in_default-start_behind-clause-counts
+returns-in_default-start_behind-clause-counts g c =
+    let asked = c.args.req.now in
+    let inv = c.start.invariant in
+    let next = c.in-Some.ensures.next in
+    let fits : FitsAt c.last_start-last.result c.in-Some.next.position =
+    subst (FitsAt c.last_start-last.result) c.position.ensures (c.is_past.ensures.fits c.if-is_past.false) in
+    counts_members (asked_of asked) (code_of asked) _ (c.in-Some.next.position + 1) _ _ c.requires.set
+    (tried_more (asked_of asked) (words_of (code_of asked)) _ _ _ c.in-Some.next inv.from c.attempt.ensures.counted
+    inv.tried next)
+    (omega (arith, next.inside))
+    (fit_more (asked_of asked) (code_of asked) c.last_start-last.result _ _ _ c.in-Some.next.position
+    c.last_start-last.ensures fits inv.from next.from inv.few c.attempt.ensures.counted)
+    inv.uncompared
+
+pub start-preserved : goal.start-preserved
+start-preserved g c =
+    let asked = c.args.req.now in
+    let inv = c.start.invariant in
+    let next = c.in-Some.ensures.next in
+    let behind = c.in-Some-start_behind.ensures in
+    let fits : FitsAt c.last_start-last.result c.in-Some.next.position =
+    subst (FitsAt c.last_start-last.result) c.position.ensures (c.is_past.ensures.fits c.if-is_past.false) in
+    let tried = tried_more (asked_of asked) (words_of (code_of asked)) _ _ _ c.in-Some.next inv.from
+    c.attempt.ensures.counted inv.tried next in
+    let later : c.in-Some.next.position + 1 ≤ c.in-Some-start_behind.behind.position = omega (arith, behind.next.0) in
+    record {
+      stands = behind.stands;
+      from = omega (arith, inv.from, next.from, behind.next.0);
+      inside = omega (arith, behind.next.1);
+      fresh = search rules;
+      none = λ t whole.
+          let before = none_to_member (code_of asked) c.requires.set (asked_of asked) t refl whole _ _
+          (inv.none t whole) next in
+          let none = none_at (stands_in asked) (asked_of asked) t _ c.in_ok-end.field-0 c.attempt.new.board.marks
+          (c.in_ok-end.ensures.found t whole) c.in_default-2.is in
+          none_joined (asked_of asked) t _ _ before
+          (behind.none t (items_whole asked.pattern_codes t whole) none);
+      tried = λ set own.
+          members_later (asked_of asked) set c.attempt.new.started (c.in-Some.next.position + 1)
+          c.in-Some-start_behind.behind.position (tried set own) later;
+      few = omega (arith, inv.few, inv.from, next.from, c.attempt.ensures.counted, behind.next.0);
+      fit =
+          fit_more (asked_of asked) (code_of asked) c.last_start-last.result _ _ _ c.in-Some.next.position
+          c.last_start-last.ensures fits inv.from next.from inv.few c.attempt.ensures.counted;
+      uncompared = inv.uncompared;
+    }

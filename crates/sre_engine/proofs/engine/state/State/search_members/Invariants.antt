@@ -1,0 +1,27 @@
+use Rattle.std.proofs.Common.{◌≡◌, ◌≤◌, ◌+◌, ◌-◌, ℕ, Some}
+use Rattle.sre_model.specs.Tree.{Tree}
+use Rattle.sre_model.specs.Marks.{no_marks}
+use Rattle.sre_model.specs.Grammar.{Whole}
+use Rattle.sre_model.specs.Board.{bare}
+use Rattle.sre_code.specs.Codes.{words_of, hints_of}
+use Rattle.sre_request.specs.Requests.{start_of, end_of, code_of, asked_of, run_of}
+use Rattle.sre_engine.proofs.Answering.{NoneBefore}
+use Rattle.sre_engine.proofs.AmongMembers.{TriedAtMembers}
+use Rattle.sre_engine.proofs.engine.state.State.search_members.Given as goal
+
+abbrev pub invariant-start : goal.invariant-start
+invariant-start g l = record {
+  stands : (run_of l.req).stands l.start l.start.position;
+  from : start_of l.req ≤ l.start.position;
+  inside : l.start.position ≤ end_of l.req;
+  fresh : l.self-inside.board ≡ bare no_marks;
+  none : (t : Tree) → Whole (words_of (code_of l.req)) t → NoneBefore (asked_of l.req) t l.start.position;
+  tried : TriedAtMembers (asked_of l.req) (words_of (code_of l.req)) l.self-inside.started l.start.position;
+  few : l.self-inside.started ≤ l.start.position - start_of l.req;
+  fit : (w : ℕ) → (hints_of (code_of l.req)).width ≡ Some w
+      → l.self-inside.started ≤ end_of l.req + 1 - (start_of l.req + w);
+  uncompared : l.self-inside.compared ≡ 0;
+}
+
+abbrev pub decreases-start : goal.decreases-start
+decreases-start g l = end_of l.req - l.start.position

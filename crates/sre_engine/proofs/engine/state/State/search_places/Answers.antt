@@ -1,0 +1,317 @@
+use Rattle.std.proofs.Common.{◌≡◌, ◌≤◌, ◌+◌, ◌-◌, ◌*◌, ℕ, true, false, Some}
+use Rattle.std.proofs.Common.{length, refl, sym, ◌∙◌, subst, arith, rules}
+use Rattle.sre_chars.specs.declared.string.StringCursor.{StringCursor}
+use Rattle.sre_model.specs.Grammar.{Reads}
+use Rattle.sre_model.specs.Found.{subject_of}
+use Rattle.sre_model.specs.Prefixes.{stands_at, how_many, behind_items}
+use Rattle.sre_code.specs.Codes.{words_of, items_of, hints_of}
+use Rattle.sre_request.specs.Requests.{code_of, asked_of, stands_in, run_of}
+use Rattle.sre_engine.specs.Scans.{Stands, NoPlace}
+use Rattle.sre_engine.proofs.Answering.{answers_yes, answers_no, none_at, some_at, span_at, found_first}
+use Rattle.sre_engine.proofs.Answering.{NoneBefore}
+use Rattle.sre_engine.proofs.Steps.{complete}
+use Rattle.sre_engine.proofs.PrefixWays.{reads_behind}
+use Rattle.sre_engine.proofs.Hinting.{past_none}
+use Rattle.sre_engine.proofs.Searching.{none_further, none_in_window, none_unplaced, decided_behind, far_end}
+use Rattle.sre_engine.proofs.Searching.{places_more, places_later, counts_at, few_counted}
+use Rattle.sre_code.proofs.Checked.{code_tree, whole_items}
+use Rattle.sre_engine.proofs.engine.state.State.search_places.Goals as goal
+
+pub attempt-requires-clause-behind : goal.attempt-requires-clause-behind
+attempt-requires-clause-behind g c = λ t w.
+    let asked = c.args.req.now in
+    let is = c.requires.is in
+    let ws = items_of (code_of asked) in
+    let zero : 0 + 2 * c.args.prefix.now.literals ≡ 2 * c.args.prefix.now.literals = omega arith in
+    subst (λ i. Reads ws i (length ws - 1) (behind_items c.args.prefix.now.literals t)) zero
+    (reads_behind ws c.args.prefix.now.literals t c.args.prefix.now.words.now 0 (length ws - 1)
+    (is.spelled t (whole_items asked.pattern_codes t w)) is.few w.0)
+
+pub attempt-requires-clause-room : goal.attempt-requires-clause-room
+attempt-requires-clause-room g c =
+    let asked = c.args.req.now in
+    let a = asked_of asked in
+    let vs = c.args.prefix.now.words.now in
+    let is = c.requires.is in
+    let some = c.args.prefix.now.confirmed.some in
+    let inv = c.place.invariant in
+    let here = c.find.ensures.here in
+    let own = few_counted (stands_at (subject_of a) vs) a.start
+    (c.place.spot.cursor.position - c.place.spot.matched - a.start) in
+    omega (arith, inv.few, own, inv.here.within, asked.in_window.1)
+
+pub returns-then-is_past-clause-ok : goal.returns-then-is_past-clause-ok
+returns-then-is_past-clause-ok g c = λ t whole.
+    let asked = c.args.req.now in
+    let a = asked_of asked in
+    let vs = c.args.prefix.now.words.now in
+    let is = c.requires.is in
+    let some = c.args.prefix.now.confirmed.some in
+    let inv = c.place.invariant in
+    let here = c.find.ensures.here in
+    let there = c.find.ensures.found c.place-test.true in
+    let at : c.find.new.spot.cursor.position - c.find.new.spot.matched ≡ c.start_of-start.result =
+    omega (arith, there.0, c.start_of-start.ensures) in
+    let before : NoneBefore a t c.start_of-start.result =
+    subst (NoneBefore a t) at (none_unplaced a (code_of asked) vs _ _ is some t whole _ _ (inv.none t whole) there.1) in
+    answers_no (stands_in asked) _ _
+    (past_none a (code_of asked) c.last_start-last.result t _ c.last_start-last.ensures whole
+    (c.is_past.ensures.past c.if-is_past.true) before)
+
+pub returns-clause-ok : goal.returns-clause-ok
+returns-clause-ok g c = λ t whole.
+    let asked = c.args.req.now in
+    let a = asked_of asked in
+    let vs = c.args.prefix.now.words.now in
+    let is = c.requires.is in
+    let some = c.args.prefix.now.confirmed.some in
+    let inv = c.place.invariant in
+    let here = c.find.ensures.here in
+    answers_no (stands_in asked) _ _
+    (none_in_window a t (none_unplaced a (code_of asked) vs _ _ is some t whole _ _ (inv.none t whole)
+    (c.find.ensures.none c.place-test.false)))
+
+pub returns-then-is_past-clause-counts : goal.returns-then-is_past-clause-counts
+returns-then-is_past-clause-counts g c =
+    let asked = c.args.req.now in
+    let a = asked_of asked in
+    let vs = c.args.prefix.now.words.now in
+    let is = c.requires.is in
+    let some = c.args.prefix.now.confirmed.some in
+    let inv = c.place.invariant in
+    let here = c.find.ensures.here in
+    let no : c.args.prefix.now.whole ≡ true → c.place.self-inside.started ≡ 0 =
+    (λ e. let never : true ≡ false = sym e ∙ c.requires.more in absurd (cc never)) in
+    counts_at a (code_of asked) vs _ _ is some _ (c.place.spot.cursor.position - c.place.spot.matched) _ _ inv.few
+    inv.fit
+    no (omega (arith, inv.here.within)) (omega (arith, here.cost, here.within, here.from))
+
+pub returns-clause-counts : goal.returns-clause-counts
+returns-clause-counts g c =
+    let asked = c.args.req.now in
+    let a = asked_of asked in
+    let vs = c.args.prefix.now.words.now in
+    let is = c.requires.is in
+    let some = c.args.prefix.now.confirmed.some in
+    let inv = c.place.invariant in
+    let here = c.find.ensures.here in
+    let no : c.args.prefix.now.whole ≡ true → c.place.self-inside.started ≡ 0 =
+    (λ e. let never : true ≡ false = sym e ∙ c.requires.more in absurd (cc never)) in
+    counts_at a (code_of asked) vs _ _ is some _ (c.place.spot.cursor.position - c.place.spot.matched) _ _ inv.few
+    inv.fit
+    no (omega (arith, inv.here.within)) (omega (arith, here.cost, here.within, here.from))
+
+pub returns-in_err-end-clause-counts : goal.returns-in_err-end-clause-counts
+returns-in_err-end-clause-counts g c =
+    let asked = c.args.req.now in
+    let a = asked_of asked in
+    let vs = c.args.prefix.now.words.now in
+    let is = c.requires.is in
+    let some = c.args.prefix.now.confirmed.some in
+    let inv = c.place.invariant in
+    let here = c.find.ensures.here in
+    let there = c.find.ensures.found c.place-test.true in
+    let at : c.find.new.spot.cursor.position - c.find.new.spot.matched ≡ c.start_of-start.result =
+    omega (arith, there.0, c.start_of-start.ensures) in
+    let stands : Stands a.text vs a.end c.start_of-start.result =
+    subst (λ p. Stands a.text vs a.end p) at (complete a.text vs a.start a.end _ _ _ here there.0) in
+    let from : a.start ≤ c.start_of-start.result = omega (arith, at, here.from, there.0) in
+    let forward = there.1.forward in
+    let few = places_later a (code_of asked) vs _ _ is some _ _ c.start_of-start.result inv.few
+    (omega (arith, at, forward)) in
+    let more = places_more a (code_of asked) vs _ _ is some c.start_of-start.result stands _ from few in
+    let own = few_counted (stands_at (subject_of a) vs) a.start (c.start_of-start.result - a.start) in
+    let most : c.attempt.new.started
+    ≤ how_many (stands_at (subject_of a) vs) a.start (c.start_of-start.result + 1 - a.start) =
+    omega (arith, c.attempt.ensures.counted, more) in
+    let fit : (w : ℕ) → (hints_of (code_of asked)).width ≡ Some w
+    → c.attempt.new.started ≤ a.end + 1 - (a.start + w) =
+    (λ w e.
+    let wide = c.last_start-last.ensures.fits c.start_of-start.result (c.is_past.ensures.fits c.if-is_past.false) w e in
+    omega (arith, wide, from, few, own, c.attempt.ensures.counted)) in
+    let no : c.args.prefix.now.whole ≡ true → c.attempt.new.started ≡ 0 =
+    (λ e. let never : true ≡ false = sym e ∙ c.requires.more in absurd (cc never)) in
+    counts_at a (code_of asked) vs _ _ is some _ (c.start_of-start.result + 1) _ _ most fit
+    no (omega (arith, stands.within)) (omega (arith, here.cost, here.within, here.from))
+
+pub returns-in-Some-clause-counts : goal.returns-in-Some-clause-counts
+returns-in-Some-clause-counts g c =
+    let asked = c.args.req.now in
+    let a = asked_of asked in
+    let vs = c.args.prefix.now.words.now in
+    let is = c.requires.is in
+    let some = c.args.prefix.now.confirmed.some in
+    let inv = c.place.invariant in
+    let here = c.find.ensures.here in
+    let there = c.find.ensures.found c.place-test.true in
+    let at : c.find.new.spot.cursor.position - c.find.new.spot.matched ≡ c.start_of-start.result =
+    omega (arith, there.0, c.start_of-start.ensures) in
+    let stands : Stands a.text vs a.end c.start_of-start.result =
+    subst (λ p. Stands a.text vs a.end p) at (complete a.text vs a.start a.end _ _ _ here there.0) in
+    let from : a.start ≤ c.start_of-start.result = omega (arith, at, here.from, there.0) in
+    let forward = there.1.forward in
+    let few = places_later a (code_of asked) vs _ _ is some _ _ c.start_of-start.result inv.few
+    (omega (arith, at, forward)) in
+    let more = places_more a (code_of asked) vs _ _ is some c.start_of-start.result stands _ from few in
+    let own = few_counted (stands_at (subject_of a) vs) a.start (c.start_of-start.result - a.start) in
+    let most : c.attempt.new.started
+    ≤ how_many (stands_at (subject_of a) vs) a.start (c.start_of-start.result + 1 - a.start) =
+    omega (arith, c.attempt.ensures.counted, more) in
+    let fit : (w : ℕ) → (hints_of (code_of asked)).width ≡ Some w
+    → c.attempt.new.started ≤ a.end + 1 - (a.start + w) =
+    (λ w e.
+    let wide = c.last_start-last.ensures.fits c.start_of-start.result (c.is_past.ensures.fits c.if-is_past.false) w e in
+    omega (arith, wide, from, few, own, c.attempt.ensures.counted)) in
+    let no : c.args.prefix.now.whole ≡ true → c.attempt.new.started ≡ 0 =
+    (λ e. let never : true ≡ false = sym e ∙ c.requires.more in absurd (cc never)) in
+    counts_at a (code_of asked) vs _ _ is some _ (c.start_of-start.result + 1) _ _ most fit
+    no (omega (arith, stands.within)) (omega (arith, here.cost, here.within, here.from))
+
+pub returns-in-Some-clause-ok : goal.returns-in-Some-clause-ok
+returns-in-Some-clause-ok g c = λ t whole.
+    let asked = c.args.req.now in
+    let a = asked_of asked in
+    let vs = c.args.prefix.now.words.now in
+    let is = c.requires.is in
+    let some = c.args.prefix.now.confirmed.some in
+    let inv = c.place.invariant in
+    let here = c.find.ensures.here in
+    let there = c.find.ensures.found c.place-test.true in
+    let at : c.find.new.spot.cursor.position - c.find.new.spot.matched ≡ c.start_of-start.result =
+    omega (arith, there.0, c.start_of-start.ensures) in
+    let stands : Stands a.text vs a.end c.start_of-start.result =
+    subst (λ p. Stands a.text vs a.end p) at (complete a.text vs a.start a.end _ _ _ here there.0) in
+    let before : NoneBefore a t c.start_of-start.result =
+    subst (NoneBefore a t) at (none_unplaced a (code_of asked) vs _ _ is some t whole _ _ (inv.none t whole) there.1) in
+    let from : a.start ≤ c.start_of-start.result = omega (arith, at, here.from, there.0) in
+    let behind : c.behind_literals-behind.result.position ≡ c.start_of-start.result + c.args.prefix.now.literals =
+    omega (arith, c.behind_literals-behind.ensures.position, c.start_of-start.ensures) in
+    let decides = decided_behind a (code_of asked) vs _ _ is some c.start_of-start.result stands (run_of asked) refl t
+    whole c.behind_literals-behind.result.position behind c.in_ok-end.field-0 c.attempt.new.board.marks
+    (c.in_ok-end.ensures.found t whole) in
+    let match = some_at (stands_in asked) a t c.start_of-start.result c.in_ok-end.field-0 c.attempt.new.board.marks
+    decides c.in-Some.end c.in-Some.is in
+    answers_yes (stands_in asked) _ c.start_of-start.result c.in-Some.end _ refl refl match.0
+    (found_first a t _ _ before match.1 from (omega (arith, stands.within)) refl)
+
+pub returns-in-Some-clause-span : goal.returns-in-Some-clause-span
+returns-in-Some-clause-span g c = λ _.
+    let asked = c.args.req.now in
+    let a = asked_of asked in
+    let vs = c.args.prefix.now.words.now in
+    let is = c.requires.is in
+    let some = c.args.prefix.now.confirmed.some in
+    let inv = c.place.invariant in
+    let here = c.find.ensures.here in
+    let there = c.find.ensures.found c.place-test.true in
+    let at : c.find.new.spot.cursor.position - c.find.new.spot.matched ≡ c.start_of-start.result =
+    omega (arith, there.0, c.start_of-start.ensures) in
+    let stands : Stands a.text vs a.end c.start_of-start.result =
+    subst (λ p. Stands a.text vs a.end p) at (complete a.text vs a.start a.end _ _ _ here there.0) in
+    let tree = code_tree (words_of (code_of asked)) (hints_of (code_of asked)) (code_of asked).checked in
+    let from : a.start ≤ c.start_of-start.result = omega (arith, at, here.from, there.0) in
+    let behind : c.behind_literals-behind.result.position ≡ c.start_of-start.result + c.args.prefix.now.literals =
+    omega (arith, c.behind_literals-behind.ensures.position, c.start_of-start.ensures) in
+    let decides = decided_behind a (code_of asked) vs _ _ is some c.start_of-start.result stands (run_of asked) refl
+    tree.0 tree.1 c.behind_literals-behind.result.position behind c.in_ok-end.field-0 c.attempt.new.board.marks
+    (c.in_ok-end.ensures.found tree.0 tree.1) in
+    let s = span_at (stands_in asked) a tree.0 c.start_of-start.result c.in_ok-end.field-0 c.attempt.new.board.marks
+    decides (omega (arith, stands.within)) c.in-Some.end c.in-Some.is in
+    (from, record { starts = refl; forward = s.0; inside = s.1 })
+
+pub returns-in-Some-clause-up_to_match : goal.returns-in-Some-clause-up_to_match
+returns-in-Some-clause-up_to_match g c = λ _.
+    let asked = c.args.req.now in
+    let a = asked_of asked in
+    let vs = c.args.prefix.now.words.now in
+    let is = c.requires.is in
+    let some = c.args.prefix.now.confirmed.some in
+    let inv = c.place.invariant in
+    let here = c.find.ensures.here in
+    let there = c.find.ensures.found c.place-test.true in
+    let at : c.find.new.spot.cursor.position - c.find.new.spot.matched ≡ c.start_of-start.result =
+    omega (arith, there.0, c.start_of-start.ensures) in
+    let stands : Stands a.text vs a.end c.start_of-start.result =
+    subst (λ p. Stands a.text vs a.end p) at (complete a.text vs a.start a.end _ _ _ here there.0) in
+    let from : a.start ≤ c.start_of-start.result = omega (arith, at, here.from, there.0) in
+    let forward = there.1.forward in
+    let few = places_later a (code_of asked) vs _ _ is some _ _ c.start_of-start.result inv.few
+    (omega (arith, at, forward)) in
+    let more = places_more a (code_of asked) vs _ _ is some c.start_of-start.result stands _ from few in
+    let own = few_counted (stands_at (subject_of a) vs) a.start (c.start_of-start.result - a.start) in
+    let most : c.attempt.new.started
+    ≤ how_many (stands_at (subject_of a) vs) a.start (c.start_of-start.result + 1 - a.start) =
+    omega (arith, c.attempt.ensures.counted, more) in
+    let fit : (w : ℕ) → (hints_of (code_of asked)).width ≡ Some w
+    → c.attempt.new.started ≤ a.end + 1 - (a.start + w) =
+    (λ w e.
+    let wide = c.last_start-last.ensures.fits c.start_of-start.result (c.is_past.ensures.fits c.if-is_past.false) w e in
+    omega (arith, wide, from, few, own, c.attempt.ensures.counted)) in
+    let no : c.args.prefix.now.whole ≡ true → c.attempt.new.started ≡ 0 =
+    (λ e. let never : true ≡ false = sym e ∙ c.requires.more in absurd (cc never)) in
+    let tree = code_tree (words_of (code_of asked)) (hints_of (code_of asked)) (code_of asked).checked in
+    let behind : c.behind_literals-behind.result.position ≡ c.start_of-start.result + c.args.prefix.now.literals =
+    omega (arith, c.behind_literals-behind.ensures.position, c.start_of-start.ensures) in
+    let decides = decided_behind a (code_of asked) vs _ _ is some c.start_of-start.result stands (run_of asked) refl
+    tree.0 tree.1 c.behind_literals-behind.result.position behind c.in_ok-end.field-0 c.attempt.new.board.marks
+    (c.in_ok-end.ensures.found tree.0 tree.1) in
+    let match = some_at (stands_in asked) a tree.0 c.start_of-start.result c.in_ok-end.field-0 c.attempt.new.board.marks
+    decides c.in-Some.end c.in-Some.is in
+    let far = far_end a (code_of asked) vs _ _ is some c.start_of-start.result stands tree.0 tree.1 _ match.1 in
+    counts_at a (code_of asked) vs _ _ is some _ (c.start_of-start.result + 1) _ _ most fit
+    no (omega arith) (omega (arith, here.cost, here.from, there.0, at, far))
+
+pub place-preserved : goal.place-preserved
+place-preserved g c =
+    let asked = c.args.req.now in
+    let a = asked_of asked in
+    let vs = c.args.prefix.now.words.now in
+    let is = c.requires.is in
+    let some = c.args.prefix.now.confirmed.some in
+    let inv = c.place.invariant in
+    let here = c.find.ensures.here in
+    let there = c.find.ensures.found c.place-test.true in
+    let at : c.find.new.spot.cursor.position - c.find.new.spot.matched ≡ c.start_of-start.result =
+    omega (arith, there.0, c.start_of-start.ensures) in
+    let stands : Stands a.text vs a.end c.start_of-start.result =
+    subst (λ p. Stands a.text vs a.end p) at (complete a.text vs a.start a.end _ _ _ here there.0) in
+    let from : a.start ≤ c.start_of-start.result = omega (arith, at, here.from, there.0) in
+    let forward = there.1.forward in
+    let few = places_later a (code_of asked) vs _ _ is some _ _ c.start_of-start.result inv.few
+    (omega (arith, at, forward)) in
+    let more = places_more a (code_of asked) vs _ _ is some c.start_of-start.result stands _ from few in
+    let own = few_counted (stands_at (subject_of a) vs) a.start (c.start_of-start.result - a.start) in
+    let most : c.attempt.new.started
+    ≤ how_many (stands_at (subject_of a) vs) a.start (c.start_of-start.result + 1 - a.start) =
+    omega (arith, c.attempt.ensures.counted, more) in
+    let fit : (w : ℕ) → (hints_of (code_of asked)).width ≡ Some w
+    → c.attempt.new.started ≤ a.end + 1 - (a.start + w) =
+    (λ w e.
+    let wide = c.last_start-last.ensures.fits c.start_of-start.result (c.is_past.ensures.fits c.if-is_past.false) w e in
+    omega (arith, wide, from, few, own, c.attempt.ensures.counted)) in
+    let on = c.go_on-spot.ensures in
+    let passed : NoPlace a.text vs a.end (c.start_of-start.result + 1)
+    (c.go_on-spot.result.cursor.position - c.go_on-spot.result.matched) =
+    subst (λ p. NoPlace a.text vs a.end (p + 1)
+    (c.go_on-spot.result.cursor.position - c.go_on-spot.result.matched)) at on.passed in
+    record {
+      stands =
+          subst (λ (x : StringCursor). stands_in asked x x.position) (sym on.at) c.find.ensures.stands;
+      here = on.here;
+      fresh = search rules;
+      none = λ t whole.
+          let before : NoneBefore a t c.start_of-start.result =
+          subst (NoneBefore a t) at
+          (none_unplaced a (code_of asked) vs _ _ is some t whole _ _ (inv.none t whole) there.1) in
+          let behind : c.behind_literals-behind.result.position
+          ≡ c.start_of-start.result + c.args.prefix.now.literals =
+          omega (arith, c.behind_literals-behind.ensures.position, c.start_of-start.ensures) in
+          let decides = decided_behind a (code_of asked) vs _ _ is some c.start_of-start.result stands (run_of asked)
+          refl t whole c.behind_literals-behind.result.position behind c.in_ok-end.field-0 c.attempt.new.board.marks
+          (c.in_ok-end.ensures.found t whole) in
+          let none = none_at (stands_in asked) a t c.start_of-start.result c.in_ok-end.field-0
+          c.attempt.new.board.marks decides c.in_default.is in
+          none_unplaced a (code_of asked) vs _ _ is some t whole _ _ (none_further a t _ before none) passed;
+      few = places_later a (code_of asked) vs _ _ is some _ _ _ most passed.forward;
+      fit = fit;
+    }

@@ -1,0 +1,30 @@
+use Rattle.std.proofs.Common.{◌≡◌, ◌≤◌, ◌+◌, ◌-◌, ℕ, Some}
+use Rattle.sre_model.specs.Tree.{Tree}
+use Rattle.sre_model.specs.Marks.{no_marks}
+use Rattle.sre_model.specs.Grammar.{Whole}
+use Rattle.sre_model.specs.Board.{bare}
+use Rattle.sre_model.specs.Found.{subject_of}
+use Rattle.sre_model.specs.Prefixes.{stands_at, how_many}
+use Rattle.sre_code.specs.Codes.{words_of, hints_of}
+use Rattle.sre_request.specs.Requests.{start_of, end_of, code_of, asked_of, run_of}
+use Rattle.sre_engine.specs.Scans.{Here}
+use Rattle.sre_engine.proofs.Answering.{NoneBefore}
+use Rattle.sre_engine.proofs.engine.state.State.search_places.Given as goal
+
+abbrev pub invariant-place : goal.invariant-place
+invariant-place g l = record {
+  stands : (run_of l.req).stands l.spot.cursor l.spot.cursor.position;
+  here : Here (run_of l.req).subject.text l.prefix.words.now (start_of l.req) (end_of l.req) l.spot.cursor.position
+      l.spot.matched l.self-inside.compared;
+  fresh : l.self-inside.board ≡ bare no_marks;
+  none : (t : Tree) → Whole (words_of (code_of l.req)) t
+      → NoneBefore (asked_of l.req) t (l.spot.cursor.position - l.spot.matched);
+  few : l.self-inside.started
+      ≤ how_many (stands_at (subject_of (asked_of l.req)) l.prefix.words.now) (start_of l.req)
+      (l.spot.cursor.position - l.spot.matched - start_of l.req);
+  fit : (w : ℕ) → (hints_of (code_of l.req)).width ≡ Some w
+      → l.self-inside.started ≤ end_of l.req + 1 - (start_of l.req + w);
+}
+
+abbrev pub decreases-place : goal.decreases-place
+decreases-place g l = end_of l.req + 1 - (l.spot.cursor.position - l.spot.matched)

@@ -1,0 +1,97 @@
+use Rattle.std.proofs.Common.{◌≡◌, ◌≤◌, ◌+◌, ◌-◌, ◌||◌, ℕ, true, false, not, nat_eq, Some, None}
+use Rattle.std.proofs.Common.{length, refl, sym, ap, ◌∙◌, subst, arith, rules}
+use Rattle.sre_chars.specs.declared.string.StringCursor.{StringCursor}
+use Rattle.sre_model.specs.Marks.{Marks, no_marks}
+use Rattle.sre_model.specs.Board.{BoardValue}
+use Rattle.sre_model.specs.Found.{at_start}
+use Rattle.sre_request.specs.Requests.{code_of, asked_of, stands_in}
+use Rattle.sre_engine.specs.Scans.{Stands}
+use Rattle.sre_engine.proofs.Answering.{answers_yes, answers_no, found_first}
+use Rattle.sre_engine.proofs.Answering.{NoneBefore}
+use Rattle.sre_engine.proofs.Steps.{complete}
+use Rattle.sre_engine.proofs.Searching.{none_further, none_in_window, none_unplaced, whole_at}
+use Rattle.sre_engine.proofs.engine.state.State.search_whole.Goals as goal
+
+pub returns-clause-ok : goal.returns-clause-ok
+returns-clause-ok g c = λ t whole.
+    let asked = c.args.req.now in
+    let a = asked_of asked in
+    let vs = c.args.prefix.now.words.now in
+    let is = c.requires.is in
+    let some = c.args.prefix.now.confirmed.some in
+    let inv = c.place.invariant in
+    let here = c.find.ensures.here in
+    answers_no (stands_in asked) _ _
+    (none_in_window a t (none_unplaced a (code_of asked) vs _ _ is some t whole _ _ (inv.none t whole)
+    (c.find.ensures.none c.place-test.false)))
+
+pub returns-then-may_end-clause-ok : goal.returns-then-may_end-clause-ok
+returns-then-may_end-clause-ok g c = λ t whole.
+    let asked = c.args.req.now in
+    let a = asked_of asked in
+    let vs = c.args.prefix.now.words.now in
+    let is = c.requires.is in
+    let some = c.args.prefix.now.confirmed.some in
+    let inv = c.place.invariant in
+    let here = c.find.ensures.here in
+    let there = c.find.ensures.found c.place-test.true in
+    let at : c.find.new.spot.cursor.position - c.find.new.spot.matched ≡ c.start_of.result =
+    omega (arith, there.0, c.start_of.ensures) in
+    let stands : Stands a.text vs a.end c.start_of.result =
+    subst (λ p. Stands a.text vs a.end p) at (complete a.text vs a.start a.end _ _ _ here there.0) in
+    let before : NoneBefore a t c.start_of.result =
+    subst (NoneBefore a t) at (none_unplaced a (code_of asked) vs _ _ is some t whole _ _ (inv.none t whole) there.1) in
+    let from : a.start ≤ c.start_of.result = omega (arith, at, here.from, there.0) in
+    let ends : c.find.new.spot.cursor.position ≡ c.start_of.result + length vs =
+    omega (arith, c.start_of.ensures, there.0, here.from) in
+    let match = whole_at a (code_of asked) vs _ _ is some c.start_of.result stands c.requires.all t whole
+    c.find.new.spot.cursor.position ends from in
+    let taken : (not a.match_all || nat_eq c.find.new.spot.cursor.position a.end) ≡ true =
+    sym c.may_end.ensures ∙ c.if-may_end.true in
+    let marks : no_marks ≡ c.place.self-inside.board.marks = sym (ap (λ (b : BoardValue). b.marks) inv.fresh) in
+    let found_ : at_start a t c.start_of.result
+    ≡ Some (record {
+      start = c.start_of.result;
+      end = c.find.new.spot.cursor.position;
+      marks = c.place.self-inside.board.marks;
+    }) =
+    match
+    ∙ rw taken (ap (λ (m : Marks). Some (record {
+      start = c.start_of.result;
+      end = c.find.new.spot.cursor.position;
+      marks = m;
+    })) marks) in
+    answers_yes (stands_in asked) _ c.start_of.result c.find.new.spot.cursor _ refl refl c.find.ensures.stands
+    (found_first a t _ _ before found_ from (omega (arith, stands.within)) refl)
+
+pub place-preserved : goal.place-preserved
+place-preserved g c =
+    let asked = c.args.req.now in
+    let a = asked_of asked in
+    let vs = c.args.prefix.now.words.now in
+    let is = c.requires.is in
+    let some = c.args.prefix.now.confirmed.some in
+    let inv = c.place.invariant in
+    let here = c.find.ensures.here in
+    let there = c.find.ensures.found c.place-test.true in
+    let on = c.go_on-spot.ensures in
+    let s : ℕ = c.find.new.spot.cursor.position - c.find.new.spot.matched in
+    record {
+      stands =
+          subst (λ (x : StringCursor). stands_in asked x x.position) (sym on.at) c.find.ensures.stands;
+      here = on.here;
+      fresh = search rules;
+      idle = inv.idle;
+      none = λ t whole.
+          let stands = complete a.text vs a.start a.end _ _ _ here there.0 in
+          let before = none_unplaced a (code_of asked) vs _ _ is some t whole _ _ (inv.none t whole) there.1 in
+          let ends : c.find.new.spot.cursor.position
+          ≡ c.find.new.spot.cursor.position - c.find.new.spot.matched + length vs = omega (arith, there.0, here.from) in
+          let match = whole_at a (code_of asked) vs _ _ is some _ stands c.requires.all t whole
+          c.find.new.spot.cursor.position ends (omega (arith, here.from)) in
+          let left : (not a.match_all || nat_eq c.find.new.spot.cursor.position a.end) ≡ false =
+          sym c.may_end.ensures ∙ c.if-may_end.false in
+          let none : at_start a t (c.find.new.spot.cursor.position - c.find.new.spot.matched) ≡ None =
+          match ∙ rw left refl in
+          none_unplaced a (code_of asked) vs _ _ is some t whole _ _ (none_further a t _ before none) on.passed;
+    }

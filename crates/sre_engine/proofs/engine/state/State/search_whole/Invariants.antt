@@ -1,0 +1,24 @@
+use Rattle.std.proofs.Common.{◌≡◌, ◌+◌, ◌-◌}
+use Rattle.sre_model.specs.Tree.{Tree}
+use Rattle.sre_model.specs.Marks.{no_marks}
+use Rattle.sre_model.specs.Grammar.{Whole}
+use Rattle.sre_model.specs.Board.{bare}
+use Rattle.sre_code.specs.Codes.{words_of}
+use Rattle.sre_request.specs.Requests.{start_of, end_of, code_of, asked_of, run_of}
+use Rattle.sre_engine.specs.Scans.{Here}
+use Rattle.sre_engine.proofs.Answering.{NoneBefore}
+use Rattle.sre_engine.proofs.engine.state.State.search_whole.Given as goal
+
+abbrev pub invariant-place : goal.invariant-place
+invariant-place g l = record {
+  stands : (run_of l.req).stands l.spot.cursor l.spot.cursor.position;
+  here : Here (run_of l.req).subject.text l.prefix.words.now (start_of l.req) (end_of l.req) l.spot.cursor.position
+      l.spot.matched l.self-inside.compared;
+  fresh : l.self-inside.board ≡ bare no_marks;
+  idle : l.self-inside.started ≡ 0;
+  none : (t : Tree) → Whole (words_of (code_of l.req)) t
+      → NoneBefore (asked_of l.req) t (l.spot.cursor.position - l.spot.matched);
+}
+
+abbrev pub decreases-place : goal.decreases-place
+decreases-place g l = end_of l.req + 1 - (l.spot.cursor.position - l.spot.matched)

@@ -1,0 +1,29 @@
+use Rattle.std.proofs.Common.{◌≡◌, ℕ, Option, Some, None, sym, ap, ◌∙◌, subst}
+use Rattle.sre_code.specs.Codes.{hints_of}
+use Rattle.sre_code.specs.declared.code.Code.{Code}
+use Rattle.sre_code.specs.declared.code.Hints.{Hints}
+use Rattle.sre_request.specs.Requests.{code_of, asked_of}
+use Rattle.sre_engine.specs.Prefixed.{IsLast}
+use Rattle.sre_engine.proofs.Hinting.{last_none, last_if}
+use Rattle.sre_engine.proofs.engine.widths.last_start.Goals as goal
+
+width_hint : (code asked : Code) (h : Hints) (w : Option ℕ) → h ≡ hints_of code → code ≡ asked → h.width ≡ w
+    → (hints_of asked).width ≡ w
+width_hint code asked h w same is e =
+    subst (λ (x : Code). (hints_of x).width ≡ w) is (sym (ap (λ (x : Hints). x.width) same) ∙ e)
+
+pub returns-in-None : goal.returns-in-None
+returns-in-None g c =
+    let asked = c.args.req.now in
+    subst (λ n. IsLast (asked_of asked) (code_of asked) (Some n)) (sym c.end.ensures.value)
+    (last_none (asked_of asked) (code_of asked)
+    (width_hint c.pattern_codes.result (code_of asked) c.hints.result None c.hints.ensures.same
+    c.pattern_codes.ensures c.in-None.is))
+
+pub returns-in-Some : goal.returns-in-Some
+returns-in-Some g c =
+    let asked = c.args.req.now in
+    last_if (asked_of asked) (code_of asked) c.in-Some.width c.end-in-Some.result c.checked_sub.result
+    c.end-in-Some.ensures.value
+    (width_hint c.pattern_codes.result (code_of asked) c.hints.result (Some c.in-Some.width) c.hints.ensures.same
+    c.pattern_codes.ensures c.in-Some.is) c.checked_sub.ensures

@@ -1,0 +1,26 @@
+-- What a search counts at most.
+-- Public clauses rest on it.
+use Rattle.std.specs.Prelude.{ℕ, ◌+◌, ◌-◌, ◌*◌, ◌≡◌, ◌≤◌, List, true, Some, None}
+use Rattle.sre_model.specs.Tree.{SetItem}
+use Rattle.sre_model.specs.Found.{Asked, subject_of}
+use Rattle.sre_model.specs.Prefixes.{stands_at, how_many}
+use Rattle.sre_code.specs.Codes.{words_of, hints_of}
+use Rattle.sre_model.specs.Prefixes.{prefix_of}
+use Rattle.sre_code.specs.declared.code.Code.{Code}
+use Rattle.sre_engine.specs.Answers.{Shown}
+use Rattle.sre_engine.specs.Members.{IsFirstSet, is_among}
+
+-- of a search that looked at starts before `to`, and at characters before `seen`: each start was tried once at most,
+-- none at which a confirmed width does not fit, with a confirmed prefix only those where it stands, none of them where
+-- the prefix is all, and with a confirmed first set only those at its members; and no character was compared more than
+-- twice on average
+pub record CountsUpTo (a : Asked) (code : Code) (to seen : ℕ) (s : Shown) : Type 0 where
+  pub once : s.started ≤ to - a.start
+  pub fitting : (w : ℕ) → (hints_of code).width ≡ Some w → s.started ≤ a.end + 1 - (a.start + w)
+  pub places : (l k : ℕ) → (hints_of code).prefix ≡ Some (l, k)
+      → s.started ≤ how_many (stands_at (subject_of a) (prefix_of (words_of code) l)) a.start (to - a.start)
+  pub literal : (l k : ℕ) → (hints_of code).prefix ≡ Some (l, k) → (hints_of code).literal ≡ true → s.started ≡ 0
+  pub members : (hints_of code).first_set ≡ true → (set : List SetItem) → IsFirstSet (words_of code) set
+      → s.started ≤ how_many (is_among a set) a.start (to - a.start)
+  pub compared : s.compared ≤ 2 * (seen - a.start)
+  pub uncompared : (hints_of code).prefix ≡ None → s.compared ≡ 0

@@ -1,0 +1,63 @@
+-- A scan for the places where the words of a prefix stand.
+-- Words of the search's contracts; what sre_engine makes public does not rest on it.
+use Rattle.std.specs.Prelude.{ℕ, ◌+◌, ◌-◌, ◌*◌, ◌≡◌, ◌≢◌, ◌<◌, ◌≤◌, Bool, true, false, List, length, slice_index}
+use Rattle.sre_chars.specs.declared.string.StringCursor.{StringCursor}
+use Rattle.sre_model.specs.Subject.{char_at}
+use Rattle.sre_model.specs.Machine.{Run}
+
+-- the first k of the first n words are their last k, and k is below n
+pub record Border (p : List ℕ) (n k : ℕ) : Type 0 where
+  pub below : k < n
+  pub same : (i : ℕ) → i < k → slice_index p i ≡ slice_index p (n - k + i)
+
+-- k is the border length of the first n words
+pub record Longest (p : List ℕ) (n k : ℕ) : Type 0 where
+  pub border : Border p n k
+  pub most : (m : ℕ) → Border p n m → m ≤ k
+
+-- there are words, and an overlap word for each: the border length of the words up to it
+pub record Overlapping (p o : List ℕ) : Type 0 where
+  pub some : 0 < length p
+  pub long : length o ≡ length p
+  pub each : (j : ℕ) → j < length p → Longest p (j + 1) (slice_index o j)
+
+-- the first k words are the characters from s on
+pub record Fits (t p : List ℕ) (s k : ℕ) : Type 0 where
+  pub same : (i : ℕ) → i < k → slice_index t (s + i) ≡ slice_index p i
+
+-- the words stand at s, in a window that ends at e
+pub record Stands (t p : List ℕ) (e s : ℕ) : Type 0 where
+  pub within : s + length p ≤ e
+  pub fits : Fits t p s (length p)
+
+-- from a forward to b, which is left out, the words stand nowhere
+pub record NoPlace (t p : List ℕ) (e a b : ℕ) : Type 0 where
+  pub forward : a ≤ b
+  pub none : (s : ℕ) → a ≤ s → s < b → Stands t p e s → ⊥
+
+-- the scan of the window from a to e is at q, behind i matched words, after c comparisons
+pub record Here (t p : List ℕ) (a e q i c : ℕ) : Type 0 where
+  pub from : a + i ≤ q
+  pub within : q ≤ e
+  pub short : i ≤ length p
+  pub fits : Fits t p (q - i) i
+  pub cost : c + i + 2 * a ≤ 2 * q
+
+-- behind the first character from a cursor on that is a word, if there is one, else at the window's end
+pub record FirstSame (r : Run) (word : ℕ) (start : StringCursor) (found : Bool) (cursor : StringCursor) : Type 0 where
+  pub stands : r.stands cursor cursor.position
+  pub from : start.position ≤ cursor.position
+  pub inside : cursor.position ≤ r.subject.end
+  pub others : (q : ℕ) → start.position ≤ q → q + 1 < cursor.position → char_at r.subject q ≢ word
+  pub is : found ≡ true
+      → (start.position < cursor.position) × (char_at r.subject (cursor.position - 1) ≡ word)
+  pub none : found ≡ false
+      → (cursor.position ≡ r.subject.end)
+      × ((q : ℕ) → start.position ≤ q → q < cursor.position → char_at r.subject q ≢ word)
+
+-- from a cursor on up to another one no character is a word
+pub record NoneSame (r : Run) (word : ℕ) (start cursor : StringCursor) : Type 0 where
+  pub stands : r.stands cursor cursor.position
+  pub from : start.position ≤ cursor.position
+  pub inside : cursor.position ≤ r.subject.end
+  pub others : (q : ℕ) → start.position ≤ q → q < cursor.position → char_at r.subject q ≢ word

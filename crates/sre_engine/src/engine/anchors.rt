@@ -1,0 +1,25 @@
+//! Codes that match at the text's start alone.
+
+ghost use Rattle.std.specs.Prelude.{◌≡◌};
+ghost use Rattle.sre_model.specs.Tree.{Tree};
+ghost use Rattle.sre_model.specs.Grammar.{WholeItems};
+ghost use Rattle.sre_model.specs.Anchors.{is_anchored};
+ghost use Rattle.sre_request.specs.Requests.{run_of};
+
+use sre_chars::constants::{SreAtCode, SreOpcode};
+use sre_chars::string::StrDrive;
+use sre_request::Request;
+use sre_request::operands::word;
+
+/// Whether a code's first item is a position code that holds at position 0 alone.
+#[inline(always)]
+pub(crate) fn is_anchored<S: StrDrive>(req: &Request<'_, S>) -> bool
+    ensures { (t : Tree) → WholeItems (run_of req.now).words t → result ≡ is_anchored t }
+{
+    let words = req.pattern_codes().items();
+    if word(words, 0) != SreOpcode::AT as u32 {
+        return false;
+    }
+    let code = word(words, 1);
+    code == SreAtCode::BEGINNING as u32 || code == SreAtCode::BEGINNING_STRING as u32
+}

@@ -1,0 +1,87 @@
+//! The places of the members of a confirmed first set, at which alone a match may begin.
+
+ghost use Rattle.std.specs.Prelude.{◌≡◌, ◌≤◌, List, true, IfSome};
+ghost use Rattle.sre_model.specs.Tree.{SetItem};
+ghost use Rattle.sre_model.specs.Characters.{is_member};
+ghost use Rattle.sre_code.specs.Codes.{words_of, uni_of, hints_of};
+ghost use Rattle.sre_request.specs.Requests.{end_of, code_of, asked_of, run_of};
+ghost use Rattle.sre_engine.specs.Members.{IsFirstSet, AreTold, NextMember};
+
+use sre_ascii::AsciiSet;
+use sre_chars::string::{StrDrive, StringCursor};
+use sre_code::members::is_member;
+use sre_request::Request;
+use sre_request::ascii::ascii_members;
+use sre_request::text::read;
+
+// The ASCII characters of the first set, where its items tell them at once.
+#[inline(always)]
+fn members_told<S: StrDrive>(req: &Request<'_, S>) -> Option<AsciiSet>
+    requires { (hints_of (code_of req.now)).first_set ≡ true }
+    ensures { AreTold (words_of (code_of req.now)) result }
+{
+    ascii_members(req.pattern_codes().words(), 5)
+}
+
+// Whether a character is a member of the first set.
+#[inline(always)]
+fn takes<S: StrDrive>(req: &Request<'_, S>, told: Option<AsciiSet>, character: u32) -> bool
+    requires set { (hints_of (code_of req.now)).first_set ≡ true }
+    requires told { AreTold (words_of (code_of req.now)) told }
+    ensures { (set : List SetItem) → IsFirstSet (words_of (code_of req.now)) set
+        → result ≡ is_member (uni_of (code_of req.now)) set character }
+{
+    if let Some(members) = told {
+        if character < 128 {
+            return members.contains(character);
+        }
+    }
+    let code = req.pattern_codes();
+    is_member(code.words(), code.uni(), 5, character)
+}
+
+// The next member from a cursor on, by the ASCII characters that are told.
+#[inline(always)]
+fn next_taken<S: StrDrive>(
+    req: &Request<'_, S>,
+    told: Option<AsciiSet>,
+    start: StringCursor,
+) -> Option<StringCursor>
+    requires set { (hints_of (code_of req.now)).first_set ≡ true }
+    requires told { AreTold (words_of (code_of req.now)) told }
+    requires stands { (run_of req.now).stands start start.position }
+    requires inside { start.position ≤ end_of req.now }
+    ensures next { NextMember (asked_of req.now) (words_of (code_of req.now)) start.position result }
+    ensures stands { IfSome result (λ next. (run_of req.now).stands next next.position) }
+{
+    let mut cursor = start;
+    'character: while cursor.position() < req.end() {
+        let (character, after) = read(req, cursor);
+        if takes(req, told, character) {
+            return Some(cursor);
+        }
+        cursor = after;
+    }
+    None
+}
+
+/// The first cursor from one on whose character is a member of the confirmed first set, where there is one. What its
+/// ASCII characters are is only asked where the first character is none: most steps of a walk end at it.
+pub(crate) fn next_member<S: StrDrive>(
+    req: &Request<'_, S>,
+    start: StringCursor,
+) -> Option<StringCursor>
+    requires set { (hints_of (code_of req.now)).first_set ≡ true }
+    requires stands { (run_of req.now).stands start start.position }
+    requires inside { start.position ≤ end_of req.now }
+    ensures next { NextMember (asked_of req.now) (words_of (code_of req.now)) start.position result }
+    ensures stands { IfSome result (λ next. (run_of req.now).stands next next.position) }
+{
+    if start.position() >= req.end() {
+        return None;
+    }
+    if takes(req, None, read(req, start).0) {
+        return Some(start);
+    }
+    next_taken(req, members_told(req), start)
+}

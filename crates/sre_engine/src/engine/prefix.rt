@@ -1,0 +1,241 @@
+//! The scan for the places where a confirmed prefix stands.
+//!
+//! It goes over the window once. Of the prefix words the longest front that ends where it is, is matched; where the
+//! next character is another, it goes on with a shorter front, which the overlap words tell, so that no character is
+//! read twice and none compared more than twice on average.
+
+ghost use Rattle.std.specs.Prelude.{◌≡◌, ◌≢◌, ◌↔◌, ◌+◌, ◌-◌, ◌*◌, ◌^◌, ◌<◌, ◌≤◌, ℕ, length, true, false, IsTrue};
+ghost use Rattle.std.specs.Prelude.{slice_index, None, IfSome, not, ◌||◌, nat_eq};
+ghost use Rattle.sre_code.specs.Codes.{hints_of};
+ghost use Rattle.sre_request.specs.Requests.{start_of, end_of, code_of, match_all_of, run_of};
+ghost use Rattle.sre_engine.specs.Prefixed.{IsPrefix};
+ghost use Rattle.sre_engine.specs.Scans.{Overlapping, NoPlace, Here, FirstSame, NoneSame};
+
+use crate::engine::next_start::looked_at;
+use sre_chars::string::{StrDrive, StringCursor};
+use sre_request::Request;
+use sre_request::text::read;
+
+/// The words of a prefix and their overlap words.
+#[derive(Clone, Copy)]
+pub(crate) struct Prefix<'a> {
+    pub(super) words: &'a [u32],
+    pub(super) overlaps: &'a [u32],
+    // How many of them are literals one directly after the other, which need not be matched again.
+    pub(super) literals: usize,
+    // Whether nothing follows them.
+    pub(super) whole: bool,
+    ghost confirmed: { Overlapping words.now overlaps.now },
+}
+
+/// Where a scan is, and how many words end there.
+#[derive(Clone, Copy)]
+pub(crate) struct Spot {
+    pub(super) cursor: StringCursor,
+    pub(super) matched: usize,
+}
+
+/// The prefix, where one is confirmed.
+pub(crate) fn prefix_of<'a, S: StrDrive>(req: &Request<'a, S>) -> Option<Prefix<'a>>
+    ensures none { result ≡ None → (hints_of (code_of req.now)).prefix ≡ None }
+    ensures some { IfSome result (λ prefix. IsPrefix (code_of req.now) prefix.words.now prefix.literals prefix.whole) }
+{
+    let code = req.pattern_codes();
+    let hints = code.hints();
+    let Some((length, literals)) = hints.prefix else {
+        return None;
+    };
+    let words = code.words();
+    let length = length as usize;
+    Some(Prefix {
+        words: &words[7..7 + length],
+        overlaps: &words[7 + length..7 + length + length],
+        literals: literals as usize,
+        whole: hints.literal,
+    })
+}
+
+/// The start of the place behind which a scan is.
+#[inline(always)]
+pub(crate) fn start_of(prefix: &Prefix<'_>, spot: Spot) -> usize
+    requires { length prefix.now.words.now ≤ spot.cursor.position }
+    ensures { result ≡ spot.cursor.position - length prefix.now.words.now }
+{
+    spot.cursor.position() - prefix.words.len()
+}
+
+/// Whether a match may end at a cursor: anywhere, or at the window's end alone.
+#[inline(always)]
+pub(crate) fn may_end<S: StrDrive>(req: &Request<'_, S>, cursor: StringCursor) -> bool
+    ensures { result ≡ (not (match_all_of req.now) || nat_eq cursor.position (end_of req.now)) }
+{
+    !req.match_all() || cursor.position() == req.end()
+}
+
+/// The cursor behind the first literals of the place behind which a scan is.
+#[inline(always)]
+pub(crate) fn behind_literals<S: StrDrive>(
+    req: &Request<'_, S>,
+    prefix: &Prefix<'_>,
+    spot: Spot,
+) -> StringCursor
+    requires stands { (run_of req.now).stands spot.cursor spot.cursor.position }
+    requires past { length prefix.now.words.now ≤ spot.cursor.position }
+    requires few { prefix.now.literals ≤ length prefix.now.words.now }
+    ensures position { result.position
+        ≡ spot.cursor.position - length prefix.now.words.now + prefix.now.literals }
+    ensures stands { (run_of req.now).stands result result.position }
+{
+    looked_at(req, spot.cursor, prefix.words.len() - prefix.literals)
+}
+
+// Compares a character with a word of a prefix. This function and `behind_first` alone do, and add what they compare.
+#[inline(always)]
+fn is_same(compared: &mut u64, character: u32, word: u32) -> bool
+    requires { compared.old + 1 < 2 ^ 64 }
+    ensures same { IsTrue result ↔ character ≡ word }
+    ensures counted { compared.new ≡ compared.old + 1 }
+{
+    *compared += 1;
+    character == word
+}
+
+// Goes on from a cursor behind the first character that is a word, if there is one, else to the window's end.
+#[inline(always)]
+fn first_same<S: StrDrive>(
+    req: &Request<'_, S>,
+    word: u32,
+    start: StringCursor,
+) -> (bool, StringCursor)
+    requires stands { (run_of req.now).stands start start.position }
+    requires inside { start.position ≤ end_of req.now }
+    ensures { FirstSame (run_of req.now) word start result.0 result.1 }
+{
+    let mut cursor = start;
+    'character: while cursor.position() < req.end() {
+        let (character, after) = read(req, cursor);
+        cursor = after;
+        if character == word {
+            return (true, cursor);
+        }
+    }
+    (false, cursor)
+}
+
+// The same; each character that is passed was compared once with the word.
+#[inline(always)]
+fn behind_first<S: StrDrive>(
+    req: &Request<'_, S>,
+    word: u32,
+    start: StringCursor,
+    compared: &mut u64,
+) -> (bool, StringCursor)
+    requires stands { (run_of req.now).stands start start.position }
+    requires inside { start.position ≤ end_of req.now }
+    requires room { compared.old + (end_of req.now - start.position) < 2 ^ 64 }
+    ensures first { FirstSame (run_of req.now) word start result.0 result.1 }
+    ensures counted { compared.new ≡ compared.old + (result.1.position - start.position) }
+{
+    let first = first_same(req, word, start);
+    *compared += (first.1.position() - start.position()) as u64;
+    first
+}
+
+// Goes past the next character, to the longest front of the prefix that ends behind it.
+#[inline(always)]
+#[tactic(auto, using(crate::proofs::Steps::pass_laws))]
+fn pass<S: StrDrive>(
+    req: &Request<'_, S>,
+    prefix: &Prefix<'_>,
+    compared: &mut u64,
+    spot: Spot,
+) -> Spot
+    requires stands { (run_of req.now).stands spot.cursor spot.cursor.position }
+    requires before { spot.cursor.position < end_of req.now }
+    requires short { spot.matched < length prefix.now.words.now }
+    requires here { Here (run_of req.now).subject.text prefix.now.words.now (start_of req.now) (end_of req.now)
+        spot.cursor.position spot.matched compared.old }
+    ensures stands { (run_of req.now).stands result.cursor result.cursor.position }
+    ensures at { result.cursor.position ≡ spot.cursor.position + 1 }
+    ensures here { Here (run_of req.now).subject.text prefix.now.words.now (start_of req.now) (end_of req.now)
+        result.cursor.position result.matched compared.new }
+    ensures passed { NoPlace (run_of req.now).subject.text prefix.now.words.now (end_of req.now)
+        (spot.cursor.position - spot.matched) (result.cursor.position - result.matched) }
+{
+    let (character, cursor) = read(req, spot.cursor);
+    let _end = req.end();
+    let mut matched = spot.matched;
+    'front: while !is_same(compared, character, prefix.words[matched]) {
+        if matched == 0 {
+            return Spot { cursor, matched: 0 };
+        }
+        matched = prefix.overlaps[matched - 1] as usize;
+    }
+    Spot {
+        cursor,
+        matched: matched + 1,
+    }
+}
+
+/// Finds the next place where the prefix stands, and goes behind it.
+#[tactic(auto, using(crate::proofs::Steps::find_laws))]
+pub(crate) fn find<S: StrDrive>(
+    req: &Request<'_, S>,
+    prefix: &Prefix<'_>,
+    compared: &mut u64,
+    spot: &mut Spot,
+) -> bool
+    requires stands { (run_of req.now).stands spot.old.cursor spot.old.cursor.position }
+    requires here { Here (run_of req.now).subject.text prefix.now.words.now (start_of req.now) (end_of req.now)
+        spot.old.cursor.position spot.old.matched compared.old }
+    ensures stands { (run_of req.now).stands spot.new.cursor spot.new.cursor.position }
+    ensures here { Here (run_of req.now).subject.text prefix.now.words.now (start_of req.now) (end_of req.now)
+        spot.new.cursor.position spot.new.matched compared.new }
+    ensures found { result ≡ true → (spot.new.matched ≡ length prefix.now.words.now)
+        × NoPlace (run_of req.now).subject.text prefix.now.words.now (end_of req.now)
+        (spot.old.cursor.position - spot.old.matched) (spot.new.cursor.position - spot.new.matched) }
+    ensures none { result ≡ false → NoPlace (run_of req.now).subject.text prefix.now.words.now (end_of req.now)
+        (spot.old.cursor.position - spot.old.matched) (end_of req.now + 1) }
+{
+    'spot: while spot.matched < prefix.words.len() {
+        if spot.cursor.position() >= req.end() {
+            return false;
+        }
+        if spot.matched == 0 {
+            let first = behind_first(req, prefix.words[0], spot.cursor, compared);
+            spot.cursor = first.1;
+            if !first.0 {
+                return false;
+            }
+            spot.matched = 1;
+        } else {
+            *spot = pass(req, prefix, compared, *spot);
+        }
+    }
+    true
+}
+
+/// Goes on behind a place where the prefix stands, from the longest overlap.
+#[inline(always)]
+#[tactic(auto, using(crate::proofs::Steps::onward, crate::proofs::Steps::onward_less))]
+pub(crate) fn go_on<S: StrDrive>(
+    req: &Request<'_, S>,
+    prefix: &Prefix<'_>,
+    compared: &u64,
+    spot: Spot,
+) -> Spot
+    requires all { spot.matched ≡ length prefix.now.words.now }
+    requires here { Here (run_of req.now).subject.text prefix.now.words.now (start_of req.now) (end_of req.now)
+        spot.cursor.position spot.matched compared.now }
+    ensures here { Here (run_of req.now).subject.text prefix.now.words.now (start_of req.now) (end_of req.now)
+        result.cursor.position result.matched compared.now }
+    ensures passed { NoPlace (run_of req.now).subject.text prefix.now.words.now (end_of req.now)
+        (spot.cursor.position - spot.matched + 1) (result.cursor.position - result.matched) }
+    ensures further { result.matched < spot.matched }
+    ensures at { result.cursor ≡ spot.cursor }
+{
+    Spot {
+        cursor: spot.cursor,
+        matched: prefix.overlaps[spot.matched - 1] as usize,
+    }
+}

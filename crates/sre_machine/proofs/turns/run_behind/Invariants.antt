@@ -1,0 +1,16 @@
+use Rattle.sre_model.specs.Marks.{no_marks}
+use Rattle.sre_model.specs.Machine.{outcomes}
+use Rattle.sre_model.specs.Prefixes.{behind_items}
+use Rattle.sre_request.specs.Requests.{run_of}
+use Rattle.sre_model.proofs.TreeOf.{tree_of}
+use Rattle.sre_model.proofs.Cost.{cost, ending}
+use Rattle.sre_machine.proofs.turns.run_behind.Given as goal
+
+abbrev pub ghosts-turns_from-L-Ledger : goal.ghosts-turns_from-L-Ledger
+ghosts-turns_from-L-Ledger g a = record { name = a.blank.name; parts = a.blank.parts }
+
+abbrev pub ghosts-turns_from-K-Plan : goal.ghosts-turns_from-K-Plan
+ghosts-turns_from-K-Plan g a =
+    let r = run_of a.req.now in
+    let t = behind_items a.literals (tree_of r.words) in
+    record { all = outcomes r t a.start.position; limit = cost r.subject t ending a.start.position no_marks }

@@ -1,9 +1,0 @@
-use Rattle.std.proofs.Common.{◌-◌, length}
-use Rattle.sre_model.specs.Standing.{VerdictLeft}
-use Rattle.sre_request.proofs.set.is_member.Given as goal
-
-abbrev pub invariant-item : goal.invariant-item
-invariant-item l = VerdictLeft l.words l.uni l.start l.character l.place l.taken
-
-abbrev pub decreases-item : goal.decreases-item
-decreases-item l = length l.words - l.place
