@@ -1,4 +1,4 @@
-//! Tests of the program's lines: worked cases, failed writes, refused memory, and what faults and answers are written as.
+//! Tests of the program's lines: worked cases, failed writes, refused memory, and the texts of faults and answers.
 //!
 //! They stand in a crate of their own, since a crate with tests is proved twice.
 #![tactic(auto)]

@@ -57,8 +57,8 @@ operand-requires-in-LITERAL_UNI_IGNORE g c =
 
 pub operand-requires-in-NOT_LITERAL_UNI_IGNORE : goal.operand-requires-in-NOT_LITERAL_UNI_IGNORE
 operand-requires-in-NOT_LITERAL_UNI_IGNORE g c =
-    not_literal_value (items_of c.args.req.now.pattern_codes) c.items-words.result.now c.args.place Unicode c.args.opcode
-    (c.items-words.ensures.same ∙ ap items_of c.pattern_codes.ensures) c.requires.code
+    not_literal_value (items_of c.args.req.now.pattern_codes) c.items-words.result.now c.args.place Unicode
+    c.args.opcode (c.items-words.ensures.same ∙ ap items_of c.pattern_codes.ensures) c.requires.code
     c.in-NOT_LITERAL_UNI_IGNORE.is c.requires.stands
 
 pub is_member-requires-in-IN_UNI_IGNORE : goal.is_member-requires-in-IN_UNI_IGNORE
