@@ -149,6 +149,16 @@ pub fit_more : (a : Asked) (code : Code) (last : Option ℕ) (n m p next : ℕ) 
 fit_more a code last n m p next is fits from l few one w e =
     let wide = is.fits next fits w e in omega (arith, wide, from, l, few, one)
 
+-- so that this is what is counted there
+pub counts_next : (a : Asked) (code : Code) (last : Option ℕ) (s : Shown) (n p : ℕ) (next : StringCursor) (to seen : ℕ)
+    → (hints_of code).first_set ≡ true → IsLast a code last → FitsAt last next.position → a.start ≤ p
+    → TriedAtMembers a (words_of code) n p → AtMember a (words_of code) p next → n ≤ p - a.start → s.started ≡ n + 1
+    → next.position + 1 ≤ to → s.compared ≡ 0 → CountsUpTo a code to seen s
+counts_next a code last s n p next to seen set is fits from tried x few one l none =
+    counts_members a code s (next.position + 1) to seen set
+    (tried_more a (words_of code) n s.started p next from one tried x) l
+    (fit_more a code last n s.started p next.position is fits from x.from few one) none
+
 -- the ASCII characters that are told of each set there are those of the first one
 pub told : (words : List ℕ) (members : Option AsciiSet)
     → ((table : Table) (j : ℕ) (set : List SetItem) → SetStands words 5 j set

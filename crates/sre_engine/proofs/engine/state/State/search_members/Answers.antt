@@ -8,8 +8,8 @@ use Rattle.sre_engine.specs.Starts.{NoneUntil}
 use Rattle.sre_engine.proofs.Answering.{answers_yes, answers_no, none_at, some_at, span_at, found_first}
 use Rattle.sre_engine.proofs.Hinting.{past_none}
 use Rattle.sre_engine.proofs.LeadingStarts.{none_joined, found_none_behind}
-use Rattle.sre_engine.proofs.AmongMembers.{none_left, none_to_member, counts_members, tried_more, fit_more}
-use Rattle.sre_engine.proofs.AmongMembers.{members_later}
+use Rattle.sre_engine.proofs.AmongMembers.{none_left, none_to_member, counts_members, counts_next, tried_more}
+use Rattle.sre_engine.proofs.AmongMembers.{fit_more, members_later}
 use Rattle.sre_engine.proofs.engine.state.State.search_members.Goals as goal
 
 pub returns-in_default-clause-ok : goal.returns-in_default-clause-ok
@@ -51,12 +51,8 @@ returns-in_err-end-clause-counts g c =
     let next = c.in-Some.ensures.next in
     let fits : FitsAt c.last_start-last.result c.in-Some.next.position =
     subst (FitsAt c.last_start-last.result) c.position.ensures (c.is_past.ensures.fits c.if-is_past.false) in
-    counts_members (asked_of asked) (code_of asked) _ (c.in-Some.next.position + 1) _ _ c.requires.set
-    (tried_more (asked_of asked) (words_of (code_of asked)) _ _ _ c.in-Some.next inv.from c.attempt.ensures.counted
-    inv.tried next)
-    (omega (arith, next.inside))
-    (fit_more (asked_of asked) (code_of asked) c.last_start-last.result _ _ _ c.in-Some.next.position
-    c.last_start-last.ensures fits inv.from next.from inv.few c.attempt.ensures.counted)
+    counts_next (asked_of asked) (code_of asked) c.last_start-last.result _ _ _ c.in-Some.next _ _ c.requires.set
+    c.last_start-last.ensures fits inv.from inv.tried next inv.few c.attempt.ensures.counted (omega (arith, next.inside))
     inv.uncompared
 
 pub returns-in-Some-2-clause-counts : goal.returns-in-Some-2-clause-counts
@@ -66,12 +62,8 @@ returns-in-Some-2-clause-counts g c =
     let next = c.in-Some.ensures.next in
     let fits : FitsAt c.last_start-last.result c.in-Some.next.position =
     subst (FitsAt c.last_start-last.result) c.position.ensures (c.is_past.ensures.fits c.if-is_past.false) in
-    counts_members (asked_of asked) (code_of asked) _ (c.in-Some.next.position + 1) _ _ c.requires.set
-    (tried_more (asked_of asked) (words_of (code_of asked)) _ _ _ c.in-Some.next inv.from c.attempt.ensures.counted
-    inv.tried next)
-    (omega (arith, next.inside))
-    (fit_more (asked_of asked) (code_of asked) c.last_start-last.result _ _ _ c.in-Some.next.position
-    c.last_start-last.ensures fits inv.from next.from inv.few c.attempt.ensures.counted)
+    counts_next (asked_of asked) (code_of asked) c.last_start-last.result _ _ _ c.in-Some.next _ _ c.requires.set
+    c.last_start-last.ensures fits inv.from inv.tried next inv.few c.attempt.ensures.counted (omega (arith, next.inside))
     inv.uncompared
 
 pub returns-in-Some-2-clause-up_to_match : goal.returns-in-Some-2-clause-up_to_match
@@ -81,12 +73,8 @@ returns-in-Some-2-clause-up_to_match g c = λ _.
     let next = c.in-Some.ensures.next in
     let fits : FitsAt c.last_start-last.result c.in-Some.next.position =
     subst (FitsAt c.last_start-last.result) c.position.ensures (c.is_past.ensures.fits c.if-is_past.false) in
-    counts_members (asked_of asked) (code_of asked) _ (c.in-Some.next.position + 1) _ _ c.requires.set
-    (tried_more (asked_of asked) (words_of (code_of asked)) _ _ _ c.in-Some.next inv.from c.attempt.ensures.counted
-    inv.tried next)
-    (omega (arith, c.position-in-Some-2.ensures))
-    (fit_more (asked_of asked) (code_of asked) c.last_start-last.result _ _ _ c.in-Some.next.position
-    c.last_start-last.ensures fits inv.from next.from inv.few c.attempt.ensures.counted)
+    counts_next (asked_of asked) (code_of asked) c.last_start-last.result _ _ _ c.in-Some.next _ _ c.requires.set
+    c.last_start-last.ensures fits inv.from inv.tried next inv.few c.attempt.ensures.counted (omega (arith, c.position-in-Some-2.ensures))
     inv.uncompared
 
 pub returns-in-Some-2-clause-ok : goal.returns-in-Some-2-clause-ok
@@ -130,12 +118,8 @@ returns-in_default-start_behind-clause-counts g c =
     let next = c.in-Some.ensures.next in
     let fits : FitsAt c.last_start-last.result c.in-Some.next.position =
     subst (FitsAt c.last_start-last.result) c.position.ensures (c.is_past.ensures.fits c.if-is_past.false) in
-    counts_members (asked_of asked) (code_of asked) _ (c.in-Some.next.position + 1) _ _ c.requires.set
-    (tried_more (asked_of asked) (words_of (code_of asked)) _ _ _ c.in-Some.next inv.from c.attempt.ensures.counted
-    inv.tried next)
-    (omega (arith, next.inside))
-    (fit_more (asked_of asked) (code_of asked) c.last_start-last.result _ _ _ c.in-Some.next.position
-    c.last_start-last.ensures fits inv.from next.from inv.few c.attempt.ensures.counted)
+    counts_next (asked_of asked) (code_of asked) c.last_start-last.result _ _ _ c.in-Some.next _ _ c.requires.set
+    c.last_start-last.ensures fits inv.from inv.tried next inv.few c.attempt.ensures.counted (omega (arith, next.inside))
     inv.uncompared
 
 pub start-preserved : goal.start-preserved

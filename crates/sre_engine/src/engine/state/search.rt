@@ -1,0 +1,326 @@
+//! The search, by what its code's hints confirm: along the places of a prefix, the members of a first set, or the
+//! starts that what has to come first leaves.
+
+ghost use Rattle.std.specs.Prelude.{◌≡◌, ◌+◌, ◌≤◌, ℕ, IfOk, OnErr, true, false, Some, None};
+ghost use Rattle.sre_model.specs.Tree.{Tree};
+ghost use Rattle.sre_model.specs.Grammar.{Whole};
+ghost use Rattle.sre_model.specs.Marks.{no_marks};
+ghost use Rattle.sre_model.specs.Found.{at_start, found};
+ghost use Rattle.sre_model.specs.Anchors.{is_anchored};
+ghost use Rattle.sre_code.specs.Codes.{words_of, hints_of};
+ghost use Rattle.sre_request.specs.Requests.{start_of, end_of, code_of, asked_of, stands_in};
+ghost use Rattle.sre_engine.specs.Answers.{Answers, Spans};
+ghost use Rattle.sre_engine.specs.Counts.{CountsUpTo};
+ghost use Rattle.sre_engine.specs.Prefixed.{IsPrefix, IsLast, FitsAt};
+ghost use Rattle.sre_engine.specs.Starts.{NoneBetween};
+ghost use Rattle.sre_growth.specs.Refusal.{Refused};
+
+use crate::engine::anchors::is_anchored;
+use crate::engine::first_characters::First;
+use crate::engine::leading_run::{leading_run, start_behind};
+use crate::engine::members::next_member;
+use crate::engine::next_start::next_start;
+use crate::engine::prefix::{
+    Prefix, Spot, behind_literals, find, go_on, may_end, prefix_of, start_of,
+};
+use crate::engine::state::{SreError, State, attempt};
+use crate::engine::widths::{is_past, last_start};
+use sre_chars::string::{StrDrive, StringCursor};
+use sre_request::Request;
+use std::alloc::Allocator;
+
+impl<A: Allocator + Copy> State<A> {
+    // Searches as `search` does, from a cursor that stands at the window's start.
+    pub(crate) fn search_from<S: StrDrive>(
+        &mut self,
+        req: &Request<'_, S>,
+        from: StringCursor,
+    ) -> Result<bool, SreError>
+        requires { stands_in req.now from (start_of req.now) }
+        ensures ok { (t : Tree) → Whole (words_of (code_of req.now)) t
+            → IfOk result (λ b. Answers (stands_in req.now) (found (asked_of req.now) t) b self.new) }
+        ensures span { IfOk result
+            (λ b. b ≡ true → (start_of req.now ≤ self.new.start) × Spans self.new.start (end_of req.now) self.new) }
+        ensures no { IfOk result (λ b. b ≡ false → self.new.marks ≡ no_marks) }
+        ensures err { OnErr result (self.new.marks ≡ no_marks) }
+        ensures refused { OnErr result Refused }
+        ensures counts { CountsUpTo (asked_of req.now) (code_of req.now) (end_of req.now + 1) (end_of req.now)
+            self.new }
+        ensures up_to_match { IfOk result (λ b. b ≡ true → CountsUpTo (asked_of req.now) (code_of req.now)
+            (self.new.start + 1) self.new.cursor.position self.new) }
+        ensures anchored { (t : Tree) → Whole (words_of (code_of req.now)) t
+            → is_anchored t ≡ true → self.new.started ≤ 1 }
+        ensures literal { (l k : ℕ) → (hints_of (code_of req.now)).prefix ≡ Some (l, k)
+            → (hints_of (code_of req.now)).literal ≡ true → OnErr result ⊥ }
+    {
+        if let Some(prefix) = prefix_of(req) {
+            if prefix.whole {
+                return Ok(self.search_whole(req, &prefix, from));
+            }
+            return self.search_places(req, &prefix, from);
+        }
+        if req.pattern_codes().hints().first_set {
+            return self.search_members(req, from);
+        }
+        if is_anchored(req) {
+            return self.search_anchored(req, from);
+        }
+        self.search_starts(req, from)
+    }
+
+    // Searches the places where a prefix stands, which is all of the code.
+    fn search_whole<S: StrDrive>(
+        &mut self,
+        req: &Request<'_, S>,
+        prefix: &Prefix<'_>,
+        from: StringCursor,
+    ) -> bool
+        requires stands { stands_in req.now from (start_of req.now) }
+        requires is { IsPrefix (code_of req.now) prefix.now.words.now prefix.now.literals prefix.now.whole }
+        requires all { prefix.now.whole ≡ true }
+        ensures ok { (t : Tree) → Whole (words_of (code_of req.now)) t
+            → Answers (stands_in req.now) (found (asked_of req.now) t) result self.new }
+        ensures span { result ≡ true
+            → (start_of req.now ≤ self.new.start) × Spans self.new.start (end_of req.now) self.new }
+        ensures no { result ≡ false → self.new.marks ≡ no_marks }
+        ensures counts { CountsUpTo (asked_of req.now) (code_of req.now) (end_of req.now + 1) (end_of req.now)
+            self.new }
+        ensures up_to_match { result ≡ true → CountsUpTo (asked_of req.now) (code_of req.now) (self.new.start + 1)
+            self.new.cursor.position self.new }
+    {
+        self.board.clear(); // of an earlier search
+        (self.compared, self.started) = (0, 0);
+        let mut spot = Spot {
+            cursor: from,
+            matched: 0,
+        };
+        'place: while find(req, prefix, &mut self.compared, &mut spot) {
+            if may_end(req, spot.cursor) {
+                (self.start, self.cursor) = (start_of(prefix, spot), spot.cursor);
+                return true;
+            }
+            spot = go_on(req, prefix, &self.compared, spot);
+        }
+        false
+    }
+
+    // Searches the places where a prefix stands. At each that is found the machine runs behind the first literals.
+    fn search_places<S: StrDrive>(
+        &mut self,
+        req: &Request<'_, S>,
+        prefix: &Prefix<'_>,
+        from: StringCursor,
+    ) -> Result<bool, SreError>
+        requires stands { stands_in req.now from (start_of req.now) }
+        requires is { IsPrefix (code_of req.now) prefix.now.words.now prefix.now.literals prefix.now.whole }
+        requires more { prefix.now.whole ≡ false }
+        ensures ok { (t : Tree) → Whole (words_of (code_of req.now)) t
+            → IfOk result (λ b. Answers (stands_in req.now) (found (asked_of req.now) t) b self.new) }
+        ensures span { IfOk result
+            (λ b. b ≡ true → (start_of req.now ≤ self.new.start) × Spans self.new.start (end_of req.now) self.new) }
+        ensures no { IfOk result (λ b. b ≡ false → self.new.marks ≡ no_marks) }
+        ensures err { OnErr result (self.new.marks ≡ no_marks) }
+        ensures refused { OnErr result Refused }
+        ensures counts { CountsUpTo (asked_of req.now) (code_of req.now) (end_of req.now + 1) (end_of req.now)
+            self.new }
+        ensures up_to_match { IfOk result (λ b. b ≡ true → CountsUpTo (asked_of req.now) (code_of req.now)
+            (self.new.start + 1) self.new.cursor.position self.new) }
+    {
+        self.board.clear(); // of an earlier search
+        (self.compared, self.started) = (0, 0);
+        let last = last_start(req);
+        let mut spot = Spot {
+            cursor: from,
+            matched: 0,
+        };
+        'place: while find(req, prefix, &mut self.compared, &mut spot) {
+            let start = start_of(prefix, spot);
+            if is_past(last, start) {
+                return Ok(false);
+            }
+            let behind = behind_literals(req, prefix, spot);
+            if let Some(end) = attempt(
+                req,
+                prefix.literals,
+                behind,
+                &mut self.board,
+                &mut self.started,
+            )? {
+                (self.start, self.cursor) = (start, end);
+                return Ok(true);
+            }
+            spot = go_on(req, prefix, &self.compared, spot);
+        }
+        Ok(false)
+    }
+
+    // Matches at the window's start, the only one at which a code may match that is anchored at the text's.
+    fn search_anchored<S: StrDrive>(
+        &mut self,
+        req: &Request<'_, S>,
+        from: StringCursor,
+    ) -> Result<bool, SreError>
+        requires stands { stands_in req.now from (start_of req.now) }
+        requires plain { (hints_of (code_of req.now)).prefix ≡ None }
+        requires no_set { (hints_of (code_of req.now)).first_set ≡ false }
+        requires anchored { (t : Tree) → Whole (words_of (code_of req.now)) t → is_anchored t ≡ true }
+        ensures ok { (t : Tree) → Whole (words_of (code_of req.now)) t
+            → IfOk result (λ b. Answers (stands_in req.now) (found (asked_of req.now) t) b self.new) }
+        ensures span { IfOk result
+            (λ b. b ≡ true → (start_of req.now ≤ self.new.start) × Spans self.new.start (end_of req.now) self.new) }
+        ensures no { IfOk result (λ b. b ≡ false → self.new.marks ≡ no_marks) }
+        ensures err { OnErr result (self.new.marks ≡ no_marks) }
+        ensures refused { OnErr result Refused }
+        ensures counts { CountsUpTo (asked_of req.now) (code_of req.now) (end_of req.now + 1) (end_of req.now)
+            self.new }
+        ensures up_to_match { IfOk result (λ b. b ≡ true → CountsUpTo (asked_of req.now) (code_of req.now)
+            (self.new.start + 1) self.new.cursor.position self.new) }
+        ensures once { self.new.started ≤ 1 }
+    {
+        self.board.clear(); // of an earlier search
+        (self.compared, self.started) = (0, 0);
+        if is_past(last_start(req), from.position()) {
+            return Ok(false);
+        }
+        if let Some(end) = attempt(req, 0, from, &mut self.board, &mut self.started)? {
+            (self.start, self.cursor) = (from.position(), end);
+            return Ok(true);
+        }
+        Ok(false)
+    }
+
+    // Searches the places of the members of a confirmed first set.
+    fn search_members<S: StrDrive>(
+        &mut self,
+        req: &Request<'_, S>,
+        from: StringCursor,
+    ) -> Result<bool, SreError>
+        requires stands { stands_in req.now from (start_of req.now) }
+        requires plain { (hints_of (code_of req.now)).prefix ≡ None }
+        requires set { (hints_of (code_of req.now)).first_set ≡ true }
+        ensures ok { (t : Tree) → Whole (words_of (code_of req.now)) t
+            → IfOk result (λ b. Answers (stands_in req.now) (found (asked_of req.now) t) b self.new) }
+        ensures span { IfOk result
+            (λ b. b ≡ true → (start_of req.now ≤ self.new.start) × Spans self.new.start (end_of req.now) self.new) }
+        ensures no { IfOk result (λ b. b ≡ false → self.new.marks ≡ no_marks) }
+        ensures err { OnErr result (self.new.marks ≡ no_marks) }
+        ensures refused { OnErr result Refused }
+        ensures counts { CountsUpTo (asked_of req.now) (code_of req.now) (end_of req.now + 1) (end_of req.now)
+            self.new }
+        ensures up_to_match { IfOk result (λ b. b ≡ true → CountsUpTo (asked_of req.now) (code_of req.now)
+            (self.new.start + 1) self.new.cursor.position self.new) }
+    {
+        self.board.clear(); // of an earlier search
+        (self.compared, self.started) = (0, 0);
+        let last = last_start(req);
+        let mut start = from;
+        'start: loop {
+            let Some(next) = next_member(req, start) else {
+                return Ok(false);
+            };
+            if is_past(last, next.position()) {
+                return Ok(false);
+            }
+            if let Some(end) = attempt(req, 0, next, &mut self.board, &mut self.started)? {
+                (self.start, self.cursor) = (next.position(), end);
+                return Ok(true);
+            }
+            let Some(behind) = start_behind(req, leading_run(req), next) else {
+                return Ok(false);
+            };
+            start = behind;
+        }
+    }
+
+    // Searches the starts, where neither a prefix nor a first set is confirmed.
+    fn search_starts<S: StrDrive>(
+        &mut self,
+        req: &Request<'_, S>,
+        from: StringCursor,
+    ) -> Result<bool, SreError>
+        requires stands { stands_in req.now from (start_of req.now) }
+        requires plain { (hints_of (code_of req.now)).prefix ≡ None }
+        requires no_set { (hints_of (code_of req.now)).first_set ≡ false }
+        ensures ok { (t : Tree) → Whole (words_of (code_of req.now)) t
+            → IfOk result (λ b. Answers (stands_in req.now) (found (asked_of req.now) t) b self.new) }
+        ensures span { IfOk result
+            (λ b. b ≡ true → (start_of req.now ≤ self.new.start) × Spans self.new.start (end_of req.now) self.new) }
+        ensures no { IfOk result (λ b. b ≡ false → self.new.marks ≡ no_marks) }
+        ensures err { OnErr result (self.new.marks ≡ no_marks) }
+        ensures refused { OnErr result Refused }
+        ensures counts { CountsUpTo (asked_of req.now) (code_of req.now) (end_of req.now + 1) (end_of req.now)
+            self.new }
+        ensures up_to_match { IfOk result (λ b. b ≡ true → CountsUpTo (asked_of req.now) (code_of req.now)
+            (self.new.start + 1) self.new.cursor.position self.new) }
+    {
+        self.board.clear(); // of an earlier search
+        (self.compared, self.started) = (0, 0);
+        let last = last_start(req);
+        let first = First::of_items(req.pattern_codes().items(), false);
+        let Some(start) = next_start(req, &first, from) else {
+            return Ok(false);
+        };
+        if is_past(last, start.position()) {
+            return Ok(false);
+        }
+        if let Some(end) = attempt(req, 0, start, &mut self.board, &mut self.started)? {
+            (self.start, self.cursor) = (start.position(), end);
+            return Ok(true);
+        }
+        self.search_behind(req, last, start)
+    }
+
+    // Goes on with a search behind the first of its starts that was tried. Only now it is worth to read in the words
+    // with what alternatives begin, and whether a run leads: most steps of a walk end at the first start that is tried.
+    fn search_behind<S: StrDrive>(
+        &mut self,
+        req: &Request<'_, S>,
+        last: Option<usize>,
+        tried: StringCursor,
+    ) -> Result<bool, SreError>
+        requires plain { (hints_of (code_of req.now)).prefix ≡ None }
+        requires no_set { (hints_of (code_of req.now)).first_set ≡ false }
+        requires last { IsLast (asked_of req.now) (code_of req.now) last }
+        requires stands { stands_in req.now tried tried.position }
+        requires from { start_of req.now ≤ tried.position }
+        requires fits { FitsAt last tried.position }
+        requires inside { tried.position ≤ end_of req.now }
+        requires none { (t : Tree) → Whole (words_of (code_of req.now)) t
+            → NoneBetween (asked_of req.now) t (start_of req.now) tried.position
+            × (at_start (asked_of req.now) t tried.position ≡ None) }
+        requires once { self.old.started ≡ 1 }
+        requires uncompared { self.old.compared ≡ 0 }
+        ensures ok { (t : Tree) → Whole (words_of (code_of req.now)) t
+            → IfOk result (λ b. Answers (stands_in req.now) (found (asked_of req.now) t) b self.new) }
+        ensures span { IfOk result
+            (λ b. b ≡ true → (start_of req.now ≤ self.new.start) × Spans self.new.start (end_of req.now) self.new) }
+        ensures no { IfOk result (λ b. b ≡ false → self.new.marks ≡ no_marks) }
+        ensures err { OnErr result (self.new.marks ≡ no_marks) }
+        ensures refused { OnErr result Refused }
+        ensures counts { CountsUpTo (asked_of req.now) (code_of req.now) (end_of req.now + 1) (end_of req.now)
+            self.new }
+        ensures up_to_match { IfOk result (λ b. b ≡ true → CountsUpTo (asked_of req.now) (code_of req.now)
+            (self.new.start + 1) self.new.cursor.position self.new) }
+    {
+        self.board.clear();
+        let first = First::of_items(req.pattern_codes().items(), true);
+        let lead = leading_run(req);
+        let mut start = tried;
+        'start: loop {
+            let Some(behind) = start_behind(req, lead, start) else {
+                return Ok(false);
+            };
+            match next_start(req, &first, behind) {
+                None => return Ok(false),
+                Some(next) => start = next,
+            }
+            if is_past(last, start.position()) {
+                return Ok(false);
+            }
+            if let Some(end) = attempt(req, 0, start, &mut self.board, &mut self.started)? {
+                (self.start, self.cursor) = (start.position(), end);
+                return Ok(true);
+            }
+        }
+    }
+}
