@@ -85,18 +85,23 @@ class Checks:
         return "proofs of tests" if "--test" in words else "proofs"
 
     def look(self):
-        running = 0
+        """Looks at the processes. A check of several jobs has copies below it, whose time it takes over in the end."""
+        parents, checks = {}, set()
         for pid in filter(str.isdigit, os.listdir("/proc")):
             try:
                 fields = fields_of(pid)
-                kind = self.kind(pid) if int(fields[1]) == self.rt.pid else None
+                kind = self.kind(pid)
             except (OSError, IndexError):
                 continue
             if kind:
+                parents[int(pid)] = int(fields[1])
+            if kind and int(fields[1]) == self.rt.pid:
+                checks.add(int(pid))
                 self.seen[pid, fields[19]] = kind, processor_seconds(fields)
                 self.phases.reach(kind)
-                running += 1
-        self.running = running
+        copies = {it for it, parent in parents.items() if parent in checks}
+        # a check waits while its copies work
+        self.running = len(copies) + len(checks - {parents[it] for it in copies})
 
     def watch(self):
         while self.rt.poll() is None:
@@ -113,10 +118,8 @@ class Prover:
     def __init__(self, phases, rlibs):
         self.rlibs, self.proved, self.tests, self.last = rlibs, {}, 0, ""
         self.changed = threading.Condition()
-        # one job a check takes the least of processors
-        given = {**os.environ, "RT_JOBS": str(os.cpu_count())}
         self.rt = subprocess.Popen(
-            ["rt", "ci"], cwd=ROOT, env=given, text=True, errors="replace",
+            ["rt", "ci"], cwd=ROOT, text=True, errors="replace",
             stdin=subprocess.DEVNULL, stdout=subprocess.PIPE, stderr=subprocess.STDOUT,
         )
         self.checks = Checks(self.rt, phases)

@@ -25,6 +25,9 @@ import tempfile
 ROOT = os.path.dirname(os.path.dirname(os.path.realpath(__file__)))
 PARTS = ("src", "specs", "proofs")
 
+# So many bodies go into one bundle at most: the others run beside it.
+MOST = 16
+
 # An answer that names what a wrong body took away says nothing of the contract.
 TAKEN_AWAY = re.compile(r"has no field|is not in scope|has no `|was not admitted")
 
@@ -118,14 +121,14 @@ def bodies_of(crate):
 
 
 def bundles(bodies, crate, is_alone=False):
-    """Bodies of different functions in as few bundles as there are bodies of one function, with the texts that they
-    make; and a line for each body that cannot be written into the crate."""
+    """Bodies of different functions in few bundles, with the texts that they make; and a line for each body that cannot
+    be written into the crate."""
     made, bad = [], []
     for body in bodies:
         if not body.function or not body.pairs or body.written({}, crate.folder) is None:
             bad.append(f"{body.label(crate)}: BAD: it names no function, or an old text does not stand once")
             continue
-        for bundle in [] if is_alone else made:
+        for bundle in [] if is_alone else [it for it in made if len(it["bodies"]) < MOST]:
             texts = body.written(bundle["texts"], crate.folder)
             if texts and body.function not in {it.function for it in bundle["bodies"]}:
                 bundle["texts"], bundle["bodies"] = texts, [*bundle["bodies"], body]
