@@ -123,9 +123,3 @@ pub counts_tried : (a : Asked) (code : Code) (last : Option ℕ) (s : Shown) (p 
 counts_tried a code last s p to seen plain no_set is fits from few none l =
     counts_plain a code s to seen plain no_set (omega (arith, from, few, l))
     (λ w e. let fit = is.fits p fits w e in omega (arith, from, few, fit)) none
-
--- nothing was tried
-pub counts_none : (a : Asked) (code : Code) (s : Shown) (to seen : ℕ) → (hints_of code).prefix ≡ None
-    → (hints_of code).first_set ≡ false → s.started ≡ 0 → s.compared ≡ 0 → CountsUpTo a code to seen s
-counts_none a code s to seen plain no_set idle none =
-    counts_plain a code s to seen plain no_set (omega (arith, idle)) (λ w e. omega (arith, idle)) none

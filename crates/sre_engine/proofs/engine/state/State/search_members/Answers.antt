@@ -52,8 +52,8 @@ returns-in_err-end-clause-counts g c =
     let fits : FitsAt c.last_start-last.result c.in-Some.next.position =
     subst (FitsAt c.last_start-last.result) c.position.ensures (c.is_past.ensures.fits c.if-is_past.false) in
     counts_next (asked_of asked) (code_of asked) c.last_start-last.result _ _ _ c.in-Some.next _ _ c.requires.set
-    c.last_start-last.ensures fits inv.from inv.tried next inv.few c.attempt.ensures.counted (omega (arith, next.inside))
-    inv.uncompared
+    c.last_start-last.ensures fits inv.from inv.tried next inv.few c.attempt.ensures.counted
+    (omega (arith, next.inside)) inv.uncompared
 
 pub returns-in-Some-2-clause-counts : goal.returns-in-Some-2-clause-counts
 returns-in-Some-2-clause-counts g c =
@@ -63,8 +63,8 @@ returns-in-Some-2-clause-counts g c =
     let fits : FitsAt c.last_start-last.result c.in-Some.next.position =
     subst (FitsAt c.last_start-last.result) c.position.ensures (c.is_past.ensures.fits c.if-is_past.false) in
     counts_next (asked_of asked) (code_of asked) c.last_start-last.result _ _ _ c.in-Some.next _ _ c.requires.set
-    c.last_start-last.ensures fits inv.from inv.tried next inv.few c.attempt.ensures.counted (omega (arith, next.inside))
-    inv.uncompared
+    c.last_start-last.ensures fits inv.from inv.tried next inv.few c.attempt.ensures.counted
+    (omega (arith, next.inside)) inv.uncompared
 
 pub returns-in-Some-2-clause-up_to_match : goal.returns-in-Some-2-clause-up_to_match
 returns-in-Some-2-clause-up_to_match g c = λ _.
@@ -74,8 +74,8 @@ returns-in-Some-2-clause-up_to_match g c = λ _.
     let fits : FitsAt c.last_start-last.result c.in-Some.next.position =
     subst (FitsAt c.last_start-last.result) c.position.ensures (c.is_past.ensures.fits c.if-is_past.false) in
     counts_next (asked_of asked) (code_of asked) c.last_start-last.result _ _ _ c.in-Some.next _ _ c.requires.set
-    c.last_start-last.ensures fits inv.from inv.tried next inv.few c.attempt.ensures.counted (omega (arith, c.position-in-Some-2.ensures))
-    inv.uncompared
+    c.last_start-last.ensures fits inv.from inv.tried next inv.few c.attempt.ensures.counted
+    (omega (arith, c.position-in-Some-2.ensures)) inv.uncompared
 
 pub returns-in-Some-2-clause-ok : goal.returns-in-Some-2-clause-ok
 returns-in-Some-2-clause-ok g c = λ t whole.
@@ -119,8 +119,8 @@ returns-in_default-start_behind-clause-counts g c =
     let fits : FitsAt c.last_start-last.result c.in-Some.next.position =
     subst (FitsAt c.last_start-last.result) c.position.ensures (c.is_past.ensures.fits c.if-is_past.false) in
     counts_next (asked_of asked) (code_of asked) c.last_start-last.result _ _ _ c.in-Some.next _ _ c.requires.set
-    c.last_start-last.ensures fits inv.from inv.tried next inv.few c.attempt.ensures.counted (omega (arith, next.inside))
-    inv.uncompared
+    c.last_start-last.ensures fits inv.from inv.tried next inv.few c.attempt.ensures.counted
+    (omega (arith, next.inside)) inv.uncompared
 
 pub start-preserved : goal.start-preserved
 start-preserved g c =
