@@ -6,7 +6,7 @@
 `rt ci` proves each crate and its tests from nothing, tries the must-fail edits, and runs the tests and the stored run.
 Once it has proved the crates below a crate, that crate's wrong bodies are tried (`wrong_bodies.py`), where cores are
 idle. With `cases` only the case files are run, over what an earlier run or `rt run` left. In the end the gate tells the
-minutes of each phase, by the clock and of processors, and the dearest functions of the crates that have wrong bodies.
+minutes of each phase, by the clock and of processors, and the dearest functions of the bundles, right or wrong.
 The last line counts what passed.
 """
 import os
@@ -171,14 +171,14 @@ class Bundles:
         self.passed, self.failed, self.dearest = 0, 0, []
         self.running, self.turn = 0, threading.Condition()
 
-    def check(self, command, folder, costs=None):
+    def check(self, command, folder, costs):
         """Runs a check where a core is idle, and gives what it says. `costs` gets what each function took."""
         with self.turn:
             while self.running + self.prover.checks.running >= os.cpu_count():
                 self.turn.wait(1)
             self.running += 1
         try:
-            return self.said(["nice", *command], folder, [] if costs is None else costs)
+            return self.said(["nice", *command], folder, costs)
         finally:
             self.phases.reach("wrong bodies")
             with self.turn:
@@ -210,24 +210,27 @@ class Bundles:
             self.failed += not is_well
 
     def of_crate(self, crate, pool):
-        """Tries a crate as it is, and gives the trials of its bundles, which run in the pool."""
+        """Tries the first bundle of a crate, and gives the trials of the others, which run in the pool."""
         made, bad = wrong_bodies.bundles(wrong_bodies.bodies_of(crate), crate)
         for line in bad:
             self.count(False, line)
         words = crate.words(self.kit, lambda it: f"{self.prover.rlibs}/{it.name}")
-        trial, costs = wrong_bodies.Trial(crate, self.kit, words, self.room), []
+        trial = wrong_bodies.Trial(crate, self.kit, words, self.room)
         if not self.prover.are_proved([it.name for it in crate.below()]):
             self.count(False, f"wrong bodies of {crate.name}: not tried, since a crate below it is not proved")
-        elif not wrong_bodies.is_proved(trial.unchanged(lambda *it: self.check(*it, costs))):
-            self.count(False, f"wrong bodies of {crate.name}: not tried, since the crate is not proved")
-        else:
-            self.dearest += costs
-            return [pool.submit(self.of_bundle, trial, *it) for it in enumerate(made)]
-        return []
+            return []
+        numbered = [*enumerate(made)]
+        for it in numbered[:1]:
+            # what this check keeps serves the others
+            self.of_bundle(trial, *it)
+        return [pool.submit(self.of_bundle, trial, *it) for it in numbered[1:]]
 
     def of_bundle(self, trial, number, bundle):
-        for is_well, line in trial.bundle(number, bundle, self.check):
+        costs, bodies = [], {f"{trial.crate.name}::{it.function}": it.name for it in bundle["bodies"]}
+        for is_well, line in trial.bundle(number, bundle, lambda *it: self.check(*it, costs)):
             self.count(is_well, line)
+        with self.turn:
+            self.dearest += [(seconds, f"{it} in {bodies[it]}" if it in bodies else it) for seconds, it in costs]
 
     def run(self):
         crates = [it for it in wrong_bodies.crates().values() if wrong_bodies.bodies_of(it)]

@@ -162,7 +162,7 @@ def refusals(said, crate):
 def judged(bundle, crate, said):
     """For each body of a bundle, whether it was judged as it must be, and a line that tells."""
     lines = said.rstrip("\n").split("\n")
-    is_judged = lines[-1].startswith(("logic=not-proved", "logic=proved"))
+    is_judged = lines[-1].startswith("only=")
     open_goals = refusals(said, crate)
     named = set(re.findall(rf"(?m)^fn {crate.name}::(\S+):", said))
     others = ", ".join(it for it in open_goals if open_goals[it] and it not in {body.function for body in bundle["bodies"]})
@@ -188,8 +188,10 @@ class Trial:
         self.crate, self.kit, self.words, self.room = crate, kit, words, room
         self.kept = f"{room}/{crate.name}-kept"
 
-    def command(self, kept):
-        return [f"{self.kit}/bin/rattle", "check", *self.words, "--incremental", kept, "--progress"]
+    def command(self, kept, functions=()):
+        """What checks the crate, or these functions and those that they call, over kept work."""
+        words = [f"{self.kit}/bin/rattle", "check", *self.words, "--incremental", kept, "--progress"]
+        return [*words, *(word for it in functions for word in ("--only", it))]
 
     def place(self, name, texts):
         """A copy of the crate with these texts."""
@@ -203,16 +205,20 @@ class Trial:
         return folder
 
     def unchanged(self, run):
-        """Checks the crate as it is, and keeps that work for its bundles. `run` takes a command and its folder."""
-        folder = self.place("unchanged", {})
-        return run(self.command(self.kept), folder)
+        """Checks the crate as it is over its kept work. `run` takes a command and its folder."""
+        return run(self.command(self.kept), self.place("unchanged", {}))
 
     def bundle(self, number, bundle, run):
-        """Checks a bundle over a copy of the kept work, since a check takes from it what it changed."""
-        folder, kept = self.place(f"bundle-{number}", bundle["texts"]), f"{self.kept}-{number}"
-        shutil.copytree(self.kept, kept)
-        said = run(self.command(kept), folder)
-        shutil.rmtree(kept)
+        """Checks a bundle's functions and what they call. Where nothing is kept yet, the work of this check is; else it
+        works over a copy, since a check takes from kept work what it changed."""
+        folder, kept = self.place(f"bundle-{number}", bundle["texts"]), self.kept
+        is_first = not os.path.isdir(kept)
+        if not is_first:
+            kept = f"{self.kept}-{number}"
+            shutil.copytree(self.kept, kept)
+        said = run(self.command(kept, [it.function for it in bundle["bodies"]]), folder)
+        if not is_first:
+            shutil.rmtree(kept)
         return list(judged(bundle, self.crate, said))
 
 
