@@ -37,7 +37,7 @@ abbrev pub list_fault : Listing → ℕ → List (ℕ × ℕ) → Option UniErro
 list_fault kind next [] = None
 list_fault kind next (e ∷ es) = option_or (entry_fault kind next e) (list_fault kind (last_of kind e + 1) es)
 
--- the first fault of a table
+-- the first fault of the lists that a table is made of; its digits come later
 abbrev pub table_fault : Table → Option UniError
 table_fault t =
     option_or (list_fault Map 0 t.lower) (option_or (list_fault Map 0 t.upper) (list_fault Ranges 0 t.alnum))

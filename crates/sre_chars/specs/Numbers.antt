@@ -1,8 +1,10 @@
--- The numbers of the codes that stand in compiled patterns.
+-- The numbers of the codes that stand in compiled patterns, and of a rule.
 use Rattle.std.specs.Prelude.{◌≡◌, ◌≤◌, ℕ, Result, MatchResult}
 use Rattle.sre_chars.specs.declared.constants.UnknownCode.{UnknownCode}
 use Rattle.sre_chars.specs.declared.constants.SreOpcode.{SreOpcode}
 use Rattle.sre_chars.specs.declared.constants.SreOpcode.TheVariants as opcode
+use Rattle.sre_chars.specs.declared.constants.EmptyRule.{EmptyRule}
+use Rattle.sre_chars.specs.declared.constants.EmptyRule.TheVariants as rule
 use Rattle.sre_chars.specs.declared.constants.SreAtCode.{SreAtCode}
 use Rattle.sre_chars.specs.declared.constants.SreAtCode.TheVariants as at
 use Rattle.sre_chars.specs.declared.constants.SreCatCode.{SreCatCode}
@@ -53,6 +55,11 @@ opcode_number opcode.IN_UNI_IGNORE = 39
 opcode_number opcode.LITERAL_UNI_IGNORE = 40
 opcode_number opcode.NOT_LITERAL_UNI_IGNORE = 41
 opcode_number opcode.RANGE_UNI_IGNORE = 42
+
+-- the number of a rule for non-boundaries on nothing
+abbrev pub rule_number : EmptyRule → ℕ
+rule_number rule.Never = 0
+rule_number rule.NonBoundary = 1
 
 -- the number of a position code
 abbrev pub at_number : SreAtCode → ℕ

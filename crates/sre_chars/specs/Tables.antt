@@ -1,20 +1,22 @@
--- Case maps and alphanumerics: fixed in ASCII, and past it as a table lists them.
+-- Case maps, alphanumerics and digits: fixed in ASCII, and past it as a table lists them.
 use Rattle.std.specs.Prelude.{◌==◌, ◌+◌, ◌-◌, ℕ, Bool, false, if◌then◌else◌, nat_lt, nat_le, ◌&&◌, ◌||◌}
 use Rattle.std.specs.Prelude.{Option, Some, None, unwrap_or, List, [], ◌∷◌}
 
--- the entries (from, to) of the lower and upper map, and the ranges (low, high) of alphanumerics, all past ASCII
+-- the entries (from, to) of the lower and upper map, and the ranges (low, high) of alphanumerics and of decimal digits,
+-- all past ASCII
 pub record Table : Type 0 where
   pub lower : List (ℕ × ℕ)
   pub upper : List (ℕ × ℕ)
   pub alnum : List (ℕ × ℕ)
+  pub digits : List (ℕ × ℕ)
 
--- the table of three lists
+-- the table of three lists, without digits past ASCII
 abbrev pub table_of : List (ℕ × ℕ) → List (ℕ × ℕ) → List (ℕ × ℕ) → Table
-table_of lower upper alnum = record { lower = lower; upper = upper; alnum = alnum }
+table_of lower upper alnum = record { lower = lower; upper = upper; alnum = alnum; digits = [] }
 
 -- the table with no entry past ASCII
 abbrev pub ascii_table : Table
-ascii_table = record { lower = []; upper = []; alnum = [] }
+ascii_table = record { lower = []; upper = []; alnum = []; digits = [] }
 
 -- whether c is one of the numbers from low to high
 abbrev pub is_between : ℕ → ℕ → ℕ → Bool

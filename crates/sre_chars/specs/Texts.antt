@@ -1,5 +1,6 @@
 -- Where a cursor stands in a text.
-use Rattle.std.specs.Prelude.{◌≡◌, ◌≤◌, ℕ, Bool, ◌||◌, nat_le, nat_lt, List, length, take, count_by}
+use Rattle.std.specs.Prelude.{◌≡◌, ◌≢◌, ◌<◌, ◌≤◌, ℕ, ◌-◌, Bool, true, false, ◌||◌, nat_le, nat_lt}
+use Rattle.std.specs.Prelude.{List, length, take, count_by, slice_index}
 use Rattle.std.specs.Str.{chars, encode_utf8_all}
 
 -- a place in a text: the characters before it, and the bytes that these take
@@ -26,3 +27,13 @@ begins_char byte = nat_lt byte 128 || nat_le 192 byte
 -- how many characters begin in the first n bytes
 abbrev pub begun : List ℕ → ℕ → ℕ
 begun bytes n = count_by begins_char (take n bytes)
+
+-- from one position up to another no character is c
+abbrev pub NoneIs : List ℕ → ℕ → ℕ → ℕ → Type 0
+NoneIs text c from to = (q : ℕ) → from ≤ q → q < to → slice_index text q ≢ c
+
+-- `to` is behind the first c from `from` on, where one is before `end`, and `end` else
+abbrev pub Sought : List ℕ → ℕ → ℕ → ℕ → Bool → ℕ → Type 0
+Sought text c from end true to =
+    (from < to) × (to ≤ end) × (slice_index text (to - 1) ≡ c) × NoneIs text c from (to - 1)
+Sought text c from end false to = (to ≡ end) × NoneIs text c from end

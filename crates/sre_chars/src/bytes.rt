@@ -1,9 +1,23 @@
 //! Bytes as a text: each byte is a character, so the offset of a cursor is its position.
 
+ghost use Rattle.std.specs.Prelude.{◌≡◌, ◌<◌, length, slice_index, MatchOption};
 ghost use Rattle.std.proofs.Props.{props};
-ghost use Rattle.sre_chars.specs.Texts.{StandsInBytes};
+ghost use Rattle.sre_chars.specs.Texts.{StandsInBytes, NoneIs};
 
 use crate::string::{StrDrive, StringCursor};
+use memchr::memchr;
+
+// Where a character first stands, each byte being one.
+#[inline(always)]
+pub(crate) fn first_byte(bytes: &[u8], character: u32) -> Option<usize>
+    ensures { MatchOption result (NoneIs bytes.now character 0 (length bytes.now)) (λ first. (first < length bytes.now)
+        × (slice_index bytes.now first ≡ character) × NoneIs bytes.now character 0 first) }
+{
+    if 0x100 <= character {
+        return None;
+    }
+    memchr(character as u8, bytes)
+}
 
 impl<'a> StrDrive for &'a [u8] {
     ghost text = { λ s. s.now };
@@ -63,5 +77,21 @@ impl<'a> StrDrive for &'a [u8] {
     fn back_skip(&self, cursor: &mut StringCursor, n: usize) {
         let at = cursor.position() - n;
         *cursor = StringCursor::new(at, at);
+    }
+
+    #[inline]
+    fn seek(&self, cursor: &mut StringCursor, character: u32, end: usize) -> bool {
+        let from = cursor.position();
+        match first_byte(&self[from..end], character) {
+            Some(passed) => {
+                let behind = from + passed + 1;
+                *cursor = StringCursor::new(behind, behind);
+                true
+            }
+            None => {
+                *cursor = StringCursor::new(end, end);
+                false
+            }
+        }
     }
 }

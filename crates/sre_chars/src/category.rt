@@ -1,12 +1,13 @@
 //! The categories of characters.
 //!
 //! The plain and the locale forms know ASCII alone. The Unicode forms have fixed lists of blanks and
-//! of line ends, and ask the table for letters and digits.
+//! of line ends, and ask the table for letters and digits past ASCII.
 
 ghost use Rattle.std.specs.Prelude.{◌≡◌};
 ghost use Rattle.sre_chars.specs.Numbers.{category_number};
 ghost use Rattle.sre_chars.specs.Categories.{category, is_digit, is_space, is_word, is_linebreak};
-ghost use Rattle.sre_chars.specs.Categories.{is_unicode_space, is_unicode_word, is_unicode_linebreak};
+ghost use Rattle.sre_chars.specs.Categories.{is_unicode_digit, is_unicode_space, is_unicode_word};
+ghost use Rattle.sre_chars.specs.Categories.{is_unicode_linebreak};
 
 use crate::constants::SreCatCode;
 use crate::table::{UniTable, is_ascii_alphanumeric};
@@ -14,20 +15,22 @@ use crate::table::{UniTable, is_ascii_alphanumeric};
 /// Whether a character is in a category.
 ///
 /// A `NOT` form has the characters that its plain form lacks. The lists are those of CPython's
-/// `_sre`, with the table's alphanumerics in place of its database.
+/// `_sre`, with the table's alphanumerics and digits in place of its database.
 #[inline(always)]
 pub fn category(table: &UniTable, code: SreCatCode, ch: u32) -> bool
     ensures { result ≡ category table.now (category_number code) ch }
 {
     match code {
-        SreCatCode::DIGIT | SreCatCode::UNI_DIGIT => is_digit(ch),
-        SreCatCode::NOT_DIGIT | SreCatCode::UNI_NOT_DIGIT => !is_digit(ch),
+        SreCatCode::DIGIT => is_digit(ch),
+        SreCatCode::NOT_DIGIT => !is_digit(ch),
         SreCatCode::SPACE => is_space(ch),
         SreCatCode::NOT_SPACE => !is_space(ch),
         SreCatCode::WORD | SreCatCode::LOC_WORD => is_word(ch),
         SreCatCode::NOT_WORD | SreCatCode::LOC_NOT_WORD => !is_word(ch),
         SreCatCode::LINEBREAK => is_linebreak(ch),
         SreCatCode::NOT_LINEBREAK => !is_linebreak(ch),
+        SreCatCode::UNI_DIGIT => is_unicode_digit(table, ch),
+        SreCatCode::UNI_NOT_DIGIT => !is_unicode_digit(table, ch),
         SreCatCode::UNI_SPACE => is_unicode_space(ch),
         SreCatCode::UNI_NOT_SPACE => !is_unicode_space(ch),
         SreCatCode::UNI_WORD => is_unicode_word(table, ch),
@@ -42,6 +45,16 @@ fn is_digit(ch: u32) -> bool
     ensures { result ≡ is_digit ch }
 {
     matches!(ch, 48..=57)
+}
+
+fn is_unicode_digit(table: &UniTable, ch: u32) -> bool
+    ensures { result ≡ is_unicode_digit table.now ch }
+{
+    if ch < 128 {
+        is_digit(ch)
+    } else {
+        table.has_digit(ch)
+    }
 }
 
 #[inline]

@@ -7,7 +7,7 @@ ghost use Rattle.std.specs.Prelude.{◌≡◌, ◌==◌};
 ghost use Rattle.std.specs.Cmp.Rules.{comparing};
 ghost use Rattle.std.specs.Ordering.{on};
 ghost use Rattle.std.proofs.Common.{rules};
-ghost use Rattle.sre_chars.specs.Numbers.{IsCodeOf, at_number, category_number, opcode_number};
+ghost use Rattle.sre_chars.specs.Numbers.{IsCodeOf, at_number, category_number, opcode_number, rule_number};
 
 pub use sre_flags::{SreFlag, SreInfo};
 use std::convert::TryFrom;
@@ -39,6 +39,27 @@ impl UnknownCode {
         match self {
             UnknownCode(_) => 1,
         }
+    }
+}
+
+/// Whether a non-boundary is on nothing, that is at position 0 of a window that ends at 0. A boundary never is.
+///
+/// Two rules are equal exactly where their numbers are.
+#[derive(Clone, Copy, Eq, Debug)]
+pub enum EmptyRule {
+    /// None is, as in CPython 3.11 to 3.13 and in `rustpython-sre_engine`.
+    Never = 0,
+    /// One is, as CPython's documentation says of 3.14.
+    NonBoundary = 1,
+}
+
+impl PartialEq for EmptyRule {
+    ghost eq = { on rule_number ◌==◌ };
+
+    ghost laws = { Prim.search (comparing, rules) };
+
+    fn eq(&self, other: &EmptyRule) -> bool {
+        *self as u32 == *other as u32
     }
 }
 

@@ -6,6 +6,7 @@
 
 ghost use Rattle.std.specs.Prelude.{◌≡◌, ◌+◌, ◌-◌, ◌^◌, ◌<◌, ◌≤◌, ℕ, List, length, slice_index};
 ghost use Rattle.sre_chars.specs.declared.string.StringCursor.{StringCursor};
+ghost use Rattle.sre_chars.specs.Texts.{Sought};
 
 pub use crate::category::category;
 pub use crate::table::{
@@ -134,6 +135,25 @@ pub trait StrDrive: Copy {
         requires at { stands self.now cursor.old cursor.old.position }
         requires within { n ≤ cursor.old.position }
         ensures { stands self.now cursor.new (cursor.old.position - n) };
+
+    /// Steps behind the next `character` that stands before the position `end`, or to `end` where none does: whether
+    /// one does.
+    ///
+    /// No text has to write this. One that finds a character faster than step by step can, as `&[u8]` and `&str` do.
+    fn seek(&self, cursor: &mut StringCursor, character: u32, end: usize) -> bool
+        requires at { stands self.now cursor.old cursor.old.position }
+        requires before { cursor.old.position ≤ end }
+        requires within { end ≤ length (text self.now) }
+        ensures after { stands self.now cursor.new cursor.new.position }
+        ensures sought { Sought (text self.now) character cursor.old.position end result cursor.new.position }
+    {
+        'character: while cursor.position() < end {
+            if self.advance(cursor) == character {
+                return true;
+            }
+        }
+        false
+    }
 
     // A cursor that stands at a place has it as its position, and it is one of the text's.
     ghost stands_at: { (s : Self) (c : StringCursor) (p : ℕ) → stands s c p

@@ -1,6 +1,6 @@
-//! Tables of case and of alphanumerics.
+//! Tables of case, of alphanumerics and of digits.
 //!
-//! ASCII is fixed in the code. Past it a table holds three rising lists, two of (from, to) and one
+//! ASCII is fixed in the code. Past it a table holds four rising lists, two of (from, to) and two
 //! of (low, high), and a character is looked up by halving.
 
 ghost use Rattle.std.specs.Prelude.{◌≡◌, ◌==◌, nat_le, None, Some, IfOk, OnOk, IfErr, IsOkUnless, OnErr};
@@ -13,7 +13,7 @@ ghost use Rattle.sre_growth.specs.Refusal.{Refused};
 
 pub mod lists;
 
-use lists::{Lists, checked_lists, std_lists};
+use lists::{Lists, checked_lists, checked_ranges, std_lists};
 use sre_growth::Refusal;
 use std::alloc::{AllocError, Global};
 use std::marker::Model;
@@ -82,28 +82,31 @@ enum Listing {
     Ranges,
 }
 
-/// A lower map, an upper map and a set of alphanumerics, over 32-bit characters.
+/// A lower map, an upper map, a set of alphanumerics and one of decimal digits, over 32-bit characters.
 ///
-/// ASCII is fixed: A to Z and a to z are each other's cases, letters and digits are alphanumeric.
-/// Past ASCII a character without an entry is its own lower and upper case, and one that lies in
-/// no range is not alphanumeric.
+/// ASCII is fixed: A to Z and a to z are each other's cases, letters and digits are alphanumeric, and 0 to 9
+/// are digits. Past ASCII a character without an entry is its own lower and upper case, one that lies in
+/// no range of the alphanumerics is not alphanumeric, and one in no range of the digits is no digit.
 #[derive(Drop)]
 pub struct UniTable {
     lower: Vec<(u32, u32)>,
     upper: Vec<(u32, u32)>,
     alnum: Vec<(u32, u32)>,
+    digits: Vec<(u32, u32)>,
 }
 
 impl Model for UniTable {
     ghost use Rattle.std.specs.Prelude.{◌≡◌, None};
     ghost use Rattle.sre_chars.specs.Tables.{Table, table_of};
-    ghost use Rattle.sre_chars.specs.Errors.{table_fault};
+    ghost use Rattle.sre_chars.specs.Errors.{table_fault, list_fault};
+    ghost use Rattle.sre_chars.specs.declared.table.Listing.TheVariants.{Ranges};
 
     ghost Value = { Table };
 
-    ghost view = { λ t. table_of t.lower.items t.upper.items t.alnum.items };
+    ghost view = { λ t. record (table_of t.lower.items t.upper.items t.alnum.items) { digits = t.digits.items } };
 
-    ghost invariant = { λ t. table_fault (table_of t.lower.items t.upper.items t.alnum.items) ≡ None };
+    ghost invariant = { λ t. (table_fault (table_of t.lower.items t.upper.items t.alnum.items) ≡ None)
+        × (list_fault Ranges 0 t.digits.items ≡ None) };
 }
 
 impl UniTable {
@@ -115,10 +118,11 @@ impl UniTable {
             lower: Vec::new(alloc),
             upper: Vec::new(alloc),
             alnum: Vec::new(alloc),
+            digits: Vec::new(alloc),
         }
     }
 
-    /// The table of three lists, which it copies.
+    /// The table of three lists, which it copies, without digits past ASCII.
     ///
     /// `lower` and `upper` hold pairs (from, to), each `from` above the former one. `alnum` holds
     /// pairs (low, high), low up to high, each low above the former high; both ends belong to the
@@ -153,6 +157,7 @@ impl UniTable {
             lower,
             upper,
             alnum,
+            digits: Vec::new(alloc),
         })
     }
 
@@ -160,8 +165,9 @@ impl UniTable {
     ///
     /// A character that std changes goes to the first character of `char::to_lowercase` and
     /// `char::to_uppercase`; the alphanumerics are those of `char::is_alphanumeric`. Surrogates
-    /// and numbers above 0x10FFFF stay, and are not alphanumeric. It goes over all scalar values
-    /// three times, so a program makes it once.
+    /// and numbers above 0x10FFFF stay, and are not alphanumeric. There are no digits past ASCII, since
+    /// std has no list of them: `set_digits` takes one. It goes over all scalar values three times, so a
+    /// program makes it once.
     ///
     /// # Errors
     ///
@@ -179,7 +185,37 @@ impl UniTable {
             lower,
             upper,
             alnum,
+            digits: Vec::new(alloc),
         })
+    }
+
+    /// Replaces the decimal digits past ASCII by those of some ranges, which it copies. 0 to 9 are always digits.
+    ///
+    /// `digits` holds pairs (low, high) as the alphanumerics of [`UniTable::new`] do. The other lists stay: a
+    /// digit is alphanumeric only where they say so. With the ranges of Unicode's general category Nd a UNI_DIGIT
+    /// is what `\d` is in Python's `re`. The memory comes from the allocator that the table was made with.
+    ///
+    /// # Errors
+    ///
+    /// The first fault of the ranges, as [`UniTable::new`] has them, and only then [`UniError::Memory`], where a
+    /// request was refused. After an error the table is as it was.
+    pub fn set_digits(&mut self, digits: &[(u32, u32)]) -> Result<(), UniError>
+        ensures table { OnOk result (self.new ≡ record self.old { digits = digits.now }) }
+        ensures lawful { OnOk result (list_fault Listing.Ranges 0 digits.now ≡ None) }
+        ensures unchanged { OnErr result (self.new ≡ self.old) }
+        ensures refused { IfErr result (λ error.
+            option_or (list_fault Listing.Ranges 0 digits.now) (Some UniError.Memory) ≡ Some error) }
+        ensures grows { list_fault Listing.Ranges 0 digits.now ≡ None → OnErr result Refused }
+    {
+        self.digits = checked_ranges(*self.digits.allocator(), digits)?;
+        Ok(())
+    }
+
+    // Whether a character is in a range of the digits past ASCII.
+    pub(crate) fn has_digit(&self, ch: u32) -> bool
+        ensures { result ≡ is_in_ranges self.now.digits ch }
+    {
+        is_in_ranges(&self.digits, ch)
     }
 
     // Whether a character is a letter or a digit.

@@ -3,11 +3,12 @@
 //! A `str` is always well-formed, so a step finds a whole character at the offset of a cursor and never
 //! searches for its edge.
 
-ghost use Rattle.std.specs.Prelude.{◌≡◌, ◌+◌, ◌-◌, ◌^◌, ◌<◌, ◌≤◌, length, slice_index, count_by};
+ghost use Rattle.std.specs.Prelude.{◌≡◌, ◌+◌, ◌-◌, ◌^◌, ◌<◌, ◌≤◌, length, slice_index, count_by, true, MatchOption};
 ghost use Rattle.std.specs.Str.{chars, IsCharBoundary};
 ghost use Rattle.std.proofs.Props.{props};
-ghost use Rattle.sre_chars.specs.Texts.{StandsInText, offset_of, begins_char, begun};
+ghost use Rattle.sre_chars.specs.Texts.{StandsInText, offset_of, begins_char, begun, NoneIs, Sought};
 
+use crate::bytes::first_byte;
 use crate::string::{StrDrive, StringCursor};
 
 // The character after a cursor, and the offset at which it ends.
@@ -161,6 +162,52 @@ fn pass_bytes_back(bytes: &[u8], mut offset: usize, mut n: usize) -> usize
     offset
 }
 
+// The cursor behind the next such character that stands before `end`. An ASCII character is a byte that no other
+// character has (RFC 3629, section 3), so it is looked for among the bytes that the characters up to `end` can take.
+#[inline(always)]
+fn behind_ascii(s: &str, cursor: &StringCursor, character: u32, end: usize) -> Option<StringCursor>
+    requires ascii { character < 128 }
+    requires at { StandsInText s.now cursor.now cursor.now.position }
+    requires before { cursor.now.position ≤ end }
+    requires within { end ≤ length (chars s.now) }
+    ensures { MatchOption result (NoneIs (chars s.now) character cursor.now.position end)
+        (λ behind. StandsInText s.now behind behind.position
+        × Sought (chars s.now) character cursor.now.position end true behind.position) }
+{
+    let left = end - cursor.position();
+    let offset = cursor.offset();
+    let bytes = s[offset..].as_bytes();
+    let near = bytes.len().min(left.saturating_mul(4));
+    let passed = first_byte(&bytes[..near], character)?;
+    let characters = beginnings(&bytes[..passed]);
+    if characters < left {
+        let position = cursor.position() + characters + 1;
+        Some(StringCursor::new(position, offset + passed + 1))
+    } else {
+        None
+    }
+}
+
+// The same of any character, one after the other.
+fn behind_other(s: &str, cursor: &StringCursor, character: u32, end: usize) -> Option<StringCursor>
+    requires at { StandsInText s.now cursor.now cursor.now.position }
+    requires before { cursor.now.position ≤ end }
+    requires within { end ≤ length (chars s.now) }
+    ensures { MatchOption result (NoneIs (chars s.now) character cursor.now.position end)
+        (λ behind. StandsInText s.now behind behind.position
+        × Sought (chars s.now) character cursor.now.position end true behind.position) }
+{
+    let mut next = *cursor;
+    'character: while next.position() < end {
+        let (passed, offset) = char_after(s, &next);
+        next = StringCursor::new(next.position() + 1, offset);
+        if u32::from(passed) == character {
+            return Some(next);
+        }
+    }
+    None
+}
+
 impl<'a> StrDrive for &'a str {
     ghost text = { λ s. chars s.now };
 
@@ -225,5 +272,24 @@ impl<'a> StrDrive for &'a str {
         let (offset, left) = pass_blocks_back(bytes, cursor.offset(), n);
         let start = pass_bytes_back(bytes, offset, left);
         *cursor = StringCursor::new(cursor.position() - n, start);
+    }
+
+    #[inline]
+    fn seek(&self, cursor: &mut StringCursor, character: u32, end: usize) -> bool {
+        let next = if character < 0x80 {
+            behind_ascii(self, cursor, character, end)
+        } else {
+            behind_other(self, cursor, character, end)
+        };
+        match next {
+            Some(behind) => {
+                *cursor = behind;
+                true
+            }
+            None => {
+                self.skip(cursor, end - cursor.position());
+                false
+            }
+        }
     }
 }

@@ -17,3 +17,4 @@ pub mod Prefixes
 pub mod Claimed
 pub mod FirstSets
 pub mod Scanning
+pub mod AsciiMembers

@@ -1,12 +1,26 @@
 -- What is told of the first items of trees.
 -- Words of the check's contracts; what sre_engine makes public does not rest on it.
-use Rattle.std.specs.Prelude.{ℕ, ◌≡◌, Bool, true, List}
+use Rattle.std.specs.Prelude.{ℕ, ◌-◌, ◌≡◌, ◌≤◌, Bool, true, List, length, Option}
 use Rattle.std.specs.Bool.{Decides}
 use Rattle.sre_chars.specs.declared.constants.SreOpcode.{SreOpcode}
-use Rattle.sre_model.specs.Tree.{Tree, Trees}
+use Rattle.sre_model.specs.Tree.{Tree, Trees, SetItem}
+use Rattle.sre_model.specs.Standing.{SetStands, HasSet}
+use Rattle.sre_ascii.specs.declared.AsciiSet.{AsciiSet}
+use Rattle.sre_code.specs.AsciiSets.{AreTold}
 use Rattle.sre_model.specs.Roles.{role}
 use Rattle.sre_model.specs.FirstCharacters.{is_end}
 use Rattle.sre_model.specs.Grammar.{Opcode, Reads, ReadsBranch}
+
+-- the items of the set of a block that ends at `end`
+abbrev pub IsSetUpTo : ℕ → List ℕ → List SetItem → Type 0
+IsSetUpTo end ws set = SetStands ws 5 (end - 1) set
+
+-- the words up to `end` are a block with a set, some of whose ASCII characters are told
+pub record HasBlockSet (end : ℕ) (ws : List ℕ) (ascii : Option AsciiSet) : Type 0 where
+  pub has : HasSet ws 5
+  pub long : 5 ≤ end
+  pub within : end ≤ length ws
+  pub told : AreTold ws 5 ascii
 
 -- whether P holds of the tree of a part whose items begin at i
 pub record Tells (ws : List ℕ) (i : ℕ) (told : Bool) (P : Tree → Type 0) : Type 0 where

@@ -1,6 +1,7 @@
 //! Checked words: the grammar's check, and what is known of a code.
 #![tactic(auto)]
 
+pub mod ascii_members;
 pub mod code;
 pub mod members;
 pub mod operands;

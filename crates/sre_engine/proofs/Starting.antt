@@ -1,13 +1,17 @@
 -- Which starts are barred, and what being barred rules out.
-use Rattle.std.proofs.Common.{◌≡◌, ◌≤◌, ◌<◌, ◌-◌, ℕ, false, List, arith, inl, inr, sym, subst, refl, Some, None}
+use Rattle.std.proofs.Common.{◌≡◌, ◌≢◌, ◌≤◌, ◌<◌, ◌-◌, ℕ, Bool, true, false, nat_eq, List, arith, inl, inr, sym, subst}
+use Rattle.std.proofs.Common.{refl, Some, None}
 use Rattle.std.proofs.lemmas.Bool.{cases_lt}
+use Rattle.std.proofs.lemmas.Bool.Decides.{nat_tests}
+use Rattle.sre_chars.specs.Texts.{Sought}
+use Rattle.sre_chars.specs.declared.constants.SreAtCode.TheVariants.{BEGINNING_LINE}
 use Rattle.sre_chars.specs.declared.constants.SreAtCode.{SreAtCode}
 use Rattle.sre_chars.specs.declared.string.StringCursor.{StringCursor}
 use Rattle.sre_model.specs.Tree.{Tree}
 use Rattle.sre_model.specs.Grammar.{WholeItems}
 use Rattle.sre_model.specs.Marks.{no_marks}
 use Rattle.sre_model.specs.Found.{Asked, subject_of, at_start, found}
-use Rattle.sre_model.specs.Subject.{Subject, holds_at}
+use Rattle.sre_model.specs.Subject.{Subject, char_at, holds_at}
 use Rattle.sre_model.specs.Machine.{Run}
 use Rattle.sre_model.specs.FirstCharacters.{NoWay, TreeStands, Leads}
 use Rattle.sre_model.proofs.FoundLaws.{none-found}
@@ -91,3 +95,33 @@ module _ (r : Run) (a : Asked) (t : Tree) (f : First) (same : r.subject ≡ subj
         | (inl earlier) ↦ before s from earlier
         | (inr later) ↦ barred_start s (x.each s later (subst (λ (y : Subject). s ≤ y.end) (sym same) to))
       ])
+
+-- A line
+
+-- no line begins behind another character than a line feed
+no_line : (s : Subject) (q : ℕ) → 0 < q → char_at s (q - 1) ≢ 10 → holds_at s BEGINNING_LINE q ≡ false
+no_line s q h ne =
+    let other : nat_eq (char_at s (q - 1)) 10 ≡ false = grind (arith, nat_tests) in
+    let past : nat_eq q 0 ≡ false = grind (arith, nat_tests) in
+    rw (past, other) (grind (arith, nat_tests))
+
+pub line_sought : (r : Run) (cursor next : StringCursor) (found : Bool) → found ≡ true
+    → r.stands next next.position → Sought r.subject.text 10 cursor.position r.subject.end found next.position
+    → HeldFrom r BEGINNING_LINE cursor.position next
+line_sought r cursor next true e at s = record {
+  stands = at;
+  behind = s.0;
+  inside = s.1;
+  each = λ q from to. no_line r.subject q (omega (arith, from)) (s.3 (q - 1) (omega (arith, from))
+      (omega (arith, from, to)));
+}
+line_sought r cursor next false e at s = absurd (cc)
+
+pub no_line_sought : (r : Run) (cursor next : StringCursor) (found : Bool) → found ≡ false
+    → Sought r.subject.text 10 cursor.position r.subject.end found next.position
+    → HeldNowhere r BEGINNING_LINE cursor.position
+no_line_sought r cursor next true e s = absurd (cc)
+no_line_sought r cursor next false e s = record {
+  each = λ q from to. no_line r.subject q (omega (arith, from)) (s.1 (q - 1) (omega (arith, from))
+      (omega (arith, from, to)));
+}

@@ -1,8 +1,11 @@
 -- One scan with overlap words.
 use Rattle.std.proofs.Common.{ℕ, ◌+◌, ◌-◌, ◌≡◌, ◌≢◌, ◌<◌, ◌≤◌, ◌⊎◌, List, length, slice_index, ⊎_elim, sym, ◌∙◌, ap}
-use Rattle.std.proofs.Common.{subst, arith}
+use Rattle.std.proofs.Common.{Bool, true, false, subst, arith}
 use Rattle.sre_code.specs.Borders.{Right}
-use Rattle.sre_engine.specs.Scans.{Border, Longest, Overlapping, Fits, Stands, NoPlace, Here}
+use Rattle.sre_chars.specs.Texts.{Sought}
+use Rattle.sre_chars.specs.declared.string.StringCursor.{StringCursor}
+use Rattle.sre_model.specs.Machine.{Run}
+use Rattle.sre_engine.specs.Scans.{Border, Longest, Overlapping, Fits, Stands, NoPlace, Here, FirstSame}
 
 -- a scan inside one character: i matched words end at q, and none of the places passed since b counts
 pub record Inside (t p : List ℕ) (a e q b i c : ℕ) : Type 0 where
@@ -241,3 +244,25 @@ overlapping p o some long right = record {
 pub ruleset pass_laws = (enter, more, fall, fresh)
 
 pub ruleset find_laws = (no_place, join_places, complete, over)
+
+-- a text's own search for a character is the scan's for the first word
+pub first_sought : (r : Run) (word : ℕ) (start cursor : StringCursor) (found : Bool) → start.position ≤ r.subject.end
+    → r.stands cursor cursor.position
+    → Sought r.subject.text word start.position r.subject.end found cursor.position
+    → FirstSame r word start found cursor
+first_sought r word start cursor true h at s = record {
+  stands = at;
+  from = omega (arith, s.0);
+  inside = s.1;
+  others = λ q from to. s.3 q from (omega (arith, to));
+  is = λ _. (s.0, s.2);
+  none = λ e. absurd (cc);
+}
+first_sought r word start cursor false h at s = record {
+  stands = at;
+  from = omega (arith, s.0, h);
+  inside = omega (arith, s.0);
+  others = λ q from to. s.1 q from (omega (arith, s.0, to));
+  is = λ e. absurd (cc);
+  none = λ _. (s.0, λ q from to. s.1 q from (omega (arith, s.0, to)));
+}

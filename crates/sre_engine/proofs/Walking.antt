@@ -17,7 +17,8 @@ use Rattle.sre_engine.proofs.Answering.{given-answer}
 pub asked_next : {S : Type 0} {text : Ghosts S} (r : Request S text) (s : Shown) (u : Request S text) → GoesOn r s u
     → asked_of u ≡ asked_after (asked_of r) (match_shown s)
 asked_next r s u goes =
-    rw (goes.string, goes.pattern_codes, goes.start, goes.end, goes.match_all, goes.must_advance) refl
+    rw (goes.string, goes.pattern_codes, goes.start, goes.end, goes.match_all, goes.must_advance, goes.empty_rule)
+    refl
 
 -- the cursor at its end stands where the window starts then
 pub stands_next : {S : Type 0} {text : Ghosts S} (r : Request S text) (s : Shown) (u : Request S text) → GoesOn r s u

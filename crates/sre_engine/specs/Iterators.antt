@@ -7,7 +7,8 @@ use Rattle.sre_model.specs.Grammar.{Whole}
 use Rattle.sre_model.specs.Marks.{no_marks}
 use Rattle.sre_model.specs.Found.{Match, walk}
 use Rattle.sre_model.specs.WalkBounds.{most_matches}
-use Rattle.sre_code.specs.Codes.{words_of}
+use Rattle.sre_code.specs.Codes.{words_of, hints_of}
+use Rattle.sre_code.specs.declared.code.Code.{Code}
 use Rattle.sre_request.specs.declared.request.Request.{Request}
 use Rattle.sre_request.specs.Requests.{code_of, asked_of}
 use Rattle.sre_growth.specs.Refusal.{Refused}
@@ -52,9 +53,14 @@ pub record Ends {S A : Type 0} {text : Ghosts S} (it next : SearchIter S A text)
 pub record IsOver {S A : Type 0} {text : Ghosts S} (it : SearchIter S A text) : Type 0 where
   pub none : (t : Tree) → Whole (words_of (code_of (request_of it))) t → left_of it t ≡ []
 
+-- no prefix is confirmed that is all of the code, with which a search takes no memory
+abbrev pub MayTakeMemory : Code → Type 0
+MayTakeMemory code = (l k : ℕ) → (hints_of code).prefix ≡ Some (l, k) → (hints_of code).literal ≡ true → ⊥
+
 -- the next item; an error comes only where a growth was refused, and not after the walk's end
 abbrev pub NextGives : {S A : Type 0} {text : Ghosts S}
     → SearchIter S A text → Option (Result (Unit {0}) SreError) → SearchIter S A text → Type 0
 NextGives it None next = IsOver it × Ends it next
 NextGives it (Some (Ok _)) next = Gives it next
-NextGives it (Some (Err _)) next = (has_ended it ≡ false) × Refused × Ends it next
+NextGives it (Some (Err _)) next =
+    (has_ended it ≡ false) × Refused × Ends it next × MayTakeMemory (code_of (request_of it))

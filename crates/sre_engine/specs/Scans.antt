@@ -54,10 +54,3 @@ pub record FirstSame (r : Run) (word : ℕ) (start : StringCursor) (found : Bool
   pub none : found ≡ false
       → (cursor.position ≡ r.subject.end)
       × ((q : ℕ) → start.position ≤ q → q < cursor.position → char_at r.subject q ≢ word)
-
--- from a cursor on up to another one no character is a word
-pub record NoneSame (r : Run) (word : ℕ) (start cursor : StringCursor) : Type 0 where
-  pub stands : r.stands cursor cursor.position
-  pub from : start.position ≤ cursor.position
-  pub inside : cursor.position ≤ r.subject.end
-  pub others : (q : ℕ) → start.position ≤ q → q < cursor.position → char_at r.subject q ≢ word

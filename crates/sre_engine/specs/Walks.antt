@@ -4,7 +4,8 @@ use Rattle.std.specs.Prelude.{◌≡◌, ◌≤◌, Bool, cond, nat_eq, List, []
 use Rattle.sre_chars.specs.declared.string.StrDrive.{Ghosts}
 use Rattle.sre_model.specs.Found.{Match}
 use Rattle.sre_request.specs.declared.request.Request.{Request}
-use Rattle.sre_request.specs.Requests.{string_of, start_of, end_of, code_of, match_all_of, must_advance_of, stands_in}
+use Rattle.sre_request.specs.Requests.{string_of, start_of, end_of, code_of, match_all_of, must_advance_of}
+use Rattle.sre_request.specs.Requests.{empty_rule_of, stands_in}
 use Rattle.sre_engine.specs.Answers.{Shown, Spans}
 
 -- the match that a state shows
@@ -26,3 +27,4 @@ pub record GoesOn {S : Type 0} {text : Ghosts S} (r : Request S text) (s : Shown
   pub end : end_of u ≡ end_of r
   pub pattern_codes : code_of u ≡ code_of r
   pub match_all : match_all_of u ≡ match_all_of r
+  pub empty_rule : empty_rule_of u ≡ empty_rule_of r

@@ -5,7 +5,8 @@ pub mod engine;
 
 pub use engine::{SearchIter, State};
 pub use sre_chars::constants::{
-    CODESIZE, MAXGROUPS, MAXREPEAT, SRE_MAGIC, SreAtCode, SreCatCode, SreFlag, SreInfo, SreOpcode,
+    CODESIZE, EmptyRule, MAXGROUPS, MAXREPEAT, SRE_MAGIC, SreAtCode, SreCatCode, SreFlag, SreInfo,
+    SreOpcode,
 };
 pub use sre_chars::string::{StrDrive, StringCursor, UniTable};
 pub use sre_chars::{constants, string};

@@ -97,7 +97,7 @@ static NO_CASES: [&str; 83] = [
     "match 1 b:61 all ff",
     "match 1 b:61 all f-",
     "match 1 b:61 all F",
-    "match 1 b:61 all n",
+    "match 1 b:61 all na",
     "match 1 b:61 all ",
 ];
 

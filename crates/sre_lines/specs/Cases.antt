@@ -44,6 +44,7 @@ asked subject table text = record {
   end = window_end subject.window (length text);
   match_all = subject.flags.match_all;
   must_advance = subject.flags.must_advance;
+  empty_rule = subject.flags.empty_rule;
 }
 
 -- a match, or that there is none

@@ -4,6 +4,8 @@ use Rattle.std.specs.Prelude.{length, slice_index, All}
 use Rattle.std.specs.Fmt.{decimal, digit_glyph}
 use Rattle.std.specs.List.{join_with_byte}
 use Rattle.std.specs.Str.{IsUtf8}
+use Rattle.sre_chars.specs.declared.constants.EmptyRule.{EmptyRule}
+use Rattle.sre_chars.specs.declared.constants.EmptyRule.TheVariants.{Never, NonBoundary}
 use Rattle.sre_lines.specs.declared.line.Flags.{Flags}
 use Rattle.sre_lines.specs.declared.line.TextForm.{TextForm}
 use Rattle.sre_lines.specs.declared.line.TextForm.TheVariants.{Bytes, Utf8}
@@ -43,15 +45,19 @@ abbrev pub IsWindow : Window → Type 0
 IsWindow Whole = Unit {0}
 IsWindow (Span start end) = (start < 2 ^ 64) × (end < 2 ^ 64)
 
-abbrev pub flag_letters : Bool → Bool → List ℕ
-flag_letters false false = codes "-"
-flag_letters true false = codes "f"
-flag_letters false true = codes "a"
-flag_letters true true = codes "fa"
+abbrev pub flag_letters : Bool → Bool → EmptyRule → List ℕ
+flag_letters false false Never = codes "-"
+flag_letters true false Never = codes "f"
+flag_letters false true Never = codes "a"
+flag_letters true true Never = codes "fa"
+flag_letters false false NonBoundary = codes "n"
+flag_letters true false NonBoundary = codes "fn"
+flag_letters false true NonBoundary = codes "an"
+flag_letters true true NonBoundary = codes "fan"
 
 -- flags as their letters, none of them as `-`
 abbrev pub flags_text : Flags → List ℕ
-flags_text flags = flag_letters flags.match_all flags.must_advance
+flags_text flags = flag_letters flags.match_all flags.must_advance flags.empty_rule
 
 -- the letter of a text's form
 abbrev pub form_text : TextForm → List ℕ

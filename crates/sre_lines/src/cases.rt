@@ -247,6 +247,7 @@ fn request<'a, S: StrDrive>(text: S, subject: Subject, code: Code<'a>) -> Reques
     };
     let mut request = Request::new(text, start, end, code, subject.flags.match_all);
     request.set_must_advance(subject.flags.must_advance);
+    request.set_empty_rule(subject.flags.empty_rule);
     request
 }
 

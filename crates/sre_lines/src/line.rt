@@ -10,6 +10,7 @@ ghost use Rattle.sre_lines.specs.Fields.{verb_text, words_text, window_text, IsW
 ghost use Rattle.sre_lines.specs.Fields.{bytes_text, subject_text, case_text, IsText, AreWords, IsSubject, IsCase};
 
 use crate::number::{decimal_number, read_hex};
+use sre_engine::EmptyRule;
 use std::alloc::{AllocFailed, Allocator};
 
 /// Why a line gave no case.
@@ -92,6 +93,8 @@ pub struct Flags {
     pub match_all: bool,
     /// `a`: the match has to end past the window's start.
     pub must_advance: bool,
+    /// `n`: a non-boundary is on nothing.
+    pub empty_rule: EmptyRule,
 }
 
 /// The words and the text of the line that was read last. Their memory serves line after line.
@@ -285,16 +288,21 @@ fn flags_of(field: &[u8]) -> Option<Flags>
     ensures written { IfSome result (λ flags. flags_text flags ≡ field.now) }
     ensures refused { IfNone result ((flags : Flags) → flags_text flags ≢ field.now) }
 {
-    let (match_all, must_advance) = match field {
-        b"-" => (false, false),
-        b"f" => (true, false),
-        b"a" => (false, true),
-        b"fa" => (true, true),
+    let (match_all, must_advance, empty_rule) = match field {
+        b"-" => (false, false, EmptyRule::Never),
+        b"f" => (true, false, EmptyRule::Never),
+        b"a" => (false, true, EmptyRule::Never),
+        b"fa" => (true, true, EmptyRule::Never),
+        b"n" => (false, false, EmptyRule::NonBoundary),
+        b"fn" => (true, false, EmptyRule::NonBoundary),
+        b"an" => (false, true, EmptyRule::NonBoundary),
+        b"fan" => (true, true, EmptyRule::NonBoundary),
         _ => return None,
     };
     Some(Flags {
         match_all,
         must_advance,
+        empty_rule,
     })
 }
 

@@ -2,13 +2,14 @@
 -- Of the meaning: what sre_engine makes public rests on it.
 use Rattle.std.specs.Prelude.{◌+◌, ◌-◌, ◌*◌, ℕ, zero, suc, List, [], ◌∷◌, Bool, not, ◌&&◌, ◌||◌, cond, nat_eq, Option}
 use Rattle.std.specs.Prelude.{Some, None}
+use Rattle.sre_chars.specs.declared.constants.EmptyRule.{EmptyRule}
 use Rattle.sre_chars.specs.Tables.{Table}
 use Rattle.sre_model.specs.Tree.{Tree}
 use Rattle.sre_model.specs.Marks.{Marks, no_marks}
 use Rattle.sre_model.specs.Subject.{Subject}
 use Rattle.sre_model.specs.Ways.{Way, ways}
 
--- the characters, the table, the window [start, end] and the flags
+-- the characters, the table, the window [start, end], the flags, and the rule for non-boundaries on nothing
 pub record Asked : Type 0 where
   pub text : List ℕ
   pub table : Table
@@ -16,6 +17,7 @@ pub record Asked : Type 0 where
   pub end : ℕ
   pub match_all : Bool
   pub must_advance : Bool
+  pub empty_rule : EmptyRule
 
 -- where a match starts and ends, and its marks
 pub record Match : Type 0 where
@@ -24,7 +26,7 @@ pub record Match : Type 0 where
   pub marks : Marks
 
 abbrev pub subject_of : Asked → Subject
-subject_of a = record { text = a.text; end = a.end; table = a.table }
+subject_of a = record { text = a.text; end = a.end; table = a.table; empty_rule = a.empty_rule }
 
 -- under match_all an end must be the window's, under must_advance it must not be the window's start
 abbrev pub is_accepted : Asked → Way → Bool

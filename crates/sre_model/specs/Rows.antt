@@ -1,15 +1,18 @@
 -- Worked rows, by computation: matches and searches.
-use Rattle.std.specs.Prelude.{ℕ, ◌-◌, refl, ◌≡◌, true, [], ◌∷◌, ◌++◌, codes, replicate, Some, None, pos, negsuc}
+use Rattle.std.specs.Prelude.{ℕ, ◌-◌, refl, ◌≡◌, true, List, [], ◌∷◌, ◌++◌, codes, map, replicate, Option, Some, None}
+use Rattle.std.specs.Prelude.{pos, negsuc}
 use Rattle.sre_chars.specs.declared.constants.SreAtCode.TheVariants.{BEGINNING, BEGINNING_LINE, BOUNDARY, NON_BOUNDARY}
-use Rattle.sre_chars.specs.declared.constants.SreAtCode.TheVariants.{END, END_LINE, END_STRING}
-use Rattle.sre_chars.specs.declared.constants.SreCatCode.TheVariants.{DIGIT}
+use Rattle.sre_chars.specs.declared.constants.SreAtCode.TheVariants.{END, END_LINE, END_STRING, UNI_NON_BOUNDARY}
+use Rattle.sre_chars.specs.declared.constants.EmptyRule.TheVariants.{NonBoundary}
+use Rattle.sre_chars.specs.declared.constants.SreCatCode.TheVariants.{DIGIT, UNI_DIGIT, UNI_NOT_DIGIT, UNI_WORD}
+use Rattle.sre_chars.specs.Tables.{ascii_table, table_of}
 use Rattle.sre_model.specs.Tree.{Tree, Test, Empty, One, At, Mark, Branch, Loop, Run, PossessiveLoop, Atomic, Look}
 use Rattle.sre_model.specs.Tree.{Reference, Exists, ExistsElse, Only, Or, Any, AnyAll, InCategory, Literal, NotLiteral}
-use Rattle.sre_model.specs.Tree.{In, Single, Range, RangeUniIgnore, Charset, BigCharset, Negate, Plain, Ascii, Locale}
-use Rattle.sre_model.specs.Tree.{Unicode, Greedy, Lazy, GreedyRun, LazyRun, PossessiveRun, Positive, Negative}
+use Rattle.sre_model.specs.Tree.{In, Single, Category, Range, RangeUniIgnore, Charset, BigCharset, Negate, Plain, Ascii}
+use Rattle.sre_model.specs.Tree.{Locale, Unicode, Greedy, Lazy, GreedyRun, LazyRun, PossessiveRun, Positive, Negative}
 use Rattle.sre_model.specs.Subject.{Subject}
 use Rattle.sre_model.specs.Ways.{unlimited, run_length, longest_run, may_repeat}
-use Rattle.sre_model.specs.Found.{matched, found}
+use Rattle.sre_model.specs.Found.{Match, matched, found}
 use Rattle.sre_model.specs.Shown.{items, is_a, a, b, c, d, window, whole, span, marked, grouped}
 
 -- Literals and marks
@@ -263,6 +266,30 @@ non_boundary_inside_a_word = refl
 no_non_boundary_on_nothing : matched (whole []) (items (At NON_BOUNDARY ∷ [])) ≡ None
 no_non_boundary_on_nothing = refl
 
+-- the same where the rule is that a non-boundary is there, and no boundary
+non_boundary_on_nothing : matched (record (whole []) { empty_rule = NonBoundary }) (items (At NON_BOUNDARY ∷ []))
+    ≡ Some (span 0 0)
+non_boundary_on_nothing = refl
+
+no_boundary_on_nothing_by_the_rule : matched (record (whole []) { empty_rule = NonBoundary }) (items (At BOUNDARY ∷ []))
+    ≡ None
+no_boundary_on_nothing_by_the_rule = refl
+
+non_boundary_at_the_start_of_an_empty_window : matched (record (window (codes "a") 0 0) { empty_rule = NonBoundary })
+    (items (At NON_BOUNDARY ∷ []))
+    ≡ Some (span 0 0)
+non_boundary_at_the_start_of_an_empty_window = refl
+
+no_non_boundary_before_a_word : matched (record (whole (codes "a")) { empty_rule = NonBoundary })
+    (items (At NON_BOUNDARY ∷ []))
+    ≡ None
+no_non_boundary_before_a_word = refl
+
+unicode_non_boundary_on_nothing : found (record (whole []) { match_all = true; empty_rule = NonBoundary })
+    (items (At UNI_NON_BOUNDARY ∷ []))
+    ≡ Some (span 0 0)
+unicode_non_boundary_on_nothing = refl
+
 -- a$ on a, a line feed and b, of which the window has the first two
 end_before_the_last_line_feed : matched (window (97 ∷ 10 ∷ 98 ∷ []) 0 2) (items (a ∷ At END ∷ [])) ≡ Some (span 0 1)
 end_before_the_last_line_feed = refl
@@ -369,9 +396,32 @@ either_case_in_range = refl
 -- with a table that has the two cases of an accented e
 by_the_table : matched
     (record (whole (201 ∷ [])) {
-      table = record { lower = (201, 233) ∷ []; upper = (233, 201) ∷ []; alnum = (201, 201) ∷ (233, 233) ∷ [] };
+      table = table_of ((201, 233) ∷ []) ((233, 201) ∷ []) ((201, 201) ∷ (233, 233) ∷ []);
     }) (items (One (Literal Unicode 233) ∷ [])) ≡ Some (span 0 1)
 by_the_table = refl
+
+-- with a table that has Arabic-Indic digits, and no other entry
+abbrev arabic_digit : List Test → Option Match
+arabic_digit tests = matched
+    (record (whole (1635 ∷ [])) { table = record ascii_table { digits = (1632, 1641) ∷ [] } }) (items (map One tests))
+
+digit_by_the_table : arabic_digit (InCategory UNI_DIGIT ∷ []) ≡ Some (span 0 1)
+digit_by_the_table = refl
+
+digit_in_a_set : arabic_digit (In Plain (Category UNI_DIGIT ∷ []) ∷ []) ≡ Some (span 0 1)
+digit_in_a_set = refl
+
+digit_is_not_denied : arabic_digit (InCategory UNI_NOT_DIGIT ∷ []) ≡ None
+digit_is_not_denied = refl
+
+digit_past_ascii_is_no_ascii_digit : arabic_digit (InCategory DIGIT ∷ []) ≡ None
+digit_past_ascii_is_no_ascii_digit = refl
+
+digit_is_no_word_character : arabic_digit (InCategory UNI_WORD ∷ []) ≡ None
+digit_is_no_word_character = refl
+
+no_digit_without_the_table : matched (whole (1635 ∷ [])) (items (One (InCategory UNI_DIGIT) ∷ [])) ≡ None
+no_digit_without_the_table = refl
 
 not_in_the_table : matched (whole (201 ∷ [])) (items (One (Literal Unicode 233) ∷ [])) ≡ None
 not_in_the_table = refl

@@ -1,5 +1,6 @@
 -- Short words for worked rows: trees, texts, what is asked and what is answered.
 use Rattle.std.specs.Prelude.{ℕ, List, [], ◌∷◌, length, false, Option, Some, ℤ, pos}
+use Rattle.sre_chars.specs.declared.constants.EmptyRule.TheVariants.{Never}
 use Rattle.sre_chars.specs.Tables.{ascii_table}
 use Rattle.sre_model.specs.Tree.{Tree, Empty, Then, Item, One, Test, Literal, Plain}
 use Rattle.sre_model.specs.Marks.{no_marks}
@@ -28,10 +29,17 @@ c = One (Literal Plain 99)
 abbrev pub d : Item
 d = One (Literal Plain 100)
 
--- a window of a text, without flags
+-- a window of a text, without flags, in which no non-boundary is on nothing
 abbrev pub window : List ℕ → ℕ → ℕ → Asked
-window text start end =
-    record { text = text; table = ascii_table; start = start; end = end; match_all = false; must_advance = false }
+window text start end = record {
+  text = text;
+  table = ascii_table;
+  start = start;
+  end = end;
+  match_all = false;
+  must_advance = false;
+  empty_rule = Never;
+}
 
 -- the whole text, without flags
 abbrev pub whole : List ℕ → Asked

@@ -1,4 +1,3 @@
-pub mod AsciiMembers
 mod AsciiTests
 pub mod Repeating
 mod TestOperands

@@ -1,24 +1,14 @@
--- Which ASCII characters a set takes.
+-- Which ASCII characters a set or a test takes.
 -- Words of the request's contracts; what sre_engine makes public does not rest on it.
-use Rattle.std.specs.Prelude.{ℕ, ◌≡◌, ◌<◌, Bool, true, false, ◌&&◌, ◌||◌, List}
+use Rattle.std.specs.Prelude.{ℕ, ◌≡◌, ◌<◌, Bool, true, false, List}
 use Rattle.sre_ascii.specs.Sets.{contains}
 use Rattle.sre_ascii.specs.declared.AsciiSet.{AsciiSet}
 use Rattle.sre_chars.specs.Tables.{Table}
 use Rattle.sre_chars.specs.declared.constants.SreOpcode.{SreOpcode}
 use Rattle.sre_chars.specs.declared.constants.SreOpcode.TheVariants as opcode
 use Rattle.sre_model.specs.Tree.{SetItem, Test}
-use Rattle.sre_model.specs.Characters.{verdict, is_member, holds}
-use Rattle.sre_model.specs.Standing.{SetStands, HasSet, ItemSays, TestStands}
-
--- the item at i holds for the ASCII characters of a set, and the next one begins at next
-pub record HoldsFor (ws : List ℕ) (i : ℕ) (members : AsciiSet) (next : ℕ) : Type 0 where
-  pub each : (table : Table) (c : ℕ) → c < 128 → ItemSays ws table i c (contains members c) next
-
--- a set at start takes the ASCII characters of members, and those of left that what is left of it at i takes
-pub record AsciiLeft (ws : List ℕ) (start i : ℕ) (taken : Bool) (members left : AsciiSet) : Type 0 where
-  pub each : (table : Table) (c : ℕ) → c < 128 → (j : ℕ) (set : List SetItem) → SetStands ws start j set
-      → (rest : List SetItem) × SetStands ws i j rest
-      × (verdict table true set c ≡ contains members c || (contains left c && verdict table taken rest c))
+use Rattle.sre_model.specs.Characters.{is_member, holds}
+use Rattle.sre_model.specs.Standing.{SetStands, HasSet, TestStands}
 
 -- a set that stands at i takes the ASCII characters of members, and no other ASCII ones
 pub record IsAsciiPart (ws : List ℕ) (table : Table) (i : ℕ) (members : AsciiSet) : Type 0 where

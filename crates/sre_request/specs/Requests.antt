@@ -1,6 +1,7 @@
 -- What a request asks.
 -- Public clauses rest on it; `run_of` is for the machine.
 use Rattle.std.specs.Prelude.{ℕ, Bool}
+use Rattle.sre_chars.specs.declared.constants.EmptyRule.{EmptyRule}
 use Rattle.sre_chars.specs.declared.string.StrDrive.{Ghosts}
 use Rattle.sre_chars.specs.declared.string.StringCursor.{StringCursor}
 use Rattle.sre_model.specs.Found.{Asked, subject_of, is_accepted}
@@ -28,7 +29,10 @@ match_all_of r = r.match_all
 abbrev pub must_advance_of : {S : Type 0} {text : Ghosts S} → Request S text → Bool
 must_advance_of r = r.must_advance
 
--- the text, table, window and flags of a request
+abbrev pub empty_rule_of : {S : Type 0} {text : Ghosts S} → Request S text → EmptyRule
+empty_rule_of r = r.empty_rule
+
+-- the text, table, window, flags and rule of a request
 abbrev pub asked_of : {S : Type 0} {text : Ghosts S} → Request S text → Asked
 asked_of {S} {text} r = record {
   text = text.text r.string;
@@ -37,6 +41,7 @@ asked_of {S} {text} r = record {
   end = r.end;
   match_all = r.match_all;
   must_advance = r.must_advance;
+  empty_rule = r.empty_rule;
 }
 
 -- which cursors stand at which position of a request's text

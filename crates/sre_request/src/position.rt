@@ -5,12 +5,12 @@
 ghost use Rattle.std.specs.Prelude.{◌≡◌, ◌+◌, nat_eq, ◌&&◌};
 ghost use Rattle.sre_chars.specs.Numbers.{category_number};
 ghost use Rattle.sre_chars.specs.Categories.{category, is_linebreak};
-ghost use Rattle.sre_model.specs.Subject.{before, after, is_on_nothing, is_boundary, holds_at};
+ghost use Rattle.sre_model.specs.Subject.{before, after, is_on_nothing, bars_non_boundary, is_boundary, holds_at};
 ghost use Rattle.sre_request.specs.Requests.{run_of};
 
 use crate::request::Request;
 use sre_ascii::AsciiSet;
-use sre_chars::constants::{SreAtCode, SreCatCode};
+use sre_chars::constants::{EmptyRule, SreAtCode, SreCatCode};
 use sre_chars::string::{StrDrive, StringCursor, UniTable, category};
 
 // Whether a character is in a category: a bit tells of an ASCII one, where it is cheaper than to compare.
@@ -73,6 +73,14 @@ fn is_on_nothing<S: StrDrive>(req: &Request<'_, S>, cursor: StringCursor) -> boo
     cursor.position() == 0 && req.end() == 0
 }
 
+// Whether there is no non-boundary at a cursor either, by the request's rule.
+#[inline(always)]
+fn bars_non_boundary<S: StrDrive>(req: &Request<'_, S>, cursor: StringCursor) -> bool
+    ensures { result ≡ bars_non_boundary (run_of req.now).subject cursor.position }
+{
+    is_on_nothing(req, cursor) && req.empty_rule() == EmptyRule::Never
+}
+
 // Whether one of the characters on both sides is of a category, and the other is not. Out of line: the machine's turn
 // is one function, which is inlined in its loop only while it is small.
 #[inline(never)]
@@ -105,13 +113,13 @@ pub fn holds_at<S: StrDrive>(req: &Request<'_, S>, code: SreAtCode, cursor: Stri
             !is_on_nothing(req, cursor) && is_boundary(req, SreCatCode::WORD, cursor)
         }
         SreAtCode::NON_BOUNDARY | SreAtCode::LOC_NON_BOUNDARY => {
-            !is_on_nothing(req, cursor) && !is_boundary(req, SreCatCode::WORD, cursor)
+            !bars_non_boundary(req, cursor) && !is_boundary(req, SreCatCode::WORD, cursor)
         }
         SreAtCode::UNI_BOUNDARY => {
             !is_on_nothing(req, cursor) && is_boundary(req, SreCatCode::UNI_WORD, cursor)
         }
         SreAtCode::UNI_NON_BOUNDARY => {
-            !is_on_nothing(req, cursor) && !is_boundary(req, SreCatCode::UNI_WORD, cursor)
+            !bars_non_boundary(req, cursor) && !is_boundary(req, SreCatCode::UNI_WORD, cursor)
         }
     }
 }

@@ -2,11 +2,12 @@
 
 ghost use Rattle.std.specs.Prelude.{⊤, ◌≡◌, ◌+◌, ◌^◌, ◌≤◌, length};
 
+use sre_chars::constants::EmptyRule;
 use sre_chars::string::StrDrive;
 use sre_code::Code;
 use std::alloc::AllocError;
 
-/// A text, a window of it, a code and two flags. Positions count characters.
+/// A text, a window of it, a code, two flags and the rule for non-boundaries on nothing. Positions count characters.
 pub struct Request<'a, S: StrDrive> {
     string: S,
     start: usize,
@@ -14,6 +15,7 @@ pub struct Request<'a, S: StrDrive> {
     pattern_codes: Code<'a>,
     match_all: bool,
     must_advance: bool,
+    empty_rule: EmptyRule,
     ghost in_window: { ((start ≤ end) × (end ≤ length (S.text string))) × (end + 1 ≤ 2 ^ 63) },
 }
 
@@ -32,9 +34,11 @@ impl<'a, S: StrDrive> Copy for Request<'a, S> {}
 impl<'a, S: StrDrive> Request<'a, S> {
     ghost use Rattle.std.specs.Prelude.{◌≡◌, ◌^◌, ◌<◌, ◌≤◌, length, min, false};
     ghost use Rattle.sre_request.specs.Requests.{string_of, start_of, end_of, code_of, match_all_of, must_advance_of};
+    ghost use Rattle.sre_request.specs.Requests.{empty_rule_of};
 
     /// A request over the window from `start` to `end` of a text: `end` is held at the number of characters, and
-    /// `start` at `end`. `must_advance` is not set.
+    /// `start` at `end`. `must_advance` is not set, and no
+    /// non-boundary is on nothing.
     pub fn new(
         string: S,
         start: usize,
@@ -48,6 +52,7 @@ impl<'a, S: StrDrive> Request<'a, S> {
         ensures pattern_codes { code_of result ≡ pattern_codes.entry }
         ensures match_all { match_all_of result ≡ match_all }
         ensures must_advance { must_advance_of result ≡ false }
+        ensures empty_rule { empty_rule_of result ≡ EmptyRule.Never }
     {
         let end = end.min(string.count());
         Request {
@@ -57,6 +62,7 @@ impl<'a, S: StrDrive> Request<'a, S> {
             pattern_codes,
             match_all,
             must_advance: false,
+            empty_rule: EmptyRule::Never,
         }
     }
 
@@ -72,6 +78,7 @@ impl<'a, S: StrDrive> Request<'a, S> {
             pattern_codes: self.pattern_codes,
             match_all: self.match_all,
             must_advance: self.must_advance,
+            empty_rule: self.empty_rule,
         }
     }
 
@@ -135,6 +142,7 @@ impl<'a, S: StrDrive> Request<'a, S> {
         ensures end { end_of self.new ≡ end_of self.old }
         ensures pattern_codes { code_of self.new ≡ code_of self.old }
         ensures match_all { match_all_of self.new ≡ match_all_of self.old }
+        ensures empty_rule { empty_rule_of self.new ≡ empty_rule_of self.old }
     {
         self.must_advance = must_advance;
     }
@@ -147,8 +155,30 @@ impl<'a, S: StrDrive> Request<'a, S> {
         ensures end { end_of self.new ≡ end_of self.old }
         ensures pattern_codes { code_of self.new ≡ code_of self.old }
         ensures must_advance { must_advance_of self.new ≡ must_advance_of self.old }
+        ensures empty_rule { empty_rule_of self.new ≡ empty_rule_of self.old }
     {
         self.match_all = match_all;
+    }
+
+    /// Whether a non-boundary is on nothing.
+    #[inline(always)]
+    pub fn empty_rule(&self) -> EmptyRule
+        ensures { result ≡ empty_rule_of self.now }
+    {
+        self.empty_rule
+    }
+
+    /// Sets whether a non-boundary is on nothing.
+    pub fn set_empty_rule(&mut self, empty_rule: EmptyRule)
+        ensures empty_rule { empty_rule_of self.new ≡ empty_rule }
+        ensures string { string_of self.new ≡ string_of self.old }
+        ensures start { start_of self.new ≡ start_of self.old }
+        ensures end { end_of self.new ≡ end_of self.old }
+        ensures pattern_codes { code_of self.new ≡ code_of self.old }
+        ensures match_all { match_all_of self.new ≡ match_all_of self.old }
+        ensures must_advance { must_advance_of self.new ≡ must_advance_of self.old }
+    {
+        self.empty_rule = empty_rule;
     }
 
     /// Moves the window's start, up to its end. It looks at no character.
@@ -160,6 +190,7 @@ impl<'a, S: StrDrive> Request<'a, S> {
         ensures pattern_codes { code_of self.new ≡ code_of self.old }
         ensures match_all { match_all_of self.new ≡ match_all_of self.old }
         ensures must_advance { must_advance_of self.new ≡ must_advance_of self.old }
+        ensures empty_rule { empty_rule_of self.new ≡ empty_rule_of self.old }
     {
         self.start = start;
     }
@@ -172,6 +203,7 @@ impl<'a, S: StrDrive> Request<'a, S> {
         ensures pattern_codes { code_of self.new ≡ code_of self.old }
         ensures match_all { match_all_of self.new ≡ match_all_of self.old }
         ensures must_advance { must_advance_of self.new ≡ must_advance_of self.old }
+        ensures empty_rule { empty_rule_of self.new ≡ empty_rule_of self.old }
     {
         let end = end.min(self.string.count());
         (self.start, self.end) = (start.min(end), end);

@@ -18,13 +18,13 @@ ghost use Rattle.sre_model.specs.Standing.{SetStands, TestStands, HasTest};
 ghost use Rattle.sre_request.specs.Requests.{end_of, run_of};
 ghost use Rattle.sre_request.specs.AsciiSets.{IsAsciiPart};
 
-use crate::ascii::ascii_members;
 use crate::one_character::{opcode, takes};
 use crate::request::Request;
 use crate::text::read;
 use sre_ascii::AsciiSet;
 use sre_chars::constants::{MAXREPEAT, SreCatCode, SreOpcode};
 use sre_chars::string::{StrDrive, StringCursor, UniTable};
+use sre_code::ascii_members::ascii_members;
 use sre_code::members::{has_bit, is_between, is_in_category, is_member};
 use sre_code::operands::{category_code, operand, word};
 

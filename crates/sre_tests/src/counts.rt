@@ -159,7 +159,7 @@ fn matches_leave_the_counts(rt: HostRuntime) -> Result<(), Fail> {
 }
 
 // A literal of 64 letters a and a b, with its block: the overlap words are 0, 1, .., 63, and 0.
-fn long_literal(alloc: Global) -> Result<Vec<u32>, Fail> {
+pub(crate) fn long_literal(alloc: Global) -> Result<Vec<u32>, Fail> {
     let mut words = Vec::from_slice(alloc, &[14, 136, 3, 65, 65, 65, 65])?;
     words.extend_from_slice(&[97; 64])?;
     words.push(98)?;

@@ -9,7 +9,11 @@
 #[cfg(test)]
 mod asking;
 #[cfg(test)]
+mod counting;
+#[cfg(test)]
 mod counts;
+#[cfg(test)]
+mod digits;
 #[cfg(test)]
 mod faults;
 #[cfg(test)]

@@ -1,9 +1,9 @@
 //! The names at the engine's root, and those of its modules.
 
 use sre_engine::{
-    CODESIZE, Code, MAXGROUPS, MAXREPEAT, Request, SRE_MAGIC, SearchIter, SreAtCode, SreCatCode,
-    SreFlag, SreInfo, SreOpcode, State, StrDrive, StringCursor, UniTable, code, constants, engine,
-    string,
+    CODESIZE, Code, EmptyRule, MAXGROUPS, MAXREPEAT, Request, SRE_MAGIC, SearchIter, SreAtCode,
+    SreCatCode, SreFlag, SreInfo, SreOpcode, State, StrDrive, StringCursor, UniTable, code,
+    constants, engine, string,
 };
 use std::alloc::Global;
 use std::convert::TryFrom;
@@ -67,6 +67,8 @@ fn walked(
 #[test]
 fn names_stand_at_the_root_and_in_their_modules(rt: HostRuntime) -> Result<(), Fail> {
     assert!(rt; (CODESIZE, MAXREPEAT, MAXGROUPS) == (4, 4_294_967_295, 2_147_483_647));
+    let rule: constants::EmptyRule = EmptyRule::NonBoundary;
+    assert!(rt; rule as u32 == 1);
     let (flag, claim): (constants::SreFlag, constants::SreInfo) = (SreFlag::ASCII, SreInfo::PREFIX);
     assert!(rt; SRE_MAGIC == 20_221_023 && (flag, claim) == (SreFlag::ASCII, SreInfo::PREFIX));
     let words = words()?;

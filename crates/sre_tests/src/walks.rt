@@ -1,7 +1,7 @@
 //! Walks over all matches, one after the other and as a list.
 
 use sre_engine::engine::{Found, Marks, SreError, all_matches};
-use sre_engine::{Code, Request, SearchIter, State, StrDrive, UniTable};
+use sre_engine::{Code, EmptyRule, Request, SearchIter, State, StrDrive, UniTable};
 use std::alloc::{Allocator, Global};
 use std::test::Fail;
 
@@ -177,5 +177,22 @@ fn walks_have_their_matches(rt: HostRuntime) -> Result<(), Fail> {
         let of_bytes = walks(alloc, text.as_bytes(), code, *flags, wanted)?;
         assert!(rt; of_text && of_bytes, "{words:?} {text:?}");
     }
+    Ok(())
+}
+
+// The rule for non-boundaries goes along in a copy, in a walk and in what is asked next.
+#[test]
+fn the_rule_goes_along(rt: HostRuntime) -> Result<(), Fail> {
+    let alloc = rt.alloc();
+    let uni = UniTable::ascii(alloc);
+    let code = Code::check(alloc, &[6, 4, 1], &uni)?;
+    let mut req = Request::new("", 0, 0, code, false);
+    assert!(rt; req.empty_rule() == EmptyRule::Never);
+    assert!(rt; all_matches(req, &mut State::new(alloc))?.is_empty());
+    req.set_empty_rule(EmptyRule::NonBoundary);
+    let mut walk = SearchIter::new(req, State::new(alloc));
+    assert!(rt; gives(&mut walk, &[(0, 0, &[], -1)])?);
+    assert!(rt; walk.req().empty_rule() == EmptyRule::NonBoundary);
+    assert!(rt; all_matches(req, &mut State::new(alloc))?.len() == 1);
     Ok(())
 }

@@ -1,7 +1,7 @@
 //! Lists that are refused and lists that are taken, lookups, std's table, and refused requests for memory.
 
 use sre_chars::constants::SreCatCode;
-use sre_chars::lists::{Lists, checked_lists, std_lists};
+use sre_chars::lists::{Lists, checked_lists, checked_ranges, std_lists};
 use sre_chars::string::UniError::{AsciiEntry, NotScalar, Unsorted};
 use sre_chars::string::{
     UniError, UniTable, category, lower_ascii, lower_unicode, upper_ascii, upper_unicode,
@@ -287,6 +287,22 @@ fn new_fails_where_a_request_is_refused(rt: HostRuntime) -> Result<(), Fail> {
     let fault = checked_lists(&heap, &lower, &upper, &[(48, 57)]).err();
     assert_eq!(rt; fault, Some(AsciiEntry));
     assert_eq!(rt; heap.left(), 1);
+    Ok(())
+}
+
+// Digits are checked before they are copied, and asked for once.
+#[test]
+fn digits_fail_where_a_request_is_refused(rt: HostRuntime) -> Result<(), Fail> {
+    let digits = [(1632, 1641), (1776, 1785)];
+    for refused in 1..3u64 {
+        let heap = Refusing::new(rt.alloc(), refused);
+        match checked_ranges(&heap, &digits) {
+            Ok(ranges) => assert!(rt; heap.left() == 1 && ranges.as_slice() == digits.as_slice()),
+            Err(error) => assert!(rt; heap.left() == 0 && error == UniError::Memory),
+        }
+    }
+    let heap = Refusing::new(rt.alloc(), 1);
+    assert!(rt; checked_ranges(&heap, &[(48, 57)]).err() == Some(AsciiEntry) && heap.left() == 1);
     Ok(())
 }
 

@@ -52,6 +52,21 @@ pub fn checked_lists<A: Allocator + Copy>(
     })
 }
 
+/// Copies ranges, once they are known to have no fault.
+pub fn checked_ranges<A: Allocator>(
+    alloc: A,
+    ranges: &[(u32, u32)],
+) -> Result<Vec<(u32, u32), A>, UniError>
+    ensures ranges { IfOk result (λ list. list.items ≡ ranges.now) }
+    ensures lawful { OnOk result (list_fault Listing.Ranges 0 ranges.now ≡ None) }
+    ensures refused { IfErr result (λ error.
+        option_or (list_fault Listing.Ranges 0 ranges.now) (Some UniError.Memory) ≡ Some error) }
+    ensures grows { list_fault Listing.Ranges 0 ranges.now ≡ None → OnErr result Refused }
+{
+    check(Listing::Ranges, ranges)?;
+    Ok(sre_growth::from_slice(alloc, ranges)?)
+}
+
 /// The lists of std: both ways into the other case, and its alphanumerics, past ASCII.
 pub fn std_lists<A: Allocator + Copy>(alloc: A) -> Result<Lists<A>, UniError>
     ensures lawful { IfOk result (λ lists.

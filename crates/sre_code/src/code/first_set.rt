@@ -3,44 +3,68 @@
 //! The items have to begin, behind marks, with a literal that is in the set, or with an IN that has the very words of
 //! the set; or with a branch each alternative of which begins so.
 
-ghost use Rattle.std.specs.Prelude.{◌≡◌, ◌+◌, ◌-◌, ◌≤◌, ◌<◌, ◌↔◌, IsTrue, List, length, slice_range};
+ghost use Rattle.std.specs.Prelude.{◌≡◌, ◌≤◌, ◌↔◌, IsTrue, List, length, slice_range};
 ghost use Rattle.std.specs.Bool.{Decides};
 ghost use Rattle.sre_model.specs.Tree.{Tree, SetItem};
+ghost use Rattle.sre_model.specs.Characters.{is_member};
 ghost use Rattle.sre_model.specs.Grammar.{WholeItems};
-ghost use Rattle.sre_model.specs.Standing.{SetStands, HasSet};
 ghost use Rattle.sre_model.specs.Claims.{behind_marks, TestIn, EachTestIn, FirstIn, HasFirstSet};
 ghost use Rattle.sre_code.specs.Fronts.{HasBlock};
 ghost use Rattle.sre_code.specs.Prefixes.{Ends};
-ghost use Rattle.sre_code.specs.FirstSets.{Tells, TellsEach};
+ghost use Rattle.sre_code.specs.FirstSets.{HasBlockSet, IsSetUpTo, Tells, TellsEach};
 
+use crate::ascii_members::ascii_members;
 use crate::code::prefix::behind_marks;
 use crate::code::{set, words};
 use crate::members;
 use crate::operands::know_words;
+use sre_ascii::AsciiSet;
 use sre_chars::constants::SreOpcode;
 use sre_chars::string::UniTable;
 
+/// The set that stands in a block, which ends at `end`, and its ASCII characters where its items tell them at once.
+#[derive(Clone, Copy)]
+pub(crate) struct BlockSet<'a> {
+    words: &'a [u32],
+    end: usize,
+    uni: &'a UniTable,
+    ascii: Option<AsciiSet>,
+}
+
+/// Whether a character is a member.
+fn has(block: &BlockSet<'_>, character: u32) -> bool
+    requires set { HasBlockSet block.now.end block.now.words.now block.now.ascii }
+    ensures { (set : List SetItem) → IsSetUpTo block.now.end block.now.words.now set
+        → result ≡ is_member block.now.uni.now set character }
+{
+    if let Some(members) = block.ascii {
+        if character < 128 {
+            return members.contains(character);
+        }
+    }
+    members::is_member(block.words, block.uni, 5, character)
+}
+
 /// Whether some words of the items are those of the set, with its FAILURE.
-fn are_words_of_set(words: &[u32], end: usize, items: &[u32], start: usize, tail: usize) -> bool
-    requires { (5 ≤ end) × (end ≤ length words.now) }
+fn are_words_of_set(block: &BlockSet<'_>, items: &[u32], start: usize, tail: usize) -> bool
+    requires set { HasBlockSet block.now.end block.now.words.now block.now.ascii }
     ensures { IsTrue result ↔ ((start ≤ tail) × (tail ≤ length items.now)
-        × (slice_range items.now start tail ≡ slice_range words.now 5 end)) }
+        × (slice_range items.now start tail ≡ slice_range block.now.words.now 5 block.now.end)) }
 {
     if start > tail || tail > items.len() {
         return false;
     }
-    items[start..tail] == words[5..end]
+    items[start..tail] == block.words[5..block.end]
 }
 
 /// Whether the test at a place takes characters of the set alone.
 #[tactic(auto, using(crate::proofs::FirstSets::test_laws))]
-fn is_test_in(words: &[u32], end: usize, uni: &UniTable, items: &[u32], place: usize) -> bool
-    requires set { HasSet words.now 5 }
-    requires within { (5 ≤ end) × (end ≤ length words.now) }
-    ensures { (set : List SetItem) → SetStands words.now 5 (end - 1) set
-        → Tells items.now place result (TestIn uni.now set) }
+fn is_test_in(block: &BlockSet<'_>, items: &[u32], place: usize) -> bool
+    requires set { HasBlockSet block.now.end block.now.words.now block.now.ascii }
+    ensures { (set : List SetItem) → IsSetUpTo block.now.end block.now.words.now set
+        → Tells items.now place result (TestIn block.now.uni.now set) }
 {
-    know_words(words);
+    know_words(block.words);
     know_words(items);
     let _length = items.len();
     let Ok(code) = words::opcode(items, place) else {
@@ -50,33 +74,29 @@ fn is_test_in(words: &[u32], end: usize, uni: &UniTable, items: &[u32], place: u
         return false;
     };
     match code {
-        SreOpcode::LITERAL => members::is_member(words, uni, 5, operand),
-        SreOpcode::IN => {
-            are_words_of_set(words, end, items, place + 2, place + 1 + operand as usize)
-        }
+        SreOpcode::LITERAL => has(block, operand),
+        SreOpcode::IN => are_words_of_set(block, items, place + 2, place + 1 + operand as usize),
         _ => false,
     }
 }
 
 /// Whether what begins at a place, behind marks, is such a test.
 #[tactic(auto, using(crate::proofs::FirstSets::passed_told))]
-fn begins_in(words: &[u32], end: usize, uni: &UniTable, items: &[u32], place: usize) -> bool
-    requires set { HasSet words.now 5 }
-    requires within { (5 ≤ end) × (end ≤ length words.now) }
+fn begins_in(block: &BlockSet<'_>, items: &[u32], place: usize) -> bool
+    requires set { HasBlockSet block.now.end block.now.words.now block.now.ascii }
     requires place { place ≤ length items.now }
-    ensures { (set : List SetItem) → SetStands words.now 5 (end - 1) set
-        → Tells items.now place result (λ (t : Tree). TestIn uni.now set (behind_marks t)) }
+    ensures { (set : List SetItem) → IsSetUpTo block.now.end block.now.words.now set
+        → Tells items.now place result (λ (t : Tree). TestIn block.now.uni.now set (behind_marks t)) }
 {
-    is_test_in(words, end, uni, items, behind_marks(items, place))
+    is_test_in(block, items, behind_marks(items, place))
 }
 
 /// Whether each alternative, from the length word at a place on, begins with such a test.
 #[tactic(auto, using(crate::proofs::FirstSets::alternatives_laws))]
-fn each_begins_in(words: &[u32], end: usize, uni: &UniTable, items: &[u32], start: usize) -> bool
-    requires set { HasSet words.now 5 }
-    requires within { (5 ≤ end) × (end ≤ length words.now) }
-    ensures { (set : List SetItem) → SetStands words.now 5 (end - 1) set
-        → TellsEach items.now start result (EachTestIn uni.now set) }
+fn each_begins_in(block: &BlockSet<'_>, items: &[u32], start: usize) -> bool
+    requires set { HasBlockSet block.now.end block.now.words.now block.now.ascii }
+    ensures { (set : List SetItem) → IsSetUpTo block.now.end block.now.words.now set
+        → TellsEach items.now start result (EachTestIn block.now.uni.now set) }
 {
     let _length = items.len();
     let mut place = start;
@@ -87,7 +107,7 @@ fn each_begins_in(words: &[u32], end: usize, uni: &UniTable, items: &[u32], star
         if span == 0 {
             return true;
         }
-        if !begins_in(words, end, uni, items, place + 1) {
+        if !begins_in(block, items, place + 1) {
             return false;
         }
         place += span as usize;
@@ -96,19 +116,18 @@ fn each_begins_in(words: &[u32], end: usize, uni: &UniTable, items: &[u32], star
 
 /// Whether the items begin, behind marks, with such a test, or with a branch whose alternatives do.
 #[tactic(auto, using(crate::proofs::FirstSets::first_laws))]
-fn first_in(words: &[u32], end: usize, uni: &UniTable, items: &[u32], place: usize) -> bool
-    requires set { HasSet words.now 5 }
-    requires within { (5 ≤ end) × (end ≤ length words.now) }
-    ensures { (set : List SetItem) → SetStands words.now 5 (end - 1) set
-        → Tells items.now place result (FirstIn uni.now set) }
+fn first_in(block: &BlockSet<'_>, items: &[u32], place: usize) -> bool
+    requires set { HasBlockSet block.now.end block.now.words.now block.now.ascii }
+    ensures { (set : List SetItem) → IsSetUpTo block.now.end block.now.words.now set
+        → Tells items.now place result (FirstIn block.now.uni.now set) }
 {
     let Ok(code) = words::opcode(items, place) else {
         return false;
     };
     let _length = items.len();
     match code {
-        SreOpcode::BRANCH => each_begins_in(words, end, uni, items, place + 1),
-        _ => is_test_in(words, end, uni, items, place),
+        SreOpcode::BRANCH => each_begins_in(block, items, place + 1),
+        _ => is_test_in(block, items, place),
     }
 }
 
@@ -128,5 +147,11 @@ pub fn is_confirmed(words: &[u32], end: usize, uni: &UniTable, items: &[u32]) ->
     let Ok(()) = set::items(words, 5, end - 1) else {
         return false;
     };
-    first_in(words, end, uni, items, behind_marks(items, 0))
+    let block = BlockSet {
+        words,
+        end,
+        uni,
+        ascii: ascii_members(words, 5),
+    };
+    first_in(&block, items, behind_marks(items, 0))
 }

@@ -9,9 +9,9 @@ ghost use Rattle.sre_engine.specs.Members.{IsFirstSet, AreTold, NextMember};
 
 use sre_ascii::AsciiSet;
 use sre_chars::string::{StrDrive, StringCursor};
+use sre_code::ascii_members::ascii_members;
 use sre_code::members::is_member;
 use sre_request::Request;
-use sre_request::ascii::ascii_members;
 use sre_request::text::read;
 
 // The ASCII characters of the first set, where its items tell them at once.

@@ -112,17 +112,15 @@ fn next_wanted<S: StrDrive>(
 
 // The cursor at which the line behind one begins, where there is such a line.
 #[inline(always)]
+#[tactic(auto, using(crate::proofs::Starting::line_sought, crate::proofs::Starting::no_line_sought))]
 fn next_line<S: StrDrive>(req: &Request<'_, S>, cursor: StringCursor) -> Option<StringCursor>
-    requires { (run_of req.now).stands cursor cursor.position }
+    requires stands { (run_of req.now).stands cursor cursor.position }
+    requires inside { cursor.position ≤ end_of req.now }
     ensures { NextHeld (run_of req.now) SreAtCode.BEGINNING_LINE cursor.position result }
 {
     let mut next = cursor;
-    'character: while next.position() < req.end() {
-        let (character, after) = read(req, next);
-        next = after;
-        if character == u32::from('\n') {
-            return Some(next);
-        }
+    if req.string().seek(&mut next, u32::from('\n'), req.end()) {
+        return Some(next);
     }
     None
 }

@@ -9,7 +9,7 @@ ghost use Rattle.std.specs.Prelude.{slice_index, None, IfSome, not, ◌||◌, na
 ghost use Rattle.sre_code.specs.Codes.{hints_of};
 ghost use Rattle.sre_request.specs.Requests.{start_of, end_of, code_of, match_all_of, run_of};
 ghost use Rattle.sre_engine.specs.Prefixed.{IsPrefix};
-ghost use Rattle.sre_engine.specs.Scans.{Overlapping, NoPlace, Here, FirstSame, NoneSame};
+ghost use Rattle.sre_engine.specs.Scans.{Overlapping, NoPlace, Here, FirstSame};
 
 use crate::engine::next_start::looked_at;
 use sre_chars::string::{StrDrive, StringCursor};
@@ -102,6 +102,7 @@ fn is_same(compared: &mut u64, character: u32, word: u32) -> bool
 
 // Goes on from a cursor behind the first character that is a word, if there is one, else to the window's end.
 #[inline(always)]
+#[tactic(auto, using(crate::proofs::Steps::first_sought))]
 fn first_same<S: StrDrive>(
     req: &Request<'_, S>,
     word: u32,
@@ -112,14 +113,8 @@ fn first_same<S: StrDrive>(
     ensures { FirstSame (run_of req.now) word start result.0 result.1 }
 {
     let mut cursor = start;
-    'character: while cursor.position() < req.end() {
-        let (character, after) = read(req, cursor);
-        cursor = after;
-        if character == word {
-            return (true, cursor);
-        }
-    }
-    (false, cursor)
+    let is_there = req.string().seek(&mut cursor, word, req.end());
+    (is_there, cursor)
 }
 
 // The same; each character that is passed was compared once with the word.

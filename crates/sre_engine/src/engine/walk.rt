@@ -1,12 +1,12 @@
 //! One step of a walk: the next match, and what is asked after it.
 
-ghost use Rattle.std.specs.Prelude.{◌≡◌, ◌<◌, IfOk, OnErr, true, false};
+ghost use Rattle.std.specs.Prelude.{◌≡◌, ◌<◌, ℕ, IfOk, OnErr, true, false, Some};
 ghost use Rattle.sre_model.specs.Tree.{Tree};
 ghost use Rattle.sre_model.specs.Grammar.{Whole};
 ghost use Rattle.sre_model.specs.Marks.{no_marks};
 ghost use Rattle.sre_model.specs.Found.{walk};
 ghost use Rattle.sre_model.specs.WalkBounds.{most_matches};
-ghost use Rattle.sre_code.specs.Codes.{words_of};
+ghost use Rattle.sre_code.specs.Codes.{words_of, hints_of};
 ghost use Rattle.sre_request.specs.Requests.{start_of, code_of, asked_of, stands_in};
 ghost use Rattle.sre_engine.specs.Walks.{StepsTo, GoesOn};
 ghost use Rattle.sre_growth.specs.Refusal.{Refused};
@@ -35,6 +35,8 @@ pub(crate) fn step<S: StrDrive, A: Allocator + Copy>(
     ensures here { stands_in req.new cursor.new (start_of req.new) }
     ensures err { OnErr result ((req.new ≡ req.old) × (state.new.marks ≡ no_marks)) }
     ensures refused { OnErr result Refused }
+    ensures literal { (l k : ℕ) → (hints_of (code_of req.old)).prefix ≡ Some (l, k)
+        → (hints_of (code_of req.old)).literal ≡ true → OnErr result ⊥ }
 {
     if !state.search_from(req, *cursor)? {
         return Ok(false);

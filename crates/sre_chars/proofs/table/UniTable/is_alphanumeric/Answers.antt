@@ -8,4 +8,4 @@ returns-else-ch-lt128 c =
     let lists = c.self.inside in
     let table = table_of lists.lower.items lists.upper.items lists.alnum.items in
     rw (c.is_in_ranges.ensures, c.deref.ensures.value, ← c.self.view_is)
-    (sym (is_alphanumeric-past_ascii table _ c.self.invariant c.if-ch-lt128.false))
+    (sym (is_alphanumeric-past_ascii table _ c.self.invariant.0 c.if-ch-lt128.false))

@@ -1,5 +1,7 @@
+use Rattle.std.proofs.Common.{arith}
 use Rattle.sre_code.proofs.FirstSets.{no_set_with_prefix, no_set_flag, no_set_room, no_set_failure, first_set_told}
 use Rattle.sre_code.proofs.FirstSets.{set_there}
+use Rattle.sre_code.proofs.AsciiMembers.{told}
 use Rattle.sre_code.proofs.code.first_set.is_confirmed.Goals as goal
 use Rattle.sre_code.proofs.code.first_set.is_confirmed.Goals.{then-words-eq1-via-then-words-eq1}
 use Rattle.sre_code.proofs.code.first_set.is_confirmed.Goals.{then-words-eq1-via-else-words-eq1+then-words-eq0}
@@ -22,9 +24,19 @@ pub returns-then-words-end : goal.returns-then-words-end
 returns-then-words-end c = λ tree whole.
     no_set_failure c.args.words.now c.args.uni.now tree c.args.end c.requires.block c.if-words-end.true
 
-pub first_in-requires-clause-set : goal.first_in-requires-clause-set
-first_in-requires-clause-set c =
+pub ascii_members-requires : goal.ascii_members-requires
+ascii_members-requires c =
     set_there c.args.words.now c.args.end c.requires.block c.if-words-end.false c.in-Ok.ensures
+
+pub first_in-requires : goal.first_in-requires
+first_in-requires c = record {
+  set = record {
+    has = set_there c.args.words.now c.args.end c.requires.block c.if-words-end.false c.in-Ok.ensures;
+    long = omega (arith, c.if-end-lt6.false);
+    within = omega (arith, c.requires.block.within);
+    told = told c.args.words.now 5 c.ascii_members.result c.ascii_members.ensures;
+  };
+}
 
 pub returns : goal.returns
 returns c = λ tree whole.

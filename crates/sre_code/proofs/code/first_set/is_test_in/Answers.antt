@@ -3,7 +3,8 @@ use Rattle.sre_code.proofs.code.first_set.is_test_in.Goals as goal
 
 pub returns-in-IN : goal.returns-in-IN
 returns-in-IN c = λ set s.
-    set_told c.args.words.now c.args.items.now c.args.end c.args.place c.in-Ok-operand.operand c.args.uni.now set
-    c.are_words_of_set.result c.know_words.ensures c.know_words-2.ensures c.requires.within.0 c.requires.within.1
+    let block = c.args.block.now in
+    set_told block.words.now c.args.items.now block.end c.args.place c.in-Ok-operand.operand block.uni.now set
+    c.are_words_of_set.result c.know_words.ensures c.know_words-2.ensures c.requires.set.long c.requires.set.within
     (rw c.in-IN.is at c.in-Ok.ensures).1 c.in-Ok-operand.ensures.1 c.are_words_of_set.ensures.0
     c.are_words_of_set.ensures.1 s

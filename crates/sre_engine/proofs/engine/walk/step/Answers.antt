@@ -32,6 +32,7 @@ goes_on g c =
       end = last.end ∙ first.end;
       pattern_codes = last.pattern_codes ∙ first.pattern_codes;
       match_all = last.match_all ∙ first.match_all;
+      empty_rule = last.empty_rule ∙ first.empty_rule;
     }
 
 pub returns-clause-ok : goal.returns-clause-ok

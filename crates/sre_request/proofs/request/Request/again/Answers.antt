@@ -13,6 +13,7 @@ returns g c =
       pattern_codes = r.pattern_codes;
       match_all = r.match_all;
       must_advance = r.must_advance;
+      empty_rule = r.empty_rule;
       in_window = w;
     })
     (×_prop (×_prop le_prop le_prop) le_prop _ _)

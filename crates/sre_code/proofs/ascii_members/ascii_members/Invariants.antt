@@ -1,6 +1,6 @@
 use Rattle.std.proofs.Common.{◌-◌, length}
-use Rattle.sre_request.specs.AsciiSets.{AsciiLeft}
-use Rattle.sre_request.proofs.ascii.ascii_members.Given as goal
+use Rattle.sre_code.specs.AsciiSets.{AsciiLeft}
+use Rattle.sre_code.proofs.ascii_members.ascii_members.Given as goal
 
 abbrev pub invariant-item : goal.invariant-item
 invariant-item l = AsciiLeft l.words l.start l.place l.taken l.members l.left

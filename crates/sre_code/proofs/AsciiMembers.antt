@@ -1,6 +1,6 @@
 -- The ASCII characters of a set, item by item.
 use Rattle.std.proofs.Common.{ℕ, ◌+◌, ◌≡◌, ◌<◌, Bool, true, false, not, cond, ◌&&◌, ◌||◌, nat_eq, nat_lt, List, refl}
-use Rattle.std.proofs.Common.{sym, ◌∙◌, ap, subst, slice_range, arith}
+use Rattle.std.proofs.Common.{sym, ◌∙◌, ap, subst, slice_range, arith, Option, Some, None, IfSome}
 use Rattle.std.proofs.lemmas.Bool.Decides.{nat_tests}
 use Rattle.sre_ascii.specs.Sets.{contains}
 use Rattle.sre_ascii.specs.declared.AsciiSet.{AsciiSet}
@@ -14,7 +14,7 @@ use Rattle.sre_model.specs.Characters.{item_holds, verdict, is_member}
 use Rattle.sre_model.specs.Grammar.{Word, Opcode}
 use Rattle.sre_model.specs.Standing.{SetStands, HasSet, ItemSays}
 use Rattle.sre_model.proofs.Members.{single_says, range_says, category_says, charset_says, negated, nothing_left}
-use Rattle.sre_request.specs.AsciiSets.{HoldsFor, AsciiLeft}
+use Rattle.sre_code.specs.AsciiSets.{HoldsFor, AsciiLeft, AreTold}
 
 -- an item that says what an ASCII set has
 says_so : (ws : List ℕ) (table : Table) (i c next : ℕ) (says has : Bool) → c < 128 → has ≡ (nat_lt c 128 && says)
@@ -133,3 +133,10 @@ ascii_whole ws start i taken members left after l w a table j set s c k =
     let none = nothing_left ws i j f.0 w f.1 in
     a c ∙ ap (λ b. contains members c || b) (sym (turned_about (contains left c) (not taken)))
     ∙ sym (f.2 ∙ ap (λ rest. contains members c || (contains left c && verdict table taken rest c)) none)
+
+-- what a reader of a set tells is told of each set that stands there
+pub told : (ws : List ℕ) (i : ℕ) (members : Option AsciiSet)
+    → ((table : Table) (j : ℕ) (set : List SetItem) → SetStands ws i j set
+    → IfSome members (λ x. (c : ℕ) → c < 128 → contains x c ≡ is_member table set c)) → AreTold ws i members
+told ws i None each = tt
+told ws i (Some x) each = record { each = λ table j set stands. each table j set stands }

@@ -2,8 +2,8 @@ use Rattle.std.proofs.Common.{ℕ, ◌≡◌, List, subst, arith}
 use Rattle.sre_chars.specs.declared.constants.SreOpcode.{SreOpcode}
 use Rattle.sre_model.specs.Grammar.{Opcode}
 use Rattle.sre_model.proofs.Members.{single_room, range_room, category_there, charset_room}
-use Rattle.sre_request.proofs.AsciiMembers.{literal_holds, range_holds, category_holds, charset_holds}
-use Rattle.sre_request.proofs.ascii.ascii_item.Goals as goal
+use Rattle.sre_code.proofs.AsciiMembers.{literal_holds, range_holds, category_holds, charset_holds}
+use Rattle.sre_code.proofs.ascii_members.ascii_item.Goals as goal
 
 opcode_is : (ws : List ℕ) (i : ℕ) (o p : SreOpcode) → o ≡ p → Opcode ws i o → Opcode ws i p
 opcode_is ws i o p e w = subst (Opcode ws i) e w
