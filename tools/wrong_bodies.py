@@ -25,9 +25,6 @@ import tempfile
 ROOT = os.path.dirname(os.path.dirname(os.path.realpath(__file__)))
 PARTS = ("src", "specs", "proofs")
 
-# So many bodies go into one bundle at most: the others run beside it.
-MOST = 16
-
 # An answer that names what a wrong body took away says nothing of the contract.
 TAKEN_AWAY = re.compile(r"has no field|is not in scope|has no `|was not admitted")
 
@@ -128,7 +125,7 @@ def bundles(bodies, crate, is_alone=False):
         if not body.function or not body.pairs or body.written({}, crate.folder) is None:
             bad.append(f"{body.label(crate)}: BAD: it names no function, or an old text does not stand once")
             continue
-        for bundle in [] if is_alone else [it for it in made if len(it["bodies"]) < MOST]:
+        for bundle in [] if is_alone else made:
             texts = body.written(bundle["texts"], crate.folder)
             if texts and body.function not in {it.function for it in bundle["bodies"]}:
                 bundle["texts"], bundle["bodies"] = texts, [*bundle["bodies"], body]
