@@ -3,7 +3,7 @@
 //! ASCII is fixed in the code. Past it a table holds four rising lists, two of (from, to) and two
 //! of (low, high), and a character is looked up by halving.
 
-ghost use Rattle.std.specs.Prelude.{◌≡◌, ◌==◌, nat_le, None, Some, IfOk, OnOk, IfErr, IsOkUnless, OnErr};
+ghost use Rattle.std.specs.Prelude.{◌≡◌, ◌==◌, nat_le, [], None, Some, IfOk, OnOk, IfErr, IsOkUnless, OnErr};
 ghost use Rattle.std.specs.Option.{option_or};
 ghost use Rattle.sre_chars.specs.Tables.{ascii_table, table_of, lower_ascii, upper_ascii, lower_of, upper_of};
 ghost use Rattle.sre_chars.specs.Tables.{is_alphanumeric, is_ascii_alphanumeric, is_in_ranges, last_up_to, mapped};
@@ -173,6 +173,7 @@ impl UniTable {
     ///
     /// Only [`UniError::Memory`], where a growth of a list was refused.
     pub fn from_std(alloc: Global) -> Result<UniTable, UniError>
+        ensures digits { IfOk result (λ table. table.digits ≡ []) }
         ensures refused { IsOkUnless result UniError.Memory }
         ensures grows { OnErr result Refused }
     {
