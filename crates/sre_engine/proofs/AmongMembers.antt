@@ -1,19 +1,16 @@
 -- Where the members of a confirmed first set are, and what a search along them comes to.
-use Rattle.std.proofs.Common.{◌≡◌, ◌≤◌, ◌<◌, ◌+◌, ◌-◌, ◌&&◌, ℕ, List, Bool, true, false, Option, Some, None, refl, sym}
-use Rattle.std.proofs.Common.{ap, ◌∙◌, subst, arith, inl, inr, nat_lt, IfSome}
+use Rattle.std.proofs.Common.{◌≡◌, ◌≤◌, ◌+◌, ◌-◌, ◌&&◌, ℕ, List, true, false, Option, Some, None, refl, sym}
+use Rattle.std.proofs.Common.{ap, ◌∙◌, subst, arith, inl, inr, nat_lt}
 use Rattle.std.proofs.lemmas.Bool.{cases_lt}
 use Rattle.std.proofs.lemmas.Bool.Decides.{nat_tests}
-use Rattle.sre_ascii.specs.Sets.{contains}
-use Rattle.sre_ascii.specs.declared.AsciiSet.{AsciiSet}
-use Rattle.sre_chars.specs.Tables.{Table}
 use Rattle.sre_chars.specs.declared.string.StringCursor.{StringCursor}
 use Rattle.sre_model.specs.Tree.{Tree, SetItem}
 use Rattle.sre_model.specs.Marks.{no_marks}
 use Rattle.sre_model.specs.Characters.{is_member}
 use Rattle.sre_model.specs.Subject.{char_at}
-use Rattle.sre_model.specs.Grammar.{Whole, IsCode, skip}
+use Rattle.sre_model.specs.Grammar.{Whole, IsCode}
 use Rattle.sre_model.specs.Claims.{HasFirstSet}
-use Rattle.sre_model.specs.Standing.{HasSet, SetStands}
+use Rattle.sre_model.specs.Standing.{HasSet}
 use Rattle.sre_model.specs.Found.{Asked, subject_of, at_start, found}
 use Rattle.sre_model.specs.Prefixes.{how_many}
 use Rattle.sre_code.specs.Codes.{words_of, uni_of, hints_of}
@@ -21,7 +18,7 @@ use Rattle.sre_code.specs.declared.code.Code.{Code}
 use Rattle.sre_code.proofs.Checked.{code_tree, code_confirmed}
 use Rattle.sre_engine.specs.Answers.{Shown}
 use Rattle.sre_engine.specs.Counts.{CountsUpTo}
-use Rattle.sre_engine.specs.Members.{IsFirstSet, is_among, NoMember, AtMember, NextMember, AreTold}
+use Rattle.sre_engine.specs.Members.{IsFirstSet, is_among, NoMember, AtMember, NextMember}
 use Rattle.sre_engine.specs.Prefixed.{IsLast, FitsAt}
 use Rattle.sre_engine.proofs.Answering.{NoneBefore}
 use Rattle.sre_engine.proofs.FirstMembers.{unmembered, no_prefix}
@@ -158,12 +155,3 @@ counts_next a code last s n p next to seen set is fits from tried x few one l no
     counts_members a code s (next.position + 1) to seen set
     (tried_more a (words_of code) n s.started p next from one tried x) l
     (fit_more a code last n s.started p next.position is fits from x.from few one) none
-
--- the ASCII characters that are told of each set there are those of the first one
-pub told : (words : List ℕ) (members : Option AsciiSet)
-    → ((table : Table) (j : ℕ) (set : List SetItem) → SetStands words 5 j set
-    → IfSome members (λ x. (c : ℕ) → c < 128 → contains x c ≡ is_member table set c)) → AreTold words members
-told words None each = tt
-told words (Some x) each = record {
-  each = λ table set own. each table (skip words 1 - 1) set (record { items = own.0; ends = own.1 });
-}

@@ -1,9 +1,6 @@
 -- The first set of a code, and where a match may begin by it.
 -- Public clauses rest on it.
 use Rattle.std.specs.Prelude.{ℕ, ◌-◌, ◌≡◌, ◌<◌, ◌≤◌, Bool, true, false, List, Option, Some, None}
-use Rattle.sre_ascii.specs.Sets.{contains}
-use Rattle.sre_ascii.specs.declared.AsciiSet.{AsciiSet}
-use Rattle.sre_chars.specs.Tables.{Table}
 use Rattle.sre_chars.specs.declared.constants.SreOpcode.TheVariants as opcode
 use Rattle.sre_chars.specs.declared.string.StringCursor.{StringCursor}
 use Rattle.sre_model.specs.Tree.{SetItem}
@@ -19,15 +16,6 @@ IsFirstSet words set = ReadsSet words 5 (skip words 1 - 1) set × Opcode words (
 -- whether the window's character at a position is a member
 abbrev pub is_among : Asked → List SetItem → ℕ → Bool
 is_among a set p = after (subject_of a) (is_member a.table set) p
-
--- the ASCII characters of a first set, where they are told
-pub record AreMembers (words : List ℕ) (members : AsciiSet) : Type 0 where
-  pub each : (table : Table) (set : List SetItem) → IsFirstSet words set → (c : ℕ) → c < 128
-      → contains members c ≡ is_member table set c
-
-abbrev pub AreTold : List ℕ → Option AsciiSet → Type 0
-AreTold words None = Unit {0}
-AreTold words (Some members) = AreMembers words members
 
 -- no position from one on up to before another one is at a member
 pub record NoMember (a : Asked) (set : List SetItem) (p q : ℕ) : Type 0 where

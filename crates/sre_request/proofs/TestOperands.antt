@@ -2,7 +2,7 @@
 use Rattle.std.proofs.Common.{ℕ, ◌+◌, ◌-◌, ◌≡◌, ◌<◌, List, length, sym, subst, arith}
 use Rattle.sre_chars.specs.declared.constants.SreOpcode.{SreOpcode}
 use Rattle.sre_model.specs.Tree.{Test, Fold, Literal, NotLiteral, In}
-use Rattle.sre_model.specs.Grammar.{Word, Opcode, test_opcode, literal_opcode, not_literal_opcode, set_opcode}
+use Rattle.sre_model.specs.Grammar.{Opcode, test_opcode, literal_opcode, not_literal_opcode, set_opcode}
 use Rattle.sre_model.specs.Grammar.{TestOperands}
 use Rattle.sre_model.specs.Standing.{HasSet, HasTest}
 use Rattle.sre_model.proofs.Words.{same_opcode, word_within}

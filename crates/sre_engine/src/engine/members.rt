@@ -3,9 +3,10 @@
 ghost use Rattle.std.specs.Prelude.{◌≡◌, ◌≤◌, List, true, IfSome};
 ghost use Rattle.sre_model.specs.Tree.{SetItem};
 ghost use Rattle.sre_model.specs.Characters.{is_member};
+ghost use Rattle.sre_code.specs.AsciiSets.{AreTold};
 ghost use Rattle.sre_code.specs.Codes.{words_of, uni_of, hints_of};
 ghost use Rattle.sre_request.specs.Requests.{end_of, code_of, asked_of, run_of};
-ghost use Rattle.sre_engine.specs.Members.{IsFirstSet, AreTold, NextMember};
+ghost use Rattle.sre_engine.specs.Members.{IsFirstSet, NextMember};
 
 use sre_ascii::AsciiSet;
 use sre_chars::string::{StrDrive, StringCursor};
@@ -18,7 +19,7 @@ use sre_request::text::read;
 #[inline(always)]
 fn members_told<S: StrDrive>(req: &Request<'_, S>) -> Option<AsciiSet>
     requires { (hints_of (code_of req.now)).first_set ≡ true }
-    ensures { AreTold (words_of (code_of req.now)) result }
+    ensures { AreTold (words_of (code_of req.now)) 5 result }
 {
     ascii_members(req.pattern_codes().words(), 5)
 }
@@ -27,7 +28,7 @@ fn members_told<S: StrDrive>(req: &Request<'_, S>) -> Option<AsciiSet>
 #[inline(always)]
 fn takes<S: StrDrive>(req: &Request<'_, S>, told: Option<AsciiSet>, character: u32) -> bool
     requires set { (hints_of (code_of req.now)).first_set ≡ true }
-    requires told { AreTold (words_of (code_of req.now)) told }
+    requires told { AreTold (words_of (code_of req.now)) 5 told }
     ensures { (set : List SetItem) → IsFirstSet (words_of (code_of req.now)) set
         → result ≡ is_member (uni_of (code_of req.now)) set character }
 {
@@ -48,7 +49,7 @@ fn next_taken<S: StrDrive>(
     start: StringCursor,
 ) -> Option<StringCursor>
     requires set { (hints_of (code_of req.now)).first_set ≡ true }
-    requires told { AreTold (words_of (code_of req.now)) told }
+    requires told { AreTold (words_of (code_of req.now)) 5 told }
     requires stands { (run_of req.now).stands start start.position }
     requires inside { start.position ≤ end_of req.now }
     ensures next { NextMember (asked_of req.now) (words_of (code_of req.now)) start.position result }

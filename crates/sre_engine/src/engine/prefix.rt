@@ -100,25 +100,10 @@ fn is_same(compared: &mut u64, character: u32, word: u32) -> bool
     character == word
 }
 
-// Goes on from a cursor behind the first character that is a word, if there is one, else to the window's end.
+// Goes on from a cursor behind the first character that is a word, if there is one, else to the window's end. Each
+// character that is passed was compared once with the word.
 #[inline(always)]
 #[tactic(auto, using(crate::proofs::Steps::first_sought))]
-fn first_same<S: StrDrive>(
-    req: &Request<'_, S>,
-    word: u32,
-    start: StringCursor,
-) -> (bool, StringCursor)
-    requires stands { (run_of req.now).stands start start.position }
-    requires inside { start.position ≤ end_of req.now }
-    ensures { FirstSame (run_of req.now) word start result.0 result.1 }
-{
-    let mut cursor = start;
-    let is_there = req.string().seek(&mut cursor, word, req.end());
-    (is_there, cursor)
-}
-
-// The same; each character that is passed was compared once with the word.
-#[inline(always)]
 fn behind_first<S: StrDrive>(
     req: &Request<'_, S>,
     word: u32,
@@ -131,9 +116,10 @@ fn behind_first<S: StrDrive>(
     ensures first { FirstSame (run_of req.now) word start result.0 result.1 }
     ensures counted { compared.new ≡ compared.old + (result.1.position - start.position) }
 {
-    let first = first_same(req, word, start);
-    *compared += (first.1.position() - start.position()) as u64;
-    first
+    let mut cursor = start;
+    let is_there = req.string().seek(&mut cursor, word, req.end());
+    *compared += (cursor.position() - start.position()) as u64;
+    (is_there, cursor)
 }
 
 // Goes past the next character, to the longest front of the prefix that ends behind it.

@@ -1,5 +1,3 @@
-use Rattle.std.proofs.Common.{arith, ap, true}
-use Rattle.sre_chars.specs.Texts.{Sought}
 use Rattle.sre_chars.proofs.Seeks.{none_between, first_between}
 use Rattle.sre_chars.proofs.bytes.RefSliceU8StrDrive.seek.Goals as goal
 

@@ -2,8 +2,9 @@ use Rattle.std.proofs.Common.{◌≡◌, ◌∙◌, ap, subst, sym, List, ℕ}
 use Rattle.sre_code.specs.Codes.{words_of}
 use Rattle.sre_request.specs.Requests.{code_of}
 use Rattle.sre_model.specs.Standing.{HasSet}
-use Rattle.sre_engine.specs.Members.{AreTold}
-use Rattle.sre_engine.proofs.AmongMembers.{set_there, told}
+use Rattle.sre_code.specs.AsciiSets.{AreTold}
+use Rattle.sre_code.proofs.AsciiMembers.{told}
+use Rattle.sre_engine.proofs.AmongMembers.{set_there}
 use Rattle.sre_engine.proofs.engine.members.members_told.Goals as goal
 
 pub ascii_members-requires : goal.ascii_members-requires
@@ -16,5 +17,5 @@ pub returns : goal.returns
 returns g c =
     let read : c.words.result.now ≡ words_of (code_of c.args.req.now) =
     c.words.ensures.same ∙ ap words_of c.pattern_codes.ensures in
-    subst (λ (ws : List ℕ). AreTold ws c.ascii_members.result) read
-    (told c.words.result.now c.ascii_members.result c.ascii_members.ensures)
+    subst (λ (ws : List ℕ). AreTold ws 5 c.ascii_members.result) read
+    (told c.words.result.now 5 c.ascii_members.result c.ascii_members.ensures)

@@ -5,7 +5,7 @@ use Rattle.sre_request.specs.Requests.{start_of, code_of, asked_of, stands_in}
 use Rattle.sre_engine.specs.Prefixed.{FitsAt}
 use Rattle.sre_engine.proofs.Anchored.{anchored_nowhere}
 use Rattle.sre_engine.proofs.Answering.{answers_yes, answers_no, none_at, some_at, span_at, found_first, none_yet}
-use Rattle.sre_engine.proofs.Hinting.{past_none, counts_tried}
+use Rattle.sre_engine.proofs.Hinting.{past_none}
 use Rattle.sre_engine.proofs.engine.state.State.search_anchored.Goals as goal
 
 pub returns-then-is_past-clause-ok : goal.returns-then-is_past-clause-ok

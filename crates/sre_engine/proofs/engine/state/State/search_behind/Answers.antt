@@ -1,4 +1,4 @@
-use Rattle.std.proofs.Common.{◌≡◌, true, false, refl, sym, ◌∙◌, subst, arith, rules}
+use Rattle.std.proofs.Common.{refl, subst, arith, rules}
 use Rattle.sre_code.specs.Codes.{words_of, hints_of}
 use Rattle.sre_request.specs.Requests.{code_of, asked_of, stands_in, run_of}
 use Rattle.sre_engine.specs.Starts.{NoneUntil}

@@ -1,8 +1,7 @@
-use Rattle.std.proofs.Common.{◌≡◌, ◌≤◌, ◌+◌, ℕ, Some, refl, sym, subst, arith, rules}
-use Rattle.sre_model.specs.Found.{at_start}
+use Rattle.std.proofs.Common.{◌≤◌, ◌+◌, refl, subst, arith, rules}
 use Rattle.sre_code.specs.Codes.{words_of, hints_of}
 use Rattle.sre_code.proofs.Checked.{code_tree, items_whole}
-use Rattle.sre_request.specs.Requests.{start_of, code_of, asked_of, stands_in, run_of}
+use Rattle.sre_request.specs.Requests.{code_of, asked_of, stands_in}
 use Rattle.sre_engine.specs.Prefixed.{FitsAt}
 use Rattle.sre_engine.specs.Starts.{NoneUntil}
 use Rattle.sre_engine.proofs.Answering.{answers_yes, answers_no, none_at, some_at, span_at, found_first}

@@ -1,7 +1,5 @@
 use Rattle.std.proofs.Common.{◌≡◌, ℕ, List, refl, ap, ◌∙◌}
 use Rattle.std.proofs.Common.{subst, arith, rules}
-use Rattle.sre_model.specs.Tree.{Tree}
-use Rattle.sre_model.specs.Found.{Asked}
 use Rattle.sre_code.specs.Codes.{words_of, items_of, hints_of}
 use Rattle.sre_request.specs.Requests.{start_of, code_of, asked_of, stands_in, run_of}
 use Rattle.sre_engine.specs.Prefixed.{FitsAt}
