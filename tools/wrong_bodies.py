@@ -28,6 +28,10 @@ PARTS = ("src", "specs", "proofs")
 # An answer that names what a wrong body took away says nothing of the contract.
 TAKEN_AWAY = re.compile(r"has no field|is not in scope|has no `|was not admitted")
 
+# Where a function's answers are refused for their own text, a check tells which goals stay open, and offers no files
+# for them. Its offers take a second pass, as long as a third of the first.
+NO_OFFERS = "\nno_offers : no_such_type\nno_offers = ?\n"
+
 
 def read(path):
     with open(path, encoding="utf-8") as file:
@@ -139,7 +143,7 @@ def refusals(said, crate):
     """What a check says of each function that is not proved: the goals of its own that stay open."""
     open_goals, told = {}, []
     for line in said.split("\n"):
-        goal = re.match(r"note: \S+:\d+:\d+: it is not proved .*\(`([^`]+)`\)", line)
+        goal = re.match(r"note: \S+:\d+:\d+: (?:it is not proved|`search` found no proof) .*\(`([^`]+)`\)", line)
         ended = re.match(rf"(?:fn|impl|struct|enum) (?:{crate.name}::(\S+): (no proof|not proved)(.*))?", line)
         if goal:
             told.append(goal[1])
@@ -190,8 +194,8 @@ class Trial:
         words = [f"{self.kit}/bin/rattle", "check", *self.words, "--incremental", kept, "--progress"]
         return [*words, *(word for it in functions for word in ("--only", it))]
 
-    def place(self, name, texts):
-        """A copy of the crate with these texts."""
+    def place(self, name, texts, functions=()):
+        """A copy of the crate with these texts, in which a check offers nothing for these functions."""
         folder = f"{self.room}/{self.crate.name}-{name}"
         for part in PARTS:
             if os.path.isdir(f"{self.crate.folder}/{part}"):
@@ -199,6 +203,11 @@ class Trial:
         for file, text in texts.items():
             with open(f"{folder}/{file}", "w", encoding="utf-8") as it:
                 it.write(text)
+        for function in functions:
+            answers = f"{folder}/proofs/{function.replace('::', '/')}/Answers.antt"
+            os.makedirs(os.path.dirname(answers), exist_ok=True)
+            with open(answers, "a", encoding="utf-8") as it:
+                it.write(NO_OFFERS)
         return folder
 
     def unchanged(self, run):
@@ -208,12 +217,13 @@ class Trial:
     def bundle(self, number, bundle, run):
         """Checks a bundle's functions and what they call. Where nothing is kept yet, the work of this check is; else it
         works over a copy, since a check takes from kept work what it changed."""
-        folder, kept = self.place(f"bundle-{number}", bundle["texts"]), self.kept
+        functions = [it.function for it in bundle["bodies"]]
+        folder, kept = self.place(f"bundle-{number}", bundle["texts"], functions), self.kept
         is_first = not os.path.isdir(kept)
         if not is_first:
             kept = f"{self.kept}-{number}"
             shutil.copytree(self.kept, kept)
-        said = run(self.command(kept, [it.function for it in bundle["bodies"]]), folder)
+        said = run(self.command(kept, functions), folder)
         if not is_first:
             shutil.rmtree(kept)
         return list(judged(bundle, self.crate, said))

@@ -1,7 +1,6 @@
 //! Large codes, marks and texts: with ample memory there is no error.
 
 use crate::asking::{Call, Ends, ends};
-use crate::faults::refusal;
 use sre_engine::code::CodeError;
 use sre_engine::{Code, Request, State, UniTable};
 use std::alloc::Global;
@@ -120,7 +119,8 @@ fn large_inputs_are_answered(rt: HostRuntime) -> Result<(), Fail> {
     }
     let mut cut = nested_groups(alloc)?;
     let _last = cut.pop();
-    assert!(rt; refusal(alloc, &cut) == Some(CodeError::Truncated(300_002)));
+    let error = Code::check(alloc, &cut, &uni).err();
+    assert!(rt; error == Some(CodeError::Truncated(300_002)));
     assert!(rt; far_group(alloc, &uni)? == (10_002, 5_001, Some(1)));
     Ok(())
 }

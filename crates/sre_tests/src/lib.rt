@@ -1,9 +1,8 @@
 //! Tests of the engine: what neither a clause of a contract nor a line of the program shows.
 //!
-//! That is the causes and places of refused words, each request for memory refused in turn, large inputs with ample
-//! memory, a state that goes from text to text, offsets in bytes, the bits of the flag types, what a search counts, and
-//! the names at the engine's root. Answers to words and texts stand in the cases that the program is run on. The tests
-//! stand in a crate of their own, since a crate with tests is proved twice.
+//! That is each request for memory refused in turn, large inputs with ample memory, a state that goes from text to text,
+//! offsets in bytes, what a search counts, and the names at the engine's root. Answers to words and texts stand in the
+//! cases that the program is run on. The tests stand in a crate of their own, since a crate with tests is proved twice.
 #![tactic(auto)]
 
 #[cfg(test)]
@@ -15,19 +14,11 @@ mod counts;
 #[cfg(test)]
 mod digits;
 #[cfg(test)]
-mod faults;
-#[cfg(test)]
-mod flags;
-#[cfg(test)]
 mod large;
-#[cfg(test)]
-mod lawful;
 #[cfg(test)]
 mod laws;
 #[cfg(test)]
 mod names;
-#[cfg(test)]
-mod refused_checks;
 #[cfg(test)]
 mod refused_runs;
 #[cfg(test)]

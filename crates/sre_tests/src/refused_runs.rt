@@ -116,5 +116,7 @@ fn a_run_fails_where_memory_is_refused(rt: HostRuntime) -> Result<(), Fail> {
             }
         }
     }
+    let shown = format!(in rt.alloc(); "{}", SreError::Memory)?;
+    assert!(rt; shown.as_str() == "out of memory" && SreError::Memory.number() == 1);
     Ok(())
 }

@@ -1,7 +1,8 @@
 //! Tests of the crates below the machine: what neither a clause of a contract nor a line of the program shows.
 //!
-//! That is printed texts, std's table, each request for memory refused in turn, the memory of a board, and worked
-//! examples over both types of text. They are proved while the machine is, and not behind the engine.
+//! That is the causes and places of refused words, the bits of the flag types, printed texts, std's table, each request
+//! for memory refused in turn, the memory of a board, and worked examples over both types of text. They are proved while
+//! the machine is, and not behind the engine.
 #![tactic(auto)]
 
 #[cfg(test)]
@@ -11,8 +12,16 @@ mod boards;
 #[cfg(test)]
 mod characters;
 #[cfg(test)]
+mod faults;
+#[cfg(test)]
+mod flags;
+#[cfg(test)]
 mod growths;
+#[cfg(test)]
+mod lawful;
 #[cfg(test)]
 mod lists;
 #[cfg(test)]
 mod refusals;
+#[cfg(test)]
+mod refused_checks;

@@ -1,8 +1,8 @@
 //! The check with each request for memory refused in turn.
 
+use sre_chars::string::UniTable;
 use sre_code::check_in;
-use sre_engine::UniTable;
-use sre_engine::code::CodeError;
+use sre_code::code::CodeError;
 use sre_refusing::Refusing;
 use std::alloc::Global;
 use std::convert::TryFrom;

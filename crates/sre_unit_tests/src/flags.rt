@@ -1,7 +1,7 @@
 //! The flag types by the calls of `Flags`: which bits the constants have, and which are dropped.
 
 use bitflags::Flags;
-use sre_engine::{SreFlag, SreInfo};
+use sre_flags::{SreFlag, SreInfo};
 
 // The constants with their names and bits in CPython's `_constants.py`, lowest bit first.
 static PATTERN_FLAGS: [(SreFlag, &str, u16); 9] = [

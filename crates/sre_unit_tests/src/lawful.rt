@@ -1,9 +1,9 @@
 //! Words that are accepted, with no error where memory is ample.
 
 use crate::faults::{refusal, set_of_blocks};
-use sre_engine::code::{CodeError, Hints};
-use sre_engine::string::lower_unicode;
-use sre_engine::{Code, UniTable};
+use sre_chars::string::{UniTable, lower_unicode};
+use sre_code::Code;
+use sre_code::code::{CodeError, Hints};
 use std::alloc::Global;
 use std::test::Fail;
 
