@@ -3,6 +3,7 @@
 
     words.py VERB PATTERN [TEXT]     writes the case; the verb is match, search, walk or check
     words.py --cases FILE NAME       writes NAME.txt and NAME.expected from a file of patterns
+    words.py --tree PATTERN          writes the pattern's tree as a Rust expression of `Part`
 
 The words are those that CPython's own compiler makes, and the answers those of CPython's `re`.
 It runs under CPython 3.11 to 3.13 and needs nothing else. The status is 0; or 1 where --run finds
@@ -17,6 +18,8 @@ import sys
 import tempfile
 import textwrap
 import typing
+
+import trees
 
 SERVES = 'run it with CPython 3.11, 3.12 or 3.13'
 try:
@@ -457,6 +460,7 @@ def arguments():
     add('--explain', action='store_true', help='list the words, item by item')
     add('--run', metavar='PROGRAM', help="run sre_cases, and compare its answer with Python's")
     add('--cases', nargs=2, metavar=('FILE', 'NAME'), help='write a case file from patterns')
+    add('--tree', metavar='PATTERN', help='write the tree as a Rust expression, behind the flags')
     return parser
 
 
@@ -478,10 +482,21 @@ def one_case(options):
     return compare(options.run, line, answer(pattern, asked)) if options.run else 0
 
 
+def show_tree(options):
+    """Writes a pattern's tree as a Rust expression."""
+    pattern = compiled(characters(options.tree, options.bytes, False), flags_of(options.flags))
+    print(trees.expression(without_block(pattern.words), OPCODES, POSITIONS, CATEGORIES))
+
+
 def main():
     try:
         require_known_numbers()
         options = arguments().parse_intermixed_args()
+        if options.tree is not None:
+            if options.verb or options.run or options.explain or options.cases:
+                raise Fault('--tree takes a pattern, and --flags and --bytes alone beside')
+            show_tree(options)
+            return 0
         if not options.cases:
             return one_case(options)
         if options.verb or options.run or options.explain:

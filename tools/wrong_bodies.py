@@ -10,7 +10,9 @@ has to be refused, as a check names it below its crate.
 A function is proved from the contracts of those that it calls, so what stays open in it is its own. So wrong bodies of
 different functions are written into one copy of the crate and checked at once. A wrong body is refused where a goal of
 its own function stays open, or an answer to one is no longer a proof; a function that only calls a refused one has no
-such goal. A file NAME.right has a body that is right: it goes along, and fails the run where it is told as refused.
+such goal. Functions that call one another have one proof: there a line 'cycle: NAME' has the cycle's name, and only the
+goals that begin with the function's name are its own. A file NAME.right has a body that is right: it goes along, and
+fails the run where it is told as refused.
 
 By hand, the crates below a crate have to be built, and its own kept work is used where there is some: `rt check` in
 its folder does both. --alone gives each body a check of its own. The status is 0 where each body is judged as it must.
@@ -89,17 +91,29 @@ class Body:
     def __init__(self, path):
         self.name, end = os.path.splitext(os.path.basename(path))
         self.is_wrong = end == ".edit"
-        self.function, self.pairs, file, old = "", [], "", ""
+        self.function, self.cycle, self.pairs, file, old = "", "", [], "", ""
         for row in read(path).split("\n"):
             word, _, text = row.partition(": ")
             if word == "fn":
                 self.function = text
+            elif word == "cycle":
+                self.cycle = text
             elif word == "file":
                 file = text
             elif word == "old":
                 old = text
             elif word in ("new", "new:"):
                 self.pairs.append((file, old, text))
+
+    def answers(self):
+        """The file of the answers to the function's goals, below `proofs/`."""
+        module, _, name = f"::{self.function}".rpartition("::")
+        return f"{module}::{f'+{self.cycle}' if self.cycle else name}/Answers.antt".replace("::", "/")
+
+    def own(self, goals):
+        """Those of the goals that are told with its function that are its own."""
+        name = self.function.rpartition("::")[2]
+        return [it for it in goals or () if not self.cycle or it.startswith(f"{name}-")]
 
     def label(self, crate):
         return f"{'wrong' if self.is_wrong else 'right'} body {crate.name}/{self.name}"
@@ -154,7 +168,8 @@ def refusals(said, crate):
             told = []
     answers = r"(?m)^(?:\./)?proofs/(\S+)/(?:Answers|Invariants|Proof)\.antt:\d+:\d+: error: `([^`]+)`(.*)"
     for path, goal, why in re.findall(answers, said):
-        name = path.replace("/", "::")
+        # the answers of a cycle tell the function by the goal
+        name = re.sub(r"\+\w+$", goal.partition("-")[0], path).replace("/", "::")
         if name in open_goals and not TAKEN_AWAY.search(why):
             open_goals[name].append(goal)
     return open_goals
@@ -168,7 +183,7 @@ def judged(bundle, crate, said):
     named = set(re.findall(rf"(?m)^fn {crate.name}::(\S+):", said))
     others = ", ".join(it for it in open_goals if open_goals[it] and it not in {body.function for body in bundle["bodies"]})
     for body in bundle["bodies"]:
-        goals = open_goals.get(body.function)
+        goals = body.own(open_goals.get(body.function))
         label = body.label(crate)
         if not is_judged:
             first = next((it for it in lines if "error" in it), lines[-1])
@@ -194,8 +209,8 @@ class Trial:
         words = [f"{self.kit}/bin/rattle", "check", *self.words, "--incremental", kept, "--progress"]
         return [*words, *(word for it in functions for word in ("--only", it))]
 
-    def place(self, name, texts, functions=()):
-        """A copy of the crate with these texts, in which a check offers nothing for these functions."""
+    def place(self, name, texts, bodies=()):
+        """A copy of the crate with these texts, in which a check offers nothing for the functions of these bodies."""
         folder = f"{self.room}/{self.crate.name}-{name}"
         for part in PARTS:
             if os.path.isdir(f"{self.crate.folder}/{part}"):
@@ -203,8 +218,7 @@ class Trial:
         for file, text in texts.items():
             with open(f"{folder}/{file}", "w", encoding="utf-8") as it:
                 it.write(text)
-        for function in functions:
-            answers = f"{folder}/proofs/{function.replace('::', '/')}/Answers.antt"
+        for answers in {f"{folder}/proofs{it.answers()}" for it in bodies}:
             os.makedirs(os.path.dirname(answers), exist_ok=True)
             with open(answers, "a", encoding="utf-8") as it:
                 it.write(NO_OFFERS)
@@ -218,7 +232,7 @@ class Trial:
         """Checks a bundle's functions and what they call. Where nothing is kept yet, the work of this check is; else it
         works over a copy, since a check takes from kept work what it changed."""
         functions = [it.function for it in bundle["bodies"]]
-        folder, kept = self.place(f"bundle-{number}", bundle["texts"], functions), self.kept
+        folder, kept = self.place(f"bundle-{number}", bundle["texts"], bundle["bodies"]), self.kept
         is_first = not os.path.isdir(kept)
         if not is_first:
             kept = f"{self.kept}-{number}"

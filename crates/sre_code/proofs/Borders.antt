@@ -1,8 +1,9 @@
 -- Borders of fronts: how the next one is found, and that overlap words are border lengths.
 use Rattle.std.proofs.Common.{ℕ, zero, suc, ◌+◌, ◌-◌, ◌≡◌, ◌≢◌, ◌<◌, ◌≤◌, ◌⊎◌, List, [], ◌∷◌, length, slice_index, take}
 use Rattle.std.proofs.Common.{drop, Bool, true, false, cond, nat_eq, ◌&&◌, ⊎_elim, refl, sym, ◌∙◌, ap, subst}
-use Rattle.std.proofs.Common.{arith}
+use Rattle.std.proofs.Common.{arith, slice_set}
 use Rattle.std.proofs.lemmas.List.{get_or-take, get_or-drop, length-take, length-drop, ext_get_or}
+use Rattle.std.proofs.lemmas.List.{get_or-set_other, get_or-set_same}
 use Rattle.std.proofs.lemmas.Bool.Decides.{nat_tests}
 use Rattle.std.proofs.lemmas.Slice.Eq.{bytes_eq-Decides}
 use Rattle.sre_model.specs.Claims.{is_border, border_up_to, border_length, are_overlaps}
@@ -302,8 +303,25 @@ overlaps_right p o long e = record {
       subst (λ k. Longest p (j + 1) k) (sym same) (longest_of p (j + 1) (omega arith) (omega arith));
 }
 
+-- a further overlap word leaves those before it
+pub set_right : (p o : List ℕ) (n k : ℕ) → RightUpTo p o n → Longest p (n + 1) k → n < length o
+    → RightUpTo p (slice_set o n k) (n + 1)
+set_right p o n k r l lt = more_right p (slice_set o n k) n k (record {
+  each = λ j less.
+      let there : slice_index (slice_set o n k) j ≡ slice_index o j =
+      get_or-set_other o n j k 0 (λ e. omega (arith, e, less)) in
+      subst (λ x. Longest p (j + 1) x) (sym there) (r.each j less);
+}) l (get_or-set_same o n k 0 lt)
+
+-- words that are the border lengths
+pub lengths_right : (p o : List ℕ) → length o ≡ length p → Right p o → are_overlaps p 1 o ≡ true
+lengths_right p o long r = sym (overlaps_told p o true long (λ _. r) (λ _. refl))
+
 -- what `next_border` answers
 pub ruleset next_border_laws = (one_longer, none_longer, starts, goes_down, starts_most, goes_down_most, falls)
 
 -- what `are_right` answers
 pub ruleset overlaps_laws = (first_right, first_wrong, more_right, more_wrong, all_right)
+
+-- what `border_lengths` answers
+pub ruleset lengths_laws = (first_right, set_right, lengths_right, all_right)

@@ -17,7 +17,7 @@ ghost use Rattle.sre_code.specs.Refusals.{place_of};
 ghost use Rattle.sre_growth.specs.Refusal.{Refused};
 
 mod block;
-mod borders;
+pub(crate) mod borders;
 mod branch;
 mod character;
 pub(crate) mod check;

@@ -7,4 +7,5 @@ pub mod members;
 pub mod operands;
 
 pub use code::Code;
+pub use code::borders::border_lengths;
 pub use code::check::check_in;

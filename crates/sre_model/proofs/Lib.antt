@@ -44,6 +44,12 @@ pub mod RanInPossessiveLoops
 pub mod Ran
 pub mod TreeOf
 pub mod CutOff
+pub mod StandingWords
+pub mod Packing
+pub mod LaidOut
+pub mod ReadBack
+pub mod OneToOne
+mod RowsWritten
 mod ReaderRows
 mod HintRows
 pub mod Passing

@@ -8,6 +8,8 @@ pub mod Grammar
 pub mod Roles
 pub mod Width
 pub mod Claims
+pub mod Lawful
+pub mod Written
 pub mod Found
 pub mod FirstCharacters
 pub mod Anchors

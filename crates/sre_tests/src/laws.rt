@@ -1,14 +1,23 @@
-//! The law of equal answers, for two requests over texts of two types: drawn from the clauses of the two calls.
+//! The law of equal answers, for two requests over texts of two types: drawn from the clauses of the two calls. And
+//! that what was emitted is accepted, drawn from those of `emit` and `Code::check`.
 
-ghost use Rattle.std.specs.Prelude.{◌≡◌, IfOk};
+ghost use Rattle.std.specs.Prelude.{◌≡◌, ◌≢◌, IfOk, IfErr, OnErr, Some, None, cond, ◌&&◌};
+ghost use Rattle.sre_growth.specs.Refusal.{Refused};
 ghost use Rattle.sre_engine.specs.Tree.{Tree};
 ghost use Rattle.sre_engine.specs.Grammar.{Whole, behind_block};
 ghost use Rattle.sre_engine.specs.Codes.{words_of};
 ghost use Rattle.sre_engine.specs.Requests.{asked_of, code_of};
 ghost use Rattle.sre_engine.specs.Answers.{given};
+ghost use Rattle.sre_engine.specs.Width.{width};
+ghost use Rattle.sre_engine.specs.Codes.{hints_of};
+ghost use Rattle.sre_emit.specs.Parts.{tree_of};
+ghost use Rattle.sre_emit.specs.Block.{prefix_of, is_all_literals};
+ghost use Rattle.sre_emit.specs.Emitted.{Emitted};
 
+use sre_emit::Part;
+use sre_engine::code::CodeError;
 use sre_engine::engine::SreError;
-use sre_engine::{Request, State, StrDrive};
+use sre_engine::{Code, Request, State, StrDrive, UniTable};
 use std::alloc::Global;
 
 // Two requests that ask the same, of codes of the same tree, are answered alike by `pymatch`.
@@ -73,4 +82,31 @@ fn searched_without_its_block<S: StrDrive, T: StrDrive>(
 {
     let _words = one.pattern_codes().words(); // whose tree is that of the words behind the block
     both_searched(one, cut, first, second)
+}
+
+// Words that were emitted are refused for want of memory alone. The code's one tree is the part's, and what its block
+// claims is confirmed.
+fn checked<'a>(
+    alloc: Global,
+    part: &Part,
+    with_block: bool,
+    words: &'a [u32],
+    uni: &'a UniTable,
+) -> Result<Code<'a>, CodeError>
+    requires { Emitted part.now with_block words.now }
+    ensures memory { OnErr result Refused }
+    ensures alone { IfErr result (λ e. e ≢ CodeError.Memory → ⊥) }
+    ensures tree { IfOk result (λ code. Whole (words_of code) (tree_of part.now)) }
+    ensures one { IfOk result (λ code. (t : Tree) → Whole (words_of code) t → t ≡ tree_of part.now) }
+    ensures width { IfOk result (λ code.
+        (hints_of code).width ≡ cond with_block (Some (width (tree_of part.now))) None) }
+    ensures prefix { IfOk result (λ code.
+        (hints_of code).prefix ≡ cond with_block (prefix_of (tree_of part.now)) None) }
+    ensures literal { IfOk result (λ code.
+        (hints_of code).literal ≡ (with_block && is_all_literals (tree_of part.now))) }
+{
+    let code = Code::check(alloc, words, uni)?;
+    let _words = code.words(); // which have one tree
+    let _hints = code.hints(); // which this tree confirms
+    Ok(code)
 }

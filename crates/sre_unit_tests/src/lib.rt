@@ -1,8 +1,8 @@
 //! Tests of the crates below the machine: what neither a clause of a contract nor a line of the program shows.
 //!
-//! That is the causes and places of refused words, the bits of the flag types, printed texts, std's table, each request
-//! for memory refused in turn, the memory of a board, and worked examples over both types of text. They are proved while
-//! the machine is, and not behind the engine.
+//! That is the causes and places of refused words, the bits of the flag types, printed texts, std's table, each
+//! request for memory refused in turn, the memory of a board, worked examples over both types of text, and the words of
+//! parts. They are proved while the machine is, and not behind the engine.
 #![tactic(auto)]
 
 #[cfg(test)]
@@ -25,3 +25,5 @@ mod lists;
 mod refusals;
 #[cfg(test)]
 mod refused_checks;
+#[cfg(test)]
+mod trees;

@@ -5,9 +5,12 @@
 //! word behind it. So the claimed border lengths, each of which was confirmed before it is asked, lead to the next one:
 //! in time that is linear in the words, and without memory.
 
-ghost use Rattle.std.specs.Prelude.{◌≡◌, ◌+◌, ◌<◌, ◌≤◌, ◌↔◌, IsTrue, length};
+ghost use Rattle.std.specs.Prelude.{◌≡◌, ◌+◌, ◌^◌, ◌<◌, ◌≤◌, ◌↔◌, IsTrue, IfOk, length, true};
 ghost use Rattle.sre_model.specs.Claims.{are_overlaps};
 ghost use Rattle.sre_code.specs.Borders.{Longest, RightUpTo, Right};
+
+use sre_growth::Refusal;
+use std::alloc::Allocator;
 
 /// The border length of the first `n + 1` words of the prefix.
 #[tactic(auto, using(crate::proofs::Borders::next_border_laws))]
@@ -55,4 +58,20 @@ pub fn are_overlaps(prefix: &[u32], overlaps: &[u32]) -> bool
     ensures { result ≡ are_overlaps prefix.now 1 overlaps.now }
 {
     are_right(prefix, overlaps)
+}
+
+/// The border lengths of the fronts of some words: of the first word, of the first two, and so on.
+#[tactic(auto, using(crate::proofs::Borders::lengths_laws))]
+pub fn border_lengths<A: Allocator>(alloc: A, words: &[u32]) -> Result<Vec<u32, A>, Refusal>
+    requires some { 0 < length words.now }
+    requires few { length words.now ≤ 2 ^ 32 }
+    ensures length { IfOk result (λ lengths. length lengths.items ≡ length words.now) }
+    ensures right { IfOk result (λ lengths. are_overlaps words.now 1 lengths.items ≡ true) }
+{
+    let mut lengths = Vec::new(alloc);
+    sre_growth::resize(&mut lengths, words.len(), 0)?;
+    'front: for n in 1..words.len() {
+        lengths[n] = next_border(words, &lengths, n) as u32;
+    }
+    Ok(lengths)
 }

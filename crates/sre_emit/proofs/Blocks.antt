@@ -1,0 +1,422 @@
+-- A block before the words of a tree: its rows, that the words are still the tree's, and that its claims are confirmed.
+use Rattle.std.proofs.Common.{ℕ, zero, suc, ◌+◌, ◌*◌, ◌-◌, ◌/◌, ◌%◌, ◌≡◌, ◌<◌, ◌≤◌, Bool, true, false, ◌&&◌, cond}
+use Rattle.std.proofs.Common.{nat_eq, nat_lt}
+use Rattle.std.proofs.Common.{nat_le, List, [], ◌∷◌, ◌++◌, length, take, drop, Option, Some, None, is_some}
+use Rattle.std.proofs.Common.{refl, sym, ◌∙◌, ap, subst, arith, length-append, map, ◌≢◌}
+use Rattle.std.proofs.lemmas.List.{append_assoc}
+use Rattle.std.proofs.lemmas.Bool.Decides.{nat_tests}
+use Rattle.sre_chars.specs.Numbers.{opcode_number}
+use Rattle.sre_chars.specs.declared.constants.SreOpcode.TheVariants as opcode
+use Rattle.sre_model.specs.Tree.{Tree, Empty, Then, Item, Fail, One, At, Mark, Branch, Loop, Run, PossessiveLoop}
+use Rattle.sre_model.specs.Tree.{Atomic, Look, Reference, Exists, ExistsElse, Only, Or, Any, AnyAll, InCategory}
+use Rattle.sre_model.specs.Tree.{Literal, NotLiteral, In, Plain, Ascii, Locale, Unicode}
+use Rattle.sre_model.specs.Ways.{unlimited}
+use Rattle.sre_model.specs.Grammar.{has_block, behind_block, fits_block, WholeItems, Whole}
+use Rattle.sre_model.specs.Standing.{AreWords}
+use Rattle.sre_model.specs.Shown.{items, a, b, c, d}
+use Rattle.sre_model.specs.Width.{width}
+use Rattle.sre_model.specs.Claims.{border_length, are_overlaps, has_prefix, prefix_words as claimed_words}
+use Rattle.sre_model.specs.Claims.{overlap_words, behind_adjacent, behind_spread, then_spread, is_at_end, behind_prefix}
+use Rattle.sre_model.specs.Claims.{confirmed_width, confirmed_prefix, is_literal}
+use Rattle.sre_model.specs.Lawful.{LawfulTree}
+use Rattle.sre_model.specs.Written.{code_words}
+use Rattle.sre_model.proofs.CutOff.{no_block, none_behind, whole_items}
+use Rattle.sre_model.proofs.OneToOne.{code_whole, whole_are}
+use Rattle.sre_emit.specs.declared.part.Part.{Part}
+use Rattle.sre_emit.specs.declared.part.Item as part
+use Rattle.sre_emit.specs.Parts.{tree_of, item_of, in_order}
+use Rattle.sre_emit.specs.Block.{plain, is_mark, one_more, before, leading, spread, has_literals_alone}
+use Rattle.sre_emit.specs.Block.{is_all_literals, prefix_of, overlaps_from, block, prefix_words, block_words}
+use Rattle.sre_emit.specs.Emitted.{front, Emits}
+use Rattle.sre_emit.proofs.Layers.{tree_is}
+
+letter : block_words (items (a ∷ [])) ≡ 14 ∷ 8 ∷ 3 ∷ 1 ∷ unlimited ∷ 1 ∷ 1 ∷ 97 ∷ 0 ∷ []
+letter = refl
+
+empty_or_letter : block_words (items (Branch (Or Empty (Only (items (a ∷ [])))) ∷ [])) ≡ 14 ∷ 4 ∷ 0 ∷ 0 ∷ unlimited ∷ []
+empty_or_letter = refl
+
+-- ab(cd)
+marks_between : block_words (items (a ∷ b ∷ Mark 0 ∷ c ∷ d ∷ Mark 1 ∷ []))
+    ≡ 14 ∷ 14 ∷ 1 ∷ 4 ∷ unlimited ∷ 4 ∷ 2 ∷ 97 ∷ 98 ∷ 99 ∷ 100 ∷ 0 ∷ 0 ∷ 0 ∷ 0 ∷ []
+marks_between = refl
+
+mark_behind : block_words (items (a ∷ Mark 0 ∷ [])) ≡ 14 ∷ 8 ∷ 1 ∷ 1 ∷ unlimited ∷ 1 ∷ 1 ∷ 97 ∷ 0 ∷ []
+mark_behind = refl
+
+-- aab
+overlapping : block_words (items (a ∷ a ∷ b ∷ []))
+    ≡ 14 ∷ 12 ∷ 3 ∷ 3 ∷ unlimited ∷ 3 ∷ 3 ∷ 97 ∷ 97 ∷ 98 ∷ 0 ∷ 1 ∷ 0 ∷ []
+overlapping = refl
+
+nat_same : (n : ℕ) → nat_eq n n ≡ true
+nat_same n = grind (arith, nat_tests)
+
+-- Overlap words
+
+pub overlaps_long : (p : List ℕ) (n k : ℕ) → length (overlaps_from p n k) ≡ k
+overlaps_long p n zero = refl
+overlaps_long p n (suc k) = omega (arith, overlaps_long p (n + 1) k)
+
+overlaps_are : (p : List ℕ) (n k : ℕ) → are_overlaps p n (overlaps_from p n k) ≡ true
+overlaps_are p n zero = refl
+overlaps_are p n (suc k) = rw (nat_same (border_length (take n p)), overlaps_are p (n + 1) k) refl
+
+-- there are no others
+pub overlaps_same : (p o : List ℕ) (n : ℕ) → are_overlaps p n o ≡ true → o ≡ overlaps_from p n (length o)
+overlaps_same p [] n e = refl
+overlaps_same p (x ∷ xs) n e = by (nat_eq x (border_length (take n p))) refl e (overlaps_same p xs (n + 1))
+  where
+    by : (b : Bool) → nat_eq x (border_length (take n p)) ≡ b → (b && are_overlaps p (n + 1) xs) ≡ true
+        → (are_overlaps p (n + 1) xs ≡ true → xs ≡ overlaps_from p (n + 1) (length xs))
+        → x ∷ xs ≡ overlaps_from p n (length (x ∷ xs))
+    by false f e rest = absurd (cc)
+    by true f e rest =
+        let first : x ≡ border_length (take n p) = grind (arith, nat_tests) in
+        ap (λ y. y ∷ xs) first ∙ ap (λ l. border_length (take n p) ∷ l) (rest e)
+
+-- What the items begin with
+
+literal_is : (x : Item) (v : ℕ) → plain x ≡ Some v → x ≡ One (Literal Plain v)
+literal_is (One (Literal Plain u)) v e = let same : u ≡ v = cc in ap (λ n. One (Literal Plain n)) same
+literal_is (One (Literal Ascii u)) v e = absurd (cc)
+literal_is (One (Literal Locale u)) v e = absurd (cc)
+literal_is (One (Literal Unicode u)) v e = absurd (cc)
+literal_is (One (NotLiteral f u)) v e = absurd (cc)
+literal_is (One (In f s)) v e = absurd (cc)
+literal_is (One (InCategory k)) v e = absurd (cc)
+literal_is (One Any) v e = absurd (cc)
+literal_is (One AnyAll) v e = absurd (cc)
+literal_is Fail v e = absurd (cc)
+literal_is (At k) v e = absurd (cc)
+literal_is (Mark n) v e = absurd (cc)
+literal_is (Branch ts) v e = absurd (cc)
+literal_is (Loop o low high body) v e = absurd (cc)
+literal_is (Run kind low high t) v e = absurd (cc)
+literal_is (PossessiveLoop low high body) v e = absurd (cc)
+literal_is (Atomic body) v e = absurd (cc)
+literal_is (Look sign back body) v e = absurd (cc)
+literal_is (Reference f g) v e = absurd (cc)
+literal_is (Exists g there) v e = absurd (cc)
+literal_is (ExistsElse g there absent) v e = absurd (cc)
+
+-- a mark leaves what is to come
+spread_past : (x : Item) (rest : Tree) (vs : List ℕ) → is_mark x ≡ true → is_some (behind_spread vs rest) ≡ true
+    → is_some (behind_spread vs (Then x rest)) ≡ true
+spread_past x rest [] e h = refl
+spread_past (Mark n) rest (v ∷ vs) e h = h
+spread_past Fail rest (v ∷ vs) e h = absurd (cc)
+spread_past (One t) rest (v ∷ vs) e h = absurd (cc)
+spread_past (At k) rest (v ∷ vs) e h = absurd (cc)
+spread_past (Branch ts) rest (v ∷ vs) e h = absurd (cc)
+spread_past (Loop o low high body) rest (v ∷ vs) e h = absurd (cc)
+spread_past (Run kind low high t) rest (v ∷ vs) e h = absurd (cc)
+spread_past (PossessiveLoop low high body) rest (v ∷ vs) e h = absurd (cc)
+spread_past (Atomic body) rest (v ∷ vs) e h = absurd (cc)
+spread_past (Look sign back body) rest (v ∷ vs) e h = absurd (cc)
+spread_past (Reference f g) rest (v ∷ vs) e h = absurd (cc)
+spread_past (Exists g there) rest (v ∷ vs) e h = absurd (cc)
+spread_past (ExistsElse g there absent) rest (v ∷ vs) e h = absurd (cc)
+
+-- literals are passed, with marks between them
+spread_left : (t : Tree) → is_some (behind_spread (spread t) t) ≡ true
+spread_left Empty = refl
+spread_left (Then x rest) = by (plain x) refl (is_mark x) refl (spread_left rest)
+  where
+    by : (o : Option ℕ) → plain x ≡ o → (m : Bool) → is_mark x ≡ m
+        → is_some (behind_spread (spread rest) rest) ≡ true
+        → is_some (behind_spread (before o m (spread rest)) (Then x rest)) ≡ true
+    by (Some v) e m f h =
+        subst (λ y. is_some (behind_spread (v ∷ spread rest) (Then y rest)) ≡ true) (sym (literal_is x v e))
+        (rw (nat_same v) h)
+    by None e true f h = spread_past x rest (spread rest) f h
+    by None e false f h = refl
+
+abbrev left : Tree → ℕ → List ℕ → Option Tree
+left t k vs = then_spread (drop k vs) (behind_adjacent (take k vs) t)
+
+-- the first of them one directly after the other
+adjacent_left : (t : Tree) → is_some (left t (leading t) (spread t)) ≡ true
+adjacent_left Empty = refl
+adjacent_left (Then x rest) = by (plain x) refl (is_mark x) refl (adjacent_left rest)
+  where
+    by : (o : Option ℕ) → plain x ≡ o → (m : Bool) → is_mark x ≡ m
+        → is_some (left rest (leading rest) (spread rest)) ≡ true
+        → is_some (left (Then x rest) (one_more o (leading rest)) (before o m (spread rest))) ≡ true
+    by (Some v) e m f h =
+        subst (λ y. is_some (left (Then y rest) (suc (leading rest)) (v ∷ spread rest)) ≡ true)
+        (sym (literal_is x v e)) (rw (nat_same v) h)
+    by None e true f h = spread_past x rest (spread rest) f (spread_left rest)
+    by None e false f h = refl
+
+-- where there is nothing else, none is left, and each stands directly after the one before
+alone_left : (t : Tree) → has_literals_alone t ≡ true
+    → (is_at_end (left t (leading t) (spread t)) ≡ true) × (leading t ≡ length (spread t))
+alone_left Empty h = (refl, refl)
+alone_left (Then x rest) h = by (plain x) refl h (alone_left rest)
+  where
+    by : (o : Option ℕ) → plain x ≡ o → (is_some o && has_literals_alone rest) ≡ true
+        → (has_literals_alone rest ≡ true
+        → (is_at_end (left rest (leading rest) (spread rest)) ≡ true) × (leading rest ≡ length (spread rest)))
+        → (is_at_end (left (Then x rest) (one_more o (leading rest)) (before o (is_mark x) (spread rest))) ≡ true)
+        × (one_more o (leading rest) ≡ length (before o (is_mark x) (spread rest)))
+    by (Some v) e h more = (
+      subst (λ y. is_at_end (left (Then y rest) (suc (leading rest)) (v ∷ spread rest)) ≡ true)
+          (sym (literal_is x v e)) (rw (nat_same v) (more h).0),
+      ap suc (more h).1,
+    )
+    by None e h more = absurd (cc)
+
+leading_least : (t : Tree) → leading t ≤ length (spread t)
+leading_least Empty = omega arith
+leading_least (Then x rest) = by (plain x) (is_mark x) (leading_least rest)
+  where
+    by : (o : Option ℕ) (m : Bool) → leading rest ≤ length (spread rest)
+        → one_more o (leading rest) ≤ length (before o m (spread rest))
+    by (Some v) m l = omega (arith, l)
+    by None m l = omega arith
+
+-- The words of a block
+
+drop_front : (xs ys : List ℕ) → drop (length xs) (xs ++ ys) ≡ ys
+drop_front [] ys = refl
+drop_front (x ∷ xs) ys = drop_front xs ys
+
+take_front : (xs ys : List ℕ) → take (length xs) (xs ++ ys) ≡ xs
+take_front [] ys = refl
+take_front (x ∷ xs) ys = ap (λ l. x ∷ l) (take_front xs ys)
+
+-- whatever a block claims, what is behind it stays
+pub behind : (flags least : ℕ) (others ws : List ℕ) → behind_block (block flags least others ++ ws) ≡ ws
+behind flags least others ws =
+    ap (λ n. drop n (block flags least others ++ ws)) far ∙ drop_front (block flags least others) ws
+  where
+    far : 1 + (length others + 4) ≡ length (block flags least others)
+    far = omega arith
+
+pub fits : (flags least : ℕ) (others ws : List ℕ) → fits_block (block flags least others ++ ws) ≡ true
+fits flags least others ws = grind (arith, nat_tests)
+
+-- a block before the words of a tree
+pub block_whole : (t : Tree) (flags least : ℕ) (others : List ℕ) → LawfulTree t
+    → Whole (block flags least others ++ code_words t) t
+block_whole t flags least others h = (
+  fits flags least others (code_words t),
+  subst (λ (ws : List ℕ). WholeItems ws t) (sym (behind flags least others (code_words t))) (code_whole t h),
+)
+
+module _ (flags least k : ℕ) (ps os ws : List ℕ) where
+  abbrev all : List ℕ
+  all = block flags least (length ps ∷ k ∷ (ps ++ os)) ++ ws
+
+  words_read : claimed_words all ≡ ps
+  words_read =
+      let far : 7 + length ps - 7 ≡ length ps = omega arith in
+      ap (λ n. take n ((ps ++ os) ++ ws)) far ∙ ap (take (length ps)) (append_assoc ps os ws)
+      ∙ take_front ps (os ++ ws)
+
+  overlaps_read : length os ≡ length ps → overlap_words all ≡ os
+  overlaps_read e =
+      let head : List ℕ = opcode_number opcode.INFO ∷ (length (length ps ∷ k ∷ (ps ++ os)) + 4) ∷ flags ∷ least
+      ∷ unlimited ∷ length ps ∷ k ∷ ps in
+      let far : 7 + length ps ≡ length head = omega arith in
+      let many : 7 + 2 * length ps - (7 + length ps) ≡ length os = omega (arith, e) in
+      let same : all ≡ head ++ (os ++ ws) =
+      ap (λ l. opcode_number opcode.INFO ∷ (length (length ps ∷ k ∷ (ps ++ os)) + 4) ∷ flags ∷ least ∷ unlimited
+      ∷ length ps ∷ k ∷ l) (append_assoc ps os ws) in
+      let rest : drop (7 + length ps) all ≡ os ++ ws =
+      ap (λ n. drop n all) far ∙ ap (drop (length head)) same ∙ drop_front head (os ++ ws) in
+      ap (λ n. take n (drop (7 + length ps) all)) many ∙ ap (take (length os)) rest ∙ take_front os ws
+
+  prefix_there : nat_eq (flags / 1 % 2) 1 ≡ true → 0 < length ps → k ≤ length ps → length os ≡ length ps
+      → are_overlaps ps 1 os ≡ true → has_prefix all ≡ true
+  prefix_there flag some few long right =
+      let one : nat_lt 0 (length ps) ≡ true = grind (arith, nat_tests) in
+      let two : nat_le k (length ps) ≡ true = grind (arith, nat_tests) in
+      let size : 1 + (length (length ps ∷ k ∷ (ps ++ os)) + 4) ≡ 7 + 2 * length ps =
+      omega (arith, long, length-append ps os) in
+      let three : nat_eq (1 + (length (length ps ∷ k ∷ (ps ++ os)) + 4)) (7 + 2 * length ps) ≡ true =
+      grind (arith, nat_tests) in
+      rw (flag, one, two, three, words_read, overlaps_read long, right) refl
+
+-- what a block claims of the words behind it is confirmed
+module _ (t : Tree) where
+  abbrev behind_one : ℕ → List ℕ → List ℕ
+  behind_one flags others = block flags (width t) others ++ code_words t
+
+  width_confirmed : (flags : ℕ) (others : List ℕ) → confirmed_width (behind_one flags others) t ≡ Some (width t)
+  width_confirmed flags others =
+      let least : nat_le (width t) (width t) ≡ true = grind (arith, nat_tests) in
+      rw least refl
+
+  module _ (some : nat_lt 0 (leading t) ≡ true) where
+    abbrev words : List ℕ
+    words = behind_one (cond (has_literals_alone t) 3 1) (prefix_words (spread t) (leading t))
+
+    flagged : nat_eq (cond (has_literals_alone t) 3 1 / 1 % 2) 1 ≡ true
+    flagged = by (has_literals_alone t)
+      where
+        by : (b : Bool) → nat_eq (cond b 3 1 / 1 % 2) 1 ≡ true
+        by true = refl
+        by false = refl
+
+    there : has_prefix words ≡ true
+    there =
+        let ps = spread t in
+        let least : leading t ≤ length ps = leading_least t in
+        let first : 0 < leading t = grind (arith, nat_tests) in
+        prefix_there (cond (has_literals_alone t) 3 1) (width t) (leading t) ps (overlaps_from ps 1 (length ps))
+        (code_words t) flagged (omega (arith, least, first)) least (overlaps_long ps 1 (length ps))
+        (overlaps_are ps 1 (length ps))
+
+    left_is : behind_prefix words t ≡ left t (leading t) (spread t)
+    left_is =
+        let ps = spread t in
+        let read : claimed_words words ≡ ps =
+        words_read (cond (has_literals_alone t) 3 1) (width t) (leading t) ps (overlaps_from ps 1 (length ps))
+        (code_words t) in
+        rw (there, read) refl
+
+    prefix_confirmed : confirmed_prefix words t ≡ prefix_of t
+    prefix_confirmed = rw (left_is, adjacent_left t, some) refl
+
+    literal_confirmed : is_literal words t ≡ is_all_literals t
+    literal_confirmed = by (has_literals_alone t) refl
+      where
+        by : (b : Bool) → has_literals_alone t ≡ b → is_literal words t ≡ is_all_literals t
+        by true e =
+            let each = alone_left t e in
+            let size : nat_eq (leading t) (length (spread t)) ≡ true = ap (λ n. nat_eq (leading t) n) (sym each.1)
+            ∙ nat_same (leading t) in
+            rw (left_is, e, some, size, each.0) refl
+        by false e = rw (e, some) refl
+
+  module _ (h : LawfulTree t) where
+    claims : (flags : ℕ) (others : List ℕ) → block_words t ≡ block flags (width t) others
+        → AreWords (behind_one flags others) → confirmed_prefix (behind_one flags others) t ≡ prefix_of t
+        → is_literal (behind_one flags others) t ≡ is_all_literals t → Emits true t (behind_one flags others)
+    claims flags others e a p l =
+        let rest : behind_block (behind_one flags others) ≡ code_words t =
+        behind flags (width t) others (code_words t) in
+        record {
+          tree = block_whole t flags (width t) others h;
+          words = a;
+          block = refl;
+          in_front = ap (λ l. block flags (width t) others ++ l) (sym rest)
+              ∙ ap (λ l. l ++ behind_block (behind_one flags others)) (sym e);
+          only = λ vs k n w. whole_are vs t k n w ∙ sym rest;
+          least = width_confirmed flags others;
+          prefix = p;
+          literal = l;
+        }
+
+    without : AreWords (code_words t) → Emits false t (code_words t)
+    without a =
+        let none : has_block (code_words t) ≡ false = no_block (code_words t) t (code_whole t h) in
+        let same : behind_block (code_words t) ≡ code_words t = (none_behind (code_words t) none).1 in
+        record {
+          tree = whole_items (code_words t) t (code_whole t h);
+          words = a;
+          block = none;
+          in_front = sym same;
+          only = λ vs k n w. whole_are vs t k n w ∙ sym same;
+          least = rw none refl;
+          prefix = rw none refl;
+          literal = rw none refl;
+        }
+
+    with_words : AreWords (block_words t ++ code_words t) → Emits true t (block_words t ++ code_words t)
+    with_words = by (nat_lt 0 (leading t)) refl
+      where
+        full : List ℕ
+        full = block (cond (has_literals_alone t) 3 1) (width t) (prefix_words (spread t) (leading t))
+
+        short : List ℕ
+        short = block 0 (width t) []
+
+        by : (b : Bool) → nat_lt 0 (leading t) ≡ b → AreWords (cond b full short ++ code_words t)
+            → Emits true t (cond b full short ++ code_words t)
+        by true e a =
+            claims (cond (has_literals_alone t) 3 1) (prefix_words (spread t) (leading t))
+            (ap (λ c. cond c full short) e) a (prefix_confirmed e) (literal_confirmed e)
+        by false e a =
+            let none : confirmed_prefix (behind_one 0 []) t ≡ prefix_of t = rw e refl in
+            let no_literal : is_literal (behind_one 0 []) t ≡ is_all_literals t = rw e refl in
+            claims 0 [] (ap (λ c. cond c full short) e) a none no_literal
+
+pub emits : (with_block : Bool) (t : Tree) → LawfulTree t → AreWords (front with_block t ++ code_words t)
+    → Emits with_block t (front with_block t ++ code_words t)
+emits false t h a = without t h a
+emits true t h a = with_words t h a
+
+-- Writing a block
+
+tree_of_items : (p : Part) (xs : List part.Item) → xs ≡ p.items.items → in_order (map item_of xs) ≡ tree_of p
+tree_of_items p xs e = ap (λ l. in_order (map item_of l)) e ∙ sym (tree_is p)
+
+-- a part that begins with no literal
+pub short_block : (p : Part) (xs : List part.Item) (k least : ℕ) → xs ≡ p.items.items
+    → k ≡ leading (in_order (map item_of xs)) → k ≡ 0 → least ≡ width (tree_of p)
+    → opcode_number opcode.INFO ∷ 4 ∷ 0 ∷ least ∷ unlimited ∷ [] ≡ block_words (tree_of p)
+short_block p xs k least e count z w =
+    let t = tree_of p in
+    let zero_is : leading t ≡ 0 = sym (ap leading (tree_of_items p xs e)) ∙ sym count ∙ z in
+    let none : nat_lt 0 (leading t) ≡ false = ap (nat_lt 0) zero_is in
+    ap (λ n. opcode_number opcode.INFO ∷ 4 ∷ 0 ∷ n ∷ unlimited ∷ []) w
+    ∙ sym (ap (λ c. cond c (block (cond (has_literals_alone t) 3 1) (width t) (prefix_words (spread t) (leading t)))
+    (block 0 (width t) [])) none)
+
+some_leading : (p : Part) (xs : List part.Item) (k : ℕ) → xs ≡ p.items.items → k ≡ leading (in_order (map item_of xs))
+    → k ≢ 0 → nat_lt 0 (leading (tree_of p)) ≡ true
+some_leading p xs k e count some =
+    let same : leading (in_order (map item_of xs)) ≡ leading (tree_of p) = ap leading (tree_of_items p xs e) in
+    let first : 0 < leading (tree_of p) = omega (arith, count, same, some) in
+    grind (arith, nat_tests)
+
+pub some_words : (t : Tree) (k : ℕ) (ws : List ℕ) → k ≡ leading t → k ≢ 0 → ws ≡ spread t → 0 < length ws
+some_words t k ws count some e = omega (arith, count, some, ap length e, leading_least t)
+
+-- one whose skip would be no word
+pub long_block : (p : Part) (xs : List part.Item) (k : ℕ) (ws : List ℕ) → xs ≡ p.items.items
+    → k ≡ leading (in_order (map item_of xs)) → k ≢ 0 → ws ≡ spread (in_order (map item_of xs))
+    → 2147483644 < length ws → AreWords (block_words (tree_of p)) → ⊥
+long_block p xs k ws e count some same long h =
+    let t = tree_of p in
+    let ps : List ℕ = spread t in
+    let others : List ℕ = prefix_words ps (leading t) in
+    let full : List ℕ = block (cond (has_literals_alone t) 3 1) (width t) others in
+    let is : block_words t ≡ full = ap (λ c. cond c full (block 0 (width t) [])) (some_leading p xs k e count some) in
+    let words : AreWords full = subst AreWords is h in
+    let skip_fits : length others + 4 ≤ unlimited = words.fits 1 (length others + 4) refl in
+    let many : length ws ≡ length ps = ap length (same ∙ ap spread (tree_of_items p xs e)) in
+    omega (
+      arith,
+      skip_fits,
+      many,
+      long,
+      overlaps_long ps 1 (length ps),
+      length-append ps (overlaps_from ps 1 (length ps)),
+    )
+
+-- one with a prefix
+pub full_block : (p : Part) (xs : List part.Item) (k least flags : ℕ) (b : Bool) (ws os : List ℕ)
+    → xs ≡ p.items.items → k ≡ leading (in_order (map item_of xs)) → k ≢ 0
+    → ws ≡ spread (in_order (map item_of xs)) → are_overlaps ws 1 os ≡ true → length os ≡ length ws
+    → least ≡ width (tree_of p) → flags ≡ cond b 3 1 → b ≡ has_literals_alone (in_order (map item_of xs))
+    → block flags least (length ws ∷ k ∷ (ws ++ os)) ≡ block_words (tree_of p)
+full_block p xs k least flags b ws os e count some same right long w f alone =
+    let t = tree_of p in
+    let is = tree_of_items p xs e in
+    let words : ws ≡ spread t = same ∙ ap spread is in
+    let adjacent : k ≡ leading t = count ∙ ap leading is in
+    let flag : flags ≡ cond (has_literals_alone t) 3 1 =
+    f ∙ ap (λ c. cond c 3 1) (alone ∙ ap has_literals_alone is) in
+    let overlaps : os ≡ overlaps_from ws 1 (length ws) =
+    overlaps_same ws os 1 right ∙ ap (overlaps_from ws 1) long in
+    let full : List ℕ = block (cond (has_literals_alone t) 3 1) (width t) (prefix_words (spread t) (leading t)) in
+    ap (λ l. block flags least (length ws ∷ k ∷ (ws ++ l))) overlaps
+    ∙ ap (λ l. block flags least (prefix_words l k)) words
+    ∙ ap (λ n. block flags least (prefix_words (spread t) n)) adjacent
+    ∙ ap (λ n. block flags n (prefix_words (spread t) (leading t))) w
+    ∙ ap (λ n. block n (width t) (prefix_words (spread t) (leading t))) flag
+    ∙ sym (ap (λ c. cond c full (block 0 (width t) [])) (some_leading p xs k e count some))

@@ -1,0 +1,84 @@
+-- What a writer hands out are the words of a part, behind the block that was asked for.
+use Rattle.std.proofs.Common.{ℕ, ◌+◌, ◌≡◌, ◌≤◌, Bool, List, [], ◌++◌, reverse, None, Some, sym, ◌∙◌, ap, Result, Ok}
+use Rattle.std.proofs.Common.{Err}
+use Rattle.std.proofs.Common.{subst, arith}
+use Rattle.std.specs.Prelude.{IfOk, IfErr}
+use Rattle.std.proofs.lemmas.List.{reverse-reverse}
+use Rattle.sre_model.specs.Standing.{AreWords}
+use Rattle.sre_model.specs.Written.{code_words}
+use Rattle.sre_model.proofs.OneToOne.{whole_are}
+use Rattle.sre_emit.specs.declared.part.Part.{Part}
+use Rattle.sre_emit.specs.declared.error.EmitError.{EmitError}
+use Rattle.sre_emit.specs.declared.error.EmitError.TheVariants.{Memory, TooLong, TooDeep, BadPart}
+use Rattle.sre_emit.specs.Parts.{tree_of, depth, HasTree}
+use Rattle.sre_emit.specs.Checked.{Causes}
+use Rattle.sre_emit.specs.Writing.{Held, Wrote}
+use Rattle.sre_emit.specs.Emitted.{front, Emitted, Cause}
+use Rattle.sre_emit.proofs.Blocks.{emits}
+use Rattle.sre_emit.proofs.Written.{back_words, wrote_more}
+
+-- a writer of no words has written a code's, and then perhaps a block's
+pub record Whole (p : Part) (with_block : Bool) (b : Held) : Type 0 where
+  pub has_tree : HasTree p
+  pub deep : depth p ≤ 1000
+  pub start : Held
+  pub words : start.words ≡ []
+  pub failure : start.failure ≡ None
+  pub wrote : Wrote start b (front with_block (tree_of p) ++ code_words (tree_of p))
+
+pub whole_made : (p : Part) (with_block : Bool) (a b c : Held) → HasTree p → depth p ≤ 1000 → a.words ≡ []
+    → a.failure ≡ None → Wrote a b (code_words (tree_of p)) → Wrote b c (front with_block (tree_of p))
+    → Whole p with_block c
+whole_made p with_block a b c h d none f v w = record {
+  has_tree = h;
+  deep = d;
+  start = a;
+  words = none;
+  failure = f;
+  wrote = wrote_more a b c _ _ v w;
+}
+
+pub whole_emitted : (p : Part) (with_block : Bool) (b : Held) (words : List ℕ) → Whole p with_block b
+    → b.failure ≡ None → words ≡ reverse b.words → Emitted p with_block words
+whole_emitted p with_block b words h none same =
+    let t = tree_of p in
+    let all : List ℕ = front with_block t ++ code_words t in
+    let d = h.wrote.done h.failure none in
+    let is : words ≡ all =
+    same ∙ ap reverse (d.0 ∙ ap (λ l. l ++ reverse all) h.words) ∙ reverse-reverse all in
+    subst (λ l. Emitted p with_block l) (sym is) (record {
+      has_tree = h.has_tree;
+      deep = h.deep;
+      emits = emits with_block t h.has_tree.lawful d.1;
+    })
+
+pub whole_caused : (p : Part) (with_block : Bool) (b : Held) (e : EmitError) → Whole p with_block b
+    → b.failure ≡ Some e → Cause p with_block e
+whole_caused p with_block b Memory h f = h.wrote.stops h.failure Memory f
+whole_caused p with_block b TooLong h f = record {
+  none = λ vs k e v.
+      let items : vs ≡ code_words (tree_of p) = whole_are vs (tree_of p) (behind_words vs k) e v in
+      h.wrote.stops h.failure TooLong f (subst (λ l. AreWords (front with_block (tree_of p) ++ l)) items k);
+}
+  where
+    behind_words : (vs : List ℕ) → AreWords (front with_block (tree_of p) ++ vs) → AreWords vs
+    behind_words vs k = back_words (front with_block (tree_of p)) vs k
+whole_caused p with_block b TooDeep h f = absurd (h.wrote.stops h.failure TooDeep f)
+whole_caused p with_block b BadPart h f = absurd (h.wrote.stops h.failure BadPart f)
+
+-- what the check of a part tells
+pub cause_of : (p : Part) (with_block : Bool) (e : EmitError) → Causes (0 + depth p) (HasTree p) e
+    → Cause p with_block e
+cause_of p with_block Memory h = absurd h
+cause_of p with_block TooLong h = absurd h
+cause_of p with_block TooDeep h = omega (arith, h)
+cause_of p with_block BadPart h = h
+
+-- what is said of a result
+pub if_ok : {V E : Type 0} (P Q : V → Type 0) (r : Result V E) → ((v : V) → P v → Q v) → IfOk r P → IfOk r Q
+if_ok P Q (Ok v) f h = f v h
+if_ok P Q (Err e) f h = tt
+
+pub if_err : {V E : Type 0} (P Q : E → Type 0) (r : Result V E) → ((e : E) → P e → Q e) → IfErr r P → IfErr r Q
+if_err P Q (Ok v) f h = tt
+if_err P Q (Err e) f h = f e h

@@ -1,0 +1,368 @@
+-- What a writer does, step after step.
+use Rattle.std.proofs.Common.{map, length-drop, ◌/◌}
+use Rattle.std.proofs.lemmas.List.{length-reverse}
+use Rattle.std.proofs.Common.{ℕ, zero, suc, ◌+◌, ◌*◌, ◌≡◌, ◌<◌, ◌≤◌, List, [], ◌∷◌, ◌++◌, reverse, drop, length}
+use Rattle.std.proofs.Common.{slice_index, slice_index_or, Option, Some, None, is_none, false, refl, sym, ◌∙◌, ap}
+use Rattle.std.proofs.Common.{subst, arith, length-append}
+use Rattle.std.specs.Vec.{vec_len}
+use Rattle.std.proofs.lemmas.List.{reverse-append, append_assoc, append-nil}
+use Rattle.sre_model.specs.Ways.{unlimited}
+use Rattle.sre_model.specs.Grammar.{Word}
+use Rattle.sre_model.specs.Standing.{AreWords}
+use Rattle.sre_emit.specs.declared.error.EmitError.{EmitError}
+use Rattle.sre_emit.specs.declared.error.EmitError.TheVariants.{Memory, TooLong, TooDeep, BadPart}
+use Rattle.sre_emit.specs.Writing.{Held}
+use Rattle.sre_chars.specs.Numbers.{opcode_number}
+use Rattle.sre_chars.specs.declared.constants.SreOpcode.TheVariants as opcode
+use Rattle.sre_model.specs.Tree.{SetItem, Single, Range, RangeUniIgnore, Category, Charset, BigCharset, Negate}
+use Rattle.sre_emit.specs.declared.part.SetItem as part
+use Rattle.sre_emit.specs.declared.part.SetItem.TheVariants as set
+use Rattle.std.specs.Global.{Vec}
+use Rattle.sre_emit.specs.declared.part.Fold as part_fold
+use Rattle.sre_emit.specs.declared.part.OneChar.{OneChar}
+use Rattle.sre_emit.specs.declared.part.OneChar.TheVariants as test
+use Rattle.sre_chars.specs.declared.constants.SreOpcode.{SreOpcode}
+use Rattle.sre_model.specs.Grammar.{set_opcode}
+use Rattle.sre_emit.specs.Parts.{set_item_of, test_of, fold_of}
+use Rattle.sre_model.specs.Written.{packed, set_item_words, set_words, test_words}
+use Rattle.sre_emit.specs.Writing.{Stops, Wrote}
+use Rattle.sre_model.proofs.StandingWords.{in_front, in_back}
+
+-- words of which all are words
+pub front_words : (xs ys : List ℕ) → AreWords (xs ++ ys) → AreWords xs
+front_words xs ys h = record { fits = λ i v w. h.fits i v (in_front xs ys i v w) }
+
+pub back_words : (xs ys : List ℕ) → AreWords (xs ++ ys) → AreWords ys
+back_words xs ys h = record { fits = λ i v w. h.fits (length xs + i) v (in_back xs ys i v w) }
+
+pub one_word : (x : ℕ) → x ≤ unlimited → AreWords (x ∷ [])
+one_word x l = record { fits = fits }
+  where
+    fits : (i v : ℕ) → Word (x ∷ []) i v → v ≤ unlimited
+    fits zero v w = let e : x ≡ v = cc in omega (arith, l, e)
+    fits (suc i) v w = absurd (cc)
+
+pub no_words : AreWords []
+no_words = record { fits = λ i v w. absurd (cc) }
+
+word_before : (x : ℕ) (xs : List ℕ) → ((v : ℕ) → Word (x ∷ xs) 0 v → v ≤ unlimited) → AreWords xs → AreWords (x ∷ xs)
+word_before x xs f h = record { fits = fits }
+  where
+    fits : (i v : ℕ) → Word (x ∷ xs) i v → v ≤ unlimited
+    fits zero v w = f v w
+    fits (suc i) v w = h.fits i v w
+
+pub more_words : (xs ys : List ℕ) → AreWords xs → AreWords ys → AreWords (xs ++ ys)
+more_words [] ys h k = k
+more_words (x ∷ xs) ys h k =
+    word_before x (xs ++ ys) (λ v w. h.fits 0 v w)
+    (more_words xs ys (record { fits = λ i v w. h.fits (suc i) v w }) k)
+
+pub word_of_words : (x : ℕ) (xs : List ℕ) → AreWords (x ∷ xs) → x ≤ unlimited
+word_of_words x xs h = h.fits 0 x refl
+
+-- what stops some words stops more
+pub stops_up : (xs ys : List ℕ) → (AreWords ys → AreWords xs) → (e : EmitError) → Stops xs e → Stops ys e
+stops_up xs ys f Memory s = s
+stops_up xs ys f TooLong s = λ h. s (f h)
+stops_up xs ys f TooDeep s = s
+stops_up xs ys f BadPart s = s
+
+failed_once : (d e : EmitError) (f : Option EmitError) → f ≡ Some d → f ≡ Some e → d ≡ e
+failed_once d e f p q = cc
+
+-- nothing was written
+pub wrote_nothing : (a : Held) → Wrote a a []
+wrote_nothing a = record {
+  kept = λ e k. k;
+  done = λ p q. (sym (append-nil a.words), no_words);
+  stops = λ p e q. absurd (cc);
+  grows = omega arith;
+}
+
+-- the same words
+pub wrote_same : (a b : Held) (xs ys : List ℕ) → (a.failure ≡ None → b.failure ≡ None → xs ≡ ys) → Wrote a b xs
+    → (a.failure ≡ None → (e : EmitError) → b.failure ≡ Some e → Stops xs e → Stops ys e) → Wrote a b ys
+wrote_same a b xs ys f w g = record {
+  kept = w.kept;
+  done = λ p q. subst (λ zs. (b.words ≡ a.words ++ reverse zs) × AreWords zs) (f p q) (w.done p q);
+  stops = λ p e q. g p e q (w.stops p e q);
+  grows = w.grows;
+}
+
+pub wrote_equal : (a b : Held) (xs ys : List ℕ) → xs ≡ ys → Wrote a b xs → Wrote a b ys
+wrote_equal a b xs ys e w = subst (λ zs. Wrote a b zs) e w
+
+-- words, and then words in front of them
+pub wrote_more : (a b c : Held) (xs ys : List ℕ) → Wrote a b xs → Wrote b c ys → Wrote a c (ys ++ xs)
+wrote_more a b c xs ys v w = record {
+  kept = λ e p. w.kept e (v.kept e p);
+  done = λ p q. done b.failure refl p q;
+  stops = λ p e q. stops b.failure refl p e q;
+  grows = omega (arith, v.grows, w.grows);
+}
+  where
+    joined : (bs : List ℕ) → b.words ≡ a.words ++ reverse xs → c.words ≡ b.words ++ reverse ys
+        → c.words ≡ a.words ++ reverse (ys ++ xs)
+    joined bs p q = q ∙ ap (λ l. l ++ reverse ys) p ∙ append_assoc a.words (reverse xs) (reverse ys)
+        ∙ ap (λ l. a.words ++ l) (sym (reverse-append ys xs))
+
+    done : (m : Option EmitError) → b.failure ≡ m → a.failure ≡ None → c.failure ≡ None
+        → (c.words ≡ a.words ++ reverse (ys ++ xs)) × AreWords (ys ++ xs)
+    done None m p q =
+        (joined [] (v.done p m).0 (w.done m q).0, more_words ys xs (w.done m q).1 (v.done p m).1)
+    done (Some e) m p q = let f : c.failure ≡ Some e = w.kept e m in absurd (cc)
+
+    stops : (m : Option EmitError) → b.failure ≡ m → a.failure ≡ None → (e : EmitError) → c.failure ≡ Some e
+        → Stops (ys ++ xs) e
+    stops None m p e q = stops_up ys (ys ++ xs) (front_words ys xs) e (w.stops m e q)
+    stops (Some d) m p e q =
+        let same : d ≡ e = failed_once d e c.failure (w.kept d m) q in
+        stops_up xs (ys ++ xs) (back_words ys xs) e (subst (λ x. Stops xs x) same (v.stops p d m))
+
+-- one word
+pub wrote_word : (a b : Held) (w : ℕ) → a.failure ≡ None → b.failure ≡ None
+    → b.words ≡ a.words ++ w ∷ [] → w ≤ unlimited → length a.words ≤ length b.words → Wrote a b (w ∷ [])
+wrote_word a b w p q e l g = record {
+  kept = λ d k. absurd (cc);
+  done = λ _ _. (e, one_word w l);
+  stops = λ _ d k. absurd (cc);
+  grows = g;
+}
+
+-- a failure that was there
+pub wrote_failed : (a b : Held) (xs : List ℕ) → is_none a.failure ≡ false → b.failure ≡ a.failure
+    → length a.words ≤ length b.words → Wrote a b xs
+wrote_failed a b xs p e g = record {
+  kept = λ d k. e ∙ k;
+  done = λ q _. absurd (there a.failure p q);
+  stops = λ q d k. absurd (there a.failure p q);
+  grows = g;
+}
+  where
+    there : (f : Option EmitError) → is_none f ≡ false → f ≡ None → ⊥
+    there None p q = absurd (cc)
+    there (Some e) p q = absurd (cc)
+
+-- a failure that comes where there is none
+pub wrote_failing : (a b : Held) (xs : List ℕ) (e : EmitError) → b.words ≡ a.words
+    → (a.failure ≡ None → b.failure ≡ Some e) → ((d : EmitError) → a.failure ≡ Some d → b.failure ≡ Some d)
+    → Stops xs e → Wrote a b xs
+wrote_failing a b xs e same first kept s = record {
+  kept = kept;
+  done = λ p q. let f : b.failure ≡ Some e = first p in absurd (cc);
+  stops = λ p d q. subst (λ x. Stops xs x) (failed_once e d b.failure (first p) q) s;
+  grows = omega (arith, ap length same);
+}
+
+-- a failure that comes
+pub wrote_stopped : (a b : Held) (xs : List ℕ) (e : EmitError) → a.failure ≡ None → b.failure ≡ Some e → Stops xs e
+    → length a.words ≤ length b.words → Wrote a b xs
+wrote_stopped a b xs e p q s g = record {
+  kept = λ d k. absurd (cc);
+  done = λ _ k. absurd (cc);
+  stops = λ _ d k. subst (λ x. Stops xs x) (failed_once e d b.failure q k) s;
+  grows = g;
+}
+
+pub long_word : (n : ℕ) (xs : List ℕ) → unlimited < n → AreWords (n ∷ xs) → ⊥
+long_word n xs l h = omega (arith, l, word_of_words n xs h)
+
+-- what `put` and `put_count` write
+pub ruleset word_laws = (wrote_word, wrote_failed, wrote_stopped)
+
+pub ruleset count_laws = (wrote_failing, long_word)
+
+-- a list from a place on
+pub drop_at : {X : Type 0} (xs : List X) (k : ℕ) (d : X) → k < length xs → drop k xs ≡ slice_index_or xs k d
+    ∷ drop (suc k) xs
+drop_at [] k d l = absurd (omega (arith, l))
+drop_at (x ∷ xs) zero d l = refl
+drop_at (x ∷ xs) (suc k) d l = drop_at xs k d (omega (arith, l))
+
+pub wrote_nothing_of : (a : Held) (xs : List ℕ) → Wrote a a (drop (length xs) xs)
+wrote_nothing_of a xs = wrote_equal a a [] (drop (length xs) xs) (sym (drop_all_of xs)) (wrote_nothing a)
+  where
+    drop_all_of : (xs : List ℕ) → drop (length xs) xs ≡ []
+    drop_all_of [] = refl
+    drop_all_of (x ∷ xs) = drop_all_of xs
+
+pub wrote_from : (a b c : Held) (xs : List ℕ) (k n : ℕ) → n ≡ k + 1 → k < length xs → Wrote a b (drop n xs)
+    → Wrote b c (slice_index xs k ∷ []) → Wrote a c (drop k xs)
+wrote_from a b c xs k n e l v w =
+    wrote_equal a c (slice_index xs k ∷ drop n xs) (drop k xs)
+    (ap (λ m. slice_index xs k ∷ drop m xs) next ∙ sym (drop_at xs k 0 l)) (wrote_more a b c (drop n xs) _ v w)
+  where
+    next : n ≡ suc k
+    next = omega (arith, e)
+
+pub wrote_all : (a b : Held) (xs : List ℕ) (k : ℕ) → k ≤ 0 → Wrote a b (drop k xs) → Wrote a b xs
+wrote_all a b xs k e w = wrote_equal a b (drop k xs) xs (ap (λ n. drop n xs) zero_is) w
+  where
+    zero_is : k ≡ 0
+    zero_is = omega (arith, e)
+
+-- block numbers, four a word
+pub no_four : (a : Held) (ns : List ℕ) → Wrote a a (packed (drop (4 * (length ns / 4)) ns))
+no_four a ns = wrote_equal a a [] _
+    (sym (short (drop (4 * (length ns / 4)) ns) (omega (arith, length-drop (4 * (length ns / 4)) ns))))
+    (wrote_nothing a)
+  where
+    short : (xs : List ℕ) → length xs < 4 → packed xs ≡ []
+    short [] l = refl
+    short (x ∷ []) l = refl
+    short (x ∷ y ∷ []) l = refl
+    short (x ∷ y ∷ z ∷ []) l = refl
+    short (x ∷ y ∷ z ∷ w ∷ xs) l = absurd (omega (arith, l))
+
+four_at : (ns : List ℕ) (k : ℕ) → k + 3 < length ns → packed (drop k ns)
+    ≡ (slice_index ns k + 256 * slice_index ns (k + 1) + 65536 * slice_index ns (k + 2) + 16777216 * slice_index ns
+    (k + 3))
+    ∷ packed (drop (k + 4) ns)
+four_at ns k l =
+    let one = drop_at ns k 0 (omega (arith, l)) in
+    let two = drop_at ns (suc k) 0 (omega (arith, l)) in
+    let three = drop_at ns (suc (suc k)) 0 (omega (arith, l)) in
+    let four = drop_at ns (suc (suc (suc k))) 0 (omega (arith, l)) in
+    ap packed (one ∙ ap (λ l. slice_index ns k ∷ l) (two ∙ ap (λ l. slice_index ns (suc k) ∷ l)
+    (three ∙ ap (λ l. slice_index ns (suc (suc k)) ∷ l) four)))
+    ∙ ap4 (suc k) (suc (suc k)) (suc (suc (suc k))) (suc (suc (suc (suc k)))) (k + 1) (k + 2) (k + 3) (k + 4)
+    (omega arith) (omega arith) (omega arith) (omega arith)
+  where
+    ap4 : (a b c d p q r s : ℕ) → a ≡ p → b ≡ q → c ≡ r → d ≡ s
+        → ◌≡◌ {A = List ℕ}
+        ((slice_index ns k + 256 * slice_index ns a + 65536 * slice_index ns b + 16777216 * slice_index ns c) ∷ packed
+        (drop d ns))
+        ((slice_index ns k + 256 * slice_index ns p + 65536 * slice_index ns q + 16777216 * slice_index ns r) ∷ packed
+        (drop s ns))
+    ap4 a b c d p q r s e f g h = cc
+
+pub wrote_four : (a b c : Held) (ns : List ℕ) (k n w : ℕ) → n ≡ k + 1 → 4 * n ≤ length ns
+    → w ≡ slice_index ns (4 * k) + 256 * slice_index ns (4 * k + 1) + 65536 * slice_index ns (4 * k + 2)
+    + 16777216 * slice_index ns (4 * k + 3)
+    → Wrote a b (packed (drop (4 * n) ns)) → Wrote b c (w ∷ []) → Wrote a c (packed (drop (4 * k) ns))
+wrote_four a b c ns k n w e l same v x =
+    wrote_equal a c (w ∷ packed (drop (4 * n) ns)) _
+    (ap (λ m. w ∷ packed (drop m ns)) further ∙ ap (λ u. u ∷ packed (drop (4 * k + 4) ns)) same
+    ∙ sym (four_at ns (4 * k) (omega (arith, e, l)))) (wrote_more a b c _ _ v x)
+  where
+    further : 4 * n ≡ 4 * k + 4
+    further = omega (arith, e)
+
+pub wrote_packed : (a b : Held) (ns : List ℕ) (k : ℕ) → k ≤ 0 → Wrote a b (packed (drop (4 * k) ns))
+    → Wrote a b (packed ns)
+wrote_packed a b ns k e w = wrote_equal a b (packed (drop (4 * k) ns)) (packed ns)
+    (ap (λ n. packed (drop n ns)) zero_is) w
+  where
+    zero_is : 4 * k ≡ 0
+    zero_is = omega (arith, e)
+
+-- sets
+set_cons : (x : SetItem) (xs : List SetItem) → set_item_words x ++ set_words xs ≡ set_words (x ∷ xs)
+set_cons (Single v) xs = refl
+set_cons (Range low high) xs = refl
+set_cons (RangeUniIgnore low high) xs = refl
+set_cons (Category c) xs = refl
+set_cons (Charset bits) xs = refl
+set_cons (BigCharset numbers bits) xs =
+    ap (λ l. opcode_number opcode.BIGCHARSET ∷ (length bits / 8) ∷ l)
+    (append_assoc (packed numbers) bits (set_words xs))
+set_cons Negate xs = refl
+
+pub wrote_no_items : (a : Held) (xs : List part.SetItem) → Wrote a a
+    (set_words (map set_item_of (drop (length xs) xs)))
+wrote_no_items a xs = wrote_equal a a [] _ (sym (ends xs)) (wrote_nothing a)
+  where
+    ends : (xs : List part.SetItem) → set_words (map set_item_of (drop (length xs) xs)) ≡ []
+    ends [] = refl
+    ends (x ∷ xs) = ends xs
+
+pub wrote_set_item : (a b c : Held) (xs : List part.SetItem) (x : part.SetItem) (k n : ℕ) → n ≡ k + 1 → k < length xs
+    → x ≡ slice_index_or xs k x → Wrote a b (set_words (map set_item_of (drop n xs)))
+    → Wrote b c (set_item_words (set_item_of x)) → Wrote a c (set_words (map set_item_of (drop k xs)))
+wrote_set_item a b c xs x k n e l same v w =
+    wrote_equal a c _ _
+    (set_cons (set_item_of x) (map set_item_of (drop n xs))
+    ∙ ap (λ m. set_words (set_item_of x ∷ map set_item_of (drop m xs))) next
+    ∙ ap (λ y. set_words (set_item_of y ∷ map set_item_of (drop (suc k) xs))) same
+    ∙ ap (λ l. set_words (map set_item_of l)) (sym (drop_at xs k x l))) (wrote_more a b c _ _ v w)
+  where
+    next : n ≡ suc k
+    next = omega (arith, e)
+
+pub wrote_set : (a b : Held) (xs : List part.SetItem) (k : ℕ) → k ≤ 0
+    → Wrote a b (set_words (map set_item_of (drop k xs)))
+    → Wrote a b (set_words (map set_item_of xs))
+wrote_set a b xs k e w = wrote_equal a b _ _ (ap (λ n. set_words (map set_item_of (drop n xs))) zero_is) w
+  where
+    zero_is : k ≡ 0
+    zero_is = omega (arith, e)
+
+pub wrote_charset : (a b c : Held) (x : part.SetItem) (bits bs : List ℕ) → x ≡ set.Charset bits → bs ≡ bits
+    → Wrote a b bs → Wrote b c (opcode_number opcode.CHARSET ∷ []) → Wrote a c (set_item_words (set_item_of x))
+wrote_charset a b c x bits bs e f v w =
+    wrote_equal a c _ _
+    (ap (λ l. opcode_number opcode.CHARSET ∷ l) f ∙ sym (ap (λ y. set_item_words (set_item_of y)) e))
+    (wrote_more a b c bs _ v w)
+
+pub wrote_big_charset : (a b : Held) (x : part.SetItem) (numbers : Vec ℕ) (bits : Vec ℕ) (ns bs : List ℕ) (n : ℕ)
+    → x ≡ set.BigCharset numbers bits → ns ≡ numbers.items → bs ≡ bits.items → n ≡ vec_len bits
+    → Wrote a b (opcode_number opcode.BIGCHARSET ∷ (n / 8) ∷ (packed ns ++ bs))
+    → Wrote a b (set_item_words (set_item_of x))
+wrote_big_charset a b x numbers bits ns bs n e f g h w =
+    wrote_equal a b _ _
+    (same (packed ns) (packed numbers.items) bs bits.items (n / 8) (length bits.items / 8) (ap packed f) g
+    (ap (λ m. m / 8) (h ∙ bits.ok.0)) ∙ sym (ap (λ y. set_item_words (set_item_of y)) e)) w
+  where
+    same : (p q r s : List ℕ) (i j : ℕ) → p ≡ q → r ≡ s → i ≡ j
+        → opcode_number opcode.BIGCHARSET ∷ i ∷ (p ++ r) ≡ opcode_number opcode.BIGCHARSET ∷ j ∷ (q ++ s)
+    same p q r s i j e f g = cc
+
+-- how many words a writer has
+pub wrote_length : (a b : Held) (xs : List ℕ) → Wrote a b xs → b.failure ≡ None
+    → length b.words ≡ length a.words + length xs
+wrote_length a b xs w q = by a.failure refl
+  where
+    by : (f : Option EmitError) → a.failure ≡ f → length b.words ≡ length a.words + length xs
+    by None p = omega (
+      arith,
+      ap length (w.done p q).0,
+      length-append a.words (reverse xs),
+      length-reverse xs,
+    )
+    by (Some e) p = let k : b.failure ≡ Some e = w.kept e p in absurd (cc)
+
+-- words, and then some in front of them in which their number stands
+pub wrote_counted : (a b c : Held) (xs : List ℕ) (n m : ℕ) (f : ℕ → List ℕ) → Wrote a b xs
+    → (b.failure ≡ None → n ≡ m) → Wrote b c (f n) → Wrote a c (f m ++ xs)
+wrote_counted a b c xs n m f v e w = by b.failure refl
+  where
+    stop : (d : EmitError) → b.failure ≡ Some d → (x : EmitError) → c.failure ≡ Some x → d ≡ x
+    stop d p x q = failed_once d x c.failure (w.kept d p) q
+
+    by : (g : Option EmitError) → b.failure ≡ g → Wrote a c (f m ++ xs)
+    by None p = wrote_equal a c (f n ++ xs) (f m ++ xs) (ap (λ k. f k ++ xs) (e p)) (wrote_more a b c xs (f n) v w)
+    by (Some d) p = record {
+      kept = λ x k. w.kept x (v.kept x k);
+      done = λ k q. let l : c.failure ≡ Some d = w.kept d p in absurd (cc);
+      stops = λ k x q. stops_up xs (f m ++ xs) (back_words (f m) xs) x
+          (subst (λ y. Stops xs y) (stop d p x q) (v.stops k d p));
+      grows = omega (arith, v.grows, w.grows);
+    }
+
+-- a test's set
+pub wrote_set_test : (a b c d e : Held) (t : OneChar) (f : part_fold.Fold) (s : Vec part.SetItem)
+    (ss : List part.SetItem) (n : ℕ) (o : SreOpcode) → t ≡ test.In f s → ss ≡ s.items → o ≡ set_opcode (fold_of f)
+    → Wrote a b (opcode_number opcode.FAILURE ∷ []) → Wrote b c (set_words (map set_item_of ss))
+    → (c.failure ≡ None → n ≡ length (set_words (map set_item_of ss))) → Wrote c d ((n + 2) ∷ [])
+    → Wrote d e (opcode_number o ∷ []) → Wrote a e (test_words (test_of t))
+wrote_set_test a b c d e t f s ss n o is same code u v count w x =
+    let ws : List ℕ = set_words (map set_item_of ss) in
+    let fail : List ℕ = opcode_number opcode.FAILURE ∷ [] in
+    wrote_equal a e _ _
+    (ap (λ l. opcode_number o ∷ (length (set_words (map set_item_of l)) + 2) ∷
+    (set_words (map set_item_of l) ++ fail)) same
+    ∙ ap (λ q. opcode_number q ∷ (length (set_words (map set_item_of s.items)) + 2)
+    ∷ (set_words (map set_item_of s.items) ++ fail)) code ∙ sym (ap (λ y. test_words (test_of y)) is))
+    (wrote_counted a c e (ws ++ fail) n (length ws) (λ k. opcode_number o ∷ (k + 2) ∷ []) (wrote_more a b c fail ws u v)
+    count (wrote_more c d e _ _ w x))

@@ -1,0 +1,14 @@
+use Rattle.std.proofs.Common.{arith, ◌-◌}
+use Rattle.sre_emit.proofs.Written.{wrote_nothing_of, wrote_from}
+use Rattle.sre_emit.proofs.writer.Writer.put_all.Goals as goal
+
+pub words-init : goal.words-init
+words-init g c = (omega arith, wrote_nothing_of c.args.self.now c.args.words.now)
+
+pub words-preserved : goal.words-preserved
+words-preserved g c = (
+  omega (arith, c.words.invariant.0),
+  wrote_from c.args.self.now c.words.self c.put.new.self c.args.words.now (c.words.at - 1) c.words.at
+      (omega (arith, c.words-test.true)) (omega (arith, c.words-test.true, c.words.invariant.0)) c.words.invariant.1
+      c.put.ensures,
+)

@@ -1,0 +1,25 @@
+-- What a writer does: words are written from the last to the first, and a failure stays.
+-- Words of the writer's contracts; the public clauses rest on the grammar.
+use Rattle.std.specs.Prelude.{ℕ, ◌≡◌, ◌≤◌, List, ◌++◌, length, reverse, Option, Some, None}
+use Rattle.sre_growth.specs.Refusal.{Refused}
+use Rattle.sre_model.specs.Standing.{AreWords}
+use Rattle.sre_emit.specs.declared.error.EmitError.{EmitError}
+use Rattle.sre_emit.specs.declared.error.EmitError.TheVariants.{Memory, TooLong}
+
+-- what a writer holds: the words so far, the last one first, and why no more are written
+pub record Held : Type 0 where
+  pub words : List ℕ
+  pub failure : Option EmitError
+
+-- why some words are not written: memory was refused, or one of them is none
+abbrev pub Stops : List ℕ → EmitError → Type 0
+Stops xs Memory = Refused
+Stops xs TooLong = AreWords xs → ⊥
+Stops xs e = ⊥
+
+-- from one state of a writer to the next the words xs were written, the last of them first, or the writer failed
+pub record Wrote (a b : Held) (xs : List ℕ) : Type 0 where
+  pub kept : (e : EmitError) → a.failure ≡ Some e → b.failure ≡ Some e
+  pub done : a.failure ≡ None → b.failure ≡ None → (b.words ≡ a.words ++ reverse xs) × AreWords xs
+  pub stops : a.failure ≡ None → (e : EmitError) → b.failure ≡ Some e → Stops xs e
+  pub grows : length a.words ≤ length b.words

@@ -1,0 +1,44 @@
+-- The words of a tree are a code of that tree, and no others without a block are.
+use Rattle.std.proofs.Common.{ℕ, ◌+◌, ◌-◌, ◌≡◌, ◌<◌, false, List, [], ◌∷◌, length, sym, ◌∙◌, subst, arith}
+use Rattle.std.proofs.Common.{length-append}
+use Rattle.sre_chars.specs.Numbers.{opcode_number}
+use Rattle.sre_chars.specs.declared.constants.SreOpcode.TheVariants as opcode
+use Rattle.sre_model.specs.Tree.{Tree}
+use Rattle.sre_model.specs.Grammar.{has_block, WholeItems, Whole}
+use Rattle.sre_model.specs.Standing.{AreWords}
+use Rattle.sre_model.specs.Lawful.{LawfulTree}
+use Rattle.sre_model.specs.Written.{tree_words, code_words}
+use Rattle.sre_model.proofs.Words.{opcode_within}
+use Rattle.sre_model.proofs.CutOff.{none_behind}
+use Rattle.sre_model.proofs.StandingWords.{stands_whole, stands_front, stands_all}
+use Rattle.sre_model.proofs.LaidOut.{lay_tree, last}
+use Rattle.sre_model.proofs.ReadBack.{read_tree, spell_then, spell_last}
+
+-- the words of a tree that has some are read as it
+pub code_whole : (t : Tree) → LawfulTree t → WholeItems (code_words t) t
+code_whole t h =
+    let ws : List ℕ = code_words t in
+    let n : ℕ = length (tree_words t) in
+    let long : length ws ≡ n + 1 = omega (arith, length-append (tree_words t) (opcode_number opcode.SUCCESS ∷ [])) in
+    let front = stands_front ws 0 (tree_words t) (opcode_number opcode.SUCCESS ∷ []) (stands_whole ws) in (
+      lay_tree t ws 0 (length ws - 1) front (omega (arith, long)) h,
+      last ws 0 (length ws - 1) (opcode_number opcode.SUCCESS) (tree_words t) [] (stands_whole ws)
+          (omega (arith, long)),
+    )
+
+-- words that are read as a tree are its words
+pub items_are : (ws : List ℕ) (t : Tree) → AreWords ws → WholeItems ws t → ws ≡ code_words t
+items_are ws t h w =
+    let room : length ws - 1 < length ws = opcode_within ws (length ws - 1) opcode.SUCCESS w.1 in
+    let s = read_tree t ws 0 (length ws - 1) h w.0 (omega (arith, room)) in
+    let all = spell_then ws 0 (length ws - 1) (length ws) (tree_words t) (opcode_number opcode.SUCCESS ∷ []) s
+    (spell_last ws (length ws - 1) (length ws) (opcode_number opcode.SUCCESS) w.1 (omega (arith, room))) in
+    stands_all ws (code_words t) all.stands (omega (arith, all.ends))
+
+pub whole_are : (ws : List ℕ) (t : Tree) → AreWords ws → has_block ws ≡ false → Whole ws t → ws ≡ code_words t
+whole_are ws t h e w = items_are ws t h (subst (λ (xs : List ℕ). WholeItems xs t) (none_behind ws e).1 w.1)
+
+-- two lists of words without a block that have one tree are one
+pub same_words : (vs ws : List ℕ) (t : Tree) → AreWords vs → AreWords ws → has_block vs ≡ false → has_block ws ≡ false
+    → Whole vs t → Whole ws t → vs ≡ ws
+same_words vs ws t h k e f v w = whole_are vs t h e v ∙ sym (whole_are ws t k f w)
