@@ -172,3 +172,23 @@ class Reader:
 def expression(words, *names):
     """The part that words without an information block mean."""
     return Reader(words, *names).part(0, len(words) - 1)
+
+
+HEAD = """//! The words of the patterns of `{path}`, without information blocks, a list a line.
+//! `tools/words.py --words` writes this file.
+
+pub const PATTERNS: &str = "\\
+"""
+
+
+def write_words(lists, path, name):
+    """Writes a file of Rust that has lists of words of the patterns in a file, each of them once."""
+    lines = dict.fromkeys(','.join(map(str, words)) for words in lists)
+    with open(name, 'w', encoding='utf-8', newline='\n') as file:
+        file.write(HEAD.format(path=path))
+        for line in lines:
+            # a backslash at a line's end joins it to the next one
+            for part in textwrap.wrap(line.replace(',', ', '), 110):
+                file.write('    ' + part.replace(', ', ',') + '\\\n')
+            file.write('    \\n\\\n')
+        file.write('    ";\n')

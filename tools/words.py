@@ -4,6 +4,7 @@
     words.py VERB PATTERN [TEXT]     writes the case; the verb is match, search, walk or check
     words.py --cases FILE NAME       writes NAME.txt and NAME.expected from a file of patterns
     words.py --tree PATTERN          writes the pattern's tree as a Rust expression of `Part`
+    words.py --words FILE NAME       writes the words of a file of patterns to NAME, a file of Rust
 
 The words are those that CPython's own compiler makes, and the answers those of CPython's `re`.
 It runs under CPython 3.11 to 3.13 and needs nothing else. The status is 0; or 1 where --run finds
@@ -461,6 +462,7 @@ def arguments():
     add('--run', metavar='PROGRAM', help="run sre_cases, and compare its answer with Python's")
     add('--cases', nargs=2, metavar=('FILE', 'NAME'), help='write a case file from patterns')
     add('--tree', metavar='PATTERN', help='write the tree as a Rust expression, behind the flags')
+    add('--words', nargs=2, metavar=('FILE', 'NAME'), help='write the words as a Rust constant')
     return parser
 
 
@@ -496,6 +498,10 @@ def main():
             if options.verb or options.run or options.explain or options.cases:
                 raise Fault('--tree takes a pattern, and --flags and --bytes alone beside')
             show_tree(options)
+            return 0
+        if options.words:
+            path, name = options.words
+            trees.write_words([cases_of(fields, True)[0] for _, fields in blocks_of(path)], path, name)
             return 0
         if not options.cases:
             return one_case(options)

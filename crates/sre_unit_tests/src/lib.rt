@@ -22,8 +22,12 @@ mod lawful;
 #[cfg(test)]
 mod lists;
 #[cfg(test)]
+mod patterns;
+#[cfg(test)]
 mod refusals;
 #[cfg(test)]
 mod refused_checks;
+#[cfg(test)]
+mod round_trips;
 #[cfg(test)]
 mod trees;
