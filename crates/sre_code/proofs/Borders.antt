@@ -317,9 +317,6 @@ set_right p o n k r l lt = more_right p (slice_set o n k) n k (record {
 pub lengths_right : (p o : List ℕ) → length o ≡ length p → Right p o → are_overlaps p 1 o ≡ true
 lengths_right p o long r = sym (overlaps_told p o true long (λ _. r) (λ _. refl))
 
--- what `next_border` answers
-pub ruleset next_border_laws = (one_longer, none_longer, starts, goes_down, starts_most, goes_down_most, falls)
-
 -- what `are_right` answers
 pub ruleset overlaps_laws = (first_right, first_wrong, more_right, more_wrong, all_right)
 

@@ -13,7 +13,6 @@ use sre_growth::Refusal;
 use std::alloc::Allocator;
 
 /// The border length of the first `n + 1` words of the prefix.
-#[tactic(auto, using(crate::proofs::Borders::next_border_laws))]
 fn next_border(prefix: &[u32], overlaps: &[u32], n: usize) -> usize
     requires some { 0 < n }
     requires within { n < length prefix.now }
