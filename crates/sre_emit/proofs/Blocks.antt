@@ -3,6 +3,7 @@ use Rattle.std.proofs.Common.{ℕ, zero, suc, ◌+◌, ◌*◌, ◌-◌, ◌/◌
 use Rattle.std.proofs.Common.{nat_eq, nat_lt}
 use Rattle.std.proofs.Common.{nat_le, List, [], ◌∷◌, ◌++◌, length, take, drop, Option, Some, None, is_some}
 use Rattle.std.proofs.Common.{refl, sym, ◌∙◌, ap, subst, arith, length-append, map, ◌≢◌}
+use Rattle.std.proofs.Math.Seq.{drop-append_seam, take-append_seam}
 use Rattle.std.proofs.lemmas.List.{append_assoc}
 use Rattle.std.proofs.lemmas.Bool.Decides.{nat_tests}
 use Rattle.sre_chars.specs.Numbers.{opcode_number}
@@ -178,18 +179,10 @@ leading_least (Then x rest) = by (plain x) (is_mark x) (leading_least rest)
 
 -- The words of a block
 
-drop_front : (xs ys : List ℕ) → drop (length xs) (xs ++ ys) ≡ ys
-drop_front [] ys = refl
-drop_front (x ∷ xs) ys = drop_front xs ys
-
-take_front : (xs ys : List ℕ) → take (length xs) (xs ++ ys) ≡ xs
-take_front [] ys = refl
-take_front (x ∷ xs) ys = ap (λ l. x ∷ l) (take_front xs ys)
-
 -- whatever a block claims, what is behind it stays
 pub behind : (flags least : ℕ) (others ws : List ℕ) → behind_block (block flags least others ++ ws) ≡ ws
 behind flags least others ws =
-    ap (λ n. drop n (block flags least others ++ ws)) far ∙ drop_front (block flags least others) ws
+    ap (λ n. drop n (block flags least others ++ ws)) far ∙ drop-append_seam (block flags least others) ws
   where
     far : 1 + (length others + 4) ≡ length (block flags least others)
     far = omega arith
@@ -213,7 +206,7 @@ module _ (flags least k : ℕ) (ps os ws : List ℕ) where
   words_read =
       let far : 7 + length ps - 7 ≡ length ps = omega arith in
       ap (λ n. take n ((ps ++ os) ++ ws)) far ∙ ap (take (length ps)) (append_assoc ps os ws)
-      ∙ take_front ps (os ++ ws)
+      ∙ take-append_seam ps (os ++ ws)
 
   overlaps_read : length os ≡ length ps → overlap_words all ≡ os
   overlaps_read e =
@@ -225,8 +218,8 @@ module _ (flags least k : ℕ) (ps os ws : List ℕ) where
       ap (λ l. opcode_number opcode.INFO ∷ (length (length ps ∷ k ∷ (ps ++ os)) + 4) ∷ flags ∷ least ∷ unlimited
       ∷ length ps ∷ k ∷ l) (append_assoc ps os ws) in
       let rest : drop (7 + length ps) all ≡ os ++ ws =
-      ap (λ n. drop n all) far ∙ ap (drop (length head)) same ∙ drop_front head (os ++ ws) in
-      ap (λ n. take n (drop (7 + length ps) all)) many ∙ ap (take (length os)) rest ∙ take_front os ws
+      ap (λ n. drop n all) far ∙ ap (drop (length head)) same ∙ drop-append_seam head (os ++ ws) in
+      ap (λ n. take n (drop (7 + length ps) all)) many ∙ ap (take (length os)) rest ∙ take-append_seam os ws
 
   prefix_there : nat_eq (flags / 1 % 2) 1 ≡ true → 0 < length ps → k ≤ length ps → length os ≡ length ps
       → are_overlaps ps 1 os ≡ true → has_prefix all ≡ true
@@ -353,18 +346,6 @@ emits true t h a = with_words t h a
 
 tree_of_items : (p : Part) (xs : List part.Item) → xs ≡ p.items.items → in_order (map item_of xs) ≡ tree_of p
 tree_of_items p xs e = ap (λ l. in_order (map item_of l)) e ∙ sym (tree_is p)
-
--- a part that begins with no literal
-pub short_block : (p : Part) (xs : List part.Item) (k least : ℕ) → xs ≡ p.items.items
-    → k ≡ leading (in_order (map item_of xs)) → k ≡ 0 → least ≡ width (tree_of p)
-    → opcode_number opcode.INFO ∷ 4 ∷ 0 ∷ least ∷ unlimited ∷ [] ≡ block_words (tree_of p)
-short_block p xs k least e count z w =
-    let t = tree_of p in
-    let zero_is : leading t ≡ 0 = sym (ap leading (tree_of_items p xs e)) ∙ sym count ∙ z in
-    let none : nat_lt 0 (leading t) ≡ false = ap (nat_lt 0) zero_is in
-    ap (λ n. opcode_number opcode.INFO ∷ 4 ∷ 0 ∷ n ∷ unlimited ∷ []) w
-    ∙ sym (ap (λ c. cond c (block (cond (has_literals_alone t) 3 1) (width t) (prefix_words (spread t) (leading t)))
-    (block 0 (width t) [])) none)
 
 some_leading : (p : Part) (xs : List part.Item) (k : ℕ) → xs ≡ p.items.items → k ≡ leading (in_order (map item_of xs))
     → k ≢ 0 → nat_lt 0 (leading (tree_of p)) ≡ true

@@ -1,8 +1,6 @@
 -- What a writer hands out are the words of a part, behind the block that was asked for.
-use Rattle.std.proofs.Common.{ℕ, ◌+◌, ◌≡◌, ◌≤◌, Bool, List, [], ◌++◌, reverse, None, Some, sym, ◌∙◌, ap, Result, Ok}
-use Rattle.std.proofs.Common.{Err}
-use Rattle.std.proofs.Common.{subst, arith}
-use Rattle.std.specs.Prelude.{IfOk, IfErr}
+use Rattle.std.proofs.Common.{ℕ, ◌≡◌, ◌≤◌, Bool, List, [], ◌++◌, reverse, None, Some, sym, ◌∙◌, ap}
+use Rattle.std.proofs.Common.{subst}
 use Rattle.std.proofs.lemmas.List.{reverse-reverse}
 use Rattle.sre_model.specs.Standing.{AreWords}
 use Rattle.sre_model.specs.Written.{code_words}
@@ -11,7 +9,6 @@ use Rattle.sre_emit.specs.declared.part.Part.{Part}
 use Rattle.sre_emit.specs.declared.error.EmitError.{EmitError}
 use Rattle.sre_emit.specs.declared.error.EmitError.TheVariants.{Memory, TooLong, TooDeep, BadPart}
 use Rattle.sre_emit.specs.Parts.{tree_of, depth, HasTree}
-use Rattle.sre_emit.specs.Checked.{Causes}
 use Rattle.sre_emit.specs.Writing.{Held, Wrote}
 use Rattle.sre_emit.specs.Emitted.{front, Emitted, Cause}
 use Rattle.sre_emit.proofs.Blocks.{emits}
@@ -65,20 +62,3 @@ whole_caused p with_block b TooLong h f = record {
     behind_words vs k = back_words (front with_block (tree_of p)) vs k
 whole_caused p with_block b TooDeep h f = absurd (h.wrote.stops h.failure TooDeep f)
 whole_caused p with_block b BadPart h f = absurd (h.wrote.stops h.failure BadPart f)
-
--- what the check of a part tells
-pub cause_of : (p : Part) (with_block : Bool) (e : EmitError) → Causes (0 + depth p) (HasTree p) e
-    → Cause p with_block e
-cause_of p with_block Memory h = absurd h
-cause_of p with_block TooLong h = absurd h
-cause_of p with_block TooDeep h = omega (arith, h)
-cause_of p with_block BadPart h = h
-
--- what is said of a result
-pub if_ok : {V E : Type 0} (P Q : V → Type 0) (r : Result V E) → ((v : V) → P v → Q v) → IfOk r P → IfOk r Q
-if_ok P Q (Ok v) f h = f v h
-if_ok P Q (Err e) f h = tt
-
-pub if_err : {V E : Type 0} (P Q : E → Type 0) (r : Result V E) → ((e : E) → P e → Q e) → IfErr r P → IfErr r Q
-if_err P Q (Ok v) f h = tt
-if_err P Q (Err e) f h = f e h

@@ -3,6 +3,7 @@ use Rattle.std.proofs.Common.{ℕ, zero, suc, ◌+◌, ◌-◌, ◌≡◌, ◌<�
 use Rattle.std.proofs.Common.{slice_index_or, Option, Some, None, refl, sym, ◌∙◌, ap, arith}
 use Rattle.std.specs.Global.{Vec}
 use Rattle.std.specs.List.{All}
+use Rattle.std.proofs.Math.Seq.{drop-cons, drop-length}
 use Rattle.std.proofs.lemmas.Bool.{and_parts}
 use Rattle.sre_chars.specs.Numbers.{opcode_number, at_number}
 use Rattle.sre_chars.specs.declared.constants.SreOpcode.{SreOpcode}
@@ -24,7 +25,7 @@ use Rattle.sre_model.specs.Written.{test_words, tree_words, item_words, branch_w
 use Rattle.sre_emit.specs.Writing.{Wrote}
 use Rattle.sre_emit.proofs.Layers.{tree_is, alternatives_are, made}
 use Rattle.sre_emit.proofs.Branches.{behind, branch_behind}
-use Rattle.sre_emit.proofs.Written.{wrote_nothing, wrote_equal, wrote_more, wrote_counted, wrote_length, drop_at}
+use Rattle.sre_emit.proofs.Written.{wrote_nothing, wrote_equal, wrote_more, wrote_counted, wrote_length}
 
 -- branches inside have parts
 each_true : {X : Type 0} (f : X → Bool) (xs : List X) → all (map f xs) ≡ true → All (λ x. f x ≡ true) xs
@@ -223,12 +224,8 @@ both_written a b c d e x g there absent other m n is f u first v t second w =
     second w)
 
 -- items, from the last to the first
-drop_whole : {X : Type 0} (xs : List X) → drop (length xs) xs ≡ []
-drop_whole [] = refl
-drop_whole (x ∷ xs) = drop_whole xs
-
 pub items_none : (a : Held) (xs : List Item) → Wrote a a (tree_words (in_order (map item_of (drop (length xs) xs))))
-items_none a xs = wrote_equal a a [] _ (sym (ap (λ l. tree_words (in_order (map item_of l))) (drop_whole xs)))
+items_none a xs = wrote_equal a a [] _ (sym (ap (λ l. tree_words (in_order (map item_of l))) (drop-length xs)))
     (wrote_nothing a)
 
 pub items_more : (a b c : Held) (xs : List Item) (x : Item) (k n : ℕ) → n ≡ k + 1 → k < length xs
@@ -238,7 +235,7 @@ items_more a b c xs x k n e l same v w =
     wrote_equal a c _ _
     (ap (λ m. tree_words (in_order (item_of x ∷ map item_of (drop m xs)))) next
     ∙ ap (λ y. tree_words (in_order (item_of y ∷ map item_of (drop (suc k) xs)))) same
-    ∙ ap (λ l. tree_words (in_order (map item_of l))) (sym (drop_at xs k x l))) (wrote_more a b c _ _ v w)
+    ∙ ap (λ l. tree_words (in_order (map item_of l))) (sym (drop-cons xs k x l))) (wrote_more a b c _ _ v w)
   where
     next : n ≡ suc k
     next = omega (arith, e)
@@ -259,7 +256,7 @@ part_written a b p xs same w =
 -- alternatives, from the last to the first
 pub parts_none : (a b : Held) (ps : List Part) → Wrote a b (0 ∷ [])
     → Wrote a b (behind (map tree_of (drop (length ps) ps)))
-parts_none a b ps w = wrote_equal a b (0 ∷ []) _ (sym (ap (λ l. behind (map tree_of l)) (drop_whole ps))) w
+parts_none a b ps w = wrote_equal a b (0 ∷ []) _ (sym (ap (λ l. behind (map tree_of l)) (drop-length ps))) w
 
 pub parts_more : (a b c d e : Held) (ps : List Part) (p : Part) (k n rest count : ℕ) → n ≡ k + 1 → k < length ps
     → p ≡ slice_index_or ps k p → rest ≡ length b.words - length a.words
@@ -270,7 +267,7 @@ parts_more a b c d e ps p k n rest count f l same far u v t second w =
     wrote_equal a e _ _
     (ap (λ m. behind (tree_of p ∷ map tree_of (drop m ps))) next
     ∙ ap (λ y. behind (tree_of y ∷ map tree_of (drop (suc k) ps))) same
-    ∙ ap (λ l. behind (map tree_of l)) (sym (drop_at ps k p l)))
+    ∙ ap (λ l. behind (map tree_of l)) (sym (drop-cons ps k p l)))
     (wrote_counted a d e _ count _ (λ k. (k + 3) ∷ [])
     (wrote_more a c d _ _ (wrote_counted a b c _ rest _ (λ k. opcode_number opcode.JUMP ∷ (k + 1) ∷ []) u
     (λ q. omega (arith, far, wrote_length a b _ u q)) v) t) second w)

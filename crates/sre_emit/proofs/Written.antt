@@ -1,5 +1,6 @@
 -- What a writer does, step after step.
 use Rattle.std.proofs.Common.{map, length-drop, ◌/◌}
+use Rattle.std.proofs.Math.Seq.{drop-cons, drop-length}
 use Rattle.std.proofs.lemmas.List.{length-reverse}
 use Rattle.std.proofs.Common.{ℕ, zero, suc, ◌+◌, ◌*◌, ◌≡◌, ◌<◌, ◌≤◌, List, [], ◌∷◌, ◌++◌, reverse, drop, length}
 use Rattle.std.proofs.Common.{slice_index, slice_index_or, Option, Some, None, is_none, false, refl, sym, ◌∙◌, ap}
@@ -81,15 +82,6 @@ wrote_nothing a = record {
 }
 
 -- the same words
-pub wrote_same : (a b : Held) (xs ys : List ℕ) → (a.failure ≡ None → b.failure ≡ None → xs ≡ ys) → Wrote a b xs
-    → (a.failure ≡ None → (e : EmitError) → b.failure ≡ Some e → Stops xs e → Stops ys e) → Wrote a b ys
-wrote_same a b xs ys f w g = record {
-  kept = w.kept;
-  done = λ p q. subst (λ zs. (b.words ≡ a.words ++ reverse zs) × AreWords zs) (f p q) (w.done p q);
-  stops = λ p e q. g p e q (w.stops p e q);
-  grows = w.grows;
-}
-
 pub wrote_equal : (a b : Held) (xs ys : List ℕ) → xs ≡ ys → Wrote a b xs → Wrote a b ys
 wrote_equal a b xs ys e w = subst (λ zs. Wrote a b zs) e w
 
@@ -173,25 +165,14 @@ pub ruleset word_laws = (wrote_word, wrote_failed, wrote_stopped)
 
 pub ruleset count_laws = (wrote_failing, long_word)
 
--- a list from a place on
-pub drop_at : {X : Type 0} (xs : List X) (k : ℕ) (d : X) → k < length xs → drop k xs ≡ slice_index_or xs k d
-    ∷ drop (suc k) xs
-drop_at [] k d l = absurd (omega (arith, l))
-drop_at (x ∷ xs) zero d l = refl
-drop_at (x ∷ xs) (suc k) d l = drop_at xs k d (omega (arith, l))
-
 pub wrote_nothing_of : (a : Held) (xs : List ℕ) → Wrote a a (drop (length xs) xs)
-wrote_nothing_of a xs = wrote_equal a a [] (drop (length xs) xs) (sym (drop_all_of xs)) (wrote_nothing a)
-  where
-    drop_all_of : (xs : List ℕ) → drop (length xs) xs ≡ []
-    drop_all_of [] = refl
-    drop_all_of (x ∷ xs) = drop_all_of xs
+wrote_nothing_of a xs = wrote_equal a a [] (drop (length xs) xs) (sym (drop-length xs)) (wrote_nothing a)
 
 pub wrote_from : (a b c : Held) (xs : List ℕ) (k n : ℕ) → n ≡ k + 1 → k < length xs → Wrote a b (drop n xs)
     → Wrote b c (slice_index xs k ∷ []) → Wrote a c (drop k xs)
 wrote_from a b c xs k n e l v w =
     wrote_equal a c (slice_index xs k ∷ drop n xs) (drop k xs)
-    (ap (λ m. slice_index xs k ∷ drop m xs) next ∙ sym (drop_at xs k 0 l)) (wrote_more a b c (drop n xs) _ v w)
+    (ap (λ m. slice_index xs k ∷ drop m xs) next ∙ sym (drop-cons xs k 0 l)) (wrote_more a b c (drop n xs) _ v w)
   where
     next : n ≡ suc k
     next = omega (arith, e)
@@ -220,10 +201,10 @@ four_at : (ns : List ℕ) (k : ℕ) → k + 3 < length ns → packed (drop k ns)
     (k + 3))
     ∷ packed (drop (k + 4) ns)
 four_at ns k l =
-    let one = drop_at ns k 0 (omega (arith, l)) in
-    let two = drop_at ns (suc k) 0 (omega (arith, l)) in
-    let three = drop_at ns (suc (suc k)) 0 (omega (arith, l)) in
-    let four = drop_at ns (suc (suc (suc k))) 0 (omega (arith, l)) in
+    let one = drop-cons ns k 0 (omega (arith, l)) in
+    let two = drop-cons ns (suc k) 0 (omega (arith, l)) in
+    let three = drop-cons ns (suc (suc k)) 0 (omega (arith, l)) in
+    let four = drop-cons ns (suc (suc (suc k))) 0 (omega (arith, l)) in
     ap packed (one ∙ ap (λ l. slice_index ns k ∷ l) (two ∙ ap (λ l. slice_index ns (suc k) ∷ l)
     (three ∙ ap (λ l. slice_index ns (suc (suc k)) ∷ l) four)))
     ∙ ap4 (suc k) (suc (suc k)) (suc (suc (suc k))) (suc (suc (suc (suc k)))) (k + 1) (k + 2) (k + 3) (k + 4)
@@ -269,14 +250,6 @@ set_cons (BigCharset numbers bits) xs =
     (append_assoc (packed numbers) bits (set_words xs))
 set_cons Negate xs = refl
 
-pub wrote_no_items : (a : Held) (xs : List part.SetItem) → Wrote a a
-    (set_words (map set_item_of (drop (length xs) xs)))
-wrote_no_items a xs = wrote_equal a a [] _ (sym (ends xs)) (wrote_nothing a)
-  where
-    ends : (xs : List part.SetItem) → set_words (map set_item_of (drop (length xs) xs)) ≡ []
-    ends [] = refl
-    ends (x ∷ xs) = ends xs
-
 pub wrote_set_item : (a b c : Held) (xs : List part.SetItem) (x : part.SetItem) (k n : ℕ) → n ≡ k + 1 → k < length xs
     → x ≡ slice_index_or xs k x → Wrote a b (set_words (map set_item_of (drop n xs)))
     → Wrote b c (set_item_words (set_item_of x)) → Wrote a c (set_words (map set_item_of (drop k xs)))
@@ -285,7 +258,7 @@ wrote_set_item a b c xs x k n e l same v w =
     (set_cons (set_item_of x) (map set_item_of (drop n xs))
     ∙ ap (λ m. set_words (set_item_of x ∷ map set_item_of (drop m xs))) next
     ∙ ap (λ y. set_words (set_item_of y ∷ map set_item_of (drop (suc k) xs))) same
-    ∙ ap (λ l. set_words (map set_item_of l)) (sym (drop_at xs k x l))) (wrote_more a b c _ _ v w)
+    ∙ ap (λ l. set_words (map set_item_of l)) (sym (drop-cons xs k x l))) (wrote_more a b c _ _ v w)
   where
     next : n ≡ suc k
     next = omega (arith, e)

@@ -1,5 +1,5 @@
 -- The words of a tree are a code of that tree, and no others without a block are.
-use Rattle.std.proofs.Common.{ℕ, ◌+◌, ◌-◌, ◌≡◌, ◌<◌, false, List, [], ◌∷◌, length, sym, ◌∙◌, subst, arith}
+use Rattle.std.proofs.Common.{ℕ, ◌+◌, ◌-◌, ◌≡◌, ◌<◌, false, List, [], ◌∷◌, length, subst, arith}
 use Rattle.std.proofs.Common.{length-append}
 use Rattle.sre_chars.specs.Numbers.{opcode_number}
 use Rattle.sre_chars.specs.declared.constants.SreOpcode.TheVariants as opcode
@@ -37,8 +37,3 @@ items_are ws t h w =
 
 pub whole_are : (ws : List ℕ) (t : Tree) → AreWords ws → has_block ws ≡ false → Whole ws t → ws ≡ code_words t
 whole_are ws t h e w = items_are ws t h (subst (λ (xs : List ℕ). WholeItems xs t) (none_behind ws e).1 w.1)
-
--- two lists of words without a block that have one tree are one
-pub same_words : (vs ws : List ℕ) (t : Tree) → AreWords vs → AreWords ws → has_block vs ≡ false → has_block ws ≡ false
-    → Whole vs t → Whole ws t → vs ≡ ws
-same_words vs ws t h k e f v w = whole_are vs t h e v ∙ sym (whole_are ws t k f w)

@@ -49,9 +49,6 @@ spell_then ws i k j xs ys s t = record {
   ends = omega (arith, s.ends, t.ends, length-append xs ys);
 }
 
-spell_end : (ws : List ℕ) (i k j : ℕ) (xs : List ℕ) → k ≡ j → Spells ws i k xs → Spells ws i j xs
-spell_end ws i k j xs e s = record { stands = s.stands; ends = omega (arith, e, s.ends) }
-
 spell_range : (ws : List ℕ) (i j : ℕ) (xs : List ℕ) → xs ≡ slice_range ws i j → i ≤ j → j ≤ length ws → Spells ws i j xs
 spell_range ws i j xs e order room = record {
   stands = range_stands ws i j xs e order room;

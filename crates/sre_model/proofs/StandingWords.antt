@@ -18,9 +18,6 @@ stands_whole ws = record { at = λ k v w. word_moved ws k (0 + k) v (omega arith
 pub stands_moved : (ws : List ℕ) (i k : ℕ) (xs : List ℕ) → i ≡ k → Stands ws i xs → Stands ws k xs
 stands_moved ws i k xs e s = let P : ℕ → Type 0 = λ n. Stands ws n xs in subst P e s
 
-pub stands_of : (ws : List ℕ) (i : ℕ) (xs ys : List ℕ) → xs ≡ ys → Stands ws i xs → Stands ws i ys
-stands_of ws i xs ys e s = let P : List ℕ → Type 0 = λ l. Stands ws i l in subst P e s
-
 pub in_front : (xs ys : List ℕ) (k v : ℕ) → Word xs k v → Word (xs ++ ys) k v
 in_front [] ys k v w = absurd (cc)
 in_front (x ∷ xs) ys zero v w = w
