@@ -184,11 +184,13 @@ pub const PATTERNS: &str = "\\
 def write_words(lists, path, name):
     """Writes a file of Rust that has lists of words of the patterns in a file, each of them once."""
     lines = dict.fromkeys(','.join(map(str, words)) for words in lists)
+    row = '    '
     with open(name, 'w', encoding='utf-8', newline='\n') as file:
         file.write(HEAD.format(path=path))
-        for line in lines:
-            # a backslash at a line's end joins it to the next one
-            for part in textwrap.wrap(line.replace(',', ', '), 110):
-                file.write('    ' + part.replace(', ', ',') + '\\\n')
-            file.write('    \\n\\\n')
-        file.write('    ";\n')
+        for piece in re.findall(r'\d+(?:,|\\n)', ''.join(f'{line}\\n' for line in lines)):
+            if len(row) + len(piece) > 119:
+                # a backslash at a row's end joins it to the next one
+                file.write(f'{row}\\\n')
+                row = '    '
+            row += piece
+        file.write(f'{row}";\n')
