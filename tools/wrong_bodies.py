@@ -181,7 +181,8 @@ def judged(bundle, crate, said):
     is_judged = lines[-1].startswith("only=")
     open_goals = refusals(said, crate)
     named = set(re.findall(rf"(?m)^fn {crate.name}::(\S+):", said))
-    others = ", ".join(it for it in open_goals if open_goals[it] and it not in {body.function for body in bundle["bodies"]})
+    changed = {body.function for body in bundle["bodies"]}
+    others = ", ".join(it for it, goals in open_goals.items() if goals and it not in changed)
     for body in bundle["bodies"]:
         goals = body.own(open_goals.get(body.function))
         label = body.label(crate)

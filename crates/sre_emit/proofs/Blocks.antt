@@ -16,7 +16,7 @@ use Rattle.sre_model.specs.Grammar.{has_block, behind_block, fits_block, WholeIt
 use Rattle.sre_model.specs.Standing.{AreWords}
 use Rattle.sre_model.specs.Shown.{items, a, b, c, d}
 use Rattle.sre_model.specs.Width.{width}
-use Rattle.sre_model.specs.Claims.{border_length, are_overlaps, has_prefix, prefix_words as claimed_words}
+use Rattle.sre_model.specs.Claims.{border_length, are_overlaps, has_prefix, prefix_words}
 use Rattle.sre_model.specs.Claims.{overlap_words, behind_adjacent, behind_spread, then_spread, is_at_end, behind_prefix}
 use Rattle.sre_model.specs.Claims.{confirmed_width, confirmed_prefix, is_literal}
 use Rattle.sre_model.specs.Lawful.{LawfulTree}
@@ -27,7 +27,8 @@ use Rattle.sre_emit.specs.declared.part.Part.{Part}
 use Rattle.sre_emit.specs.declared.part.Item as part
 use Rattle.sre_emit.specs.Parts.{tree_of, item_of, in_order}
 use Rattle.sre_emit.specs.Block.{plain, is_mark, one_more, before, leading, spread, has_literals_alone}
-use Rattle.sre_emit.specs.Block.{is_all_literals, prefix_of, overlaps_from, block, prefix_words, block_words}
+use Rattle.sre_emit.specs.Block.{is_all_literals, block_prefix, overlaps_from, block, prefix_part, prefixed}
+use Rattle.sre_emit.specs.Block.{block_words}
 use Rattle.sre_emit.specs.Emitted.{front, Emits}
 use Rattle.sre_emit.proofs.Layers.{tree_is}
 
@@ -180,29 +181,29 @@ leading_least (Then x rest) = by (plain x) (is_mark x) (leading_least rest)
 -- The words of a block
 
 -- whatever a block claims, what is behind it stays
-pub behind : (flags least : ℕ) (others ws : List ℕ) → behind_block (block flags least others ++ ws) ≡ ws
-behind flags least others ws =
+pub block_behind : (flags least : ℕ) (others ws : List ℕ) → behind_block (block flags least others ++ ws) ≡ ws
+block_behind flags least others ws =
     ap (λ n. drop n (block flags least others ++ ws)) far ∙ drop-append_seam (block flags least others) ws
   where
     far : 1 + (length others + 4) ≡ length (block flags least others)
     far = omega arith
 
-pub fits : (flags least : ℕ) (others ws : List ℕ) → fits_block (block flags least others ++ ws) ≡ true
-fits flags least others ws = grind (arith, nat_tests)
+pub block_fits : (flags least : ℕ) (others ws : List ℕ) → fits_block (block flags least others ++ ws) ≡ true
+block_fits flags least others ws = grind (arith, nat_tests)
 
 -- a block before the words of a tree
 pub block_whole : (t : Tree) (flags least : ℕ) (others : List ℕ) → LawfulTree t
     → Whole (block flags least others ++ code_words t) t
 block_whole t flags least others h = (
-  fits flags least others (code_words t),
-  subst (λ (ws : List ℕ). WholeItems ws t) (sym (behind flags least others (code_words t))) (code_whole t h),
+  block_fits flags least others (code_words t),
+  subst (λ (ws : List ℕ). WholeItems ws t) (sym (block_behind flags least others (code_words t))) (code_whole t h),
 )
 
 module _ (flags least k : ℕ) (ps os ws : List ℕ) where
   abbrev all : List ℕ
   all = block flags least (length ps ∷ k ∷ (ps ++ os)) ++ ws
 
-  words_read : claimed_words all ≡ ps
+  words_read : prefix_words all ≡ ps
   words_read =
       let far : 7 + length ps - 7 ≡ length ps = omega arith in
       ap (λ n. take n ((ps ++ os) ++ ws)) far ∙ ap (take (length ps)) (append_assoc ps os ws)
@@ -244,7 +245,7 @@ module _ (t : Tree) where
 
   module _ (some : nat_lt 0 (leading t) ≡ true) where
     abbrev words : List ℕ
-    words = behind_one (cond (has_literals_alone t) 3 1) (prefix_words (spread t) (leading t))
+    words = behind_one (cond (has_literals_alone t) 3 1) (prefix_part (spread t) (leading t))
 
     flagged : nat_eq (cond (has_literals_alone t) 3 1 / 1 % 2) 1 ≡ true
     flagged = by (has_literals_alone t)
@@ -265,12 +266,12 @@ module _ (t : Tree) where
     left_is : behind_prefix words t ≡ left t (leading t) (spread t)
     left_is =
         let ps = spread t in
-        let read : claimed_words words ≡ ps =
+        let read : prefix_words words ≡ ps =
         words_read (cond (has_literals_alone t) 3 1) (width t) (leading t) ps (overlaps_from ps 1 (length ps))
         (code_words t) in
         rw (there, read) refl
 
-    prefix_confirmed : confirmed_prefix words t ≡ prefix_of t
+    prefix_confirmed : confirmed_prefix words t ≡ block_prefix t
     prefix_confirmed = rw (left_is, adjacent_left t, some) refl
 
     literal_confirmed : is_literal words t ≡ is_all_literals t
@@ -286,11 +287,11 @@ module _ (t : Tree) where
 
   module _ (h : LawfulTree t) where
     claims : (flags : ℕ) (others : List ℕ) → block_words t ≡ block flags (width t) others
-        → AreWords (behind_one flags others) → confirmed_prefix (behind_one flags others) t ≡ prefix_of t
+        → AreWords (behind_one flags others) → confirmed_prefix (behind_one flags others) t ≡ block_prefix t
         → is_literal (behind_one flags others) t ≡ is_all_literals t → Emits true t (behind_one flags others)
     claims flags others e a p l =
         let rest : behind_block (behind_one flags others) ≡ code_words t =
-        behind flags (width t) others (code_words t) in
+        block_behind flags (width t) others (code_words t) in
         record {
           tree = block_whole t flags (width t) others h;
           words = a;
@@ -321,21 +322,18 @@ module _ (t : Tree) where
     with_words : AreWords (block_words t ++ code_words t) → Emits true t (block_words t ++ code_words t)
     with_words = by (nat_lt 0 (leading t)) refl
       where
-        full : List ℕ
-        full = block (cond (has_literals_alone t) 3 1) (width t) (prefix_words (spread t) (leading t))
-
         short : List ℕ
         short = block 0 (width t) []
 
-        by : (b : Bool) → nat_lt 0 (leading t) ≡ b → AreWords (cond b full short ++ code_words t)
-            → Emits true t (cond b full short ++ code_words t)
+        by : (b : Bool) → nat_lt 0 (leading t) ≡ b → AreWords (cond b (prefixed t) short ++ code_words t)
+            → Emits true t (cond b (prefixed t) short ++ code_words t)
         by true e a =
-            claims (cond (has_literals_alone t) 3 1) (prefix_words (spread t) (leading t))
-            (ap (λ c. cond c full short) e) a (prefix_confirmed e) (literal_confirmed e)
+            claims (cond (has_literals_alone t) 3 1) (prefix_part (spread t) (leading t))
+            (ap (λ c. cond c (prefixed t) short) e) a (prefix_confirmed e) (literal_confirmed e)
         by false e a =
-            let none : confirmed_prefix (behind_one 0 []) t ≡ prefix_of t = rw e refl in
+            let none : confirmed_prefix (behind_one 0 []) t ≡ block_prefix t = rw e refl in
             let no_literal : is_literal (behind_one 0 []) t ≡ is_all_literals t = rw e refl in
-            claims 0 [] (ap (λ c. cond c full short) e) a none no_literal
+            claims 0 [] (ap (λ c. cond c (prefixed t) short) e) a none no_literal
 
 pub emits : (with_block : Bool) (t : Tree) → LawfulTree t → AreWords (front with_block t ++ code_words t)
     → Emits with_block t (front with_block t ++ code_words t)
@@ -364,10 +362,10 @@ pub long_block : (p : Part) (xs : List part.Item) (k : ℕ) (ws : List ℕ) → 
 long_block p xs k ws e count some same long h =
     let t = tree_of p in
     let ps : List ℕ = spread t in
-    let others : List ℕ = prefix_words ps (leading t) in
-    let full : List ℕ = block (cond (has_literals_alone t) 3 1) (width t) others in
-    let is : block_words t ≡ full = ap (λ c. cond c full (block 0 (width t) [])) (some_leading p xs k e count some) in
-    let words : AreWords full = subst AreWords is h in
+    let others : List ℕ = prefix_part ps (leading t) in
+    let is : block_words t ≡ prefixed t =
+    ap (λ c. cond c (prefixed t) (block 0 (width t) [])) (some_leading p xs k e count some) in
+    let words : AreWords (prefixed t) = subst AreWords is h in
     let skip_fits : length others + 4 ≤ unlimited = words.fits 1 (length others + 4) refl in
     let many : length ws ≡ length ps = ap length (same ∙ ap spread (tree_of_items p xs e)) in
     omega (
@@ -394,10 +392,9 @@ full_block p xs k least flags b ws os e count some same right long w f alone =
     f ∙ ap (λ c. cond c 3 1) (alone ∙ ap has_literals_alone is) in
     let overlaps : os ≡ overlaps_from ws 1 (length ws) =
     overlaps_same ws os 1 right ∙ ap (overlaps_from ws 1) long in
-    let full : List ℕ = block (cond (has_literals_alone t) 3 1) (width t) (prefix_words (spread t) (leading t)) in
     ap (λ l. block flags least (length ws ∷ k ∷ (ws ++ l))) overlaps
-    ∙ ap (λ l. block flags least (prefix_words l k)) words
-    ∙ ap (λ n. block flags least (prefix_words (spread t) n)) adjacent
-    ∙ ap (λ n. block flags n (prefix_words (spread t) (leading t))) w
-    ∙ ap (λ n. block n (width t) (prefix_words (spread t) (leading t))) flag
-    ∙ sym (ap (λ c. cond c full (block 0 (width t) [])) (some_leading p xs k e count some))
+    ∙ ap (λ l. block flags least (prefix_part l k)) words
+    ∙ ap (λ n. block flags least (prefix_part (spread t) n)) adjacent
+    ∙ ap (λ n. block flags n (prefix_part (spread t) (leading t))) w
+    ∙ ap (λ n. block n (width t) (prefix_part (spread t) (leading t))) flag
+    ∙ sym (ap (λ c. cond c (prefixed t) (block 0 (width t) [])) (some_leading p xs k e count some))

@@ -5,7 +5,6 @@ use Rattle.std.proofs.Common.{map, drop, length, slice_index_or, Option, Some, N
 use Rattle.std.proofs.Common.{ap}
 use Rattle.std.proofs.Common.{arith, length-append}
 use Rattle.std.proofs.Math.ListN.{drop_of_length-le}
-use Rattle.std.proofs.Math.Seq.{drop-cons}
 use Rattle.std.proofs.lemmas.List.{append_assoc, append-nil}
 use Rattle.std.proofs.lemmas.Bool.Decides.{nat_tests}
 use Rattle.sre_chars.specs.Numbers.{opcode_number}
@@ -16,7 +15,7 @@ use Rattle.sre_emit.specs.declared.part.Item.{Item}
 use Rattle.sre_emit.specs.Parts.{item_of, in_order}
 use Rattle.sre_emit.specs.Block.{plain, is_mark, one_more, before, leading, spread, has_literals_alone, block}
 use Rattle.sre_emit.specs.Writing.{Held, Wrote}
-use Rattle.sre_emit.proofs.Written.{wrote_equal, wrote_more}
+use Rattle.sre_emit.proofs.Written.{at_place, wrote_equal, wrote_more}
 
 -- the tree of the items from a place on
 abbrev pub from : ℕ → List Item → tree.Tree
@@ -25,13 +24,7 @@ from k xs = in_order (map item_of (drop k xs))
 -- its first item, and those behind it
 pub from_here : (xs : List Item) (x : Item) (k n : ℕ) → n ≡ k + 1 → k < length xs → x ≡ slice_index_or xs k x
     → from k xs ≡ tree.Then (item_of x) (from n xs)
-from_here xs x k n e l same =
-    ap (λ zs. in_order (map item_of zs)) (drop-cons xs k x l)
-    ∙ ap (λ y. tree.Then (item_of y) (from (suc k) xs)) (sym same)
-    ∙ ap (λ m. tree.Then (item_of x) (from m xs)) next
-  where
-    next : suc k ≡ n
-    next = omega (arith, e)
+from_here xs x k n e l same = ap (λ zs. in_order (map item_of zs)) (at_place xs x k n e l same)
 
 from_end : (xs : List Item) (k : ℕ) → length xs ≤ k → from k xs ≡ tree.Empty
 from_end xs k l = ap (λ zs. in_order (map item_of zs)) (drop_of_length-le xs l)

@@ -15,7 +15,7 @@ use Rattle.sre_emit.proofs.Blocks.{emits}
 use Rattle.sre_emit.proofs.Written.{back_words, wrote_more}
 
 -- a writer of no words has written a code's, and then perhaps a block's
-pub record Whole (p : Part) (with_block : Bool) (b : Held) : Type 0 where
+pub record WroteCode (p : Part) (with_block : Bool) (b : Held) : Type 0 where
   pub has_tree : HasTree p
   pub deep : depth p ≤ 1000
   pub start : Held
@@ -23,10 +23,10 @@ pub record Whole (p : Part) (with_block : Bool) (b : Held) : Type 0 where
   pub failure : start.failure ≡ None
   pub wrote : Wrote start b (front with_block (tree_of p) ++ code_words (tree_of p))
 
-pub whole_made : (p : Part) (with_block : Bool) (a b c : Held) → HasTree p → depth p ≤ 1000 → a.words ≡ []
+pub wrote_code : (p : Part) (with_block : Bool) (a b c : Held) → HasTree p → depth p ≤ 1000 → a.words ≡ []
     → a.failure ≡ None → Wrote a b (code_words (tree_of p)) → Wrote b c (front with_block (tree_of p))
-    → Whole p with_block c
-whole_made p with_block a b c h d none f v w = record {
+    → WroteCode p with_block c
+wrote_code p with_block a b c h d none f v w = record {
   has_tree = h;
   deep = d;
   start = a;
@@ -35,9 +35,9 @@ whole_made p with_block a b c h d none f v w = record {
   wrote = wrote_more a b c _ _ v w;
 }
 
-pub whole_emitted : (p : Part) (with_block : Bool) (b : Held) (words : List ℕ) → Whole p with_block b
+pub code_emitted : (p : Part) (with_block : Bool) (b : Held) (words : List ℕ) → WroteCode p with_block b
     → b.failure ≡ None → words ≡ reverse b.words → Emitted p with_block words
-whole_emitted p with_block b words h none same =
+code_emitted p with_block b words h none same =
     let t = tree_of p in
     let all : List ℕ = front with_block t ++ code_words t in
     let d = h.wrote.done h.failure none in
@@ -49,10 +49,10 @@ whole_emitted p with_block b words h none same =
       emits = emits with_block t h.has_tree.lawful d.1;
     })
 
-pub whole_caused : (p : Part) (with_block : Bool) (b : Held) (e : EmitError) → Whole p with_block b
+pub code_caused : (p : Part) (with_block : Bool) (b : Held) (e : EmitError) → WroteCode p with_block b
     → b.failure ≡ Some e → Cause p with_block e
-whole_caused p with_block b Memory h f = h.wrote.stops h.failure Memory f
-whole_caused p with_block b TooLong h f = record {
+code_caused p with_block b Memory h f = h.wrote.stops h.failure Memory f
+code_caused p with_block b TooLong h f = record {
   none = λ vs k e v.
       let items : vs ≡ code_words (tree_of p) = whole_are vs (tree_of p) (behind_words vs k) e v in
       h.wrote.stops h.failure TooLong f (subst (λ l. AreWords (front with_block (tree_of p) ++ l)) items k);
@@ -60,5 +60,5 @@ whole_caused p with_block b TooLong h f = record {
   where
     behind_words : (vs : List ℕ) → AreWords (front with_block (tree_of p) ++ vs) → AreWords vs
     behind_words vs k = back_words (front with_block (tree_of p)) vs k
-whole_caused p with_block b TooDeep h f = absurd (h.wrote.stops h.failure TooDeep f)
-whole_caused p with_block b BadPart h f = absurd (h.wrote.stops h.failure BadPart f)
+code_caused p with_block b TooDeep h f = absurd (h.wrote.stops h.failure TooDeep f)
+code_caused p with_block b BadPart h f = absurd (h.wrote.stops h.failure BadPart f)

@@ -3,7 +3,7 @@ use Rattle.std.proofs.Common.{ℕ, zero, suc, ◌+◌, ◌-◌, ◌≡◌, ◌<�
 use Rattle.std.proofs.Common.{slice_index_or, Option, Some, None, refl, sym, ◌∙◌, ap, arith}
 use Rattle.std.specs.Global.{Vec}
 use Rattle.std.specs.List.{All}
-use Rattle.std.proofs.Math.Seq.{drop-cons, drop-length}
+use Rattle.std.proofs.Math.Seq.{drop-length}
 use Rattle.std.proofs.lemmas.Bool.{and_parts}
 use Rattle.sre_chars.specs.Numbers.{opcode_number, at_number}
 use Rattle.sre_chars.specs.declared.constants.SreOpcode.{SreOpcode}
@@ -24,8 +24,9 @@ use Rattle.sre_emit.specs.Parts.{has_alternatives, item_has_alternatives, all, s
 use Rattle.sre_model.specs.Written.{test_words, tree_words, item_words, branch_words}
 use Rattle.sre_emit.specs.Writing.{Wrote}
 use Rattle.sre_emit.proofs.Layers.{tree_is, alternatives_are, made}
-use Rattle.sre_emit.proofs.Branches.{behind, branch_behind}
-use Rattle.sre_emit.proofs.Written.{wrote_nothing, wrote_equal, wrote_more, wrote_counted, wrote_length}
+use Rattle.sre_emit.proofs.Branches.{branch_tail, branch_behind}
+use Rattle.sre_emit.proofs.Written.{wrote_equal, wrote_more, wrote_counted, wrote_length, at_place, written_none}
+use Rattle.sre_emit.proofs.Written.{written_more, written_all}
 
 -- branches inside have parts
 each_true : {X : Type 0} (f : X → Bool) (xs : List X) → all (map f xs) ≡ true → All (λ x. f x ≡ true) xs
@@ -224,29 +225,21 @@ both_written a b c d e x g there absent other m n is f u first v t second w =
     second w)
 
 -- items, from the last to the first
-pub items_none : (a : Held) (xs : List Item) → Wrote a a (tree_words (in_order (map item_of (drop (length xs) xs))))
-items_none a xs = wrote_equal a a [] _ (sym (ap (λ l. tree_words (in_order (map item_of l))) (drop-length xs)))
-    (wrote_nothing a)
+abbrev items_words : List Item → List ℕ
+items_words xs = tree_words (in_order (map item_of xs))
+
+pub items_none : (a : Held) (xs : List Item) → Wrote a a (items_words (drop (length xs) xs))
+items_none = written_none items_words refl
 
 pub items_more : (a b c : Held) (xs : List Item) (x : Item) (k n : ℕ) → n ≡ k + 1 → k < length xs
-    → x ≡ slice_index_or xs k x → Wrote a b (tree_words (in_order (map item_of (drop n xs))))
-    → Wrote b c (item_words (item_of x)) → Wrote a c (tree_words (in_order (map item_of (drop k xs))))
+    → x ≡ slice_index_or xs k x → Wrote a b (items_words (drop n xs)) → Wrote b c (item_words (item_of x))
+    → Wrote a c (items_words (drop k xs))
 items_more a b c xs x k n e l same v w =
-    wrote_equal a c _ _
-    (ap (λ m. tree_words (in_order (item_of x ∷ map item_of (drop m xs)))) next
-    ∙ ap (λ y. tree_words (in_order (item_of y ∷ map item_of (drop (suc k) xs)))) same
-    ∙ ap (λ l. tree_words (in_order (map item_of l))) (sym (drop-cons xs k x l))) (wrote_more a b c _ _ v w)
-  where
-    next : n ≡ suc k
-    next = omega (arith, e)
+    written_more items_words a b c xs x _ k n (at_place xs x k n e l same) refl v w
 
-pub items_all : (a b : Held) (xs : List Item) (k : ℕ) → k ≤ 0
-    → Wrote a b (tree_words (in_order (map item_of (drop k xs))))
-    → Wrote a b (tree_words (in_order (map item_of xs)))
-items_all a b xs k e w = wrote_equal a b _ _ (ap (λ n. tree_words (in_order (map item_of (drop n xs)))) zero_is) w
-  where
-    zero_is : k ≡ 0
-    zero_is = omega (arith, e)
+pub items_all : (a b : Held) (xs : List Item) (k : ℕ) → k ≤ 0 → Wrote a b (items_words (drop k xs))
+    → Wrote a b (items_words xs)
+items_all = written_all items_words
 
 pub part_written : (a b : Held) (p : Part) (xs : List Item) → xs ≡ p.items.items
     → Wrote a b (tree_words (in_order (map item_of xs))) → Wrote a b (tree_words (tree_of p))
@@ -255,32 +248,23 @@ part_written a b p xs same w =
 
 -- alternatives, from the last to the first
 pub parts_none : (a b : Held) (ps : List Part) → Wrote a b (0 ∷ [])
-    → Wrote a b (behind (map tree_of (drop (length ps) ps)))
-parts_none a b ps w = wrote_equal a b (0 ∷ []) _ (sym (ap (λ l. behind (map tree_of l)) (drop-length ps))) w
+    → Wrote a b (branch_tail (map tree_of (drop (length ps) ps)))
+parts_none a b ps w = wrote_equal a b (0 ∷ []) _ (sym (ap (λ l. branch_tail (map tree_of l)) (drop-length ps))) w
 
 pub parts_more : (a b c d e : Held) (ps : List Part) (p : Part) (k n rest count : ℕ) → n ≡ k + 1 → k < length ps
     → p ≡ slice_index_or ps k p → rest ≡ length b.words - length a.words
-    → Wrote a b (behind (map tree_of (drop n ps))) → Wrote b c (opcode_number opcode.JUMP ∷ (rest + 1) ∷ [])
+    → Wrote a b (branch_tail (map tree_of (drop n ps))) → Wrote b c (opcode_number opcode.JUMP ∷ (rest + 1) ∷ [])
     → Wrote c d (tree_words (tree_of p)) → (d.failure ≡ None → count ≡ length (tree_words (tree_of p)))
-    → Wrote d e ((count + 3) ∷ []) → Wrote a e (behind (map tree_of (drop k ps)))
+    → Wrote d e ((count + 3) ∷ []) → Wrote a e (branch_tail (map tree_of (drop k ps)))
 parts_more a b c d e ps p k n rest count f l same far u v t second w =
-    wrote_equal a e _ _
-    (ap (λ m. behind (tree_of p ∷ map tree_of (drop m ps))) next
-    ∙ ap (λ y. behind (tree_of y ∷ map tree_of (drop (suc k) ps))) same
-    ∙ ap (λ l. behind (map tree_of l)) (sym (drop-cons ps k p l)))
+    wrote_equal a e _ _ (ap (λ l. branch_tail (map tree_of l)) (sym (at_place ps p k n f l same)))
     (wrote_counted a d e _ count _ (λ k. (k + 3) ∷ [])
     (wrote_more a c d _ _ (wrote_counted a b c _ rest _ (λ k. opcode_number opcode.JUMP ∷ (k + 1) ∷ []) u
     (λ q. omega (arith, far, wrote_length a b _ u q)) v) t) second w)
-  where
-    next : n ≡ suc k
-    next = omega (arith, f)
 
 pub parts_all : (a b : Held) (ps : List Part) (k : ℕ) → 0 < length ps → k ≤ 0
-    → Wrote a b (behind (map tree_of (drop k ps))) → Wrote a b (branch_words (alternatives (map tree_of ps)))
+    → Wrote a b (branch_tail (map tree_of (drop k ps))) → Wrote a b (branch_words (alternatives (map tree_of ps)))
 parts_all a b [] k some e w = absurd (omega (arith, some))
 parts_all a b (p ∷ ps) k some e w =
-    wrote_equal a b _ _ (ap (λ n. behind (map tree_of (drop n (p ∷ ps)))) zero_is
-    ∙ sym (branch_behind (tree_of p) (map tree_of ps))) w
-  where
-    zero_is : k ≡ 0
-    zero_is = omega (arith, e)
+    wrote_equal a b _ _ (sym (branch_behind (tree_of p) (map tree_of ps)))
+    (written_all (λ l. branch_tail (map tree_of l)) a b (p ∷ ps) k e w)

@@ -165,23 +165,45 @@ pub ruleset word_laws = (wrote_word, wrote_failed, wrote_stopped)
 
 pub ruleset count_laws = (wrote_failing, long_word)
 
-pub wrote_nothing_of : (a : Held) (xs : List ℕ) → Wrote a a (drop (length xs) xs)
-wrote_nothing_of a xs = wrote_equal a a [] (drop (length xs) xs) (sym (drop-length xs)) (wrote_nothing a)
+-- Lists, from the last element to the first
+
+-- what is left of a list at a place: the element there, and those behind it
+pub behind_place : {X : Type 0} (xs : List X) (x : X) (k n : ℕ) → n ≡ k + 1 → drop k xs ≡ x ∷ drop (suc k) xs
+    → drop k xs ≡ x ∷ drop n xs
+behind_place xs x k n e here = here ∙ ap (λ m. x ∷ drop m xs) next
+  where
+    next : suc k ≡ n
+    next = omega (arith, e)
+
+pub at_place : {X : Type 0} (xs : List X) (x : X) (k n : ℕ) → n ≡ k + 1 → k < length xs → x ≡ slice_index_or xs k x
+    → drop k xs ≡ x ∷ drop n xs
+at_place xs x k n e l same =
+    behind_place xs x k n e (drop-cons xs k x l ∙ ap (λ y. y ∷ drop (suc k) xs) (sym same))
+
+-- F has the words of some elements
+module _ {X : Type 0} (F : List X → List ℕ) where
+  pub written_none : F [] ≡ [] → (a : Held) (xs : List X) → Wrote a a (F (drop (length xs) xs))
+  written_none e a xs = wrote_equal a a [] _ (sym (ap F (drop-length xs) ∙ e)) (wrote_nothing a)
+
+  pub written_more : (a b c : Held) (xs : List X) (x : X) (ws : List ℕ) (k n : ℕ) → drop k xs ≡ x ∷ drop n xs
+      → ws ++ F (drop n xs) ≡ F (x ∷ drop n xs) → Wrote a b (F (drop n xs)) → Wrote b c ws → Wrote a c (F (drop k xs))
+  written_more a b c xs x ws k n here step v w =
+      wrote_equal a c _ _ (step ∙ ap F (sym here)) (wrote_more a b c _ _ v w)
+
+  pub written_all : (a b : Held) (xs : List X) (k : ℕ) → k ≤ 0 → Wrote a b (F (drop k xs)) → Wrote a b (F xs)
+  written_all a b xs k e w = wrote_equal a b _ _ (ap (λ n. F (drop n xs)) zero_is) w
+    where
+      zero_is : k ≡ 0
+      zero_is = omega (arith, e)
 
 pub wrote_from : (a b c : Held) (xs : List ℕ) (k n : ℕ) → n ≡ k + 1 → k < length xs → Wrote a b (drop n xs)
     → Wrote b c (slice_index xs k ∷ []) → Wrote a c (drop k xs)
 wrote_from a b c xs k n e l v w =
-    wrote_equal a c (slice_index xs k ∷ drop n xs) (drop k xs)
-    (ap (λ m. slice_index xs k ∷ drop m xs) next ∙ sym (drop-cons xs k 0 l)) (wrote_more a b c (drop n xs) _ v w)
-  where
-    next : n ≡ suc k
-    next = omega (arith, e)
+    written_more (λ l. l) a b c xs (slice_index xs k) _ k n
+    (behind_place xs (slice_index xs k) k n e (drop-cons xs k 0 l)) refl v w
 
 pub wrote_all : (a b : Held) (xs : List ℕ) (k : ℕ) → k ≤ 0 → Wrote a b (drop k xs) → Wrote a b xs
-wrote_all a b xs k e w = wrote_equal a b (drop k xs) xs (ap (λ n. drop n xs) zero_is) w
-  where
-    zero_is : k ≡ 0
-    zero_is = omega (arith, e)
+wrote_all = written_all (λ l. l)
 
 -- block numbers, four a word
 pub no_four : (a : Held) (ns : List ℕ) → Wrote a a (packed (drop (4 * (length ns / 4)) ns))
@@ -250,26 +272,19 @@ set_cons (BigCharset numbers bits) xs =
     (append_assoc (packed numbers) bits (set_words xs))
 set_cons Negate xs = refl
 
-pub wrote_set_item : (a b c : Held) (xs : List part.SetItem) (x : part.SetItem) (k n : ℕ) → n ≡ k + 1 → k < length xs
-    → x ≡ slice_index_or xs k x → Wrote a b (set_words (map set_item_of (drop n xs)))
-    → Wrote b c (set_item_words (set_item_of x)) → Wrote a c (set_words (map set_item_of (drop k xs)))
-wrote_set_item a b c xs x k n e l same v w =
-    wrote_equal a c _ _
-    (set_cons (set_item_of x) (map set_item_of (drop n xs))
-    ∙ ap (λ m. set_words (set_item_of x ∷ map set_item_of (drop m xs))) next
-    ∙ ap (λ y. set_words (set_item_of y ∷ map set_item_of (drop (suc k) xs))) same
-    ∙ ap (λ l. set_words (map set_item_of l)) (sym (drop-cons xs k x l))) (wrote_more a b c _ _ v w)
-  where
-    next : n ≡ suc k
-    next = omega (arith, e)
+abbrev set_items_words : List part.SetItem → List ℕ
+set_items_words xs = set_words (map set_item_of xs)
 
-pub wrote_set : (a b : Held) (xs : List part.SetItem) (k : ℕ) → k ≤ 0
-    → Wrote a b (set_words (map set_item_of (drop k xs)))
-    → Wrote a b (set_words (map set_item_of xs))
-wrote_set a b xs k e w = wrote_equal a b _ _ (ap (λ n. set_words (map set_item_of (drop n xs))) zero_is) w
-  where
-    zero_is : k ≡ 0
-    zero_is = omega (arith, e)
+pub wrote_set_item : (a b c : Held) (xs : List part.SetItem) (x : part.SetItem) (k n : ℕ) → n ≡ k + 1 → k < length xs
+    → x ≡ slice_index_or xs k x → Wrote a b (set_items_words (drop n xs)) → Wrote b c (set_item_words (set_item_of x))
+    → Wrote a c (set_items_words (drop k xs))
+wrote_set_item a b c xs x k n e l same v w =
+    written_more set_items_words a b c xs x _ k n (at_place xs x k n e l same)
+    (set_cons (set_item_of x) (map set_item_of (drop n xs))) v w
+
+pub wrote_set : (a b : Held) (xs : List part.SetItem) (k : ℕ) → k ≤ 0 → Wrote a b (set_items_words (drop k xs))
+    → Wrote a b (set_items_words xs)
+wrote_set = written_all set_items_words
 
 pub wrote_charset : (a b c : Held) (x : part.SetItem) (bits bs : List ℕ) → x ≡ set.Charset bits → bs ≡ bits
     → Wrote a b bs → Wrote b c (opcode_number opcode.CHARSET ∷ []) → Wrote a c (set_item_words (set_item_of x))

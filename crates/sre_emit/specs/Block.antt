@@ -51,8 +51,8 @@ abbrev pub is_all_literals : Tree → Bool
 is_all_literals t = nat_lt 0 (leading t) && has_literals_alone t
 
 -- a prefix's length and how many of its words stand one directly after the other, where the tree begins with a literal
-abbrev pub prefix_of : Tree → Option (ℕ × ℕ)
-prefix_of t = cond (nat_lt 0 (leading t)) (Some (length (spread t), leading t)) None
+abbrev pub block_prefix : Tree → Option (ℕ × ℕ)
+block_prefix t = cond (nat_lt 0 (leading t)) (Some (length (spread t), leading t)) None
 
 -- the border lengths of the first n words, of the first n + 1, and so on, so many
 abbrev pub overlaps_from : List ℕ → ℕ → ℕ → List ℕ
@@ -64,10 +64,12 @@ abbrev pub block : ℕ → ℕ → List ℕ → List ℕ
 block flags least others = opcode_number opcode.INFO ∷ (length others + 4) ∷ flags ∷ least ∷ unlimited ∷ others
 
 -- what a block has of a prefix
-abbrev pub prefix_words : List ℕ → ℕ → List ℕ
-prefix_words ps k = length ps ∷ k ∷ (ps ++ overlaps_from ps 1 (length ps))
+abbrev pub prefix_part : List ℕ → ℕ → List ℕ
+prefix_part ps k = length ps ∷ k ∷ (ps ++ overlaps_from ps 1 (length ps))
 
+abbrev pub prefixed : Tree → List ℕ
+prefixed t = block (cond (has_literals_alone t) 3 1) (width t) (prefix_part (spread t) (leading t))
+
+-- with a prefix, where the tree begins with a plain literal
 abbrev pub block_words : Tree → List ℕ
-block_words t = cond (nat_lt 0 (leading t))
-    (block (cond (has_literals_alone t) 3 1) (width t) (prefix_words (spread t) (leading t)))
-    (block 0 (width t) [])
+block_words t = cond (nat_lt 0 (leading t)) (prefixed t) (block 0 (width t) [])

@@ -11,7 +11,7 @@ use Rattle.sre_emit.specs.declared.part.Part.{Part}
 use Rattle.sre_emit.specs.declared.error.EmitError.{EmitError}
 use Rattle.sre_emit.specs.declared.error.EmitError.TheVariants.{Memory, TooLong, TooDeep, BadPart}
 use Rattle.sre_emit.specs.Parts.{tree_of, depth, HasTree}
-use Rattle.sre_emit.specs.Block.{block_words, prefix_of, is_all_literals}
+use Rattle.sre_emit.specs.Block.{block_words, block_prefix, is_all_literals}
 
 -- what stands in front of a code's items: a block, where one is asked for
 abbrev pub front : Bool → Tree → List ℕ
@@ -27,7 +27,7 @@ pub record Emits (with_block : Bool) (t : Tree) (ws : List ℕ) : Type 0 where
   pub only : (vs : List ℕ) → AreWords vs → has_block vs ≡ false → Whole vs t → vs ≡ behind_block ws
   -- what a block claims is confirmed
   pub least : confirmed_width ws t ≡ cond with_block (Some (width t)) None
-  pub prefix : confirmed_prefix ws t ≡ cond with_block (prefix_of t) None
+  pub prefix : confirmed_prefix ws t ≡ cond with_block (block_prefix t) None
   pub literal : is_literal ws t ≡ (with_block && is_all_literals t)
 
 -- no words behind such a front have that tree, since one that counts or skips would be none

@@ -11,7 +11,7 @@ ghost use Rattle.sre_engine.specs.Answers.{given};
 ghost use Rattle.sre_engine.specs.Width.{width};
 ghost use Rattle.sre_engine.specs.Codes.{hints_of};
 ghost use Rattle.sre_emit.specs.Parts.{tree_of};
-ghost use Rattle.sre_emit.specs.Block.{prefix_of, is_all_literals};
+ghost use Rattle.sre_emit.specs.Block.{block_prefix, is_all_literals};
 ghost use Rattle.sre_emit.specs.Emitted.{Emitted};
 
 use sre_emit::Part;
@@ -101,7 +101,7 @@ fn checked<'a>(
     ensures width { IfOk result (λ code.
         (hints_of code).width ≡ cond with_block (Some (width (tree_of part.now))) None) }
     ensures prefix { IfOk result (λ code.
-        (hints_of code).prefix ≡ cond with_block (prefix_of (tree_of part.now)) None) }
+        (hints_of code).prefix ≡ cond with_block (block_prefix (tree_of part.now)) None) }
     ensures literal { IfOk result (λ code.
         (hints_of code).literal ≡ (with_block && is_all_literals (tree_of part.now))) }
 {

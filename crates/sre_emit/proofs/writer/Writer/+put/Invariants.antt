@@ -3,7 +3,7 @@ use Rattle.std.proofs.Common.{true, ◌≤◌, ◌≡◌, drop, length, map}
 use Rattle.sre_emit.specs.Parts.{tree_of, item_of, in_order, has_alternatives, item_has_alternatives}
 use Rattle.sre_model.specs.Written.{tree_words}
 use Rattle.sre_emit.specs.Writing.{Wrote}
-use Rattle.sre_emit.proofs.Branches.{behind}
+use Rattle.sre_emit.proofs.Branches.{branch_tail}
 use Rattle.sre_emit.proofs.writer.Writer.+put.Given as goal
 
 abbrev pub invariant-put_items-items : goal.invariant-put_items-items
@@ -17,7 +17,8 @@ decreases-put_items-items g l = l.at
 abbrev pub invariant-put_parts-parts : goal.invariant-put_parts-parts
 invariant-put_parts-parts g l =
     (l.at ≤ length l.parts) × (l.start ≡ length l.fn.self.words)
-    × Wrote l.fn.self l.self (behind (map tree_of (drop l.at l.parts))) × All (λ p. has_alternatives p ≡ true) l.parts
+    × Wrote l.fn.self l.self (branch_tail (map tree_of (drop l.at l.parts)))
+    × All (λ p. has_alternatives p ≡ true) l.parts
 
 abbrev pub decreases-put_parts-parts : goal.decreases-put_parts-parts
 decreases-put_parts-parts g l = l.at

@@ -1,9 +1,9 @@
-use Rattle.std.proofs.Common.{arith, ◌-◌}
-use Rattle.sre_emit.proofs.Written.{wrote_nothing_of, wrote_from}
+use Rattle.std.proofs.Common.{arith, ◌-◌, refl}
+use Rattle.sre_emit.proofs.Written.{written_none, wrote_from}
 use Rattle.sre_emit.proofs.writer.Writer.put_all.Goals as goal
 
 pub words-init : goal.words-init
-words-init g c = (omega arith, wrote_nothing_of c.args.self.now c.args.words.now)
+words-init g c = (omega arith, written_none (λ l. l) refl c.args.self.now c.args.words.now)
 
 pub words-preserved : goal.words-preserved
 words-preserved g c = (
