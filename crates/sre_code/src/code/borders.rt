@@ -60,6 +60,10 @@ pub fn are_overlaps(prefix: &[u32], overlaps: &[u32]) -> bool
 }
 
 /// The border lengths of the fronts of some words: of the first word, of the first two, and so on.
+///
+/// # Errors
+///
+/// [`Refusal`], where the memory of the list was refused.
 #[tactic(auto, using(crate::proofs::Borders::lengths_laws))]
 pub fn border_lengths<A: Allocator>(alloc: A, words: &[u32]) -> Result<Vec<u32, A>, Refusal>
     requires some { 0 < length words.now }
