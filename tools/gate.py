@@ -1,13 +1,14 @@
 #!/usr/bin/env python3
-"""The gate: `rt ci`, the wrong bodies in bundles, and the case files over the programs that were built.
+"""The gate: what has to stand, `rt ci`, the wrong bodies in bundles, and cases over the programs that were built.
 
     gate.py [cases]
 
-`rt ci` proves each crate and its tests from nothing, tries the must-fail edits, and runs the tests and the stored run.
-Once it has proved the crates below a crate, that crate's wrong bodies are tried (`wrong_bodies.py`), where cores are
-idle. With `cases` only the case files are run, over what an earlier run or `rt run` left. In the end the gate tells the
-minutes of each phase, by the clock and of processors, and the dearest functions of the bundles, right or wrong.
-The last line counts what passed.
+It looks whether each test and case and the seal still stand (`standing.py`). `rt ci` proves each crate and its tests
+from nothing, tries the must-fail edits, and runs the tests and the stored run. Once it has proved the crates below a
+crate, that crate's wrong bodies are tried (`wrong_bodies.py`), where cores are idle. In the end the programs answer the
+case files and random words (`hostile.py`); with `cases` they do that alone, over what an earlier run or `rt run` left.
+The gate tells the minutes of each phase, by the clock and of processors, and the dearest functions of the bundles,
+right or wrong. The last line counts what passed.
 """
 import os
 import re
@@ -20,11 +21,16 @@ import threading
 import time
 from concurrent.futures import ThreadPoolExecutor
 
+import hostile
+import standing
 import wrong_bodies
 
 ROOT = wrong_bodies.ROOT
 BEGAN = time.monotonic()
 PRINTING = threading.Lock()
+
+# How `rt ci` tells that an edit says nothing of a contract.
+SAYS_NOTHING = "only because a proof file names what the edit took away"
 
 
 def tell(line):
@@ -116,7 +122,7 @@ class Prover:
     """`rt ci`, with its lines passed on; that crates are proved can be waited for."""
 
     def __init__(self, phases, rlibs):
-        self.rlibs, self.proved, self.tests, self.last = rlibs, {}, 0, ""
+        self.rlibs, self.proved, self.tests, self.idle_edits, self.last = rlibs, {}, 0, 0, ""
         self.changed = threading.Condition()
         self.rt = subprocess.Popen(
             ["rt", "ci"], cwd=ROOT, text=True, errors="replace",
@@ -129,6 +135,7 @@ class Prover:
             self.last = line.rstrip("\n")
             tell(self.last)
             self.tests += bool(re.fullmatch(r"test .* \.\.\. ok", self.last))
+            self.idle_edits += SAYS_NOTHING in self.last
             ended = re.fullmatch(r"rt: (\w+) (proved|NOT PROVED)", self.last)
             if ended:
                 self.end(ended[1], ended[2] == "proved")
@@ -160,7 +167,9 @@ class Prover:
         passed, failed = (int(found[1]), int(found[2])) if found else (0, 1)
         if not self.tests:
             tell("no test was run")
-        return passed, failed + (not self.tests)
+        if self.idle_edits:
+            tell(f"{self.idle_edits} must-fail edits are refused for the names that they take away alone")
+        return passed, failed + (not self.tests) + self.idle_edits
 
 
 class Bundles:
@@ -245,7 +254,7 @@ class Bundles:
 
 
 class Cases:
-    """The case files, over the program as each compiler built it."""
+    """The case files and random words, over the program as each compiler built it."""
 
     def __init__(self):
         self.passed, self.failed = 0, 0
@@ -258,16 +267,21 @@ class Cases:
         fault = wrong_bodies.read(f"{path}.fault").encode() if os.path.isfile(f"{path}.fault") else b""
         return (ran.returncode, ran.stdout, ran.stderr) == (int(bool(fault)), wanted, fault) and bool(wanted or fault)
 
+    def count(self, is_well, name, program):
+        self.passed += is_well
+        self.failed += not is_well
+        if not is_well:
+            tell(f"{name}: FAILED by {os.path.basename(program)}")
+
     def run(self):
         out = f"{ROOT}/crates/sre_cases/out/sre_cases"
+        lists = hostile.Lists()
         for program in [out, *(it for it in [f"{out}.by-rattle"] if os.path.isfile(it))]:
+            is_there = os.path.isfile(program)
             for at in (f"{ROOT}/crates/sre_cases/cases", f"{ROOT}/examples"):
                 for name in sorted(it[: -len(".expected")] for it in os.listdir(at) if it.endswith(".expected")):
-                    is_well = os.path.isfile(program) and self.answers(program, f"{at}/{name}")
-                    self.passed += is_well
-                    self.failed += not is_well
-                    if not is_well:
-                        tell(f"case file {name}: FAILED by {os.path.basename(program)}")
+                    self.count(is_there and self.answers(program, f"{at}/{name}"), f"case file {name}", program)
+            self.count(is_there and lists.are_judged(program, tell), "random words", program)
 
 
 def proved(room):
@@ -291,13 +305,22 @@ def proved(room):
     return passed + bundles.passed, failed + bundles.failed
 
 
+def stands():
+    """Counts what does not stand."""
+    lines = [*standing.missed(), *standing.unsealed()]
+    for line in lines:
+        tell(line)
+    return len(lines)
+
+
 def main(words):
     passed, failed, cases = 0, 0, Cases()
+    lost = stands()
     if words != ["cases"]:
         with tempfile.TemporaryDirectory(prefix="gate-") as room:
             passed, failed = proved(room)
     cases.run()
-    passed, failed = passed + cases.passed, failed + cases.failed
+    passed, failed = passed + cases.passed, failed + cases.failed + lost
     tell(f"{passed} passed, {failed} failed")
     return 0 if passed and not failed else 1
 

@@ -1,0 +1,345 @@
+#!/usr/bin/env python3
+"""Random words, as `check` lines for the program `sre_cases`, and whether they are a code.
+
+    hostile.py [--lists N] [--seed N] PROGRAM     holds the program to a plain reader of the grammar
+    hostile.py [--lists N] [--seed N]             writes the lines, and behind each one whether it is a code
+
+The reader is written from docs/WORDS.md and calls itself for parts. Most lists are codes in which a few words were
+changed, since words that are drawn one by one are hardly ever a code. The same seed gives the same lists. The status
+is 1 where the program and the reader differ, or where less than a fifth of the lists are codes, or are none.
+"""
+import argparse
+import os
+import random
+import subprocess
+import sys
+import tempfile
+
+FAILURE, SUCCESS, ANY, ANY_ALL, ASSERT, ASSERT_NOT, AT, BRANCH, CATEGORY, CHARSET, BIGCHARSET, GROUPREF = range(12)
+GROUPREF_EXISTS, IN, INFO, JUMP, LITERAL, MARK, MAX_UNTIL, MIN_UNTIL, NOT_LITERAL, NEGATE, RANGE, REPEAT = range(12, 24)
+REPEAT_ONE, _SUBPATTERN, MIN_REPEAT_ONE, ATOMIC_GROUP, POSSESSIVE_REPEAT, POSSESSIVE_REPEAT_ONE = range(24, 30)
+RANGE_UNI_IGNORE = 42
+# three more opcodes each, by the foldings
+FOLDED = range(30, 42, 4)
+REFERENCES = [GROUPREF, *(it for it in FOLDED)]
+SETS = [IN, *(it + 1 for it in FOLDED)]
+LITERALS = [LITERAL, NOT_LITERAL, *(it + 2 for it in FOLDED), *(it + 3 for it in FOLDED)]
+RUNS = [REPEAT_ONE, MIN_REPEAT_ONE, POSSESSIVE_REPEAT_ONE]
+POSITIONS, CATEGORIES, OPCODES, GREATEST = 12, 18, 43, 2**32 - 1
+
+
+class NoCode(Exception):
+    """What the reader says of words that are no code."""
+
+
+def demand(holds):
+    if not holds:
+        raise NoCode
+
+
+class Reader:
+    """Reads words as a code. Each method reads what is at a place, and gives the place behind it."""
+
+    def __init__(self, words):
+        self.words = words
+
+    def word(self, place):
+        demand(0 <= place < len(self.words))
+        return self.words[place]
+
+    def skip(self, place):
+        return place + self.word(place)
+
+    def stands(self, word, place):
+        demand(self.word(place) == word)
+
+    def code(self):
+        """A block, if there is one, items, and SUCCESS as the last word."""
+        start = 0
+        if self.word(0) == INFO:
+            demand(self.word(1) >= 4)
+            start = self.skip(1)
+        self.stands(SUCCESS, len(self.words) - 1)
+        self.items(start, len(self.words) - 1)
+
+    def items(self, place, end):
+        """Items that fill the words from a place up to an end."""
+        while place < end:
+            place = self.item(place)
+        demand(place == end)
+
+    def item(self, place):
+        opcode = self.word(place)
+        if opcode == FAILURE:
+            return place + 1
+        if opcode == AT:
+            demand(self.word(place + 1) < POSITIONS)
+            return place + 2
+        if opcode == MARK or opcode in REFERENCES:
+            self.word(place + 1)
+            return place + 2
+        others = {
+            BRANCH: self.branch, REPEAT: self.loop, POSSESSIVE_REPEAT: self.loop, ATOMIC_GROUP: self.atomic_group,
+            ASSERT: self.look, ASSERT_NOT: self.look, GROUPREF_EXISTS: self.condition, **{it: self.run for it in RUNS},
+        }
+        return others.get(opcode, self.test)(place)
+
+    def test(self, place):
+        """A test of one character."""
+        opcode = self.word(place)
+        if opcode in (ANY, ANY_ALL):
+            return place + 1
+        if opcode == CATEGORY:
+            demand(self.word(place + 1) < CATEGORIES)
+            return place + 2
+        if opcode in LITERALS:
+            self.word(place + 1)
+            return place + 2
+        demand(opcode in SETS)
+        end = self.skip(place + 1) - 1
+        demand(place + 2 <= end)
+        self.stands(FAILURE, end)
+        place += 2
+        while place < end:
+            place = self.set_item(place)
+        demand(place == end)
+        return end + 1
+
+    def set_item(self, place):
+        opcode = self.word(place)
+        if opcode == NEGATE:
+            return place + 1
+        if opcode == BIGCHARSET:
+            count = self.word(place + 1)
+            for at in range(place + 2, place + 66):
+                demand(max(self.word(at).to_bytes(4, "little")) < count)
+            behind = place + 66 + 8 * count
+        else:
+            lengths = {LITERAL: 2, RANGE: 3, RANGE_UNI_IGNORE: 3, CATEGORY: 2, CHARSET: 9}
+            demand(opcode in lengths)
+            demand(opcode != CATEGORY or self.word(place + 1) < CATEGORIES)
+            behind = place + lengths[opcode]
+        self.word(behind - 1)
+        return behind
+
+    def branch(self, place):
+        lengths = [place + 1]
+        while self.word(lengths[-1]):
+            lengths.append(self.skip(lengths[-1]))
+        demand(len(lengths) > 1)
+        behind = lengths[-1] + 1
+        for at, following in zip(lengths, lengths[1:]):
+            self.items(at + 1, following - 2)
+            self.stands(JUMP, following - 2)
+            demand(self.skip(following - 1) == behind)
+        return behind
+
+    def counts(self, place):
+        demand(self.word(place + 2) <= self.word(place + 3))
+
+    def run(self, place):
+        self.counts(place)
+        end = self.test(place + 4)
+        self.stands(SUCCESS, end)
+        demand(self.skip(place + 1) == end + 1)
+        return end + 1
+
+    def loop(self, place):
+        self.counts(place)
+        end = self.skip(place + 1)
+        self.items(place + 4, end)
+        demand(self.word(end) in ((MAX_UNTIL, MIN_UNTIL) if self.word(place) == REPEAT else (SUCCESS,)))
+        return end + 1
+
+    def region(self, start, behind):
+        """Items and SUCCESS."""
+        self.items(start, behind - 1)
+        self.stands(SUCCESS, behind - 1)
+        return behind
+
+    def atomic_group(self, place):
+        return self.region(place + 2, self.skip(place + 1))
+
+    def look(self, place):
+        return self.region(place + 3, self.skip(place + 1))
+
+    def condition(self, place):
+        # the skip counts from the group
+        end = place + 1 + self.word(place + 2)
+        try:
+            self.items(place + 3, end - 2)
+            self.stands(JUMP, end - 2)
+        except NoCode:
+            self.items(place + 3, end)
+            return end
+        behind = self.skip(end - 1)
+        self.items(end, behind)
+        return behind
+
+
+def is_code(words):
+    try:
+        Reader(words).code()
+    except NoCode:
+        return False
+    return True
+
+
+class Writer:
+    """Writes random codes."""
+
+    def __init__(self, dice):
+        self.dice = dice
+
+    def number(self):
+        return self.dice.choice((0, 1, 2, 3, 15, 16, 97, 98, GREATEST, self.dice.randrange(OPCODES)))
+
+    def counts(self):
+        return sorted((self.number(), self.number()))
+
+    def set_item(self):
+        opcode = self.dice.choice((LITERAL, LITERAL, RANGE, RANGE_UNI_IGNORE, CATEGORY, NEGATE, CHARSET, BIGCHARSET))
+        if opcode == CATEGORY:
+            return [opcode, self.dice.randrange(CATEGORIES)]
+        if opcode == CHARSET:
+            return [opcode, *(self.number() for _ in range(8))]
+        if opcode == BIGCHARSET:
+            # no block stands but in few lists, since they are long
+            return [opcode, 1, *[0] * 72] if self.dice.random() < 0.02 else []
+        return [opcode, *(self.number() for _ in range({NEGATE: 0, LITERAL: 1}.get(opcode, 2)))]
+
+    def test(self):
+        opcode = self.dice.choice((ANY, ANY_ALL, CATEGORY, LITERAL, *LITERALS, IN, *SETS))
+        if opcode in SETS:
+            items = [word for _ in range(self.dice.randrange(4)) for word in self.set_item()]
+            return [opcode, len(items) + 2, *items, FAILURE]
+        if opcode == CATEGORY:
+            return [opcode, self.dice.randrange(CATEGORIES)]
+        return [opcode] if opcode in (ANY, ANY_ALL) else [opcode, self.number()]
+
+    def branch(self, depth):
+        parts = [self.items(depth) for _ in range(self.dice.randrange(1, 4))]
+        words = [BRANCH]
+        for at, part in enumerate(parts):
+            words += [len(part) + 3, *part, JUMP, 2 + sum(len(it) + 3 for it in parts[at + 1:])]
+        return [*words, 0]
+
+    def condition(self, depth):
+        yes = self.items(depth)
+        if self.dice.random() < 0.5:
+            return [GROUPREF_EXISTS, self.number(), len(yes) + 2, *yes]
+        no = self.items(depth)
+        return [GROUPREF_EXISTS, self.number(), len(yes) + 4, *yes, JUMP, len(no) + 1, *no]
+
+    def item(self, depth):
+        kinds = (BRANCH, REPEAT, POSSESSIVE_REPEAT, ATOMIC_GROUP, ASSERT, ASSERT_NOT, GROUPREF_EXISTS, *RUNS)
+        opcode = self.dice.choice((FAILURE, AT, MARK, *REFERENCES, ANY, ANY, ANY, *(kinds if depth else RUNS)))
+        if opcode == AT:
+            return [opcode, self.dice.randrange(POSITIONS)]
+        if opcode == MARK or opcode in REFERENCES:
+            return [opcode, self.number()]
+        if opcode in RUNS:
+            test = self.test()
+            return [opcode, len(test) + 4, *self.counts(), *test, SUCCESS]
+        if opcode in (BRANCH, GROUPREF_EXISTS):
+            return (self.branch if opcode == BRANCH else self.condition)(depth - 1)
+        if opcode == FAILURE:
+            return [opcode]
+        if opcode == ANY:
+            return self.test()
+        body = self.items(depth - 1)
+        if opcode in (REPEAT, POSSESSIVE_REPEAT):
+            until = self.dice.choice((MAX_UNTIL, MIN_UNTIL)) if opcode == REPEAT else SUCCESS
+            return [opcode, len(body) + 3, *self.counts(), *body, until]
+        back = [] if opcode == ATOMIC_GROUP else [self.number()]
+        return [opcode, len(back) + len(body) + 2, *back, *body, SUCCESS]
+
+    def items(self, depth):
+        return [word for _ in range(self.dice.randrange(4)) for word in self.item(depth)]
+
+    def code(self):
+        block = []
+        if self.dice.random() < 0.2:
+            claims = [self.number() for _ in range(self.dice.randrange(3, 9))]
+            block = [INFO, len(claims) + 1, *claims]
+        return [*block, *self.items(3), SUCCESS]
+
+    def changed(self, words):
+        """Words of which one was changed, taken out, put in or moved."""
+        words, at = list(words), self.dice.randrange(len(words))
+        how = self.dice.randrange(6)
+        if how == 0:
+            words[at] = min(words[at] + 1, GREATEST)
+        elif how == 1:
+            words[at] = max(words[at] - 1, 0)
+        elif how == 2:
+            words[at] = self.number()
+        elif how == 3 and len(words) > 1:
+            del words[at]
+        elif how == 4:
+            words.insert(at, self.number())
+        else:
+            words.insert(self.dice.randrange(len(words)), words.pop(at))
+        return words
+
+    def words(self):
+        if self.dice.random() < 0.05:
+            return [self.number() for _ in range(self.dice.randrange(12))]
+        words = self.code()
+        for _ in range(self.dice.choice((0, 1, 1, 1, 2, 3))):
+            words = self.changed(words)
+        return words
+
+
+class Lists:
+    """Lists of words, and whether each is a code."""
+
+    def __init__(self, lists=50_000, seed=1):
+        writer = Writer(random.Random(seed))
+        self.words = [writer.words() for _ in range(lists)]
+        self.codes = [is_code(it) for it in self.words]
+
+    def lines(self):
+        return ["check " + (",".join(map(str, it)) or "-") for it in self.words]
+
+    def answers(self, program):
+        """What a program answers, line by line; no line where it does not come to a good end."""
+        with tempfile.TemporaryDirectory(prefix="hostile-") as room:
+            path = os.path.join(room, "lines.txt")
+            with open(path, "w", encoding="ascii") as file:
+                file.write("".join(f"{it}\n" for it in self.lines()))
+            ran = subprocess.run([program, path], capture_output=True, text=True)
+        return [] if ran.returncode or ran.stderr else ran.stdout.splitlines()
+
+    def are_judged(self, program, tell):
+        """Whether a program judges all lists as the reader does, and there are enough of both kinds."""
+        answers = self.answers(program)
+        told = [it.partition(" ")[0] for it in answers]
+        differing = [
+            line for line, is_a_code, word in zip(self.lines(), self.codes, told)
+            if word != ("ok" if is_a_code else "refused")
+        ]
+        for line in differing[:10]:
+            tell(f"judged otherwise: {line}")
+        tell(f"{len(told)} of {len(self.words)} lists of words, {sum(self.codes)} of them codes:"
+             f" {len(differing)} are judged otherwise")
+        fifth = len(self.words) / 5
+        return len(told) == len(self.words) and not differing and fifth <= sum(self.codes) <= 4 * fifth
+
+
+def main(arguments):
+    parser = argparse.ArgumentParser(description="Random words, as lines for sre_cases.")
+    parser.add_argument("program", nargs="?")
+    parser.add_argument("--lists", type=int, default=50_000)
+    parser.add_argument("--seed", type=int, default=1)
+    asked = parser.parse_args(arguments)
+    lists = Lists(asked.lists, asked.seed)
+    if asked.program:
+        return 0 if lists.are_judged(asked.program, print) else 1
+    for line, is_a_code in zip(lists.lines(), lists.codes):
+        print(line, "is a code" if is_a_code else "is none")
+    return 0
+
+
+if __name__ == "__main__":
+    sys.exit(main(sys.argv[1:]))
