@@ -5,7 +5,7 @@ use Rattle.sre_chars.specs.declared.constants.SreOpcode.{SreOpcode}
 use Rattle.sre_chars.specs.declared.constants.SreOpcode.TheVariants as opcode
 use Rattle.sre_model.specs.Tree.{Tree, Empty, Then}
 use Rattle.sre_model.specs.Grammar.{Opcode, item_opcode, Reads}
-use Rattle.sre_code.specs.Reading.{Within, NoCode}
+use Rattle.sre_code.specs.Reading.{IsFault, NoCode}
 use Rattle.sre_code.specs.Steps.{Closes, Unclosed, Exactly, IsEnd, IsInside}
 use Rattle.sre_code.specs.declared.code.error.CodeError.{CodeError}
 use Rattle.sre_code.specs.declared.code.error.CodeError.TheVariants.{TrailingWords}
@@ -36,7 +36,7 @@ pub whole_trails : (ws : List ℕ) (u i : ℕ) → Opcode ws i opcode.SUCCESS �
 whole_trails ws u i h ne = record {
   end = whole_end ws i h;
   nowhere = record { none = λ j w c. ne c.1 };
-  within = omega (arith, opcode_within ws i opcode.SUCCESS h);
+  fault = (omega (arith, opcode_within ws i opcode.SUCCESS h), λ e. absurd (cc));
 }
 
 -- where no opcode is, no item begins and nothing is closed
@@ -44,12 +44,12 @@ pub no_first : (ws : List ℕ) (i k : ℕ) (t : Tree) → NoCode opcode_number w
 no_first ws i k Empty n r = refl
 no_first ws i k (Then x t) n r = absurd (n.none (item_opcode x) r.1.0)
 
-pub whole_cut : (ws : List ℕ) (u i : ℕ) (e : CodeError) → NoCode opcode_number ws i → Within ws e
+pub whole_cut : (ws : List ℕ) (u i : ℕ) (e : CodeError) → NoCode opcode_number ws i → IsFault ws e
     → Unclosed ws Whole i u e
 whole_cut ws u i e n le = record {
   end = record { only = λ k v j w t r c. no_first ws i k t n r };
   nowhere = record { none = λ j w c. n.none opcode.SUCCESS c.0 };
-  within = le;
+  fault = le;
 }
 
 -- what `whole` answers

@@ -7,7 +7,7 @@ use Rattle.sre_model.specs.Tree.{Tree, Empty, Then}
 use Rattle.sre_model.specs.Grammar.{Reads, WholeItems, AreItems}
 use Rattle.sre_model.specs.Width.{held, width, item_width}
 use Rattle.sre_code.specs.Refusals.{place_of}
-use Rattle.sre_code.specs.Reading.{Within}
+use Rattle.sre_code.specs.Reading.{IsFault}
 use Rattle.sre_code.specs.Steps.{ItemAt, Closes, Remains, next, Exactly, Nowhere, IsEnd, IsInside, Leaves, Unclosed}
 use Rattle.sre_code.specs.Descent.{opened, Rest, StackRest, After, Same, Never, work, Fails, Pushes, ReadsOn, WholeFrom}
 use Rattle.sre_code.specs.Descent.{HasWhole}
@@ -170,7 +170,7 @@ falls_item ws (Opens part p) f i q old new l there e =
     omega (arith, ap length e.2, length-append (old ++ f ∷ []) (opened part ∷ []), length-append old (f ∷ []))
 
 memory : (ws : List ℕ) (A : ℕ → Type 0) (e : CodeError) → (e ≡ Memory) × Refused → Fails ws A e
-memory ws A e m = record { never = λ ne. absurd (ne m.0); grows = λ W a. m.1; within = omega (arith, ap place_of m.0) }
+memory ws A e m = record { never = λ ne. absurd (ne m.0); grows = λ _. m.1; within = omega (arith, ap place_of m.0) }
 
 push_fails : (ws : List ℕ) (A : ℕ → Type 0) (s : Step) (old new : List Open) (e : CodeError) → Pushes s old new (Err e)
     → Fails ws A e
@@ -211,13 +211,13 @@ pub step_no_close : (ws : List ℕ) (i d a : ℕ) (top : Open) (old : List Open)
     → Unclosed ws top.part i a e → Fails ws (Rest ws i d (top ∷ reverse old)) e
 step_no_close ws i d a top old e ae x =
     let stops = close_stops ws top d a (reverse old) i ae x.end x.nowhere in
-    record { never = λ ne. stops; grows = λ W r. absurd (stops.none W r); within = x.within }
+    record { never = λ _. stops; grows = λ m. absurd (x.fault.1 m); within = x.fault.0 }
 
 pub step_no_item : (ws : List ℕ) (i d : ℕ) (top : Open) (old : List Open) (e : CodeError) → IsInside ws top.part i
-    → Nowhere (ItemAt ws i) → Within ws e → Fails ws (Rest ws i d (top ∷ reverse old)) e
-step_no_item ws i d top old e inside x le =
+    → Nowhere (ItemAt ws i) → IsFault ws e → Fails ws (Rest ws i d (top ∷ reverse old)) e
+step_no_item ws i d top old e inside x f =
     let stops = item_stops ws top d (reverse old) i inside x in
-    record { never = λ ne. stops; grows = λ W r. absurd (stops.none W r); within = le }
+    record { never = λ _. stops; grows = λ m. absurd (f.1 m); within = f.0 }
 
 -- the descent
 body_from : (ws : List ℕ) (i W : ℕ) → WholeFrom ws i W → Rest ws i 0 (opened Whole ∷ []) W
@@ -272,7 +272,7 @@ pub descent_stops : (ws : List ℕ) (start i d : ℕ) (top : Open) (items old : 
 descent_stops ws start i d top items old e inv same t =
     record {
       never = λ ne. record { none = λ W b. (t.never ne).none W ((popped ws i d top items old same).to W (inv.to W b)) };
-      grows = λ W b. t.grows W ((popped ws i d top items old same).to W (inv.to W b));
+      grows = t.grows;
       within = t.within;
     }
 
@@ -290,11 +290,6 @@ descent_items ws W b = (b.body.0.0, (b.body.0.1, b.body.1))
 pub descent_refused : (ws : List ℕ) (e : CodeError) (t : Tree) → Fails ws (WholeFrom ws 0) e → e ≢ Memory
     → ¬ (WholeItems ws t)
 descent_refused ws e t x ne w = (x.never ne).none (width t) ((t, w.0, refl), w.1)
-
--- items that have a tree are refused only where a growth was
-pub descent_grows : (ws : List ℕ) (e : CodeError) (t : Tree) → Fails ws (WholeFrom ws 0) e → WholeItems ws t
-    → Refused
-descent_grows ws e t x w = x.grows (width t) ((t, w.0, refl), w.1)
 
 -- what `read_on` answers
 pub ruleset read_on_laws = (step_closes, step_reads, step_no_close, step_no_item)

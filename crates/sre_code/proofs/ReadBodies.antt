@@ -6,7 +6,7 @@ use Rattle.sre_chars.specs.declared.constants.SreOpcode.TheVariants as opcode
 use Rattle.sre_model.specs.Tree.{Tree, Loop, Order, Greedy, Lazy}
 use Rattle.sre_model.specs.Grammar.{Opcode, word, skip, until_opcode}
 use Rattle.sre_model.specs.Width.{held, width, item_width}
-use Rattle.sre_code.specs.Reading.{NoCode, Within}
+use Rattle.sre_code.specs.Reading.{NoCode, IsFault}
 use Rattle.sre_code.specs.Steps.{ItemAt, Closes, Unclosed, Exactly, Nowhere, IsEnd, IsInside}
 use Rattle.sre_code.specs.declared.code.error.CodeError.{CodeError}
 use Rattle.sre_code.specs.declared.code.step.Part.TheVariants.{Body}
@@ -107,19 +107,19 @@ no_until ws i o h max_ min_ Greedy w = max_ (same_opcode ws i o opcode.MAX_UNTIL
 no_until ws i o h max_ min_ Lazy w = min_ (same_opcode ws i o opcode.MIN_UNTIL h w)
 
 pub body_open : (ws : List ℕ) (end least i u : ℕ) (o : SreOpcode) (e : CodeError) → i ≡ end → Opcode ws i o
-    → o ≢ opcode.MAX_UNTIL → o ≢ opcode.MIN_UNTIL → Within ws e → Unclosed ws (Body end least) i u e
+    → o ≢ opcode.MAX_UNTIL → o ≢ opcode.MIN_UNTIL → IsFault ws e → Unclosed ws (Body end least) i u e
 body_open ws end least i u o e same h max_ min_ le = record {
   end = body_end ws end least i same;
   nowhere = record { none = λ j w c. no_until ws i o h max_ min_ c.1.0 c.1.1 };
-  within = le;
+  fault = le;
 }
 
-pub body_cut : (ws : List ℕ) (end least i u : ℕ) (e : CodeError) → i ≡ end → NoCode opcode_number ws i → Within ws e
+pub body_cut : (ws : List ℕ) (end least i u : ℕ) (e : CodeError) → i ≡ end → NoCode opcode_number ws i → IsFault ws e
     → Unclosed ws (Body end least) i u e
 body_cut ws end least i u e same n le = record {
   end = body_end ws end least i same;
   nowhere = record { none = λ j w c. n.none (until_opcode c.1.0) c.1.1 };
-  within = le;
+  fault = le;
 }
 
 -- what `repeat` answers

@@ -163,7 +163,7 @@ pub no_test : (ws : List ℕ) (i : ℕ) (o : SreOpcode) → Opcode ws i o → (H
     → TestEnds ws i (Err (BadItem i))
 no_test ws i o h none = (
   record { none = λ k t r. none (record { end = k; test = t; stands = record { code = r.0; operands = r.1 } }) },
-  omega (arith, opcode_within ws i o h),
+  (omega (arith, opcode_within ws i o h), λ e. absurd (cc)),
 )
 
 -- what `not_literal` answers

@@ -7,7 +7,7 @@ use Rattle.sre_chars.specs.declared.constants.SreOpcode.TheVariants as opcode
 use Rattle.sre_model.specs.Tree.{Tree, Empty, Then, Exists, ExistsElse}
 use Rattle.sre_model.specs.Grammar.{Opcode, word, skip, JumpsTo, Reads, ReadsItem}
 use Rattle.sre_model.specs.Width.{held, width, item_width}
-use Rattle.sre_code.specs.Reading.{NoCode, Within}
+use Rattle.sre_code.specs.Reading.{NoCode, IsFault}
 use Rattle.sre_code.specs.Steps.{ItemAt, Else, Closes, Unclosed, Exactly, Nowhere, IsEnd, IsInside}
 use Rattle.sre_code.specs.declared.code.error.CodeError.{CodeError}
 use Rattle.sre_code.specs.declared.code.step.Part.TheVariants.{There, Absent}
@@ -153,7 +153,7 @@ tail_exactly ws tail i u same = record {
       c;
 }
 
-pub there_cut : (ws : List ℕ) (tail i u : ℕ) (e : CodeError) → i ≢ tail → NoCode opcode_number ws i → Within ws e
+pub there_cut : (ws : List ℕ) (tail i u : ℕ) (e : CodeError) → i ≢ tail → NoCode opcode_number ws i → IsFault ws e
     → Unclosed ws (There tail) i u e
 there_cut ws tail i u e ne n le = record {
   end = record { only = λ k v j w t r c. no_first ws i k t n r };
@@ -163,7 +163,7 @@ there_cut ws tail i u e ne n le = record {
         (λ (b : Before ws tail i u j w). n.none opcode.JUMP b.1.0)
         c;
   };
-  within = le;
+  fault = le;
 }
 
 -- no item begins with JUMP
@@ -212,8 +212,8 @@ jump_cut ws tail i u near le =
     jump_short ws tail i u (skip ws (i + 1)) near refl (omega (arith, word_past ws (i + 1) le))
 
 pub there_unclosed : (ws : List ℕ) (tail i u : ℕ) (e : CodeError) → Opcode ws i opcode.JUMP
-    → Nowhere (Closes ws (There tail) i u) → Within ws e → Unclosed ws (There tail) i u e
-there_unclosed ws tail i u e h n le = record { end = jump_end ws tail i h; nowhere = n; within = le }
+    → Nowhere (Closes ws (There tail) i u) → IsFault ws e → Unclosed ws (There tail) i u e
+there_unclosed ws tail i u e h n le = record { end = jump_end ws tail i h; nowhere = n; fault = le }
 
 -- behind a no part
 pub absent_inside : (ws : List ℕ) (end least i : ℕ) → i ≢ end → IsInside ws (Absent end least) i

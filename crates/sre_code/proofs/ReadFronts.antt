@@ -12,8 +12,7 @@ use Rattle.sre_code.specs.Hinted.{Confirmed}
 use Rattle.sre_code.specs.declared.code.Hints.{Hints}
 use Rattle.sre_code.specs.declared.code.error.CodeError.{CodeError}
 use Rattle.sre_code.specs.declared.code.error.CodeError.TheVariants.{Memory}
-use Rattle.sre_growth.specs.Refusal.{Refused}
-use Rattle.sre_code.proofs.Descending.{descent_items, descent_refused, descent_grows}
+use Rattle.sre_code.proofs.Descending.{descent_items, descent_refused}
 
 -- what follows of the items for all the words
 module _ (ws : List ℕ) (n : ℕ) (f : Fronts ws n) where
@@ -29,9 +28,6 @@ module _ (ws : List ℕ) (n : ℕ) (f : Fronts ws n) where
       → ¬ (Whole ws t)
   front_refused e t x ne w = descent_refused (drop n ws) e t x ne (behind t w)
 
-  pub front_grows : (e : CodeError) (t : Tree) → Fails (drop n ws) (WholeFrom (drop n ws) 0) e → Whole ws t → Refused
-  front_grows e t x w = descent_grows (drop n ws) e t x (behind t w)
-
   -- what is confirmed of a tree of that width is confirmed of the words' tree
   pub front_confirmed : (W : ℕ) (table : Table) (hints : Hints) → HasWhole (drop n ws) 0 W
       → ((t : Tree) → WholeItems (drop n ws) t → W ≡ width t → Confirmed ws table t hints)
@@ -43,4 +39,4 @@ module _ (ws : List ℕ) (n : ℕ) (f : Fronts ws n) where
       ∣ (t, (f.fits, whole), each t (h.body.0.1, h.body.1) h.body.0.2) ∣₁
 
 -- what `check_in` answers
-pub ruleset front_laws = (front_code, front_refused, front_grows)
+pub ruleset front_laws = (front_code, front_refused)

@@ -6,7 +6,7 @@ use Rattle.sre_chars.specs.declared.constants.SreOpcode.TheVariants as opcode
 use Rattle.sre_model.specs.Tree.{Tree, PossessiveLoop, Atomic, Look, Sign, Positive, Negative}
 use Rattle.sre_model.specs.Grammar.{Opcode, word, skip, look_opcode}
 use Rattle.sre_model.specs.Width.{held, width, item_width}
-use Rattle.sre_code.specs.Reading.{NoCode, Within}
+use Rattle.sre_code.specs.Reading.{NoCode, IsFault}
 use Rattle.sre_code.specs.Steps.{ItemAt, LookAt, Closes, Unclosed, Exactly, Nowhere, IsEnd, IsInside}
 use Rattle.sre_code.specs.declared.code.error.CodeError.{CodeError}
 use Rattle.sre_code.specs.declared.code.step.Part.TheVariants.{Region}
@@ -33,19 +33,19 @@ region_closed ws end least i u v same h e = (
 )
 
 pub region_open : (ws : List ℕ) (end least i u : ℕ) (o : SreOpcode) (e : CodeError) → i ≡ end → Opcode ws i o
-    → o ≢ opcode.SUCCESS → Within ws e → Unclosed ws (Region end least) i u e
+    → o ≢ opcode.SUCCESS → IsFault ws e → Unclosed ws (Region end least) i u e
 region_open ws end least i u o e same h other le = record {
   end = region_end ws end least i same;
   nowhere = record { none = λ j w c. other (same_opcode ws i o opcode.SUCCESS h c.1) };
-  within = le;
+  fault = le;
 }
 
 pub region_cut : (ws : List ℕ) (end least i u : ℕ) (e : CodeError) → i ≡ end → NoCode opcode_number ws i
-    → Within ws e → Unclosed ws (Region end least) i u e
+    → IsFault ws e → Unclosed ws (Region end least) i u e
 region_cut ws end least i u e same n le = record {
   end = region_end ws end least i same;
   nowhere = record { none = λ j w c. n.none opcode.SUCCESS c.1 };
-  within = le;
+  fault = le;
 }
 
 -- POSSESSIVE_REPEAT

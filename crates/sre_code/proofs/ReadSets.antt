@@ -138,7 +138,7 @@ pub no_item : (ws : List ℕ) (i : ℕ) (o : SreOpcode) → Opcode ws i o → o 
     → SetItemEnds ws i (Err (BadSet i))
 no_item ws i o h single range folded category charset big negate = (
   record { none = λ j lt s. other_item ws i j o s.0 h single range folded category charset big negate lt s.1 },
-  omega (arith, opcode_within ws i o h),
+  (omega (arith, opcode_within ws i o h), λ e. absurd (cc)),
 )
 
 -- the items one after the other

@@ -1,11 +1,11 @@
 -- The descent of the check into the words, with a stack of open parts.
 -- Words of the check's contracts; what sre_engine makes public does not rest on it.
-use Rattle.std.specs.Prelude.{ℕ, ◌+◌, ◌-◌, ◌*◌, ◌≡◌, ◌≢◌, ◌<◌, List, [], ◌∷◌, ◌++◌, reverse, length, Result, Ok, Err}
+use Rattle.std.specs.Prelude.{ℕ, ◌+◌, ◌-◌, ◌*◌, ◌≡◌, ◌≢◌, ◌<◌, ◌≤◌, List, [], ◌∷◌, ◌++◌, reverse, length, Result, Ok, Err}
 use Rattle.sre_chars.specs.declared.constants.SreOpcode.TheVariants as opcode
 use Rattle.sre_model.specs.Tree.{Tree}
 use Rattle.sre_model.specs.Grammar.{Opcode, Reads}
 use Rattle.sre_model.specs.Width.{held, width}
-use Rattle.sre_code.specs.Reading.{Within}
+use Rattle.sre_code.specs.Refusals.{place_of}
 use Rattle.sre_code.specs.Steps.{Finishes}
 use Rattle.sre_growth.specs.Refusal.{Refused}
 use Rattle.sre_code.specs.declared.code.error.CodeError.{CodeError}
@@ -49,11 +49,11 @@ pub record Never (A : ℕ → Type 0) : Type 0 where
 abbrev pub work : List ℕ → ℕ → List Open → ℕ
 work ws i parts = 2 * (length ws - i) + length parts
 
--- memory was refused, or nothing is as A says; where something is, a growth was refused
+-- memory was refused, that is a growth was, or nothing is as A says
 pub record Fails (ws : List ℕ) (A : ℕ → Type 0) (e : CodeError) : Type 0 where
   pub never : e ≢ Memory → Never A
-  pub grows : (W : ℕ) → A W → Refused
-  pub within : Within ws e
+  pub grows : e ≡ Memory → Refused
+  pub within : place_of e ≤ length ws
 
 -- what a step opens is on the stack
 abbrev pub Pushes : Step → List Open → List Open → Result Reached CodeError → Type 0

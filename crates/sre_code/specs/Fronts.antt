@@ -3,7 +3,7 @@
 use Rattle.std.specs.Prelude.{ℕ, ◌≡◌, ◌≢◌, ◌<◌, ◌≤◌, true, false, List, length, drop, Result, Ok, Err}
 use Rattle.sre_model.specs.Tree.{Tree}
 use Rattle.sre_model.specs.Grammar.{Whole, skip, has_block, behind_block, fits_block}
-use Rattle.sre_code.specs.Reading.{Within}
+use Rattle.sre_code.specs.Reading.{IsFault}
 use Rattle.sre_code.specs.declared.code.error.CodeError.{CodeError}
 
 -- a block is there, of so many words
@@ -24,7 +24,7 @@ pub record Fronts (ws : List ℕ) (n : ℕ) : Type 0 where
 -- the words have no tree, since their block is none
 pub record BadFront (ws : List ℕ) (e : CodeError) : Type 0 where
   pub none : (t : Tree) → Whole ws t → ⊥
-  pub place : Within ws e
+  pub fault : IsFault ws e
 
 -- how long the block is, or that there is no tree
 abbrev pub BlockAt : List ℕ → Result ℕ CodeError → Type 0

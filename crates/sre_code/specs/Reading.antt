@@ -1,25 +1,26 @@
 -- Words, sets and tests: what the check's answers say of them.
 -- Words of the check's contracts; what sre_engine makes public does not rest on it.
-use Rattle.std.specs.Prelude.{ℕ, ◌≡◌, ◌<◌, ◌≤◌, List, length, Result, Ok, Err}
+use Rattle.std.specs.Prelude.{ℕ, ◌≡◌, ◌≢◌, ◌<◌, ◌≤◌, List, length, Result, Ok, Err}
 use Rattle.sre_chars.specs.declared.constants.SreOpcode.{SreOpcode}
 use Rattle.sre_model.specs.Tree.{Fold, Test, SetItem}
 use Rattle.sre_model.specs.Grammar.{Word, word, skip, Opcode, ReadsSet, test_opcode, TestOperands}
 use Rattle.sre_code.specs.Refusals.{place_of}
 use Rattle.sre_code.specs.declared.code.error.CodeError.{CodeError}
+use Rattle.sre_code.specs.declared.code.error.CodeError.TheVariants.{Memory}
 
--- the place of a fault is at most the number of words
-abbrev pub Within : List ℕ → CodeError → Type 0
-Within ws e = place_of e ≤ length ws
+-- a fault of the words: its place is at most their number, and it is not that memory was refused
+abbrev pub IsFault : List ℕ → CodeError → Type 0
+IsFault ws e = (place_of e ≤ length ws) × (e ≢ Memory)
 
 -- the word at i, where it is there
 abbrev pub OperandAt : List ℕ → ℕ → Result ℕ CodeError → Type 0
 OperandAt ws i (Ok v) = (i < length ws) × (v ≡ word ws i)
-OperandAt ws i (Err e) = (length ws ≤ i) × Within ws e
+OperandAt ws i (Err e) = (length ws ≤ i) × IsFault ws e
 
 -- where the skip word at i leads, where it is there
 abbrev pub SkipAt : List ℕ → ℕ → Result ℕ CodeError → Type 0
 SkipAt ws i (Ok p) = (i < length ws) × (p ≡ skip ws i)
-SkipAt ws i (Err e) = (length ws ≤ i) × Within ws e
+SkipAt ws i (Err e) = (length ws ≤ i) × IsFault ws e
 
 -- no code's number is at i
 pub record NoCode {C : Type 0} (number : C → ℕ) (ws : List ℕ) (i : ℕ) : Type 0 where
@@ -28,7 +29,7 @@ pub record NoCode {C : Type 0} (number : C → ℕ) (ws : List ℕ) (i : ℕ) : 
 -- the code whose number is at i, where there is one
 abbrev pub CodeAt : {C : Type 0} → (C → ℕ) → List ℕ → ℕ → Result C CodeError → Type 0
 CodeAt number ws i (Ok c) = (i < length ws) × Word ws i (number c)
-CodeAt number ws i (Err e) = NoCode number ws i × Within ws e
+CodeAt number ws i (Err e) = NoCode number ws i × IsFault ws e
 
 -- an opcode is at i, under one of the foldings
 pub record FoldedAt (opcode_of : Fold → SreOpcode) (ws : List ℕ) (i : ℕ) : Type 0 where
@@ -52,7 +53,7 @@ pub record NoTest (ws : List ℕ) (i : ℕ) : Type 0 where
 -- where the test at i ends, or that none is there
 abbrev pub TestEnds : List ℕ → ℕ → Result ℕ CodeError → Type 0
 TestEnds ws i (Ok j) = (i < j) × TestExactly ws i j
-TestEnds ws i (Err e) = NoTest ws i × Within ws e
+TestEnds ws i (Err e) = NoTest ws i × IsFault ws e
 
 -- the words of [i, j) are a set's items
 abbrev pub SetAt : List ℕ → ℕ → ℕ → Type 0
@@ -70,7 +71,7 @@ pub record NoSetItem (ws : List ℕ) (i : ℕ) : Type 0 where
 -- where the set's item at i ends, or that none is there
 abbrev pub SetItemEnds : List ℕ → ℕ → Result ℕ CodeError → Type 0
 SetItemEnds ws i (Ok p) = (i < p) × SetItemExactly ws i p
-SetItemEnds ws i (Err e) = NoSetItem ws i × Within ws e
+SetItemEnds ws i (Err e) = NoSetItem ws i × IsFault ws e
 
 pub record IsSet (ws : List ℕ) (i j : ℕ) : Type 0 where
   pub set : SetAt ws i j
@@ -81,7 +82,7 @@ pub record NoSet (ws : List ℕ) (i j : ℕ) : Type 0 where
 -- whether a set's items fill [i, j)
 abbrev pub SetFills : {U : Type 0} → List ℕ → ℕ → ℕ → Result U CodeError → Type 0
 SetFills ws i j (Ok _) = IsSet ws i j
-SetFills ws i j (Err e) = NoSet ws i j × Within ws e
+SetFills ws i j (Err e) = NoSet ws i j × IsFault ws e
 
 -- the items from i on and those from k on fill the words up to j alike
 pub record SameSets (ws : List ℕ) (i k j : ℕ) : Type 0 where

@@ -6,7 +6,7 @@ use Rattle.sre_model.specs.Tree.{Tree, Empty, Item, One, Trees, Order, RunKind, 
 use Rattle.sre_model.specs.Grammar.{Word, Opcode, run_opcode, until_opcode, look_opcode, JumpsTo, Reads, ReadsItem}
 use Rattle.sre_model.specs.Grammar.{ReadsBranch}
 use Rattle.sre_model.specs.Width.{held, width, item_width, least_width}
-use Rattle.sre_code.specs.Reading.{Within, ReadsTest}
+use Rattle.sre_code.specs.Reading.{IsFault, ReadsTest}
 use Rattle.sre_code.specs.declared.code.error.CodeError.{CodeError}
 use Rattle.sre_code.specs.declared.code.step.Part.{Part}
 use Rattle.sre_code.specs.declared.code.step.Part.TheVariants.{Whole, Alternative, Body, Region, There}
@@ -85,12 +85,12 @@ pub record Nowhere (P : ℕ → ℕ → Type 0) : Type 0 where
 -- the step past what P says of i, or into it; or that P says nothing there
 abbrev pub Gives : List ℕ → ℕ → (ℕ → ℕ → Type 0) → Result Step CodeError → Type 0
 Gives ws i P (Ok s) = (i < next s) × Exactly ws s P
-Gives ws i P (Err e) = Nowhere P × Within ws e
+Gives ws i P (Err e) = Nowhere P × IsFault ws e
 
 -- the item at i, where one is there
 abbrev pub ItemGives : List ℕ → ℕ → Result Step CodeError → Type 0
 ItemGives ws i (Ok s) = (i < length ws) × (i < next s) × Exactly ws s (ItemAt ws i)
-ItemGives ws i (Err e) = Nowhere (ItemAt ws i) × Within ws e
+ItemGives ws i (Err e) = Nowhere (ItemAt ws i) × IsFault ws e
 
 -- no item of the part is left at i
 pub record IsEnd (ws : List ℕ) (part : Part) (i : ℕ) : Type 0 where
@@ -109,7 +109,7 @@ Leaves ws i (Opens part p) = (i < p) × (i < length ws)
 pub record Unclosed (ws : List ℕ) (part : Part) (i u : ℕ) (e : CodeError) : Type 0 where
   pub end : IsEnd ws part i
   pub nowhere : Nowhere (Closes ws part i u)
-  pub within : Within ws e
+  pub fault : IsFault ws e
 
 -- what closes a part at i whose items have width u; None where the part goes on
 abbrev pub Closing : List ℕ → Part → ℕ → ℕ → Result (Option Step) CodeError → Type 0
@@ -120,7 +120,7 @@ Closing ws part i u (Err e) = Unclosed ws part i u e
 -- what closes a part that is known to end at i
 abbrev pub EndGives : List ℕ → ℕ → (ℕ → ℕ → Type 0) → Result Step CodeError → Type 0
 EndGives ws i P (Ok s) = Leaves ws i s × Exactly ws s P
-EndGives ws i P (Err e) = Nowhere P × Within ws e
+EndGives ws i P (Err e) = Nowhere P × IsFault ws e
 
 -- what comes after an alternative, where the item ends at the tail
 abbrev pub MoreAt : List ℕ → ℕ → ℕ → ℕ → ℕ → ℕ → Type 0
@@ -141,4 +141,4 @@ pub record NoTrees (ws : List ℕ) (q : ℕ) : Type 0 where
 -- the bounds of the alternative at q, where one is there
 abbrev pub BoundsAt : List ℕ → ℕ → Result Bounds CodeError → Type 0
 BoundsAt ws q (Ok bounds) = (q < length ws) × BoundsExactly ws q bounds
-BoundsAt ws q (Err e) = NoTrees ws q × Within ws e
+BoundsAt ws q (Err e) = NoTrees ws q × IsFault ws e

@@ -80,7 +80,7 @@ impl<'a> Code<'a> {
         ensures tree { OnOk result (IsCode words.now) }
         ensures refused { IfErr result (λ e. e ≢ CodeError.Memory → (tree : Tree) → ¬ (Whole words.now tree)) }
         ensures place { IfErr result (λ e. place_of e ≤ length words.now) }
-        ensures grows { (tree : Tree) → Whole words.now tree → OnErr result Refused }
+        ensures grows { IfErr result (λ e. e ≡ CodeError.Memory → Refused) }
     {
         check_in(alloc, words, uni)
     }

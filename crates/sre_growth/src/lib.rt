@@ -13,6 +13,8 @@ ghost use Rattle.std.specs.Prelude.{◌≡◌, ◌+◌, ◌-◌, ◌^◌, ◌<�
 ghost use Rattle.std.specs.Prelude.{is_ok, take, replicate, if◌then◌else◌, OnErr, IfOk};
 ghost use Rattle.std.specs.Vec.{vec_len, vec_capacity};
 ghost use Rattle.sre_growth.specs.Refusal.{Refused, one_refused};
+ghost use prog.Memory.{size};
+ghost use denote.Param.{layout};
 
 use std::alloc::{AllocError, Allocator};
 
@@ -46,8 +48,8 @@ pub fn push<T: Drop, A: Allocator>(list: &mut Vec<T, A>, item: T) -> Result<(), 
 
 /// Cuts a list to `length` items, or fills it up to so many with `value`.
 ///
-/// A length is at most 2^32, that of a list with an item for each 32-bit number: no memory has
-/// room for an absurd length, so asking for one would be a way to be refused.
+/// A length is at most 2^32, that of a list with an item for each 32-bit number, and an item has at
+/// most 16 bytes: no memory has room for an absurd list, so asking for one would be a way to be refused.
 ///
 /// # Errors
 ///
@@ -58,7 +60,8 @@ pub fn resize<T: Copy, A: Allocator>(
     length: usize,
     value: T,
 ) -> Result<(), Refusal>
-    requires { length ≤ 2 ^ 32 }
+    requires few { length ≤ 2 ^ 32 }
+    requires small { size (layout T.row) ≤ 16 }
     ensures items { list.new.items ≡ (if is_ok result
         then take length list.old.items ++ replicate (length - vec_len list.old) value
         else list.old.items) }
@@ -71,13 +74,14 @@ pub fn resize<T: Copy, A: Allocator>(
     }
 }
 
-/// A new list with the items of a slice.
+/// A new list with the items of a slice, each of at most 16 bytes.
 ///
 /// # Errors
 ///
 /// [`Refusal`], where the memory of the new list was refused.
 #[inline(always)]
 pub fn from_slice<T: Copy, A: Allocator>(alloc: A, items: &[T]) -> Result<Vec<T, A>, Refusal>
+    requires small { size (layout T.row) ≤ 16 }
     ensures { IfOk result (λ list. list.items ≡ items.now) }
 {
     match Vec::from_slice(alloc, items) {

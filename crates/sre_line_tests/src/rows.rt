@@ -331,7 +331,19 @@ fn large_cases_are_answered(rt: HostRuntime) -> Result<(), Fail> {
     let lines = times(alloc, 1000, "check -\n")?;
     let refused = times(alloc, 1000, "refused\n")?;
     assert!(rt; gives(alloc, lines.as_str(), refused.as_str()));
-    // a line, whose text goes back step by step
+    // a line of more than a million bytes, and a match that ends behind a million characters
+    let million = times(alloc, 1_000_000, "61")?;
+    let far = format!(in alloc; "search 16,98,1 b:{million}62 all -")?;
+    assert!(rt;
+        gives(
+            alloc,
+            far.as_str(),
+            "yes 1000000..1000001 last -1 marks none\n"
+        )
+    );
+    let walked = format!(in alloc; "walk 16,98,1 s:{million}62 all -")?;
+    assert!(rt; gives(alloc, walked.as_str(), "1000000..1000001\n"));
+    // a text that goes back step by step
     let text = times(alloc, 100_000, "61")?;
     let back = format!(in alloc; "match {LOOP_OR_A} b:{text} all -")?;
     assert!(rt; gives(alloc, back.as_str(), "yes 0..1 last -1 marks none\n"));

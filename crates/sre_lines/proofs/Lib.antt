@@ -3,6 +3,7 @@ pub mod FileLines
 pub mod Flushed
 pub mod Numbers
 pub mod Pairs
+pub mod Parts
 pub mod WalkTexts
 pub mod Words
 pub mod Lines

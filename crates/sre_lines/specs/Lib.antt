@@ -2,4 +2,5 @@ pub mod Answers
 pub mod Cases
 pub mod Fields
 pub mod Lines
+pub mod Output
 pub mod Program

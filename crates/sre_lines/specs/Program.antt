@@ -14,6 +14,7 @@ use Rattle.sre_lines.specs.declared.program.Ending.{Ending}
 use Rattle.sre_lines.specs.declared.program.Ending.TheVariants.{AllAnswered, Told, Untold}
 use Rattle.sre_lines.specs.Answers.{fault_text, IsFaultOfCases}
 use Rattle.sre_lines.specs.Lines.{lines_of, Answered, StopsAt}
+use Rattle.sre_lines.specs.Output.{AppendsPart}
 
 -- the arguments, the first of which is the program's name, or that one is no UTF-8
 abbrev pub Arguments : Type 0
@@ -67,11 +68,11 @@ abbrev pub fault_line : CaseFault → Result (String Global) CaseFault → List 
 fault_line fault (Ok name) = fault_text fault (string_bytes name) ++ 10 ∷ []
 fault_line fault (Err usual) = fault_text fault (codes "FILE") ++ 10 ∷ []
 
--- what is written to tell how the program ends
+-- what is written to tell how the program ends: where that fails, no more than a part of the fault's line
 abbrev pub Tells : Option (List ℕ) → Option (List ℕ) → Result (String Global) CaseFault → Ending → Type 0
 Tells old new argument AllAnswered = new ≡ old
 Tells old new argument (Told fault) = Appends old new (fault_line fault argument)
-Tells old new argument (Untold fault) = Unit {0}
+Tells old new argument (Untold fault) = AppendsPart old new (fault_line fault argument)
 
 -- a run of the program, with what its two writers hold before and after it
 pub record ProgramRun (Reads : List ℕ → Reading → Type 0) (args : Arguments) (out out' faults faults' : Option (List ℕ))

@@ -1,6 +1,7 @@
 //! The cases of a file, and their answers.
 
-ghost use Rattle.std.specs.Prelude.{◌≡◌, ◌≤◌, ◌++◌, ◌∷◌, [], ℕ, List, IfErr, OnErr, OnOk, string_bytes};
+ghost use Rattle.std.specs.Prelude.{◌≡◌, ◌≤◌, ◌++◌, ◌∷◌, [], ℕ, List, IfErr, OnErr, OnOk, codes, string_bytes};
+ghost use Rattle.std.specs.Fmt.{decimal};
 ghost use Rattle.std.specs.Io.KnownBytes.{Appends};
 ghost use Rattle.sre_lines.specs.Answers.{fault_text, IsFaultOfCases};
 ghost use Rattle.sre_chars.specs.Tables.{ascii_table};
@@ -11,6 +12,7 @@ ghost use Rattle.sre_engine.specs.Requests.{asked_of, code_of};
 ghost use Rattle.sre_lines.specs.Cases.{IsAnswer, IsAnswerOf, asked, found_text};
 ghost use Rattle.sre_lines.specs.Fields.{IsCase};
 ghost use Rattle.sre_lines.specs.Lines.{lines_of, Answered, IsNoCase, IsBegun, StopsAt};
+ghost use Rattle.sre_lines.specs.Output.{AppendsPart};
 
 mod walked;
 
@@ -19,7 +21,8 @@ use crate::cases::walked::push_walk;
 use crate::line::{
     Case, Finding, LineFault, Operands, Subject, TextForm, Window, read_case, split_once,
 };
-use crate::output::write_whole;
+use crate::output::{write_both, write_whole};
+use itoa::Buffer;
 use sre_engine::code::CodeError;
 use sre_engine::engine::{SreError, State};
 use sre_engine::{Code, Request, StrDrive, UniTable};
@@ -279,9 +282,11 @@ fn push_found<S: StrDrive, A: Allocator + Copy>(
     }
 }
 
-/// Writes the line that tells a fault, with `name` where the file is named.
+/// Writes the line that tells a fault, with `name` where the file is named; after an error a part of it stands there.
 pub fn write_fault<W: Write>(fault: &CaseFault, name: &str, out: &mut W) -> Result<(), CaseFault>
     ensures line { OnOk result (Appends (W.contents out.old) (W.contents out.new)
+        (fault_text fault.now name.now ++ 10 ∷ [])) }
+    ensures part { OnErr result (AppendsPart (W.contents out.old) (W.contents out.new)
         (fault_text fault.now name.now ++ 10 ∷ [])) }
     ensures failed { IfErr result (λ failure. failure ≡ CaseFault.OutputFailed) }
 {
@@ -293,14 +298,28 @@ pub fn write_fault<W: Write>(fault: &CaseFault, name: &str, out: &mut W) -> Resu
 
 // Writes the line that tells a fault.
 fn write_line<W: Write>(fault: &CaseFault, name: &str, out: &mut W) -> io::Result<()>
-    ensures { OnOk result (Appends (W.contents out.old) (W.contents out.new)
+    ensures line { OnOk result (Appends (W.contents out.old) (W.contents out.new)
+        (fault_text fault.now name.now ++ 10 ∷ [])) }
+    ensures part { OnErr result (AppendsPart (W.contents out.old) (W.contents out.new)
         (fault_text fault.now name.now ++ 10 ∷ [])) }
 {
     match fault {
-        CaseFault::Usage => writeln!(out, "usage: sre_cases FILE"),
-        CaseFault::CannotRead => writeln!(out, "{name}: cannot be read"),
-        CaseFault::NotACase(line) => writeln!(out, "line {line}: not a case"),
-        CaseFault::NoMemory => writeln!(out, "no memory"),
-        CaseFault::OutputFailed => writeln!(out, "output failed"),
+        CaseFault::Usage => write_whole(b"usage: sre_cases FILE\n", out),
+        CaseFault::CannotRead => write_both(name.as_bytes(), b": cannot be read\n", out),
+        CaseFault::NotACase(line) => write_no_case(*line, out),
+        CaseFault::NoMemory => write_whole(b"no memory\n", out),
+        CaseFault::OutputFailed => write_whole(b"output failed\n", out),
     }
+}
+
+// Writes the line that tells that a line is no case.
+fn write_no_case<W: Write>(line: u64, out: &mut W) -> io::Result<()>
+    ensures line { OnOk result (Appends (W.contents out.old) (W.contents out.new)
+        (codes "line " ++ (decimal line ++ codes ": not a case\n"))) }
+    ensures part { OnErr result (AppendsPart (W.contents out.old) (W.contents out.new)
+        (codes "line " ++ (decimal line ++ codes ": not a case\n"))) }
+{
+    let mut digits = Buffer::new();
+    write_whole(b"line ", out)?;
+    write_both(digits.format(line).as_bytes(), b": not a case\n", out)
 }

@@ -1,15 +1,15 @@
 //! Writes of which a part may fail.
 
-ghost use Rattle.std.specs.Prelude.{◌≡◌, ◌++◌, ℕ, List, OnErr, OnOk};
+ghost use Rattle.std.specs.Prelude.{◌++◌, OnErr, OnOk};
 ghost use Rattle.std.specs.Io.KnownBytes.{Appends};
+ghost use Rattle.sre_lines.specs.Output.{AppendsPart};
 
 use std::io::{self, Write};
 
 /// Writes bytes, all of them; after an error a part of them stands there, and nothing is written behind it.
 pub fn write_whole<W: Write>(bytes: &[u8], out: &mut W) -> io::Result<()>
     ensures whole { OnOk result (Appends (W.contents out.old) (W.contents out.new) bytes.now) }
-    ensures part { OnErr result ((part rest : List ℕ) × (part ++ rest ≡ bytes.now)
-        × Appends (W.contents out.old) (W.contents out.new) part) }
+    ensures part { OnErr result (AppendsPart (W.contents out.old) (W.contents out.new) bytes.now) }
 {
     let mut left = bytes;
     'writes: for _ in 0..u64::MAX {
@@ -27,4 +27,13 @@ pub fn write_whole<W: Write>(bytes: &[u8], out: &mut W) -> io::Result<()>
         }
     }
     Err(io::Error::from(io::ErrorKind::Interrupted))
+}
+
+/// Writes two pieces, one directly behind the other; after an error a part of both stands there.
+pub fn write_both<W: Write>(front: &[u8], end: &[u8], out: &mut W) -> io::Result<()>
+    ensures whole { OnOk result (Appends (W.contents out.old) (W.contents out.new) (front.now ++ end.now)) }
+    ensures part { OnErr result (AppendsPart (W.contents out.old) (W.contents out.new) (front.now ++ end.now)) }
+{
+    write_whole(front, out)?;
+    write_whole(end, out)
 }

@@ -6,6 +6,7 @@ ghost use Rattle.std.specs.Io.KnownBytes.{Appends};
 ghost use Rattle.std.specs.Process.{exit_status};
 ghost use Rattle.sre_lines.specs.Answers.{fault_text, IsFaultOfCases};
 ghost use Rattle.sre_lines.specs.Lines.{lines_of, Answered, StopsAt};
+ghost use Rattle.sre_lines.specs.Output.{AppendsPart};
 ghost use Rattle.sre_lines.specs.Program.{IsFaultOf, IsArgument, AnswersFile, end_of, status_of, ProgramRun};
 
 use crate::cases::{CaseFault, run_cases, write_fault};
@@ -21,7 +22,7 @@ pub enum Ending {
     AllAnswered,
     /// At a fault, whose line is written.
     Told(CaseFault),
-    /// At a fault, whose line could not be written.
+    /// At a fault, whose line could not be written, or not more than a part of it.
     Untold(CaseFault),
 }
 
@@ -71,6 +72,8 @@ pub fn tell<E: Write>(fault: CaseFault, name: &str, faults: &mut E) -> Ending
     ensures fault { end_of result ≡ Err fault }
     ensures line { result ≡ Ending.Told fault
         → Appends (E.contents faults.old) (E.contents faults.new) (fault_text fault name.now ++ 10 ∷ []) }
+    ensures part { result ≡ Ending.Untold fault
+        → AppendsPart (E.contents faults.old) (E.contents faults.new) (fault_text fault name.now ++ 10 ∷ []) }
 {
     match write_fault(&fault, name, faults) {
         Ok(()) => Ending::Told(fault),

@@ -1,13 +1,17 @@
-//! The law of equal answers, for two requests over texts of two types: drawn from the clauses of the two calls. And
-//! that what was emitted is accepted, drawn from those of `emit` and `Code::check`.
+//! Laws drawn from several clauses or calls: that requests over texts of two types are answered alike, that what was
+//! emitted is accepted, and what a search, a walk and its list leave where they end otherwise than by a match.
 
-ghost use Rattle.std.specs.Prelude.{◌≡◌, ◌≢◌, IfOk, IfErr, OnErr, Some, None, cond, ◌&&◌};
+ghost use Rattle.std.specs.Prelude.{◌≡◌, ◌≢◌, ◌≤◌, IfOk, IfErr, OnErr, Some, true, false, None, Err, cond, ◌&&◌, map};
+ghost use Rattle.std.specs.Vec.{vec_len};
 ghost use Rattle.sre_growth.specs.Refusal.{Refused};
 ghost use Rattle.sre_engine.specs.Tree.{Tree};
 ghost use Rattle.sre_engine.specs.Grammar.{Whole, behind_block};
 ghost use Rattle.sre_engine.specs.Codes.{words_of};
-ghost use Rattle.sre_engine.specs.Requests.{asked_of, code_of};
-ghost use Rattle.sre_engine.specs.Answers.{given};
+ghost use Rattle.sre_engine.specs.Requests.{asked_of, code_of, start_of, end_of};
+ghost use Rattle.sre_engine.specs.Answers.{given, Spans};
+ghost use Rattle.sre_engine.specs.Marks.{no_marks};
+ghost use Rattle.sre_engine.specs.WalkBounds.{most_matches, AreInOrder};
+ghost use Rattle.sre_engine.specs.Listed.{match_of};
 ghost use Rattle.sre_engine.specs.Width.{width};
 ghost use Rattle.sre_engine.specs.Codes.{hints_of};
 ghost use Rattle.sre_emit.specs.Parts.{tree_of};
@@ -16,8 +20,8 @@ ghost use Rattle.sre_emit.specs.Emitted.{Emitted};
 
 use sre_emit::Part;
 use sre_engine::code::CodeError;
-use sre_engine::engine::SreError;
-use sre_engine::{Code, Request, State, StrDrive, UniTable};
+use sre_engine::engine::{Found, SreError, all_matches};
+use sre_engine::{Code, Request, SearchIter, State, StrDrive, UniTable};
 use std::alloc::Global;
 
 // Two requests that ask the same, of codes of the same tree, are answered alike by `pymatch`.
@@ -94,7 +98,7 @@ fn checked<'a>(
     uni: &'a UniTable,
 ) -> Result<Code<'a>, CodeError>
     requires { Emitted part.now with_block words.now }
-    ensures memory { OnErr result Refused }
+    ensures memory { IfErr result (λ e. e ≡ CodeError.Memory → Refused) }
     ensures alone { IfErr result (λ e. e ≢ CodeError.Memory → ⊥) }
     ensures tree { IfOk result (λ code. Whole (words_of code) (tree_of part.now)) }
     ensures one { IfOk result (λ code. (t : Tree) → Whole (words_of code) t → t ≡ tree_of part.now) }
@@ -109,4 +113,47 @@ fn checked<'a>(
     let _words = code.words(); // which have one tree
     let _hints = code.hints(); // which this tree confirms
     Ok(code)
+}
+
+// A match lies in the window, from its start on.
+fn matched_in_window<S: StrDrive>(
+    req: &Request<'_, S>,
+    state: &mut State<Global>,
+) -> Result<bool, SreError>
+    ensures { IfOk result (λ b. b ≡ true → Spans (start_of req.now) (end_of req.now) state.new) }
+{
+    state.pymatch(req)
+}
+
+// A search finds a match that lies in the window, or leaves no marks; it errs only where memory was refused.
+fn searched_in_window<S: StrDrive>(
+    req: Request<'_, S>,
+    state: &mut State<Global>,
+) -> Result<bool, SreError>
+    ensures span { IfOk result (λ b. b ≡ true → (start_of req ≤ state.new.start)
+        × Spans state.new.start (end_of req) state.new) }
+    ensures no { IfOk result (λ b. b ≡ false → state.new.marks ≡ no_marks) }
+    ensures err { OnErr result (state.new.marks ≡ no_marks) }
+    ensures refused { OnErr result Refused }
+{
+    state.search(req)
+}
+
+// The next match of a walk is refused only where memory was.
+fn stepped<S: StrDrive>(walk: &mut SearchIter<'_, S, Global>) -> Option<Result<(), SreError>>
+    ensures { (e : SreError) → result ≡ Some (Err e) → Refused }
+{
+    walk.next()
+}
+
+// Matches in a list are few and in order, and there is none only where memory was refused.
+fn listed<S: StrDrive>(
+    req: Request<'_, S>,
+    state: &mut State<Global>,
+) -> Result<Vec<Found<Global>>, SreError>
+    ensures few { IfOk result (λ all. vec_len all ≤ most_matches (asked_of req)) }
+    ensures order { IfOk result (λ all. AreInOrder (start_of req) (map match_of all.items)) }
+    ensures refused { OnErr result Refused }
+{
+    all_matches(req, state)
 }

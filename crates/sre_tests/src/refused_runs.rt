@@ -1,9 +1,10 @@
 //! `pymatch` and `search` with each request for memory refused in turn.
 
-use crate::asking::{Call, Shown, ask, shows};
+use crate::asking::{Call, Ends, Shown, ask, shows};
 use sre_engine::engine::SreError;
-use sre_engine::{Code, Request, State, UniTable};
+use sre_engine::{Code, Request, State, StrDrive, UniTable};
 use sre_refusing::Refusing;
+use sre_samples::SAMPLES;
 use std::alloc::Global;
 use std::process::Abort;
 use std::test::Fail;
@@ -66,29 +67,25 @@ fn refused_in_turn(
     Ok(0)
 }
 
-// Runs a call over text and bytes, with ample memory and then with each request refused: how many were refused.
+// Runs a call over text and bytes, with ample memory and then with each request refused: what it then finds, and how
+// many requests were refused.
 fn refusals(
     rt: &impl Abort,
     alloc: Global,
     code: Code<'_>,
     text: &str,
-    (call, start, is_found): (Call, usize, bool),
+    (call, start): (Call, usize),
     (match_all, must_advance): (bool, bool),
-) -> Result<u64, Fail> {
+) -> Result<(Option<Ends>, u64), Fail> {
     let mut of_bytes = Request::new(text.as_bytes(), start, usize::MAX, code, match_all);
     of_bytes.set_must_advance(must_advance);
     let mut of_text = Request::new(text, start, usize::MAX, code, match_all);
     of_text.set_must_advance(must_advance);
     let mut ample = State::new(alloc);
     let found = ask(call, of_bytes, &mut ample)?;
-    let wanted = if is_found {
-        Some((1, text.len(), text.len()))
-    } else {
-        None
-    };
-    assert!(rt; found == wanted);
     let shown = (found, ample.marks().raw(), ample.marks().last_index());
-    refused_in_turn(rt, alloc, call, of_bytes, of_text, shown)
+    let refused = refused_in_turn(rt, alloc, call, of_bytes, of_text, shown)?;
+    Ok((found, refused))
 }
 
 static CASES: [(&[u32], &str); 3] = [(ALTERNATIVES, "xac"), (LOOP, "xabac"), (REGIONS, "xac")];
@@ -110,13 +107,74 @@ fn a_run_fails_where_memory_is_refused(rt: HostRuntime) -> Result<(), Fail> {
         let code = Code::check(rt.alloc(), words, &uni)?;
         for &call in &CALLS {
             for &flags in &FLAGS {
-                let refused = refusals(&rt, rt.alloc(), code, text, call, flags)?;
+                let (call, start, is_found) = call;
+                let (found, refused) = refusals(&rt, rt.alloc(), code, text, (call, start), flags)?;
+                let wanted = (1, text.len(), text.len());
+                assert!(rt; found == if is_found { Some(wanted) } else { None });
                 // the marks, the trail and the choices grow
-                assert!(rt; refused > 2 || !call.2);
+                assert!(rt; refused > 2 || !is_found);
             }
         }
     }
     let shown = format!(in rt.alloc(); "{}", SreError::Memory)?;
     assert!(rt; shown.as_str() == "out of memory" && SreError::Memory.number() == 1);
+    Ok(())
+}
+
+// The samples whose texts are of ASCII, so that their bytes are answered alike.
+#[test]
+fn samples_fail_where_memory_is_refused(rt: HostRuntime) -> Result<(), Fail> {
+    let uni = UniTable::ascii(rt.alloc());
+    let mut most = 0;
+    for &(words, text) in &SAMPLES {
+        let code = Code::check(rt.alloc(), words, &uni)?;
+        for call in [Call::Match, Call::Search] {
+            if text.is_ascii() {
+                let (_found, refused) = refusals(
+                    &rt,
+                    rt.alloc(),
+                    code,
+                    text,
+                    (call, 0),
+                    (false, false),
+                )?;
+                most = most.max(refused);
+            }
+        }
+    }
+    assert!(rt; most > 2);
+    Ok(())
+}
+
+// Codes whose block confirms a prefix that is all of them.
+static LITERALS: [(&[u32], &str); 2] = [
+    (
+        &[
+            14, 12, 3, 3, 3, 3, 3, 97, 97, 98, 0, 1, 0, 16, 97, 16, 97, 16, 98, 1,
+        ],
+        "aaaab",
+    ),
+    (&[14, 8, 3, 1, 1, 1, 1, 97, 0, 16, 97, 1], "aba"),
+];
+
+// A search for a literal, a new start and what shows a state ask for no memory.
+#[test]
+fn a_literal_is_found_without_memory(rt: HostRuntime) -> Result<(), Fail> {
+    let uni = UniTable::ascii(rt.alloc());
+    for &(words, text) in &LITERALS {
+        let code = Code::check(rt.alloc(), words, &uni)?;
+        let heap = Refusing::new(rt.alloc(), 1);
+        let mut state: State<&Refusing<Global>> = State::new(&heap);
+        let req = Request::new(text, 0, usize::MAX, code, false);
+        assert!(rt; code.hints().literal && state.search(req)? && state.start() < text.len());
+        state.reset(&req, req.string().count());
+        let marks = state.marks();
+        assert!(rt;
+            marks.raw().is_empty() && marks.get(0) == (None, None) && marks.last_index() == -1
+        );
+        assert!(rt;
+            state.started() == 0 && state.cursor().position() == text.len() && heap.left() == 1
+        );
+    }
     Ok(())
 }

@@ -1,9 +1,10 @@
 //! `next` and `all_matches` with each request for memory refused in turn.
 
 use crate::walks::{Span, gives, has_none, lists, whole};
-use sre_engine::engine::SreError;
+use sre_engine::engine::{Found, SreError, all_matches};
 use sre_engine::{Code, Request, SearchIter, State, UniTable};
 use sre_refusing::Refusing;
+use sre_samples::SAMPLES;
 use std::alloc::Global;
 use std::process::Abort;
 use std::test::Fail;
@@ -11,7 +12,7 @@ use std::test::Fail;
 const NO_LIMIT: u32 = u32::MAX;
 
 // Words, a text, and the matches of a walk over it.
-type Row = (&'static [u32], &'static str, &'static [Span]);
+type Row = (&'static [u32], &'static str, &'static [Span<'static>]);
 
 static ROWS: [Row; 3] = [
     // (a)b|(a)c
@@ -53,7 +54,7 @@ fn refused_items(
     rt: &impl Abort,
     alloc: Global,
     req: Request<'_, &str>,
-    wanted: &[Span],
+    wanted: &[Span<'_>],
 ) -> Result<u64, Fail> {
     for refused in 1..100u64 {
         let heap = Refusing::new(alloc, refused);
@@ -78,7 +79,7 @@ fn refused_lists(
     rt: &impl Abort,
     alloc: Global,
     (of_text, of_bytes): (Request<'_, &str>, Request<'_, &[u8]>),
-    wanted: &[Span],
+    wanted: &[Span<'_>],
 ) -> Result<u64, Fail> {
     for refused in 1..100u64 {
         let heap = Refusing::new(alloc, refused);
@@ -110,6 +111,40 @@ fn a_walk_fails_where_memory_is_refused(rt: HostRuntime) -> Result<(), Fail> {
         let of_list = refused_lists(&rt, alloc, (of_text, of_bytes), wanted)?;
         // the list asks for memory, too
         assert!(rt; of_machine > 2 && of_list > of_machine, "{words:?}");
+    }
+    Ok(())
+}
+
+// The spans of matches in a list.
+fn spans<'a>(alloc: Global, all: &'a [Found<Global>]) -> Result<Vec<Span<'a>>, Fail> {
+    let mut list = Vec::new(alloc);
+    for found in all {
+        list.push((
+            found.start,
+            found.end,
+            found.marks.as_slice(),
+            found.last_index,
+        ))?;
+    }
+    Ok(list)
+}
+
+// The samples whose texts are of ASCII, so that their bytes are answered alike, with what ample memory finds.
+#[test]
+fn walks_of_samples_fail_where_memory_is_refused(rt: HostRuntime) -> Result<(), Fail> {
+    let alloc = rt.alloc();
+    let uni = UniTable::ascii(alloc);
+    for &(words, text) in &SAMPLES {
+        if text.is_ascii() {
+            let code = Code::check(alloc, words, &uni)?;
+            let of_text = whole(text, code, (false, false));
+            let of_bytes = whole(text.as_bytes(), code, (false, false));
+            let all = all_matches(of_text, &mut State::new(alloc))?;
+            let wanted = spans(alloc, &all)?;
+            let of_machine = refused_items(&rt, alloc, of_text, &wanted)?;
+            let of_list = refused_lists(&rt, alloc, (of_text, of_bytes), &wanted)?;
+            assert!(rt; of_list > of_machine || wanted.is_empty(), "{words:?}");
+        }
     }
     Ok(())
 }

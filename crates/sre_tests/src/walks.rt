@@ -8,10 +8,15 @@ use std::test::Fail;
 const NO_LIMIT: u32 = u32::MAX;
 
 /// A match: where it starts and ends, in characters, its marks and the last index.
-pub type Span = (usize, usize, &'static [Option<usize>], isize);
+pub type Span<'a> = (usize, usize, &'a [Option<usize>], isize);
 
 // Words, a text of ASCII, `match_all` and `must_advance`, and the matches.
-type Row = (&'static [u32], &'static str, (bool, bool), &'static [Span]);
+type Row = (
+    &'static [u32],
+    &'static str,
+    (bool, bool),
+    &'static [Span<'static>],
+);
 
 static ROWS: [Row; 10] = [
     // (a)b
@@ -90,7 +95,7 @@ pub fn has_none<A: Allocator>(marks: &Marks<A>) -> bool {
 fn shows<S: StrDrive, A: Allocator + Copy>(
     state: &State<A>,
     req: &Request<'_, S>,
-    (start, end, marks, last): Span,
+    (start, end, marks, last): Span<'_>,
 ) -> bool {
     let shown = state.marks();
     req.start() == end
@@ -104,7 +109,7 @@ fn shows<S: StrDrive, A: Allocator + Copy>(
 /// Whether a walk gives these matches, and then none, with no marks, however often it is asked.
 pub fn gives<S: StrDrive, A: Allocator + Copy>(
     walk: &mut SearchIter<'_, S, A>,
-    wanted: &[Span],
+    wanted: &[Span<'_>],
 ) -> Result<bool, SreError> {
     for found in wanted {
         match walk.next() {
@@ -128,7 +133,7 @@ pub fn gives<S: StrDrive, A: Allocator + Copy>(
 }
 
 // Whether a match in a list is this one.
-fn is_match<A: Allocator>(found: &Found<A>, (start, end, marks, last): Span) -> bool {
+fn is_match<A: Allocator>(found: &Found<A>, (start, end, marks, last): Span<'_>) -> bool {
     found.start == start
         && found.end == end
         && found.last_index == last
@@ -139,7 +144,7 @@ fn is_match<A: Allocator>(found: &Found<A>, (start, end, marks, last): Span) -> 
 pub fn lists<S: StrDrive, A: Allocator + Copy>(
     req: Request<'_, S>,
     state: &mut State<A>,
-    wanted: &[Span],
+    wanted: &[Span<'_>],
 ) -> Result<bool, SreError> {
     let all = all_matches(req, state)?;
     if all.len() != wanted.len() || !has_none(state.marks()) {
@@ -159,7 +164,7 @@ fn walks<S: StrDrive>(
     text: S,
     code: Code<'_>,
     flags: (bool, bool),
-    wanted: &[Span],
+    wanted: &[Span<'_>],
 ) -> Result<bool, SreError> {
     let mut walk = SearchIter::new(whole(text, code, flags), State::new(alloc));
     let one_by_one = gives(&mut walk, wanted)?;

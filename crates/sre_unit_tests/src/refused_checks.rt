@@ -4,8 +4,10 @@ use sre_chars::string::UniTable;
 use sre_code::check_in;
 use sre_code::code::CodeError;
 use sre_refusing::Refusing;
+use sre_samples::SAMPLES;
 use std::alloc::Global;
 use std::convert::TryFrom;
+use std::process::Abort;
 use std::test::Fail;
 
 // A part round items: its opcode, what its length word counts beside the items, what stands behind that word, and what
@@ -46,10 +48,31 @@ fn nested(alloc: Global, opcode: u32, behind: &[u32]) -> Result<Vec<u32>, Fail> 
     Ok(words)
 }
 
+// Refuses each request for memory of a check in turn, until it asks for fewer: how many were refused. Else the check
+// says what is wrong with the words.
+fn refused_in_turn(
+    rt: &impl Abort,
+    alloc: Global,
+    words: &[u32],
+    fault: Option<CodeError>,
+) -> Result<u64, Fail> {
+    let uni = UniTable::ascii(alloc);
+    for refused in 1..20u64 {
+        let heap = Refusing::new(alloc, refused);
+        let error = check_in(&heap, words, &uni).err();
+        if heap.left() > 0 {
+            assert!(rt; error == fault, "{words:?}");
+            return Ok(refused - 1);
+        }
+        assert!(rt; error == Some(CodeError::Memory), "{words:?}");
+    }
+    assert!(rt; false, "the requests have no end");
+    Ok(0)
+}
+
 #[test]
 fn a_check_fails_where_memory_is_refused(rt: HostRuntime) -> Result<(), Fail> {
     let alloc = rt.alloc();
-    let uni = UniTable::ascii(alloc);
     let lawful = nested(alloc, 16, &[1])?;
     let trailing = nested(alloc, 16, &[1, 1])?;
     let unknown = nested(alloc, 43, &[1])?;
@@ -62,18 +85,10 @@ fn a_check_fails_where_memory_is_refused(rt: HostRuntime) -> Result<(), Fail> {
         (&unknown, Some(CodeError::UnknownOpcode(110)), 4),
     ];
     for (words, fault, growths) in cases {
-        let mut refusals = 0u64;
-        for refused in 1..20u64 {
-            let heap = Refusing::new(alloc, refused);
-            let error = check_in(&heap, words, &uni).err();
-            if heap.left() == 0 {
-                assert!(rt; error == Some(CodeError::Memory));
-                refusals = refusals.saturating_add(1);
-            } else {
-                assert!(rt; error == fault);
-            }
-        }
-        assert!(rt; growths <= refusals && refusals < 19);
+        assert!(rt; growths <= refused_in_turn(&rt, alloc, words, fault)?);
+    }
+    for &(words, _text) in &SAMPLES {
+        assert!(rt; refused_in_turn(&rt, alloc, words, None)? > 0);
     }
     Ok(())
 }

@@ -24,7 +24,7 @@ pub fn check_in<'a, A: Allocator + Copy>(
     ensures tree { OnOk result (IsCode words.now) }
     ensures refused { IfErr result (λ e. e ≢ CodeError.Memory → (tree : Tree) → ¬ (Whole words.now tree)) }
     ensures place { IfErr result (λ e. place_of e ≤ length words.now) }
-    ensures grows { (tree : Tree) → Whole words.now tree → OnErr result Refused }
+    ensures grows { IfErr result (λ e. e ≡ CodeError.Memory → Refused) }
 {
     let length = block::length(words)?;
     let items = words.split_at(length).1;

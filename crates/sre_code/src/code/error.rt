@@ -63,6 +63,7 @@ impl CodeError {
     pub(super) fn moved(self, words: usize) -> CodeError
         requires { place_of self + words < 2 ^ 64 }
         ensures memory { self ≡ Memory → result ≡ Memory }
+        ensures other { result ≡ Memory → self ≡ Memory }
         ensures cause { refusal_number result ≡ refusal_number self }
         ensures place { place_of result ≤ place_of self + words }
         ensures moved { self ≢ Memory → place_of result ≡ place_of self + words }

@@ -1,12 +1,30 @@
--- What is written is the fault's line.
-use Rattle.std.proofs.Common.{append_assoc}
+-- What is written is the fault's line, or a part of it.
+use Rattle.std.proofs.Common.{ℕ, List, ◌++◌, subst, append_assoc}
+use Rattle.std.specs.Prelude.{OnOk, OnErr, codes}
+use Rattle.std.specs.Io.KnownBytes.{Appends}
+use Rattle.sre_lines.specs.Output.{AppendsPart}
 use Rattle.sre_lines.proofs.cases.write_line.Goals as goal
 
-pub returns-in-CannotRead : goal.returns-in-CannotRead
-returns-in-CannotRead g c = rw (c.in-CannotRead.is, append_assoc) c.writeln-in-CannotRead.ensures.bytes
+pub returns-in-CannotRead-clause-line : goal.returns-in-CannotRead-clause-line
+returns-in-CannotRead-clause-line g c = rw (c.in-CannotRead.is, append_assoc)
+    (subst (λ (name : List ℕ). OnOk c.write_both.result (Appends (g.W.Write.contents c.args.out.now)
+    (g.W.Write.contents c.write_both.new.out) (name ++ codes ": cannot be read\n"))) c.as_bytes.ensures.value
+    c.write_both.ensures.whole)
 
-pub returns-in-NotACase : goal.returns-in-NotACase
-returns-in-NotACase g c = rw (c.in-NotACase.is) (simp append_assoc c.writeln-in-NotACase.ensures.bytes)
+pub returns-in-CannotRead-clause-part : goal.returns-in-CannotRead-clause-part
+returns-in-CannotRead-clause-part g c = rw (c.in-CannotRead.is, append_assoc)
+    (subst (λ (name : List ℕ). OnErr c.write_both.result (AppendsPart (g.W.Write.contents c.args.out.now)
+    (g.W.Write.contents c.write_both.new.out) (name ++ codes ": cannot be read\n"))) c.as_bytes.ensures.value
+    c.write_both.ensures.part)
 
-pub returns-in-OutputFailed : goal.returns-in-OutputFailed
-returns-in-OutputFailed g c = rw c.in-OutputFailed.is c.writeln-in-OutputFailed.ensures.bytes
+pub returns-in-NotACase-clause-line : goal.returns-in-NotACase-clause-line
+returns-in-NotACase-clause-line g c = rw (c.in-NotACase.is) (simp append_assoc c.write_no_case.ensures.line)
+
+pub returns-in-NotACase-clause-part : goal.returns-in-NotACase-clause-part
+returns-in-NotACase-clause-part g c = rw (c.in-NotACase.is) (simp append_assoc c.write_no_case.ensures.part)
+
+pub returns-in-OutputFailed-clause-line : goal.returns-in-OutputFailed-clause-line
+returns-in-OutputFailed-clause-line g c = rw c.in-OutputFailed.is c.write_whole-in-OutputFailed.ensures.whole
+
+pub returns-in-OutputFailed-clause-part : goal.returns-in-OutputFailed-clause-part
+returns-in-OutputFailed-clause-part g c = rw c.in-OutputFailed.is c.write_whole-in-OutputFailed.ensures.part

@@ -14,5 +14,5 @@ returns-then-end-tail c =
     let leads = c.in_ok-end.ensures in (
       jump_short c.args.words.now c.args.tail c.args.place c.args.width c.in_ok-end.end c.requires.tail leads.1
           (omega (arith, c.if-end-tail.true)),
-      omega (arith, leads.0),
+      (omega (arith, leads.0), λ e. absurd (cc)),
     )

@@ -7,5 +7,5 @@ returns-in_default c =
     let found = c.in_ok-opcode.ensures in (
       run_open c.args.words.now c.args.place c.in_ok-end.end c.in_ok-opcode.field-0 c.requires c.in_ok-end.ensures.1
           found.1 c.in_default.not-SUCCESS,
-      omega (arith, found.0),
+      (omega (arith, found.0), λ e. absurd (cc)),
     )

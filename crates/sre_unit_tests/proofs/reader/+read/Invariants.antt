@@ -1,5 +1,5 @@
 use Rattle.std.proofs.Common.{◌+◌, ◌*◌}
-use Rattle.sre_unit_tests.proofs.round_trips.+read.Given as goal
+use Rattle.sre_unit_tests.proofs.reader.+read.Given as goal
 
 -- an item asks for its parts with as much fuel, and a part for its items with less
 

@@ -1,0 +1,23 @@
+-- The line's number stands between two pieces of text.
+use Rattle.std.proofs.Common.{◌≡◌, ◌∙◌, ◌++◌, List, ℕ, ap}
+use Rattle.std.specs.Prelude.{codes}
+use Rattle.std.specs.Fmt.{decimal}
+use Rattle.sre_lines.proofs.Parts.{front_part_of, behind_part, behind_whole}
+use Rattle.sre_lines.proofs.cases.write_no_case.Goals as goal
+
+pub returns-in_err-write_whole-clause-part : goal.returns-in_err-write_whole-clause-part
+returns-in_err-write_whole-clause-part g c =
+    front_part_of _ _ (codes "line ") (decimal c.args.line ++ codes ": not a case\n") c.from_residual.result
+    c.in_err-write_whole.ensures.part
+
+pub returns-clause-line : goal.returns-clause-line
+returns-clause-line g c =
+    behind_whole _ _ _ (codes "line ") _ (decimal c.args.line ++ codes ": not a case\n") c.write_both.result
+    (ap (λ (l : List ℕ). l ++ codes ": not a case\n") (c.as_bytes.ensures.value ∙ c.format.ensures.text))
+    c.in_ok-write_whole.ensures.whole c.write_both.ensures.whole
+
+pub returns-clause-part : goal.returns-clause-part
+returns-clause-part g c =
+    behind_part _ _ _ (codes "line ") _ (decimal c.args.line ++ codes ": not a case\n") c.write_both.result
+    (ap (λ (l : List ℕ). l ++ codes ": not a case\n") (c.as_bytes.ensures.value ∙ c.format.ensures.text))
+    c.in_ok-write_whole.ensures.whole c.write_both.ensures.part
