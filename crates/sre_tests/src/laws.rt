@@ -130,8 +130,8 @@ fn searched_in_window<S: StrDrive>(
     req: Request<'_, S>,
     state: &mut State<Global>,
 ) -> Result<bool, SreError>
-    ensures span { IfOk result (λ b. b ≡ true → (start_of req ≤ state.new.start)
-        × Spans state.new.start (end_of req) state.new) }
+    ensures span { IfOk result (λ b. b ≡ true → (start_of req.entry ≤ state.new.start)
+        × Spans state.new.start (end_of req.entry) state.new) }
     ensures no { IfOk result (λ b. b ≡ false → state.new.marks ≡ no_marks) }
     ensures err { OnErr result (state.new.marks ≡ no_marks) }
     ensures refused { OnErr result Refused }
@@ -151,8 +151,8 @@ fn listed<S: StrDrive>(
     req: Request<'_, S>,
     state: &mut State<Global>,
 ) -> Result<Vec<Found<Global>>, SreError>
-    ensures few { IfOk result (λ all. vec_len all ≤ most_matches (asked_of req)) }
-    ensures order { IfOk result (λ all. AreInOrder (start_of req) (map match_of all.items)) }
+    ensures few { IfOk result (λ all. vec_len all ≤ most_matches (asked_of req.entry)) }
+    ensures order { IfOk result (λ all. AreInOrder (start_of req.entry) (map match_of all.items)) }
     ensures refused { OnErr result Refused }
 {
     all_matches(req, state)
