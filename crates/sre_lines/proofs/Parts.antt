@@ -12,25 +12,12 @@ use Rattle.sre_lines.specs.declared.cases.CaseFault.{CaseFault}
 use Rattle.sre_lines.specs.declared.program.Ending.{Ending}
 use Rattle.sre_lines.specs.declared.program.Ending.TheVariants.{AllAnswered, Told, Untold}
 
-front_part : (old new : Option (List ℕ)) (front end : List ℕ) → AppendsPart old new front
-    → AppendsPart old new (front ++ end)
-front_part old new front end (part, rest, split, a) =
-    (part, rest ++ end, sym (append_assoc part rest end) ∙ ap (λ l. l ++ end) split, a)
-
-end_part : (old mid new : Option (List ℕ)) (front end : List ℕ) → Appends old mid front → AppendsPart mid new end
-    → AppendsPart old new (front ++ end)
-end_part old mid new front end a (part, rest, split, b) = (
-  front ++ part,
-  rest,
-  append_assoc front part rest ∙ ap (λ l. front ++ l) split,
-  Appends-trans old mid new front part a b,
-)
-
 -- what a failed write of the front leaves
-pub front_part_of : {T E : Type 0} (old new : Option (List ℕ)) (front end : List ℕ) (r : Result T E)
+pub front_part : {T E : Type 0} (old new : Option (List ℕ)) (front end : List ℕ) (r : Result T E)
     → AppendsPart old new front → OnErr r (AppendsPart old new (front ++ end))
-front_part_of old new front end (Ok x) p = tt
-front_part_of old new front end (Err e) p = front_part old new front end p
+front_part old new front end (Ok x) p = tt
+front_part old new front end (Err e) (part, rest, split, a) =
+    (part, rest ++ end, sym (append_assoc part rest end) ∙ ap (λ l. l ++ end) split, a)
 
 -- a write behind one that wrote the front
 pub behind_whole : {T E : Type 0} (old mid new : Option (List ℕ)) (front bytes said : List ℕ) (r : Result T E)
@@ -43,8 +30,12 @@ pub behind_part : {T E : Type 0} (old mid new : Option (List ℕ)) (front bytes 
     → bytes ≡ said → Appends old mid front → OnErr r (AppendsPart mid new bytes)
     → OnErr r (AppendsPart old new (front ++ said))
 behind_part old mid new front bytes said (Ok x) same a b = tt
-behind_part old mid new front bytes said (Err e) same a b =
-    end_part old mid new front said a (subst (λ (l : List ℕ). AppendsPart mid new l) same b)
+behind_part old mid new front bytes said (Err e) same a (part, rest, split, b) = (
+  front ++ part,
+  rest,
+  append_assoc front part rest ∙ ap (λ l. front ++ l) (split ∙ same),
+  Appends-trans old mid new front part a b,
+)
 
 -- what is told of a fault at which the program ends
 told : (old new : Option (List ℕ)) (fault : CaseFault) (argument : Result (String Global) CaseFault) (ending : Ending)
@@ -66,13 +57,13 @@ pub stopped_run : (Reads : List ℕ → Reading → Type 0) (args : Arguments) (
     → (ending ≡ Told fault → Appends faults faults' (fault_text fault shown ++ 10 ∷ []))
     → (ending ≡ Untold fault → AppendsPart faults faults' (fault_text fault shown ++ 10 ∷ []))
     → ProgramRun Reads args out out' faults faults' ending
-stopped_run Reads args out out' faults faults' name asked shown fault ending a b is (file, read, answers) end line part =
+stopped_run Reads args out out' faults faults' name asked shown fault ending a b is (file, read, said) end line part =
     let Line : List ℕ → Type 0 = λ text. Appends faults faults' (fault_text fault text ++ 10 ∷ []) in
     let Part : List ℕ → Type 0 = λ text. AppendsPart faults faults' (fault_text fault text ++ 10 ∷ []) in
     let Read : List ℕ → Type 0 = λ text. Reads text file in
     let To : Result (Unit {0}) CaseFault → Type 0 = λ e. AnswersNamed Reads out out' (Ok name) e in record {
       argument = Ok name;
       is_argument = is;
-      answers = subst To (sym end) (file, subst Read a read, answers);
+      answers = subst To (sym end) (file, subst Read a read, said);
       tells = told faults faults' fault (Ok name) ending end (λ e. subst Line b (line e)) (λ e. subst Part b (part e));
     }

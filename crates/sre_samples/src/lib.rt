@@ -1,4 +1,4 @@
-//! Codes and texts that several tests share: each kind of item, in the fewest words that show what it does.
+//! Codes and texts that several tests share: items of the most families, in few words, some with a block.
 #![tactic(auto)]
 
 const NO_LIMIT: u32 = u32::MAX;

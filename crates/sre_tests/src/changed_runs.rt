@@ -1,4 +1,4 @@
-//! Codes in which a word was changed, as a stranger may send them: where the check takes one, each call comes to an end.
+//! Codes in which a word was changed, as a stranger may send them: where the check takes one, each call ends.
 
 use crate::asking::{Call, ask};
 use sre_engine::engine::SreError;

@@ -1,8 +1,9 @@
 //! Tests of the crates below the machine: what neither a clause of a contract nor a line of the program shows.
 //!
-//! That is the causes and places of refused words, codes in which a word was changed, the numbers of codes and the bits
-//! of flags, printed texts, std's table, each request for memory refused in turn, the memory of a board, worked examples
-//! over both types of text, and the words of parts. They are proved while the machine is, and not behind the engine.
+//! That is the causes and places of refused words, codes in which a word was changed, the numbers of codes and the
+//! bits of flags, printed texts, std's table, each request for memory refused in turn, the memory of a board, worked
+//! examples over both types of text, and the words of parts. They are proved while the machine is, and not behind the
+//! engine.
 #![tactic(auto)]
 
 #[cfg(test)]

@@ -2,12 +2,12 @@
 use Rattle.std.proofs.Common.{◌≡◌, ◌∙◌, ◌++◌, List, ℕ, ap}
 use Rattle.std.specs.Prelude.{codes}
 use Rattle.std.specs.Fmt.{decimal}
-use Rattle.sre_lines.proofs.Parts.{front_part_of, behind_part, behind_whole}
+use Rattle.sre_lines.proofs.Parts.{front_part, behind_part, behind_whole}
 use Rattle.sre_lines.proofs.cases.write_no_case.Goals as goal
 
 pub returns-in_err-write_whole-clause-part : goal.returns-in_err-write_whole-clause-part
 returns-in_err-write_whole-clause-part g c =
-    front_part_of _ _ (codes "line ") (decimal c.args.line ++ codes ": not a case\n") c.from_residual.result
+    front_part _ _ (codes "line ") (decimal c.args.line ++ codes ": not a case\n") c.from_residual.result
     c.in_err-write_whole.ensures.part
 
 pub returns-clause-line : goal.returns-clause-line

@@ -1,11 +1,11 @@
 -- The second write goes on behind the first one; where that one fails, nothing is behind a part of it.
 use Rattle.std.proofs.Common.{refl}
-use Rattle.sre_lines.proofs.Parts.{front_part_of, behind_part}
+use Rattle.sre_lines.proofs.Parts.{front_part, behind_part}
 use Rattle.sre_lines.proofs.output.write_both.Goals as goal
 
 pub returns-in_err-write_whole-clause-part : goal.returns-in_err-write_whole-clause-part
 returns-in_err-write_whole-clause-part g c =
-    front_part_of _ _ c.args.front.now c.args.end.now c.from_residual.result c.in_err-write_whole.ensures.part
+    front_part _ _ c.args.front.now c.args.end.now c.from_residual.result c.in_err-write_whole.ensures.part
 
 pub returns-clause-part : goal.returns-clause-part
 returns-clause-part g c =
