@@ -1,5 +1,5 @@
 -- The line's number stands between two pieces of text.
-use Rattle.std.proofs.Common.{◌≡◌, ◌∙◌, ◌++◌, List, ℕ, ap}
+use Rattle.std.proofs.Common.{◌∙◌, ◌++◌, List, ℕ, ap}
 use Rattle.std.specs.Prelude.{codes}
 use Rattle.std.specs.Fmt.{decimal}
 use Rattle.sre_lines.proofs.Parts.{front_part, behind_part, behind_whole}
