@@ -219,7 +219,7 @@ class Bundles:
             self.failed += not is_well
 
     def of_crate(self, crate, pool):
-        """Tries the first bundle of a crate, and gives the trials of the others, which run in the pool."""
+        """Gives the trials of a crate's bundles, which run in the pool."""
         made, bad = wrong_bodies.bundles(wrong_bodies.bodies_of(crate), crate)
         for line in bad:
             self.count(False, line)
@@ -228,14 +228,10 @@ class Bundles:
         if not self.prover.are_proved([it.name for it in crate.below()]):
             self.count(False, f"wrong bodies of {crate.name}: not tried, since a crate below it is not proved")
             return []
-        numbered = [*enumerate(made)]
-        for it in numbered[:1]:
-            # what this check keeps serves the others
-            self.of_bundle(trial, *it)
-        return [pool.submit(self.of_bundle, trial, *it) for it in numbered[1:]]
+        return [pool.submit(self.of_bundle, trial, *it) for it in enumerate(made)]
 
     def of_bundle(self, trial, number, bundle):
-        costs, bodies = [], {f"{trial.crate.name}::{it.function}": it.name for it in bundle["bodies"]}
+        costs, bodies = [], {f"{trial.crate.name}::{it.function}": it.name for it in bundle.bodies}
         for is_well, line in trial.bundle(number, bundle, lambda *it: self.check(*it, costs)):
             self.count(is_well, line)
         with self.turn:

@@ -1,28 +1,34 @@
 #!/usr/bin/env python3
 """Tries the wrong bodies of crates, many in one check.
 
-    wrong_bodies.py [--alone] [CRATE | CRATE/NAME]..
+    wrong_bodies.py [--alone] [--right] [CRATE | CRATE/NAME]..
 
 A wrong body is a file crates/CRATE/wrong/NAME.edit, written as a must-fail edit is: lines 'file: src/..', and pairs of
 lines 'old: TEXT' and 'new: TEXT', where each TEXT stands once in its file. A line 'fn: PATH' names the function that
 has to be refused, as a check names it below its crate.
 
-A function is proved from the contracts of those that it calls, so what stays open in it is its own. So wrong bodies of
-different functions are written into one copy of the crate and checked at once. A wrong body is refused where a goal of
-its own function stays open, or an answer to one is no longer a proof; a function that only calls a refused one has no
-such goal. Functions that call one another have one proof: there a line 'cycle: NAME' has the cycle's name, and only the
+A function is proved from the contracts of those that it calls, so what stays open in it is its own. So wrong bodies
+are written into one copy of the crate and checked at once, and the proofs of the functions that they call are holes. A
+second body of a function stands in a copy of it, under another name. A wrong body is refused where a goal of its own
+function stays open, or an answer to one is no longer a proof; a function that only calls a refused one has no such
+goal. Functions that call one another have one proof: there a line 'cycle: NAME' has the cycle's name, and only the
 goals that begin with the function's name are its own. A file NAME.right has a body that is right: it goes along, and
 fails the run where it is told as refused.
 
-By hand, the crates below a crate have to be built, and its own kept work is used where there is some: `rt check` in
-its folder does both. --alone gives each body a check of its own. The status is 0 where each body is judged as it must.
+By hand, the crates below a crate have to be built, which `rt check` in its folder does. --alone gives each body a check
+of its own, and --right tries the functions as they are, none of which may be told as refused. The status is 0 where
+each body is judged as it must.
 """
+import copy
+import itertools
 import os
 import re
 import shutil
 import subprocess
 import sys
 import tempfile
+
+from functions import emptied, functions, sources
 
 ROOT = os.path.dirname(os.path.dirname(os.path.realpath(__file__)))
 PARTS = ("src", "specs", "proofs")
@@ -33,6 +39,13 @@ TAKEN_AWAY = re.compile(r"has no field|is not in scope|has no `|was not admitted
 # Where a function's answers are refused for their own text, a check tells which goals stay open, and offers no files
 # for them. Its offers take a second pass, as long as a third of the first.
 NO_OFFERS = "\nno_offers : no_such_type\nno_offers = ?\n"
+
+# The proof of a function that a wrong body may call. Its contract is what it is in any case.
+HOLE = """use Rattle.{crate}.proofs.{path}.Statement as stated
+
+pub {name}_spec : {{M : Type 1}} → stated.statement M
+{name}_spec = ?
+"""
 
 
 def read(path):
@@ -105,10 +118,10 @@ class Body:
             elif word in ("new", "new:"):
                 self.pairs.append((file, old, text))
 
-    def answers(self):
-        """The file of the answers to the function's goals, below `proofs/`."""
+    def proof(self):
+        """The folder of the function's proof, below `proofs/`."""
         module, _, name = f"::{self.function}".rpartition("::")
-        return f"{module}::{f'+{self.cycle}' if self.cycle else name}/Answers.antt".replace("::", "/")
+        return f"{module}::{f'+{self.cycle}' if self.cycle else name}".replace("::", "/")[1:]
 
     def own(self, goals):
         """Those of the goals that are told with its function that are its own."""
@@ -118,15 +131,43 @@ class Body:
     def label(self, crate):
         return f"{'wrong' if self.is_wrong else 'right'} body {crate.name}/{self.name}"
 
-    def written(self, texts, folder):
-        """The texts with this body in them, or nothing where an old text does not stand there once."""
+    def written(self, texts):
+        """The texts with this body in them, or nothing where an old text stands once neither in the function nor in its
+        file."""
         texts = dict(texts)
         for file, old, new in self.pairs:
-            text = texts.get(file) or read(f"{folder}/{file}")
-            if text.count(old) != 1:
+            own = functions(texts).get(self.function)
+            parts = own.parts(texts) if own and own.file == file else ["", texts.get(file, ""), ""]
+            if parts[1].count(old) != 1:
+                parts = ["", "".join(parts), ""]
+            if parts[1].count(old) != 1:
                 return None
-            texts[file] = text.replace(old, new)
+            texts[file] = parts[0] + parts[1].replace(old, new) + parts[2]
         return texts
+
+    def righted(self):
+        """The body that the function has."""
+        body = copy.copy(self)
+        body.is_wrong, body.pairs = False, [(file, old, old) for file, old, _ in self.pairs]
+        return body
+
+    def renamed(self, names):
+        """This body, of a function whose name is none of these."""
+        body = copy.copy(self)
+        body.function = next(it for it in (f"{self.function}_{i}" for i in itertools.count(2)) if it not in names)
+        return body
+
+    def copied(self, texts, changed, function):
+        """The changed texts with a copy of its function, which has this body, or nothing where it does not stand in the
+        function alone."""
+        at, now, whole = functions(texts).get(self.function), functions(changed).get(self.function), self.written(texts)
+        if not at or at.cycle or any(old not in at.text(texts) for _, old, _ in self.pairs):
+            return None
+        own = functions(whole)[self.function].text(whole)
+        names = [it.rpartition("::")[2] for it in (self.function, function)]
+        parts = now.parts(changed)
+        added = re.sub(rf"\bfn {names[0]}\b", f"fn {names[1]}", own, count=1)
+        return {**changed, now.file: f"{parts[0]}{parts[1]}\n{added}{parts[2]}"}
 
 
 def bodies_of(crate):
@@ -135,21 +176,36 @@ def bodies_of(crate):
     return [Body(f"{folder}/{it}") for it in names if it.endswith((".edit", ".right"))]
 
 
+class Bundle:
+    """Bodies that are tried in one check, each of a function of its own name, and the texts that they make."""
+
+    def __init__(self, texts):
+        self.before, self.texts, self.bodies, self.copies = texts, texts, [], {}
+
+    def take(self, body):
+        """Takes a body in, in its function or, where that is another by now, in a copy of it: whether it could."""
+        names = {it.function for it in self.bodies}
+        texts, placed = body.function not in names and body.written(self.texts), body
+        if not texts:
+            placed = body.renamed(names)
+            texts = body.copied(self.before, self.texts, placed.function)
+        if not texts:
+            return False
+        if placed is not body:
+            self.copies[placed.proof()] = body.proof()
+        self.texts, self.bodies = texts, [*self.bodies, placed]
+        return True
+
+
 def bundles(bodies, crate, is_alone=False):
-    """Bodies of different functions in few bundles, with the texts that they make; and a line for each body that cannot
-    be written into the crate."""
-    made, bad = [], []
+    """Bodies in few bundles; and a line for each body that cannot be written into the crate."""
+    made, bad, texts = [], [], sources(crate.folder)
     for body in bodies:
-        if not body.function or not body.pairs or body.written({}, crate.folder) is None:
+        if not body.function or not body.pairs or body.written(texts) is None:
             bad.append(f"{body.label(crate)}: BAD: it names no function, or an old text does not stand once")
-            continue
-        for bundle in [] if is_alone else made:
-            texts = body.written(bundle["texts"], crate.folder)
-            if texts and body.function not in {it.function for it in bundle["bodies"]}:
-                bundle["texts"], bundle["bodies"] = texts, [*bundle["bodies"], body]
-                break
-        else:
-            made.append({"texts": body.written({}, crate.folder), "bodies": [body]})
+        elif is_alone or not any(it.take(body) for it in made):
+            made.append(Bundle(texts))
+            made[-1].take(body)
     return made, bad
 
 
@@ -181,9 +237,9 @@ def judged(bundle, crate, said):
     is_judged = lines[-1].startswith("only=")
     open_goals = refusals(said, crate)
     named = set(re.findall(rf"(?m)^fn {crate.name}::(\S+):", said))
-    changed = {body.function for body in bundle["bodies"]}
+    changed = {body.function for body in bundle.bodies}
     others = ", ".join(it for it, goals in open_goals.items() if goals and it not in changed)
-    for body in bundle["bodies"]:
+    for body in bundle.bodies:
         goals = body.own(open_goals.get(body.function))
         label = body.label(crate)
         if not is_judged:
@@ -203,53 +259,68 @@ class Trial:
 
     def __init__(self, crate, kit, words, room):
         self.crate, self.kit, self.words, self.room = crate, kit, words, room
-        self.kept = f"{room}/{crate.name}-kept"
 
-    def command(self, kept, functions=()):
-        """What checks the crate, or these functions and those that they call, over kept work."""
-        words = [f"{self.kit}/bin/rattle", "check", *self.words, "--incremental", kept, "--progress"]
-        return [*words, *(word for it in functions for word in ("--only", it))]
-
-    def place(self, name, texts, bodies=()):
-        """A copy of the crate with these texts, in which a check offers nothing for the functions of these bodies."""
+    def place(self, name, bundle):
+        """A copy of the crate with a bundle's texts. A check of it offers nothing for the functions of its bodies, and
+        proves no others."""
         folder = f"{self.room}/{self.crate.name}-{name}"
         for part in PARTS:
             if os.path.isdir(f"{self.crate.folder}/{part}"):
                 shutil.copytree(f"{self.crate.folder}/{part}", f"{folder}/{part}")
-        for file, text in texts.items():
+        for file, text in emptied(bundle.texts, {it.function for it in bundle.bodies}).items():
             with open(f"{folder}/{file}", "w", encoding="utf-8") as it:
                 it.write(text)
-        for answers in {f"{folder}/proofs{it.answers()}" for it in bodies}:
-            os.makedirs(os.path.dirname(answers), exist_ok=True)
-            with open(answers, "a", encoding="utf-8") as it:
+        for to, of in bundle.copies.items():
+            self.copy_proof(f"{folder}/proofs", of, to)
+        own = {it.proof() for it in bundle.bodies}
+        for proof in self.proofs(bundle) - own:
+            self.open_proof(f"{folder}/proofs", proof)
+        for proof in own:
+            os.makedirs(f"{folder}/proofs/{proof}", exist_ok=True)
+            with open(f"{folder}/proofs/{proof}/Answers.antt", "a", encoding="utf-8") as it:
                 it.write(NO_OFFERS)
         return folder
 
-    def unchanged(self, run):
-        """Checks the crate as it is over its kept work. `run` takes a command and its folder."""
-        return run(self.command(self.kept), self.place("unchanged", {}))
+    def proofs(self, bundle):
+        """The folders of the proofs of functions that may be left open."""
+        listed = {path.replace("::", "/") for path, it in functions(bundle.before).items() if not it.cycle}
+        answered = {
+            os.path.relpath(at, f"{self.crate.folder}/proofs")
+            for at, _, names in os.walk(f"{self.crate.folder}/proofs")
+            if {"Answers.antt", "Invariants.antt"} & {*names} and "/+" not in at
+        }
+        return listed | answered
+
+    def open_proof(self, proofs, proof):
+        """Leaves a function's proof open."""
+        folder, name = f"{proofs}/{proof}", os.path.basename(proof)
+        shutil.rmtree(folder, ignore_errors=True)
+        os.makedirs(folder)
+        with open(f"{folder}/Proof.antt", "w", encoding="utf-8") as it:
+            it.write(HOLE.format(crate=self.crate.name, path=proof.replace("/", "."), name=name))
+
+    def copy_proof(self, proofs, of, to):
+        """Gives a copy of a function what its proof has."""
+        if not os.path.isdir(f"{proofs}/{of}"):
+            return
+        shutil.copytree(f"{proofs}/{of}", f"{proofs}/{to}")
+        for name in os.listdir(f"{proofs}/{to}"):
+            text = read(f"{proofs}/{to}/{name}")
+            for part in ("proofs", "specs.contracts"):
+                before = f"Rattle.{self.crate.name}.{part}.{of.replace('/', '.')}."
+                text = text.replace(before, f"Rattle.{self.crate.name}.{part}.{to.replace('/', '.')}.")
+            with open(f"{proofs}/{to}/{name}", "w", encoding="utf-8") as it:
+                it.write(text)
 
     def bundle(self, number, bundle, run):
-        """Checks a bundle's functions and what they call. Where nothing is kept yet, the work of this check is; else it
-        works over a copy, since a check takes from kept work what it changed."""
-        functions = [it.function for it in bundle["bodies"]]
-        folder, kept = self.place(f"bundle-{number}", bundle["texts"], bundle["bodies"]), self.kept
-        is_first = not os.path.isdir(kept)
-        if not is_first:
-            kept = f"{self.kept}-{number}"
-            shutil.copytree(self.kept, kept)
-        said = run(self.command(kept, functions), folder)
-        if not is_first:
-            shutil.rmtree(kept)
-        return list(judged(bundle, self.crate, said))
+        """Checks a bundle's functions, and judges its bodies. `run` takes a command and its folder."""
+        only = [word for it in bundle.bodies for word in ("--only", it.function)]
+        words = [f"{self.kit}/bin/rattle", "check", *self.words, "--allow-holes", "--progress", *only]
+        return list(judged(bundle, self.crate, run(words, self.place(f"bundle-{number}", bundle))))
 
 
-def is_proved(said):
-    return said.rstrip("\n").split("\n")[-1].startswith("logic=proved")
-
-
-def by_hand(crate, picked, is_alone):
-    """Tries bodies of a crate over its kept work, and tells of each. Returns how many were not judged as they must."""
+def by_hand(crate, picked, is_alone, is_right):
+    """Tries bodies of a crate, and tells of each. Returns how many were not judged as they must."""
 
     def run(command, folder):
         how = {"stdin": subprocess.DEVNULL, "stdout": subprocess.PIPE, "stderr": subprocess.STDOUT, "errors": "replace"}
@@ -259,17 +330,13 @@ def by_hand(crate, picked, is_alone):
         return f"{below.folder}/out/rlib"
 
     bodies = [it for it in bodies_of(crate) if not picked or it.name in picked]
+    bodies = [it.righted() for it in bodies] if is_right else bodies
     made, bad = bundles(bodies, crate, is_alone)
     failed = len(bad)
     for line in bad:
         print(line)
     with tempfile.TemporaryDirectory(prefix="wrong-") as room:
         trial = Trial(crate, kit(), crate.words(kit(), rlibs), room)
-        if os.path.isdir(f"{crate.folder}/out/incremental"):
-            shutil.copytree(f"{crate.folder}/out/incremental", trial.kept)
-        if not is_proved(trial.unchanged(run)):
-            print(f"wrong bodies of {crate.name}: BAD: the crate itself is not proved: run rt check there first")
-            return failed + 1
         for number, bundle in enumerate(made):
             for is_well, line in trial.bundle(number, bundle, run):
                 print(line, flush=True)
@@ -278,16 +345,17 @@ def by_hand(crate, picked, is_alone):
 
 
 def main(words):
-    is_alone, words = "--alone" in words, [it for it in words if it != "--alone"]
+    is_alone, is_right = "--alone" in words, "--right" in words
     known, failed, picked = crates(), 0, {}
     for word in words:
         name, _, body = word.partition("/")
-        picked.setdefault(name, set()).update({body} if body else ())
+        if not word.startswith("--"):
+            picked.setdefault(name, set()).update({body} if body else ())
     for name in picked or known:
         if name not in known:
             sys.exit(f"there is no crate {name}")
         if bodies_of(known[name]):
-            failed += by_hand(known[name], picked.get(name), is_alone)
+            failed += by_hand(known[name], picked.get(name), is_alone, is_right)
     print(f"{failed} bodies not judged as they must be")
     return 1 if failed else 0
 

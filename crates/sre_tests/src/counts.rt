@@ -4,6 +4,8 @@ use sre_engine::{Code, Request, State, UniTable};
 use std::alloc::Global;
 use std::test::Fail;
 
+const NO_LIMIT: u32 = u32::MAX;
+
 // Words, a text, whether the match has to end at the window's end, where there is one, how many runs there are at least
 // and at most, and how many comparisons at most.
 type Row = (
@@ -61,7 +63,7 @@ const SET_OF_ALTERNATIVES: &[u32] = &[
 
 const SET_BEHIND_A_MARK: &[u32] = &[14, 7, 4, 1, 1, 16, 97, 0, 17, 0, 16, 97, 17, 1, 1];
 
-static ROWS: [Row; 20] = [
+static ROWS: [Row; 35] = [
     (SKIPPED, b"xabcd", false, Some((1, 5)), (1, 1), 10),
     (OVERLAPPING, b"aaaab", false, Some((2, 5)), (0, 0), 10),
     (NOT_GREATEST, b"aaab", false, Some((1, 4)), (1, 2), 0),
@@ -104,6 +106,97 @@ static ROWS: [Row; 20] = [
         None,
         (0, 0),
         10,
+    ),
+    // without a block, a start has no run where the first words tell that no match begins there: LITERAL, with its case
+    // and without, behind marks, in a loop that owes a body, and in a run that owes a character
+    (&[16, 97, 1], b"bbbbab", false, Some((4, 5)), (1, 1), 0),
+    (&[32, 97, 1], b"bbbbAb", false, Some((4, 5)), (1, 1), 0),
+    (
+        &[17, 0, 16, 97, 17, 1, 16, 98, 1],
+        b"xxxab",
+        false,
+        Some((3, 5)),
+        (1, 1),
+        0,
+    ),
+    (
+        &[23, 7, 1, NO_LIMIT, 16, 97, 16, 98, 18, 16, 99, 1],
+        b"xxababc",
+        false,
+        Some((2, 7)),
+        (1, 1),
+        0,
+    ),
+    (
+        &[24, 6, 1, NO_LIMIT, 16, 97, 1, 1],
+        b"xxaab",
+        false,
+        Some((2, 4)),
+        (1, 1),
+        0,
+    ),
+    // a category, a set and a look back
+    (&[8, 0, 1], b"xxx5x", false, Some((3, 4)), (1, 1), 0),
+    (
+        &[13, 6, 16, 97, 16, 98, 0, 1],
+        b"xxxbx",
+        false,
+        Some((3, 4)),
+        (1, 1),
+        0,
+    ),
+    (
+        &[4, 5, 1, 16, 97, 1, 16, 98, 1],
+        b"bbbbab",
+        false,
+        Some((5, 6)),
+        (1, 1),
+        0,
+    ),
+    // the position codes ^ of lines, \b, \Z and $
+    (
+        &[6, 1, 16, 97, 1],
+        b"ba\nab",
+        false,
+        Some((3, 4)),
+        (1, 1),
+        0,
+    ),
+    (
+        &[6, 3, 16, 97, 1],
+        b"xa xa a",
+        false,
+        Some((6, 7)),
+        (1, 1),
+        0,
+    ),
+    (&[6, 7, 1], b"xxxx", false, Some((4, 4)), (1, 1), 0),
+    (&[6, 5, 1], b"xxx\n", false, Some((3, 3)), (1, 1), 0),
+    // `ab|cd`: what its alternatives begin with is read behind the first run
+    (
+        &[7, 7, 16, 97, 16, 98, 15, 9, 7, 16, 99, 16, 100, 15, 2, 0, 1],
+        b"xxxxxcd",
+        false,
+        Some((5, 7)),
+        (1, 2),
+        0,
+    ),
+    // `a*b` and `xa*b`: no start inside the run of one that led to no match
+    (
+        &[24, 6, 0, NO_LIMIT, 16, 97, 1, 16, 98, 1],
+        b"aaaaaaaac",
+        false,
+        None,
+        (1, 3),
+        0,
+    ),
+    (
+        &[16, 120, 24, 5, 0, NO_LIMIT, 3, 1, 16, 98, 1],
+        b"xxxxxxxx",
+        false,
+        None,
+        (1, 2),
+        0,
     ),
 ];
 

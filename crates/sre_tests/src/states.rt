@@ -27,7 +27,7 @@ const BYTES: Text = Text::Bytes(b"ba");
 // What is asked, by a call, words, a text and its window, and what the state then shows.
 type Step = ((Call, &'static [u32], Text, (usize, usize)), Shown<'static>);
 
-static STEPS: [Step; 10] = [
+static STEPS: [Step; 14] = [
     (
         (Call::Match, GROUP, CHARACTERS, (0, 9)),
         (Some((0, 1, 2)), &[Some(0), Some(1)], 1),
@@ -59,6 +59,23 @@ static STEPS: [Step; 10] = [
     (
         (Call::Match, EMPTY, BYTES, (usize::MAX, usize::MAX)),
         (Some((2, 2, 2)), &[], -1),
+    ),
+    // one character of two bytes, two of one, and none
+    (
+        (Call::Search, GROUP, Text::Characters("é"), (0, 9)),
+        (Some((0, 1, 2)), &[Some(0), Some(1)], 1),
+    ),
+    (
+        (Call::Search, GROUP, Text::Bytes(b"ab"), (1, 9)),
+        (Some((1, 2, 2)), &[Some(1), Some(2)], 1),
+    ),
+    (
+        (Call::Search, GROUP, Text::Characters(""), (0, 9)),
+        (None, &[], -1),
+    ),
+    (
+        (Call::Match, EMPTY, Text::Characters(""), (0, 9)),
+        (Some((0, 0, 0)), &[], -1),
     ),
     (
         (Call::Search, GROUP, CHARACTERS, (2, usize::MAX)),

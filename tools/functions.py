@@ -1,0 +1,98 @@
+"""The functions that stand in a crate's sources, as a check names them. The sources have the form that `rt fmt` gives.
+
+Methods of traits, functions that macros write and those that stand in another are left out.
+"""
+import os
+import re
+
+FUNCTION = re.compile(r"( *)(?:pub(?:\([\w:]+\))? )?(?:const )?fn (\w+)")
+TYPE = re.compile(r"(?:pub(?:\([\w:]+\))? )?(?:struct|enum) (\w+)")
+OWN_METHODS = re.compile(r"impl(?:<.*?>)? (\w+)(?:<.*>)? \{")
+
+
+class Function:
+    """A function: its path below the crate, its file, and its first and last line there, with what is written on it."""
+
+    def __init__(self, path, file, begin, end, cycle):
+        self.path, self.file, self.begin, self.end, self.cycle = path, file, begin, end, cycle
+
+    def parts(self, texts):
+        """The text of its file in three parts: what stands before it, it, and what stands behind it."""
+        lines = texts[self.file].split("\n")
+        ends = [lines[: self.begin], lines[self.begin : self.end + 1], lines[self.end + 1 :]]
+        return ["".join(f"{it}\n" for it in part) for part in ends]
+
+    def text(self, texts):
+        return self.parts(texts)[1]
+
+
+def module_of(file):
+    """The path of a file's module: of src/a/b.rt it is a::b, and of the root's none."""
+    path = file.removeprefix("src/").removesuffix(".rt").split("/")
+    return [] if path in (["lib"], ["main"]) else path
+
+
+def sources(folder):
+    """The texts of a crate's sources, by their paths in its folder."""
+    texts = {}
+    for at, _, names in os.walk(f"{folder}/src"):
+        for name in names:
+            if name.endswith(".rt"):
+                path = f"{at}/{name}"
+                with open(path, encoding="utf-8") as file:
+                    texts[os.path.relpath(path, folder)] = file.read()
+    return texts
+
+
+def types(texts):
+    """The module of each type."""
+    return {it: module_of(file) for file, text in texts.items() for it in re.findall(rf"(?m)^{TYPE.pattern}", text)}
+
+
+def extent(lines, at, indent):
+    """The first and last line of the function that begins at a line: from what is written on it to its last brace."""
+    begin = at
+    while begin and re.match(rf"{indent}(//|#\[)", lines[begin - 1]):
+        begin -= 1
+    is_short = lines[at].endswith("}") and lines[at].count("{") == lines[at].count("}")
+    return begin, at if is_short else next(i for i in range(at, len(lines)) if lines[i] == f"{indent}}}")
+
+
+def functions(texts):
+    """The functions of sources, by their paths."""
+    found, owners = {}, types(texts)
+    for file, text in texts.items():
+        lines, owner = text.split("\n"), module_of(file)
+        for at, line in enumerate(lines):
+            if re.match(r"(impl|(pub )?trait|(pub )?mod \w+ \{|macro_rules!)", line):
+                own = OWN_METHODS.match(line)
+                owner = [*owners[own[1]], own[1]] if own and own[1] in owners else None
+            elif line.startswith("}"):
+                owner = module_of(file)
+            head = FUNCTION.match(line)
+            if head and owner is not None and len(head[1]) == (0 if owner == module_of(file) else 4):
+                begin, end = extent(lines, at, head[1])
+                is_cycle = any("#[cycle" in it for it in lines[begin:at])
+                path = "::".join([*owner, head[2]])
+                found[path] = Function(path, file, begin, end, is_cycle)
+    return found
+
+
+def begin_of_body(lines, indent):
+    """The line of a function's text that its body's first brace ends; none where the body is on one line with all."""
+    alone = [i for i, line in enumerate(lines) if line == f"{indent}{{"]
+    behind = [i for i, line in enumerate(lines) if line.endswith(" {") and not line.endswith("}")]
+    return next(iter([*alone, *behind]), None)
+
+
+def emptied(texts, kept):
+    """The texts with a panic in place of each function's body, but for those of kept functions and of cycles."""
+    lines = {file: text.split("\n") for file, text in texts.items()}
+    for path, it in functions(texts).items():
+        own = lines[it.file][it.begin : it.end + 1]
+        begin = begin_of_body(own, re.match(" *", own[-1])[0])
+        if path not in kept and not it.cycle and begin is not None:
+            # as many lines as before, since the functions' lines are those of before
+            panic = ["unreachable!()", *[""] * (len(own) - begin - 3)]
+            lines[it.file][it.begin + begin + 1 : it.end] = panic
+    return {file: "\n".join(it) for file, it in lines.items()}
