@@ -18,6 +18,12 @@ pub type Ends = (usize, usize, usize);
 /// What a state shows after a call: the match, if there is one, the marks and the last index.
 pub type Shown<'a> = (Option<Ends>, &'a [Option<usize>], isize);
 
+// Where the match that a state shows starts and ends.
+fn ends_of<A: Allocator + Copy>(state: &State<A>) -> Ends {
+    let end = state.cursor();
+    (state.start(), end.position(), end.offset())
+}
+
 /// What the call answers: the match that the state then shows, if there is one.
 pub fn ask<S: StrDrive, A: Allocator + Copy>(
     call: Call,
@@ -28,11 +34,7 @@ pub fn ask<S: StrDrive, A: Allocator + Copy>(
         Call::Match => state.pymatch(&req),
         Call::Search => state.search(req),
     };
-    if !found? {
-        return Ok(None);
-    }
-    let end = state.cursor();
-    Ok(Some((state.start(), end.position(), end.offset())))
+    Ok(if found? { Some(ends_of(state)) } else { None })
 }
 
 /// Whether the state shows this after the call.

@@ -1,6 +1,7 @@
 //! `pymatch` and `search` with each request for memory refused in turn.
 
 use crate::asking::{Call, Ends, Shown, ask, shows};
+use crate::walks::has_none;
 use sre_engine::engine::SreError;
 use sre_engine::{Code, Request, State, StrDrive, UniTable};
 use sre_refusing::Refusing;
@@ -36,10 +37,12 @@ fn serves_again(
     state: &mut State<&Refusing<Global>>,
     wanted: Shown<'_>,
 ) -> Result<bool, SreError> {
-    let none = state.marks().raw().is_empty() && state.marks().last_index() == -1;
+    if !has_none(state.marks()) {
+        return Ok(false);
+    }
     let of_text = shows(call, of_text, state, wanted)?;
     let of_bytes = shows(call, of_bytes, state, wanted)?;
-    Ok(none && of_text && of_bytes)
+    Ok(of_text && of_bytes)
 }
 
 // Refuses each request for memory of a call in turn, until it asks for fewer: how many were refused.
@@ -157,24 +160,35 @@ static LITERALS: [(&[u32], &str); 2] = [
     (&[14, 8, 3, 1, 1, 1, 1, 97, 0, 16, 97, 1], "aba"),
 ];
 
+// Whether a state is as a new start at a text's end leaves it.
+fn is_fresh(state: &State<&Refusing<Global>>, end: usize) -> bool {
+    let (open, close) = state.marks().get(0);
+    has_none(state.marks())
+        && open.is_none()
+        && close.is_none()
+        && state.started() == 0
+        && state.cursor().position() == end
+}
+
+// Whether a code is found before a text's end, and a new start then made, without a request for memory.
+fn needs_no_memory(alloc: Global, code: Code<'_>, text: &str) -> Result<bool, SreError> {
+    let heap = Refusing::new(alloc, 1);
+    let mut state: State<&Refusing<Global>> = State::new(&heap);
+    let req = Request::new(text, 0, usize::MAX, code, false);
+    if !state.search(req)? || state.start() >= text.len() {
+        return Ok(false);
+    }
+    state.reset(&req, req.string().count());
+    Ok(is_fresh(&state, text.len()) && heap.left() == 1)
+}
+
 // A search for a literal, a new start and what shows a state ask for no memory.
 #[test]
 fn a_literal_is_found_without_memory(rt: HostRuntime) -> Result<(), Fail> {
     let uni = UniTable::ascii(rt.alloc());
     for &(words, text) in &LITERALS {
         let code = Code::check(rt.alloc(), words, &uni)?;
-        let heap = Refusing::new(rt.alloc(), 1);
-        let mut state: State<&Refusing<Global>> = State::new(&heap);
-        let req = Request::new(text, 0, usize::MAX, code, false);
-        assert!(rt; code.hints().literal && state.search(req)? && state.start() < text.len());
-        state.reset(&req, req.string().count());
-        let marks = state.marks();
-        assert!(rt;
-            marks.raw().is_empty() && marks.get(0) == (None, None) && marks.last_index() == -1
-        );
-        assert!(rt;
-            state.started() == 0 && state.cursor().position() == text.len() && heap.left() == 1
-        );
+        assert!(rt; code.hints().literal && needs_no_memory(rt.alloc(), code, text)?);
     }
     Ok(())
 }

@@ -1,6 +1,6 @@
 //! Texts of both types: equal characters have equal answers, and offsets count bytes.
 
-use crate::asking::{Call, ends};
+use crate::asking::{Call, Ends, ends};
 use sre_engine::UniTable;
 use std::alloc::Global;
 use std::process::Abort;
@@ -49,15 +49,26 @@ fn all_alike(rt: &impl Abort, alloc: Global, uni: &UniTable) -> Result<(), Fail>
 fn equal_characters_have_equal_answers(rt: HostRuntime) -> Result<(), Fail> {
     let alloc = rt.alloc();
     let uni = UniTable::ascii(alloc);
-    all_alike(&rt, alloc, &uni)?;
-    // a character of several bytes is none of a text of bytes
-    for (words, of_text, of_bytes) in [
-        ([16, 8364, 1], Some((1, 2, 5)), None),
-        ([16, 169, 1], None, Some((1, 2, 2))),
-    ] {
-        let in_text = ends(alloc, &uni, Call::Search, &words, "é€")?;
-        let in_bytes = ends(alloc, &uni, Call::Search, &words, "é€".as_bytes())?;
-        assert!(rt; in_text == of_text && in_bytes == of_bytes);
-    }
+    all_alike(&rt, alloc, &uni)
+}
+
+// Whether a search through "é€" and one through its bytes find this.
+fn finds(
+    alloc: Global,
+    words: &[u32],
+    of_text: Option<Ends>,
+    of_bytes: Option<Ends>,
+) -> Result<bool, Fail> {
+    let uni = UniTable::ascii(alloc);
+    let in_text = ends(alloc, &uni, Call::Search, words, "é€")?;
+    let in_bytes = ends(alloc, &uni, Call::Search, words, "é€".as_bytes())?;
+    Ok(in_text == of_text && in_bytes == of_bytes)
+}
+
+// A character of several bytes is none of a text of bytes.
+#[test]
+fn other_characters_are_other_bytes(rt: HostRuntime) -> Result<(), Fail> {
+    assert!(rt; finds(rt.alloc(), &[16, 8364, 1], Some((1, 2, 5)), None)?);
+    assert!(rt; finds(rt.alloc(), &[16, 169, 1], None, Some((1, 2, 2)))?);
     Ok(())
 }

@@ -91,19 +91,18 @@ pub fn has_none<A: Allocator>(marks: &Marks<A>) -> bool {
     marks.raw().is_empty() && marks.last_index() == -1
 }
 
-// Whether a state shows a match, at whose end the window starts next.
-fn shows<S: StrDrive, A: Allocator + Copy>(
-    state: &State<A>,
-    req: &Request<'_, S>,
-    (start, end, marks, last): Span<'_>,
-) -> bool {
+// Whether a state shows a match.
+fn shows<A: Allocator + Copy>(state: &State<A>, (start, end, marks, last): Span<'_>) -> bool {
     let shown = state.marks();
-    req.start() == end
-        && req.must_advance() == (start == end)
-        && state.start() == start
+    state.start() == start
         && state.cursor().position() == end
         && shown.raw() == marks
         && shown.last_index() == last
+}
+
+// Whether the window starts next at the end of a match, and has to advance past an empty one.
+fn goes_on<S: StrDrive>(req: &Request<'_, S>, start: usize, end: usize) -> bool {
+    req.start() == end && req.must_advance() == (start == end)
 }
 
 /// Whether a walk gives these matches, and then none, with no marks, however often it is asked.
@@ -116,7 +115,7 @@ pub fn gives<S: StrDrive, A: Allocator + Copy>(
             Some(item) => item?,
             None => return Ok(false),
         }
-        if !shows(walk.state(), walk.req(), *found) {
+        if !shows(walk.state(), *found) || !goes_on(walk.req(), found.0, found.1) {
             return Ok(false);
         }
     }
@@ -172,17 +171,38 @@ fn walks<S: StrDrive>(
     Ok(one_by_one && lists(req, &mut State::new(alloc), wanted)?)
 }
 
+// Whether the walks over both types of text have a row's matches.
+fn walk_alike(alloc: Global, uni: &UniTable, row: &Row) -> Result<bool, Fail> {
+    let (words, text, flags, wanted) = *row;
+    let code = Code::check(alloc, words, uni)?;
+    let of_text = walks(alloc, text, code, flags, wanted)?;
+    Ok(of_text && walks(alloc, text.as_bytes(), code, flags, wanted)?)
+}
+
 #[test]
 fn walks_have_their_matches(rt: HostRuntime) -> Result<(), Fail> {
-    let alloc = rt.alloc();
-    let uni = UniTable::ascii(alloc);
-    for (words, text, flags, wanted) in &ROWS {
-        let code = Code::check(alloc, words, &uni)?;
-        let of_text = walks(alloc, *text, code, *flags, wanted)?;
-        let of_bytes = walks(alloc, text.as_bytes(), code, *flags, wanted)?;
-        assert!(rt; of_text && of_bytes, "{words:?} {text:?}");
+    let uni = UniTable::ascii(rt.alloc());
+    for row in &ROWS {
+        assert!(rt;
+            walk_alike(rt.alloc(), &uni, row)?,
+            "{:?} {:?}",
+            row.0,
+            row.1
+        );
     }
     Ok(())
+}
+
+// How many matches a request has.
+fn count(alloc: Global, req: Request<'_, &str>) -> Result<usize, SreError> {
+    Ok(all_matches(req, &mut State::new(alloc))?.len())
+}
+
+// Whether a walk over no characters has a match, and goes by the rule that an empty text has non-boundaries.
+fn has_non_boundary(alloc: Global, req: Request<'_, &str>) -> Result<bool, SreError> {
+    let mut walk = SearchIter::new(req, State::new(alloc));
+    let is_found = gives(&mut walk, &[(0, 0, &[], -1)])?;
+    Ok(is_found && walk.req().empty_rule() == EmptyRule::NonBoundary)
 }
 
 // The rule for non-boundaries goes along in a copy, in a walk and in what is asked next.
@@ -193,11 +213,9 @@ fn the_rule_goes_along(rt: HostRuntime) -> Result<(), Fail> {
     let code = Code::check(alloc, &[6, 4, 1], &uni)?;
     let mut req = Request::new("", 0, 0, code, false);
     assert!(rt; req.empty_rule() == EmptyRule::Never);
-    assert!(rt; all_matches(req, &mut State::new(alloc))?.is_empty());
+    assert!(rt; count(alloc, req)? == 0);
     req.set_empty_rule(EmptyRule::NonBoundary);
-    let mut walk = SearchIter::new(req, State::new(alloc));
-    assert!(rt; gives(&mut walk, &[(0, 0, &[], -1)])?);
-    assert!(rt; walk.req().empty_rule() == EmptyRule::NonBoundary);
-    assert!(rt; all_matches(req, &mut State::new(alloc))?.len() == 1);
+    assert!(rt; has_non_boundary(alloc, req)?);
+    assert!(rt; count(alloc, req)? == 1);
     Ok(())
 }
