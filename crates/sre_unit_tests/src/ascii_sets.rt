@@ -3,10 +3,20 @@
 use sre_ascii::AsciiSet;
 use sre_chars::constants::SreCatCode;
 
-// Whether a set has the characters of a text and no other.
+// Whether a character is in a text of ASCII, whose bytes are its characters.
+fn is_in(text: &str, c: u32) -> bool {
+    for &member in text.as_bytes() {
+        if u32::from(member) == c {
+            return true;
+        }
+    }
+    false
+}
+
+// Whether a set has the characters of a text of ASCII and no other.
 fn is_set_of(set: AsciiSet, text: &str) -> bool {
     for c in 0..300u32 {
-        if set.contains(c) != text.chars().any(|member| u32::from(member) == c) {
+        if set.contains(c) != is_in(text, c) {
             return false;
         }
     }
