@@ -154,11 +154,15 @@ pub fn set_of_blocks(alloc: Global, front: &[u32], full: usize) -> Result<Vec<u3
 }
 
 #[test]
-fn words_are_refused_by_cause_and_place(rt: HostRuntime) -> Result<(), Fail> {
+fn words_are_refused_by_cause_and_place(rt: HostRuntime) {
     for &(words, error) in &FAULTS {
         assert!(rt; refusal(rt.alloc(), words) == Some(error), "{words:?}");
     }
-    // there is one block, and the first block number is 1
+}
+
+// There is one block, and the first block number is 1.
+#[test]
+fn a_block_number_past_the_blocks_is_refused(rt: HostRuntime) -> Result<(), Fail> {
     let one_block = set_of_blocks(rt.alloc(), &[13, 76, 10, 1, 1], 68)?;
     assert!(rt; refusal(rt.alloc(), &one_block) == Some(CodeError::BadSet(2)));
     Ok(())

@@ -132,40 +132,60 @@ static ACCENTED_CASES: [(u32, u32, u32, bool); 10] = [
     (4294967295, 4294967295, 4294967295, false),
 ];
 
+// Whether a character has these lower and upper cases in a table.
+fn has_cases(table: &UniTable, ch: u32, lower: u32, upper: u32) -> bool {
+    lower_unicode(table, ch) == lower && upper_unicode(table, ch) == upper
+}
+
+// Whether a character is a word in a table, and not a word where it is none.
+fn is_sorted(table: &UniTable, ch: u32, is_word: bool) -> bool {
+    category(table, SreCatCode::UNI_WORD, ch) == is_word
+        && category(table, SreCatCode::UNI_NOT_WORD, ch) != is_word
+}
+
+#[test]
+fn characters_of_ascii_are_looked_up(rt: HostRuntime) {
+    let ascii = UniTable::ascii(rt.alloc());
+    for &(ch, lower, upper) in &ASCII_CASES {
+        assert!(rt;
+            lower_ascii(ch) == lower && upper_ascii(ch) == upper,
+            "{ch}"
+        );
+        assert!(rt; has_cases(&ascii, ch, lower, upper), "{ch}");
+    }
+}
+
 #[test]
 fn characters_are_looked_up(rt: HostRuntime) -> Result<(), Fail> {
-    let alloc = rt.alloc();
-    let ascii = UniTable::ascii(alloc);
-    for &(ch, lower, upper) in &ASCII_CASES {
-        assert_eq!(rt; (lower_ascii(ch), upper_ascii(ch)), (lower, upper));
-        assert_eq!(rt;
-            (lower_unicode(&ascii, ch), upper_unicode(&ascii, ch)),
-            (lower, upper)
-        );
-    }
     let accents = UniTable::new(
-        alloc,
+        rt.alloc(),
         &[(201, 233)],
         &[(233, 201)],
         &[(201, 201), (233, 233)],
     )?;
     for &(ch, lower, upper, is_word) in &ACCENTED_CASES {
-        assert_eq!(rt;
-            (lower_unicode(&accents, ch), upper_unicode(&accents, ch)),
-            (lower, upper)
-        );
-        assert_eq!(rt;
-            category(&accents, SreCatCode::UNI_WORD, ch),
-            is_word,
-            "{ch}"
-        );
-        assert_eq!(rt;
-            category(&accents, SreCatCode::UNI_NOT_WORD, ch),
-            !is_word,
-            "{ch}"
-        );
+        assert!(rt; has_cases(&accents, ch, lower, upper), "{ch}");
+        assert!(rt; is_sorted(&accents, ch, is_word), "{ch}");
     }
     Ok(())
+}
+
+// A map of every third character to a thousand from a multiple of 1,024 on.
+fn long_map(alloc: Global, first: u32) -> Result<Vec<(u32, u32)>, Fail> {
+    let mut map = Vec::new(alloc);
+    for i in 0..1000u32 {
+        map.push((128 + 3 * i, first | i))?;
+    }
+    Ok(map)
+}
+
+// Ranges of three, which every fifth character begins.
+fn long_ranges(alloc: Global) -> Result<Vec<(u32, u32)>, Fail> {
+    let mut ranges = Vec::new(alloc);
+    for i in 0..1000u32 {
+        ranges.push((128 + 5 * i, 130 + 5 * i))?;
+    }
+    Ok(ranges)
 }
 
 // Each list has 1,000 entries. The maps take every third character to another thousand, and every
@@ -173,28 +193,17 @@ fn characters_are_looked_up(rt: HostRuntime) -> Result<(), Fail> {
 #[test]
 fn long_lists_are_looked_up(rt: HostRuntime) -> Result<(), Fail> {
     let alloc = rt.alloc();
-    let mut lower = Vec::new(alloc);
-    let mut upper = Vec::new(alloc);
-    let mut alnum = Vec::new(alloc);
-    for i in 0..1000u32 {
-        lower.push((128 + 3 * i, 0x10000 + i))?;
-        upper.push((128 + 3 * i, 0x20000 + i))?;
-        alnum.push((128 + 5 * i, 130 + 5 * i))?;
-    }
-    let table = UniTable::new(alloc, &lower, &upper, &alnum)?;
+    let lower = long_map(alloc, 0x10000)?;
+    let upper = long_map(alloc, 0x20000)?;
+    let table = UniTable::new(alloc, &lower, &upper, &long_ranges(alloc)?)?;
     for ch in 128..6000u32 {
         let i = (ch - 128) / 3;
-        let is_entry = (ch - 128) % 3 == 0 && i < 1000;
-        let images = if is_entry {
-            (0x10000 + i, 0x20000 + i)
+        if (ch - 128) % 3 == 0 && i < 1000 {
+            assert!(rt; has_cases(&table, ch, 0x10000 + i, 0x20000 + i), "{ch}");
         } else {
-            (ch, ch)
-        };
+            assert!(rt; has_cases(&table, ch, ch, ch), "{ch}");
+        }
         let is_word = (ch - 128) % 5 < 3 && (ch - 128) / 5 < 1000;
-        assert!(rt;
-            (lower_unicode(&table, ch), upper_unicode(&table, ch)) == images,
-            "{ch}"
-        );
         assert!(rt;
             category(&table, SreCatCode::UNI_WORD, ch) == is_word,
             "{ch}"
@@ -221,33 +230,32 @@ static UNICODE_CASES: [(u32, u32, u32, bool); 15] = [
     (0xFFFFFFFF, 0xFFFFFFFF, 0xFFFFFFFF, false),
 ];
 
+// Whether a character has these cases in a table, and is a word or none.
+fn has_row(table: &UniTable, ch: u32, lower: u32, upper: u32, is_word: bool) -> bool {
+    has_cases(table, ch, lower, upper) && category(table, SreCatCode::UNI_WORD, ch) == is_word
+}
+
+// Whether a character is in a table as std has it.
+fn is_as_in_std(table: &UniTable, code: u32) -> bool {
+    match char::from_u32(code) {
+        Some(ch) => {
+            let lower = ch.to_lowercase().next().unwrap_or(ch) as u32;
+            let upper = ch.to_uppercase().next().unwrap_or(ch) as u32;
+            has_row(table, code, lower, upper, ch.is_alphanumeric() || ch == '_')
+        }
+        None => has_row(table, code, code, code, false),
+    }
+}
+
 // Every character is as std has it, and some are compared with their rows of UnicodeData.txt.
 #[test]
 fn stds_table_is_unicodes(rt: HostRuntime) -> Result<(), Fail> {
     let table = UniTable::from_std(rt.alloc())?;
     for code in 0..0x120000u32 {
-        let (lower, upper, is_word) = match char::from_u32(code) {
-            Some(ch) => (
-                ch.to_lowercase().next().unwrap_or(ch) as u32,
-                ch.to_uppercase().next().unwrap_or(ch) as u32,
-                ch.is_alphanumeric() || ch == '_',
-            ),
-            None => (code, code, false),
-        };
-        assert!(rt; lower_unicode(&table, code) == lower, "{code}");
-        assert!(rt; upper_unicode(&table, code) == upper, "{code}");
-        assert!(rt;
-            category(&table, SreCatCode::UNI_WORD, code) == is_word,
-            "{code}"
-        );
+        assert!(rt; is_as_in_std(&table, code), "{code}");
     }
     for &(ch, lower, upper, is_word) in &UNICODE_CASES {
-        assert!(rt; lower_unicode(&table, ch) == lower, "{ch}");
-        assert!(rt; upper_unicode(&table, ch) == upper, "{ch}");
-        assert!(rt;
-            category(&table, SreCatCode::UNI_WORD, ch) == is_word,
-            "{ch}"
-        );
+        assert!(rt; has_row(&table, ch, lower, upper, is_word), "{ch}");
     }
     Ok(())
 }
