@@ -90,50 +90,67 @@ static ERRORS: [(UniError, u32, &str); 4] = [
 #[test]
 fn errors_have_numbers_and_words(rt: HostRuntime) -> Result<(), Fail> {
     for &(error, number, words) in &ERRORS {
-        assert_eq!(rt; error.number(), number);
         let text = format!(in rt.alloc(); "{error}")?;
-        assert_eq!(rt; text.as_str(), words);
+        assert!(rt;
+            error.number() == number && text.as_str() == words,
+            "{words}"
+        );
     }
-    let refusal = UnknownCode(43);
-    assert_eq!(rt; refusal.number(), 1);
-    let text = format!(in rt.alloc(); "{refusal}")?;
-    assert_eq!(rt; text.as_str(), "unknown code 43");
     Ok(())
+}
+
+#[test]
+fn an_unknown_code_has_a_number_and_words(rt: HostRuntime) -> Result<(), Fail> {
+    let refusal = UnknownCode(43);
+    let text = format!(in rt.alloc(); "{refusal}")?;
+    assert!(rt; refusal.number() == 1 && text.as_str() == "unknown code 43");
+    Ok(())
+}
+
+// Whether two places are one.
+fn same(one: StringCursor, other: StringCursor) -> bool {
+    one.position() == other.position() && one.offset() == other.offset()
+}
+
+// Whether every call reaches the place of a character.
+fn is_reached<S: StrDrive>(text: S, i: usize) -> bool {
+    let n = text.count();
+    if i >= n {
+        return false;
+    }
+    let place = text.create_cursor(i);
+    let mut skipped = text.create_cursor(0);
+    text.skip(&mut skipped, i);
+    let mut back = text.create_cursor(n);
+    text.back_skip(&mut back, n - i);
+    let mut adjusted = StringCursor::new(n, 1);
+    text.adjust_cursor(&mut adjusted, i);
+    same(skipped, place) && same(back, place) && same(adjusted, place)
+}
+
+// Whether a character is read from both sides.
+fn is_read<S: StrDrive>(text: S, i: usize, character: u32) -> bool {
+    if i >= text.count() {
+        return false;
+    }
+    let mut cursor = text.create_cursor(i);
+    if text.peek(&cursor) != character || text.advance(&mut cursor) != character {
+        return false;
+    }
+    if text.back_peek(&cursor) != character || !same(cursor, text.create_cursor(i + 1)) {
+        return false;
+    }
+    text.back_advance(&mut cursor) == character && same(cursor, text.create_cursor(i))
 }
 
 // Whether the text is these characters, each read from both sides, and each place reached by every call.
 fn is_text_of<S: StrDrive>(text: S, chars: &[u32]) -> bool {
-    let n = text.count();
-    if n != chars.len() {
-        return false;
-    }
-    for i in 0..n {
-        let place = text.create_cursor(i);
-        let mut skipped = text.create_cursor(0);
-        text.skip(&mut skipped, i);
-        let mut back = text.create_cursor(n);
-        text.back_skip(&mut back, n - i);
-        let mut adjusted = StringCursor::new(n, 1);
-        text.adjust_cursor(&mut adjusted, i);
-        if [skipped, back, adjusted] != [place; 3] {
-            return false;
-        }
-        let mut cursor = place;
-        let read = [
-            text.peek(&cursor),
-            text.advance(&mut cursor),
-            text.back_peek(&cursor),
-        ];
-        let next = cursor;
-        let passed = text.back_advance(&mut cursor);
-        if read != [chars[i]; 3] || passed != chars[i] {
-            return false;
-        }
-        if next != text.create_cursor(i + 1) || cursor != place {
+    for (i, character) in chars.iter().enumerate() {
+        if !is_reached(text, i) || !is_read(text, i, *character) {
             return false;
         }
     }
-    true
+    text.count() == chars.len()
 }
 
 static TEXTS: [(&str, &[u32]); 5] = [
@@ -168,20 +185,31 @@ fn texts_are_their_characters(rt: HostRuntime) -> Result<(), Fail> {
 // Positions and offsets in "aé€😀", many times over, whose characters take 1, 2, 3 and 4 bytes.
 static PLACES: [(usize, usize); 6] = [(1, 1), (2, 3), (3, 6), (4, 10), (402, 1003), (600, 1500)];
 
+// Whether a place has this position and this offset.
+fn is_at(cursor: StringCursor, position: usize, offset: usize) -> bool {
+    cursor.position() == position && cursor.offset() == offset
+}
+
+// The place that is reached from a text's start, which is where it was if the text is shorter.
+fn skipped(text: &str, position: usize) -> StringCursor {
+    let mut cursor = StringCursor::default();
+    if position <= text.count() {
+        text.skip(&mut cursor, position);
+    }
+    cursor
+}
+
 #[test]
 fn offsets_count_bytes(rt: HostRuntime) -> Result<(), Fail> {
-    let start = StringCursor::default();
-    assert_eq!(rt; (start.position(), start.offset()), (0, 0));
+    assert!(rt; is_at(StringCursor::default(), 0, 0));
     let text = "aé€😀".repeat(rt.alloc(), 150)?;
     let text = text.as_str();
-    assert_eq!(rt; text.count(), 600);
-    assert_eq!(rt; text.create_cursor(0), start);
+    assert!(rt; text.count() == 600 && is_at(text.create_cursor(0), 0, 0));
     for &(position, offset) in &PLACES {
-        let mut cursor = start;
-        if position <= text.count() {
-            text.skip(&mut cursor, position);
-        }
-        assert_eq!(rt; cursor, StringCursor::new(position, offset));
+        assert!(rt;
+            is_at(skipped(text, position), position, offset),
+            "{position}"
+        );
     }
     Ok(())
 }
@@ -230,14 +258,24 @@ const DIGITS: &[(u32, u32)] = &[(48, 57)];
 
 const WORDS: &[(u32, u32)] = &[(48, 57), (65, 90), (95, 95), (97, 122)];
 
+// Whether a character is in one of some runs.
+fn is_in(runs: &[(u32, u32)], ch: u32) -> bool {
+    for &(low, high) in runs {
+        if low <= ch && ch <= high {
+            return true;
+        }
+    }
+    false
+}
+
 #[test]
 fn categories_are_those_of_cpython(rt: HostRuntime) {
     let table = UniTable::ascii(rt.alloc());
     for &(plain, negated, runs) in &CATEGORIES {
         for ch in 0..12300 {
-            let is_in = runs.iter().any(|&(low, high)| low <= ch && ch <= high);
-            assert_eq!(rt; category(&table, plain, ch), is_in, "{ch}");
-            assert_eq!(rt; category(&table, negated, ch), !is_in, "not {ch}");
+            let is_member = is_in(runs, ch);
+            assert!(rt; category(&table, plain, ch) == is_member, "{ch}");
+            assert!(rt; category(&table, negated, ch) != is_member, "not {ch}");
         }
     }
 }

@@ -9,45 +9,69 @@ fn was_refused(heap: &Refusing<Global>, left: u64) -> bool {
     left != 0 && heap.left() == 0
 }
 
+// Whether an item is refused exactly where a request is, and is then taken.
+fn takes(heap: &Refusing<Global>, list: &mut Vec<u64, &Refusing<Global>>, item: u64) -> bool {
+    let left = heap.left();
+    let is_refused = push(list, item).is_err();
+    is_refused == was_refused(heap, left) && (!is_refused || push(list, item).is_ok())
+}
+
+// Whether these are all numbers below their count.
+fn is_counted(list: &[u64]) -> bool {
+    for (i, item) in list.iter().enumerate() {
+        if *item != i as u64 {
+            return false;
+        }
+    }
+    true
+}
+
 #[test]
 fn pushes_fail_where_they_are_refused(rt: HostRuntime) {
     for refused in 0..12u64 {
         let heap = Refusing::new(rt.alloc(), refused);
         let mut list: Vec<u64, &Refusing<Global>> = Vec::new(&heap);
         for item in 0..1000u64 {
-            let left = heap.left();
-            let is_refused = push(&mut list, item).is_err();
-            assert!(rt; is_refused == was_refused(&heap, left), "{refused}, {item}");
-            if is_refused {
-                assert!(rt; push(&mut list, item).is_ok(), "{refused}, {item}");
-            }
+            assert!(rt; takes(&heap, &mut list, item), "{refused}, {item}");
         }
-        assert!(rt; list.iter().copied().eq(0..1000u64), "{refused}");
+        assert!(rt; list.len() == 1000 && is_counted(&list), "{refused}");
+    }
+}
+
+// Whether a slice is copied, or a request was refused.
+fn copies(heap: &Refusing<Global>, items: &[u32]) -> bool {
+    let left = heap.left();
+    match from_slice(heap, items) {
+        Ok(list) => !was_refused(heap, left) && list.as_slice() == items,
+        Err(_) => was_refused(heap, left),
     }
 }
 
 #[test]
-fn other_growths_fail_where_they_are_refused(rt: HostRuntime) {
+fn copies_fail_where_they_are_refused(rt: HostRuntime) {
     let items = [7u32; 1000];
     for refused in 0..5u64 {
         let heap = Refusing::new(rt.alloc(), refused);
-        let copied = from_slice(&heap, &items);
-        assert!(rt; copied.is_err() == was_refused(&heap, refused), "{refused}");
-        if let Ok(list) = copied {
-            assert!(rt; list.as_slice() == items.as_slice(), "{refused}");
-        }
+        assert!(rt; copies(&heap, &items), "{refused}");
+    }
+}
+
+// Whether a length is refused exactly where a request is, and is then that of the list.
+fn lengthens(heap: &Refusing<Global>, list: &mut Vec<u32, &Refusing<Global>>, length: u32) -> bool {
+    let left = heap.left();
+    let is_refused = resize(list, length as usize, 7).is_err();
+    is_refused == was_refused(heap, left)
+        && (!is_refused || resize(list, length as usize, 7).is_ok())
+        && list.len() == length as usize
+}
+
+#[test]
+fn other_growths_fail_where_they_are_refused(rt: HostRuntime) {
+    for refused in 0..5u64 {
+        let heap = Refusing::new(rt.alloc(), refused);
         let mut list: Vec<u32, &Refusing<Global>> = Vec::new(&heap);
         for length in [0, 1, 1000, 10] {
-            let left = heap.left();
-            let is_refused = resize(&mut list, length, 7).is_err();
-            assert!(rt;
-                is_refused == was_refused(&heap, left),
-                "{refused}, {length}"
-            );
-            if is_refused {
-                assert!(rt; resize(&mut list, length, 7).is_ok(), "{refused}, {length}");
-            }
-            assert!(rt; list.len() == length, "{refused}, {length}");
+            assert!(rt; lengthens(&heap, &mut list, length), "{refused}, {length}");
         }
         assert!(rt; list.as_slice() == [7; 10].as_slice(), "{refused}");
     }
