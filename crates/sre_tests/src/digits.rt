@@ -104,11 +104,26 @@ fn position_of(number: u32) -> usize {
     }
 }
 
+// Whether a match starts at a place.
+fn is_start(all: &[Found<Global>], position: usize) -> bool {
+    for found in all {
+        if found.start == position {
+            return true;
+        }
+    }
+    false
+}
+
 // Whether each number of some ranges is one at whose place among the scalar values a match starts.
 fn are_found(all: &[Found<Global>], ranges: &[(u32, u32)]) -> bool {
-    ranges.iter().all(|range| {
-        (range.0..=range.1).all(|number| all.iter().any(|found| found.start == position_of(number)))
-    })
+    for &(low, high) in ranges {
+        for number in low..=high {
+            if !is_start(all, position_of(number)) {
+                return false;
+            }
+        }
+    }
+    true
 }
 
 // With the digits of Unicode, `\d` finds among all scalar values those that it finds in CPython's `re`, and no other.
