@@ -6,6 +6,7 @@ pub mod FirstSets
 pub mod Anchored
 pub mod WideWays
 pub mod Steps
+pub mod Seeking
 pub mod PrefixWays
 pub mod Searching
 pub mod Claiming

@@ -1,15 +1,16 @@
 -- One scan with overlap words.
-use Rattle.std.proofs.Common.{ℕ, ◌+◌, ◌-◌, ◌≡◌, ◌≢◌, ◌<◌, ◌≤◌, ◌⊎◌, List, length, slice_index, ⊎_elim, sym, ◌∙◌, ap}
-use Rattle.std.proofs.Common.{Bool, true, false, subst, arith}
+use Rattle.std.proofs.Common.{ℕ, ◌+◌, ◌-◌, ◌*◌, ◌≡◌, ◌≢◌, ◌<◌, ◌≤◌, ◌⊎◌, List, length, slice_index, ⊎_elim}
+use Rattle.std.proofs.Common.{Bool, true, false, sym, ◌∙◌, ap, subst, arith}
 use Rattle.sre_code.specs.Borders.{Right}
 use Rattle.sre_chars.specs.Texts.{Sought}
 use Rattle.sre_chars.specs.declared.string.StringCursor.{StringCursor}
 use Rattle.sre_model.specs.Machine.{Run}
-use Rattle.sre_engine.specs.Scans.{Border, Longest, Overlapping, Fits, Stands, NoPlace, Here, FirstSame}
+use Rattle.sre_engine.specs.Scans.{Border, Longest, Overlapping, Fits, Stands, NoPlace, Front, Here, FirstSame}
 
 -- a scan inside one character: i matched words end at q, and none of the places passed since b counts
 pub record Inside (t p : List ℕ) (a e q b i c : ℕ) : Type 0 where
-  pub here : Here t p a e q i c
+  pub front : Front t p a e q i
+  pub cost : c + i + 2 * a ≤ 2 * q + 1
   pub short : i < length p
   pub passed : NoPlace t p e b (q - i)
 
@@ -35,7 +36,12 @@ join_places t p e a b c x y = record {
 }
 
 pub enter : (t p : List ℕ) (a e q i c : ℕ) → Here t p a e q i c → i < length p → Inside t p a e q (q - i) i c
-enter t p a e q i c here short = record { here = here; short = short; passed = no_place t p e (q - i) }
+enter t p a e q i c here short = record {
+  front = here.front;
+  cost = omega (arith, here.cost);
+  short = short;
+  passed = no_place t p e (q - i);
+}
 
 -- one matched word more
 longer : (t p : List ℕ) (b i : ℕ) → Fits t p b i → slice_index t (b + i) ≡ slice_index p i → Fits t p b (i + 1)
@@ -90,15 +96,17 @@ overlap p o i ok some short = let P : ℕ → Type 0 = λ x. Longest p x (slice_
 pub more : (t p : List ℕ) (a e q b i c : ℕ) → Inside t p a e q b i c → q < e → slice_index t q ≡ slice_index p i →
     Here t p a e (q + 1) (i + 1) (c + 1)
 more t p a e q b i c x lt same =
-    let at : q - i + i ≡ q = omega (arith, x.here.from) in
+    let at : q - i + i ≡ q = omega (arith, x.front.from) in
     let P : ℕ → Type 0 = λ s. Fits t p s (i + 1) in
     let back : q - i ≡ q + 1 - (i + 1) = omega arith in
     record {
-      from = omega (arith, x.here.from);
-      within = omega arith;
-      short = omega (arith, x.short);
-      fits = subst P back (longer t p (q - i) i x.here.fits (ap (slice_index t) at ∙ same));
-      cost = omega (arith, x.here.cost);
+      front = record {
+        from = omega (arith, x.front.from);
+        within = omega arith;
+        short = omega (arith, x.short);
+        fits = subst P back (longer t p (q - i) i x.front.fits (ap (slice_index t) at ∙ same));
+      };
+      cost = omega (arith, x.cost);
     }
 
 -- it is not, and a shorter front is tried
@@ -106,24 +114,24 @@ pub fall : (t p o : List ℕ) (a e q b i c d : ℕ) → Inside t p a e q b i c �
     slice_index p i → d ≡ c + 1 → Inside t p a e q b (slice_index o (i - 1)) d
 fall t p o a e q b i c d x ok some ne more =
     let k : ℕ = slice_index o (i - 1) in
-    let longest : Longest p i k = overlap p o i ok some x.here.short in
+    let longest : Longest p i k = overlap p o i ok some x.front.short in
     let less : k < i = longest.border.below in
-    let at : q - i + i ≡ q = omega (arith, x.here.from) in
+    let at : q - i + i ≡ q = omega (arith, x.front.from) in
     let goes : q - i + i - k ≡ q - k = ap (λ y. y - k) at in
     let P : ℕ → Type 0 = λ s. Fits t p s k in
     let Q : ℕ → Type 0 = λ s. NoPlace t p e (q - i) s in
     let not : Stands t p e (q - i) → ⊥ = wrong t p e (q - i) i x.short (λ y. ne (ap (slice_index t) (sym at) ∙ y)) in
     record {
-      here = record {
-        from = omega (arith, x.here.from);
-        within = x.here.within;
-        short = omega (arith, x.here.short);
-        fits = subst P goes (slide t p (q - i) i k x.here.fits longest.border);
-        cost = omega (arith, x.here.cost);
+      front = record {
+        from = omega (arith, x.front.from);
+        within = x.front.within;
+        short = omega (arith, x.front.short);
+        fits = subst P goes (slide t p (q - i) i k x.front.fits longest.border);
       };
+      cost = omega (arith, x.cost);
       short = omega (arith, x.short);
-      passed = join_places t p e b (q - i) (q - k) x.passed (subst Q goes (skips t p e (q - i) i k x.here.fits
-          x.here.short longest not));
+      passed = join_places t p e b (q - i) (q - k) x.passed (subst Q goes (skips t p e (q - i) i k x.front.fits
+          x.front.short longest not));
     }
 
 pub falls : (p o : List ℕ) (i : ℕ) → Overlapping p o → 0 < i → i ≤ length p → slice_index o (i - 1) < i
@@ -133,15 +141,17 @@ falls p o i ok some short = (overlap p o i ok some short).border.below
 pub fresh : (t p : List ℕ) (a e q b i c d : ℕ) → Inside t p a e q b i c → q < e → i ≡ 0 → slice_index t q ≢
     slice_index p i → d ≡ c + 1 → Here t p a e (q + 1) 0 d × NoPlace t p e b (q + 1)
 fresh t p a e q b i c d x lt z ne more =
-    let at : q - i + i ≡ q = omega (arith, x.here.from) in
+    let at : q - i + i ≡ q = omega (arith, x.front.from) in
     let not : Stands t p e (q - i) → ⊥ = wrong t p e (q - i) i x.short (λ y. ne (ap (slice_index t) (sym at) ∙ y)) in
     let P : ℕ → Type 0 = λ s. Stands t p e s in (
       record {
-        from = omega (arith, x.here.from);
-        within = omega arith;
-        short = omega arith;
-        fits = record { same = λ j less. absurd (omega arith) };
-        cost = omega (arith, x.here.cost);
+        front = record {
+          from = omega (arith, x.front.from);
+          within = omega arith;
+          short = omega arith;
+          fits = record { same = λ j less. absurd (omega arith) };
+        };
+        cost = omega (arith, x.cost);
       },
       join_places t p e b (q - i) (q + 1) x.passed (record {
         forward = omega arith;
@@ -154,18 +164,18 @@ fresh t p a e q b i c d x lt z ne more =
 pub over : (t p : List ℕ) (a e q b i c f : ℕ) → NoPlace t p e b (q - i) → Here t p a e q i c → i < length p → q ≡ e →
     f ≡ e + 1 → NoPlace t p e b f
 over t p a e q b i c f none here short end next = record {
-  forward = omega (arith, none.forward, here.within);
+  forward = omega (arith, none.forward, here.front.within);
   none = λ s from to stands. ⊎_elim
       (λ (lt : s < q - i). none.none s from lt stands)
-      (λ (le : q - i ≤ s). absurd (omega (arith, stands.within, here.from)))
+      (λ (le : q - i ≤ s). absurd (omega (arith, stands.within, here.front.from)))
       (split s (q - i));
 }
 
 -- with all words matched the prefix stands
 pub complete : (t p : List ℕ) (a e q i c : ℕ) → Here t p a e q i c → i ≡ length p → Stands t p e (q - i)
 complete t p a e q i c here all = record {
-  within = omega (arith, here.from, here.within);
-  fits = let P : ℕ → Type 0 = λ k. Fits t p (q - i) k in subst P all here.fits;
+  within = omega (arith, here.front.from, here.front.within);
+  fits = let P : ℕ → Type 0 = λ k. Fits t p (q - i) k in subst P all here.front.fits;
 }
 
 -- behind a place
@@ -173,16 +183,18 @@ pub onward : (t p o : List ℕ) (a e q i c : ℕ) → Here t p a e q i c → Ove
     (slice_index o (i - 1)) c
 onward t p o a e q i c here ok all =
     let k : ℕ = slice_index o (i - 1) in
-    let longest : Longest p i k = overlap p o i ok (omega (arith, ok.some)) here.short in
+    let longest : Longest p i k = overlap p o i ok (omega (arith, ok.some)) here.front.short in
     let less : k < i = longest.border.below in
-    let at : q - i + i ≡ q = omega (arith, here.from) in
+    let at : q - i + i ≡ q = omega (arith, here.front.from) in
     let goes : q - i + i - k ≡ q - k = ap (λ y. y - k) at in
     let P : ℕ → Type 0 = λ s. Fits t p s k in
     record {
-      from = omega (arith, here.from);
-      within = here.within;
-      short = omega (arith, here.short);
-      fits = subst P goes (slide t p (q - i) i k here.fits longest.border);
+      front = record {
+        from = omega (arith, here.front.from);
+        within = here.front.within;
+        short = omega (arith, here.front.short);
+        fits = subst P goes (slide t p (q - i) i k here.front.fits longest.border);
+      };
       cost = omega (arith, here.cost);
     }
 
@@ -192,13 +204,14 @@ onward_less p o i ok all = falls p o i ok (omega (arith, ok.some)) (omega arith)
 pub onward_skips : (t p o : List ℕ) (a e q i c : ℕ) → Here t p a e q i c → Overlapping p o → i ≡ length p → NoPlace t
     p e (q - i + 1) (q - slice_index o (i - 1))
 onward_skips t p o a e q i c here ok all = record {
-  forward = omega (arith, onward_less p o i ok all, here.from);
+  forward = omega (arith, onward_less p o i ok all, here.front.from);
   none = λ s from to stands.
       let k : ℕ = slice_index o (i - 1) in
-      let longest : Longest p i k = overlap p o i ok (omega (arith, ok.some)) here.short in
-      let border : Border p i (q - i + i - s) = between t p e (q - i) i s here.fits here.short (omega arith) (omega
-      (arith, here.from)) stands in
-      absurd (omega (arith, longest.most (q - i + i - s) border, here.from));
+      let longest : Longest p i k = overlap p o i ok (omega (arith, ok.some)) here.front.short in
+      let border : Border p i (q - i + i - s) =
+      between t p e (q - i) i s here.front.fits here.front.short (omega arith) (omega (arith, here.front.from))
+      stands in
+      absurd (omega (arith, longest.most (q - i + i - s) border, here.front.from));
 }
 
 -- no front ends behind some characters, none of which is the first word
@@ -207,10 +220,12 @@ pub skip_others : (t p : List ℕ) (a e q r c d : ℕ) → Here t p a e q 0 c �
     → Here t p a e r 0 d × NoPlace t p e q r
 skip_others t p a e q r c d here some forward inside others count = (
   record {
-    from = omega (arith, here.from);
-    within = inside;
-    short = omega arith;
-    fits = record { same = λ i less. absurd (omega arith) };
+    front = record {
+      from = omega (arith, here.front.from);
+      within = inside;
+      short = omega arith;
+      fits = record { same = λ i less. absurd (omega arith) };
+    };
     cost = omega (arith, here.cost, count, forward);
   },
   record {

@@ -35,13 +35,23 @@ pub record NoPlace (t p : List ℕ) (e a b : ℕ) : Type 0 where
   pub forward : a ≤ b
   pub none : (s : ℕ) → a ≤ s → s < b → Stands t p e s → ⊥
 
--- the scan of the window from a to e is at q, behind i matched words, after c comparisons
-pub record Here (t p : List ℕ) (a e q i c : ℕ) : Type 0 where
+-- in the window from a to e the first i words end at q
+pub record Front (t p : List ℕ) (a e q i : ℕ) : Type 0 where
   pub from : a + i ≤ q
   pub within : q ≤ e
   pub short : i ≤ length p
   pub fits : Fits t p (q - i) i
-  pub cost : c + i + 2 * a ≤ 2 * q
+
+-- the scan of the window from a to e is at q, behind i matched words, after c comparisons
+pub record Here (t p : List ℕ) (a e q i c : ℕ) : Type 0 where
+  pub front : Front t p a e q i
+  pub cost : c + (i - 1) + 2 * a ≤ 2 * q
+
+-- the scan goes on from q, where no word is matched: on yes to r, behind j words, and else no place is left
+pub record GoesTo (t p : List ℕ) (a e q : ℕ) (found : Bool) (r j c : ℕ) : Type 0 where
+  pub here : Here t p a e r j c
+  pub further : found ≡ true → (q < r) × NoPlace t p e q (r - j)
+  pub none : found ≡ false → NoPlace t p e q (e + 1)
 
 -- behind the first character from a cursor on that is a word, if there is one, else at the window's end
 pub record FirstSame (r : Run) (word : ℕ) (start : StringCursor) (found : Bool) (cursor : StringCursor) : Type 0 where

@@ -2,19 +2,20 @@
 //!
 //! It goes over the window once. Of the prefix words the longest front that ends where it is, is matched; where the
 //! next character is another, it goes on with a shorter front, which the overlap words tell, so that no character is
-//! read twice and none compared more than twice on average.
+//! read twice and none compared more than twice on average. Where no word is matched, the text seeks one of the first
+//! words, the one that is likely to be the rarest.
 
 ghost use Rattle.std.specs.Prelude.{◌≡◌, ◌≢◌, ◌↔◌, ◌+◌, ◌-◌, ◌*◌, ◌^◌, ◌<◌, ◌≤◌, ℕ, length, true, false, IsTrue};
 ghost use Rattle.std.specs.Prelude.{slice_index, None, IfSome, not, ◌||◌, nat_eq};
 ghost use Rattle.sre_code.specs.Codes.{hints_of};
 ghost use Rattle.sre_request.specs.Requests.{start_of, end_of, code_of, match_all_of, run_of};
 ghost use Rattle.sre_engine.specs.Prefixed.{IsPrefix};
-ghost use Rattle.sre_engine.specs.Scans.{Overlapping, NoPlace, Here, FirstSame};
+ghost use Rattle.sre_engine.specs.Scans.{Overlapping, NoPlace, Here, GoesTo, FirstSame};
 
 use crate::engine::next_start::looked_at;
 use sre_chars::string::{StrDrive, StringCursor};
 use sre_request::Request;
-use sre_request::text::read;
+use sre_request::text::{back_by, read};
 
 /// The words of a prefix and their overlap words.
 #[derive(Clone, Copy)]
@@ -25,7 +26,10 @@ pub(crate) struct Prefix<'a> {
     pub(super) literals: usize,
     // Whether nothing follows them.
     pub(super) whole: bool,
+    // The place among the words of the one that is sought.
+    sought: usize,
     ghost confirmed: { Overlapping words.now overlaps.now },
+    ghost among: { sought < length words.now },
 }
 
 /// Where a scan is, and how many words end there.
@@ -33,6 +37,43 @@ pub(crate) struct Prefix<'a> {
 pub(crate) struct Spot {
     pub(super) cursor: StringCursor,
     pub(super) matched: usize,
+}
+
+// How many of a prefix's words are looked at for the one that is sought.
+const LOOKED_AT: usize = 16;
+
+// How common a character is in prose, programs and logs, by a rough count; past ASCII a `str` seeks more slowly.
+fn commonness(character: u32) -> u32 {
+    match character {
+        // the space, and a, e, h, i, n, o, r, s and t
+        32 | 97 | 101 | 104 | 105 | 110 | 111 | 114..=116 => 4,
+        // c, d, l, m and u
+        99 | 100 | 108 | 109 | 117 => 3,
+        // b, f, g, p, w and y, and marks that words are joined and parted by
+        98 | 102 | 103 | 112 | 119 | 121 | 10 | 34 | 44..=47 | 95 => 2,
+        // other letters, and digits
+        48..=57 | 65..=90 | 97..=122 => 1,
+        0..=127 => 0,
+        _ => 5,
+    }
+}
+
+// The place of the rarest of the first words, the first one of these.
+fn rarest(words: &[u32]) -> usize
+    requires { 0 < length words.now }
+    ensures { result < length words.now }
+{
+    let mut place = 0;
+    let mut least = commonness(words[0]);
+    let mut next = 1;
+    'word: while next < words.len() && next < LOOKED_AT {
+        let own = commonness(words[next]);
+        if own < least {
+            (place, least) = (next, own);
+        }
+        next += 1;
+    }
+    place
 }
 
 /// The prefix, where one is confirmed.
@@ -47,11 +88,13 @@ pub(crate) fn prefix_of<'a, S: StrDrive>(req: &Request<'a, S>) -> Option<Prefix<
     };
     let words = code.words();
     let length = length as usize;
+    let prefix = &words[7..7 + length];
     Some(Prefix {
-        words: &words[7..7 + length],
+        words: prefix,
         overlaps: &words[7 + length..7 + length + length],
         literals: literals as usize,
         whole: hints.literal,
+        sought: rarest(prefix),
     })
 }
 
@@ -89,7 +132,7 @@ pub(crate) fn behind_literals<S: StrDrive>(
     looked_at(req, spot.cursor, prefix.words.len() - prefix.literals)
 }
 
-// Compares a character with a word of a prefix. This function and `behind_first` alone do, and add what they compare.
+// Compares a character with a word of a prefix. This function and `behind_next` alone do, and add what they compare.
 #[inline(always)]
 fn is_same(compared: &mut u64, character: u32, word: u32) -> bool
     requires { compared.old + 1 < 2 ^ 64 }
@@ -100,11 +143,11 @@ fn is_same(compared: &mut u64, character: u32, word: u32) -> bool
     character == word
 }
 
-// Goes on from a cursor behind the first character that is a word, if there is one, else to the window's end. Each
+// Goes on from a cursor behind the next character that is a word, if there is one, else to the window's end. Each
 // character that is passed was compared once with the word.
 #[inline(always)]
 #[tactic(auto, using(crate::proofs::Steps::first_sought))]
-fn behind_first<S: StrDrive>(
+fn behind_next<S: StrDrive>(
     req: &Request<'_, S>,
     word: u32,
     start: StringCursor,
@@ -120,6 +163,99 @@ fn behind_first<S: StrDrive>(
     let is_there = req.string().seek(&mut cursor, word, req.end());
     *compared += (cursor.position() - start.position()) as u64;
     (is_there, cursor)
+}
+
+// Goes on from a cursor, where no word is matched, behind the next first word.
+#[inline(always)]
+#[tactic(auto, using(crate::proofs::Seeking::first_laws))]
+fn behind_first<S: StrDrive>(
+    req: &Request<'_, S>,
+    prefix: &Prefix<'_>,
+    start: StringCursor,
+    compared: &mut u64,
+) -> (bool, Spot)
+    requires stands { (run_of req.now).stands start start.position }
+    requires before { start.position < end_of req.now }
+    requires here { Here (run_of req.now).subject.text prefix.now.words.now (start_of req.now) (end_of req.now)
+        start.position 0 compared.old }
+    ensures stands { (run_of req.now).stands result.1.cursor result.1.cursor.position }
+    ensures goes { GoesTo (run_of req.now).subject.text prefix.now.words.now (start_of req.now) (end_of req.now)
+        start.position result.0 result.1.cursor.position result.1.matched compared.new }
+{
+    let (is_there, cursor) = behind_next(req, prefix.words[0], start, compared);
+    if is_there {
+        return (true, Spot { cursor, matched: 1 });
+    }
+    (false, Spot { cursor, matched: 0 })
+}
+
+// Goes on from a cursor, where no word is matched, to the next place at which the word that is sought stands, and past
+// its first character.
+#[inline(always)]
+#[tactic(auto, using(crate::proofs::Seeking::sought_laws))]
+fn behind_sought<S: StrDrive>(
+    req: &Request<'_, S>,
+    prefix: &Prefix<'_>,
+    start: StringCursor,
+    compared: &mut u64,
+) -> (bool, Spot)
+    requires stands { (run_of req.now).stands start start.position }
+    requires before { start.position < end_of req.now }
+    requires here { Here (run_of req.now).subject.text prefix.now.words.now (start_of req.now) (end_of req.now)
+        start.position 0 compared.old }
+    ensures stands { (run_of req.now).stands result.1.cursor result.1.cursor.position }
+    ensures goes { GoesTo (run_of req.now).subject.text prefix.now.words.now (start_of req.now) (end_of req.now)
+        start.position result.0 result.1.cursor.position result.1.matched compared.new }
+{
+    if req.end() - start.position() <= prefix.sought {
+        return (
+            false,
+            Spot {
+                cursor: start,
+                matched: 0,
+            },
+        );
+    }
+    let mut ahead = start;
+    req.string().skip(&mut ahead, prefix.sought);
+    let (is_there, behind) = behind_next(req, prefix.words[prefix.sought], ahead, compared);
+    if !is_there {
+        return (
+            false,
+            Spot {
+                cursor: behind,
+                matched: 0,
+            },
+        );
+    }
+    let (character, cursor) = read(req, back_by(req, behind, prefix.sought + 1));
+    if is_same(compared, character, prefix.words[0]) {
+        return (true, Spot { cursor, matched: 1 });
+    }
+    (true, Spot { cursor, matched: 0 })
+}
+
+// Goes on from a cursor, where no word is matched.
+#[inline(always)]
+fn behind_none<S: StrDrive>(
+    req: &Request<'_, S>,
+    prefix: &Prefix<'_>,
+    start: StringCursor,
+    compared: &mut u64,
+) -> (bool, Spot)
+    requires stands { (run_of req.now).stands start start.position }
+    requires before { start.position < end_of req.now }
+    requires here { Here (run_of req.now).subject.text prefix.now.words.now (start_of req.now) (end_of req.now)
+        start.position 0 compared.old }
+    ensures stands { (run_of req.now).stands result.1.cursor result.1.cursor.position }
+    ensures goes { GoesTo (run_of req.now).subject.text prefix.now.words.now (start_of req.now) (end_of req.now)
+        start.position result.0 result.1.cursor.position result.1.matched compared.new }
+{
+    if prefix.sought == 0 {
+        behind_first(req, prefix, start, compared)
+    } else {
+        behind_sought(req, prefix, start, compared)
+    }
 }
 
 // Goes past the next character, to the longest front of the prefix that ends behind it.
@@ -183,12 +319,11 @@ pub(crate) fn find<S: StrDrive>(
             return false;
         }
         if spot.matched == 0 {
-            let first = behind_first(req, prefix.words[0], spot.cursor, compared);
-            spot.cursor = first.1;
-            if !first.0 {
+            let (is_there, next) = behind_none(req, prefix, spot.cursor, compared);
+            *spot = next;
+            if !is_there {
                 return false;
             }
-            spot.matched = 1;
         } else {
             *spot = pass(req, prefix, compared, *spot);
         }

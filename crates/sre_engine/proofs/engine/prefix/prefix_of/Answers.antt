@@ -18,8 +18,8 @@ room : (code : Code) (words : List ℕ) (h : Hints) (l k : ℕ) → words ≡ wo
 room code words h l k same hints is =
     subst (λ ws. 7 + l + l ≤ length ws) (sym same) (prefix_room code l k (hint code h l k hints is))
 
-pub slice_bounds-result-end : goal.slice_bounds-result-end
-slice_bounds-result-end g c =
+pub slice_bounds-prefix-end : goal.slice_bounds-prefix-end
+slice_bounds-prefix-end g c =
     omega (
       arith,
       room c.pattern_codes-code.result c.words-words.result.now c.hints-hints.result c.in-Some.length
@@ -34,6 +34,7 @@ invariant_of-result g c =
       confirmed =
           subst (λ (ws : List ℕ). Overlapping (prefix_of ws c.in-Some.length) (overlaps_of ws c.in-Some.length))
           (sym c.words-words.ensures.same) (prefix_overlaps code c.in-Some.length c.in-Some.literals e);
+      among = c.rarest.ensures;
     }
 
 pub returns-clause-some : goal.returns-clause-some
@@ -49,8 +50,8 @@ returns-clause-some g c =
     (subst (λ (ws : List ℕ). IsPrefix code (prefix_of ws l) c.in-Some.literals lit) (sym c.words-words.ensures.same)
     (prefix_is code l c.in-Some.literals e lit (ap (λ (x : Hints). x.literal) c.hints-hints.ensures.same) few))
 
-pub slice_bounds-result-end-2 : goal.slice_bounds-result-end-2
-slice_bounds-result-end-2 g c =
+pub slice_bounds-result-end : goal.slice_bounds-result-end
+slice_bounds-result-end g c =
     omega (
       arith,
       room c.pattern_codes-code.result c.words-words.result.now c.hints-hints.result c.in-Some.length

@@ -38,7 +38,7 @@ attempt-requires-clause-room g c =
     let here = c.find.ensures.here in
     let own = few_counted (stands_at (subject_of a) vs) a.start
     (c.place.spot.cursor.position - c.place.spot.matched - a.start) in
-    omega (arith, inv.few, own, inv.here.within, asked.in_window.1)
+    omega (arith, inv.few, own, inv.here.front.within, asked.in_window.1)
 
 pub returns-then-is_past-clause-ok : goal.returns-then-is_past-clause-ok
 returns-then-is_past-clause-ok g c = λ t whole.
@@ -84,7 +84,7 @@ returns-then-is_past-clause-counts g c =
     (λ e. let never : true ≡ false = sym e ∙ c.requires.more in absurd (cc never)) in
     counts_at a (code_of asked) vs _ _ is some _ (c.place.spot.cursor.position - c.place.spot.matched) _ _ inv.few
     inv.fit
-    no (omega (arith, inv.here.within)) (omega (arith, here.cost, here.within, here.from))
+    no (omega (arith, inv.here.front.within)) (omega (arith, here.cost, here.front.within, here.front.from))
 
 pub returns-clause-counts : goal.returns-clause-counts
 returns-clause-counts g c =
@@ -99,7 +99,7 @@ returns-clause-counts g c =
     (λ e. let never : true ≡ false = sym e ∙ c.requires.more in absurd (cc never)) in
     counts_at a (code_of asked) vs _ _ is some _ (c.place.spot.cursor.position - c.place.spot.matched) _ _ inv.few
     inv.fit
-    no (omega (arith, inv.here.within)) (omega (arith, here.cost, here.within, here.from))
+    no (omega (arith, inv.here.front.within)) (omega (arith, here.cost, here.front.within, here.front.from))
 
 pub returns-in_err-end-clause-counts : goal.returns-in_err-end-clause-counts
 returns-in_err-end-clause-counts g c =
@@ -115,7 +115,7 @@ returns-in_err-end-clause-counts g c =
     omega (arith, there.0, c.start_of-start.ensures) in
     let stands : Stands a.text vs a.end c.start_of-start.result =
     subst (λ p. Stands a.text vs a.end p) at (complete a.text vs a.start a.end _ _ _ here there.0) in
-    let from : a.start ≤ c.start_of-start.result = omega (arith, at, here.from, there.0) in
+    let from : a.start ≤ c.start_of-start.result = omega (arith, at, here.front.from, there.0) in
     let forward = there.1.forward in
     let few = places_later a (code_of asked) vs _ _ is some _ _ c.start_of-start.result inv.few
     (omega (arith, at, forward)) in
@@ -132,7 +132,7 @@ returns-in_err-end-clause-counts g c =
     let no : c.args.prefix.now.whole ≡ true → c.attempt.new.started ≡ 0 =
     (λ e. let never : true ≡ false = sym e ∙ c.requires.more in absurd (cc never)) in
     counts_at a (code_of asked) vs _ _ is some _ (c.start_of-start.result + 1) _ _ most fit
-    no (omega (arith, stands.within)) (omega (arith, here.cost, here.within, here.from))
+    no (omega (arith, stands.within)) (omega (arith, here.cost, here.front.within, here.front.from))
 
 pub returns-in-Some-clause-counts : goal.returns-in-Some-clause-counts
 returns-in-Some-clause-counts g c =
@@ -148,7 +148,7 @@ returns-in-Some-clause-counts g c =
     omega (arith, there.0, c.start_of-start.ensures) in
     let stands : Stands a.text vs a.end c.start_of-start.result =
     subst (λ p. Stands a.text vs a.end p) at (complete a.text vs a.start a.end _ _ _ here there.0) in
-    let from : a.start ≤ c.start_of-start.result = omega (arith, at, here.from, there.0) in
+    let from : a.start ≤ c.start_of-start.result = omega (arith, at, here.front.from, there.0) in
     let forward = there.1.forward in
     let few = places_later a (code_of asked) vs _ _ is some _ _ c.start_of-start.result inv.few
     (omega (arith, at, forward)) in
@@ -165,7 +165,7 @@ returns-in-Some-clause-counts g c =
     let no : c.args.prefix.now.whole ≡ true → c.attempt.new.started ≡ 0 =
     (λ e. let never : true ≡ false = sym e ∙ c.requires.more in absurd (cc never)) in
     counts_at a (code_of asked) vs _ _ is some _ (c.start_of-start.result + 1) _ _ most fit
-    no (omega (arith, stands.within)) (omega (arith, here.cost, here.within, here.from))
+    no (omega (arith, stands.within)) (omega (arith, here.cost, here.front.within, here.front.from))
 
 pub returns-in-Some-clause-ok : goal.returns-in-Some-clause-ok
 returns-in-Some-clause-ok g c = λ t whole.
@@ -183,7 +183,7 @@ returns-in-Some-clause-ok g c = λ t whole.
     subst (λ p. Stands a.text vs a.end p) at (complete a.text vs a.start a.end _ _ _ here there.0) in
     let before : NoneBefore a t c.start_of-start.result =
     subst (NoneBefore a t) at (none_unplaced a (code_of asked) vs _ _ is some t whole _ _ (inv.none t whole) there.1) in
-    let from : a.start ≤ c.start_of-start.result = omega (arith, at, here.from, there.0) in
+    let from : a.start ≤ c.start_of-start.result = omega (arith, at, here.front.from, there.0) in
     let behind : c.behind_literals-behind.result.position ≡ c.start_of-start.result + c.args.prefix.now.literals =
     omega (arith, c.behind_literals-behind.ensures.position, c.start_of-start.ensures) in
     let decides = decided_behind a (code_of asked) vs _ _ is some c.start_of-start.result stands (run_of asked) refl t
@@ -209,7 +209,7 @@ returns-in-Some-clause-span g c = λ _.
     let stands : Stands a.text vs a.end c.start_of-start.result =
     subst (λ p. Stands a.text vs a.end p) at (complete a.text vs a.start a.end _ _ _ here there.0) in
     let tree = code_tree (words_of (code_of asked)) (hints_of (code_of asked)) (code_of asked).checked in
-    let from : a.start ≤ c.start_of-start.result = omega (arith, at, here.from, there.0) in
+    let from : a.start ≤ c.start_of-start.result = omega (arith, at, here.front.from, there.0) in
     let behind : c.behind_literals-behind.result.position ≡ c.start_of-start.result + c.args.prefix.now.literals =
     omega (arith, c.behind_literals-behind.ensures.position, c.start_of-start.ensures) in
     let decides = decided_behind a (code_of asked) vs _ _ is some c.start_of-start.result stands (run_of asked) refl
@@ -233,7 +233,7 @@ returns-in-Some-clause-up_to_match g c = λ _.
     omega (arith, there.0, c.start_of-start.ensures) in
     let stands : Stands a.text vs a.end c.start_of-start.result =
     subst (λ p. Stands a.text vs a.end p) at (complete a.text vs a.start a.end _ _ _ here there.0) in
-    let from : a.start ≤ c.start_of-start.result = omega (arith, at, here.from, there.0) in
+    let from : a.start ≤ c.start_of-start.result = omega (arith, at, here.front.from, there.0) in
     let forward = there.1.forward in
     let few = places_later a (code_of asked) vs _ _ is some _ _ c.start_of-start.result inv.few
     (omega (arith, at, forward)) in
@@ -259,7 +259,7 @@ returns-in-Some-clause-up_to_match g c = λ _.
     decides c.in-Some.end c.in-Some.is in
     let far = far_end a (code_of asked) vs _ _ is some c.start_of-start.result stands tree.0 tree.1 _ match.1 in
     counts_at a (code_of asked) vs _ _ is some _ (c.start_of-start.result + 1) _ _ most fit
-    no (omega arith) (omega (arith, here.cost, here.from, there.0, at, far))
+    no (omega arith) (omega (arith, here.cost, here.front.from, there.0, at, far))
 
 pub place-preserved : goal.place-preserved
 place-preserved g c =
@@ -275,7 +275,7 @@ place-preserved g c =
     omega (arith, there.0, c.start_of-start.ensures) in
     let stands : Stands a.text vs a.end c.start_of-start.result =
     subst (λ p. Stands a.text vs a.end p) at (complete a.text vs a.start a.end _ _ _ here there.0) in
-    let from : a.start ≤ c.start_of-start.result = omega (arith, at, here.from, there.0) in
+    let from : a.start ≤ c.start_of-start.result = omega (arith, at, here.front.from, there.0) in
     let forward = there.1.forward in
     let few = places_later a (code_of asked) vs _ _ is some _ _ c.start_of-start.result inv.few
     (omega (arith, at, forward)) in

@@ -41,9 +41,9 @@ returns-then-may_end-clause-ok g c = λ t whole.
     subst (λ p. Stands a.text vs a.end p) at (complete a.text vs a.start a.end _ _ _ here there.0) in
     let before : NoneBefore a t c.start_of.result =
     subst (NoneBefore a t) at (none_unplaced a (code_of asked) vs _ _ is some t whole _ _ (inv.none t whole) there.1) in
-    let from : a.start ≤ c.start_of.result = omega (arith, at, here.from, there.0) in
+    let from : a.start ≤ c.start_of.result = omega (arith, at, here.front.from, there.0) in
     let ends : c.find.new.spot.cursor.position ≡ c.start_of.result + length vs =
-    omega (arith, c.start_of.ensures, there.0, here.from) in
+    omega (arith, c.start_of.ensures, there.0, here.front.from) in
     let match = whole_at a (code_of asked) vs _ _ is some c.start_of.result stands c.requires.all t whole
     c.find.new.spot.cursor.position ends from in
     let taken : (not a.match_all || nat_eq c.find.new.spot.cursor.position a.end) ≡ true =
@@ -86,9 +86,10 @@ place-preserved g c =
           let stands = complete a.text vs a.start a.end _ _ _ here there.0 in
           let before = none_unplaced a (code_of asked) vs _ _ is some t whole _ _ (inv.none t whole) there.1 in
           let ends : c.find.new.spot.cursor.position
-          ≡ c.find.new.spot.cursor.position - c.find.new.spot.matched + length vs = omega (arith, there.0, here.from) in
+          ≡ c.find.new.spot.cursor.position - c.find.new.spot.matched + length vs =
+          omega (arith, there.0, here.front.from) in
           let match = whole_at a (code_of asked) vs _ _ is some _ stands c.requires.all t whole
-          c.find.new.spot.cursor.position ends (omega (arith, here.from)) in
+          c.find.new.spot.cursor.position ends (omega (arith, here.front.from)) in
           let left : (not a.match_all || nat_eq c.find.new.spot.cursor.position a.end) ≡ false =
           sym c.may_end.ensures ∙ c.if-may_end.false in
           let none : at_start a t (c.find.new.spot.cursor.position - c.find.new.spot.matched) ≡ None =
