@@ -1,7 +1,7 @@
 -- Where no word of a prefix is matched, the scan goes on behind the next first word, or behind the next place at which
 -- another one stands.
-use Rattle.std.proofs.Common.{ℕ, ◌+◌, ◌-◌, ◌*◌, ◌≡◌, ◌≢◌, ◌<◌, ◌≤◌, List, length, slice_index, refl, sym, subst}
-use Rattle.std.proofs.Common.{true, false, arith}
+use Rattle.std.proofs.Common.{ℕ, ◌+◌, ◌-◌, ◌*◌, ◌≡◌, ◌≢◌, ◌<◌, ◌≤◌, List, length, slice_index, refl}
+use Rattle.std.proofs.Common.{true, false, sym, ◌∙◌, subst, arith}
 use Rattle.sre_chars.specs.declared.string.StringCursor.{StringCursor}
 use Rattle.sre_model.specs.Machine.{Run}
 use Rattle.sre_engine.specs.Scans.{NoPlace, Here, GoesTo, FirstSame}
@@ -124,18 +124,18 @@ sought_inside r p a c d k q start ahead behind here short on first count back =
           (λ s from to. first.others s (omega (arith, on, from)) (omega (arith, to, back, is)));
     }
 
-pub sought_there : (r : Run) (p : List ℕ) (a c d f k q : ℕ) (start ahead behind cursor : StringCursor)
+pub sought_there : (r : Run) (p : List ℕ) (a c d f k q x : ℕ) (start ahead behind cursor : StringCursor)
     → Here r.subject.text p a r.subject.end start.position 0 c → k < length p
     → ahead.position ≡ start.position + k → FirstSame r (slice_index p k) ahead true behind
     → d ≡ c + (behind.position - ahead.position) → q ≡ behind.position - (k + 1)
-    → slice_index r.subject.text q ≡ slice_index p 0 → cursor.position ≡ q + 1 → f ≡ d + 1
+    → x ≡ slice_index r.subject.text q → x ≡ slice_index p 0 → cursor.position ≡ q + 1 → f ≡ d + 1
     → GoesTo r.subject.text p a r.subject.end start.position true cursor.position 1 f
-sought_there r p a c d f k q start ahead behind cursor here short on first count back same next counted =
+sought_there r p a c d f k q x start ahead behind cursor here short on first count back read same next counted =
     let t = r.subject.text in
     let e = r.subject.end in
     let is = (first.is refl).0 in
     let own = sought_inside r p a c d k q start ahead behind here short on first count back in
-    let word = more t p a e q start.position 0 d own (omega (arith, first.inside, back, is)) same in
+    let word = more t p a e q start.position 0 d own (omega (arith, first.inside, back, is)) (sym read ∙ same) in
     let P : ℕ → Type 0 = λ n. Here t p a e n 1 (d + 1) in
     let Q : ℕ → Type 0 = λ n. Here t p a e cursor.position 1 n in
     let R : ℕ → Type 0 = λ n. NoPlace t p e start.position n in
@@ -146,18 +146,19 @@ sought_there r p a c d f k q start ahead behind cursor here short on first count
       none = λ no. absurd (cc);
     }
 
-pub sought_other : (r : Run) (p : List ℕ) (a c d f k q : ℕ) (start ahead behind cursor : StringCursor)
+pub sought_other : (r : Run) (p : List ℕ) (a c d f k q x : ℕ) (start ahead behind cursor : StringCursor)
     → Here r.subject.text p a r.subject.end start.position 0 c → k < length p
     → ahead.position ≡ start.position + k → FirstSame r (slice_index p k) ahead true behind
     → d ≡ c + (behind.position - ahead.position) → q ≡ behind.position - (k + 1)
-    → slice_index r.subject.text q ≢ slice_index p 0 → cursor.position ≡ q + 1 → f ≡ d + 1
+    → x ≡ slice_index r.subject.text q → x ≢ slice_index p 0 → cursor.position ≡ q + 1 → f ≡ d + 1
     → GoesTo r.subject.text p a r.subject.end start.position true cursor.position 0 f
-sought_other r p a c d f k q start ahead behind cursor here short on first count back other next counted =
+sought_other r p a c d f k q x start ahead behind cursor here short on first count back read other next counted =
     let t = r.subject.text in
     let e = r.subject.end in
     let is = (first.is refl).0 in
     let own = sought_inside r p a c d k q start ahead behind here short on first count back in
-    let passed = fresh t p a e q start.position 0 d f own (omega (arith, first.inside, back, is)) refl other counted in
+    let passed = fresh t p a e q start.position 0 d f own (omega (arith, first.inside, back, is)) refl
+    (λ z. other (read ∙ z)) counted in
     let P : ℕ → Type 0 = λ n. Here t p a e n 0 f in
     let R : ℕ → Type 0 = λ n. NoPlace t p e start.position n in
     let at : q + 1 ≡ cursor.position - 0 = omega (arith, next) in

@@ -43,6 +43,7 @@ pub(crate) struct Spot {
 const LOOKED_AT: usize = 16;
 
 // How common a character is in prose, programs and logs, by a rough count; past ASCII a `str` seeks more slowly.
+#[inline(always)]
 fn commonness(character: u32) -> u32 {
     match character {
         // the space, and a, e, h, i, n, o, r, s and t
@@ -59,6 +60,7 @@ fn commonness(character: u32) -> u32 {
 }
 
 // The place of the rarest of the first words, the first one of these.
+#[inline(never)]
 fn rarest(words: &[u32]) -> usize
     requires { 0 < length words.now }
     ensures { result < length words.now }
@@ -191,7 +193,7 @@ fn behind_first<S: StrDrive>(
 
 // Goes on from a cursor, where no word is matched, to the next place at which the word that is sought stands, and past
 // its first character.
-#[inline(always)]
+#[inline(never)]
 #[tactic(auto, using(crate::proofs::Seeking::sought_laws))]
 fn behind_sought<S: StrDrive>(
     req: &Request<'_, S>,
@@ -295,6 +297,7 @@ fn pass<S: StrDrive>(
 }
 
 /// Finds the next place where the prefix stands, and goes behind it.
+#[inline(always)]
 #[tactic(auto, using(crate::proofs::Steps::find_laws))]
 pub(crate) fn find<S: StrDrive>(
     req: &Request<'_, S>,
