@@ -2,8 +2,8 @@
 //!
 //! It goes over the window once. Of the prefix words the longest front that ends where it is, is matched; where the
 //! next character is another, it goes on with a shorter front, which the overlap words tell, so that no character is
-//! read twice and none compared more than twice on average. Where no word is matched, the text seeks one of the first
-//! words, the one that is likely to be the rarest.
+//! compared more than twice on average. Where no word is matched, the text seeks one of the first words, the one that is
+//! likely to be the rarest, and the scan goes back to its place: no character but these is read twice.
 
 ghost use Rattle.std.specs.Prelude.{◌≡◌, ◌≢◌, ◌↔◌, ◌+◌, ◌-◌, ◌*◌, ◌^◌, ◌<◌, ◌≤◌, ℕ, length, true, false, IsTrue};
 ghost use Rattle.std.specs.Prelude.{slice_index, None, IfSome, not, ◌||◌, nat_eq};
