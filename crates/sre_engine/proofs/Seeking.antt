@@ -1,23 +1,19 @@
 -- Where no word of a prefix is matched, the scan goes on behind the next first word, or behind the next place at which
 -- another one stands.
-use Rattle.std.proofs.Common.{ℕ, ◌+◌, ◌-◌, ◌*◌, ◌≡◌, ◌≢◌, ◌<◌, ◌≤◌, List, length, slice_index, refl}
-use Rattle.std.proofs.Common.{true, false, sym, ◌∙◌, subst, arith}
+use Rattle.std.proofs.Common.{ℕ, ◌+◌, ◌-◌, ◌≡◌, ◌≢◌, ◌<◌, ◌≤◌, List, length, slice_index, refl, sym, ◌∙◌, subst}
+use Rattle.std.proofs.Common.{true, false, arith}
 use Rattle.sre_chars.specs.declared.string.StringCursor.{StringCursor}
 use Rattle.sre_model.specs.Machine.{Run}
-use Rattle.sre_engine.specs.Scans.{NoPlace, Here, GoesTo, FirstSame}
-use Rattle.sre_engine.proofs.Steps.{Inside, skip_others, first_word, join_places, more, fresh}
+use Rattle.sre_engine.specs.Scans.{NoPlace, Front, Here, GoesTo, FirstSame}
+use Rattle.sre_engine.proofs.Steps.{Inside, join_places, more, fresh}
 
--- no word is matched at r, after some more comparisons
-none_matched : (t p : List ℕ) (a e q r c d : ℕ) → Here t p a e q 0 c → q ≤ r → r ≤ e → d + 2 * a ≤ 2 * r
-    → Here t p a e r 0 d
-none_matched t p a e q r c d here forward inside cost = record {
-  front = record {
-    from = omega (arith, here.front.from);
-    within = inside;
-    short = omega arith;
-    fits = record { same = λ i less. absurd (omega arith) };
-  };
-  cost = omega (arith, cost);
+-- no words end somewhere on in the window
+none_matched : (t p : List ℕ) (a e q r : ℕ) → Front t p a e q 0 → q ≤ r → r ≤ e → Front t p a e r 0
+none_matched t p a e q r front forward inside = record {
+  from = omega (arith, front.from);
+  within = inside;
+  short = omega arith;
+  fits = record { same = λ i less. absurd (omega arith) };
 }
 
 -- where a word stands nowhere from its own place on, the prefix stands nowhere
@@ -34,44 +30,6 @@ no_room t p e k q short near inside = record {
   forward = omega arith;
   none = λ s from to stands. absurd (omega (arith, stands.within));
 }
-
-pub first_there : (r : Run) (p : List ℕ) (a c d : ℕ) (start cursor : StringCursor)
-    → Here r.subject.text p a r.subject.end start.position 0 c → 0 < length p
-    → FirstSame r (slice_index p 0) start true cursor → d ≡ c + (cursor.position - start.position)
-    → GoesTo r.subject.text p a r.subject.end start.position true cursor.position 1 d
-first_there r p a c d start cursor here some first count =
-    let t = r.subject.text in
-    let e = r.subject.end in
-    let is = first.is refl in
-    let passed = skip_others t p a e start.position (cursor.position - 1) c (c + (cursor.position - 1 - start.position))
-    here some (omega (arith, is.0)) (omega (arith, first.inside)) (λ s from to. first.others s from (omega arith))
-    refl in
-    let at : cursor.position - 1 + 1 ≡ cursor.position = omega (arith, is.0) in
-    let own : c + (cursor.position - 1 - start.position) + 1 ≡ d = omega (arith, is.0, count) in
-    let word = first_word t p a e (cursor.position - 1) _ passed.0 some (omega (arith, first.inside, is.0)) is.1 in
-    let P : ℕ → Type 0 = λ q. Here t p a e q 1 (c + (cursor.position - 1 - start.position) + 1) in
-    let Q : ℕ → Type 0 = λ n. Here t p a e cursor.position 1 n in
-    record {
-      here = subst Q own (subst P at word);
-      further = λ _. (is.0, passed.1);
-      none = λ no. absurd (cc);
-    }
-
-pub first_nowhere : (r : Run) (p : List ℕ) (a c d : ℕ) (start cursor : StringCursor)
-    → Here r.subject.text p a r.subject.end start.position 0 c → 0 < length p
-    → FirstSame r (slice_index p 0) start false cursor → d ≡ c + (cursor.position - start.position)
-    → GoesTo r.subject.text p a r.subject.end start.position false cursor.position 0 d
-first_nowhere r p a c d start cursor here some first count =
-    let t = r.subject.text in
-    let e = r.subject.end in
-    let no = first.none refl in
-    let passed = skip_others t p a e start.position cursor.position c d here some first.from first.inside no.1 count in
-    record {
-      here = passed.0;
-      further = λ yes. absurd (cc);
-      none = λ _. join_places t p e start.position cursor.position (e + 1) passed.1
-          (no_room t p e 0 cursor.position some (omega (arith, no.0)) first.inside);
-    }
 
 pub sought_near : (r : Run) (p : List ℕ) (a c k : ℕ) (start : StringCursor)
     → Here r.subject.text p a r.subject.end start.position 0 c → k < length p → r.subject.end - start.position ≤ k
@@ -94,8 +52,11 @@ sought_nowhere r p a c d k start ahead behind here short on first count =
     let last : ℕ = e - k in
     let forward : start.position ≤ last = omega (arith, on, first.from, first.inside) in
     record {
-      here = none_matched t p a e start.position behind.position c d here (omega (arith, on, first.from))
-          first.inside (omega (arith, here.cost, count, on, first.from));
+      here = record {
+        front = none_matched t p a e start.position behind.position here.front (omega (arith, on, first.from))
+            first.inside;
+        cost = omega (arith, here.cost, count, on, first.from);
+      };
       further = λ yes. absurd (cc);
       none = λ _. join_places t p e start.position last (e + 1)
           (unplaced t p e k start.position last short forward
@@ -108,21 +69,56 @@ sought_inside : (r : Run) (p : List ℕ) (a c d k q : ℕ) (start ahead behind :
     → Here r.subject.text p a r.subject.end start.position 0 c → k < length p
     → ahead.position ≡ start.position + k → FirstSame r (slice_index p k) ahead true behind
     → d ≡ c + (behind.position - ahead.position) → q ≡ behind.position - (k + 1)
-    → Inside r.subject.text p a r.subject.end q start.position 0 d
+    → Inside r.subject.text p a r.subject.end q start.position 0 d × q < r.subject.end
 sought_inside r p a c d k q start ahead behind here short on first count back =
-    let is = (first.is refl).0 in
+    let is = (first.is refl).0 in (
+      record {
+        front = none_matched r.subject.text p a r.subject.end start.position q here.front (omega (arith, on, is, back))
+            (omega (arith, first.inside, back));
+        cost = omega (arith, here.cost, on, is, count, back);
+        short = omega (arith, short);
+        passed = unplaced r.subject.text p r.subject.end k start.position (q - 0) short (omega (arith, on, is, back))
+            (λ s from to. first.others s (omega (arith, on, from)) (omega (arith, to, back, is)));
+      },
+      omega (arith, first.inside, back, is),
+    )
+
+-- the place's first character is the first word, and was compared with it by now
+there : (r : Run) (p : List ℕ) (a d f q : ℕ) (start cursor : StringCursor)
+    → Inside r.subject.text p a r.subject.end q start.position 0 d × q < r.subject.end
+    → slice_index r.subject.text q ≡ slice_index p 0 → cursor.position ≡ q + 1 → f ≤ d + 1
+    → GoesTo r.subject.text p a r.subject.end start.position true cursor.position 1 f
+there r p a d f q start cursor own same next few =
+    let t = r.subject.text in
+    let e = r.subject.end in
+    let word = more t p a e q start.position 0 d own.0 own.1 same in
+    let P : ℕ → Type 0 = λ n. Front t p a e n 1 in
+    let R : ℕ → Type 0 = λ n. NoPlace t p e start.position n in
+    let at : q - 0 ≡ cursor.position - 1 = omega (arith, next) in
     record {
-      front = record {
-        from = omega (arith, here.front.from, on, is, back);
-        within = omega (arith, first.inside, back);
-        short = omega arith;
-        fits = record { same = λ i less. absurd (omega arith) };
-      };
-      cost = omega (arith, here.cost, on, is, count, back);
-      short = omega (arith, short);
-      passed = unplaced r.subject.text p r.subject.end k start.position (q - 0) short (omega (arith, on, is, back))
-          (λ s from to. first.others s (omega (arith, on, from)) (omega (arith, to, back, is)));
+      here = record { front = subst P (sym next) word.front; cost = omega (arith, word.cost, next, few) };
+      further = λ _. (omega (arith, own.0.passed.forward, next), subst R at own.0.passed);
+      none = λ no. absurd (cc);
     }
+
+-- the first word is the one that is sought
+pub first_there : (r : Run) (p : List ℕ) (a c d : ℕ) (start cursor : StringCursor)
+    → Here r.subject.text p a r.subject.end start.position 0 c → 0 < length p
+    → FirstSame r (slice_index p 0) start true cursor → d ≡ c + (cursor.position - start.position)
+    → GoesTo r.subject.text p a r.subject.end start.position true cursor.position 1 d
+first_there r p a c d start cursor here some first count =
+    let q : ℕ = cursor.position - 1 in
+    let is = first.is refl in
+    there r p a d d q start cursor
+    (sought_inside r p a c d 0 q start start cursor here some (omega arith) first count (omega arith))
+    is.1 (omega (arith, is.0)) (omega arith)
+
+pub first_nowhere : (r : Run) (p : List ℕ) (a c d : ℕ) (start cursor : StringCursor)
+    → Here r.subject.text p a r.subject.end start.position 0 c → 0 < length p
+    → FirstSame r (slice_index p 0) start false cursor → d ≡ c + (cursor.position - start.position)
+    → GoesTo r.subject.text p a r.subject.end start.position false cursor.position 0 d
+first_nowhere r p a c d start cursor here some first count =
+    sought_nowhere r p a c d 0 start start cursor here some (omega arith) first count
 
 pub sought_there : (r : Run) (p : List ℕ) (a c d f k q x : ℕ) (start ahead behind cursor : StringCursor)
     → Here r.subject.text p a r.subject.end start.position 0 c → k < length p
@@ -131,20 +127,8 @@ pub sought_there : (r : Run) (p : List ℕ) (a c d f k q x : ℕ) (start ahead b
     → x ≡ slice_index r.subject.text q → x ≡ slice_index p 0 → cursor.position ≡ q + 1 → f ≡ d + 1
     → GoesTo r.subject.text p a r.subject.end start.position true cursor.position 1 f
 sought_there r p a c d f k q x start ahead behind cursor here short on first count back read same next counted =
-    let t = r.subject.text in
-    let e = r.subject.end in
-    let is = (first.is refl).0 in
-    let own = sought_inside r p a c d k q start ahead behind here short on first count back in
-    let word = more t p a e q start.position 0 d own (omega (arith, first.inside, back, is)) (sym read ∙ same) in
-    let P : ℕ → Type 0 = λ n. Here t p a e n 1 (d + 1) in
-    let Q : ℕ → Type 0 = λ n. Here t p a e cursor.position 1 n in
-    let R : ℕ → Type 0 = λ n. NoPlace t p e start.position n in
-    let at : q - 0 ≡ cursor.position - 1 = omega (arith, next) in
-    record {
-      here = subst Q (sym counted) (subst P (sym next) word);
-      further = λ _. (omega (arith, on, is, back, next), subst R at own.passed);
-      none = λ no. absurd (cc);
-    }
+    there r p a d f q start cursor (sought_inside r p a c d k q start ahead behind here short on first count back)
+    (sym read ∙ same) next (omega (arith, counted))
 
 pub sought_other : (r : Run) (p : List ℕ) (a c d f k q x : ℕ) (start ahead behind cursor : StringCursor)
     → Here r.subject.text p a r.subject.end start.position 0 c → k < length p
@@ -155,16 +139,14 @@ pub sought_other : (r : Run) (p : List ℕ) (a c d f k q x : ℕ) (start ahead b
 sought_other r p a c d f k q x start ahead behind cursor here short on first count back read other next counted =
     let t = r.subject.text in
     let e = r.subject.end in
-    let is = (first.is refl).0 in
     let own = sought_inside r p a c d k q start ahead behind here short on first count back in
-    let passed = fresh t p a e q start.position 0 d f own (omega (arith, first.inside, back, is)) refl
-    (λ z. other (read ∙ z)) counted in
+    let passed = fresh t p a e q start.position 0 d f own.0 own.1 refl (λ z. other (read ∙ z)) counted in
     let P : ℕ → Type 0 = λ n. Here t p a e n 0 f in
     let R : ℕ → Type 0 = λ n. NoPlace t p e start.position n in
     let at : q + 1 ≡ cursor.position - 0 = omega (arith, next) in
     record {
       here = subst P (sym next) passed.0;
-      further = λ _. (omega (arith, on, is, back, next), subst R at passed.1);
+      further = λ _. (omega (arith, own.0.passed.forward, next), subst R at passed.1);
       none = λ no. absurd (cc);
     }
 

@@ -214,34 +214,6 @@ onward_skips t p o a e q i c here ok all = record {
       absurd (omega (arith, longest.most (q - i + i - s) border, here.front.from));
 }
 
--- no front ends behind some characters, none of which is the first word
-pub skip_others : (t p : List ℕ) (a e q r c d : ℕ) → Here t p a e q 0 c → 0 < length p → q ≤ r → r ≤ e
-    → ((s : ℕ) → q ≤ s → s < r → slice_index t s ≢ slice_index p 0) → d ≡ c + (r - q)
-    → Here t p a e r 0 d × NoPlace t p e q r
-skip_others t p a e q r c d here some forward inside others count = (
-  record {
-    front = record {
-      from = omega (arith, here.front.from);
-      within = inside;
-      short = omega arith;
-      fits = record { same = λ i less. absurd (omega arith) };
-    };
-    cost = omega (arith, here.cost, count, forward);
-  },
-  record {
-    forward = forward;
-    none = λ s from to stands.
-        let at : s + 0 ≡ s = omega arith in
-        others s from to (ap (slice_index t) (sym at) ∙ stands.fits.same 0 some);
-  },
-)
-
--- and then the first word
-pub first_word : (t p : List ℕ) (a e q c : ℕ) → Here t p a e q 0 c → 0 < length p → q < e
-    → slice_index t q ≡ slice_index p 0 → Here t p a e (q + 1) 1 (c + 1)
-first_word t p a e q c here some inside same =
-    more t p a e q (q - 0) 0 c (enter t p a e q 0 c here some) inside same
-
 -- overlap words as a scan takes them
 pub overlapping : (p o : List ℕ) → 0 < length p → length o ≡ length p → Right p o → Overlapping p o
 overlapping p o some long right = record {

@@ -2,8 +2,8 @@
 //!
 //! It goes over the window once. Of the prefix words the longest front that ends where it is, is matched; where the
 //! next character is another, it goes on with a shorter front, which the overlap words tell, so that no character is
-//! compared more than twice on average. Where no word is matched, the text seeks one of the first words, the one that is
-//! likely to be the rarest, and the scan goes back to its place: no character but these is read twice.
+//! compared more than twice on average. Where no word is matched, the text seeks one of the first words, the one that
+//! is likely to be the rarest, and the scan goes back to its place: only what lies between is read twice.
 
 ghost use Rattle.std.specs.Prelude.{◌≡◌, ◌≢◌, ◌↔◌, ◌+◌, ◌-◌, ◌*◌, ◌^◌, ◌<◌, ◌≤◌, ℕ, length, true, false, IsTrue};
 ghost use Rattle.std.specs.Prelude.{slice_index, None, IfSome, not, ◌||◌, nat_eq};
@@ -167,30 +167,6 @@ fn behind_next<S: StrDrive>(
     (is_there, cursor)
 }
 
-// Goes on from a cursor, where no word is matched, behind the next first word.
-#[inline(always)]
-#[tactic(auto, using(crate::proofs::Seeking::first_laws))]
-fn behind_first<S: StrDrive>(
-    req: &Request<'_, S>,
-    prefix: &Prefix<'_>,
-    start: StringCursor,
-    compared: &mut u64,
-) -> (bool, Spot)
-    requires stands { (run_of req.now).stands start start.position }
-    requires before { start.position < end_of req.now }
-    requires here { Here (run_of req.now).subject.text prefix.now.words.now (start_of req.now) (end_of req.now)
-        start.position 0 compared.old }
-    ensures stands { (run_of req.now).stands result.1.cursor result.1.cursor.position }
-    ensures goes { GoesTo (run_of req.now).subject.text prefix.now.words.now (start_of req.now) (end_of req.now)
-        start.position result.0 result.1.cursor.position result.1.matched compared.new }
-{
-    let (is_there, cursor) = behind_next(req, prefix.words[0], start, compared);
-    if is_there {
-        return (true, Spot { cursor, matched: 1 });
-    }
-    (false, Spot { cursor, matched: 0 })
-}
-
 // Goes on from a cursor, where no word is matched, to the next place at which the word that is sought stands, and past
 // its first character.
 #[inline(never)]
@@ -237,8 +213,10 @@ fn behind_sought<S: StrDrive>(
     (true, Spot { cursor, matched: 0 })
 }
 
-// Goes on from a cursor, where no word is matched.
+// Goes on from a cursor, where no word is matched, behind the next first word, or as far as the next place at which the
+// word that is sought stands.
 #[inline(always)]
+#[tactic(auto, using(crate::proofs::Seeking::first_laws))]
 fn behind_none<S: StrDrive>(
     req: &Request<'_, S>,
     prefix: &Prefix<'_>,
@@ -253,11 +231,14 @@ fn behind_none<S: StrDrive>(
     ensures goes { GoesTo (run_of req.now).subject.text prefix.now.words.now (start_of req.now) (end_of req.now)
         start.position result.0 result.1.cursor.position result.1.matched compared.new }
 {
-    if prefix.sought == 0 {
-        behind_first(req, prefix, start, compared)
-    } else {
-        behind_sought(req, prefix, start, compared)
+    if prefix.sought > 0 {
+        return behind_sought(req, prefix, start, compared);
     }
+    let (is_there, cursor) = behind_next(req, prefix.words[0], start, compared);
+    if is_there {
+        return (true, Spot { cursor, matched: 1 });
+    }
+    (false, Spot { cursor, matched: 0 })
 }
 
 // Goes past the next character, to the longest front of the prefix that ends behind it.

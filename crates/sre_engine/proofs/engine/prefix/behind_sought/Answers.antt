@@ -8,29 +8,33 @@ pub returns-then-is_same-clause-goes : goal.returns-then-is_same-clause-goes
 returns-then-is_same-clause-goes g c =
     let r = run_of c.args.req.now in
     let ws = c.args.prefix.now.words.now in
+    let k = c.args.prefix.now.sought in
     let ahead = c.skip.new.cursor in
     let behind = c.behind_next-is_there.result.1 in
     let first =
-    subst (λ (b : Bool). FirstSame r (slice_index ws c.args.prefix.now.sought) ahead b behind) c.if-not-is_there.false
+    subst (λ (b : Bool). FirstSame r (slice_index ws k) ahead b behind) c.if-not-is_there.false
     c.behind_next-is_there.ensures.first in
+    let on = (g.met.S.StrDrive.stands_at _ _ _ c.skip.ensures).0 in
     sought_there r ws (start_of c.args.req.now) c.args.compared.now c.behind_next-is_there.new.compared
-    c.is_same.new.compared c.args.prefix.now.sought c.back_by.result.position c.read-character.result.0 c.args.start ahead behind
-    c.read-character.result.1 c.requires.here c.args.prefix.now.among (g.met.S.StrDrive.stands_at _ _ _ c.skip.ensures).0
-    first c.behind_next-is_there.ensures.counted c.back_by.ensures.position c.read-character.ensures.character
+    c.is_same.new.compared k c.back_by.result.position c.read-character.result.0 c.args.start ahead behind
+    c.read-character.result.1 c.requires.here c.args.prefix.now.among on first
+    c.behind_next-is_there.ensures.counted c.back_by.ensures.position c.read-character.ensures.character
     (c.is_same.ensures.same.0 c.if-is_same.true) c.read-character.ensures.position c.is_same.ensures.counted
 
 pub returns-clause-goes : goal.returns-clause-goes
 returns-clause-goes g c =
     let r = run_of c.args.req.now in
     let ws = c.args.prefix.now.words.now in
+    let k = c.args.prefix.now.sought in
     let ahead = c.skip.new.cursor in
     let behind = c.behind_next-is_there.result.1 in
     let first =
-    subst (λ (b : Bool). FirstSame r (slice_index ws c.args.prefix.now.sought) ahead b behind) c.if-not-is_there.false
+    subst (λ (b : Bool). FirstSame r (slice_index ws k) ahead b behind) c.if-not-is_there.false
     c.behind_next-is_there.ensures.first in
+    let on = (g.met.S.StrDrive.stands_at _ _ _ c.skip.ensures).0 in
     sought_other r ws (start_of c.args.req.now) c.args.compared.now c.behind_next-is_there.new.compared
-    c.is_same.new.compared c.args.prefix.now.sought c.back_by.result.position c.read-character.result.0 c.args.start ahead behind
-    c.read-character.result.1 c.requires.here c.args.prefix.now.among (g.met.S.StrDrive.stands_at _ _ _ c.skip.ensures).0
-    first c.behind_next-is_there.ensures.counted c.back_by.ensures.position c.read-character.ensures.character
+    c.is_same.new.compared k c.back_by.result.position c.read-character.result.0 c.args.start ahead behind
+    c.read-character.result.1 c.requires.here c.args.prefix.now.among on first
+    c.behind_next-is_there.ensures.counted c.back_by.ensures.position c.read-character.ensures.character
     (λ e. let h : IsTrue c.is_same.result = c.is_same.ensures.same.1 e in cc) c.read-character.ensures.position
     c.is_same.ensures.counted
