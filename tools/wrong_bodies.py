@@ -4,8 +4,8 @@
     wrong_bodies.py [--alone] [--right] [CRATE | CRATE/NAME]..
 
 A wrong body is a file crates/CRATE/wrong/NAME.edit, written as a must-fail edit is: lines 'file: src/..', and pairs of
-lines 'old: TEXT' and 'new: TEXT', where each TEXT stands once in its file. A line 'fn: PATH' names the function that
-has to be refused, as a check names it below its crate.
+lines 'old: TEXT' and 'new: TEXT'. A line 'fn: PATH' names the function that has to be refused, as a check names it
+below its crate, and each TEXT stands once in that function, or else once in its file.
 
 A function is proved from the contracts of those that it calls, so what stays open in it is its own. So wrong bodies
 are written into one copy of the crate and checked at once, and the proofs of the functions that they call are holes. A

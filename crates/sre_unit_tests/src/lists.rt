@@ -138,7 +138,7 @@ fn has_cases(table: &UniTable, ch: u32, lower: u32, upper: u32) -> bool {
 }
 
 // Whether a character is a word in a table, and not a word where it is none.
-fn is_sorted(table: &UniTable, ch: u32, is_word: bool) -> bool {
+fn is_classed(table: &UniTable, ch: u32, is_word: bool) -> bool {
     category(table, SreCatCode::UNI_WORD, ch) == is_word
         && category(table, SreCatCode::UNI_NOT_WORD, ch) != is_word
 }
@@ -165,7 +165,7 @@ fn characters_are_looked_up(rt: HostRuntime) -> Result<(), Fail> {
     )?;
     for &(ch, lower, upper, is_word) in &ACCENTED_CASES {
         assert!(rt; has_cases(&accents, ch, lower, upper), "{ch}");
-        assert!(rt; is_sorted(&accents, ch, is_word), "{ch}");
+        assert!(rt; is_classed(&accents, ch, is_word), "{ch}");
     }
     Ok(())
 }
