@@ -53,8 +53,10 @@ fn char_before(s: &str, cursor: &StringCursor) -> (char, usize)
     }
 }
 
-// How many bytes a block has.
-const BLOCK: usize = 64;
+// How many bytes a long block has, and a short one: what is counted goes over long ones first, and at last over bytes.
+const LONG: usize = 64;
+
+const SHORT: usize = 16;
 
 // Whether a character begins at the byte: all others are `10xxxxxx` (RFC 3629, section 3).
 #[inline(always)]
@@ -66,44 +68,60 @@ fn is_beginning(byte: u8) -> bool
 
 // How many characters begin in a block. The sum of so few fits a byte, so each lane of a vector can hold one.
 #[inline(always)]
-fn beginnings_in_block(block: &[u8; BLOCK]) -> usize
+fn beginnings_in_block<const N: usize>(block: &[u8; N]) -> usize
+    requires { N ≤ 64 }
     ensures value { result ≡ count_by begins_char block.now }
-    ensures bound { result ≤ 64 }
+    ensures bound { result ≤ N }
 {
     let mut count: u8 = 0;
-    for i in 0..BLOCK {
+    for i in 0..N {
         count += u8::from(is_beginning(block[i]));
     }
     usize::from(count)
+}
+
+// How many characters begin in the whole blocks in front, of so many bytes each, and the bytes behind them.
+#[inline(always)]
+fn beginnings_in_blocks<const N: usize>(bytes: &[u8]) -> (usize, &[u8])
+    requires some { 0 < N }
+    requires few { N ≤ 64 }
+    ensures { result.0 + count_by begins_char result.1.now ≡ count_by begins_char bytes.now }
+{
+    let mut count = 0;
+    let mut left = bytes;
+    'blocks: while let Some((block, rest)) = left.split_first_chunk::<N>() {
+        count += beginnings_in_block(block);
+        left = rest;
+    }
+    (count, left)
 }
 
 // How many characters begin in the bytes.
 fn beginnings(bytes: &[u8]) -> usize
     ensures { result ≡ count_by begins_char bytes.now }
 {
-    let mut count = 0;
-    let mut left = bytes;
-    'blocks: while let Some((block, rest)) = left.split_first_chunk::<BLOCK>() {
-        count += beginnings_in_block(block);
-        left = rest;
-    }
+    let (in_long, rest) = beginnings_in_blocks::<LONG>(bytes);
+    let (in_short, left) = beginnings_in_blocks::<SHORT>(rest);
+    let mut count = in_long + in_short;
     for i in 0..left.len() {
         count += usize::from(is_beginning(left[i]));
     }
     count
 }
 
-// Passes whole blocks in which no more than `n` characters begin: the offset behind them, and how many are left.
-fn pass_blocks(bytes: &[u8], mut offset: usize, mut n: usize) -> (usize, usize)
-    requires { offset ≤ length bytes.now }
+// Passes whole blocks, of N bytes each, in which no more than `n` characters begin: the offset behind them, and how many are left.
+fn pass_blocks<const N: usize>(bytes: &[u8], mut offset: usize, mut n: usize) -> (usize, usize)
+    requires some { 0 < N }
+    requires few { N ≤ 64 }
+    requires in_bounds { offset ≤ length bytes.now }
     ensures in_bounds { result.0 ≤ length bytes.now }
     ensures passed { begun bytes.now result.0 + result.1 ≡ begun bytes.now offset + n }
 {
-    'blocks: while BLOCK <= n {
-        let Some((block, _)) = bytes[offset..].split_first_chunk::<BLOCK>() else {
+    'blocks: while N <= n {
+        let Some((block, _)) = bytes[offset..].split_first_chunk::<N>() else {
             break;
         };
-        offset += BLOCK;
+        offset += N;
         n -= beginnings_in_block(block);
     }
     (offset, n)
@@ -128,18 +146,20 @@ fn pass_bytes(bytes: &[u8], mut offset: usize, mut n: usize) -> usize
     offset
 }
 
-// Passes whole blocks backwards in which fewer than `n` characters begin.
-fn pass_blocks_back(bytes: &[u8], mut offset: usize, mut n: usize) -> (usize, usize)
-    requires { offset ≤ length bytes.now }
+// Passes whole blocks backwards, of N bytes each, in which fewer than `n` characters begin.
+fn pass_blocks_back<const N: usize>(bytes: &[u8], mut offset: usize, mut n: usize) -> (usize, usize)
+    requires some { 0 < N }
+    requires few { N ≤ 64 }
+    requires in_bounds { offset ≤ length bytes.now }
     ensures in_bounds { result.0 ≤ offset }
     ensures passed { begun bytes.now result.0 + n ≡ begun bytes.now offset + result.1 }
     ensures some_left { result.1 ≡ 0 → result.0 ≡ offset }
 {
-    'blocks: while BLOCK < n {
-        let Some((_, block)) = bytes[..offset].split_last_chunk::<BLOCK>() else {
+    'blocks: while N < n {
+        let Some((_, block)) = bytes[..offset].split_last_chunk::<N>() else {
             break;
         };
-        offset -= BLOCK;
+        offset -= N;
         n -= beginnings_in_block(block);
     }
     (offset, n)
@@ -249,8 +269,9 @@ impl<'a> StrDrive for &'a str {
     #[inline]
     fn skip(&self, cursor: &mut StringCursor, n: usize) {
         let bytes = self.as_bytes();
-        let (offset, left) = pass_blocks(bytes, cursor.offset(), n);
-        let end = pass_bytes(bytes, offset, left);
+        let (behind_long, rest) = pass_blocks::<LONG>(bytes, cursor.offset(), n);
+        let (behind_short, left) = pass_blocks::<SHORT>(bytes, behind_long, rest);
+        let end = pass_bytes(bytes, behind_short, left);
         *cursor = StringCursor::new(cursor.position() + n, end);
     }
 
@@ -269,8 +290,9 @@ impl<'a> StrDrive for &'a str {
     #[inline]
     fn back_skip(&self, cursor: &mut StringCursor, n: usize) {
         let bytes = self.as_bytes();
-        let (offset, left) = pass_blocks_back(bytes, cursor.offset(), n);
-        let start = pass_bytes_back(bytes, offset, left);
+        let (behind_long, rest) = pass_blocks_back::<LONG>(bytes, cursor.offset(), n);
+        let (behind_short, left) = pass_blocks_back::<SHORT>(bytes, behind_long, rest);
+        let start = pass_bytes_back(bytes, behind_short, left);
         *cursor = StringCursor::new(cursor.position() - n, start);
     }
 

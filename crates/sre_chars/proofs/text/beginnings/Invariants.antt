@@ -1,12 +1,6 @@
-use Rattle.std.proofs.Common.{◌≡◌, ◌+◌, length, count_by}
+use Rattle.std.proofs.Common.{◌≡◌, ◌+◌, count_by}
 use Rattle.sre_chars.specs.Texts.{begins_char, begun}
 use Rattle.sre_chars.proofs.text.beginnings.Given as goal
-
-abbrev pub invariant-blocks-2 : goal.invariant-blocks-2
-invariant-blocks-2 l = l.count + count_by begins_char l.left ≡ count_by begins_char l.bytes
-
-abbrev pub decreases-blocks-2 : goal.decreases-blocks-2
-decreases-blocks-2 l = length l.left
 
 abbrev pub invariant-loop-i : goal.invariant-loop-i
 invariant-loop-i l = l.count + count_by begins_char l.left ≡ count_by begins_char l.bytes + begun l.left l.i

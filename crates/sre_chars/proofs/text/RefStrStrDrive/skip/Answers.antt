@@ -2,8 +2,8 @@ use Rattle.std.proofs.Common.{arith, ◌∙◌, ◌+◌}
 use Rattle.sre_chars.proofs.Beginnings.{place_at, place_in}
 use Rattle.sre_chars.proofs.text.RefStrStrDrive.skip.Goals as goal
 
-pub pass_blocks-offset-requires : goal.pass_blocks-offset-requires
-pass_blocks-offset-requires c =
+pub pass_blocks-behind_long-requires-clause-in_bounds : goal.pass_blocks-behind_long-requires-clause-in_bounds
+pass_blocks-behind_long-requires-clause-in_bounds c =
     let bytes = c.as_bytes-bytes.ensures in
     (place_in _ _ _ _ bytes.value bytes.utf8 (c.offset.ensures ∙ c.requires.at.1) c.requires.at.2).in_bounds
 
@@ -11,7 +11,9 @@ pub pass_bytes-end-requires-clause-within : goal.pass_bytes-end-requires-clause-
 pass_bytes-end-requires-clause-within c =
     let bytes = c.as_bytes-bytes.ensures in
     let from = place_in _ _ _ _ bytes.value bytes.utf8 (c.offset.ensures ∙ c.requires.at.1) c.requires.at.2 in
-    omega (arith, from.begun_before, from.begun_in_all, c.pass_blocks-offset.ensures.passed)
+    let long = c.pass_blocks-behind_long.ensures.passed in
+    let short = c.pass_blocks-behind_short.ensures.passed in
+    omega (arith, from.begun_before, from.begun_in_all, long, short)
 
 pub overflow_add-position : goal.overflow_add-position
 overflow_add-position c =
@@ -23,7 +25,9 @@ pub returns : goal.returns
 returns c =
     let bytes = c.as_bytes-bytes.ensures in
     let from = place_in _ _ _ _ bytes.value bytes.utf8 (c.offset.ensures ∙ c.requires.at.1) c.requires.at.2 in
+    let long = c.pass_blocks-behind_long.ensures.passed in
+    let short = c.pass_blocks-behind_short.ensures.passed in
     let to = place_at _ _ _ (c.args.cursor.now.position + c.args.n) bytes.value bytes.utf8 c.pass_bytes-end.ensures.at
-    (omega (arith, from.begun_before, c.pass_blocks-offset.ensures.passed, c.pass_bytes-end.ensures.passed))
+    (omega (arith, from.begun_before, long, short, c.pass_bytes-end.ensures.passed))
     in
     (omega arith, c.new.ensures.offset ∙ to.0, to.1)
