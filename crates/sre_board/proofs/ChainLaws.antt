@@ -7,7 +7,7 @@ use Rattle.std.proofs.Math.Seq.{take-append_seam, get_or-append_seam}
 use Rattle.std.proofs.Math.ListN.{get_or-append}
 use Rattle.std.proofs.lemmas.Bool.Decides.{nat_tests}
 use Rattle.sre_board.specs.Chains.{frame_of, grown, table, Based}
-use Rattle.sre_model.specs.declared.Frame.{Frame}
+use Rattle.sre_turns.specs.declared.Frame.{Frame}
 use Rattle.sre_board.specs.declared.chains.Node.{Node}
 
 abbrev Table : Type 0

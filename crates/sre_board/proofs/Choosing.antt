@@ -6,8 +6,8 @@ use Rattle.std.proofs.Math.ListN.{get_or-append}
 use Rattle.std.proofs.Math.Seq.{get_or-append_seam}
 use Rattle.sre_model.specs.Marks.{Marks, no_marks, set_mark}
 use Rattle.sre_board.specs.Trail.{Trail, states}
-use Rattle.sre_model.specs.Board.{choice, BoardValue}
-use Rattle.sre_model.specs.declared.Frame.{Frame}
+use Rattle.sre_turns.specs.Board.{choice, BoardValue}
+use Rattle.sre_turns.specs.declared.Frame.{Frame}
 use Rattle.sre_board.specs.Choices.{choice_of, board_of, Fits}
 use Rattle.sre_board.specs.declared.board.Saved.{Saved}
 

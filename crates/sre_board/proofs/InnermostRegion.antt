@@ -4,10 +4,10 @@ use Rattle.std.proofs.Common.{slice_index_or, refl, sym, ap, ◌∙◌, subst, a
 use Rattle.std.proofs.lemmas.List.{get_or-take, length-take-le}
 use Rattle.sre_model.specs.Marks.{Marks, no_marks}
 use Rattle.sre_board.specs.Trail.{Trail, states}
-use Rattle.sre_model.specs.Board.{Choice, from_region, BoardValue, Cuts}
-use Rattle.sre_model.specs.declared.Region.{Region}
-use Rattle.sre_model.specs.declared.Point.TheVariants.{Instruction, Alternatives, Shorter, Longer, Inside, Again}
-use Rattle.sre_model.specs.declared.Point.{Point}
+use Rattle.sre_turns.specs.Board.{Choice, from_region, BoardValue, Cuts}
+use Rattle.sre_turns.specs.declared.Region.{Region}
+use Rattle.sre_turns.specs.declared.Point.TheVariants.{Instruction, Alternatives, Shorter, Longer, Inside, Again}
+use Rattle.sre_turns.specs.declared.Point.{Point}
 use Rattle.sre_board.specs.Choices.{choice_of, board_of, Fits, regions_of, regions_in, down_to_region}
 use Rattle.sre_board.specs.declared.board.Saved.{Saved}
 use Rattle.sre_board.proofs.Choosing.{Table, Agree, fits-more, same_choices}

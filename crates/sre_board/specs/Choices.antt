@@ -3,10 +3,10 @@
 use Rattle.std.specs.Prelude.{ℕ, ◌+◌, ◌<◌, ◌≤◌, cond, nat_eq, List, [], ◌∷◌, map, reverse, slice_index_or}
 use Rattle.sre_model.specs.Marks.{Marks, no_marks}
 use Rattle.sre_board.specs.Trail.{Trail, states}
-use Rattle.sre_model.specs.Board.{Choice, choice, BoardValue}
-use Rattle.sre_model.specs.declared.Frame.{Frame}
-use Rattle.sre_model.specs.declared.Point.TheVariants.{Inside}
-use Rattle.sre_model.specs.declared.Point.{Point}
+use Rattle.sre_turns.specs.Board.{Choice, choice, BoardValue}
+use Rattle.sre_turns.specs.declared.Frame.{Frame}
+use Rattle.sre_turns.specs.declared.Point.TheVariants.{Inside}
+use Rattle.sre_turns.specs.declared.Point.{Point}
 use Rattle.sre_board.specs.declared.board.Saved.{Saved}
 
 -- a choice, whose marks are found on the trail and whose loops in the table

@@ -5,8 +5,8 @@
 
 ghost use Rattle.std.specs.Prelude.{◌≡◌, ℕ, ◌<◌, [], ◌∷◌, drop, length, reverse, IfOk, MatchOption};
 ghost use Rattle.sre_model.specs.Marks.{no_marks, set_mark, group};
-ghost use Rattle.sre_model.specs.Board.{choice, from_region, Cuts, bare};
-ghost use Rattle.sre_model.specs.declared.Point.TheVariants.{Inside};
+ghost use Rattle.sre_turns.specs.Board.{choice, from_region, Cuts, bare};
+ghost use Rattle.sre_turns.specs.declared.Point.TheVariants.{Inside};
 ghost use Rattle.sre_board.specs.Choices.{Fits, regions_of, down_to_region};
 
 use crate::chains::{Chains, frame_of};
@@ -14,7 +14,7 @@ use crate::marks::Marks;
 use crate::trail::Trail;
 use sre_chars::string::StringCursor;
 use sre_growth::Refusal;
-use sre_model::{Frame, Point, Region};
+use sre_turns::{Frame, Point, Region};
 use std::alloc::Allocator;
 use std::marker::Model;
 
@@ -40,7 +40,7 @@ pub struct Board<A: Allocator> {
 
 impl<A: Allocator> Model for Board<A> {
     ghost use Rattle.std.specs.Prelude.{◌<◌, ◌≡◌, length, reverse};
-    ghost use Rattle.sre_model.specs.Board.{BoardValue};
+    ghost use Rattle.sre_turns.specs.Board.{BoardValue};
     ghost use Rattle.sre_board.specs.Choices.{board_of, Fits, regions_in};
 
     ghost Value = { BoardValue };

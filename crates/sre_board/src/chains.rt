@@ -6,7 +6,7 @@ ghost use Rattle.std.specs.Prelude.{true, false, ◌≡◌, ◌+◌, ◌<◌, �
 ghost use Rattle.sre_board.specs.Chains.{frame_of};
 
 use sre_growth::Refusal;
-use sre_model::Frame;
+use sre_turns::Frame;
 use std::alloc::Allocator;
 use std::marker::Model;
 
@@ -69,7 +69,7 @@ pub(crate) struct Chains<A: Allocator> {
 impl<A: Allocator> Model for Chains<A> {
     ghost use Rattle.std.specs.Prelude.{List};
     ghost use Rattle.sre_board.specs.Chains.{table, Based};
-    ghost use Rattle.sre_model.specs.declared.Frame.{Frame};
+    ghost use Rattle.sre_turns.specs.declared.Frame.{Frame};
 
     ghost Value = { List (List Frame) };
 

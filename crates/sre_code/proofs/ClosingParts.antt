@@ -22,7 +22,7 @@ whole_inside ws i o h ne = record { none = λ u j w c. ne (same_opcode ws i o op
 success_first : (ws : List ℕ) (i k : ℕ) (t : Tree) → Opcode ws i opcode.SUCCESS → Reads ws i k t → t ≡ Empty
 success_first ws i k Empty h r = refl
 success_first ws i k (Then x t) h r =
-    absurd (no_item ws i r.0 x (record { code = opcode.SUCCESS; there = h; begins = refl }) r.1)
+    absurd (no_item ws i r.0 x opcode.SUCCESS h refl r.1)
 
 pub whole_end : (ws : List ℕ) (i : ℕ) → Opcode ws i opcode.SUCCESS → IsEnd ws Whole i
 whole_end ws i h = record { only = λ k u j w t r c. success_first ws i k t h r }

@@ -8,7 +8,7 @@ use Rattle.sre_chars.specs.declared.constants.SreOpcode.{SreOpcode}
 use Rattle.sre_chars.specs.declared.constants.SreOpcode.TheVariants as opcode
 use Rattle.sre_model.specs.Tree.{Tree, Empty, Then, Item, One, Branch, Trees, Only, Or, Literal, In, Plain, Fold, Ascii}
 use Rattle.sre_model.specs.Tree.{Locale, Unicode, SetItem}
-use Rattle.sre_model.specs.Roles.{OfSet, role}
+use Rattle.sre_model.specs.Roles.{OfSet, ToTest, ToBranch, role}
 use Rattle.sre_model.specs.FirstCharacters.{is_end}
 use Rattle.sre_model.specs.Characters.{is_member}
 use Rattle.sre_model.specs.Grammar.{Word, word, skip, Opcode, Reads, ReadsItem, ReadsBranch, ReadsSet, WholeItems}
@@ -17,8 +17,7 @@ use Rattle.sre_model.specs.Standing.{AreWords, SetStands, HasSet}
 use Rattle.sre_model.specs.Claims.{behind_marks, TestIn, EachTestIn, FirstIn, HasFirstSet, has_flag}
 use Rattle.sre_model.proofs.Words.{word_at, word_of, word_within, word_moved, same_opcode, opcode_moved, opcode_within}
 use Rattle.sre_model.proofs.Places.{set_within, alternative_long}
-use Rattle.sre_model.proofs.Families.{OfOne, OfBranch, HasTestKind, is_one, is_set, is_branch}
-use Rattle.sre_model.proofs.FirstCharacters.{kind_here}
+use Rattle.sre_model.proofs.Families.{HasRole, is_one, is_set, is_branch, role_here}
 use Rattle.sre_model.proofs.SetWords.{same_words_set, same_set_words}
 use Rattle.sre_code.specs.Fronts.{HasBlock}
 use Rattle.sre_code.specs.Reading.{NoCode, IsSet, NoSet}
@@ -91,9 +90,9 @@ plain_set Unicode e = absurd (cc)
 set_first : (ws : List ℕ) (i k : ℕ) (x : Item) → Opcode ws i opcode.IN → ReadsItem ws i k x
     → (items : List SetItem) × (x ≡ One (In Plain items)) × (k ≡ skip ws (i + 1)) × SetStands ws (i + 2) (k - 1) items
 set_first ws i k x w r =
-    let f = is_one ws i k x (kind_here ws i opcode.IN OfOne w refl) r in
-    let kind : HasTestKind ws i OfSet = record { code = opcode.IN; there = w; begins = refl } in
-    let g = is_set ws i k f.0 kind f.2.0 f.2.1 in
+    let set : HasRole ws i (ToTest OfSet) = role_here ws i opcode.IN (ToTest OfSet) w refl in
+    let f = is_one ws i k x set r in
+    let g = is_set ws i k f.0 set f.2.0 f.2.1 in
     let code : Opcode ws i (set_opcode g.0) = subst (λ t. Opcode ws i (test_opcode t)) g.2 f.2.0 in
     let plain : g.0 ≡ Plain = plain_set g.0 (same_opcode ws i (set_opcode g.0) opcode.IN code w) in
     (g.1, f.1 ∙ ap One (g.2 ∙ ap (λ y. In y g.1) plain), g.3.0, record { items = g.3.1; ends = g.3.2 })
@@ -257,7 +256,7 @@ module _ (ws : List ℕ) (i : ℕ) (table : Table) (set : List SetItem) where
           not_at_end ws end o opcode.BRANCH z h (opcode_moved ws i end opcode.BRANCH r w) in
           absurd (cc)
       go end (Then y rest) o z h r =
-          let f = is_branch ws i r.0 y (kind_here ws i opcode.BRANCH OfBranch w refl) r.1 in
+          let f = is_branch ws i r.0 y (role_here ws i opcode.BRANCH ToBranch w refl) r.1 in
           subst (λ u. Decides told (FirstIn table set (Then u rest))) (sym f.1) (x.each r.0 f.0 f.2.1)
 
   pub other_told : (told : Bool) (c : SreOpcode) → Opcode ws i c → c ≢ opcode.BRANCH

@@ -6,14 +6,13 @@ use Rattle.std.proofs.lemmas.Bool.Decides.{nat_tests}
 use Rattle.sre_chars.specs.declared.constants.SreOpcode.{SreOpcode}
 use Rattle.sre_chars.specs.declared.constants.SreOpcode.TheVariants as opcode
 use Rattle.sre_model.specs.Tree.{Tree, Empty, Then, Item, One, Mark, Literal, Fold, Plain, Ascii, Locale, Unicode}
-use Rattle.sre_model.specs.Roles.{OfLiteral, role}
+use Rattle.sre_model.specs.Roles.{OfLiteral, ToTest, ToMark, role}
 use Rattle.sre_model.specs.FirstCharacters.{is_end}
 use Rattle.sre_model.specs.Grammar.{Word, word, Opcode, Reads, ReadsItem, literal_opcode, test_opcode}
 use Rattle.sre_model.specs.Claims.{behind_marks, behind_adjacent, behind_spread, behind_literals, then_spread}
 use Rattle.sre_model.proofs.Words.{word_at, word_of, word_within, same_word, same_opcode, opcode_moved}
 use Rattle.sre_model.proofs.Places.{reads_moved}
-use Rattle.sre_model.proofs.Families.{OfOne, OfMark, HasTestKind, is_one, is_mark, is_literal}
-use Rattle.sre_model.proofs.FirstCharacters.{kind_here}
+use Rattle.sre_model.proofs.Families.{HasRole, is_one, is_mark, is_literal, role_here}
 use Rattle.sre_code.specs.Prefixes.{Ends, IsLiteralAt, MarksPassed, LeftAt, NoneLeft, LeftBehind}
 
 -- Single words
@@ -37,7 +36,7 @@ not_at_end ws end o p a e b = subst (λ x. is_end (role x) ≡ true) (same_opcod
 mark_first : (ws : List ℕ) (i k : ℕ) (x : Item) → Opcode ws i opcode.MARK → ReadsItem ws i k x
     → (n : ℕ) × (x ≡ Mark n) × (k ≡ i + 2)
 mark_first ws i k x w r =
-    let f = is_mark ws i k x (kind_here ws i opcode.MARK OfMark w refl) r in
+    let f = is_mark ws i k x (role_here ws i opcode.MARK ToMark w refl) r in
     (f.0, f.1, f.2.1.1)
 
 -- the items of a part behind some of its marks
@@ -100,9 +99,9 @@ plain_opcode Unicode e = absurd (cc)
 literal_first : (ws : List ℕ) (i k v : ℕ) (x : Item) → IsLiteralAt ws i v → ReadsItem ws i k x
     → (x ≡ One (Literal Plain v)) × (k ≡ i + 2)
 literal_first ws i k v x l r =
-    let f = is_one ws i k x (kind_here ws i opcode.LITERAL OfOne l.0 refl) r in
-    let kind : HasTestKind ws i OfLiteral = record { code = opcode.LITERAL; there = l.0; begins = refl } in
-    let g = is_literal ws i k f.0 kind f.2.0 f.2.1 in
+    let literal : HasRole ws i (ToTest OfLiteral) = role_here ws i opcode.LITERAL (ToTest OfLiteral) l.0 refl in
+    let f = is_one ws i k x literal r in
+    let g = is_literal ws i k f.0 literal f.2.0 f.2.1 in
     let code : Opcode ws i (literal_opcode g.0) = subst (λ t. Opcode ws i (test_opcode t)) g.2 f.2.0 in
     let plain : g.0 ≡ Plain =
     plain_opcode g.0 (same_opcode ws i (literal_opcode g.0) opcode.LITERAL code l.0) in

@@ -6,6 +6,7 @@ use Rattle.sre_chars.specs.declared.constants.SreOpcode.TheVariants as opcode
 use Rattle.sre_model.specs.Tree.{Tree, Loop, Order, Greedy, Lazy}
 use Rattle.sre_model.specs.Grammar.{Opcode, word, skip, until_opcode}
 use Rattle.sre_model.specs.Width.{held, width, item_width}
+use Rattle.sre_model.specs.Roles.{ToRepeat}
 use Rattle.sre_code.specs.Reading.{NoCode, IsFault}
 use Rattle.sre_code.specs.Steps.{ItemAt, Closes, Unclosed, Exactly, Nowhere, IsEnd, IsInside}
 use Rattle.sre_code.specs.declared.code.error.CodeError.{CodeError}
@@ -14,9 +15,9 @@ use Rattle.sre_code.specs.declared.code.step.Step.TheVariants.{Past, Opens}
 use Rattle.sre_model.proofs.Words.{word_of, word_within, word_there, opcode_moved, same_opcode}
 use Rattle.sre_model.proofs.Places.{reads_moved, reads_nothing}
 use Rattle.sre_model.proofs.Widths.{width_held}
-use Rattle.sre_model.proofs.Families.{HasKind, OfLoop, is_loop}
+use Rattle.sre_model.proofs.Families.{HasRole, is_loop}
 
-loop_here : (ws : List ℕ) (i : ℕ) → Opcode ws i opcode.REPEAT → HasKind ws i OfLoop
+loop_here : (ws : List ℕ) (i : ℕ) → Opcode ws i opcode.REPEAT → HasRole ws i ToRepeat
 loop_here ws i h = record { code = opcode.REPEAT; there = h; begins = refl }
 
 -- the width of a body, as the descent adds it up

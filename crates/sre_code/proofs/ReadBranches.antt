@@ -7,6 +7,7 @@ use Rattle.sre_chars.specs.declared.constants.SreOpcode.TheVariants as opcode
 use Rattle.sre_model.specs.Tree.{Branch, Trees, Only, Or}
 use Rattle.sre_model.specs.Grammar.{Opcode, Word, word, skip, JumpsTo, ReadsBranch}
 use Rattle.sre_model.specs.Width.{held, width, item_width, least_width}
+use Rattle.sre_model.specs.Roles.{ToBranch}
 use Rattle.sre_code.specs.Reading.{NoCode}
 use Rattle.sre_code.specs.Steps.{ItemAt, Closes, Remains, Exactly, Nowhere, IsEnd, IsInside, Leaves, EndGives, MoreAt}
 use Rattle.sre_code.specs.Steps.{TreesAt, BoundsExactly, NoTrees}
@@ -18,7 +19,7 @@ use Rattle.sre_code.specs.declared.code.step.Step.TheVariants.{Past, Opens}
 use Rattle.sre_model.proofs.Words.{word_of, word_within, word_past, word_at, word_moved, same_opcode}
 use Rattle.sre_model.proofs.Places.{reads_within, alternative_long, reads_moved, reads_nothing}
 use Rattle.sre_model.proofs.Widths.{width_held, least_held}
-use Rattle.sre_model.proofs.Families.{HasKind, OfBranch, is_branch}
+use Rattle.sre_model.proofs.Families.{HasRole, is_branch}
 
 branch_moved : (ws : List ℕ) (q q2 j j2 : ℕ) (ts : Trees) → q ≡ q2 → j ≡ j2 → ReadsBranch ws q j ts
     → ReadsBranch ws q2 j2 ts
@@ -131,7 +132,7 @@ pub trees_cut : (ws : List ℕ) (q e : ℕ) → e ≡ skip ws q → length ws �
 trees_cut ws q e ee le = record { none = λ j ts r. omega (arith, alternative_there ws q j ts r) }
 
 -- the item, by its alternatives
-branch_here : (ws : List ℕ) (i : ℕ) → Opcode ws i opcode.BRANCH → HasKind ws i OfBranch
+branch_here : (ws : List ℕ) (i : ℕ) → Opcode ws i opcode.BRANCH → HasRole ws i ToBranch
 branch_here ws i h = record { code = opcode.BRANCH; there = h; begins = refl }
 
 pub branch_exactly : (ws : List ℕ) (i : ℕ) (b : Bounds) → Opcode ws i opcode.BRANCH → BoundsExactly ws (i + 1) b

@@ -13,8 +13,8 @@ use Rattle.sre_model.specs.Standing.{HasTest}
 use Rattle.sre_code.specs.declared.code.error.CodeError.TheVariants.{BadItem}
 use Rattle.sre_model.proofs.Words.{word_within, word_there, word_past, opcode_within, opcode_moved, same_opcode}
 use Rattle.sre_model.proofs.Places.{set_within, set_moved}
-use Rattle.sre_model.specs.Roles.{OfCategory, OfLiteral, OfNotLiteral}
-use Rattle.sre_model.proofs.Families.{HasTestKind, test_here, is_any, is_any_all, is_category, is_literal}
+use Rattle.sre_model.specs.Roles.{OfCategory, OfLiteral, OfNotLiteral, ToTest}
+use Rattle.sre_model.proofs.Families.{HasRole, test_here, is_any, is_any_all, is_category, is_literal}
 use Rattle.sre_model.proofs.Families.{is_not_literal, is_set}
 
 -- ANY and ANY_ALL
@@ -30,7 +30,7 @@ any_all_exactly ws i h = record {
 }
 
 -- CATEGORY
-category_here : (ws : List ℕ) (i : ℕ) → Opcode ws i opcode.CATEGORY → HasTestKind ws i OfCategory
+category_here : (ws : List ℕ) (i : ℕ) → Opcode ws i opcode.CATEGORY → HasRole ws i (ToTest OfCategory)
 category_here ws i h = record { code = opcode.CATEGORY; there = h; begins = refl }
 
 pub category_exactly : (ws : List ℕ) (i : ℕ) (c : SreCatCode) → Opcode ws i opcode.CATEGORY
@@ -68,7 +68,7 @@ pub set_at : (ws : List ℕ) (i : ℕ) (o : SreOpcode) → Opcode ws i o → IsF
 set_at ws i o h e = folded_at set_opcode ws i o h e
 
 -- LITERAL and NOT_LITERAL, under each folding
-literal_here : (ws : List ℕ) (i : ℕ) → FoldedAt literal_opcode ws i → HasTestKind ws i OfLiteral
+literal_here : (ws : List ℕ) (i : ℕ) → FoldedAt literal_opcode ws i → HasRole ws i (ToTest OfLiteral)
 literal_here ws i h = test_here ws i (Literal h.fold 0) h.there
 
 pub literal_exactly : (ws : List ℕ) (i : ℕ) → FoldedAt literal_opcode ws i → i + 1 < length ws
@@ -86,7 +86,7 @@ literal_cut ws i h le = record {
       omega (arith, word_within ws (i + 1) f.1 f.3.0);
 }
 
-not_literal_here : (ws : List ℕ) (i : ℕ) → FoldedAt not_literal_opcode ws i → HasTestKind ws i OfNotLiteral
+not_literal_here : (ws : List ℕ) (i : ℕ) → FoldedAt not_literal_opcode ws i → HasRole ws i (ToTest OfNotLiteral)
 not_literal_here ws i h = test_here ws i (NotLiteral h.fold 0) h.there
 
 pub not_literal_exactly : (ws : List ℕ) (i : ℕ) → FoldedAt not_literal_opcode ws i → i + 1 < length ws

@@ -7,6 +7,7 @@ use Rattle.sre_chars.specs.declared.constants.SreOpcode.TheVariants as opcode
 use Rattle.sre_model.specs.Tree.{Tree, Empty, Then, Exists, ExistsElse}
 use Rattle.sre_model.specs.Grammar.{Opcode, word, skip, JumpsTo, Reads, ReadsItem}
 use Rattle.sre_model.specs.Width.{held, width, item_width}
+use Rattle.sre_model.specs.Roles.{ToAsk}
 use Rattle.sre_code.specs.Reading.{NoCode, IsFault}
 use Rattle.sre_code.specs.Steps.{ItemAt, Else, Closes, Unclosed, Exactly, Nowhere, IsEnd, IsInside}
 use Rattle.sre_code.specs.declared.code.error.CodeError.{CodeError}
@@ -15,7 +16,7 @@ use Rattle.sre_code.specs.declared.code.step.Step.TheVariants.{Past, Opens}
 use Rattle.sre_model.proofs.Words.{word_past, word_there, same_opcode}
 use Rattle.sre_model.proofs.Places.{reads_moved, reads_nothing, reads_within}
 use Rattle.sre_model.proofs.Widths.{width_held}
-use Rattle.sre_model.proofs.Families.{HasKind, OfExists, is_exists, no_item}
+use Rattle.sre_model.proofs.Families.{HasRole, is_exists, no_item}
 use Rattle.sre_code.proofs.ReadBranches.{jump_moved}
 use Rattle.sre_code.proofs.ClosingParts.{no_first}
 
@@ -34,7 +35,7 @@ abbrev Long : List ℕ → ℕ → ℕ → ℕ → Type 0
 Long ws i j w =
     (g : ℕ) × (a : Tree) × (b : Tree) × (w ≡ min (width a) (width b)) × ReadsItem ws i j (ExistsElse g a b)
 
-condition_here : (ws : List ℕ) (i : ℕ) → Opcode ws i opcode.GROUPREF_EXISTS → HasKind ws i OfExists
+condition_here : (ws : List ℕ) (i : ℕ) → Opcode ws i opcode.GROUPREF_EXISTS → HasRole ws i ToAsk
 condition_here ws i h = record { code = opcode.GROUPREF_EXISTS; there = h; begins = refl }
 
 shapes : (ws : List ℕ) (i j w : ℕ) → Opcode ws i opcode.GROUPREF_EXISTS → ItemAt ws i j w
@@ -170,7 +171,7 @@ there_cut ws tail i u e ne n le = record {
 jump_first : (ws : List ℕ) (i k : ℕ) (t : Tree) → Opcode ws i opcode.JUMP → Reads ws i k t → t ≡ Empty
 jump_first ws i k Empty h r = refl
 jump_first ws i k (Then x t) h r =
-    absurd (no_item ws i r.0 x (record { code = opcode.JUMP; there = h; begins = refl }) r.1)
+    absurd (no_item ws i r.0 x opcode.JUMP h refl r.1)
 
 pub jump_end : (ws : List ℕ) (tail i : ℕ) → Opcode ws i opcode.JUMP → IsEnd ws (There tail) i
 jump_end ws tail i h = record { only = λ k u j w t r c. jump_first ws i k t h r }

@@ -9,12 +9,13 @@ use Rattle.sre_model.specs.Tree.{Atomic, Look, Positive, Negative, PossessiveRun
 use Rattle.sre_model.specs.Tree.{Plain, Ascii, Locale, Unicode}
 use Rattle.sre_model.specs.Grammar.{Opcode, Word, word, item_opcode, reference_opcode, ReadsItem}
 use Rattle.sre_model.specs.Width.{item_width}
+use Rattle.sre_model.specs.Roles.{ToFail, ToStand, ToMark, ToRefer}
 use Rattle.sre_code.specs.Reading.{NoCode, FoldedAt, ReadsTest, TestExactly, NoTest}
 use Rattle.sre_code.specs.Steps.{ItemAt, OnlyTests, Exactly, Nowhere}
 use Rattle.sre_code.specs.declared.code.step.Step.TheVariants.{Past}
 use Rattle.sre_model.proofs.Words.{word_within, word_there, same_opcode}
-use Rattle.sre_model.proofs.Families.{HasKind, OfFail, OfAt, OfMark, OfReference, is_fail, is_at, is_mark, no_item}
-use Rattle.sre_model.proofs.Families.{is_reference}
+use Rattle.sre_model.proofs.Families.{HasRole, is_fail, is_at, is_mark, no_item, is_reference, reference_role}
+use Rattle.sre_model.proofs.Families.{role_here}
 use Rattle.sre_code.proofs.ReadCharacters.{IsFolded, folded_at}
 
 -- an item without a part
@@ -29,7 +30,7 @@ pub no_opcode : (ws : List ℕ) (i : ℕ) → NoCode opcode_number ws i → Nowh
 no_opcode ws i n = record { none = λ j w x. n.none (item_opcode x.0) x.1.0 }
 
 -- FAILURE
-fail_here : (ws : List ℕ) (i : ℕ) → Opcode ws i opcode.FAILURE → HasKind ws i OfFail
+fail_here : (ws : List ℕ) (i : ℕ) → Opcode ws i opcode.FAILURE → HasRole ws i ToFail
 fail_here ws i h = record { code = opcode.FAILURE; there = h; begins = refl }
 
 pub fail_exactly : (ws : List ℕ) (i : ℕ) → Opcode ws i opcode.FAILURE → Exactly ws (Past (i + 1) 0) (ItemAt ws i)
@@ -38,7 +39,7 @@ fail_exactly ws i h =
     let f = is_fail ws i j y (fail_here ws i h) r in (f.1.1, ap item_width f.0))
 
 -- AT
-at_here : (ws : List ℕ) (i : ℕ) → Opcode ws i opcode.AT → HasKind ws i OfAt
+at_here : (ws : List ℕ) (i : ℕ) → Opcode ws i opcode.AT → HasRole ws i ToStand
 at_here ws i h = record { code = opcode.AT; there = h; begins = refl }
 
 pub at_exactly : (ws : List ℕ) (i : ℕ) (a : SreAtCode) → Opcode ws i opcode.AT → Word ws (i + 1) (at_number a)
@@ -51,7 +52,7 @@ pub at_cut : (ws : List ℕ) (i : ℕ) → Opcode ws i opcode.AT → NoCode at_n
 at_cut ws i h n = record { none = λ j w x. let f = is_at ws i j x.0 (at_here ws i h) x.1 in n.none f.0 f.2.1.0 }
 
 -- MARK
-mark_here : (ws : List ℕ) (i : ℕ) → Opcode ws i opcode.MARK → HasKind ws i OfMark
+mark_here : (ws : List ℕ) (i : ℕ) → Opcode ws i opcode.MARK → HasRole ws i ToMark
 mark_here ws i h = record { code = opcode.MARK; there = h; begins = refl }
 
 pub mark_exactly : (ws : List ℕ) (i : ℕ) → Opcode ws i opcode.MARK → i + 1 < length ws
@@ -72,22 +73,19 @@ pub reference_at : (ws : List ℕ) (i : ℕ) (o : SreOpcode) → Opcode ws i o �
     → FoldedAt reference_opcode ws i
 reference_at ws i o h e = folded_at reference_opcode ws i o h e
 
-reference_kind : (ws : List ℕ) (i : ℕ) (fold : Fold) → Opcode ws i (reference_opcode fold) → HasKind ws i OfReference
-reference_kind ws i Plain h = record { code = opcode.GROUPREF; there = h; begins = refl }
-reference_kind ws i Ascii h = record { code = opcode.GROUPREF_IGNORE; there = h; begins = refl }
-reference_kind ws i Locale h = record { code = opcode.GROUPREF_LOC_IGNORE; there = h; begins = refl }
-reference_kind ws i Unicode h = record { code = opcode.GROUPREF_UNI_IGNORE; there = h; begins = refl }
+reference_here : (ws : List ℕ) (i : ℕ) (fold : Fold) → Opcode ws i (reference_opcode fold) → HasRole ws i ToRefer
+reference_here ws i fold h = role_here ws i (reference_opcode fold) ToRefer h (reference_role fold)
 
 pub reference_exactly : (ws : List ℕ) (i : ℕ) → FoldedAt reference_opcode ws i → i + 1 < length ws
     → Exactly ws (Past (i + 2) 0) (ItemAt ws i)
 reference_exactly ws i h there =
     past ws i (i + 2) 0 (Reference h.fold (word ws (i + 1))) (h.there, (word_there ws (i + 1) there, refl)) refl
-    (λ j y r. let f = is_reference ws i j y (reference_kind ws i h.fold h.there) r in (f.3.1.1, ap item_width f.2))
+    (λ j y r. let f = is_reference ws i j y (reference_here ws i h.fold h.there) r in (f.3.1.1, ap item_width f.2))
 
 pub reference_cut : (ws : List ℕ) (i : ℕ) → FoldedAt reference_opcode ws i → length ws ≤ i + 1 → Nowhere (ItemAt ws i)
 reference_cut ws i h le = record {
   none = λ j w x.
-      let f = is_reference ws i j x.0 (reference_kind ws i h.fold h.there) x.1 in
+      let f = is_reference ws i j x.0 (reference_here ws i h.fold h.there) x.1 in
       omega (arith, word_within ws (i + 1) f.1 f.3.1.0);
 }
 
@@ -132,4 +130,4 @@ one_nowhere ws i h n = record { none = λ j w y. let f = h.test j y.0 y.1 in n.n
 -- a block begins no item
 pub info_nowhere : (ws : List ℕ) (i : ℕ) → Opcode ws i opcode.INFO → Nowhere (ItemAt ws i)
 info_nowhere ws i h =
-    record { none = λ j w r. no_item ws i j r.0 (record { code = opcode.INFO; there = h; begins = refl }) r.1 }
+    record { none = λ j w r. no_item ws i j r.0 opcode.INFO h refl r.1 }

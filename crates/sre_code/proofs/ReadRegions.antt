@@ -6,6 +6,7 @@ use Rattle.sre_chars.specs.declared.constants.SreOpcode.TheVariants as opcode
 use Rattle.sre_model.specs.Tree.{Tree, PossessiveLoop, Atomic, Look, Sign, Positive, Negative}
 use Rattle.sre_model.specs.Grammar.{Opcode, word, skip, look_opcode}
 use Rattle.sre_model.specs.Width.{held, width, item_width}
+use Rattle.sre_model.specs.Roles.{ToRepeatPossessively, ToGroup, ToLook}
 use Rattle.sre_code.specs.Reading.{NoCode, IsFault}
 use Rattle.sre_code.specs.Steps.{ItemAt, LookAt, Closes, Unclosed, Exactly, Nowhere, IsEnd, IsInside}
 use Rattle.sre_code.specs.declared.code.error.CodeError.{CodeError}
@@ -14,7 +15,7 @@ use Rattle.sre_code.specs.declared.code.step.Step.TheVariants.{Past, Opens}
 use Rattle.sre_model.proofs.Words.{word_of, word_within, word_there, opcode_moved, opcode_within, same_opcode}
 use Rattle.sre_model.proofs.Places.{reads_moved, reads_nothing, reads_within}
 use Rattle.sre_model.proofs.Widths.{width_held}
-use Rattle.sre_model.proofs.Families.{HasKind, OfPossessiveLoop, OfAtomic, OfLook, is_possessive, is_atomic, is_look}
+use Rattle.sre_model.proofs.Families.{HasRole, is_possessive, is_atomic, is_look, look_role, role_here}
 
 -- SUCCESS behind a body
 pub region_inside : (ws : List ℕ) (end least i : ℕ) → i ≢ end → IsInside ws (Region end least) i
@@ -49,7 +50,7 @@ region_cut ws end least i u e same n le = record {
 }
 
 -- POSSESSIVE_REPEAT
-possessive_here : (ws : List ℕ) (i : ℕ) → Opcode ws i opcode.POSSESSIVE_REPEAT → HasKind ws i OfPossessiveLoop
+possessive_here : (ws : List ℕ) (i : ℕ) → Opcode ws i opcode.POSSESSIVE_REPEAT → HasRole ws i ToRepeatPossessively
 possessive_here ws i h = record { code = opcode.POSSESSIVE_REPEAT; there = h; begins = refl }
 
 -- the width of a body, as the descent adds it up
@@ -117,7 +118,7 @@ possessive_counts ws i low high h lowest highest lt = record {
 pub ruleset possessive_repeat_laws = (possessive_exactly, possessive_cut, possessive_counts)
 
 -- ATOMIC_GROUP
-atomic_here : (ws : List ℕ) (i : ℕ) → Opcode ws i opcode.ATOMIC_GROUP → HasKind ws i OfAtomic
+atomic_here : (ws : List ℕ) (i : ℕ) → Opcode ws i opcode.ATOMIC_GROUP → HasRole ws i ToGroup
 atomic_here ws i h = record { code = opcode.ATOMIC_GROUP; there = h; begins = refl }
 
 -- a body counts once for the group's width, as the descent adds it up
@@ -165,9 +166,8 @@ atomic_cut ws i h past = record {
 }
 
 -- ASSERT, ASSERT_NOT
-look_kind : (ws : List ℕ) (i : ℕ) (sign : Sign) → Opcode ws i (look_opcode sign) → HasKind ws i OfLook
-look_kind ws i Positive h = record { code = opcode.ASSERT; there = h; begins = refl }
-look_kind ws i Negative h = record { code = opcode.ASSERT_NOT; there = h; begins = refl }
+look_here : (ws : List ℕ) (i : ℕ) (sign : Sign) → Opcode ws i (look_opcode sign) → HasRole ws i (ToLook sign)
+look_here ws i sign h = role_here ws i (look_opcode sign) (ToLook sign) h (look_role sign)
 
 pub assert_there : (ws : List ℕ) (i : ℕ) → Opcode ws i opcode.ASSERT → LookAt ws i
 assert_there ws i h = record { sign = Positive; there = h }
@@ -198,17 +198,17 @@ look_exactly ws i tail h leads long = record {
         c.3 ∙ never_counts (held (0 + width f.1.0)),
       );
   complete = λ j w y.
-      let f = is_look ws i j y.0 (look_kind ws i h.sign h.there) y.1 in
-      let r = f.4.1 in (
+      let f = is_look ws i j y.0 (look_here ws i h.sign h.there) y.1 in
+      let r = f.3.1 in (
         j - 1,
         (
-          f.2,
+          f.1,
           r.2,
           (
             omega (arith, r.0),
             r.3,
             omega (arith, r.0),
-            y.2 ∙ ap item_width f.3 ∙ sym (never_counts (held (0 + width f.2))),
+            y.2 ∙ ap item_width f.2 ∙ sym (never_counts (held (0 + width f.1))),
           ),
         ),
       );
@@ -218,15 +218,15 @@ pub look_short : (ws : List ℕ) (i tail : ℕ) → LookAt ws i → tail ≡ ski
     → Nowhere (ItemAt ws i)
 look_short ws i tail h leads short = record {
   none = λ j w y.
-      let f = is_look ws i j y.0 (look_kind ws i h.sign h.there) y.1 in
-      omega (arith, f.4.1.0, reads_within f.2 ws (i + 3) (j - 1) f.4.1.2);
+      let f = is_look ws i j y.0 (look_here ws i h.sign h.there) y.1 in
+      omega (arith, f.3.1.0, reads_within f.1 ws (i + 3) (j - 1) f.3.1.2);
 }
 
 pub look_cut : (ws : List ℕ) (i : ℕ) → LookAt ws i → length ws ≤ i + 1 → Nowhere (ItemAt ws i)
 look_cut ws i h past = record {
   none = λ j w y.
-      let f = is_look ws i j y.0 (look_kind ws i h.sign h.there) y.1 in
-      omega (arith, word_within ws (i + 2) f.1 f.4.1.1);
+      let f = is_look ws i j y.0 (look_here ws i h.sign h.there) y.1 in
+      omega (arith, word_within ws (i + 2) f.0 f.3.1.1);
 }
 
 -- what `atomic_group` answers

@@ -1,17 +1,18 @@
 -- Runs of one test: what the check reads of them is what the grammar says.
-use Rattle.std.proofs.Common.{ℕ, ◌+◌, ◌-◌, ◌≡◌, ◌≢◌, ◌<◌, ◌≤◌, List, length, refl, sym, ◌∙◌, subst, arith}
+use Rattle.std.proofs.Common.{ℕ, ◌+◌, ◌-◌, ◌≡◌, ◌≢◌, ◌<◌, ◌≤◌, List, length, sym, ◌∙◌, subst, arith}
 use Rattle.sre_chars.specs.Numbers.{opcode_number}
 use Rattle.sre_chars.specs.declared.constants.SreOpcode.{SreOpcode}
 use Rattle.sre_chars.specs.declared.constants.SreOpcode.TheVariants as opcode
 use Rattle.sre_model.specs.Tree.{Item, Run, Test, RunKind, GreedyRun, LazyRun, PossessiveRun}
 use Rattle.sre_model.specs.Grammar.{Opcode, word, skip, run_opcode, test_opcode, TestOperands, ReadsItem}
 use Rattle.sre_model.specs.Width.{item_width}
+use Rattle.sre_model.specs.Roles.{ToRun}
 use Rattle.sre_code.specs.Reading.{NoCode, ReadsTest, TestExactly, NoTest}
 use Rattle.sre_code.specs.Steps.{RunAt, ItemAt, Exactly, Nowhere}
 use Rattle.sre_code.specs.declared.code.step.Step.TheVariants.{Past}
 use Rattle.sre_model.proofs.Words.{word_of, word_within, word_there, opcode_moved, same_opcode}
 use Rattle.sre_model.proofs.Places.{test_past}
-use Rattle.sre_model.proofs.Families.{OfRun, kind_of, item_kind, kind_at}
+use Rattle.sre_model.proofs.Families.{item_role, role_at, run_role, HasRole, role_here}
 use Rattle.sre_code.proofs.ReadItems.{past}
 
 -- what is read of an item there
@@ -24,11 +25,6 @@ record RunHere (ws : List ℕ) (i j : ℕ) (x : Item) : Type 0 where
   reads : ReadsTest ws (i + 4) (j - 1) test
   closed : Opcode ws (j - 1) opcode.SUCCESS
   longer : i + 4 < j - 1
-
-run_begins : (k : RunKind) → kind_of (run_opcode k) ≡ OfRun
-run_begins GreedyRun = refl
-run_begins LazyRun = refl
-run_begins PossessiveRun = refl
 
 of_words : (ws : List ℕ) (i j low high : ℕ) (t : Test) (kind : RunKind) → ReadsItem ws i j (Run kind low high t)
     → RunHere ws i j (Run kind low high t)
@@ -55,8 +51,9 @@ possessive_there ws i h = record { kind = PossessiveRun; there = h }
 run_here : (ws : List ℕ) (i j : ℕ) (x : Item) → RunAt ws i → ReadsItem ws i j x → RunHere ws i j x
 run_here ws i j (Run kind low high t) h r = of_words ws i j low high t kind r
 run_here ws i j x h r =
-    let e : OfRun ≡ item_kind x =
-    kind_at ws i j OfRun x (record { code = run_opcode h.kind; there = h.there; begins = run_begins h.kind }) r in
+    let here : HasRole ws i (ToRun h.kind) =
+    role_here ws i (run_opcode h.kind) (ToRun h.kind) h.there (run_role h.kind) in
+    let e : ToRun h.kind ≡ item_role x = role_at ws i j (ToRun h.kind) x here r in
     absurd (cc)
 
 -- where the test ends, SUCCESS stands

@@ -5,14 +5,14 @@ use Rattle.std.proofs.Common.{List, Some, None, length, refl, sym, ap, ◌∙◌
 use Rattle.sre_chars.specs.declared.constants.SreOpcode.{SreOpcode}
 use Rattle.sre_chars.specs.declared.constants.SreOpcode.TheVariants as opcode
 use Rattle.sre_model.specs.Tree.{Tree, Empty, Then, Item, Fail, One, At, Mark, Branch, Loop, Run, PossessiveLoop}
-use Rattle.sre_model.specs.Tree.{Atomic, Look, Reference, Exists, ExistsElse, Trees, Only, Or, Test, Any, AnyAll}
-use Rattle.sre_model.specs.Tree.{InCategory, Literal, NotLiteral, In, Order, Greedy, Lazy, RunKind, GreedyRun, LazyRun}
-use Rattle.sre_model.specs.Tree.{PossessiveRun, Sign, Positive, Negative, Fold, Plain, Ascii, Locale, Unicode}
+use Rattle.sre_model.specs.Tree.{Atomic, Look, Reference, Exists, ExistsElse, Trees, Only, Or, Test}
+use Rattle.sre_model.specs.Tree.{Order, Greedy, Lazy, RunKind, GreedyRun, LazyRun}
+use Rattle.sre_model.specs.Tree.{PossessiveRun, Sign, Positive, Negative}
 use Rattle.sre_model.specs.References.{refers, item_refers, some_refers}
 use Rattle.sre_model.specs.Roles.{ToTest, ToRefer, TestKind, role}
 use Rattle.sre_model.specs.Grammar.{skip, Opcode, test_opcode, until_opcode, look_opcode, run_opcode}
 use Rattle.sre_model.specs.Grammar.{reference_opcode, Reads, ReadsItem, ReadsBranch, WholeItems}
-use Rattle.sre_model.proofs.Families.{test_kind}
+use Rattle.sre_model.proofs.Families.{test_kind, test_role, reference_role}
 use Rattle.sre_model.proofs.Words.{same_opcode}
 use Rattle.sre_model.proofs.Unique.{test_same}
 use Rattle.sre_model.proofs.Places.{test_past, reads_within, operands_past, branch_past, alternative_long}
@@ -35,23 +35,6 @@ abbrev pub Told : List ℕ → ℕ → Bool → ℕ → Bool → Type 0
 Told ws e r j b = ((r ≡ true) × (b ≡ true)) ⊎ ((r ≡ false) × Scan ws e j b)
 
 -- what opcodes tell
-test_role : (t : Test) → role (test_opcode t) ≡ ToTest (test_kind t)
-test_role Any = refl
-test_role AnyAll = refl
-test_role (InCategory c) = refl
-test_role (Literal Plain v) = refl
-test_role (Literal Ascii v) = refl
-test_role (Literal Locale v) = refl
-test_role (Literal Unicode v) = refl
-test_role (NotLiteral Plain v) = refl
-test_role (NotLiteral Ascii v) = refl
-test_role (NotLiteral Locale v) = refl
-test_role (NotLiteral Unicode v) = refl
-test_role (In Plain s) = refl
-test_role (In Ascii s) = refl
-test_role (In Locale s) = refl
-test_role (In Unicode s) = refl
-
 test_has_none : (t : Test) → own_words (role (test_opcode t)) ≡ None
 test_has_none t = ap own_words (test_role t)
 
@@ -67,12 +50,6 @@ until_has_one Lazy = refl
 look_has_three : (sign : Sign) → own_words (role (look_opcode sign)) ≡ Some 3
 look_has_three Positive = refl
 look_has_three Negative = refl
-
-reference_role : (f : Fold) → role (reference_opcode f) ≡ ToRefer
-reference_role Plain = refl
-reference_role Ascii = refl
-reference_role Locale = refl
-reference_role Unicode = refl
 
 to_refer : (kind : TestKind) → ToRefer ≡ ToTest kind → ⊥
 to_refer kind e = cc

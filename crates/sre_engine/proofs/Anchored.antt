@@ -13,10 +13,11 @@ use Rattle.sre_model.specs.Anchors.{is_at_front, is_anchored}
 use Rattle.sre_model.specs.Marks.{no_marks}
 use Rattle.sre_model.specs.Subject.{Subject}
 use Rattle.sre_model.specs.Grammar.{Opcode, word, item_opcode, WholeItems}
+use Rattle.sre_model.specs.Roles.{ToStand, role}
 use Rattle.sre_model.specs.FirstCharacters.{NoWay}
 use Rattle.sre_model.specs.Found.{Asked, subject_of, at_start, found}
 use Rattle.sre_model.proofs.Words.{word_of, same_number}
-use Rattle.sre_model.proofs.Families.{OfAt, item_kind, kind_of, kind_same}
+use Rattle.sre_model.proofs.Families.{item_role, role_same}
 use Rattle.sre_model.proofs.FoundLaws.{none-found}
 use Rattle.sre_engine.proofs.Answering.{NoneBefore}
 
@@ -36,8 +37,8 @@ not_said o n other = by_test (nat_eq (opcode_number o) 6) refl
     by_test false _ = refl
 
 -- another item does not begin with AT
-other_item : (x : Item) → item_kind x ≢ OfAt → item_opcode x ≡ opcode.AT → ⊥
-other_item x other e = other (sym (kind_same x) ∙ ap kind_of e)
+other_item : (x : Item) → item_role x ≢ ToStand → item_opcode x ≡ opcode.AT → ⊥
+other_item x other e = other (sym (role_same x) ∙ ap role e)
 
 pub anchored_said : (ws : List ℕ) (t : Tree) → WholeItems ws t → said (word ws 0) (word ws 1) ≡ is_anchored t
 anchored_said ws Empty w =

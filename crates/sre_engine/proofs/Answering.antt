@@ -7,7 +7,8 @@ use Rattle.sre_model.specs.Tree.{Tree}
 use Rattle.sre_model.specs.Marks.{Marks, no_marks}
 use Rattle.sre_model.specs.Ways.{ways}
 use Rattle.sre_model.specs.Found.{Asked, Match, subject_of, is_accepted, at_start, found}
-use Rattle.sre_model.specs.Machine.{Run, Decides, outcomes}
+use Rattle.sre_turns.specs.Machine.{Decides, outcomes}
+use Rattle.sre_model.specs.Runs.{Run}
 use Rattle.sre_engine.specs.Starts.{NoneBetween}
 use Rattle.sre_engine.specs.Answers.{Shown, Answers, AnswersAnywhere, given, AnswersAlike}
 use Rattle.sre_model.proofs.FoundLaws.{match_of_first, first_accepted-filter, at_start-is, least-found}

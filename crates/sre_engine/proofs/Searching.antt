@@ -14,7 +14,8 @@ use Rattle.sre_model.specs.Ways.{Way, here, ways}
 use Rattle.sre_model.specs.Width.{width}
 use Rattle.sre_model.specs.Grammar.{Whole}
 use Rattle.sre_model.specs.Found.{Asked, Match, subject_of, is_accepted, first_accepted, at_start, found}
-use Rattle.sre_model.specs.Machine.{Run, Decides, outcomes}
+use Rattle.sre_turns.specs.Machine.{Decides, outcomes}
+use Rattle.sre_model.specs.Runs.{Run}
 use Rattle.sre_model.specs.Prefixes.{spells, behind_items, is_empty, stands_at, how_many}
 use Rattle.sre_model.proofs.FoundLaws.{none-found}
 use Rattle.sre_code.specs.Codes.{words_of, hints_of}

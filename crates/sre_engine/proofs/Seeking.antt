@@ -3,7 +3,7 @@
 use Rattle.std.proofs.Common.{ℕ, ◌+◌, ◌-◌, ◌≡◌, ◌≢◌, ◌<◌, ◌≤◌, List, length, slice_index, refl, sym, ◌∙◌, subst}
 use Rattle.std.proofs.Common.{true, false, arith}
 use Rattle.sre_chars.specs.declared.string.StringCursor.{StringCursor}
-use Rattle.sre_model.specs.Machine.{Run}
+use Rattle.sre_model.specs.Runs.{Run}
 use Rattle.sre_engine.specs.Scans.{NoPlace, Front, Here, GoesTo, FirstSame}
 use Rattle.sre_engine.proofs.Steps.{Inside, join_places, more, fresh}
 

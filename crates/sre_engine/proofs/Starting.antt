@@ -12,7 +12,7 @@ use Rattle.sre_model.specs.Grammar.{WholeItems}
 use Rattle.sre_model.specs.Marks.{no_marks}
 use Rattle.sre_model.specs.Found.{Asked, subject_of, at_start, found}
 use Rattle.sre_model.specs.Subject.{Subject, char_at, holds_at}
-use Rattle.sre_model.specs.Machine.{Run}
+use Rattle.sre_model.specs.Runs.{Run}
 use Rattle.sre_model.specs.FirstCharacters.{NoWay, TreeStands, Leads}
 use Rattle.sre_model.proofs.FoundLaws.{none-found}
 use Rattle.sre_model.proofs.FirstCharacters.{whole_stands}

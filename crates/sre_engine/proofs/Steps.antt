@@ -4,7 +4,7 @@ use Rattle.std.proofs.Common.{Bool, true, false, sym, ◌∙◌, ap, subst, arit
 use Rattle.sre_code.specs.Borders.{Right}
 use Rattle.sre_chars.specs.Texts.{Sought}
 use Rattle.sre_chars.specs.declared.string.StringCursor.{StringCursor}
-use Rattle.sre_model.specs.Machine.{Run}
+use Rattle.sre_model.specs.Runs.{Run}
 use Rattle.sre_engine.specs.Scans.{Border, Longest, Overlapping, Fits, Stands, NoPlace, Front, Here, FirstSame}
 
 -- a scan inside one character: i matched words end at q, and none of the places passed since b counts

@@ -9,7 +9,7 @@ use Rattle.sre_model.specs.Tree.{Tree}
 use Rattle.sre_model.specs.Grammar.{WholeItems}
 use Rattle.sre_model.specs.Found.{Asked, at_start}
 use Rattle.sre_model.specs.Subject.{Subject, after, holds_at}
-use Rattle.sre_model.specs.Machine.{Run}
+use Rattle.sre_model.specs.Runs.{Run}
 use Rattle.sre_model.specs.Standing.{HasTest}
 use Rattle.sre_model.specs.FirstCharacters.{NoWay, NotPassed}
 use Rattle.sre_engine.specs.declared.engine.first_characters.First.{First}

@@ -10,21 +10,22 @@ ghost use Rattle.sre_model.specs.Characters.{holds};
 ghost use Rattle.sre_model.specs.Subject.{char_at};
 ghost use Rattle.sre_model.specs.Grammar.{word, Opcode};
 ghost use Rattle.sre_model.specs.Standing.{TestStands, HasTest};
-ghost use Rattle.sre_model.specs.declared.Point.TheVariants.{Instruction, Alternatives};
-ghost use Rattle.sre_model.specs.declared.Point.{Point};
-ghost use Rattle.sre_model.specs.Machine.{family, Testing, HasRun, Advances, Chooses, Refuses, Exhausted, Continues};
-ghost use Rattle.sre_model.specs.Machine.{IsRead};
-ghost use Rattle.sre_request.specs.Requests.{end_of, run_of};
+ghost use Rattle.sre_turns.specs.declared.Point.TheVariants.{Instruction, Alternatives};
+ghost use Rattle.sre_turns.specs.declared.Point.{Point};
+ghost use Rattle.sre_turns.specs.Machine.{HasRun, Advances, Chooses, Refuses, Exhausted, Continues, IsRead};
+ghost use Rattle.sre_model.specs.Roles.{begins_test};
+ghost use Rattle.sre_request.specs.Requests.{end_of};
+ghost use Rattle.sre_request.specs.Runs.{run_of};
 
 use crate::machine::{choose, opcode, operand, word_at};
 use sre_board::Board;
 use sre_chars::constants::SreOpcode;
 use sre_chars::string::{StrDrive, StringCursor};
 use sre_growth::Refusal;
-use sre_model::{Next, Point};
 use sre_request::one_character::{takes, test_end};
 use sre_request::text::read;
 use sre_request::{Request, one_character};
+use sre_turns::{Next, Point};
 use std::alloc::Allocator;
 
 // Whether a test of one character does not take the one at the cursor.
@@ -37,7 +38,7 @@ fn misses<S: StrDrive>(
     cursor: StringCursor,
 ) -> bool
     requires opcode { Opcode (run_of req.now).words place opcode }
-    requires tests { family opcode ≡ Testing }
+    requires tests { begins_test opcode ≡ true }
     requires stands { HasRun (run_of req.now) (Instruction place) cursor }
     requires inside { cursor.position < end_of req.now }
     requires character { character ≡ char_at (run_of req.now).subject cursor.position }
@@ -128,7 +129,7 @@ fn behind_test<S: StrDrive>(
     cursor: StringCursor,
 ) -> Option<(usize, StringCursor)>
     requires opcode { Opcode (run_of req.now).words place opcode }
-    requires tests { family opcode ≡ Testing }
+    requires tests { begins_test opcode ≡ true }
     requires stands { HasRun (run_of req.now) (Instruction place) cursor }
     requires read { IsRead (run_of req.now) cursor character after }
     ensures { MatchOption result (Refuses (run_of req.now) place cursor.position)

@@ -3,19 +3,19 @@
 
 ghost use Rattle.std.specs.Prelude.{◌≡◌, ◌+◌, nat_le};
 ghost use Rattle.sre_model.specs.Grammar.{Opcode};
-ghost use Rattle.sre_model.specs.declared.Point.TheVariants.{Instruction};
+ghost use Rattle.sre_turns.specs.declared.Point.TheVariants.{Instruction};
 ghost use Rattle.sre_model.specs.Roles.{ToRefer, role};
-ghost use Rattle.sre_model.specs.Machine.{HasRun, IsAt, Advances};
-ghost use Rattle.sre_request.specs.Requests.{run_of};
+ghost use Rattle.sre_turns.specs.Machine.{HasRun, IsAt, Advances};
+ghost use Rattle.sre_request.specs.Runs.{run_of};
 
 use crate::machine::operand;
 use sre_board::Board;
 use sre_chars::constants::SreOpcode;
 use sre_chars::string::{StrDrive, StringCursor};
-use sre_model::Next;
 use sre_request::Request;
 use sre_request::references::is_repeated;
 use sre_request::text::cursor_at;
+use sre_turns::Next;
 use std::alloc::Allocator;
 
 // Whether so many characters from a position on end no later than the window.

@@ -5,21 +5,21 @@
 ghost use Rattle.std.specs.Prelude.{⊤, ◌≡◌, ◌+◌, ◌<◌, ◌||◌, nat_eq, nat_lt, IfOk, MatchOption};
 ghost use Rattle.sre_model.specs.Ways.{unlimited};
 ghost use Rattle.sre_model.specs.Grammar.{Opcode, skip};
-ghost use Rattle.sre_model.specs.Board.{BoardValue};
-ghost use Rattle.sre_model.specs.declared.Point.TheVariants.{Instruction, Longer};
-ghost use Rattle.sre_model.specs.Machine.{HasRun, Advances, SkipsBoth};
-ghost use Rattle.sre_request.specs.Requests.{run_of};
+ghost use Rattle.sre_turns.specs.Board.{BoardValue};
+ghost use Rattle.sre_turns.specs.declared.Point.TheVariants.{Instruction, Longer};
+ghost use Rattle.sre_turns.specs.Machine.{HasRun, Advances, SkipsBoth};
+ghost use Rattle.sre_request.specs.Runs.{run_of};
 
 use crate::machine::{choose, first_literal, lacks, operand, refuses};
 use sre_board::Board;
 use sre_chars::constants::SreOpcode;
 use sre_chars::string::{StrDrive, StringCursor};
 use sre_growth::Refusal;
-use sre_model::{Next, Point};
 use sre_request::one_character::takes;
 use sre_request::runs::run_up_to;
 use sre_request::text::read;
 use sre_request::{Request, one_character};
+use sre_turns::{Next, Point};
 use std::alloc::Allocator;
 
 // Whether a run may be longer than so many characters.

@@ -7,18 +7,18 @@
 ghost use Rattle.std.specs.Prelude.{◌≡◌, ◌+◌, IfOk};
 ghost use Rattle.sre_model.specs.Ways.{may_repeat};
 ghost use Rattle.sre_model.specs.Grammar.{Opcode};
-ghost use Rattle.sre_model.specs.declared.Point.TheVariants.{Instruction};
-ghost use Rattle.sre_model.specs.MovesInLoops.{next_frame};
-ghost use Rattle.sre_model.specs.Machine.{IsAt, Advances, with_loop};
-ghost use Rattle.sre_request.specs.Requests.{run_of};
+ghost use Rattle.sre_turns.specs.declared.Point.TheVariants.{Instruction};
+ghost use Rattle.sre_turns.specs.MovesInLoops.{next_frame};
+ghost use Rattle.sre_turns.specs.Machine.{IsAt, Advances, with_loop};
+ghost use Rattle.sre_request.specs.Runs.{run_of};
 
 use crate::machine::{opcode, operand, refuses};
 use sre_board::Board;
 use sre_chars::constants::SreOpcode;
 use sre_chars::string::{StrDrive, StringCursor};
 use sre_growth::Refusal;
-use sre_model::{Frame, Next, Point};
 use sre_request::Request;
+use sre_turns::{Frame, Next, Point};
 use std::alloc::Allocator;
 
 /// Whether a further body may be tried at a cursor.

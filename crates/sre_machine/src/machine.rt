@@ -7,13 +7,14 @@
 ghost use Rattle.std.specs.Prelude.{◌≡◌, ◌⊎◌, ℕ, ◌+◌, ◌^◌, ◌<◌, [], List, length, IfOk, MatchOption, true};
 ghost use Rattle.sre_model.specs.Ways.{Way};
 ghost use Rattle.sre_model.specs.Grammar.{Word, word, Opcode};
-ghost use Rattle.sre_model.specs.Board.{BoardValue};
-ghost use Rattle.sre_model.specs.declared.Point.TheVariants.{Instruction, Alternatives, Shorter};
-ghost use Rattle.sre_model.specs.declared.Point.{Point};
-ghost use Rattle.sre_model.specs.Machine.{family, Testing, HasRun, IsAt, IsBack, Advances, Chooses, Retreats, Refuses};
-ghost use Rattle.sre_model.specs.Machine.{DemandsAny, Excludes, SkipsBoth, Stands};
+ghost use Rattle.sre_turns.specs.Board.{BoardValue};
+ghost use Rattle.sre_turns.specs.declared.Point.TheVariants.{Instruction, Alternatives, Shorter};
+ghost use Rattle.sre_turns.specs.declared.Point.{Point};
+ghost use Rattle.sre_turns.specs.Machine.{HasRun, IsAt, IsBack, Advances, Chooses, Retreats, Refuses, DemandsAny};
+ghost use Rattle.sre_turns.specs.Machine.{Excludes, SkipsBoth, Stands};
 ghost use Rattle.sre_model.specs.Standing.{HasTest};
-ghost use Rattle.sre_request.specs.Requests.{run_of};
+ghost use Rattle.sre_model.specs.Roles.{begins_test};
+ghost use Rattle.sre_request.specs.Runs.{run_of};
 
 use crate::branches::{alternatives, branch};
 use crate::groups::{condition, reference};
@@ -26,12 +27,12 @@ use sre_board::Board;
 use sre_chars::constants::{SreAtCode, SreOpcode};
 use sre_chars::string::{StrDrive, StringCursor};
 use sre_growth::Refusal;
-use sre_model::{Next, Point};
 use sre_request::one_character::{takes, takes_seldom, test_end};
 use sre_request::position::holds_at;
 use sre_request::runs::longest_run;
 use sre_request::text::{back_one, read, read_back};
 use sre_request::{Request, operands};
+use sre_turns::{Next, Point};
 use std::alloc::Allocator;
 use std::convert::TryFrom;
 
@@ -81,7 +82,7 @@ fn test<S: StrDrive>(
     cursor: StringCursor,
 ) -> Next
     requires opcode { Opcode (run_of req.now).words place opcode }
-    requires tests { family opcode ≡ Testing }
+    requires tests { begins_test opcode ≡ true }
     requires stands { HasRun (run_of req.now) (Instruction place) cursor }
     ensures { (b : BoardValue) → Advances (run_of req.now) (Instruction place) cursor b result b }
 {
@@ -105,7 +106,7 @@ fn seldom_test<S: StrDrive>(
     cursor: StringCursor,
 ) -> Next
     requires opcode { Opcode (run_of req.now).words place opcode }
-    requires tests { family opcode ≡ Testing }
+    requires tests { begins_test opcode ≡ true }
     requires stands { HasRun (run_of req.now) (Instruction place) cursor }
     ensures { (b : BoardValue) → Advances (run_of req.now) (Instruction place) cursor b result b }
 {
@@ -406,7 +407,7 @@ pub(super) fn back<S: StrDrive, A: Allocator>(
 }
 
 /// One instruction.
-#[tactic(auto, using(sre_model::proofs::Moving::on_board))]
+#[tactic(auto, using(sre_turns::proofs::Moving::on_board))]
 #[inline(always)]
 pub(super) fn instruction<S: StrDrive, A: Allocator>(
     req: &Request<'_, S>,

@@ -5,9 +5,9 @@
 
 ghost use Rattle.std.specs.Prelude.{IfOk};
 ghost use Rattle.sre_model.specs.Grammar.{Opcode};
-ghost use Rattle.sre_model.specs.declared.Point.TheVariants.{Instruction, Again};
-ghost use Rattle.sre_model.specs.Machine.{HasRun, IsAt, Advances};
-ghost use Rattle.sre_request.specs.Requests.{run_of};
+ghost use Rattle.sre_turns.specs.declared.Point.TheVariants.{Instruction, Again};
+ghost use Rattle.sre_turns.specs.Machine.{HasRun, IsAt, Advances};
+ghost use Rattle.sre_request.specs.Runs.{run_of};
 
 use crate::loops::{may_repeat, next_frame};
 use crate::machine::operand;
@@ -15,8 +15,8 @@ use sre_board::Board;
 use sre_chars::constants::SreOpcode;
 use sre_chars::string::{StrDrive, StringCursor};
 use sre_growth::Refusal;
-use sre_model::{Frame, Next, Point, Region};
 use sre_request::Request;
+use sre_turns::{Frame, Next, Point, Region};
 use std::alloc::Allocator;
 
 /// `POSSESSIVE_REPEAT skip least greatest body SUCCESS`: begins a loop, before its first body.

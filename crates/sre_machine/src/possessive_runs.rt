@@ -1,17 +1,17 @@
 //! `POSSESSIVE_REPEAT_ONE skip least greatest test SUCCESS`: the longest run alone.
 
 ghost use Rattle.sre_model.specs.Grammar.{Opcode};
-ghost use Rattle.sre_model.specs.Board.{BoardValue};
-ghost use Rattle.sre_model.specs.declared.Point.TheVariants.{Instruction};
-ghost use Rattle.sre_model.specs.Machine.{HasRun, Advances};
-ghost use Rattle.sre_request.specs.Requests.{run_of};
+ghost use Rattle.sre_turns.specs.Board.{BoardValue};
+ghost use Rattle.sre_turns.specs.declared.Point.TheVariants.{Instruction};
+ghost use Rattle.sre_turns.specs.Machine.{HasRun, Advances};
+ghost use Rattle.sre_request.specs.Runs.{run_of};
 
 use crate::machine::operand;
 use sre_chars::constants::SreOpcode;
 use sre_chars::string::{StrDrive, StringCursor};
-use sre_model::Next;
 use sre_request::Request;
 use sre_request::runs::longest_run;
+use sre_turns::Next;
 
 /// The run's tail behind the longest run, if that is long enough.
 #[inline(always)]

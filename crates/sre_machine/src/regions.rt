@@ -5,19 +5,19 @@
 
 ghost use Rattle.std.specs.Prelude.{◌≡◌, ◌-◌, [], IfOk, MatchOption};
 ghost use Rattle.sre_model.specs.Grammar.{Opcode};
-ghost use Rattle.sre_model.specs.Board.{from_region};
-ghost use Rattle.sre_model.specs.declared.Point.TheVariants.{Instruction};
-ghost use Rattle.sre_model.specs.Machine.{HasRun, Advances, Closes, after_outcome, without_outcome, without_loop};
-ghost use Rattle.sre_request.specs.Requests.{run_of};
+ghost use Rattle.sre_turns.specs.Board.{from_region};
+ghost use Rattle.sre_turns.specs.declared.Point.TheVariants.{Instruction};
+ghost use Rattle.sre_turns.specs.Machine.{HasRun, Advances, Closes, after_outcome, without_outcome, without_loop};
+ghost use Rattle.sre_request.specs.Runs.{run_of};
 
 use crate::machine::operand;
 use sre_board::Board;
 use sre_chars::constants::SreOpcode;
 use sre_chars::string::{StrDrive, StringCursor};
 use sre_growth::Refusal;
-use sre_model::{Next, Point, Region};
 use sre_request::Request;
 use sre_request::text::back_by;
+use sre_turns::{Next, Point, Region};
 use std::alloc::Allocator;
 
 /// `ATOMIC_GROUP skip body SUCCESS`: the first way of the body alone.

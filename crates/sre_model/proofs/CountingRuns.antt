@@ -9,7 +9,7 @@ use Rattle.sre_model.specs.Tree.{Test}
 use Rattle.sre_model.specs.Characters.{holds}
 use Rattle.sre_model.specs.Subject.{Subject, char_at, passes}
 use Rattle.sre_model.specs.Ways.{most_from, run_length}
-use Rattle.sre_model.specs.Machine.{Run}
+use Rattle.sre_model.specs.Runs.{Run}
 use Rattle.sre_model.specs.Standing.{TestStands}
 use Rattle.sre_model.specs.CountedRuns.{Counted, Ended}
 use Rattle.sre_model.proofs.Passing.{read_passes, stands_at_own}

@@ -17,7 +17,7 @@ no_block_at ws j Empty r ends info =
     let first : word ws 0 ≡ 14 = word_of ws 0 14 info in
     omega (arith, last, first)
 no_block_at ws j (Then x t) r ends info =
-    no_item ws 0 r.0 x (record { code = opcode.INFO; there = info; begins = refl }) r.1
+    no_item ws 0 r.0 x opcode.INFO info refl r.1
 
 pub no_block : (ws : List ℕ) (t : Tree) → WholeItems ws t → has_block ws ≡ false
 no_block ws t w = by_test (has_block ws) refl

@@ -1,7 +1,6 @@
 -- Where the first words of a code leave no way.
-use Rattle.std.proofs.Common.{◌≡◌, ◌≢◌, ℕ, zero, suc, ◌+◌, ◌-◌, ◌<◌, Bool, true, false, List, [], length, nat_lt}
-use Rattle.std.proofs.Common.{nat_le, ◌⊎◌}
-use Rattle.std.proofs.Common.{inl, inr, refl, sym, ap, ◌∙◌, subst, arith}
+use Rattle.std.proofs.Common.{◌≡◌, ℕ, zero, suc, ◌+◌, ◌-◌, ◌<◌, Bool, true, false, List, [], length, nat_lt}
+use Rattle.std.proofs.Common.{nat_le, ◌⊎◌, inl, inr, refl, sym, ap, ◌∙◌, subst, arith, true≢false}
 use Rattle.std.proofs.lemmas.Bool.{cases_lt}
 use Rattle.std.proofs.lemmas.Bool.Decides.{nat_tests}
 use Rattle.sre_chars.specs.Numbers.{at_number}
@@ -10,36 +9,28 @@ use Rattle.sre_chars.specs.declared.constants.SreOpcode.TheVariants as opcode
 use Rattle.sre_chars.specs.declared.constants.SreAtCode.{SreAtCode}
 use Rattle.sre_model.specs.Tree.{Tree, Empty, Then, Item, One, At, Mark, Branch, Loop, Run, PossessiveLoop, Atomic}
 use Rattle.sre_model.specs.Tree.{Look, Test}
-use Rattle.sre_model.specs.Tree.{Trees, Only, Or, Order, Greedy, Lazy, RunKind, GreedyRun, LazyRun, PossessiveRun, Sign}
-use Rattle.sre_model.specs.Tree.{Positive, Negative}
+use Rattle.sre_model.specs.Tree.{Trees, Only, Or, Order, Greedy, Lazy, RunKind, GreedyRun, LazyRun, PossessiveRun}
+use Rattle.sre_model.specs.Tree.{Positive}
 use Rattle.sre_model.specs.Marks.{Marks, set_mark}
 use Rattle.sre_model.specs.Subject.{Subject, passes, holds_at}
-use Rattle.sre_model.specs.Grammar.{Word, Opcode, skip, look_opcode, item_opcode, until_opcode}
+use Rattle.sre_model.specs.Grammar.{Word, Opcode, skip, item_opcode, until_opcode}
 use Rattle.sre_model.specs.Grammar.{Reads, ReadsBranch, Operands, ReadsItem, WholeItems}
-use Rattle.sre_model.specs.Roles.{Role, ToTest, ToEnd, ToLoop, ToJump, role}
-use Rattle.sre_model.specs.Machine.{Testing, family_of, family}
+use Rattle.sre_model.specs.Roles.{Role, ToTest, role, ToStand, ToMark, ToBranch, ToRun, ToRepeat, ToRepeatPossessively}
+use Rattle.sre_model.specs.Roles.{ToGroup, ToLook, TestKind, begins_test}
 use Rattle.sre_model.specs.Ways.{ways, most_from, longest_run}
 use Rattle.sre_model.specs.Standing.{HasTest}
 use Rattle.sre_model.specs.FirstCharacters.{NoWay, NoneOf, NotPassed, is_end, TreeStands, HasTree, HasAlternatives}
 use Rattle.sre_model.specs.FirstCharacters.{Leads}
 use Rattle.sre_model.proofs.Words.{same_word, same_opcode, same_at, word_within, opcode_within}
 use Rattle.sre_model.proofs.Longest.{run_has}
-use Rattle.sre_model.proofs.Families.{Kind, OfOne, OfAt, OfMark, OfLoop, OfRun, OfPossessiveLoop, OfAtomic, OfLook}
-use Rattle.sre_model.proofs.Families.{OfNone}
-use Rattle.sre_model.proofs.Families.{OfBranch, items_of, kind_of, HasKind, is_branch, is_one, is_at, is_mark, is_loop}
-use Rattle.sre_model.proofs.Families.{is_run, is_possessive, is_atomic, is_look}
+use Rattle.sre_model.proofs.Families.{HasRole, is_branch, is_one, is_at, is_mark, is_loop, is_run, is_possessive}
+use Rattle.sre_model.proofs.Families.{is_atomic, is_look, role_here, some_test}
 
 -- Which opcodes begin what is looked at
 
-pub kind_here : (ws : List ℕ) (i : ℕ) (o : SreOpcode) (k : Kind) → Opcode ws i o → kind_of o ≡ k → HasKind ws i k
-kind_here ws i o k w e = record { code = o; there = w; begins = e }
-
-pub test_kind_here : (ws : List ℕ) (i : ℕ) (o : SreOpcode) → Opcode ws i o → family o ≡ Testing → HasKind ws i OfOne
-test_kind_here ws i o w e = record { code = o; there = w; begins = by_role (role o) e }
-  where
-    by_role : (r : Role) → family_of r ≡ Testing → items_of r ≡ OfOne
-    by_role (ToTest kind) y = refl
-    by_role r y = absurd (cc)
+pub some_test_here : (ws : List ℕ) (i : ℕ) (o : SreOpcode) → Opcode ws i o → begins_test o ≡ true
+    → (kind : TestKind) × HasRole ws i (ToTest kind)
+some_test_here ws i o w e = let k = some_test o e in (k.0, role_here ws i o (ToTest k.0) w k.1)
 
 -- Where a tree has no way, by its first item
 
@@ -117,12 +108,6 @@ or_none s t ts p w x = record { none = λ m. rw (w.none m, x.none m) refl }
 
 -- Where words leave no way
 
-ends_kind : (r : Role) → is_end r ≡ true → items_of r ≡ OfNone
-ends_kind ToEnd e = refl
-ends_kind (ToLoop order) e = refl
-ends_kind ToJump e = refl
-ends_kind r e = absurd (cc)
-
 pub stands_up_to : (ws : List ℕ) (i end : ℕ) (t : Tree) (o : SreOpcode) → Reads ws i end t → Opcode ws end o
     → is_end (role o) ≡ true → TreeStands ws i t
 stands_up_to ws i end t o r w e = record { end = end; reads = r; code = o; there = w; ends = e }
@@ -171,14 +156,14 @@ module _ (ws : List ℕ) (t : Tree) (i : ℕ) (x : TreeStands ws i t) where
     pub behind : TreeStands ws after rest
     pub none : (s : Subject) (p : ℕ) → NoWay s (Then item rest) p → NoWay s t p
 
-  begins : (k : Kind) → k ≢ OfNone → HasKind ws i k → Begins
+  begins : (k : Role) → is_end k ≡ false → HasRole ws i k → Begins
   begins k other h = by_tree t x.reads (λ s p w. w)
     where
       by_tree : (u : Tree) → Reads ws i x.end u → ((s : Subject) (p : ℕ) → NoWay s u p → NoWay s t p) → Begins
       by_tree Empty e none =
           let there : Opcode ws i x.code = subst (λ j. Opcode ws j x.code) (sym e) x.there in
           let same : h.code ≡ x.code = same_opcode ws i h.code x.code h.there there in
-          absurd (other (sym h.begins ∙ ap kind_of same ∙ ends_kind (role x.code) x.ends))
+          absurd (true≢false (sym x.ends ∙ ap is_end (sym (ap role same) ∙ h.begins) ∙ other))
       by_tree (Then item rest) r none = record {
         item = item;
         rest = rest;
@@ -209,104 +194,105 @@ module _ (ws : List ℕ) (t : Tree) (i : ℕ) (x : TreeStands ws i t) where
   leads_behind b k e none = leads_inside k b.rest (subst (λ n. TreeStands ws n b.rest) e b.behind) none
 
   -- a test
-  pub test_there : HasKind ws i OfOne → HasTest ws i
-  test_there h =
-      let b : Begins = begins OfOne (λ e. cc) h in
+  pub test_there : {kind : TestKind} → HasRole ws i (ToTest kind) → HasTest ws i
+  test_there {kind} h =
+      let b : Begins = begins (ToTest kind) refl h in
       let is = is_one ws i b.after b.item h b.here in
       record { end = b.after; test = is.0; stands = record { code = is.2.0; operands = is.2.1 } }
 
-  pub test_bars : HasKind ws i OfOne → (s : Subject) (p : ℕ) → NotPassed ws s i p → NoWay s t p
-  test_bars h s p fails =
-      let b : Begins = begins OfOne (λ e. cc) h in
+  pub test_bars : {kind : TestKind} → HasRole ws i (ToTest kind) → (s : Subject) (p : ℕ) → NotPassed ws s i p
+      → NoWay s t p
+  test_bars {kind} h s p fails =
+      let b : Begins = begins (ToTest kind) refl h in
       let is = is_one ws i b.after b.item h b.here in
       none_as b (One is.0) s p is.1
       (one_none s is.0 b.rest p (fails.each b.after is.0 (record { code = is.2.0; operands = is.2.1 })))
 
   -- a run of a test that owes a character
-  pub run_operand : HasKind ws i OfRun → i + 2 < length ws
-  run_operand h =
-      let b : Begins = begins OfRun (λ e. cc) h in
+  pub run_operand : {kind : RunKind} → HasRole ws i (ToRun kind) → i + 2 < length ws
+  run_operand {kind} h =
+      let b : Begins = begins (ToRun kind) refl h in
       let is = is_run ws i b.after b.item h b.here in
-      word_within ws (i + 2) is.1 is.5.1.1
+      word_within ws (i + 2) is.0 is.4.1.1
 
-  pub run_there : HasKind ws i OfRun → HasTest ws (i + 4)
-  run_there h =
-      let b : Begins = begins OfRun (λ e. cc) h in
+  pub run_there : {kind : RunKind} → HasRole ws i (ToRun kind) → HasTest ws (i + 4)
+  run_there {kind} h =
+      let b : Begins = begins (ToRun kind) refl h in
       let is = is_run ws i b.after b.item h b.here in
-      let operands = is.5.1 in
-      record { end = b.after - 1; test = is.3; stands = record { code = operands.4; operands = operands.5 } }
+      let operands = is.4.1 in
+      record { end = b.after - 1; test = is.2; stands = record { code = operands.4; operands = operands.5 } }
 
-  pub run_bars : (low : ℕ) → HasKind ws i OfRun → Word ws (i + 2) low → 0 < low → (s : Subject) (p : ℕ)
-      → NotPassed ws s (i + 4) p → NoWay s t p
-  run_bars low h w owed s p fails =
-      let b : Begins = begins OfRun (λ e. cc) h in
+  pub run_bars : {kind : RunKind} (low : ℕ) → HasRole ws i (ToRun kind) → Word ws (i + 2) low → 0 < low
+      → (s : Subject) (p : ℕ) → NotPassed ws s (i + 4) p → NoWay s t p
+  run_bars {kind} low h w owed s p fails =
+      let b : Begins = begins (ToRun kind) refl h in
       let is = is_run ws i b.after b.item h b.here in
-      let operands = is.5.1 in
-      let same : is.1 ≡ low = same_word ws (i + 2) is.1 low operands.1 w in
-      none_as b (Run is.0 is.1 is.2 is.3) s p is.4
-      (run_none s is.0 is.1 is.2 is.3 b.rest p (omega (arith, same, owed))
-      (fails.each (b.after - 1) is.3 (record { code = operands.4; operands = operands.5 })))
+      let operands = is.4.1 in
+      let same : is.0 ≡ low = same_word ws (i + 2) is.0 low operands.1 w in
+      none_as b (Run kind is.0 is.1 is.2) s p is.3
+      (run_none s kind is.0 is.1 is.2 b.rest p (omega (arith, same, owed))
+      (fails.each (b.after - 1) is.2 (record { code = operands.4; operands = operands.5 })))
 
   -- BRANCH: its alternatives
-  pub branch_there : HasKind ws i OfBranch → HasAlternatives ws (i + 1)
+  pub branch_there : HasRole ws i ToBranch → HasAlternatives ws (i + 1)
   branch_there h =
-      let b : Begins = begins OfBranch (λ e. cc) h in
+      let b : Begins = begins ToBranch refl h in
       let is = is_branch ws i b.after b.item h b.here in
       record { end = b.after; trees = is.0; reads = is.2.1 }
 
-  pub branch_bars : HasKind ws i OfBranch → (s : Subject) (p : ℕ)
+  pub branch_bars : HasRole ws i ToBranch → (s : Subject) (p : ℕ)
       → ((j : ℕ) (ts : Trees) → ReadsBranch ws (i + 1) j ts → NoneOf s ts p) → NoWay s t p
   branch_bars h s p each =
-      let b : Begins = begins OfBranch (λ e. cc) h in
+      let b : Begins = begins ToBranch refl h in
       let is = is_branch ws i b.after b.item h b.here in
       none_as b (Branch is.0) s p is.1 (branch_none s is.0 b.rest p (each b.after is.0 is.2.1))
 
   -- AT: where its code does not hold, and on behind it
-  pub at_operand : HasKind ws i OfAt → i + 1 < length ws
+  pub at_operand : HasRole ws i ToStand → i + 1 < length ws
   at_operand h =
-      let b : Begins = begins OfAt (λ e. cc) h in
+      let b : Begins = begins ToStand refl h in
       let is = is_at ws i b.after b.item h b.here in
       word_within ws (i + 1) (at_number is.0) is.2.1.0
 
-  at_bars : (a : SreAtCode) → HasKind ws i OfAt → Word ws (i + 1) (at_number a) → (s : Subject) (p : ℕ)
+  at_bars : (a : SreAtCode) → HasRole ws i ToStand → Word ws (i + 1) (at_number a) → (s : Subject) (p : ℕ)
       → holds_at s a p ≡ false → NoWay s t p
   at_bars a h w s p fails =
-      let b : Begins = begins OfAt (λ e. cc) h in
+      let b : Begins = begins ToStand refl h in
       let is = is_at ws i b.after b.item h b.here in
       let same : is.0 ≡ a = same_at ws (i + 1) is.0 a is.2.1.0 w in
       none_as b (At a) s p (is.1 ∙ ap At same) (at_none s a b.rest p fails)
 
-  pub at_leads : HasKind ws i OfAt → Leads ws t (i + 2) 0
+  pub at_leads : HasRole ws i ToStand → Leads ws t (i + 2) 0
   at_leads h =
-      let b : Begins = begins OfAt (λ e. cc) h in
+      let b : Begins = begins ToStand refl h in
       let is = is_at ws i b.after b.item h b.here in
       leads_behind b (i + 2) is.2.1.1 (λ s p w. none_as b (At is.0) s p is.1 (at_passed s is.0 b.rest p w))
 
   -- MARK: on behind it
-  pub mark_leads : HasKind ws i OfMark → Leads ws t (i + 2) 0
+  pub mark_leads : HasRole ws i ToMark → Leads ws t (i + 2) 0
   mark_leads h =
-      let b : Begins = begins OfMark (λ e. cc) h in
+      let b : Begins = begins ToMark refl h in
       let is = is_mark ws i b.after b.item h b.here in
       leads_behind b (i + 2) is.2.1.1 (λ s p w. none_as b (Mark is.0) s p is.1 (mark_none s is.0 b.rest p w))
 
   -- ATOMIC_GROUP: on inside
-  pub atomic_leads : HasKind ws i OfAtomic → Leads ws t (i + 2) 0
+  pub atomic_leads : HasRole ws i ToGroup → Leads ws t (i + 2) 0
   atomic_leads h =
-      let b : Begins = begins OfAtomic (λ e. cc) h in
+      let b : Begins = begins ToGroup refl h in
       let is = is_atomic ws i b.after b.item h b.here in
       leads_inside (i + 2) is.0 (stands_up_to ws (i + 2) (b.after - 1) is.0 opcode.SUCCESS is.2.1.1 is.2.1.2 refl)
       (λ s p w. none_as b (Atomic is.0) s p is.1 (atomic_none s is.0 b.rest p w))
 
   -- loops that owe a body: on inside
-  loop_operand : HasKind ws i OfLoop → i + 2 < length ws
+  loop_operand : HasRole ws i ToRepeat → i + 2 < length ws
   loop_operand h =
-      let b : Begins = begins OfLoop (λ e. cc) h in
+      let b : Begins = begins ToRepeat refl h in
       let is = is_loop ws i b.after b.item h b.here in
       word_within ws (i + 2) is.1 is.5.1.0
 
-  loop_leads : (low : ℕ) → HasKind ws i OfLoop → Word ws (i + 2) low → 0 < low → Leads ws t (i + 4) 0
+  loop_leads : (low : ℕ) → HasRole ws i ToRepeat → Word ws (i + 2) low → 0 < low → Leads ws t (i + 4) 0
   loop_leads low h w owed =
-      let b : Begins = begins OfLoop (λ e. cc) h in
+      let b : Begins = begins ToRepeat refl h in
       let is = is_loop ws i b.after b.item h b.here in
       let operands = is.5.1 in
       let same : is.1 ≡ low = same_word ws (i + 2) is.1 low operands.0 w in
@@ -320,16 +306,16 @@ module _ (ws : List ℕ) (t : Tree) (i : ℕ) (x : TreeStands ws i t) where
       until_ends Greedy = refl
       until_ends Lazy = refl
 
-  possessive_operand : HasKind ws i OfPossessiveLoop → i + 2 < length ws
+  possessive_operand : HasRole ws i ToRepeatPossessively → i + 2 < length ws
   possessive_operand h =
-      let b : Begins = begins OfPossessiveLoop (λ e. cc) h in
+      let b : Begins = begins ToRepeatPossessively refl h in
       let is = is_possessive ws i b.after b.item h b.here in
       word_within ws (i + 2) is.0 is.4.1.0
 
-  possessive_leads : (low : ℕ) → HasKind ws i OfPossessiveLoop → Word ws (i + 2) low → 0 < low
+  possessive_leads : (low : ℕ) → HasRole ws i ToRepeatPossessively → Word ws (i + 2) low → 0 < low
       → Leads ws t (i + 4) 0
   possessive_leads low h w owed =
-      let b : Begins = begins OfPossessiveLoop (λ e. cc) h in
+      let b : Begins = begins ToRepeatPossessively refl h in
       let is = is_possessive ws i b.after b.item h b.here in
       let operands = is.4.1 in
       let same : is.0 ≡ low = same_word ws (i + 2) is.0 low operands.0 w in
@@ -339,11 +325,11 @@ module _ (ws : List ℕ) (t : Tree) (i : ℕ) (x : TreeStands ws i t) where
       none_as b (PossessiveLoop is.0 is.1 is.2) s p is.3
       (possessive_none s is.0 is.1 is.2 b.rest p (omega (arith, same, owed)) v))
 
-  pub body_operand : HasKind ws i OfLoop ⊎ HasKind ws i OfPossessiveLoop → i + 2 < length ws
+  pub body_operand : HasRole ws i ToRepeat ⊎ HasRole ws i ToRepeatPossessively → i + 2 < length ws
   body_operand (inl h) = loop_operand h
   body_operand (inr h) = possessive_operand h
 
-  pub body_leads : (low : ℕ) → HasKind ws i OfLoop ⊎ HasKind ws i OfPossessiveLoop → Word ws (i + 2) low → 0 < low
+  pub body_leads : (low : ℕ) → HasRole ws i ToRepeat ⊎ HasRole ws i ToRepeatPossessively → Word ws (i + 2) low → 0 < low
       → Leads ws t (i + 4) 0
   body_leads low (inl h) w owed = loop_leads low h w owed
   body_leads low (inr h) w owed = possessive_leads low h w owed
@@ -352,25 +338,11 @@ module _ (ws : List ℕ) (t : Tree) (i : ℕ) (x : TreeStands ws i t) where
   positive_look : Opcode ws i opcode.ASSERT
       → (b : Begins) × (back : ℕ) × (body : Tree) × (b.item ≡ Look Positive back body)
       × Operands ws i b.after (Look Positive back body)
-  positive_look w = by_sign (is_look ws i b.after b.item h b.here)
-    where
-      h : HasKind ws i OfLook
-      h = record { code = opcode.ASSERT; there = w; begins = refl }
-
-      b : Begins
-      b = begins OfLook (λ e. cc) h
-
-      positive : (g : Sign) → opcode.ASSERT ≡ look_opcode g → g ≡ Positive
-      positive Positive e = refl
-      positive Negative e = absurd (cc)
-
-      by_sign : (g : Sign) × (back : ℕ) × (body : Tree) × (b.item ≡ Look g back body)
-          × ReadsItem ws i b.after (Look g back body)
-          → (b : Begins) × (back : ℕ) × (body : Tree) × (b.item ≡ Look Positive back body)
-          × Operands ws i b.after (Look Positive back body)
-      by_sign is =
-          let sign = positive is.0 (same_opcode ws i opcode.ASSERT (look_opcode is.0) w is.4.0) in
-          (b, is.1, is.2, is.3 ∙ ap (λ g. Look g is.1 is.2) sign, is.4.1)
+  positive_look w =
+      let h : HasRole ws i (ToLook Positive) = role_here ws i opcode.ASSERT (ToLook Positive) w refl in
+      let b : Begins = begins (ToLook Positive) refl h in
+      let is = is_look ws i b.after b.item h b.here in
+      (b, is.0, is.1, is.2, is.3.1)
 
   pub look_operand : Opcode ws i opcode.ASSERT → i + 2 < length ws
   look_operand w = let is = positive_look w in word_within ws (i + 2) is.1 is.4.1
@@ -397,7 +369,7 @@ module _ (ws : List ℕ) (start i far : ℕ) (l : (t : Tree) → TreeStands ws s
       let at = l t x in leads_on ws t i k far more back at (on at.tree at.stands) sum
 
   -- a position code there, where nothing is looked back
-  pub at_bars_there : (a : SreAtCode) → far ≡ 0 → HasKind ws i OfAt → Word ws (i + 1) (at_number a) → (t : Tree)
+  pub at_bars_there : (a : SreAtCode) → far ≡ 0 → HasRole ws i ToStand → Word ws (i + 1) (at_number a) → (t : Tree)
       → TreeStands ws start t → (s : Subject) (p : ℕ) → holds_at s a p ≡ false → NoWay s t p
   at_bars_there a none h w t x s p fails =
       let at = l t x in

@@ -1,19 +1,19 @@
 -- Which words begin with a run.
-use Rattle.std.proofs.Common.{◌≡◌, ◌≢◌, ℕ, ◌+◌, ◌-◌, ◌<◌, ◌⊎◌, inl, inr, List, length, Option, Some, None, refl}
-use Rattle.std.proofs.Common.{false, sym, ap, ◌∙◌, subst, arith}
+use Rattle.std.proofs.Common.{◌≡◌, ◌≢◌, ℕ, ◌+◌, ◌-◌, ◌<◌, ◌⊎◌, inl, inr, List, length, Option, Some, None, refl, false}
+use Rattle.std.proofs.Common.{sym, ap, ◌∙◌, subst, arith, true, true≢false}
 use Rattle.std.proofs.lemmas.Bool.{or_parts}
 use Rattle.sre_chars.specs.declared.constants.SreOpcode.{SreOpcode}
 use Rattle.sre_chars.specs.declared.constants.SreOpcode.TheVariants as opcode
-use Rattle.sre_model.specs.Tree.{Tree, Empty, Then, Item, One, Mark, Run, Test, RunKind}
+use Rattle.sre_model.specs.Tree.{Tree, Empty, Then, Item, One, Mark, Run, Test, RunKind, GreedyRun, LazyRun}
+use Rattle.sre_model.specs.Tree.{PossessiveRun}
 use Rattle.sre_model.specs.References.{refers, item_refers}
 use Rattle.sre_model.specs.Ways.{unlimited}
 use Rattle.sre_model.specs.Grammar.{Word, Opcode, item_opcode, Reads, ReadsItem, WholeItems}
-use Rattle.sre_model.specs.Roles.{Role, ToTest, role}
+use Rattle.sre_model.specs.Roles.{role, ToEnd, ToRun, begins_test, ToTest}
 use Rattle.sre_model.specs.Standing.{TestStands, HasTest}
-use Rattle.sre_model.specs.Machine.{family, family_of, Testing}
 use Rattle.sre_model.specs.LeadingRuns.{RunLeads, FrontStands, RunStands}
 use Rattle.sre_model.proofs.Words.{same_word, same_opcode, word_within, opcode_within}
-use Rattle.sre_model.proofs.Families.{items_of, kind_of, OfOne, OfRun, is_one, is_mark, is_run}
+use Rattle.sre_model.proofs.Families.{is_one, is_mark, is_run, role_here, some_test}
 use Rattle.sre_model.proofs.Places.{test_past}
 use Rattle.sre_model.proofs.LeadingRuns.{run_leads, front_leads, mark_leads}
 
@@ -94,13 +94,16 @@ module _ (ws : List ℕ) (t : Tree) (i : ℕ) (first : Option ℕ) (a : RunAhead
 abbrev pub IsRunOpcode : SreOpcode → Type 0
 IsRunOpcode o = (o ≡ opcode.REPEAT_ONE) ⊎ ((o ≡ opcode.MIN_REPEAT_ONE) ⊎ (o ≡ opcode.POSSESSIVE_REPEAT_ONE))
 
-run_is_run : (o : SreOpcode) → IsRunOpcode o → kind_of o ≡ OfRun
-run_is_run o (inl e) = ap kind_of e
-run_is_run o (inr (inl e)) = ap kind_of e
-run_is_run o (inr (inr e)) = ap kind_of e
+run_is_run : (o : SreOpcode) → IsRunOpcode o → (kind : RunKind) × (role o ≡ ToRun kind)
+run_is_run o (inl e) = (GreedyRun, ap role e)
+run_is_run o (inr (inl e)) = (LazyRun, ap role e)
+run_is_run o (inr (inr e)) = (PossessiveRun, ap role e)
 
 run_no_end : (o : SreOpcode) → IsRunOpcode o → o ≢ opcode.SUCCESS
-run_no_end o run e = let never : OfRun ≡ kind_of opcode.SUCCESS = sym (run_is_run o run) ∙ ap kind_of e in cc
+run_no_end o run e =
+    let is = run_is_run o run in
+    let never : ToRun is.0 ≡ ToEnd = sym is.1 ∙ ap role e in
+    cc
 
 -- a run that leads what is left leads the whole
 run_first : (front : Option Test) (left whole : Tree) (test : Test) → LeadsOn front left whole
@@ -113,40 +116,36 @@ module _ (ws : List ℕ) (t : Tree) (i : ℕ) (first : Option ℕ) (o : SreOpcod
   abbrev here : ItemAhead ws t i first
   here = item_ahead ws t i first a o (run_no_end o run) w
 
-  abbrev is : (kind : RunKind) × (low : ℕ) × (high : ℕ) × (test : Test) × (here.item ≡ Run kind low high test)
+  abbrev kind : RunKind
+  kind = (run_is_run o run).0
+
+  abbrev is : (low : ℕ) × (high : ℕ) × (test : Test) × (here.item ≡ Run kind low high test)
       × ReadsItem ws i here.after (Run kind low high test)
-  is = is_run ws i here.after here.item (record { code = o; there = w; begins = run_is_run o run }) here.here
+  is = is_run ws i here.after here.item (role_here ws i o (ToRun kind) w (run_is_run o run).1) here.here
 
   pub run_operands : i + 3 < length ws
-  run_operands = word_within ws (i + 3) is.2 is.5.1.2
+  run_operands = word_within ws (i + 3) is.1 is.4.1.2
 
   pub run_stands : Word ws (i + 3) unlimited → RunStands ws t first (i + 4)
   run_stands wide =
-      let high : is.2 ≡ unlimited = same_word ws (i + 3) is.2 unlimited is.5.1.2 wide in
-      let same : here.item ≡ Run is.0 is.1 unlimited is.3 = is.4 ∙ ap (λ n. Run is.0 is.1 n is.3) high in
+      let high : is.1 ≡ unlimited = same_word ws (i + 3) is.1 unlimited is.4.1.2 wide in
+      let same : here.item ≡ Run kind is.0 unlimited is.2 = is.3 ∙ ap (λ n. Run kind is.0 n is.2) high in
       record {
         front = here.front;
-        test = is.3;
+        test = is.2;
         end = here.after - 1;
         before = here.before;
-        stands = record { code = is.5.1.4; operands = is.5.1.5 };
+        stands = record { code = is.4.1.4; operands = is.4.1.5 };
         leads =
-            run_first here.front (Then (Run is.0 is.1 unlimited is.3) here.rest) t is.3
+            run_first here.front (Then (Run kind is.0 unlimited is.2) here.rest) t is.2
             (subst (λ x. LeadsOn here.front (Then x here.rest) t) same here.leads)
-            (run_leads is.0 is.1 is.3 here.rest);
+            (run_leads kind is.0 is.2 here.rest);
       }
 
 -- Tests
 
-test_is_one : (o : SreOpcode) → family o ≡ Testing → kind_of o ≡ OfOne
-test_is_one o e = by_role (role o) e
-  where
-    by_role : (r : Role) → family_of r ≡ Testing → items_of r ≡ OfOne
-    by_role (ToTest kind) e = refl
-    by_role r e = absurd (cc)
-
-test_no_end : (o : SreOpcode) → family o ≡ Testing → o ≢ opcode.SUCCESS
-test_no_end o tests e = let never : OfOne ≡ kind_of opcode.SUCCESS = sym (test_is_one o tests) ∙ ap kind_of e in cc
+test_no_end : (o : SreOpcode) → begins_test o ≡ true → o ≢ opcode.SUCCESS
+test_no_end o tests e = true≢false (sym tests ∙ ap begins_test e)
 
 -- a run behind a test, of which none stands in front
 behind_front : (ws : List ℕ) (front : Option Test) (x test : Test) (rest whole : Tree) → FrontStands ws None front
@@ -154,13 +153,13 @@ behind_front : (ws : List ℕ) (front : Option Test) (x test : Test) (rest whole
 behind_front ws None x test rest whole none on l = on (Some x) test (front_leads x test rest l)
 behind_front ws (Some y) x test rest whole some on l = absurd some
 
-module _ (ws : List ℕ) (t : Tree) (i : ℕ) (o : SreOpcode) (a : RunAhead ws t i None) (tests : family o ≡ Testing)
+module _ (ws : List ℕ) (t : Tree) (i : ℕ) (o : SreOpcode) (a : RunAhead ws t i None) (tests : begins_test o ≡ true)
     (w : Opcode ws i o) where
   abbrev at : ItemAhead ws t i None
   at = item_ahead ws t i None a o (test_no_end o tests) w
 
   abbrev one : (x : Test) × (at.item ≡ One x) × ReadsItem ws i at.after (One x)
-  one = is_one ws i at.after at.item (record { code = o; there = w; begins = test_is_one o tests }) at.here
+  one = is_one ws i at.after at.item (role_here ws i o (ToTest (some_test o tests).0) w (some_test o tests).1) at.here
 
   stands : TestStands ws i at.after one.0
   stands = record { code = one.2.0; operands = one.2.1 }

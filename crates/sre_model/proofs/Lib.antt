@@ -23,25 +23,7 @@ pub mod Blocks
 pub mod Members
 pub mod CountingRuns
 pub mod OneCharacter
-pub mod Cost
 pub mod Longest
-pub mod Moving
-pub mod Placed
-pub mod StepsAtItems
-pub mod StepsInBranches
-pub mod StepsInRuns
-pub mod StepsInLoops
-pub mod StepsInRegions
-pub mod StepsAtGroups
-pub mod StepsInPossessiveLoops
-pub mod Outcomes
-pub mod RanAtItems
-pub mod RanInRuns
-pub mod RanInLoops
-pub mod RanInRegions
-pub mod RanAtGroups
-pub mod RanInPossessiveLoops
-pub mod Ran
 pub mod TreeOf
 pub mod CutOff
 pub mod StandingWords
@@ -53,5 +35,3 @@ mod RowsWritten
 mod ReaderRows
 mod HintRows
 pub mod Passing
-pub mod GoingBack
-pub mod Start

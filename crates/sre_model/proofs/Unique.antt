@@ -5,11 +5,11 @@ use Rattle.sre_chars.specs.declared.constants.SreOpcode.{SreOpcode}
 use Rattle.sre_chars.specs.declared.constants.SreOpcode.TheVariants as opcode
 use Rattle.sre_model.specs.Tree.{Tree, Empty, Then, Item, Fail, One, At, Mark, Branch, Loop, Run, PossessiveLoop}
 use Rattle.sre_model.specs.Tree.{Atomic, Look, Reference, Exists, ExistsElse, Trees, Only, Or, Test, Any, AnyAll}
-use Rattle.sre_model.specs.Tree.{InCategory, Literal, NotLiteral, In, Order, Greedy, Lazy, RunKind, GreedyRun, LazyRun}
-use Rattle.sre_model.specs.Tree.{PossessiveRun, Sign, Positive, Negative, Fold, Plain, Ascii, Locale, Unicode, SetItem}
+use Rattle.sre_model.specs.Tree.{InCategory, Literal, NotLiteral, In, Order, Greedy, Lazy}
+use Rattle.sre_model.specs.Tree.{Fold, Plain, Ascii, Locale, Unicode, SetItem}
 use Rattle.sre_model.specs.Tree.{Single, Range, RangeUniIgnore, Category, Charset, BigCharset, Negate}
 use Rattle.sre_model.specs.Grammar.{word, skip, Opcode, test_opcode, literal_opcode, not_literal_opcode, set_opcode}
-use Rattle.sre_model.specs.Grammar.{reference_opcode, run_opcode, look_opcode, until_opcode, Reads, ReadsItem}
+use Rattle.sre_model.specs.Grammar.{reference_opcode, until_opcode, Reads, ReadsItem}
 use Rattle.sre_model.specs.Grammar.{ReadsBranch, TestOperands, ReadsSet, WholeItems, Whole}
 use Rattle.sre_model.specs.Grammar.{behind_block}
 use Rattle.sre_model.proofs.Words.{same_word, same_opcode, same_at, same_category, word_of}
@@ -55,25 +55,6 @@ reference_back : (f : Fold) → fold_of (reference_opcode f) ≡ f
 unfolding fold_of
 reference_back Plain = refl
 reference_back f = refl
-
-run_kind_of : SreOpcode → RunKind
-run_kind_of opcode.REPEAT_ONE = GreedyRun
-run_kind_of opcode.MIN_REPEAT_ONE = LazyRun
-run_kind_of _ = PossessiveRun
-
-run_back : (k : RunKind) → run_kind_of (run_opcode k) ≡ k
-unfolding run_kind_of
-run_back GreedyRun = refl
-run_back k = refl
-
-sign_of : SreOpcode → Sign
-sign_of opcode.ASSERT = Positive
-sign_of _ = Negative
-
-look_back : (s : Sign) → sign_of (look_opcode s) ≡ s
-unfolding sign_of
-look_back Positive = refl
-look_back s = refl
 
 order_of : SreOpcode → Order
 order_of opcode.MAX_UNTIL = Greedy
@@ -171,7 +152,7 @@ test_same (In g set) u ws i j k w r x s =
 
 -- items
 no_jump : (ws : List ℕ) (i j : ℕ) (x : Item) → Opcode ws i opcode.JUMP → ReadsItem ws i j x → ⊥
-no_jump ws i j x w r = no_item ws i j x (record { code = opcode.JUMP; there = w; begins = refl }) r
+no_jump ws i j x w r = no_item ws i j x opcode.JUMP w refl r
 
 jump_moved : (ws : List ℕ) (i k : ℕ) → i ≡ k → Opcode ws i opcode.JUMP → Opcode ws k opcode.JUMP
 jump_moved ws i k e w = let P : ℕ → Type 0 = λ n. Opcode ws n opcode.JUMP in subst P e w
@@ -232,14 +213,13 @@ mutual
       (cc f.4, r.1.5 ∙ sym f.5.1.5)
   item_same (Run kind low high t) y ws i j k r s =
       let f = is_run ws i k y (item_here ws i j (Run kind low high t) r) s in
-      let ends : j ≡ k = r.1.0 ∙ sym f.5.1.0 in
-      let P : ℕ → Type 0 = λ n. TestOperands ws (i + 4) (n - 1) f.3 in
-      let u = test_same t f.3 ws (i + 4) (j - 1) (j - 1) r.1.4 r.1.5 f.5.1.4 (subst P (sym ends) f.5.1.5) in
-      let ts : t ≡ f.3 = u.0 in
-      let l = same_word ws (i + 2) low f.1 r.1.1 f.5.1.1 in
-      let h = same_word ws (i + 3) high f.2 r.1.2 f.5.1.2 in
-      let ks : kind ≡ f.0 = same_member run_opcode run_kind_of run_back ws i kind f.0 r.0 f.5.0 in
-      (cc f.4, ends)
+      let ends : j ≡ k = r.1.0 ∙ sym f.4.1.0 in
+      let P : ℕ → Type 0 = λ n. TestOperands ws (i + 4) (n - 1) f.2 in
+      let u = test_same t f.2 ws (i + 4) (j - 1) (j - 1) r.1.4 r.1.5 f.4.1.4 (subst P (sym ends) f.4.1.5) in
+      let ts : t ≡ f.2 = u.0 in
+      let l = same_word ws (i + 2) low f.0 r.1.1 f.4.1.1 in
+      let h = same_word ws (i + 3) high f.1 r.1.2 f.4.1.2 in
+      (cc f.3, ends)
   item_same (PossessiveLoop low high body) y ws i j k r s =
       let f = is_possessive ws i k y (item_here ws i j (PossessiveLoop low high body) r) s in
       let b = tree_same body f.2 ws (i + 4) (skip ws (i + 1)) r.1.3 f.4.1.3 in
@@ -254,12 +234,11 @@ mutual
       (ap Atomic b ∙ sym f.1, ends)
   item_same (Look sign back body) y ws i j k r s =
       let f = is_look ws i k y (item_here ws i j (Look sign back body) r) s in
-      let ends : j ≡ k = r.1.0 ∙ sym f.4.1.0 in
-      let b = tree_same body f.2 ws (i + 3) (j - 1) r.1.2
-      (reads_moved ws _ _ (k - 1) (j - 1) f.2 refl (ap (λ n. n - 1) (sym ends)) f.4.1.2) in
-      let bs = same_word ws (i + 2) back f.1 r.1.1 f.4.1.1 in
-      let signs : sign ≡ f.0 = same_member look_opcode sign_of look_back ws i sign f.0 r.0 f.4.0 in
-      (cc f.3, ends)
+      let ends : j ≡ k = r.1.0 ∙ sym f.3.1.0 in
+      let b = tree_same body f.1 ws (i + 3) (j - 1) r.1.2
+      (reads_moved ws _ _ (k - 1) (j - 1) f.1 refl (ap (λ n. n - 1) (sym ends)) f.3.1.2) in
+      let bs = same_word ws (i + 2) back f.0 r.1.1 f.3.1.1 in
+      (cc f.2, ends)
   item_same (Reference fold g) y ws i j k r s =
       let f = is_reference ws i k y (item_here ws i j (Reference fold g) r) s in
       let fs : fold ≡ f.0 = same_reference_fold ws i fold f.0 r.0 f.3.0 in

@@ -4,7 +4,7 @@ use Rattle.std.specs.Prelude.{ℕ, ◌+◌, ◌≡◌, ◌<◌, ◌≤◌, Bool,
 use Rattle.sre_chars.specs.declared.string.StringCursor.{StringCursor}
 use Rattle.sre_model.specs.Tree.{Test}
 use Rattle.sre_model.specs.Subject.{passes}
-use Rattle.sre_model.specs.Machine.{Run}
+use Rattle.sre_model.specs.Runs.{Run}
 use Rattle.sre_model.specs.Standing.{TestStands}
 
 -- the test at i says what is wanted of the first count characters from start on, and the cursor stands behind them

@@ -20,12 +20,6 @@ pub mod WalkBounds
 pub mod Shown
 pub mod Rows
 pub mod RowsOfWalks
-pub mod Board
 pub mod Standing
-pub mod Moves
-pub mod MovesInRuns
-pub mod MovesInLoops
-pub mod MovesInRegions
-pub mod MovesAtGroups
-pub mod Machine
+pub mod Runs
 pub mod CountedRuns

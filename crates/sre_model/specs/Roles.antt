@@ -1,5 +1,6 @@
 -- Roles: what each opcode is for, in one table.
 -- For the machine and the proofs; what sre_engine makes public does not rest on it.
+use Rattle.std.specs.Prelude.{Bool, true, false}
 use Rattle.sre_chars.specs.declared.constants.SreOpcode.{SreOpcode}
 use Rattle.sre_chars.specs.declared.constants.SreOpcode.TheVariants as opcode
 use Rattle.sre_model.specs.Tree.{Order, Greedy, Lazy, RunKind, GreedyRun, LazyRun, PossessiveRun, Sign, Positive}
@@ -13,7 +14,6 @@ pub data TestKind : Type 0 where
   OfLiteral : TestKind
   OfNotLiteral : TestKind
   OfSet : TestKind
-  OfNoTest : TestKind
 
 -- the last one is that of the opcodes that begin nothing where the machine can stand
 pub data Role : Type 0 where
@@ -72,3 +72,11 @@ role opcode.GROUPREF_LOC_IGNORE = ToRefer
 role opcode.GROUPREF_UNI_IGNORE = ToRefer
 role opcode.GROUPREF_EXISTS = ToAsk
 role _ = ToNothing
+
+-- whether it is that of tests
+abbrev pub is_test_role : Role → Bool
+is_test_role (ToTest kind) = true
+is_test_role _ = false
+
+abbrev pub begins_test : SreOpcode → Bool
+begins_test o = is_test_role (role o)

@@ -8,7 +8,7 @@ use Rattle.sre_chars.specs.Tables.{Table}
 use Rattle.sre_model.specs.Tree.{Fold}
 use Rattle.sre_model.specs.Characters.{folded}
 use Rattle.sre_model.specs.Grammar.{reference_opcode}
-use Rattle.sre_model.specs.Machine.{Run}
+use Rattle.sre_model.specs.Runs.{Run}
 use Rattle.sre_model.specs.Subject.{Subject, char_at, same_folded}
 use Rattle.sre_model.proofs.Passing.{stands_at_own}
 

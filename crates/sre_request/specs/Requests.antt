@@ -1,12 +1,11 @@
 -- What a request asks.
--- Public clauses rest on it; `run_of` is for the machine.
+-- Public clauses rest on it.
 use Rattle.std.specs.Prelude.{ℕ, Bool}
 use Rattle.sre_chars.specs.declared.constants.EmptyRule.{EmptyRule}
 use Rattle.sre_chars.specs.declared.string.StrDrive.{Ghosts}
 use Rattle.sre_chars.specs.declared.string.StringCursor.{StringCursor}
-use Rattle.sre_model.specs.Found.{Asked, subject_of, is_accepted}
-use Rattle.sre_model.specs.Machine.{Run}
-use Rattle.sre_code.specs.Codes.{items_of, uni_of}
+use Rattle.sre_model.specs.Found.{Asked}
+use Rattle.sre_code.specs.Codes.{uni_of}
 use Rattle.sre_code.specs.declared.code.Code.{Code}
 use Rattle.sre_request.specs.declared.request.Request.{Request}
 
@@ -47,12 +46,3 @@ asked_of {S} {text} r = record {
 -- which cursors stand at which position of a request's text
 abbrev pub stands_in : {S : Type 0} {text : Ghosts S} → Request S text → StringCursor → ℕ → Type 0
 stands_in {S} {text} r = text.stands r.string
-
--- a run of the machine for a request: over the words behind the block
-abbrev pub run_of : {S : Type 0} {text : Ghosts S} → Request S text → Run
-run_of r = record {
-  words = items_of r.pattern_codes;
-  subject = subject_of (asked_of r);
-  stands = stands_in r;
-  accepts = is_accepted (asked_of r);
-}

@@ -7,7 +7,7 @@ ghost use Rattle.sre_model.specs.Tree.{Test, Locale, SetItem};
 ghost use Rattle.sre_model.specs.Characters.{is_literal, in_set, holds};
 ghost use Rattle.sre_model.specs.Grammar.{Opcode};
 ghost use Rattle.sre_model.specs.Standing.{SetStands, HasSet, TestStands, HasTest};
-ghost use Rattle.sre_request.specs.Requests.{run_of};
+ghost use Rattle.sre_request.specs.Runs.{run_of};
 
 use crate::request::Request;
 use sre_chars::constants::SreOpcode;

@@ -6,7 +6,7 @@ ghost use Rattle.std.specs.Prelude.{◌≡◌, ◌+◌, nat_eq, ◌&&◌};
 ghost use Rattle.sre_chars.specs.Numbers.{category_number};
 ghost use Rattle.sre_chars.specs.Categories.{category, is_linebreak};
 ghost use Rattle.sre_model.specs.Subject.{before, after, is_on_nothing, bars_non_boundary, is_boundary, holds_at};
-ghost use Rattle.sre_request.specs.Requests.{run_of};
+ghost use Rattle.sre_request.specs.Runs.{run_of};
 
 use crate::request::Request;
 use sre_ascii::AsciiSet;

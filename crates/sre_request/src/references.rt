@@ -8,7 +8,8 @@ ghost use Rattle.sre_model.specs.Characters.{folded};
 ghost use Rattle.sre_model.specs.Subject.{same_folded};
 ghost use Rattle.sre_model.specs.Grammar.{reference_opcode};
 ghost use Rattle.sre_model.specs.Roles.{ToRefer, role};
-ghost use Rattle.sre_request.specs.Requests.{end_of, run_of};
+ghost use Rattle.sre_request.specs.Requests.{end_of};
+ghost use Rattle.sre_request.specs.Runs.{run_of};
 
 use crate::request::Request;
 use crate::text::{read, read_in_text};

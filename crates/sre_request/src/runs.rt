@@ -15,7 +15,8 @@ ghost use Rattle.sre_model.specs.CountedRuns.{Ended};
 ghost use Rattle.sre_model.specs.Ways.{most_from, run_length, longest_run};
 ghost use Rattle.sre_model.specs.Grammar.{Opcode};
 ghost use Rattle.sre_model.specs.Standing.{SetStands, TestStands, HasTest};
-ghost use Rattle.sre_request.specs.Requests.{end_of, run_of};
+ghost use Rattle.sre_request.specs.Requests.{end_of};
+ghost use Rattle.sre_request.specs.Runs.{run_of};
 ghost use Rattle.sre_request.specs.AsciiSets.{IsAsciiPart};
 
 use crate::one_character::{opcode, takes};

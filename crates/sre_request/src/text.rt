@@ -2,7 +2,8 @@
 
 ghost use Rattle.std.specs.Prelude.{◌≡◌, ◌+◌, ◌-◌, ◌<◌, ◌≤◌, length};
 ghost use Rattle.sre_model.specs.Subject.{char_at};
-ghost use Rattle.sre_request.specs.Requests.{end_of, run_of};
+ghost use Rattle.sre_request.specs.Requests.{end_of};
+ghost use Rattle.sre_request.specs.Runs.{run_of};
 
 use crate::request::Request;
 use sre_chars::string::{StrDrive, StringCursor};

@@ -4,7 +4,7 @@ ghost use Rattle.std.specs.Prelude.{◌≡◌};
 ghost use Rattle.sre_model.specs.Tree.{Tree};
 ghost use Rattle.sre_model.specs.Grammar.{WholeItems};
 ghost use Rattle.sre_model.specs.Anchors.{is_anchored};
-ghost use Rattle.sre_request.specs.Requests.{run_of};
+ghost use Rattle.sre_request.specs.Runs.{run_of};
 
 use sre_chars::constants::{SreAtCode, SreOpcode};
 use sre_chars::string::StrDrive;

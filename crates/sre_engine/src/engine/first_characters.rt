@@ -7,9 +7,9 @@ ghost use Rattle.sre_model.specs.Tree.{Tree, Trees};
 ghost use Rattle.sre_model.specs.Subject.{Subject};
 ghost use Rattle.sre_model.specs.Grammar.{Word, AreItems, ReadsBranch};
 ghost use Rattle.sre_model.specs.Standing.{HasTest};
-ghost use Rattle.sre_model.specs.Machine.{family, Testing};
 ghost use Rattle.sre_model.specs.FirstCharacters.{NoWay, NoneOf, NotPassed, Leads};
 ghost use Rattle.sre_model.specs.FirstCharacters.{TreeStands, HasTree, HasAlternatives};
+ghost use Rattle.sre_model.specs.Roles.{ToNothing, begins_test};
 ghost use Rattle.sre_engine.specs.Starts.{IsElsewhere, NotAmong, IsLacking, Bars, TestsThere};
 
 use sre_ascii::AsciiSet;
@@ -21,7 +21,7 @@ use std::convert::TryFrom;
 /// What is wanted of the character at a position.
 #[derive(Clone, Copy)]
 pub(crate) enum Wanted {
-    /// Nothing is known of it.
+    /// ToNothing is known of it.
     Anything,
     /// The test whose opcode is at a place of the words takes it.
     Test(usize),
@@ -172,7 +172,7 @@ fn wanted_at(words: &[u32], place: usize, alternatives: bool) -> Wanted
 
 /// Whether an opcode is that of a test of one character.
 pub(crate) fn is_test(opcode: SreOpcode) -> bool
-    ensures { result ≡ true → family opcode ≡ Testing }
+    ensures { result ≡ true → begins_test opcode ≡ true }
 {
     match opcode {
         SreOpcode::ANY

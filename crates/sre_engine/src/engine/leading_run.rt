@@ -8,7 +8,8 @@ ghost use Rattle.sre_model.specs.Tree.{Tree};
 ghost use Rattle.sre_model.specs.Grammar.{Word, Opcode, WholeItems};
 ghost use Rattle.sre_model.specs.Found.{at_start};
 ghost use Rattle.sre_model.specs.LeadingRuns.{RunStands};
-ghost use Rattle.sre_request.specs.Requests.{end_of, asked_of, run_of};
+ghost use Rattle.sre_request.specs.Requests.{end_of, asked_of};
+ghost use Rattle.sre_request.specs.Runs.{run_of};
 ghost use Rattle.sre_engine.specs.Starts.{NoneUntil};
 
 use crate::engine::first_characters::is_test;

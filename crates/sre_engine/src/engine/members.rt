@@ -5,7 +5,8 @@ ghost use Rattle.sre_model.specs.Tree.{SetItem};
 ghost use Rattle.sre_model.specs.Characters.{is_member};
 ghost use Rattle.sre_code.specs.AsciiSets.{AreTold};
 ghost use Rattle.sre_code.specs.Codes.{words_of, uni_of, hints_of};
-ghost use Rattle.sre_request.specs.Requests.{end_of, code_of, asked_of, run_of};
+ghost use Rattle.sre_request.specs.Requests.{end_of, code_of, asked_of};
+ghost use Rattle.sre_request.specs.Runs.{run_of};
 ghost use Rattle.sre_engine.specs.Members.{IsFirstSet, NextMember};
 
 use sre_ascii::AsciiSet;

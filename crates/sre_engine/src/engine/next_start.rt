@@ -1,7 +1,8 @@
 //! The starts at which a match may begin, as what has to come first tells: the others are passed with no run.
 
 ghost use Rattle.std.specs.Prelude.{◌≡◌, ◌-◌, ◌≤◌};
-ghost use Rattle.sre_request.specs.Requests.{end_of, run_of};
+ghost use Rattle.sre_request.specs.Requests.{end_of};
+ghost use Rattle.sre_request.specs.Runs.{run_of};
 ghost use Rattle.sre_engine.specs.Starts.{TestsThere, WantedFrom, NextStart, NextHeld};
 
 use crate::engine::first_characters::{First, Wanted};

@@ -8,7 +8,8 @@
 ghost use Rattle.std.specs.Prelude.{◌≡◌, ◌≢◌, ◌↔◌, ◌+◌, ◌-◌, ◌*◌, ◌^◌, ◌<◌, ◌≤◌, ℕ, length, true, false, IsTrue};
 ghost use Rattle.std.specs.Prelude.{slice_index, None, IfSome, not, ◌||◌, nat_eq};
 ghost use Rattle.sre_code.specs.Codes.{hints_of};
-ghost use Rattle.sre_request.specs.Requests.{start_of, end_of, code_of, match_all_of, run_of};
+ghost use Rattle.sre_request.specs.Requests.{start_of, end_of, code_of, match_all_of};
+ghost use Rattle.sre_request.specs.Runs.{run_of};
 ghost use Rattle.sre_engine.specs.Prefixed.{IsPrefix};
 ghost use Rattle.sre_engine.specs.Scans.{Overlapping, NoPlace, Here, GoesTo, FirstSame};
 

@@ -1,5 +1,5 @@
-use Rattle.sre_request.specs.Requests.{run_of}
-use Rattle.sre_model.proofs.StepsInBranches.{alternatives_there, alternatives_none, alternatives_both, positive}
+use Rattle.sre_request.specs.Runs.{run_of}
+use Rattle.sre_turns.proofs.StepsInBranches.{alternatives_there, alternatives_none, alternatives_both, positive}
 use Rattle.sre_machine.proofs.branches.alternatives_at_end.Goals as goal
 
 pub word_at-length-requires : goal.word_at-length-requires

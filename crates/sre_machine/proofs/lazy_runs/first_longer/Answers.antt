@@ -1,7 +1,7 @@
 use Rattle.std.proofs.Common.{arith}
-use Rattle.sre_request.specs.Requests.{run_of}
-use Rattle.sre_model.proofs.Moving.{both_skips, skips_then}
-use Rattle.sre_model.proofs.StepsInRuns.{longer_there}
+use Rattle.sre_request.specs.Runs.{run_of}
+use Rattle.sre_turns.proofs.Moving.{both_skips, skips_then}
+use Rattle.sre_turns.proofs.StepsInRuns.{longer_there}
 use Rattle.sre_machine.proofs.lazy_runs.first_longer.Goals as goal
 
 pub operand-greatest-requires : goal.operand-greatest-requires

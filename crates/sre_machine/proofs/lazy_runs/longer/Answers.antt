@@ -1,7 +1,7 @@
 use Rattle.std.proofs.Common.{◌+◌, ap, sym, arith}
-use Rattle.sre_request.specs.Requests.{run_of}
+use Rattle.sre_request.specs.Runs.{run_of}
 use Rattle.sre_model.proofs.Words.{word_of}
-use Rattle.sre_model.proofs.StepsInRuns.{longer_there}
+use Rattle.sre_turns.proofs.StepsInRuns.{longer_there}
 use Rattle.sre_machine.proofs.lazy_runs.longer.Goals as goal
 
 pub operand-skip-requires : goal.operand-skip-requires

@@ -1,8 +1,8 @@
 use Rattle.std.proofs.Common.{◌<◌, ◌-◌, arith}
 use Rattle.sre_model.specs.Tree.{LazyRun}
-use Rattle.sre_request.specs.Requests.{run_of}
-use Rattle.sre_model.proofs.Moving.{both_pass}
-use Rattle.sre_model.proofs.StepsInRuns.{run_there, lazy_cut, lazy_short, lazy_both, lazy_runs}
+use Rattle.sre_request.specs.Runs.{run_of}
+use Rattle.sre_turns.proofs.Moving.{both_pass}
+use Rattle.sre_turns.proofs.StepsInRuns.{run_there, lazy_cut, lazy_short, lazy_both, lazy_runs}
 use Rattle.sre_machine.proofs.lazy_runs.min_repeat_one.Goals as goal
 
 pub returns-then-saturating_sub-least : goal.returns-then-saturating_sub-least

@@ -1,10 +1,10 @@
 use Rattle.std.proofs.Common.{ap, sym, refl, ◌∙◌, Some, arith}
 use Rattle.sre_model.specs.Tree.{Greedy}
-use Rattle.sre_model.specs.MovesInLoops.{next_frame}
-use Rattle.sre_model.specs.Machine.{with_loop}
-use Rattle.sre_request.specs.Requests.{run_of}
-use Rattle.sre_model.proofs.StepsInLoops.{until_below, until_done, until_runs, until_refused, until_alone, until_greedy}
-use Rattle.sre_model.proofs.StepsInLoops.{saved_on, entered_on, until_operands}
+use Rattle.sre_turns.specs.MovesInLoops.{next_frame}
+use Rattle.sre_turns.specs.Machine.{with_loop}
+use Rattle.sre_request.specs.Runs.{run_of}
+use Rattle.sre_turns.proofs.StepsInLoops.{until_below, until_done, until_runs, until_refused, until_alone, until_greedy}
+use Rattle.sre_turns.proofs.StepsInLoops.{saved_on, entered_on, until_operands}
 use Rattle.sre_machine.proofs.loops.further.Goals as goal
 
 pub returns-then-frame-least : goal.returns-then-frame-least

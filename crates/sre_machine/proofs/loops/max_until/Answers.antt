@@ -1,9 +1,9 @@
 use Rattle.std.proofs.Common.{sym, subst}
-use Rattle.sre_model.specs.Board.{BoardValue}
-use Rattle.sre_model.specs.declared.Point.TheVariants.{Instruction}
-use Rattle.sre_model.specs.Machine.{IsAt, Goes}
-use Rattle.sre_request.specs.Requests.{run_of}
-use Rattle.sre_model.proofs.StepsInLoops.{taken_off}
+use Rattle.sre_turns.specs.Board.{BoardValue}
+use Rattle.sre_turns.specs.declared.Point.TheVariants.{Instruction}
+use Rattle.sre_turns.specs.Machine.{IsAt, Goes}
+use Rattle.sre_request.specs.Runs.{run_of}
+use Rattle.sre_turns.proofs.StepsInLoops.{taken_off}
 use Rattle.sre_machine.proofs.loops.max_until.Goals as goal
 
 pub further-requires-clause-stands : goal.further-requires-clause-stands

@@ -1,7 +1,7 @@
 use Rattle.std.proofs.Common.{◌-◌, refl}
-use Rattle.sre_model.specs.declared.Point.TheVariants.{Instruction, Alternatives, Shorter, Longer, Again}
-use Rattle.sre_request.specs.Requests.{run_of}
-use Rattle.sre_model.proofs.GoingBack.{back_none, back_at, back_region, later_again}
+use Rattle.sre_turns.specs.declared.Point.TheVariants.{Instruction, Alternatives, Shorter, Longer, Again}
+use Rattle.sre_request.specs.Runs.{run_of}
+use Rattle.sre_turns.proofs.GoingBack.{back_none, back_at, back_region, later_again}
 use Rattle.sre_machine.proofs.machine.back.Goals as goal
 
 pub returns-in-None : goal.returns-in-None

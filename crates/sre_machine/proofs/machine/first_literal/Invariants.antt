@@ -1,7 +1,7 @@
 use Rattle.std.proofs.Common.{ℕ, length, ◌-◌}
-use Rattle.sre_model.specs.declared.Point.TheVariants.{Instruction}
-use Rattle.sre_model.specs.Machine.{HasRun, Refuses}
-use Rattle.sre_request.specs.Requests.{run_of}
+use Rattle.sre_turns.specs.declared.Point.TheVariants.{Instruction}
+use Rattle.sre_turns.specs.Machine.{HasRun, Refuses}
+use Rattle.sre_request.specs.Runs.{run_of}
 use Rattle.sre_machine.proofs.machine.first_literal.Given as goal
 
 abbrev pub invariant-mark : goal.invariant-mark

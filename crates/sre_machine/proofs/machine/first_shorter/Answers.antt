@@ -1,11 +1,11 @@
 use Rattle.std.proofs.Common.{◌-◌, subst}
-use Rattle.sre_model.specs.declared.Point.TheVariants.{Instruction, Shorter}
-use Rattle.sre_model.specs.Machine.{SkipsBoth, Demands, DemandsAny}
-use Rattle.sre_request.specs.Requests.{run_of}
-use Rattle.sre_model.proofs.StepsInRuns.{shorter_none, shorter_past, shorter_skips}
-use Rattle.sre_model.proofs.StepsInBranches.{positive}
-use Rattle.sre_model.proofs.StepsAtItems.{other_character}
-use Rattle.sre_model.proofs.Moving.{both_skips}
+use Rattle.sre_turns.specs.declared.Point.TheVariants.{Instruction, Shorter}
+use Rattle.sre_turns.specs.Machine.{SkipsBoth, Demands, DemandsAny}
+use Rattle.sre_request.specs.Runs.{run_of}
+use Rattle.sre_turns.proofs.StepsInRuns.{shorter_none, shorter_past, shorter_skips}
+use Rattle.sre_turns.proofs.StepsInBranches.{positive}
+use Rattle.sre_turns.proofs.StepsAtItems.{other_character}
+use Rattle.sre_turns.proofs.Moving.{both_skips}
 use Rattle.sre_machine.proofs.machine.first_shorter.Goals as goal
 
 pub returns-then-count-eq0 : goal.returns-then-count-eq0

@@ -1,6 +1,6 @@
-use Rattle.sre_model.specs.declared.Point.TheVariants.{Shorter}
-use Rattle.sre_model.specs.Machine.{HasRun, Skips}
-use Rattle.sre_request.specs.Requests.{run_of}
+use Rattle.sre_turns.specs.declared.Point.TheVariants.{Shorter}
+use Rattle.sre_turns.specs.Machine.{HasRun, Skips}
+use Rattle.sre_request.specs.Runs.{run_of}
 use Rattle.sre_machine.proofs.machine.first_shorter.Given as goal
 
 abbrev pub invariant-count : goal.invariant-count

@@ -1,5 +1,5 @@
-use Rattle.sre_request.specs.Requests.{run_of}
-use Rattle.sre_model.proofs.Moving.{reached_within}
+use Rattle.sre_request.specs.Runs.{run_of}
+use Rattle.sre_turns.proofs.Moving.{reached_within}
 use Rattle.sre_machine.proofs.machine.opcode.Goals as goal
 
 pub word_at-requires : goal.word_at-requires

@@ -1,8 +1,8 @@
 use Rattle.std.proofs.Common.{arith}
 use Rattle.sre_model.specs.Tree.{GreedyRun}
-use Rattle.sre_request.specs.Requests.{run_of}
-use Rattle.sre_model.proofs.StepsInRuns.{run_there, run_short, run_both, run_runs, run_only}
-use Rattle.sre_model.proofs.Moving.{both_pass, both_exhausted, exhausted_back}
+use Rattle.sre_request.specs.Runs.{run_of}
+use Rattle.sre_turns.proofs.StepsInRuns.{run_there, run_short, run_both, run_runs, run_only}
+use Rattle.sre_turns.proofs.Moving.{both_pass, both_exhausted, exhausted_back}
 use Rattle.sre_machine.proofs.machine.repeat_one.Goals as goal
 
 pub operand-skip-requires : goal.operand-skip-requires

@@ -1,5 +1,5 @@
-use Rattle.sre_request.specs.Requests.{run_of}
-use Rattle.sre_model.proofs.StepsInRuns.{shorter_last}
+use Rattle.sre_request.specs.Runs.{run_of}
+use Rattle.sre_turns.proofs.StepsInRuns.{shorter_last}
 use Rattle.sre_machine.proofs.machine.shorter.Goals as goal
 
 pub returns-then-found-eq0 : goal.returns-then-found-eq0

@@ -1,6 +1,6 @@
-use Rattle.sre_request.specs.Requests.{run_of}
-use Rattle.sre_model.proofs.StepsInRuns.{shorter_none, shorter_past, shorter_skips}
-use Rattle.sre_model.proofs.StepsInBranches.{positive}
+use Rattle.sre_request.specs.Runs.{run_of}
+use Rattle.sre_turns.proofs.StepsInRuns.{shorter_none, shorter_past, shorter_skips}
+use Rattle.sre_turns.proofs.StepsInBranches.{positive}
 use Rattle.sre_machine.proofs.machine.shorter_again.Goals as goal
 
 pub returns-then-count-eq0 : goal.returns-then-count-eq0

@@ -1,7 +1,7 @@
 use Rattle.std.proofs.Common.{arith}
 use Rattle.sre_model.specs.Tree.{PossessiveRun}
-use Rattle.sre_request.specs.Requests.{run_of}
-use Rattle.sre_model.proofs.StepsInRuns.{run_there, longest_short, longest_step}
+use Rattle.sre_request.specs.Runs.{run_of}
+use Rattle.sre_turns.proofs.StepsInRuns.{run_there, longest_short, longest_step}
 use Rattle.sre_machine.proofs.possessive_runs.possessive_repeat_one.Goals as goal
 
 pub operand-skip-requires : goal.operand-skip-requires

@@ -1,7 +1,7 @@
 use Rattle.std.proofs.Common.{sym, subst}
-use Rattle.sre_model.specs.Machine.{Closes}
-use Rattle.sre_request.specs.Requests.{run_of}
-use Rattle.sre_model.proofs.StepsInRegions.{region_closes}
+use Rattle.sre_turns.specs.Machine.{Closes}
+use Rattle.sre_request.specs.Runs.{run_of}
+use Rattle.sre_turns.proofs.StepsInRegions.{region_closes}
 use Rattle.sre_machine.proofs.regions.end.Goals as goal
 
 pub returns : goal.returns

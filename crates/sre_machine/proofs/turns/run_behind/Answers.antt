@@ -2,8 +2,8 @@ use Rattle.std.proofs.Common.{◌≡◌, ◌∙◌, ap, subst, ℕ, List}
 use Rattle.sre_code.specs.Codes.{items_of}
 use Rattle.sre_model.specs.Standing.{AreWords}
 use Rattle.sre_model.specs.Prefixes.{behind_items}
-use Rattle.sre_request.specs.Requests.{run_of}
-use Rattle.sre_model.proofs.Start.{started}
+use Rattle.sre_request.specs.Runs.{run_of}
+use Rattle.sre_turns.proofs.Start.{started}
 use Rattle.sre_code.proofs.Checked.{whole_of}
 use Rattle.sre_model.proofs.TreeOf.{tree_of, whole-read}
 use Rattle.sre_machine.proofs.turns.run_behind.Goals as goal

@@ -1,8 +1,8 @@
 use Rattle.std.proofs.Common.{◌-◌, sym, subst}
-use Rattle.sre_model.specs.Machine.{Backs}
-use Rattle.sre_model.specs.declared.Next.TheVariants as next
-use Rattle.sre_request.specs.Requests.{run_of}
-use Rattle.sre_model.proofs.Start.{accepted_first, refused_over, one_turn}
+use Rattle.sre_turns.specs.Machine.{Backs}
+use Rattle.sre_turns.specs.declared.Next.TheVariants as next
+use Rattle.sre_request.specs.Runs.{run_of}
+use Rattle.sre_turns.proofs.Start.{accepted_first, refused_over, one_turn}
 use Rattle.sre_machine.proofs.turns.turns.Goals as goal
 
 pub returns-then-is_accepted : goal.returns-then-is_accepted

@@ -1,6 +1,6 @@
 use Rattle.std.proofs.Common.{◌-◌}
-use Rattle.sre_model.specs.Machine.{Stands}
-use Rattle.sre_request.specs.Requests.{run_of}
+use Rattle.sre_turns.specs.Machine.{Stands}
+use Rattle.sre_request.specs.Runs.{run_of}
 use Rattle.sre_machine.proofs.turns.turns.Given as goal
 
 abbrev pub invariant-turn : goal.invariant-turn

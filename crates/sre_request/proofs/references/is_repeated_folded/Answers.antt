@@ -1,6 +1,6 @@
 use Rattle.std.proofs.Common.{◌∙◌, ap}
 use Rattle.sre_code.specs.declared.code.Code.{Code}
-use Rattle.sre_request.specs.Requests.{run_of}
+use Rattle.sre_request.specs.Runs.{run_of}
 use Rattle.sre_request.proofs.Repeating.{repeated_more, repeated_not}
 use Rattle.sre_request.proofs.references.is_repeated_folded.Goals as goal
 

@@ -1,5 +1,5 @@
 use Rattle.std.proofs.Common.{◌-◌}
-use Rattle.sre_request.specs.Requests.{run_of}
+use Rattle.sre_request.specs.Runs.{run_of}
 use Rattle.sre_request.proofs.Repeating.{Repeated}
 use Rattle.sre_request.proofs.references.is_repeated_folded.Given as goal
 

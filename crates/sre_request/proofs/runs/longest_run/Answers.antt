@@ -1,5 +1,5 @@
 use Rattle.std.proofs.Common.{arith}
-use Rattle.sre_request.specs.Requests.{run_of}
+use Rattle.sre_request.specs.Runs.{run_of}
 use Rattle.sre_model.proofs.CountingRuns.{most_left}
 use Rattle.sre_request.proofs.runs.longest_run.Goals as goal
 

@@ -1,5 +1,5 @@
 use Rattle.std.proofs.Common.{not, nat_eq}
-use Rattle.sre_request.specs.Requests.{run_of}
+use Rattle.sre_request.specs.Runs.{run_of}
 use Rattle.sre_model.proofs.CountingRuns.{counted_more}
 use Rattle.sre_request.proofs.runs.run_while.Goals as goal
 

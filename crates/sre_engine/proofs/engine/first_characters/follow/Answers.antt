@@ -8,8 +8,9 @@ use Rattle.sre_model.specs.Tree.{Tree}
 use Rattle.sre_model.specs.Subject.{Subject}
 use Rattle.sre_model.specs.Grammar.{Word, Opcode}
 use Rattle.sre_model.specs.FirstCharacters.{NoWay, TreeStands, Leads}
-use Rattle.sre_model.proofs.Families.{OfMark, OfAtomic, OfAt, OfLoop, OfPossessiveLoop, kind_of, HasKind}
-use Rattle.sre_model.proofs.FirstCharacters.{leads_start, leads_tree, leads_further, tree_within, kind_here}
+use Rattle.sre_model.specs.Roles.{ToStand, ToMark, ToRepeat, ToRepeatPossessively, ToGroup, role}
+use Rattle.sre_model.proofs.Families.{HasRole, role_here}
+use Rattle.sre_model.proofs.FirstCharacters.{leads_start, leads_tree, leads_further, tree_within}
 use Rattle.sre_model.proofs.FirstCharacters.{mark_leads, atomic_leads, look_operand, look_leads, at_operand, at_leads}
 use Rattle.sre_model.proofs.FirstCharacters.{at_bars_there, body_operand, body_leads}
 use Rattle.sre_engine.specs.Starts.{IsElsewhere}
@@ -27,7 +28,7 @@ item-preserved-in-MARK c =
     let ws = c.args.words.now in
     let code : Opcode ws c.item.reached.place opcode.MARK = search rules in
     let further = leads_further ws _ _ _ c.item.invariant.leads _ 0 c.item.reached.back
-    (λ u stands. mark_leads ws u _ stands (kind_here _ _ opcode.MARK OfMark code refl)) (omega arith) in
+    (λ u stands. mark_leads ws u _ stands (role_here _ _ opcode.MARK ToMark code refl)) (omega arith) in
     record {
       within = tree_within ws _ (leads_tree ws _ _ _ further c.requires);
       leads = further;
@@ -39,7 +40,7 @@ item-preserved-in-ATOMIC_GROUP c =
     let ws = c.args.words.now in
     let code : Opcode ws c.item.reached.place opcode.ATOMIC_GROUP = search rules in
     let further = leads_further ws _ _ _ c.item.invariant.leads _ 0 c.item.reached.back
-    (λ u stands. atomic_leads ws u _ stands (kind_here _ _ opcode.ATOMIC_GROUP OfAtomic code refl)) (omega arith) in
+    (λ u stands. atomic_leads ws u _ stands (role_here _ _ opcode.ATOMIC_GROUP ToGroup code refl)) (omega arith) in
     record {
       within = tree_within ws _ (leads_tree ws _ _ _ further c.requires);
       leads = further;
@@ -70,11 +71,11 @@ first_position-reached-requires c =
     let ws = c.args.words.now in
     let code : Opcode ws c.item.reached.place opcode.AT = search rules in
     let here = leads_tree ws _ _ _ c.item.invariant.leads c.requires in
-    at_operand ws here.tree _ here.stands (kind_here _ _ opcode.AT OfAt code refl)
+    at_operand ws here.tree _ here.stands (role_here _ _ opcode.AT ToStand code refl)
 
 -- what the position code that is kept rules out
 position_bars : (ws : List ℕ) (start i far : ℕ) (before code : Option SreAtCode)
-    (l : (t : Tree) → TreeStands ws start t → Leads ws t i far) → HasKind ws i OfAt
+    (l : (t : Tree) → TreeStands ws start t → Leads ws t i far) → HasRole ws i ToStand
     → ((t : Tree) → TreeStands ws start t → (s : Subject) (p : ℕ) → IsElsewhere s before p → NoWay s t p)
     → (code ≡ before) ⊎ ((far ≡ 0) × IfSome code (λ a. Word ws (i + 1) (at_number a))) → (t : Tree)
     → TreeStands ws start t → (s : Subject) (p : ℕ) → IsElsewhere s code p → NoWay s t p
@@ -88,7 +89,7 @@ pub item-preserved-in-AT : goal.item-preserved-in-AT
 item-preserved-in-AT c =
     let ws = c.args.words.now in
     let code : Opcode ws c.item.reached.place opcode.AT = search rules in
-    let here = kind_here _ _ opcode.AT OfAt code refl in
+    let here = role_here _ _ opcode.AT ToStand code refl in
     let further = leads_further ws _ _ _ c.item.invariant.leads _ 0 c.item.reached.back
     (λ u stands. at_leads ws u _ stands here) (omega arith) in
     record {
@@ -100,9 +101,9 @@ item-preserved-in-AT c =
     }
 
 loop_here : (ws : List ℕ) (i : ℕ) (o : SreOpcode) → Opcode ws i o
-    → (o ≡ opcode.REPEAT) ⊎ (o ≡ opcode.POSSESSIVE_REPEAT) → HasKind ws i OfLoop ⊎ HasKind ws i OfPossessiveLoop
-loop_here ws i o w (inl e) = inl (kind_here ws i o OfLoop w (ap kind_of e))
-loop_here ws i o w (inr e) = inr (kind_here ws i o OfPossessiveLoop w (ap kind_of e))
+    → (o ≡ opcode.REPEAT) ⊎ (o ≡ opcode.POSSESSIVE_REPEAT) → HasRole ws i ToRepeat ⊎ HasRole ws i ToRepeatPossessively
+loop_here ws i o w (inl e) = inl (role_here ws i o ToRepeat w (ap role e))
+loop_here ws i o w (inr e) = inr (role_here ws i o ToRepeatPossessively w (ap role e))
 
 pub operand-requires : goal.operand-requires
 operand-requires c =

@@ -1,8 +1,8 @@
 use Rattle.std.proofs.Common.{Option, subst}
 use Rattle.sre_chars.specs.declared.string.StringCursor.{StringCursor}
-use Rattle.sre_model.specs.Machine.{Decides, outcomes}
+use Rattle.sre_turns.specs.Machine.{Decides, outcomes}
 use Rattle.sre_model.specs.Prefixes.{behind_items}
-use Rattle.sre_request.specs.Requests.{run_of}
+use Rattle.sre_request.specs.Runs.{run_of}
 use Rattle.sre_code.proofs.Checked.{items_whole}
 use Rattle.sre_engine.proofs.engine.state.attempt.Goals as goal
 

@@ -1,6 +1,7 @@
 use Rattle.std.proofs.Common.{refl, subst, arith, rules}
 use Rattle.sre_code.specs.Codes.{words_of, hints_of}
-use Rattle.sre_request.specs.Requests.{code_of, asked_of, stands_in, run_of}
+use Rattle.sre_request.specs.Requests.{code_of, asked_of, stands_in}
+use Rattle.sre_request.specs.Runs.{run_of}
 use Rattle.sre_engine.specs.Starts.{NoneUntil}
 use Rattle.sre_engine.proofs.Answering.{answers_yes, answers_no, none_at, some_at, span_at, found_first}
 use Rattle.sre_engine.proofs.LeadingStarts.{none_joined, found_none_behind}

@@ -3,9 +3,10 @@ use Rattle.sre_model.specs.Tree.{Tree}
 use Rattle.sre_model.specs.Found.{at_start}
 use Rattle.sre_model.specs.Marks.{no_marks}
 use Rattle.sre_model.specs.Grammar.{Whole}
-use Rattle.sre_model.specs.Board.{bare}
+use Rattle.sre_turns.specs.Board.{bare}
 use Rattle.sre_code.specs.Codes.{words_of}
-use Rattle.sre_request.specs.Requests.{start_of, end_of, code_of, asked_of, run_of}
+use Rattle.sre_request.specs.Requests.{start_of, end_of, code_of, asked_of}
+use Rattle.sre_request.specs.Runs.{run_of}
 use Rattle.sre_engine.specs.Prefixed.{FitsAt}
 use Rattle.sre_engine.specs.Starts.{Bars}
 use Rattle.sre_engine.proofs.Answering.{NoneBefore}

@@ -5,7 +5,8 @@ use Rattle.sre_model.specs.Grammar.{Reads}
 use Rattle.sre_model.specs.Found.{subject_of}
 use Rattle.sre_model.specs.Prefixes.{stands_at, how_many, behind_items}
 use Rattle.sre_code.specs.Codes.{words_of, items_of, hints_of}
-use Rattle.sre_request.specs.Requests.{code_of, asked_of, stands_in, run_of}
+use Rattle.sre_request.specs.Requests.{code_of, asked_of, stands_in}
+use Rattle.sre_request.specs.Runs.{run_of}
 use Rattle.sre_engine.specs.Scans.{Stands, NoPlace}
 use Rattle.sre_engine.proofs.Answering.{answers_yes, answers_no, none_at, some_at, span_at, found_first}
 use Rattle.sre_engine.proofs.Answering.{NoneBefore}

@@ -2,11 +2,12 @@ use Rattle.std.proofs.Common.{◌≡◌, ◌≤◌, ◌+◌, ◌-◌, ℕ, Some}
 use Rattle.sre_model.specs.Tree.{Tree}
 use Rattle.sre_model.specs.Marks.{no_marks}
 use Rattle.sre_model.specs.Grammar.{Whole}
-use Rattle.sre_model.specs.Board.{bare}
+use Rattle.sre_turns.specs.Board.{bare}
 use Rattle.sre_model.specs.Found.{subject_of}
 use Rattle.sre_model.specs.Prefixes.{stands_at, how_many}
 use Rattle.sre_code.specs.Codes.{words_of, hints_of}
-use Rattle.sre_request.specs.Requests.{start_of, end_of, code_of, asked_of, run_of}
+use Rattle.sre_request.specs.Requests.{start_of, end_of, code_of, asked_of}
+use Rattle.sre_request.specs.Runs.{run_of}
 use Rattle.sre_engine.specs.Scans.{Here}
 use Rattle.sre_engine.proofs.Answering.{NoneBefore}
 use Rattle.sre_engine.proofs.engine.state.State.search_places.Given as goal

@@ -1,7 +1,8 @@
 use Rattle.std.proofs.Common.{◌≡◌, ℕ, List, refl, ap, ◌∙◌}
 use Rattle.std.proofs.Common.{subst, arith, rules}
 use Rattle.sre_code.specs.Codes.{words_of, items_of, hints_of}
-use Rattle.sre_request.specs.Requests.{start_of, code_of, asked_of, stands_in, run_of}
+use Rattle.sre_request.specs.Requests.{start_of, code_of, asked_of, stands_in}
+use Rattle.sre_request.specs.Runs.{run_of}
 use Rattle.sre_engine.specs.Prefixed.{FitsAt}
 use Rattle.sre_engine.specs.Starts.{Bars}
 use Rattle.sre_engine.proofs.Answering.{answers_yes, answers_no, none_at, some_at, span_at, found_first}

@@ -2,7 +2,7 @@ use Rattle.std.proofs.Common.{◌≡◌, ◌≤◌, ◌+◌, ◌-◌, ◌||◌, 
 use Rattle.std.proofs.Common.{length, refl, sym, ap, ◌∙◌, subst, arith, rules}
 use Rattle.sre_chars.specs.declared.string.StringCursor.{StringCursor}
 use Rattle.sre_model.specs.Marks.{Marks, no_marks}
-use Rattle.sre_model.specs.Board.{BoardValue}
+use Rattle.sre_turns.specs.Board.{BoardValue}
 use Rattle.sre_model.specs.Found.{at_start}
 use Rattle.sre_request.specs.Requests.{code_of, asked_of, stands_in}
 use Rattle.sre_engine.specs.Scans.{Stands}

@@ -3,10 +3,10 @@
 use Rattle.std.specs.Prelude.{◌≡◌, List, [], ◌∷◌}
 use Rattle.sre_chars.specs.declared.string.StringCursor.{StringCursor}
 use Rattle.sre_model.specs.Marks.{Marks}
-use Rattle.sre_model.specs.declared.Frame.{Frame}
-use Rattle.sre_model.specs.declared.Point.{Point}
-use Rattle.sre_model.specs.declared.Point.TheVariants.{Inside}
-use Rattle.sre_model.specs.declared.Region.{Region}
+use Rattle.sre_turns.specs.declared.Frame.{Frame}
+use Rattle.sre_turns.specs.declared.Point.{Point}
+use Rattle.sre_turns.specs.declared.Point.TheVariants.{Inside}
+use Rattle.sre_turns.specs.declared.Region.{Region}
 
 -- what is still to be tried: another point, under other loops and marks; or what comes of a region, whose body is in
 -- progress, and which was entered under those loops and marks

@@ -5,11 +5,11 @@ use Rattle.std.specs.Prelude.{ℕ, ◌+◌, ◌≡◌, ◌<◌, length, min, con
 use Rattle.sre_model.specs.Tree.{Order, Greedy, Lazy}
 use Rattle.sre_model.specs.Ways.{unlimited, may_repeat}
 use Rattle.sre_model.specs.Grammar.{Word, skip}
-use Rattle.sre_model.specs.declared.Frame.{Frame}
-use Rattle.sre_model.specs.declared.Point.TheVariants.{Instruction}
-use Rattle.sre_model.specs.declared.Region.{Region}
-use Rattle.sre_model.specs.declared.Region.TheVariants.{Owed, Further}
-use Rattle.sre_model.specs.Moves.{Spot, Move, Go, Split, Enter}
+use Rattle.sre_turns.specs.declared.Frame.{Frame}
+use Rattle.sre_turns.specs.declared.Point.TheVariants.{Instruction}
+use Rattle.sre_turns.specs.declared.Region.{Region}
+use Rattle.sre_turns.specs.declared.Region.TheVariants.{Owed, Further}
+use Rattle.sre_turns.specs.Moves.{Spot, Move, Go, Split, Enter}
 
 -- a loop that has had no body
 abbrev pub first_frame : ℕ → Frame

@@ -6,8 +6,8 @@ use Rattle.sre_model.specs.Tree.{Fold}
 use Rattle.sre_model.specs.Marks.{Marks, group}
 use Rattle.sre_model.specs.Subject.{Subject, same_folded}
 use Rattle.sre_model.specs.Grammar.{Word, word, Opcode, reference_opcode}
-use Rattle.sre_model.specs.declared.Point.TheVariants.{Instruction}
-use Rattle.sre_model.specs.Moves.{Spot, to_point, to_place, Move, Stop, Go}
+use Rattle.sre_turns.specs.declared.Point.TheVariants.{Instruction}
+use Rattle.sre_turns.specs.Moves.{Spot, to_point, to_place, Move, Stop, Go}
 
 -- what comes of a reference whose tail is at t: nothing of a group that is missing
 abbrev pub reference_turn : Subject → Fold → ℕ → ℕ → Spot → Move

@@ -6,51 +6,26 @@ use Rattle.std.proofs.lemmas.Bool.Decides.{nat_tests}
 use Rattle.sre_chars.specs.Numbers.{at_number}
 use Rattle.sre_chars.specs.declared.constants.SreAtCode.{SreAtCode}
 use Rattle.sre_chars.specs.declared.constants.SreOpcode.TheVariants as opcode
-use Rattle.sre_model.specs.Tree.{One, At, Mark, Test, Any, AnyAll, InCategory, Literal, NotLiteral, In, Fold, Plain}
-use Rattle.sre_model.specs.Tree.{Ascii, Locale, Unicode}
+use Rattle.sre_model.specs.Tree.{One, At, Mark, Test}
 use Rattle.sre_model.specs.Marks.{Marks, set_mark}
 use Rattle.sre_model.specs.Subject.{Subject, passes, holds_at}
 use Rattle.sre_model.specs.Ways.{Way, Body, here, item_ways}
-use Rattle.sre_model.specs.Grammar.{Word, Opcode, skip, JumpsTo, literal_opcode, not_literal_opcode, set_opcode}
+use Rattle.sre_model.specs.Grammar.{Word, Opcode, skip, JumpsTo}
 use Rattle.sre_model.specs.Grammar.{test_opcode, TestOperands}
-use Rattle.sre_model.specs.declared.Frame.{Frame}
-use Rattle.sre_model.specs.declared.Point.TheVariants.{Instruction, Alternatives}
+use Rattle.sre_turns.specs.declared.Frame.{Frame}
+use Rattle.sre_turns.specs.declared.Point.TheVariants.{Instruction, Alternatives}
 use Rattle.sre_model.specs.Standing.{TestStands}
-use Rattle.sre_model.specs.Moves.{spot_at, Stop, Go, Split}
-use Rattle.sre_model.specs.Machine.{family, Testing, Standing, Marking, Jumping, Runs, turns, stops, goes, splits}
-use Rattle.sre_model.proofs.Moving.{at_instruction}
+use Rattle.sre_turns.specs.Moves.{spot_at, Stop, Go, Split}
+use Rattle.sre_turns.specs.Machine.{Runs, turns, stops, goes, splits}
+use Rattle.sre_model.specs.Roles.{ToTest, ToStand, ToMark, ToJump}
+use Rattle.sre_model.proofs.Families.{test_kind, test_role}
+use Rattle.sre_turns.proofs.Moving.{at_instruction}
 use Rattle.sre_model.proofs.Words.{word_past}
-use Rattle.sre_model.proofs.Cost.{Costs, item_cost}
-use Rattle.sre_model.proofs.Outcomes.{followed, Ran, moved, alone}
+use Rattle.sre_turns.proofs.Cost.{Costs, item_cost}
+use Rattle.sre_turns.proofs.Outcomes.{followed, Ran, moved, alone}
 
 pub passes-below : (s : Subject) (t : Test) (p : ℕ) → passes s t p ≡ true → p < s.end
 passes-below s t p h = grind (arith, nat_tests)
-
-literal-family : (f : Fold) → family (literal_opcode f) ≡ Testing
-literal-family Plain = refl
-literal-family Ascii = refl
-literal-family Locale = refl
-literal-family Unicode = refl
-
-not_literal-family : (f : Fold) → family (not_literal_opcode f) ≡ Testing
-not_literal-family Plain = refl
-not_literal-family Ascii = refl
-not_literal-family Locale = refl
-not_literal-family Unicode = refl
-
-set-family : (f : Fold) → family (set_opcode f) ≡ Testing
-set-family Plain = refl
-set-family Ascii = refl
-set-family Locale = refl
-set-family Unicode = refl
-
-pub test-family : (t : Test) → family (test_opcode t) ≡ Testing
-test-family Any = refl
-test-family AnyAll = refl
-test-family (InCategory c) = refl
-test-family (Literal f v) = literal-family f
-test-family (NotLiteral f v) = not_literal-family f
-test-family (In f set) = set-family f
 
 pub one-ran : (ws : List ℕ) (s : Subject) (i j : ℕ) (t : Test) → Opcode ws i (test_opcode t) → TestOperands ws i j t
     → Ran ws s (Instruction i) j (λ p m. item_ways s (One t) p m) (λ C p m. item_cost s (One t) C p m)
@@ -63,11 +38,12 @@ one-ran ws s i j t w h fs K C p m e f = go (passes s t p) refl
         → Runs ws s (spot_at (Instruction i) fs p m) (followed K (cond y (here (p + 1) m) []))
         (cond y (suc (C (p + 1) m)) 1)
     go true y =
-        turns (Go (spot_at (Instruction j) fs (p + 1) m)) (at_instruction (test_opcode t) Testing (test-family t) w
+        turns (Go (spot_at (Instruction j) fs (p + 1) m))
+        (at_instruction (test_opcode t) (ToTest (test_kind t)) (test_role t) w
         (record { end = j; test = t; stands = st; is = rw y refl }))
         (goes (alone (f (p + 1) m (omega arith) (omega (arith, passes-below s t p y)))))
     go false y =
-        turns Stop (at_instruction (test_opcode t) Testing (test-family t) w
+        turns Stop (at_instruction (test_opcode t) (ToTest (test_kind t)) (test_role t) w
         (record { end = j; test = t; stands = st; is = rw y refl })) stops
 
 pub at-ran : (ws : List ℕ) (s : Subject) (i j : ℕ) (a : SreAtCode) → Opcode ws i opcode.AT
@@ -79,10 +55,10 @@ at-ran ws s i j a w h l fs K C p m e f = go (holds_at s a p) refl
         → Runs ws s (spot_at (Instruction i) fs p m) (followed K (cond y (here p m) [])) (cond y (suc (C p m)) 1)
     go true y =
         turns (Go (spot_at (Instruction (i + 2)) fs p m))
-        (at_instruction opcode.AT Standing refl w (record { code = a; there = h; is = rw y refl }))
+        (at_instruction opcode.AT ToStand refl w (record { code = a; there = h; is = rw y refl }))
         (goes (moved l (alone (f p m (omega arith) e))))
     go false y =
-        turns Stop (at_instruction opcode.AT Standing refl w (record { code = a; there = h; is = rw y refl })) stops
+        turns Stop (at_instruction opcode.AT ToStand refl w (record { code = a; there = h; is = rw y refl })) stops
 
 -- an alternative, and those behind it
 pub alternative-ran : (ws : List ℕ) (s : Subject) (q v n₁ n₂ : ℕ) (fs : List Frame) (p : ℕ) (m : Marks)
@@ -116,7 +92,7 @@ pub jump-ran : (ws : List ℕ) (s : Subject) (k j : ℕ) → k + 1 < j → Jumps
     → Runs ws s (spot_at (Instruction j) fs q m) (K q m) (C q m)
     → Runs ws s (spot_at (Instruction k) fs q m) (K q m) (suc (C q m))
 jump-ran ws s k j l h fs K C q m r =
-    turns (Go (spot_at (Instruction j) fs q m)) (at_instruction opcode.JUMP Jumping refl h.0 (record {
+    turns (Go (spot_at (Instruction j) fs q m)) (at_instruction opcode.JUMP ToJump refl h.0 (record {
       there = skip_there ws (k + 1) (omega (arith, h.1));
       is = rw (← h.1) refl;
     })) (goes r)
@@ -125,5 +101,5 @@ pub mark-ran : (ws : List ℕ) (s : Subject) (i j n : ℕ) → Opcode ws i opcod
     → Ran ws s (Instruction i) j (λ p m. item_ways s (Mark n) p m) (λ C p m. item_cost s (Mark n) C p m)
 mark-ran ws s i j n w h l fs K C p m e f =
     turns (Go (spot_at (Instruction (i + 2)) fs p (set_mark m n p)))
-    (at_instruction opcode.MARK Marking refl w (record { number = n; there = h; is = refl }))
+    (at_instruction opcode.MARK ToMark refl w (record { number = n; there = h; is = refl }))
     (goes (moved l (alone (f p (set_mark m n p) (omega arith) e))))

@@ -8,17 +8,18 @@ use Rattle.sre_model.specs.Marks.{Marks}
 use Rattle.sre_model.specs.Subject.{Subject}
 use Rattle.sre_model.specs.Ways.{Body, run_length, longest_run, falling, rising, run_ways}
 use Rattle.sre_model.specs.Grammar.{Word, Opcode, skip, test_opcode, TestOperands}
-use Rattle.sre_model.specs.declared.Frame.{Frame}
-use Rattle.sre_model.specs.declared.Point.TheVariants.{Instruction, Shorter, Longer}
+use Rattle.sre_turns.specs.declared.Frame.{Frame}
+use Rattle.sre_turns.specs.declared.Point.TheVariants.{Instruction, Shorter, Longer}
 use Rattle.sre_model.specs.Standing.{TestStands}
-use Rattle.sre_model.specs.Moves.{Spot, spot_at, Stop, Split, Go}
-use Rattle.sre_model.specs.MovesInRuns.{RunOperands}
-use Rattle.sre_model.specs.Machine.{Running, Moves, Runs, turns, stops, splits, goes}
-use Rattle.sre_model.proofs.Moving.{at_instruction}
+use Rattle.sre_turns.specs.Moves.{Spot, spot_at, Stop, Split, Go}
+use Rattle.sre_turns.specs.MovesInRuns.{RunOperands}
+use Rattle.sre_turns.specs.Machine.{Moves, Runs, turns, stops, splits, goes}
+use Rattle.sre_model.specs.Roles.{ToRun}
+use Rattle.sre_turns.proofs.Moving.{at_instruction}
 use Rattle.sre_model.proofs.Bounds.{longest_run-fits}
 use Rattle.sre_model.proofs.Longest.{goes_on, longest_goes_on, longest_stops, least_there, least_short}
-use Rattle.sre_model.proofs.Cost.{Costs, shorter_cost, run_cost, longer_cost, lazy_run_cost, longest_run_cost}
-use Rattle.sre_model.proofs.Outcomes.{followed, Follows, Ran, alone}
+use Rattle.sre_turns.proofs.Cost.{Costs, shorter_cost, run_cost, longer_cost, lazy_run_cost, longest_run_cost}
+use Rattle.sre_turns.proofs.Outcomes.{followed, Follows, Ran, alone}
 
 shorter-ran : (ws : List ℕ) (s : Subject) (j low n : ℕ) (fs : List Frame) (K : Body) (C : Costs) (p : ℕ) (m : Marks)
     → p + (low + n) ≤ s.end → Follows ws s p (Instruction j) fs K C
@@ -56,7 +57,7 @@ run-ran ws s i j low high t w tail wl wh wt h fs K C p m e f = go (nat_lt (longe
     go true y =
         let l : k < low = grind (arith, nat_tests) in let z : k + 1 - low ≡ 0 = omega arith in
         let move : Moves ws s (spot_at (Instruction i) fs p m) Stop =
-        at_instruction opcode.REPEAT_ONE (Running GreedyRun) refl w (record {
+        at_instruction opcode.REPEAT_ONE (ToRun GreedyRun) refl w (record {
           low = low;
           high = high;
           end = j - 1;
@@ -75,7 +76,7 @@ run-ran ws s i j low high t w tail wl wh wt h fs K C p m e f = go (nat_lt (longe
         rw b at (shorter-ran ws s j low (k - low) fs K C p m (omega (arith, fits)) f) in
         let move : Moves ws s (spot_at (Instruction i) fs p m)
         (Split (spot_at (Instruction j) fs (p + k) m) (spot_at (Shorter j (k - low)) fs (p + k) m)) =
-        at_instruction opcode.REPEAT_ONE (Running GreedyRun) refl w (record {
+        at_instruction opcode.REPEAT_ONE (ToRun GreedyRun) refl w (record {
           low = low;
           high = high;
           end = j - 1;
@@ -141,7 +142,7 @@ lazy-run-ran ws s i j low high t w tail wl wh le wt h fs K C p m e f = go (nat_l
         let z : k + 1 - low ≡ 0 = omega arith in
         let short : run_length s t low p ≡ k = least_short s t high p e low le l in
         let move : Moves ws s (spot_at (Instruction i) fs p m) Stop =
-        at_instruction opcode.MIN_REPEAT_ONE (Running LazyRun) refl w
+        at_instruction opcode.MIN_REPEAT_ONE (ToRun LazyRun) refl w
         (record { low = low; high = high; end = j - 1; test = t; operands = o; is = rw (short, y) refl }) in
         rw z (turns Stop move stops)
     go false y =
@@ -152,7 +153,7 @@ lazy-run-ran ws s i j low high t w tail wl wh le wt h fs K C p m e f = go (nat_l
         let enough : nat_lt low low ≡ false = grind (arith, nat_tests) in
         let move : Moves ws s (spot_at (Instruction i) fs p m)
         (Split (spot_at (Instruction j) fs (p + low) m) (spot_at (Longer i low) fs (p + low) m)) =
-        at_instruction opcode.MIN_REPEAT_ONE (Running LazyRun) refl w (record {
+        at_instruction opcode.MIN_REPEAT_ONE (ToRun LazyRun) refl w (record {
           low = low;
           high = high;
           end = j - 1;
@@ -184,12 +185,12 @@ longest-run-ran ws s i j low high t w tail o fs K C p m e f = go (nat_lt k low) 
         (cond y 1 (suc (C (p + k) m)))
     go true y =
         let few : nat_le low k ≡ false = grind (arith, nat_tests) in
-        let move : Moves ws s x Stop = at_instruction opcode.POSSESSIVE_REPEAT_ONE (Running PossessiveRun) refl w
+        let move : Moves ws s x Stop = at_instruction opcode.POSSESSIVE_REPEAT_ONE (ToRun PossessiveRun) refl w
         (record { low = low; high = high; end = j - 1; test = t; operands = o; is = rw y refl }) in
         rw few (turns Stop move stops)
     go false y =
         let enough : nat_le low k ≡ true = grind (arith, nat_tests) in
         let there : Spot = spot_at (Instruction j) fs (p + k) m in
-        let move : Moves ws s x (Go there) = at_instruction opcode.POSSESSIVE_REPEAT_ONE (Running PossessiveRun) refl w
+        let move : Moves ws s x (Go there) = at_instruction opcode.POSSESSIVE_REPEAT_ONE (ToRun PossessiveRun) refl w
         (record { low = low; high = high; end = j - 1; test = t; operands = o; is = rw (y, ← tail) refl }) in
         rw enough (turns (Go there) move (goes (alone (f (p + k) m (omega arith) fits))))

@@ -7,13 +7,14 @@ use Rattle.sre_model.specs.Marks.{Marks}
 use Rattle.sre_model.specs.Subject.{Subject}
 use Rattle.sre_model.specs.Ways.{Way, Body, here}
 use Rattle.sre_model.specs.Grammar.{Opcode}
-use Rattle.sre_model.specs.declared.Frame.{Frame}
-use Rattle.sre_model.specs.declared.Point.TheVariants.{Instruction}
-use Rattle.sre_model.specs.declared.Point.{Point}
-use Rattle.sre_model.specs.Moves.{Spot, spot_at, End}
-use Rattle.sre_model.specs.Machine.{Ending, Runs, turns, ends}
-use Rattle.sre_model.proofs.Moving.{at_instruction}
-use Rattle.sre_model.proofs.Cost.{Costs, ending}
+use Rattle.sre_turns.specs.declared.Frame.{Frame}
+use Rattle.sre_turns.specs.declared.Point.TheVariants.{Instruction}
+use Rattle.sre_turns.specs.declared.Point.{Point}
+use Rattle.sre_turns.specs.Moves.{Spot, spot_at, End}
+use Rattle.sre_turns.specs.Machine.{Runs, turns, ends}
+use Rattle.sre_model.specs.Roles.{ToEnd}
+use Rattle.sre_turns.proofs.Moving.{at_instruction}
+use Rattle.sre_turns.proofs.Cost.{Costs, ending}
 
 -- what follows each of some ways
 abbrev pub followed : Body → List Way → List Way
@@ -47,4 +48,4 @@ pub region : (ws : List ℕ) (s : Subject) (i k : ℕ) (W : Body) (counted : Cos
     → p ≤ s.end → Runs ws s (spot_at (Instruction i) fs p m) (W p m) (counted ending p m)
 region ws s i k W counted r w fs p m e =
     subst (λ x. Runs ws s (spot_at (Instruction i) fs p m) x (counted ending p m)) (singles (W p m))
-    (r fs here ending p m e (λ q l _ _. turns End (at_instruction opcode.SUCCESS Ending refl w refl) ends))
+    (r fs here ending p m e (λ q l _ _. turns End (at_instruction opcode.SUCCESS ToEnd refl w refl) ends))

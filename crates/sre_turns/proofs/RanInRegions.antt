@@ -7,16 +7,17 @@ use Rattle.sre_model.specs.Marks.{Marks}
 use Rattle.sre_model.specs.Subject.{Subject}
 use Rattle.sre_model.specs.Ways.{Way, Body, first, here, look_ways}
 use Rattle.sre_model.specs.Grammar.{Word, Opcode, skip, look_opcode}
-use Rattle.sre_model.specs.declared.Frame.{Frame}
-use Rattle.sre_model.specs.declared.Region.TheVariants.{AtomicGroup, Ahead, NotAhead}
-use Rattle.sre_model.specs.declared.Point.TheVariants.{Instruction}
-use Rattle.sre_model.specs.Moves.{Spot, spot_at, Stop, Go, Enter, closed}
-use Rattle.sre_model.specs.Machine.{family, Moves, Runs, turns, stops, goes, enters, Comes, Grouping, Looking}
-use Rattle.sre_model.proofs.Moving.{at_instruction}
+use Rattle.sre_turns.specs.declared.Frame.{Frame}
+use Rattle.sre_turns.specs.declared.Region.TheVariants.{AtomicGroup, Ahead, NotAhead}
+use Rattle.sre_turns.specs.declared.Point.TheVariants.{Instruction}
+use Rattle.sre_turns.specs.Moves.{Spot, spot_at, Stop, Go, Enter, closed}
+use Rattle.sre_turns.specs.Machine.{Moves, Runs, turns, stops, goes, enters, Comes}
+use Rattle.sre_turns.proofs.Moving.{at_instruction}
 use Rattle.sre_model.proofs.Bounds.{Bounded, EachBetween}
-use Rattle.sre_model.proofs.Cost.{Costs, ending, atomic_cost, look_cost, looked_cost}
-use Rattle.sre_model.specs.MovesInRegions.{look}
-use Rattle.sre_model.proofs.Outcomes.{followed, Follows, Ran, alone, region}
+use Rattle.sre_turns.proofs.Cost.{Costs, ending, atomic_cost, look_cost, looked_cost}
+use Rattle.sre_turns.specs.MovesInRegions.{look}
+use Rattle.sre_model.specs.Roles.{ToGroup, ToLook, role}
+use Rattle.sre_turns.proofs.Outcomes.{followed, Follows, Ran, alone, region}
 
 -- an atomic group, where its body has some ways
 atomic-closed : (ws : List ℕ) (s : Subject) (x : Spot) (j : ℕ) (K : Body) (C : Costs) (os : List Way)
@@ -50,18 +51,18 @@ module _ (ws : List ℕ) (s : Subject) (i j k : ℕ) (W : Body) (counted : Costs
       let x : Spot = spot_at (Instruction i) fs p m in
       let body : Spot = spot_at (Instruction k) fs p m in
       let move : Moves ws s x (Enter (AtomicGroup j) x body) =
-      at_instruction opcode.ATOMIC_GROUP Grouping refl w (record { there = there; is = rw (leads, at) refl }) in
+      at_instruction opcode.ATOMIC_GROUP ToGroup refl w (record { there = there; is = rw (leads, at) refl }) in
       turns (Enter (AtomicGroup j) x body) move
       (enters (region ws s k (j - 1) W counted r ends fs p m e) (atomic-closed ws s x j K C (W p m) (b p m e) f))
 
   module _ (back : ℕ) (there : Word ws (i + 2) back) (at : k ≡ i + 3) where
     -- a look is entered, or comes too early
-    look_entered : (sign : Sign) → family (look_opcode sign) ≡ Looking sign → Opcode ws i (look_opcode sign)
+    look_entered : (sign : Sign) → role (look_opcode sign) ≡ ToLook sign → Opcode ws i (look_opcode sign)
         → (fs : List Frame) (p : ℕ) (m : Marks) (y : Bool) → nat_lt p back ≡ y
         → Moves ws s (spot_at (Instruction i) fs p m) (cond y (closed (look sign j) (spot_at (Instruction i) fs p m) [])
         (Enter (look sign j) (spot_at (Instruction i) fs p m) (spot_at (Instruction k) fs (p - back) m)))
     look_entered sign known w fs p m y e =
-        at_instruction (look_opcode sign) (Looking sign) known w
+        at_instruction (look_opcode sign) (ToLook sign) known w
         (record { back = back; there = there; is = rw (← leads, at, e) refl })
 
     pub ahead-ran : Opcode ws i opcode.ASSERT

@@ -8,24 +8,27 @@ use Rattle.sre_model.specs.Tree.{Sign, Positive, Negative}
 use Rattle.sre_model.specs.Marks.{Marks}
 use Rattle.sre_model.specs.Ways.{Way}
 use Rattle.sre_model.specs.Grammar.{Word, Opcode, look_opcode}
-use Rattle.sre_model.specs.Board.{Keep, Cuts, BoardValue}
-use Rattle.sre_model.specs.declared.Region.TheVariants.{AtomicGroup, Ahead, NotAhead, Owed, Further}
-use Rattle.sre_model.specs.declared.Region.{Region}
-use Rattle.sre_model.specs.declared.Point.TheVariants.{Instruction, Again}
-use Rattle.sre_model.specs.declared.Point.{Point}
-use Rattle.sre_model.specs.declared.Frame.{Frame}
-use Rattle.sre_model.specs.Moves.{Spot, spot_at, Stop, Go, Enter, closed}
-use Rattle.sre_model.specs.MovesInRegions.{look}
-use Rattle.sre_model.specs.Machine.{family, Grouping, Looking, Moves, Runs, Comes, stops, goes, Run, Waits, kept, Goes}
-use Rattle.sre_model.specs.Machine.{Placed, Ends, Later, spot, HasRun, after_outcome, without_outcome, without_loop}
-use Rattle.sre_model.specs.declared.Next.TheVariants as next
+use Rattle.sre_turns.specs.Board.{Keep, Cuts, BoardValue}
+use Rattle.sre_turns.specs.declared.Region.TheVariants.{AtomicGroup, Ahead, NotAhead, Owed, Further}
+use Rattle.sre_turns.specs.declared.Region.{Region}
+use Rattle.sre_turns.specs.declared.Point.TheVariants.{Instruction, Again}
+use Rattle.sre_turns.specs.declared.Point.{Point}
+use Rattle.sre_turns.specs.declared.Frame.{Frame}
+use Rattle.sre_turns.specs.Moves.{Spot, spot_at, Stop, Go, Enter, closed}
+use Rattle.sre_turns.specs.MovesInRegions.{look}
+use Rattle.sre_turns.specs.Machine.{Moves, Runs, Comes, stops, goes, Waits, kept, Goes, Placed, Ends, Later, spot}
+use Rattle.sre_model.specs.Runs.{Run}
+use Rattle.sre_turns.specs.Machine.{HasRun, after_outcome, without_outcome, without_loop}
+use Rattle.sre_model.specs.Roles.{ToGroup, ToLook}
+use Rattle.sre_model.proofs.Families.{look_role}
+use Rattle.sre_turns.specs.declared.Next.TheVariants as next
 use Rattle.sre_model.proofs.Words.{word_of, word_within}
-use Rattle.sre_model.proofs.Moving.{in_family, at_instruction, turn_stops, turn_goes, turn_enters, cut_waits}
+use Rattle.sre_turns.proofs.Moving.{in_role, at_instruction, turn_stops, turn_goes, turn_enters, cut_waits}
 
 -- ATOMIC_GROUP
 pub atomic_operand : (r : Run) (i : ℕ) (c : StringCursor) → Opcode r.words i opcode.ATOMIC_GROUP
     → HasRun r (Instruction i) c → i + 1 < length r.words
-atomic_operand r i c w x = (in_family opcode.ATOMIC_GROUP Grouping refl w x.runs).1.there
+atomic_operand r i c w x = (in_role opcode.ATOMIC_GROUP ToGroup refl w x.runs).1.there
 
 -- a region is entered at a cursor
 abbrev pub entered : Region → StringCursor → BoardValue → BoardValue
@@ -38,21 +41,17 @@ atomic_step r i v c b b' w wv eb all limit g =
     let group : Region = AtomicGroup (i + 1 + v) in
     let body : Spot = spot (Instruction (i + 2)) c b in
     let move : Moves r.words r.subject (spot (Instruction i) c b) (Enter group (spot (Instruction i) c b) body) =
-    at_instruction opcode.ATOMIC_GROUP Grouping refl w
+    at_instruction opcode.ATOMIC_GROUP ToGroup refl w
     (record { there = word_within r.words (i + 1) v wv; is = rw (word_of r.words (i + 1) v wv) refl }) in
     subst (λ x. Later r all limit (next.At (i + 2) c) x) (sym eb)
     (turn_enters r (Instruction i) b.frames (i + 2) group c c b (entered group c b) move g.stands refl refl all
     limit g)
 
 -- ASSERT, ASSERT_NOT
-look_family : (sign : Sign) → family (look_opcode sign) ≡ Looking sign
-look_family Positive = refl
-look_family Negative = refl
-
 pub look_operand : (r : Run) (sign : Sign) (i : ℕ) (c : StringCursor) → Opcode r.words i (look_opcode sign)
     → HasRun r (Instruction i) c → i + 2 < length r.words
 look_operand r sign i c w x =
-    let h = (in_family (look_opcode sign) (Looking sign) (look_family sign) w x.runs).1 in
+    let h = (in_role (look_opcode sign) (ToLook sign) (look_role sign) w x.runs).1 in
     word_within r.words (i + 2) h.back h.there
 
 -- what is at a look
@@ -67,7 +66,7 @@ look_early : (r : Run) (sign : Sign) (i v back : ℕ) (c : StringCursor) (b : Bo
     → Moves r.words r.subject (spot (Instruction i) c b) (closed (look sign (i + 1 + v)) (spot (Instruction i) c b) [])
 look_early r sign i v back c b h l =
     let early : nat_lt c.position back ≡ true = grind (arith, nat_tests) in
-    at_instruction (look_opcode sign) (Looking sign) (look_family sign) h.code
+    at_instruction (look_opcode sign) (ToLook sign) (look_role sign) h.code
     (record { back = back; there = h.there; is = rw (word_of r.words (i + 1) v h.leads, early) refl })
 
 pub ahead_early : (r : Run) (i v back : ℕ) (c : StringCursor) (b : BoardValue) → AtLook r Positive i v back
@@ -92,7 +91,7 @@ look_step r sign i v back c c' b b' h l place there eb all limit g =
     let late : nat_lt c.position back ≡ false = grind (arith, nat_tests) in
     let move : Moves r.words r.subject (spot (Instruction i) c b)
     (Enter region (spot (Instruction i) c b) (spot (Instruction (i + 3)) c' b)) =
-    at_instruction (look_opcode sign) (Looking sign) (look_family sign) h.code
+    at_instruction (look_opcode sign) (ToLook sign) (look_role sign) h.code
     (record { back = back; there = h.there; is = rw (word_of r.words (i + 1) v h.leads, late, place) refl }) in
     subst (λ x. Later r all limit (next.At (i + 3) c') x) (sym eb)
     (turn_enters r (Instruction i) b.frames (i + 3) region c c' b (entered region c b) move there refl refl all

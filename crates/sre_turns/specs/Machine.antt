@@ -6,93 +6,53 @@ use Rattle.std.specs.List.{filter}
 use Rattle.sre_chars.specs.declared.constants.SreOpcode.{SreOpcode}
 use Rattle.sre_chars.specs.declared.string.StringCursor.{StringCursor}
 use Rattle.sre_chars.specs.Tables.{Table}
-use Rattle.sre_model.specs.Tree.{Tree, Order, RunKind, Sign, Test, Literal, Plain}
+use Rattle.sre_model.specs.Tree.{Tree, Test, Literal, Plain}
 use Rattle.sre_model.specs.Characters.{holds}
 use Rattle.sre_model.specs.Roles.{Role, ToFail, ToEnd, ToTest, ToStand, ToMark, ToBranch, ToJump, ToRun, ToRepeat}
 use Rattle.sre_model.specs.Roles.{ToLoop, ToRepeatPossessively, ToGroup, ToLook, ToRefer, ToAsk, ToNothing, role}
 use Rattle.sre_model.specs.Marks.{Marks, mark_at, no_marks}
 use Rattle.sre_model.specs.Subject.{Subject, char_at, passes}
 use Rattle.sre_model.specs.Ways.{Way, here, ways}
+use Rattle.sre_model.specs.Runs.{Run}
 use Rattle.sre_model.specs.Grammar.{Opcode}
 use Rattle.sre_model.specs.Standing.{TestStands}
-use Rattle.sre_model.specs.Board.{Choice, Else, Keep, BoardValue}
-use Rattle.sre_model.specs.declared.Frame.{Frame}
-use Rattle.sre_model.specs.declared.Region.TheVariants.{AtomicGroup, Ahead, NotAhead, Owed, Further}
-use Rattle.sre_model.specs.declared.Region.{Region}
-use Rattle.sre_model.specs.declared.Point.TheVariants.{Instruction, Alternatives, Shorter, Longer, Inside, Again}
-use Rattle.sre_model.specs.declared.Point.{Point}
-use Rattle.sre_model.specs.Moves.{Spot, spot_at, Move, Stop, End, Go, Split, Enter, closed, to_point, TestMove, AtMove}
-use Rattle.sre_model.specs.Moves.{MarkMove, JumpMove, AlternativesMove}
-use Rattle.sre_model.specs.MovesInRuns.{RunMove, ShorterMove, LongerMove}
-use Rattle.sre_model.specs.MovesInLoops.{first_frame, RepeatMove, UntilMove, AgainMove}
-use Rattle.sre_model.specs.MovesInRegions.{AtomicMove, LookMove}
-use Rattle.sre_model.specs.MovesAtGroups.{ReferenceMove, ConditionMove}
-use Rattle.sre_model.specs.declared.Next.{Next}
-use Rattle.sre_model.specs.declared.Next.TheVariants as next
+use Rattle.sre_turns.specs.Board.{Choice, Else, Keep, BoardValue}
+use Rattle.sre_turns.specs.declared.Frame.{Frame}
+use Rattle.sre_turns.specs.declared.Region.TheVariants.{AtomicGroup, Ahead, NotAhead, Owed, Further}
+use Rattle.sre_turns.specs.declared.Region.{Region}
+use Rattle.sre_turns.specs.declared.Point.TheVariants.{Instruction, Alternatives, Shorter, Longer, Inside, Again}
+use Rattle.sre_turns.specs.declared.Point.{Point}
+use Rattle.sre_turns.specs.Moves.{Spot, spot_at, Move, Stop, End, Go, Split, Enter, closed, to_point, TestMove, AtMove}
+use Rattle.sre_turns.specs.Moves.{MarkMove, JumpMove, AlternativesMove}
+use Rattle.sre_turns.specs.MovesInRuns.{RunMove, ShorterMove, LongerMove}
+use Rattle.sre_turns.specs.MovesInLoops.{first_frame, RepeatMove, UntilMove, AgainMove}
+use Rattle.sre_turns.specs.MovesInRegions.{AtomicMove, LookMove}
+use Rattle.sre_turns.specs.MovesAtGroups.{ReferenceMove, ConditionMove}
+use Rattle.sre_turns.specs.declared.Next.{Next}
+use Rattle.sre_turns.specs.declared.Next.TheVariants as next
 
--- the opcodes that the machine does alike
-pub data Family : Type 0 where
-  Failing : Family
-  Ending : Family
-  Testing : Family
-  Standing : Family
-  Marking : Family
-  Branching : Family
-  Jumping : Family
-  Running : RunKind → Family
-  Repeating : Family
-  Looping : Order → Family
-  RepeatingPossessively : Family
-  Grouping : Family
-  Looking : Sign → Family
-  Referring : Family
-  Asking : Family
-  Nothing : Family
-
--- the family of a role
-abbrev pub family_of : Role → Family
-family_of ToFail = Failing
-family_of ToEnd = Ending
-family_of (ToTest kind) = Testing
-family_of ToStand = Standing
-family_of ToMark = Marking
-family_of ToBranch = Branching
-family_of ToJump = Jumping
-family_of (ToRun kind) = Running kind
-family_of ToRepeat = Repeating
-family_of (ToLoop order) = Looping order
-family_of ToRepeatPossessively = RepeatingPossessively
-family_of ToGroup = Grouping
-family_of (ToLook sign) = Looking sign
-family_of ToRefer = Referring
-family_of ToAsk = Asking
-family_of ToNothing = Nothing
-
-abbrev pub family : SreOpcode → Family
-family o = family_of (role o)
-
--- what a turn does at an instruction whose family is known
-abbrev pub InFamily : List ℕ → Subject → Family → ℕ → Spot → Move → Type 0
-InFamily ws s Failing i x mv = mv ≡ Stop
-InFamily ws s Ending i x mv = mv ≡ End
-InFamily ws s Testing i x mv = TestMove ws s i x mv
-InFamily ws s Standing i x mv = AtMove ws s i x mv
-InFamily ws s Marking i x mv = MarkMove ws i x mv
-InFamily ws s Branching i x mv = mv ≡ Go (to_point x (Alternatives (i + 1)))
-InFamily ws s Jumping i x mv = JumpMove ws i x mv
-InFamily ws s (Running kind) i x mv = RunMove ws s kind i x mv
-InFamily ws s Repeating i x mv = RepeatMove ws i x mv
-InFamily ws s (Looping o) i x mv = UntilMove ws o i x mv
-InFamily ws s RepeatingPossessively i x mv = mv ≡ Go (record x { point = Again; frames = first_frame i ∷ x.frames })
-InFamily ws s Grouping i x mv = AtomicMove ws i x mv
-InFamily ws s (Looking sign) i x mv = LookMove ws sign i x mv
-InFamily ws s Referring i x mv = ReferenceMove ws s i x mv
-InFamily ws s Asking i x mv = ConditionMove ws i x mv
-InFamily ws s Nothing i x mv = ⊥
+-- what a turn does at an instruction whose opcode has this role
+abbrev pub InRole : List ℕ → Subject → Role → ℕ → Spot → Move → Type 0
+InRole ws s ToFail i x mv = mv ≡ Stop
+InRole ws s ToEnd i x mv = mv ≡ End
+InRole ws s (ToTest kind) i x mv = TestMove ws s i x mv
+InRole ws s ToStand i x mv = AtMove ws s i x mv
+InRole ws s ToMark i x mv = MarkMove ws i x mv
+InRole ws s ToBranch i x mv = mv ≡ Go (to_point x (Alternatives (i + 1)))
+InRole ws s ToJump i x mv = JumpMove ws i x mv
+InRole ws s (ToRun kind) i x mv = RunMove ws s kind i x mv
+InRole ws s ToRepeat i x mv = RepeatMove ws i x mv
+InRole ws s (ToLoop o) i x mv = UntilMove ws o i x mv
+InRole ws s ToRepeatPossessively i x mv = mv ≡ Go (record x { point = Again; frames = first_frame i ∷ x.frames })
+InRole ws s ToGroup i x mv = AtomicMove ws i x mv
+InRole ws s (ToLook sign) i x mv = LookMove ws sign i x mv
+InRole ws s ToRefer i x mv = ReferenceMove ws s i x mv
+InRole ws s ToAsk i x mv = ConditionMove ws i x mv
+InRole ws s ToNothing i x mv = ⊥
 
 -- what a turn does at a point
 abbrev pub MovesAt : List ℕ → Subject → Point → Spot → Move → Type 0
-MovesAt ws s (Instruction i) x mv = (o : SreOpcode) × Opcode ws i o × InFamily ws s (family o) i x mv
+MovesAt ws s (Instruction i) x mv = (o : SreOpcode) × Opcode ws i o × InRole ws s (role o) i x mv
 MovesAt ws s (Alternatives q) x mv = AlternativesMove ws q x mv
 MovesAt ws s (Shorter t k) x mv = ShorterMove t k x mv
 MovesAt ws s (Longer i n) x mv = LongerMove ws s i n x mv
@@ -116,13 +76,6 @@ mutual
         → Comes ws s x (Split y z) (os₁ ++ os₂) (suc (suc (n₁ + n₂)))
     enters : {x y z : Spot} {g : Region} {now os : List Way} {n₁ n₂ : ℕ} → Runs ws s z now n₁
         → Comes ws s y (closed g y now) os n₂ → Comes ws s x (Enter g y z) os (suc (n₁ + n₂))
-
--- what a run is about: the words, the subject, which cursors stand at which position, and which outcomes are accepted
-pub record Run : Type 1 where
-  pub words : List ℕ
-  pub subject : Subject
-  pub stands : StringCursor → ℕ → Type 0
-  pub accepts : Way → Bool
 
 -- each mark that is set lies in the text
 pub record Placed (s : Subject) (m : Marks) : Type 0 where

@@ -5,7 +5,7 @@ use Rattle.std.proofs.Common.{refl, ap, arith}
 use Rattle.std.proofs.lemmas.Bool.Decides.{nat_tests}
 use Rattle.sre_model.specs.Marks.{Marks, mark_at, no_marks, set_mark, lengthened, group}
 use Rattle.sre_model.specs.Subject.{Subject}
-use Rattle.sre_model.specs.Machine.{Placed}
+use Rattle.sre_turns.specs.Machine.{Placed}
 
 some_same : {a b : ℕ} → Some a ≡ Some b → a ≡ b
 some_same e = cc

@@ -13,63 +13,65 @@ use Rattle.sre_model.specs.Characters.{holds}
 use Rattle.sre_model.specs.Subject.{Subject, passes, char_at, holds_at}
 use Rattle.sre_model.specs.Ways.{Way}
 use Rattle.sre_model.specs.Grammar.{Word, Opcode}
-use Rattle.sre_model.specs.Board.{BoardValue}
-use Rattle.sre_model.specs.declared.Frame.{Frame}
-use Rattle.sre_model.specs.declared.Point.TheVariants.{Instruction}
-use Rattle.sre_model.specs.Moves.{spot_at, Go}
-use Rattle.sre_model.specs.Machine.{family, Failing, Ending, Testing, Standing, Marking, Jumping, Nothing, Run, Moves}
-use Rattle.sre_model.specs.Machine.{Goes, Later, HasRun, Refuses, Demands, Continues}
+use Rattle.sre_turns.specs.Board.{BoardValue}
+use Rattle.sre_turns.specs.declared.Frame.{Frame}
+use Rattle.sre_turns.specs.declared.Point.TheVariants.{Instruction}
+use Rattle.sre_turns.specs.Moves.{spot_at, Go}
+use Rattle.sre_turns.specs.Machine.{Moves, Goes, Later, HasRun, Refuses, Demands, Continues}
+use Rattle.sre_model.specs.Runs.{Run}
 use Rattle.sre_model.specs.Standing.{TestStands, HasTest}
-use Rattle.sre_model.specs.declared.Next.TheVariants as next
+use Rattle.sre_model.specs.Roles.{ToFail, ToEnd, ToStand, ToMark, ToJump, ToNothing, role, begins_test}
+use Rattle.sre_turns.specs.declared.Next.TheVariants as next
 use Rattle.sre_model.proofs.Words.{same_word, at_low, word_of, word_within}
-use Rattle.sre_model.proofs.Moving.{in_family, at_instruction, run_nothing, run_goes, run_on, nothing_after, has_run}
-use Rattle.sre_model.proofs.Moving.{turn_stops, turn_ends, turn_goes}
+use Rattle.sre_turns.proofs.Moving.{in_role, in_test, at_instruction, at_test, run_nothing, run_goes, run_on}
+use Rattle.sre_turns.proofs.Moving.{nothing_after, has_run}
+use Rattle.sre_turns.proofs.Moving.{turn_stops, turn_ends, turn_goes}
 use Rattle.sre_model.proofs.Passing.{past_end, read_passes, stands_at_own}
-use Rattle.sre_model.proofs.Placed.{set_placed}
+use Rattle.sre_turns.proofs.Placed.{set_placed}
 use Rattle.sre_model.proofs.Families.{is_literal}
 
 -- an opcode that begins nothing is never reached
 pub never_nothing : (r : Run) (i : ℕ) (c : StringCursor) (o : SreOpcode) → HasRun r (Instruction i) c
-    → Opcode r.words i o → family o ≡ Nothing → ⊥
-never_nothing r i c o x w e = (in_family o Nothing e w x.runs).1
+    → Opcode r.words i o → role o ≡ ToNothing → ⊥
+never_nothing r i c o x w e = (in_role o ToNothing e w x.runs).1
 
 -- FAILURE
 pub failure_step : (r : Run) (i : ℕ) (c : StringCursor) (b : BoardValue) → Opcode r.words i opcode.FAILURE
     → (all : List Way) (limit : ℕ) → Goes r all limit (Instruction i) c b → Later r all limit next.Back b
-failure_step r i c b w = turn_stops r (Instruction i) c b (at_instruction opcode.FAILURE Failing refl w refl)
+failure_step r i c b w = turn_stops r (Instruction i) c b (at_instruction opcode.FAILURE ToFail refl w refl)
 
 -- SUCCESS
 pub success_step : (r : Run) (i : ℕ) (c : StringCursor) (b : BoardValue) → Opcode r.words i opcode.SUCCESS
     → (all : List Way) (limit : ℕ) → Goes r all limit (Instruction i) c b → Later r all limit (next.Done c) b
-success_step r i c b w = turn_ends r (Instruction i) c b (at_instruction opcode.SUCCESS Ending refl w refl)
+success_step r i c b w = turn_ends r (Instruction i) c b (at_instruction opcode.SUCCESS ToEnd refl w refl)
 
 -- a test of one character stands where its opcode does
-pub test_there : (r : Run) (i : ℕ) (c : StringCursor) (o : SreOpcode) → Opcode r.words i o → family o ≡ Testing
+pub test_there : (r : Run) (i : ℕ) (c : StringCursor) (o : SreOpcode) → Opcode r.words i o → begins_test o ≡ true
     → HasRun r (Instruction i) c → HasTest r.words i
 test_there r i c o w f x =
-    let h = (in_family o Testing f w x.runs).1 in
+    let h = (in_test o f w x.runs).1 in
     record { end = h.end; test = h.test; stands = h.stands }
 
 module _ (r : Run) (i : ℕ) (c : StringCursor) (b : BoardValue) (o : SreOpcode) (w : Opcode r.words i o)
-    (f : family o ≡ Testing) (j : ℕ) (t : Test) (stands : TestStands r.words i j t) where
+    (f : begins_test o ≡ true) (j : ℕ) (t : Test) (stands : TestStands r.words i j t) where
   test_taken : (after : StringCursor) → passes r.subject t c.position ≡ true → r.stands after after.position
       → after.position ≡ c.position + 1 → (all : List Way) (limit : ℕ) → Goes r all limit (Instruction i) c b
       → Later r all limit (next.At j after) b
   test_taken after taken there moved_on all limit g =
       turn_goes r (Instruction i) c b (Instruction j) after b
-      (at_instruction o Testing f w (record { end = j; test = t; stands = stands; is = rw (taken, moved_on) refl }))
+      (at_test o f w (record { end = j; test = t; stands = stands; is = rw (taken, moved_on) refl }))
       there g.placed refl all limit g
 
   test_refused : passes r.subject t c.position ≡ false → (all : List Way) (limit : ℕ)
       → Goes r all limit (Instruction i) c b → Later r all limit next.Back b
   test_refused left =
       turn_stops r (Instruction i) c b
-      (at_instruction o Testing f w (record { end = j; test = t; stands = stands; is = rw left refl }))
+      (at_test o f w (record { end = j; test = t; stands = stands; is = rw left refl }))
 
 -- the same, for the character that was read
 pub test_read : (r : Run) (i j ch : ℕ) (o : SreOpcode) (t : Test) (c after : StringCursor)
     (b : BoardValue) (takes : Bool)
-    → Opcode r.words i o → family o ≡ Testing → TestStands r.words i j t → c.position < r.subject.end
+    → Opcode r.words i o → begins_test o ≡ true → TestStands r.words i j t → c.position < r.subject.end
     → ch ≡ char_at r.subject c.position → takes ≡ holds r.subject.table t ch → r.stands after (c.position + 1)
     → after.position ≡ c.position + 1 → takes ≡ true → (all : List Way) (limit : ℕ)
     → Goes r all limit (Instruction i) c b → Later r all limit (next.At j after) b
@@ -78,21 +80,21 @@ test_read r i j ch o t c after b takes w f st l e h there moved_on y =
     (stands_at_own r.stands after (c.position + 1) moved_on there) moved_on
 
 pub test_unlike : (r : Run) (i j ch : ℕ) (o : SreOpcode) (t : Test) (c : StringCursor) (b : BoardValue) (takes : Bool)
-    → Opcode r.words i o → family o ≡ Testing → TestStands r.words i j t → c.position < r.subject.end
+    → Opcode r.words i o → begins_test o ≡ true → TestStands r.words i j t → c.position < r.subject.end
     → ch ≡ char_at r.subject c.position → takes ≡ holds r.subject.table t ch → takes ≡ false
     → (all : List Way) (limit : ℕ) → Goes r all limit (Instruction i) c b → Later r all limit next.Back b
 test_unlike r i j ch o t c b takes w f st l e h n =
     test_refused r i c b o w f j t st (read_passes r.subject t c.position ch takes l e h ∙ n)
 
 pub test_past : (r : Run) (i : ℕ) (o : SreOpcode) (c : StringCursor) (b : BoardValue) → Opcode r.words i o
-    → family o ≡ Testing → HasTest r.words i → r.subject.end ≤ c.position → (all : List Way) (limit : ℕ)
+    → begins_test o ≡ true → HasTest r.words i → r.subject.end ≤ c.position → (all : List Way) (limit : ℕ)
     → Goes r all limit (Instruction i) c b → Later r all limit next.Back b
 test_past r i o c b w f t l = test_refused r i c b o w f t.end t.test t.stands (past_end r.subject t.test c.position l)
 
 -- AT
 pub at_there : (r : Run) (i : ℕ) (c : StringCursor) → Opcode r.words i opcode.AT → HasRun r (Instruction i) c
     → (a : SreAtCode) × Word r.words (i + 1) (at_number a)
-at_there r i c w x = let h = (in_family opcode.AT Standing refl w x.runs).1 in (h.code, h.there)
+at_there r i c w x = let h = (in_role opcode.AT ToStand refl w x.runs).1 in (h.code, h.there)
 
 pub at_operand : (r : Run) (i : ℕ) (c : StringCursor) → Opcode r.words i opcode.AT → HasRun r (Instruction i) c
     → i + 1 < length r.words
@@ -110,7 +112,7 @@ pub at_step : (r : Run) (i : ℕ) (a : SreAtCode) (c : StringCursor) (b : BoardV
     → Goes r all limit (Instruction i) c b → Later r all limit (next.At (i + 2) c) b
 at_step r i a c b w wa y all limit g =
     turn_goes r (Instruction i) c b (Instruction (i + 2)) c b
-    (at_instruction opcode.AT Standing refl w (record { code = a; there = wa; is = rw y refl }))
+    (at_instruction opcode.AT ToStand refl w (record { code = a; there = wa; is = rw y refl }))
     g.stands g.placed refl all limit g
 
 pub at_refused : (r : Run) (i : ℕ) (a : SreAtCode) (c : StringCursor) (b : BoardValue) → Opcode r.words i opcode.AT
@@ -118,13 +120,13 @@ pub at_refused : (r : Run) (i : ℕ) (a : SreAtCode) (c : StringCursor) (b : Boa
     → Goes r all limit (Instruction i) c b → Later r all limit next.Back b
 at_refused r i a c b w wa n =
     turn_stops r (Instruction i) c b
-    (at_instruction opcode.AT Standing refl w (record { code = a; there = wa; is = rw n refl }))
+    (at_instruction opcode.AT ToStand refl w (record { code = a; there = wa; is = rw n refl }))
 
 -- MARK
 pub mark_operand : (r : Run) (i : ℕ) (c : StringCursor) → Opcode r.words i opcode.MARK → HasRun r (Instruction i) c
     → i + 1 < length r.words
 mark_operand r i c w x =
-    let h = (in_family opcode.MARK Marking refl w x.runs).1 in
+    let h = (in_role opcode.MARK ToMark refl w x.runs).1 in
     word_within r.words (i + 1) h.number h.there
 
 pub mark_step : (r : Run) (i v p : ℕ) (c : StringCursor) (b b' : BoardValue) → Opcode r.words i opcode.MARK
@@ -136,20 +138,20 @@ mark_step r i v p c b b' w wv same_place inside eb all limit g =
     subst (λ x. Later r all limit (next.At (i + 2) c) x)
     (sym (eb ∙ ap (λ q. record b { marks = set_mark b.marks v q }) same_place))
     (turn_goes r (Instruction i) c b (Instruction (i + 2)) c set
-    (at_instruction opcode.MARK Marking refl w (record { number = v; there = wv; is = refl }))
+    (at_instruction opcode.MARK ToMark refl w (record { number = v; there = wv; is = refl }))
     g.stands (set_placed r.subject b.marks v c.position g.placed inside) refl all limit g)
 
 -- JUMP
 pub jump_operand : (r : Run) (i : ℕ) (c : StringCursor) → Opcode r.words i opcode.JUMP → HasRun r (Instruction i) c
     → i + 1 < length r.words
-jump_operand r i c w x = (in_family opcode.JUMP Jumping refl w x.runs).1.there
+jump_operand r i c w x = (in_role opcode.JUMP ToJump refl w x.runs).1.there
 
 pub jump_step : (r : Run) (i v : ℕ) (c : StringCursor) (b : BoardValue) → Opcode r.words i opcode.JUMP
     → Word r.words (i + 1) v → (all : List Way) (limit : ℕ) → Goes r all limit (Instruction i) c b
     → Later r all limit (next.At (i + 1 + v) c) b
 jump_step r i v c b w wv all limit g =
     turn_goes r (Instruction i) c b (Instruction (i + 1 + v)) c b
-    (at_instruction opcode.JUMP Jumping refl w
+    (at_instruction opcode.JUMP ToJump refl w
     (record { there = word_within r.words (i + 1) v wv; is = rw (word_of r.words (i + 1) v wv) refl }))
     g.stands g.placed refl all limit g
 
@@ -158,7 +160,7 @@ pub jump_continues : (r : Run) (i v : ℕ) (c : StringCursor) → Opcode r.words
 jump_continues r i v c w wv stands = record {
   stands = stands;
   runs = λ fs m os n d. run_on (spot_at (Instruction (i + 1 + v)) fs c.position m)
-      (at_instruction opcode.JUMP Jumping refl w
+      (at_instruction opcode.JUMP ToJump refl w
       (record { there = word_within r.words (i + 1) v wv; is = rw (word_of r.words (i + 1) v wv) refl })) d;
 }
 
@@ -175,14 +177,14 @@ literal_operand r i c w x =
     t.stands.code t.stands.operands in
     word_within r.words (i + 1) l.1 l.3.0
 
-refuses_test : (r : Run) (i j p : ℕ) (t : Test) (o : SreOpcode) → Opcode r.words i o → family o ≡ Testing
+refuses_test : (r : Run) (i j p : ℕ) (t : Test) (o : SreOpcode) → Opcode r.words i o → begins_test o ≡ true
     → TestStands r.words i j t → passes r.subject t p ≡ false → Refuses r i p
 refuses_test r i j p t o w f st n fs m os k x =
-    run_nothing (at_instruction o Testing f w (record { end = j; test = t; stands = st; is = rw n refl })) x
+    run_nothing (at_test o f w (record { end = j; test = t; stands = st; is = rw n refl })) x
 
 -- what was read tells whether nothing comes of a test, or what is behind it
 module _ (r : Run) (i ch : ℕ) (o : SreOpcode) (takes : Bool) (c : StringCursor) (w : Opcode r.words i o)
-    (f : family o ≡ Testing) (there : HasTest r.words i) (inside : c.position < r.subject.end)
+    (f : begins_test o ≡ true) (there : HasTest r.words i) (inside : c.position < r.subject.end)
     (read : ch ≡ char_at r.subject c.position)
     (says : (j : ℕ) (t : Test) → TestStands r.words i j t → takes ≡ holds r.subject.table t ch) where
   passes_as_read : passes r.subject there.test c.position ≡ takes
@@ -198,7 +200,7 @@ module _ (r : Run) (i ch : ℕ) (o : SreOpcode) (takes : Bool) (c : StringCursor
   test_continues end after y ends moved_on stands = record {
     stands = stands;
     runs = λ fs m os n d. run_on (spot_at (Instruction end) fs after.position m)
-        (at_instruction o Testing f w (record {
+        (at_test o f w (record {
           end = there.end;
           test = there.test;
           stands = there.stands;
@@ -215,11 +217,11 @@ mark_moves : (r : Run) (i p v : ℕ) (fs : List Frame) (m : Marks) → Opcode r.
     → Word r.words (i + 1) v → Moves r.words r.subject (spot_at (Instruction i) fs p m)
     (Go (spot_at (Instruction (i + 2)) fs p (set_mark m v p)))
 mark_moves r i p v fs m w wv =
-    at_instruction opcode.MARK Marking refl w (record { number = v; there = wv; is = refl })
+    at_instruction opcode.MARK ToMark refl w (record { number = v; there = wv; is = refl })
 
 pub mark_refuses : (r : Run) (i p : ℕ) → Opcode r.words i opcode.MARK → Refuses r (i + 2) p → Refuses r i p
 mark_refuses r i p w none fs m os n d =
-    let h = (in_family opcode.MARK Marking refl w d).1 in
+    let h = (in_role opcode.MARK ToMark refl w d).1 in
     let set = set_mark m h.number p in
     nothing_after (spot_at (Instruction (i + 2)) fs p set) (mark_moves r i p h.number fs m w h.there)
     (λ os' n' e. none fs set os' n' e) d
@@ -227,7 +229,7 @@ mark_refuses r i p w none fs m os n d =
 pub mark_run : (r : Run) (i : ℕ) (c : StringCursor) → Opcode r.words i opcode.MARK → HasRun r (Instruction i) c
     → HasRun r (Instruction (i + 2)) c
 mark_run r i c w x =
-    let h = (in_family opcode.MARK Marking refl w x.runs).1 in
+    let h = (in_role opcode.MARK ToMark refl w x.runs).1 in
     let after = set_mark x.marks h.number c.position in
     has_run r (Instruction (i + 2)) x.frames after c x.stands
     (run_goes (spot_at (Instruction (i + 2)) x.frames c.position after)

@@ -9,15 +9,16 @@ use Rattle.sre_model.specs.Marks.{no_marks}
 use Rattle.sre_model.specs.Ways.{Way, ways}
 use Rattle.sre_model.specs.Grammar.{Opcode, Reads}
 use Rattle.sre_model.specs.Standing.{AreWords}
-use Rattle.sre_model.specs.Board.{Choice, Else, Keep, from_region, BoardValue, bare}
-use Rattle.sre_model.specs.declared.Point.TheVariants.{Instruction}
-use Rattle.sre_model.specs.Machine.{Run, Waits, outermost, otherwise, Goes, Ends, Stands, Later, SaysAccepted, outcomes}
-use Rattle.sre_model.specs.declared.Next.{Next}
-use Rattle.sre_model.specs.declared.Next.TheVariants as next
-use Rattle.sre_model.proofs.Cost.{cost, ending}
-use Rattle.sre_model.proofs.Outcomes.{region}
-use Rattle.sre_model.proofs.Placed.{none_placed}
-use Rattle.sre_model.proofs.Ran.{ran}
+use Rattle.sre_turns.specs.Board.{Choice, Else, Keep, from_region, BoardValue, bare}
+use Rattle.sre_turns.specs.declared.Point.TheVariants.{Instruction}
+use Rattle.sre_turns.specs.Machine.{Waits, outermost, otherwise, Goes, Ends, Stands, Later, SaysAccepted, outcomes}
+use Rattle.sre_model.specs.Runs.{Run}
+use Rattle.sre_turns.specs.declared.Next.{Next}
+use Rattle.sre_turns.specs.declared.Next.TheVariants as next
+use Rattle.sre_turns.proofs.Cost.{cost, ending}
+use Rattle.sre_turns.proofs.Outcomes.{region}
+use Rattle.sre_turns.proofs.Placed.{none_placed}
+use Rattle.sre_turns.proofs.Ran.{ran}
 
 -- a run from a cursor and a place has the accepted ways of the tree whose words are those from there on
 pub started : (r : Run) (i : ℕ) (t : Tree) (c : StringCursor) (b : BoardValue) → AreWords r.words

@@ -12,18 +12,20 @@ use Rattle.sre_model.specs.Marks.{Marks}
 use Rattle.sre_model.specs.Subject.{Subject}
 use Rattle.sre_model.specs.Ways.{Way, Body, here, unlimited, within, ordered, may_repeat, more, least, loop_ways}
 use Rattle.sre_model.specs.Grammar.{Word, Opcode, skip, until_opcode}
-use Rattle.sre_model.specs.declared.Frame.{Frame}
-use Rattle.sre_model.specs.declared.Point.TheVariants.{Instruction}
-use Rattle.sre_model.specs.Moves.{Spot, spot_at, Move, Go, Split}
-use Rattle.sre_model.specs.MovesInLoops.{in_order, until_move}
-use Rattle.sre_model.specs.Machine.{family, Repeating, Looping, Moves, Runs, turns, goes, splits}
-use Rattle.sre_model.proofs.Moving.{at_instruction}
+use Rattle.sre_turns.specs.declared.Frame.{Frame}
+use Rattle.sre_turns.specs.declared.Point.TheVariants.{Instruction}
+use Rattle.sre_turns.specs.Moves.{Spot, spot_at, Move, Go, Split}
+use Rattle.sre_turns.specs.MovesInLoops.{in_order, until_move}
+use Rattle.sre_turns.specs.Machine.{Moves, Runs, turns, goes, splits}
+use Rattle.sre_model.specs.Roles.{ToRepeat, ToLoop}
+use Rattle.sre_model.proofs.Families.{until_role}
+use Rattle.sre_turns.proofs.Moving.{at_instruction}
 use Rattle.sre_model.proofs.Each.{flat_map-flat_map}
 use Rattle.sre_model.proofs.Bounds.{Bounded, within-all}
 use Rattle.sre_model.proofs.LoopCases.{stays}
 use Rattle.sre_model.proofs.Words.{word_within}
-use Rattle.sre_model.proofs.Cost.{Costs, least_cost, more_cost}
-use Rattle.sre_model.proofs.Outcomes.{followed, Follows, Ran, alone}
+use Rattle.sre_turns.proofs.Cost.{Costs, least_cost, more_cost}
+use Rattle.sre_turns.proofs.Outcomes.{followed, Follows, Ran, alone}
 
 -- counts that are held at the greatest word decide alike
 pub may_repeat-held : (high n c p : ℕ) (last : Option ℕ) → high ≤ unlimited → n ≡ min c unlimited
@@ -65,10 +67,6 @@ ordered_none : (o : Order) (os : List Way) → ordered o [] (os ++ []) ≡ os
 ordered_none Greedy os = append-nil os
 ordered_none Lazy os = append-nil (os ++ []) ∙ append-nil os
 
-until-family : (o : Order) → family (until_opcode o) ≡ Looping o
-until-family Greedy = refl
-until-family Lazy = refl
-
 -- two spots in a loop's order
 in_order-ran : (ws : List ℕ) (s : Subject) (o : Order) (x body end : Spot) (os₁ os₂ : List Way) (n₁ n₂ : ℕ)
     → Moves ws s x (in_order o body end) → Runs ws s body os₁ n₁ → Runs ws s end os₂ n₂
@@ -100,7 +98,7 @@ module _ (ws : List ℕ) (s : Subject) (i u low high : ℕ) (o : Order) (W : Bod
   -- a turn at the loop's end
   until_turn : (n : ℕ) (last : Option ℕ) (fs : List Frame) (p : ℕ) (m : Marks) (mv : Move)
       → mv ≡ until_move o low high u (frame n last) fs (in_loop n last fs p m) → Moves ws s (in_loop n last fs p m) mv
-  until_turn n last fs p m mv e = at_instruction (until_opcode o) (Looping o) (until-family o) wu (record {
+  until_turn n last fs p m mv e = at_instruction (until_opcode o) (ToLoop o) (until_role o) wu (record {
     frame = frame n last;
     outer = fs;
     low = low;
@@ -192,6 +190,6 @@ module _ (ws : List ℕ) (s : Subject) (i u low high : ℕ) (o : Order) (W : Bod
       (λ C p m. suc (least_cost counted (λ q k. rest_cost C q k) low p m))
   loop-ran w lu fs K C p m e f =
       let move : Moves ws s (spot_at (Instruction i) fs p m) (Go (in_loop 0 None fs p m)) =
-      at_instruction opcode.REPEAT Repeating refl w
+      at_instruction opcode.REPEAT ToRepeat refl w
       (record { there = omega (arith, word_within ws (i + 2) low wl); is = rw (← lu) refl }) in
       turns (Go (in_loop 0 None fs p m)) move (goes (least-ran low 0 p m fs K C (omega arith) e f))

@@ -9,25 +9,26 @@ use Rattle.sre_model.specs.Marks.{Marks, group}
 use Rattle.sre_model.specs.Subject.{Subject}
 use Rattle.sre_model.specs.Ways.{Way, Body, here, ways, item_ways, branch_ways}
 use Rattle.sre_model.specs.Grammar.{word, skip, Reads, ReadsItem, ReadsBranch}
-use Rattle.sre_model.specs.declared.Frame.{Frame}
-use Rattle.sre_model.specs.declared.Point.TheVariants.{Instruction, Alternatives}
+use Rattle.sre_turns.specs.declared.Frame.{Frame}
+use Rattle.sre_turns.specs.declared.Point.TheVariants.{Instruction, Alternatives}
 use Rattle.sre_model.specs.Standing.{AreWords}
-use Rattle.sre_model.specs.Moves.{spot_at, Stop, Go}
-use Rattle.sre_model.specs.Machine.{Failing, Branching, Runs, turns, stops, goes}
-use Rattle.sre_model.proofs.Moving.{at_instruction}
+use Rattle.sre_turns.specs.Moves.{spot_at, Stop, Go}
+use Rattle.sre_turns.specs.Machine.{Runs, turns, stops, goes}
+use Rattle.sre_model.specs.Roles.{ToFail, ToBranch}
+use Rattle.sre_turns.proofs.Moving.{at_instruction}
 use Rattle.sre_model.proofs.Each.{flat_map-flat_map}
 use Rattle.sre_model.proofs.Bounds.{ways-bounded}
 use Rattle.sre_model.proofs.Words.{opcode_within, word_there}
 use Rattle.sre_model.proofs.Places.{reads_within, alternative_long, branch_past}
-use Rattle.sre_model.proofs.Cost.{Costs, cost, item_cost, branch_cost}
-use Rattle.sre_model.proofs.Outcomes.{followed, Follows, Ran, moved, alone}
-use Rattle.sre_model.proofs.RanAtItems.{one-ran, at-ran, mark-ran, alternative-ran, last_alternative, skip_there}
-use Rattle.sre_model.proofs.RanAtItems.{jump-ran}
-use Rattle.sre_model.proofs.RanInRuns.{run-ran, lazy-run-ran, longest-run-ran}
-use Rattle.sre_model.proofs.RanInLoops.{loop-ran}
-use Rattle.sre_model.proofs.RanInPossessiveLoops.{possessive-ran}
-use Rattle.sre_model.proofs.RanInRegions.{atomic-ran, ahead-ran, not_ahead-ran}
-use Rattle.sre_model.proofs.RanAtGroups.{reference-ran, condition-ran, present-followed}
+use Rattle.sre_turns.proofs.Cost.{Costs, cost, item_cost, branch_cost}
+use Rattle.sre_turns.proofs.Outcomes.{followed, Follows, Ran, moved, alone}
+use Rattle.sre_turns.proofs.RanAtItems.{one-ran, at-ran, mark-ran, alternative-ran, last_alternative, skip_there}
+use Rattle.sre_turns.proofs.RanAtItems.{jump-ran}
+use Rattle.sre_turns.proofs.RanInRuns.{run-ran, lazy-run-ran, longest-run-ran}
+use Rattle.sre_turns.proofs.RanInLoops.{loop-ran}
+use Rattle.sre_turns.proofs.RanInPossessiveLoops.{possessive-ran}
+use Rattle.sre_turns.proofs.RanInRegions.{atomic-ran, ahead-ran, not_ahead-ran}
+use Rattle.sre_turns.proofs.RanAtGroups.{reference-ran, condition-ran, present-followed}
 
 mutual
   pub ran : (ws : List ℕ) (s : Subject) (i j : ℕ) (t : Tree) → AreWords ws → Reads ws i j t
@@ -41,12 +42,12 @@ mutual
 
   pub item-ran : (ws : List ℕ) (s : Subject) (i j : ℕ) (x : Item) → AreWords ws → ReadsItem ws i j x
       → Ran ws s (Instruction i) j (λ p m. item_ways s x p m) (λ C p m. item_cost s x C p m)
-  item-ran ws s i j Fail v h fs K C p m e f = turns Stop (at_instruction opcode.FAILURE Failing refl h.0 refl) stops
+  item-ran ws s i j Fail v h fs K C p m e f = turns Stop (at_instruction opcode.FAILURE ToFail refl h.0 refl) stops
   item-ran ws s i j (One t) v h fs K C p m e f = one-ran ws s i j t h.0 h.1 fs K C p m e f
   item-ran ws s i j (At a) v h fs K C p m e f = at-ran ws s i j a h.0 h.1.0 h.1.1 fs K C p m e f
   item-ran ws s i j (Mark n) v h fs K C p m e f = mark-ran ws s i j n h.0 h.1.0 h.1.1 fs K C p m e f
   item-ran ws s i j (Branch ts) v h fs K C p m e f =
-      turns (Go (spot_at (Alternatives (i + 1)) fs p m)) (at_instruction opcode.BRANCH Branching refl h.0 refl)
+      turns (Go (spot_at (Alternatives (i + 1)) fs p m)) (at_instruction opcode.BRANCH ToBranch refl h.0 refl)
       (goes (branch-ran ws s (i + 1) j ts v h.1 fs K C p m e f))
   item-ran ws s i j (Run GreedyRun low high t) v h fs K C p m e f =
       run-ran ws s i j low high t h.0 h.1.0 h.1.1 h.1.2 h.1.4 h.1.5 fs K C p m e f

@@ -3,25 +3,21 @@ use Rattle.std.proofs.Common.{◌≡◌, ℕ, suc, ◌+◌, ◌-◌, ◌<◌, �
 use Rattle.std.proofs.Common.{length, Option, Some, None, refl, ap, arith}
 use Rattle.std.proofs.lemmas.Bool.{leb-true, and_parts}
 use Rattle.sre_chars.specs.declared.constants.SreOpcode.TheVariants as opcode
-use Rattle.sre_model.specs.Tree.{Fold, Plain, Ascii, Locale, Unicode}
+use Rattle.sre_model.specs.Tree.{Fold}
 use Rattle.sre_model.specs.Marks.{Marks, group}
 use Rattle.sre_model.specs.Subject.{Subject, same_folded}
 use Rattle.sre_model.specs.Ways.{Body, Way, here, reference_ways}
 use Rattle.sre_model.specs.Grammar.{Word, word, Opcode, reference_opcode}
-use Rattle.sre_model.specs.declared.Frame.{Frame}
-use Rattle.sre_model.specs.declared.Point.TheVariants.{Instruction}
-use Rattle.sre_model.specs.Moves.{Spot, spot_at, Move, Stop, Go}
-use Rattle.sre_model.specs.MovesAtGroups.{reference_turn, condition_place}
-use Rattle.sre_model.specs.Machine.{family, Referring, Asking, Moves, Runs, turns, stops, goes}
-use Rattle.sre_model.proofs.Moving.{at_instruction}
-use Rattle.sre_model.proofs.Cost.{reference_cost, condition_cost}
-use Rattle.sre_model.proofs.Outcomes.{followed, Ran, moved, alone}
-
-pub reference-family : (f : Fold) → family (reference_opcode f) ≡ Referring
-reference-family Plain = refl
-reference-family Ascii = refl
-reference-family Locale = refl
-reference-family Unicode = refl
+use Rattle.sre_turns.specs.declared.Frame.{Frame}
+use Rattle.sre_turns.specs.declared.Point.TheVariants.{Instruction}
+use Rattle.sre_turns.specs.Moves.{Spot, spot_at, Move, Stop, Go}
+use Rattle.sre_turns.specs.MovesAtGroups.{reference_turn, condition_place}
+use Rattle.sre_turns.specs.Machine.{Moves, Runs, turns, stops, goes}
+use Rattle.sre_model.specs.Roles.{ToRefer, ToAsk}
+use Rattle.sre_model.proofs.Families.{reference_role}
+use Rattle.sre_turns.proofs.Moving.{at_instruction}
+use Rattle.sre_turns.proofs.Cost.{reference_cost, condition_cost}
+use Rattle.sre_turns.proofs.Outcomes.{followed, Ran, moved, alone}
 
 pub reference-ran : (ws : List ℕ) (s : Subject) (i j g : ℕ) (f : Fold) → Opcode ws i (reference_opcode f)
     → Word ws (i + 1) g → j ≡ i + 2
@@ -33,7 +29,7 @@ reference-ran ws s i j g f w there l fs K C p m e after = from (group m g) refl
 
     move : (mv : Move) → mv ≡ reference_turn s f g (i + 2) x → Moves ws s x mv
     move mv is =
-        at_instruction (reference_opcode f) Referring (reference-family f) w
+        at_instruction (reference_opcode f) ToRefer (reference_role f) w
         (record { fold = f; number = g; code = w; there = there; is = is })
 
     go : (u : ℕ × ℕ) (y : Bool) → group m g ≡ Some u
@@ -79,7 +75,7 @@ module _ (ws : List ℕ) (s : Subject) (i g : ℕ) (w : Opcode ws i opcode.GROUP
 
       leads : (t : ℕ) → t ≡ condition_place ws i g m → Moves ws s x (Go (spot_at (Instruction t) fs p m))
       leads t e =
-          at_instruction opcode.GROUPREF_EXISTS Asking refl w
+          at_instruction opcode.GROUPREF_EXISTS ToAsk refl w
           (record { number = g; there = there; skips = skips; is = ap (λ q. Go (spot_at (Instruction q) fs p m)) e })
 
       from : (o : Option (ℕ × ℕ)) → group m g ≡ o

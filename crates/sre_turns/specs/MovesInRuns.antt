@@ -6,8 +6,8 @@ use Rattle.sre_model.specs.Subject.{Subject, passes}
 use Rattle.sre_model.specs.Ways.{unlimited, run_length, longest_run}
 use Rattle.sre_model.specs.Grammar.{Word, skip}
 use Rattle.sre_model.specs.Standing.{TestStands}
-use Rattle.sre_model.specs.declared.Point.TheVariants.{Instruction, Shorter, Longer}
-use Rattle.sre_model.specs.Moves.{Spot, to_place, Move, Stop, Go, Split}
+use Rattle.sre_turns.specs.declared.Point.TheVariants.{Instruction, Shorter, Longer}
+use Rattle.sre_turns.specs.Moves.{Spot, to_place, Move, Stop, Go, Split}
 
 -- the operands of a run at i: skip least greatest test SUCCESS
 pub record RunOperands (ws : List ℕ) (i low high end : ℕ) (test : Test) : Type 0 where

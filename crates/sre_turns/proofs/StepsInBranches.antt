@@ -6,15 +6,17 @@ use Rattle.sre_chars.specs.declared.string.StringCursor.{StringCursor}
 use Rattle.sre_model.specs.Ways.{Way}
 use Rattle.sre_model.specs.Grammar.{Word, Opcode}
 use Rattle.sre_model.specs.Subject.{Subject}
-use Rattle.sre_model.specs.Board.{BoardValue}
-use Rattle.sre_model.specs.declared.Point.TheVariants.{Instruction, Alternatives}
-use Rattle.sre_model.specs.Moves.{Spot, spot_at, Stop, Go, Split, to_point}
-use Rattle.sre_model.specs.Machine.{Branching, Moves, Runs, turns, Run, Goes, GoesBoth, Later, spot, HasRun}
-use Rattle.sre_model.specs.Machine.{Refuses, Exhausted, Continues}
-use Rattle.sre_model.specs.declared.Next.TheVariants as next
+use Rattle.sre_turns.specs.Board.{BoardValue}
+use Rattle.sre_turns.specs.declared.Point.TheVariants.{Instruction, Alternatives}
+use Rattle.sre_turns.specs.Moves.{Spot, spot_at, Stop, Go, Split, to_point}
+use Rattle.sre_turns.specs.Machine.{Moves, Runs, turns, Goes, GoesBoth, Later, spot, HasRun, Refuses, Exhausted}
+use Rattle.sre_model.specs.Runs.{Run}
+use Rattle.sre_turns.specs.Machine.{Continues}
+use Rattle.sre_model.specs.Roles.{ToBranch}
+use Rattle.sre_turns.specs.declared.Next.TheVariants as next
 use Rattle.sre_model.proofs.Words.{word_within}
-use Rattle.sre_model.proofs.Moving.{at_instruction, has_run, run_goes, run_splits, turn_stops, turn_goes, turn_splits}
-use Rattle.sre_model.proofs.Moving.{run_nothing, run_second}
+use Rattle.sre_turns.proofs.Moving.{at_instruction, has_run, run_goes, run_splits, turn_stops, turn_goes, turn_splits}
+use Rattle.sre_turns.proofs.Moving.{run_nothing, run_second}
 
 pub positive : (n : ℕ) → (n ≡ 0 → ⊥) → 0 < n
 positive zero no_ = absurd (no_ refl)
@@ -23,7 +25,7 @@ positive (suc n) no_ = omega arith
 -- BRANCH
 branch_moves : (ws : List ℕ) (s : Subject) (i : ℕ) (x : Spot) → x.point ≡ Instruction i → Opcode ws i opcode.BRANCH
     → Moves ws s x (Go (to_point x (Alternatives (i + 1))))
-branch_moves ws s i x e w = rw e (at_instruction opcode.BRANCH Branching refl w refl)
+branch_moves ws s i x e w = rw e (at_instruction opcode.BRANCH ToBranch refl w refl)
 
 pub branch_step : (r : Run) (i : ℕ) (c : StringCursor) (b : BoardValue)
     → Opcode r.words i opcode.BRANCH → (all : List Way) (limit : ℕ) → Goes r all limit (Instruction i) c b

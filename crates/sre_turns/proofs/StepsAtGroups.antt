@@ -1,6 +1,6 @@
 -- Turns at a reference to a group, and at a condition on one.
 use Rattle.std.proofs.Common.{◌≡◌, ℕ, ◌+◌, ◌-◌, ◌<◌, true, false, nat_le, List, length, Some}
-use Rattle.std.proofs.Common.{None, refl, ap}
+use Rattle.std.proofs.Common.{None, refl}
 use Rattle.sre_chars.specs.declared.constants.SreOpcode.{SreOpcode}
 use Rattle.sre_chars.specs.declared.constants.SreOpcode.TheVariants as opcode
 use Rattle.sre_chars.specs.declared.string.StringCursor.{StringCursor}
@@ -9,22 +9,23 @@ use Rattle.sre_model.specs.Marks.{group}
 use Rattle.sre_model.specs.Subject.{same_folded}
 use Rattle.sre_model.specs.Ways.{Way}
 use Rattle.sre_model.specs.Grammar.{Word, Opcode, reference_opcode}
-use Rattle.sre_model.specs.Board.{BoardValue}
-use Rattle.sre_model.specs.declared.Point.TheVariants.{Instruction}
-use Rattle.sre_model.specs.Moves.{Move, Stop, Go}
-use Rattle.sre_model.specs.MovesAtGroups.{reference_turn, condition_place}
-use Rattle.sre_model.specs.Roles.{ToRefer, role}
-use Rattle.sre_model.specs.Machine.{family_of, Asking, Referring, Moves, Run, Goes, Later, spot, HasRun}
-use Rattle.sre_model.specs.declared.Next.TheVariants as next
+use Rattle.sre_turns.specs.Board.{BoardValue}
+use Rattle.sre_turns.specs.declared.Point.TheVariants.{Instruction}
+use Rattle.sre_turns.specs.Moves.{Move, Stop, Go}
+use Rattle.sre_turns.specs.MovesAtGroups.{reference_turn, condition_place}
+use Rattle.sre_model.specs.Roles.{ToRefer, role, ToAsk}
+use Rattle.sre_turns.specs.Machine.{Moves, Goes, Later, spot, HasRun}
+use Rattle.sre_model.specs.Runs.{Run}
+use Rattle.sre_model.proofs.Families.{reference_role}
+use Rattle.sre_turns.specs.declared.Next.TheVariants as next
 use Rattle.sre_model.proofs.Words.{same_opcode, word_of, word_within}
-use Rattle.sre_model.proofs.Moving.{in_family, at_instruction, turn_stops, turn_goes}
-use Rattle.sre_model.proofs.RanAtGroups.{reference-family}
+use Rattle.sre_turns.proofs.Moving.{in_role, at_instruction, turn_stops, turn_goes}
 
 -- GROUPREF and its foldings
 pub reference_operand : (r : Run) (fold : Fold) (i : ℕ) (c : StringCursor) → Opcode r.words i (reference_opcode fold)
     → HasRun r (Instruction i) c → i + 1 < length r.words
 reference_operand r fold i c w x =
-    let h = (in_family (reference_opcode fold) Referring (reference-family fold) w x.runs).1 in
+    let h = (in_role (reference_opcode fold) ToRefer (reference_role fold) w x.runs).1 in
     word_within r.words (i + 1) h.number h.there
 
 -- which folding it is
@@ -32,7 +33,7 @@ pub reference_there : (r : Run) (i : ℕ) (c : StringCursor) (o : SreOpcode) →
     → HasRun r (Instruction i) c
     → (fold : Fold) × (o ≡ reference_opcode fold) × Opcode r.words i (reference_opcode fold)
 reference_there r i c o w e x =
-    let h = (in_family o Referring (ap (λ k. family_of k) e) w x.runs).1 in
+    let h = (in_role o ToRefer (e) w x.runs).1 in
     (h.fold, same_opcode r.words i o (reference_opcode h.fold) w h.code, h.code)
 
 module _ (r : Run) (fold : Fold) (i g : ℕ) (c : StringCursor) (b : BoardValue)
@@ -40,7 +41,7 @@ module _ (r : Run) (fold : Fold) (i g : ℕ) (c : StringCursor) (b : BoardValue)
   refers : (mv : Move) → mv ≡ reference_turn r.subject fold g (i + 2) (spot (Instruction i) c b)
       → Moves r.words r.subject (spot (Instruction i) c b) mv
   refers mv is =
-      at_instruction (reference_opcode fold) Referring (reference-family fold) w
+      at_instruction (reference_opcode fold) ToRefer (reference_role fold) w
       (record { fold = fold; number = g; code = w; there = there; is = is })
 
   pub reference_missing : group b.marks g ≡ None → (all : List Way) (limit : ℕ) → Goes r all limit (Instruction i) c b
@@ -71,7 +72,7 @@ module _ (r : Run) (fold : Fold) (i g : ℕ) (c : StringCursor) (b : BoardValue)
 -- GROUPREF_EXISTS
 pub condition_operands : (r : Run) (i : ℕ) (c : StringCursor) → Opcode r.words i opcode.GROUPREF_EXISTS
     → HasRun r (Instruction i) c → i + 2 < length r.words
-condition_operands r i c w x = (in_family opcode.GROUPREF_EXISTS Asking refl w x.runs).1.skips
+condition_operands r i c w x = (in_role opcode.GROUPREF_EXISTS ToAsk refl w x.runs).1.skips
 
 module _ (r : Run) (i g v : ℕ) (c : StringCursor) (b : BoardValue) (w : Opcode r.words i opcode.GROUPREF_EXISTS)
     (there : Word r.words (i + 1) g) (leads : Word r.words (i + 2) v) where
@@ -79,7 +80,7 @@ module _ (r : Run) (i g v : ℕ) (c : StringCursor) (b : BoardValue) (w : Opcode
       → Goes r all limit (Instruction i) c b → Later r all limit (next.At (i + 3) c) b
   condition_present u known all limit k =
       turn_goes r (Instruction i) c b (Instruction (i + 3)) c b
-      (at_instruction opcode.GROUPREF_EXISTS Asking refl w
+      (at_instruction opcode.GROUPREF_EXISTS ToAsk refl w
       (record {
         number = g;
         there = there;
@@ -91,7 +92,7 @@ module _ (r : Run) (i g v : ℕ) (c : StringCursor) (b : BoardValue) (w : Opcode
       → Goes r all limit (Instruction i) c b → Later r all limit (next.At (i + 1 + v) c) b
   condition_absent known all limit k =
       turn_goes r (Instruction i) c b (Instruction (i + 1 + v)) c b
-      (at_instruction opcode.GROUPREF_EXISTS Asking refl w (record {
+      (at_instruction opcode.GROUPREF_EXISTS ToAsk refl w (record {
         number = g;
         there = there;
         skips = word_within r.words (i + 2) v leads;

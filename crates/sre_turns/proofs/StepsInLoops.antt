@@ -7,23 +7,25 @@ use Rattle.sre_chars.specs.declared.string.StringCursor.{StringCursor}
 use Rattle.sre_model.specs.Tree.{Order, Greedy, Lazy}
 use Rattle.sre_model.specs.Ways.{Way, may_repeat}
 use Rattle.sre_model.specs.Grammar.{Word, Opcode, until_opcode}
-use Rattle.sre_model.specs.Board.{Else, BoardValue}
-use Rattle.sre_model.specs.declared.Frame.{Frame}
-use Rattle.sre_model.specs.declared.Point.TheVariants.{Instruction}
-use Rattle.sre_model.specs.Moves.{Spot, Move, Go}
-use Rattle.sre_model.specs.MovesInLoops.{first_frame, next_frame, at_body, behind, in_order, until_move}
-use Rattle.sre_model.specs.Machine.{family, Repeating, Looping, Moves, Run, Goes, Later, Stands, spot, HasRun, IsAt}
-use Rattle.sre_model.specs.Machine.{Refuses, with_loop}
-use Rattle.sre_model.specs.declared.Next.{Next}
-use Rattle.sre_model.specs.declared.Next.TheVariants as next
+use Rattle.sre_turns.specs.Board.{Else, BoardValue}
+use Rattle.sre_turns.specs.declared.Frame.{Frame}
+use Rattle.sre_turns.specs.declared.Point.TheVariants.{Instruction}
+use Rattle.sre_turns.specs.Moves.{Spot, Move, Go}
+use Rattle.sre_turns.specs.MovesInLoops.{first_frame, next_frame, at_body, behind, in_order, until_move}
+use Rattle.sre_turns.specs.Machine.{Moves, Goes, Later, Stands, spot, HasRun, IsAt, Refuses, with_loop}
+use Rattle.sre_model.specs.Runs.{Run}
+use Rattle.sre_turns.specs.declared.Next.{Next}
+use Rattle.sre_model.specs.Roles.{ToRepeat, ToLoop}
+use Rattle.sre_model.proofs.Families.{until_role}
+use Rattle.sre_turns.specs.declared.Next.TheVariants as next
 use Rattle.sre_model.proofs.Words.{word_of, word_within}
-use Rattle.sre_model.proofs.Moving.{in_family, at_instruction, has_run, run_goes, run_splits, turn_goes, turn_splits}
-use Rattle.sre_model.proofs.Moving.{both_wait, both_first, both_second}
+use Rattle.sre_turns.proofs.Moving.{in_role, at_instruction, has_run, run_goes, run_splits, turn_goes, turn_splits}
+use Rattle.sre_turns.proofs.Moving.{both_wait, both_first, both_second}
 
 -- REPEAT
 pub repeat_operand : (r : Run) (i : ℕ) (c : StringCursor) → Opcode r.words i opcode.REPEAT → HasRun r (Instruction i) c
     → i + 1 < length r.words
-repeat_operand r i c w x = (in_family opcode.REPEAT Repeating refl w x.runs).1.there
+repeat_operand r i c w x = (in_role opcode.REPEAT ToRepeat refl w x.runs).1.there
 
 pub repeat_step : (r : Run) (i v : ℕ) (c : StringCursor) (b b' : BoardValue) → Opcode r.words i opcode.REPEAT
     → Word r.words (i + 1) v → b' ≡ record b { frames = first_frame i ∷ b.frames } → (all : List Way) (limit : ℕ)
@@ -31,7 +33,7 @@ pub repeat_step : (r : Run) (i v : ℕ) (c : StringCursor) (b b' : BoardValue) �
 repeat_step r i v c b b' w wv eb all limit g =
     let entered : BoardValue = record b { frames = first_frame i ∷ b.frames } in
     subst (λ x. Later r all limit (next.At (i + 1 + v) c) x) (sym eb)
-    (turn_goes r (Instruction i) c b (Instruction (i + 1 + v)) c entered (at_instruction opcode.REPEAT Repeating refl w
+    (turn_goes r (Instruction i) c b (Instruction (i + 1 + v)) c entered (at_instruction opcode.REPEAT ToRepeat refl w
     (record { there = word_within r.words (i + 1) v wv; is = rw (word_of r.words (i + 1) v wv) refl }))
     g.stands g.placed refl all limit g)
 
@@ -41,7 +43,7 @@ pub repeat_begun : (r : Run) (i v : ℕ) (c : StringCursor) (b : BoardValue) →
     → IsAt r (Instruction (i + 1 + v)) c (with_loop (first_frame i) b)
 repeat_begun r i v c b w wv x =
     let begun : BoardValue = with_loop (first_frame i) b in
-    let y = run_goes (spot (Instruction (i + 1 + v)) c begun) (at_instruction opcode.REPEAT Repeating refl w
+    let y = run_goes (spot (Instruction (i + 1 + v)) c begun) (at_instruction opcode.REPEAT ToRepeat refl w
     (record { there = word_within r.words (i + 1) v wv; is = rw (word_of r.words (i + 1) v wv) refl })) x.runs in
     record { outcomes = y.outcomes; turns = y.turns; stands = x.stands; placed = x.placed; runs = y.runs }
 
@@ -89,10 +91,6 @@ repeat_further r i v c b b' n w wv h all limit g =
     let later = h all (limit - 1) begun.1 in
     (begun.0, stands_more r all (limit - 1 - 1) (limit - 1) n b' (omega arith) later.1)
 
-until_family : (o : Order) → family (until_opcode o) ≡ Looping o
-until_family Greedy = refl
-until_family Lazy = refl
-
 -- the innermost loop, whose body ends at u, and its counts
 pub record InLoop (r : Run) (o : Order) (u low high : ℕ) (b : BoardValue) (f : Frame) : Type 0 where
   pub code : Opcode r.words u (until_opcode o)
@@ -104,14 +102,14 @@ pub record InLoop (r : Run) (o : Order) (u low high : ℕ) (b : BoardValue) (f :
 pub until_frames : (r : Run) (o : Order) (u : ℕ) (c : StringCursor) (b : BoardValue) → Opcode r.words u (until_opcode o)
     → IsAt r (Instruction u) c b → 0 < length b.frames
 until_frames r o u c b w x =
-    let h = (in_family (until_opcode o) (Looping o) (until_family o) w x.runs).1 in
+    let h = (in_role (until_opcode o) (ToLoop o) (until_role o) w x.runs).1 in
     rw h.inside (omega arith)
 
 pub until_there : (r : Run) (o : Order) (u : ℕ) (c : StringCursor) (b : BoardValue) (f : Frame)
     → Opcode r.words u (until_opcode o) → IsAt r (Instruction u) c b → b.frames ≡ f ∷ drop 1 b.frames
     → (low : ℕ) × (high : ℕ) × InLoop r o u low high b f
 until_there r o u c b f w x e =
-    let h = (in_family (until_opcode o) (Looping o) (until_family o) w x.runs).1 in
+    let h = (in_role (until_opcode o) (ToLoop o) (until_role o) w x.runs).1 in
     let frames : h.frame ∷ h.outer ≡ f ∷ drop 1 b.frames = sym h.inside ∙ e in
     let frame : h.frame ≡ f = cc in (
       h.low,
@@ -135,7 +133,7 @@ until_operands r o u c b f w x e =
 until_at : (r : Run) (o : Order) (u low high : ℕ) (c : StringCursor) (b : BoardValue) (f : Frame) (mv : Move)
     → InLoop r o u low high b f → mv ≡ until_move o low high u f (drop 1 b.frames) (spot (Instruction u) c b)
     → Moves r.words r.subject (spot (Instruction u) c b) mv
-until_at r o u low high c b f mv h e = at_instruction (until_opcode o) (Looping o) (until_family o) h.code (record {
+until_at r o u low high c b f mv h e = at_instruction (until_opcode o) (ToLoop o) (until_role o) h.code (record {
   frame = f;
   outer = drop 1 b.frames;
   low = low;

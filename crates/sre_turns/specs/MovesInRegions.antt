@@ -3,10 +3,10 @@
 use Rattle.std.specs.Prelude.{ℕ, ◌+◌, ◌-◌, ◌≡◌, ◌<◌, length, cond, nat_lt, List, []}
 use Rattle.sre_model.specs.Tree.{Sign, Positive, Negative}
 use Rattle.sre_model.specs.Grammar.{Word, skip}
-use Rattle.sre_model.specs.declared.Region.TheVariants.{AtomicGroup, Ahead, NotAhead}
-use Rattle.sre_model.specs.declared.Region.{Region}
-use Rattle.sre_model.specs.declared.Point.TheVariants.{Instruction}
-use Rattle.sre_model.specs.Moves.{Spot, to_point, to_place, Move, Enter, closed}
+use Rattle.sre_turns.specs.declared.Region.TheVariants.{AtomicGroup, Ahead, NotAhead}
+use Rattle.sre_turns.specs.declared.Region.{Region}
+use Rattle.sre_turns.specs.declared.Point.TheVariants.{Instruction}
+use Rattle.sre_turns.specs.Moves.{Spot, to_point, to_place, Move, Enter, closed}
 
 -- ATOMIC_GROUP
 pub record AtomicMove (ws : List ℕ) (i : ℕ) (x : Spot) (mv : Move) : Type 0 where

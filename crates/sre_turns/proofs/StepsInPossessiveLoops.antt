@@ -6,17 +6,19 @@ use Rattle.sre_chars.specs.declared.constants.SreOpcode.TheVariants as opcode
 use Rattle.sre_chars.specs.declared.string.StringCursor.{StringCursor}
 use Rattle.sre_model.specs.Ways.{Way, may_repeat}
 use Rattle.sre_model.specs.Grammar.{Word, Opcode}
-use Rattle.sre_model.specs.Board.{Keep, BoardValue}
-use Rattle.sre_model.specs.declared.Frame.{Frame}
-use Rattle.sre_model.specs.declared.Region.{Region}
-use Rattle.sre_model.specs.declared.Region.TheVariants.{Owed, Further}
-use Rattle.sre_model.specs.declared.Point.TheVariants.{Instruction, Again}
-use Rattle.sre_model.specs.Moves.{Move, Go}
-use Rattle.sre_model.specs.MovesInLoops.{first_frame, next_frame, enter_body, again_move}
-use Rattle.sre_model.specs.Machine.{RepeatingPossessively, Moves, Run, Runs, turns, Goes, Later, spot, IsAt}
-use Rattle.sre_model.specs.declared.Next.TheVariants as next
+use Rattle.sre_turns.specs.Board.{Keep, BoardValue}
+use Rattle.sre_turns.specs.declared.Frame.{Frame}
+use Rattle.sre_turns.specs.declared.Region.{Region}
+use Rattle.sre_turns.specs.declared.Region.TheVariants.{Owed, Further}
+use Rattle.sre_turns.specs.declared.Point.TheVariants.{Instruction, Again}
+use Rattle.sre_turns.specs.Moves.{Move, Go}
+use Rattle.sre_turns.specs.MovesInLoops.{first_frame, next_frame, enter_body, again_move}
+use Rattle.sre_turns.specs.Machine.{Moves, Runs, turns, Goes, Later, spot, IsAt}
+use Rattle.sre_model.specs.Runs.{Run}
+use Rattle.sre_model.specs.Roles.{ToRepeatPossessively}
+use Rattle.sre_turns.specs.declared.Next.TheVariants as next
 use Rattle.sre_model.proofs.Words.{word_of, word_within}
-use Rattle.sre_model.proofs.Moving.{at_instruction, turn_goes, turn_enters}
+use Rattle.sre_turns.proofs.Moving.{at_instruction, turn_goes, turn_enters}
 
 -- POSSESSIVE_REPEAT
 pub possessive_step : (r : Run) (i : ℕ) (c : StringCursor) (b b' : BoardValue)
@@ -26,7 +28,7 @@ possessive_step r i c b b' w eb all limit g =
     let begun : BoardValue = record b { frames = first_frame i ∷ b.frames } in
     subst (λ x. Later r all limit (next.Again c) x) (sym eb)
     (turn_goes r (Instruction i) c b Again c begun
-    (at_instruction opcode.POSSESSIVE_REPEAT RepeatingPossessively refl w refl) g.stands g.placed refl all limit g)
+    (at_instruction opcode.POSSESSIVE_REPEAT ToRepeatPossessively refl w refl) g.stands g.placed refl all limit g)
 
 -- the innermost loop, and its counts
 pub record InPossessiveLoop (r : Run) (v low high : ℕ) (b : BoardValue) (f : Frame) : Type 0 where

@@ -2,15 +2,16 @@
 use Rattle.std.proofs.Common.{◌≡◌, ℕ, ◌-◌, ◌≤◌, List, [], ◌∷◌, refl, sym, ap, ◌∙◌, subst, arith}
 use Rattle.sre_chars.specs.declared.string.StringCursor.{StringCursor}
 use Rattle.sre_model.specs.Ways.{Way}
-use Rattle.sre_model.specs.Board.{Else, Keep, choice, BoardValue}
-use Rattle.sre_model.specs.declared.Region.{Region}
-use Rattle.sre_model.specs.declared.Point.TheVariants.{Inside}
-use Rattle.sre_model.specs.declared.Point.{Point}
-use Rattle.sre_model.specs.Machine.{Run, Waits, outermost, otherwise, Goes, Backs, Stands, Later, without_outcome}
-use Rattle.sre_model.specs.Machine.{without_loop}
-use Rattle.sre_model.specs.declared.Next.{Next}
-use Rattle.sre_model.specs.declared.Next.TheVariants as next
-use Rattle.sre_model.proofs.StepsInRegions.{region_back}
+use Rattle.sre_turns.specs.Board.{Else, Keep, choice, BoardValue}
+use Rattle.sre_turns.specs.declared.Region.{Region}
+use Rattle.sre_turns.specs.declared.Point.TheVariants.{Inside}
+use Rattle.sre_turns.specs.declared.Point.{Point}
+use Rattle.sre_turns.specs.Machine.{Waits, outermost, otherwise, Goes, Backs, Stands, Later, without_outcome}
+use Rattle.sre_model.specs.Runs.{Run}
+use Rattle.sre_turns.specs.Machine.{without_loop}
+use Rattle.sre_turns.specs.declared.Next.{Next}
+use Rattle.sre_turns.specs.declared.Next.TheVariants as next
+use Rattle.sre_turns.proofs.StepsInRegions.{region_back}
 
 -- a choice is resumed
 pub back_none : (r : Run) (b : BoardValue) → b.choices ≡ [] → (all : List Way) (limit : ℕ)

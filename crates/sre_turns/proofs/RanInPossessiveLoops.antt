@@ -11,19 +11,20 @@ use Rattle.sre_model.specs.Ways.{Way, Body, here, first, unlimited, within, may_
 use Rattle.sre_model.specs.Ways.{possessive_ways}
 use Rattle.sre_model.specs.Loops.{first_of_body, or_here}
 use Rattle.sre_model.specs.Grammar.{Word, Opcode, skip}
-use Rattle.sre_model.specs.declared.Frame.{Frame}
-use Rattle.sre_model.specs.declared.Region.TheVariants.{Owed, Further}
-use Rattle.sre_model.specs.declared.Point.TheVariants.{Instruction, Again}
-use Rattle.sre_model.specs.Moves.{Spot, spot_at, Move, Go, Enter, closed}
-use Rattle.sre_model.specs.MovesInLoops.{again_move}
-use Rattle.sre_model.specs.Machine.{RepeatingPossessively, Moves, Runs, turns, stops, goes, enters, Comes}
-use Rattle.sre_model.proofs.Moving.{at_instruction}
+use Rattle.sre_turns.specs.declared.Frame.{Frame}
+use Rattle.sre_turns.specs.declared.Region.TheVariants.{Owed, Further}
+use Rattle.sre_turns.specs.declared.Point.TheVariants.{Instruction, Again}
+use Rattle.sre_turns.specs.Moves.{Spot, spot_at, Move, Go, Enter, closed}
+use Rattle.sre_turns.specs.MovesInLoops.{again_move}
+use Rattle.sre_turns.specs.Machine.{Moves, Runs, turns, stops, goes, enters, Comes}
+use Rattle.sre_model.specs.Roles.{ToRepeatPossessively}
+use Rattle.sre_turns.proofs.Moving.{at_instruction}
 use Rattle.sre_model.proofs.Bounds.{Between, EachBetween, Bounded, within-all}
 use Rattle.sre_model.proofs.LoopCases.{stays}
 use Rattle.sre_model.proofs.PossessiveCases.{first-bounded, first_of_body-all}
-use Rattle.sre_model.proofs.Cost.{Costs, ending, atomic_cost, owed_cost, further_cost, possessive_cost}
-use Rattle.sre_model.proofs.Outcomes.{followed, Follows, Ran, alone, region}
-use Rattle.sre_model.proofs.RanInLoops.{may_repeat-held, Room, room_left}
+use Rattle.sre_turns.proofs.Cost.{Costs, ending, atomic_cost, owed_cost, further_cost, possessive_cost}
+use Rattle.sre_turns.proofs.Outcomes.{followed, Follows, Ran, alone, region}
+use Rattle.sre_turns.proofs.RanInLoops.{may_repeat-held, Room, room_left}
 
 module _ (ws : List ℕ) (s : Subject) (i u low high : ℕ) (W : Body) (counted : Costs → Costs) (b : Bounded s W)
     (highest : high ≤ unlimited) (counts : low ≤ high) (wl : Word ws (i + 2) low) (wh : Word ws (i + 3) high)
@@ -165,5 +166,5 @@ module _ (ws : List ℕ) (s : Subject) (i u low high : ℕ) (W : Body) (counted 
       → Ran ws s (Instruction i) (u + 1) (λ p m. possessive_ways s low high W p m)
       (λ C p m. suc (owed_cost counted W (λ q k. rest_cost C q k) low p m))
   possessive-ran w fs K C p m e f =
-      turns (Go (at_loop 0 None fs p m)) (at_instruction opcode.POSSESSIVE_REPEAT RepeatingPossessively refl w refl)
+      turns (Go (at_loop 0 None fs p m)) (at_instruction opcode.POSSESSIVE_REPEAT ToRepeatPossessively refl w refl)
       (goes (owed-ran low 0 p m fs K C (omega arith) e f))

@@ -1,6 +1,6 @@
 -- A turn of the machine, whatever the opcode: what it comes to, and that the accepted outcomes stay.
 use Rattle.std.proofs.Common.{◌≡◌, ℕ, suc, ◌+◌, ◌-◌, ◌<◌, ◌≤◌, List, [], ◌∷◌, ◌++◌, length, refl, sym, ap, ◌∙◌, subst}
-use Rattle.std.proofs.Common.{arith}
+use Rattle.std.proofs.Common.{arith, true}
 use Rattle.std.proofs.lemmas.List.{append-nil}
 use Rattle.sre_chars.specs.declared.constants.SreOpcode.{SreOpcode}
 use Rattle.sre_chars.specs.declared.string.StringCursor.{StringCursor}
@@ -9,28 +9,30 @@ use Rattle.sre_model.specs.Marks.{Marks}
 use Rattle.sre_model.specs.Subject.{Subject}
 use Rattle.sre_model.specs.Ways.{Way}
 use Rattle.sre_model.specs.Grammar.{Word, Opcode, skip}
-use Rattle.sre_model.specs.Board.{Choice, Else, Keep, choice, from_region, BoardValue}
-use Rattle.sre_model.specs.declared.Frame.{Frame}
-use Rattle.sre_model.specs.declared.Region.{Region}
-use Rattle.sre_model.specs.declared.Point.TheVariants.{Instruction, Alternatives, Shorter, Longer, Inside, Again}
-use Rattle.sre_model.specs.declared.Point.{Point}
-use Rattle.sre_model.specs.Moves.{Spot, spot_at, Move, Stop, End, Go, Split, Enter, TestMove, AtMove, MarkMove}
-use Rattle.sre_model.specs.Moves.{AlternativesMove}
-use Rattle.sre_model.specs.MovesInRuns.{RunOperands, run_turn, RunMove, LongerMove}
-use Rattle.sre_model.specs.MovesInLoops.{UntilMove, AgainMove}
-use Rattle.sre_model.specs.MovesInRegions.{LookMove}
-use Rattle.sre_model.specs.MovesAtGroups.{ReferenceMove, ConditionMove}
-use Rattle.sre_model.specs.Machine.{Family, family, Failing, Ending, Testing, Standing, Marking, Branching, Jumping}
-use Rattle.sre_model.specs.Machine.{Running, Repeating, Looping, RepeatingPossessively, Grouping, Looking, Referring}
-use Rattle.sre_model.specs.Machine.{Asking, Nothing, Placed}
-use Rattle.sre_model.specs.Machine.{InFamily, Moves, MovesAt, Runs, turns, Comes, stops, ends, goes, splits, enters}
-use Rattle.sre_model.specs.Machine.{Run, Waits, otherwise, kept, Goes, GoesBoth, Later, spot, HasRun, IsAt, Refuses}
-use Rattle.sre_model.specs.Machine.{Skips, SkipsBoth, Exhausted, Continues}
-use Rattle.sre_model.specs.declared.Next.TheVariants as next
+use Rattle.sre_turns.specs.Board.{Choice, Else, Keep, choice, from_region, BoardValue}
+use Rattle.sre_turns.specs.declared.Frame.{Frame}
+use Rattle.sre_turns.specs.declared.Region.{Region}
+use Rattle.sre_turns.specs.declared.Point.TheVariants.{Instruction, Alternatives, Shorter, Longer, Inside, Again}
+use Rattle.sre_turns.specs.declared.Point.{Point}
+use Rattle.sre_turns.specs.Moves.{Spot, spot_at, Move, Stop, End, Go, Split, Enter, TestMove, AtMove, MarkMove}
+use Rattle.sre_turns.specs.Moves.{AlternativesMove}
+use Rattle.sre_turns.specs.MovesInRuns.{RunOperands, run_turn, RunMove, LongerMove}
+use Rattle.sre_turns.specs.MovesInLoops.{UntilMove, AgainMove}
+use Rattle.sre_turns.specs.MovesInRegions.{LookMove}
+use Rattle.sre_turns.specs.MovesAtGroups.{ReferenceMove, ConditionMove}
+use Rattle.sre_turns.specs.Machine.{Placed, InRole, Moves, MovesAt, Runs, turns, Comes, stops, ends, goes, splits}
+use Rattle.sre_turns.specs.Machine.{enters, Waits, otherwise, kept, Goes, GoesBoth, Later, spot, HasRun, IsAt}
+use Rattle.sre_model.specs.Runs.{Run}
+use Rattle.sre_turns.specs.Machine.{Refuses, Skips, SkipsBoth, Exhausted, Continues}
+use Rattle.sre_model.specs.Roles.{Role, ToFail, ToEnd, ToTest, ToStand, ToMark, ToBranch, ToJump, ToRun, ToRepeat}
+use Rattle.sre_model.specs.Roles.{ToLoop, ToRepeatPossessively, ToGroup, ToLook, ToRefer, ToAsk, ToNothing, role}
+use Rattle.sre_model.specs.Roles.{begins_test}
+use Rattle.sre_turns.specs.declared.Next.TheVariants as next
 use Rattle.sre_model.proofs.Words.{same_word, same_opcode, same_at, opcode_within}
+use Rattle.sre_model.proofs.Families.{some_test}
 use Rattle.sre_model.proofs.Unique.{test_same, same_reference_fold}
 
--- a turn is determined, family by family
+-- a turn is determined, role by role
 
 same_test : (ws : List ℕ) (s : Subject) (i : ℕ) (x : Spot) (a b : Move) → TestMove ws s i x a
     → TestMove ws s i x b → a ≡ b
@@ -111,31 +113,31 @@ same_condition : (ws : List ℕ) (i : ℕ) (x : Spot) (a b : Move) → Condition
     → a ≡ b
 same_condition ws i x a b h k = h.is ∙ rw (same_word ws (i + 1) h.number k.number h.there k.there) (sym k.is)
 
-same_in : (ws : List ℕ) (s : Subject) (f : Family) (i : ℕ) (x : Spot) (a b : Move) → InFamily ws s f i x a
-    → InFamily ws s f i x b → a ≡ b
-same_in ws s Failing i x a b h k = h ∙ sym k
-same_in ws s Ending i x a b h k = h ∙ sym k
-same_in ws s Testing i x a b h k = same_test ws s i x a b h k
-same_in ws s Standing i x a b h k = same_at_code ws s i x a b h k
-same_in ws s Marking i x a b h k = same_mark ws i x a b h k
-same_in ws s Branching i x a b h k = h ∙ sym k
-same_in ws s Jumping i x a b h k = h.is ∙ sym k.is
-same_in ws s (Running kind) i x a b h k = same_run ws s kind i x a b h k
-same_in ws s Repeating i x a b h k = h.is ∙ sym k.is
-same_in ws s (Looping o) i x a b h k = same_until ws o i x a b h k
-same_in ws s RepeatingPossessively i x a b h k = h ∙ sym k
-same_in ws s Grouping i x a b h k = h.is ∙ sym k.is
-same_in ws s (Looking g) i x a b h k = same_look ws g i x a b h k
-same_in ws s Referring i x a b h k = same_reference ws s i x a b h k
-same_in ws s Asking i x a b h k = same_condition ws i x a b h k
-same_in ws s Nothing i x a b h k = absurd h
+same_in : (ws : List ℕ) (s : Subject) (f : Role) (i : ℕ) (x : Spot) (a b : Move) → InRole ws s f i x a
+    → InRole ws s f i x b → a ≡ b
+same_in ws s ToFail i x a b h k = h ∙ sym k
+same_in ws s ToEnd i x a b h k = h ∙ sym k
+same_in ws s (ToTest kind) i x a b h k = same_test ws s i x a b h k
+same_in ws s ToStand i x a b h k = same_at_code ws s i x a b h k
+same_in ws s ToMark i x a b h k = same_mark ws i x a b h k
+same_in ws s ToBranch i x a b h k = h ∙ sym k
+same_in ws s ToJump i x a b h k = h.is ∙ sym k.is
+same_in ws s (ToRun kind) i x a b h k = same_run ws s kind i x a b h k
+same_in ws s ToRepeat i x a b h k = h.is ∙ sym k.is
+same_in ws s (ToLoop o) i x a b h k = same_until ws o i x a b h k
+same_in ws s ToRepeatPossessively i x a b h k = h ∙ sym k
+same_in ws s ToGroup i x a b h k = h.is ∙ sym k.is
+same_in ws s (ToLook g) i x a b h k = same_look ws g i x a b h k
+same_in ws s ToRefer i x a b h k = same_reference ws s i x a b h k
+same_in ws s ToAsk i x a b h k = same_condition ws i x a b h k
+same_in ws s ToNothing i x a b h k = absurd h
 
 -- a turn is determined
 pub moves_same : (ws : List ℕ) (s : Subject) (pt : Point) (x : Spot) (a b : Move) → MovesAt ws s pt x a
     → MovesAt ws s pt x b → a ≡ b
 moves_same ws s (Instruction i) x a b h k =
-    let same : family h.0 ≡ family k.0 = ap (λ o. family o) (same_opcode ws i h.0 k.0 h.1 k.1) in
-    same_in ws s (family k.0) i x a b (subst (λ f. InFamily ws s f i x a) same h.2) k.2
+    let same : role h.0 ≡ role k.0 = ap (λ o. role o) (same_opcode ws i h.0 k.0 h.1 k.1) in
+    same_in ws s (role k.0) i x a b (subst (λ f. InRole ws s f i x a) same h.2) k.2
 moves_same ws s (Alternatives q) x a b h k = same_alternatives ws q x a b h k
 moves_same ws s (Shorter t n) x a b h k = h.is ∙ sym k.is
 moves_same ws s (Longer i n) x a b h k = same_longer ws s i n x a b h k
@@ -149,20 +151,29 @@ comes {ws} {s} {x} {os} {n} mv h (turns mv' h' d) =
     subst (λ z. Comes ws s x z os n) (moves_same ws s x.point x mv' mv h' h) d
 
 -- what stands at an instruction
-pub in_family : {ws : List ℕ} {s : Subject} {i p n : ℕ} {fs : List Frame} {m : Marks} {os : List Way} (o : SreOpcode)
-    (f : Family)
-    → family o ≡ f → Opcode ws i o → Runs ws s (spot_at (Instruction i) fs p m) os n
-    → (mv : Move) × InFamily ws s f i (spot_at (Instruction i) fs p m) mv
-in_family {ws} {s} {i} {p} {n} {fs} {m} o f e w (turns mv h d) = (
+pub in_role : {ws : List ℕ} {s : Subject} {i p n : ℕ} {fs : List Frame} {m : Marks} {os : List Way} (o : SreOpcode)
+    (f : Role) → role o ≡ f → Opcode ws i o → Runs ws s (spot_at (Instruction i) fs p m) os n
+    → (mv : Move) × InRole ws s f i (spot_at (Instruction i) fs p m) mv
+in_role {ws} {s} {i} {p} {n} {fs} {m} o f e w (turns mv h d) = (
   mv,
-  subst (λ z. InFamily ws s z i (spot_at (Instruction i) fs p m) mv)
-      (ap (λ z. family z) (same_opcode ws i h.0 o h.1 w) ∙ e) h.2,
+  subst (λ z. InRole ws s z i (spot_at (Instruction i) fs p m) mv)
+      (ap (λ z. role z) (same_opcode ws i h.0 o h.1 w) ∙ e) h.2,
 )
 
--- a turn at an instruction whose family is known
-pub at_instruction : {ws : List ℕ} {s : Subject} {i : ℕ} {x : Spot} {mv : Move} (o : SreOpcode) (f : Family)
-    → family o ≡ f → Opcode ws i o → InFamily ws s f i x mv → MovesAt ws s (Instruction i) x mv
-at_instruction {ws} {s} {i} {x} {mv} o f e w h = (o, w, subst (λ z. InFamily ws s z i x mv) (sym e) h)
+-- a turn at an instruction whose role is known
+pub at_instruction : {ws : List ℕ} {s : Subject} {i : ℕ} {x : Spot} {mv : Move} (o : SreOpcode) (f : Role)
+    → role o ≡ f → Opcode ws i o → InRole ws s f i x mv → MovesAt ws s (Instruction i) x mv
+at_instruction {ws} {s} {i} {x} {mv} o f e w h = (o, w, subst (λ z. InRole ws s z i x mv) (sym e) h)
+
+-- the same of a test, whose kind is not looked at
+pub in_test : {ws : List ℕ} {s : Subject} {i p n : ℕ} {fs : List Frame} {m : Marks} {os : List Way} (o : SreOpcode)
+    → begins_test o ≡ true → Opcode ws i o → Runs ws s (spot_at (Instruction i) fs p m) os n
+    → (mv : Move) × TestMove ws s i (spot_at (Instruction i) fs p m) mv
+in_test o e w x = let k = some_test o e in in_role o (ToTest k.0) k.1 w x
+
+pub at_test : {ws : List ℕ} {s : Subject} {i : ℕ} {x : Spot} {mv : Move} (o : SreOpcode) → begins_test o ≡ true
+    → Opcode ws i o → TestMove ws s i x mv → MovesAt ws s (Instruction i) x mv
+at_test o e w h = let k = some_test o e in at_instruction o (ToTest k.0) k.1 w h
 
 -- there are outcomes, perhaps none, of a spot
 pub record CanRun (ws : List ℕ) (s : Subject) (x : Spot) : Type 0 where

@@ -10,22 +10,25 @@ use Rattle.sre_model.specs.Subject.{passes, char_at}
 use Rattle.sre_model.specs.Characters.{holds}
 use Rattle.sre_model.specs.Ways.{Way, unlimited, run_length, longest_run}
 use Rattle.sre_model.specs.Grammar.{Word, word, Opcode, skip, test_opcode, run_opcode}
-use Rattle.sre_model.specs.Board.{BoardValue}
-use Rattle.sre_model.specs.declared.Frame.{Frame}
-use Rattle.sre_model.specs.declared.Point.{Point}
-use Rattle.sre_model.specs.declared.Point.TheVariants.{Instruction, Shorter, Longer}
-use Rattle.sre_model.specs.Moves.{spot_at, Stop, Split, Go}
-use Rattle.sre_model.specs.MovesInRuns.{RunOperands}
-use Rattle.sre_model.specs.Machine.{family, Running, Moves, Runs, turns, Run, Goes, GoesBoth, Later, spot, HasRun}
-use Rattle.sre_model.specs.Machine.{Skips, SkipsBoth, Exhausted, Refuses, Demands, DemandsAny, Excludes}
+use Rattle.sre_turns.specs.Board.{BoardValue}
+use Rattle.sre_turns.specs.declared.Frame.{Frame}
+use Rattle.sre_turns.specs.declared.Point.{Point}
+use Rattle.sre_turns.specs.declared.Point.TheVariants.{Instruction, Shorter, Longer}
+use Rattle.sre_turns.specs.Moves.{spot_at, Stop, Split, Go}
+use Rattle.sre_turns.specs.MovesInRuns.{RunOperands}
+use Rattle.sre_turns.specs.Machine.{Moves, Runs, turns, Goes, GoesBoth, Later, spot, HasRun, Skips, SkipsBoth}
+use Rattle.sre_model.specs.Runs.{Run}
+use Rattle.sre_turns.specs.Machine.{Exhausted, Refuses, Demands, DemandsAny, Excludes}
 use Rattle.sre_model.specs.Standing.{TestStands, HasTest}
-use Rattle.sre_model.specs.declared.Next.TheVariants as next
+use Rattle.sre_model.specs.Roles.{ToRun}
+use Rattle.sre_model.proofs.Families.{run_role}
+use Rattle.sre_turns.specs.declared.Next.TheVariants as next
 use Rattle.sre_model.proofs.Words.{word_of, word_there, opcode_within}
 use Rattle.sre_model.proofs.Passing.{past_end, read_passes, other_taken}
 use Rattle.sre_model.proofs.Longest.{goes_on, run_passes, run_at_most, run_inside, run_none}
-use Rattle.sre_model.proofs.Moving.{in_family, at_instruction, has_run, run_splits, turn_stops, turn_splits, both_last}
-use Rattle.sre_model.proofs.Moving.{turn_goes, run_nothing, run_second}
-use Rattle.sre_model.proofs.StepsInBranches.{positive}
+use Rattle.sre_turns.proofs.Moving.{in_role, at_instruction, has_run, run_splits, turn_stops, turn_splits, both_last}
+use Rattle.sre_turns.proofs.Moving.{turn_goes, run_nothing, run_second}
+use Rattle.sre_turns.proofs.StepsInBranches.{positive}
 
 -- shorter counts
 shorter_stop : (r : Run) (t k p : ℕ) (fs : List Frame) (m : Marks) → k ≡ 0
@@ -105,15 +108,10 @@ pub record RunWords (ws : List ℕ) (i : ℕ) : Type 0 where
   pub operands : i + 4 < length ws
   pub test : HasTest ws (i + 4)
 
-run_family : (kind : RunKind) → family (run_opcode kind) ≡ Running kind
-run_family GreedyRun = refl
-run_family LazyRun = refl
-run_family PossessiveRun = refl
-
 pub run_there : (r : Run) (kind : RunKind) (i : ℕ) (c : StringCursor) → Opcode r.words i (run_opcode kind)
     → HasRun r (Instruction i) c → RunWords r.words i
 run_there r kind i c w x =
-    let h = (in_family (run_opcode kind) (Running kind) (run_family kind) w x.runs).1 in
+    let h = (in_role (run_opcode kind) (ToRun kind) (run_role kind) w x.runs).1 in
     let test : HasTest r.words (i + 4) = record { end = h.end; test = h.test; stands = h.operands.stands } in
     record { operands = opcode_within r.words (i + 4) (test_opcode h.test) h.operands.stands.code; test = test }
 
@@ -129,7 +127,7 @@ pub run_short : (r : Run) (i low high count : ℕ) (c : StringCursor) (b : Board
 run_short r i low high count c b w t wl wh k l =
     let longest : longest_run r.subject t.test high c.position ≡ count = sym (k t.end t.test t.stands) in
     let short : nat_lt count low ≡ true = grind (arith, nat_tests) in
-    turn_stops r (Instruction i) c b (at_instruction opcode.REPEAT_ONE (Running GreedyRun) refl w (record {
+    turn_stops r (Instruction i) c b (at_instruction opcode.REPEAT_ONE (ToRun GreedyRun) refl w (record {
       low = low;
       high = high;
       end = t.end;
@@ -145,12 +143,12 @@ pub run_misses : (r : Run) (i low ch : ℕ) (c : StringCursor) → Opcode r.word
     → ((j : ℕ) (t : Test) → TestStands r.words (i + 4) j t → holds r.subject.table t ch ≡ false)
     → Refuses r i c.position
 run_misses r i low ch c w there wl some inside read says fs m os k d =
-    let h = (in_family opcode.REPEAT_ONE (Running GreedyRun) refl w d).1 in
+    let h = (in_role opcode.REPEAT_ONE (ToRun GreedyRun) refl w d).1 in
     let missed : passes r.subject there.test c.position ≡ false =
     read_passes r.subject there.test c.position ch false inside read (sym (says there.end there.test there.stands)) in
     let none : longest_run r.subject there.test h.high c.position ≡ 0 = run_none r.subject there.test _ _ missed in
     let short : nat_lt 0 low ≡ true = grind (arith, nat_tests, positive low some) in
-    run_nothing (at_instruction opcode.REPEAT_ONE (Running GreedyRun) refl w (record {
+    run_nothing (at_instruction opcode.REPEAT_ONE (ToRun GreedyRun) refl w (record {
       low = low;
       high = h.high;
       end = there.end;
@@ -170,7 +168,7 @@ module _ (r : Run) (i v low high count : ℕ) (c after : StringCursor) (w : Opco
   run_moves fs m =
       let longest : longest_run r.subject t.test high c.position ≡ count = sym (k t.end t.test t.stands) in
       let enough : nat_lt count low ≡ false = grind (arith, nat_tests) in
-      at_instruction opcode.REPEAT_ONE (Running GreedyRun) refl w (record {
+      at_instruction opcode.REPEAT_ONE (ToRun GreedyRun) refl w (record {
         low = low;
         high = high;
         end = t.end;
@@ -227,7 +225,7 @@ module _ (r : Run) (i low high count : ℕ) (c : StringCursor) (b : BoardValue)
       → Later r all limit next.Back b
   longest_short l =
       let short : nat_lt count low ≡ true = grind (arith, nat_tests) in
-      turn_stops r (Instruction i) c b (at_instruction opcode.POSSESSIVE_REPEAT_ONE (Running PossessiveRun) refl w
+      turn_stops r (Instruction i) c b (at_instruction opcode.POSSESSIVE_REPEAT_ONE (ToRun PossessiveRun) refl w
       (record {
         low = low;
         high = high;
@@ -244,7 +242,7 @@ module _ (r : Run) (i low high count : ℕ) (c : StringCursor) (b : BoardValue)
   longest_step v after wv l moved_on there all limit g =
       let enough : nat_lt count low ≡ false = grind (arith, nat_tests) in
       let move : Moves r.words r.subject (spot (Instruction i) c b) (Go (spot (Instruction (i + 1 + v)) after b)) =
-      at_instruction opcode.POSSESSIVE_REPEAT_ONE (Running PossessiveRun) refl w (record {
+      at_instruction opcode.POSSESSIVE_REPEAT_ONE (ToRun PossessiveRun) refl w (record {
         low = low;
         high = high;
         end = t.end;
@@ -275,7 +273,7 @@ module _ (r : Run) (i low : ℕ) (c : StringCursor) (w : Opcode r.words i opcode
       → Goes r all limit (Instruction i) c b → Later r all limit next.Back b
   lazy_stops b l =
       let short : nat_lt (run_length r.subject h.test.test low c.position) low ≡ true = grind (arith, nat_tests) in
-      turn_stops r (Instruction i) c b (at_instruction opcode.MIN_REPEAT_ONE (Running LazyRun) refl w (record {
+      turn_stops r (Instruction i) c b (at_instruction opcode.MIN_REPEAT_ONE (ToRun LazyRun) refl w (record {
         low = low;
         high = word r.words (i + 3);
         end = h.test.end;
@@ -303,7 +301,7 @@ module _ (r : Run) (i low : ℕ) (c : StringCursor) (w : Opcode r.words i opcode
         omega (arith, k h.test.end h.test.test h.test.stands, run_at_most r.subject h.test.test low c.position) in
         let enough : nat_lt low low ≡ false = grind (arith, nat_tests) in
         let place : after.position ≡ c.position + low = omega (arith, all_, k h.test.end h.test.test h.test.stands) in
-        at_instruction opcode.MIN_REPEAT_ONE (Running LazyRun) refl w (record {
+        at_instruction opcode.MIN_REPEAT_ONE (ToRun LazyRun) refl w (record {
           low = low;
           high = word r.words (i + 3);
           end = h.test.end;

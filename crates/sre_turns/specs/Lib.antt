@@ -1,0 +1,7 @@
+pub mod Board
+pub mod Moves
+pub mod MovesInRuns
+pub mod MovesInLoops
+pub mod MovesInRegions
+pub mod MovesAtGroups
+pub mod Machine
