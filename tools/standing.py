@@ -20,8 +20,8 @@ COUNTS = f"{ROOT}/.ci/counts"
 GROWTHS = ("from_slice", "push", "resize")
 # Each line of the repository's code and proofs that names the crate of the seal.
 NAMED = {
-    "sre_growth/specs/Refusal.antt": ["pub use Rattle.sre_refused.specs.Seal.{Refused, one_refused}"],
-    **{f"sre_growth/proofs/{it}/Answers.antt": ["use Rattle.sre_refused.specs.Seal.{refused}"] for it in GROWTHS},
+    "sre_growth/specs/Refusal.antt": ["pub use Rattle.sre_refusal_seal.specs.Seal.{Refused, one_refused}"],
+    **{f"sre_growth/proofs/{it}/Answers.antt": ["use Rattle.sre_refusal_seal.specs.Seal.{refused}"] for it in GROWTHS},
 }
 
 
@@ -74,16 +74,16 @@ def unsealed():
     """What lets a crate say that a growth was refused where none was."""
     for row in read(f"{ROOT}/crates.txt").split("\n"):
         name, _, listed = row.partition("#")[0].partition(":")
-        if "sre_refused" in listed.split() and name.strip() != "sre_growth":
-            yield f"crates.txt: {name.strip()} lists sre_refused"
+        if "sre_refusal_seal" in listed.split() and name.strip() != "sre_growth":
+            yield f"crates.txt: {name.strip()} lists sre_refusal_seal"
     named, crates = {}, f"{ROOT}/crates/"
     for path in files(crates, ".rt", ".antt"):
         short = path[len(crates):]
-        lines = [it for it in read(path).split("\n") if "sre_refused" in it and is_said(it)]
-        if lines and not short.startswith("sre_refused/"):
+        lines = [it for it in read(path).split("\n") if "sre_refusal_seal" in it and is_said(it)]
+        if lines and not short.startswith("sre_refusal_seal/"):
             named[short] = lines
     if named != NAMED:
-        yield f"other lines than the seal's name sre_refused: {[it for it in named if named[it] != NAMED.get(it)]}"
+        yield f"other lines than the seal's name sre_refusal_seal: {[it for it in named if named[it] != NAMED.get(it)]}"
     own = {path[len(crates):] for path in files(f"{crates}sre_growth", ".antt")}
     if own != {*NAMED, "sre_growth/specs/Lib.antt", "sre_growth/proofs/Lib.antt"}:
         yield f"sre_growth has other files of specs and proofs: {sorted(own)}"

@@ -1,7 +1,7 @@
 -- Laws of the choices that share one trail and one table of chains.
-use Rattle.std.proofs.Common.{◌≡◌, ℕ, ◌+◌, ◌-◌, ◌<◌, ◌≤◌, List, [], ◌∷◌, ◌++◌, length, map, reverse, take, drop}
+use Rattle.std.proofs.Common.{◌≡◌, ℕ, ◌+◌, ◌<◌, ◌≤◌, List, [], ◌∷◌, ◌++◌, length, map, reverse, take, drop}
 use Rattle.std.proofs.Common.{slice_index_or, refl, sym, ap, ◌∙◌, subst, arith, length-append}
-use Rattle.std.proofs.lemmas.List.{get_or-take, reverse-append, length-take-le, take_more, take_all}
+use Rattle.std.proofs.lemmas.List.{get_or-take, reverse-append, length-take-le}
 use Rattle.std.proofs.Math.ListN.{get_or-append}
 use Rattle.std.proofs.Math.Seq.{get_or-append_seam}
 use Rattle.sre_model.specs.Marks.{Marks, no_marks, set_mark}
@@ -72,18 +72,6 @@ enter_held b t chains chains' frame frame' saved f e fit ec ef =
 pub pushed_in : (t t' : Table) (x : List Frame) (id : ℕ) → id ≡ length t → t' ≡ t ++ x ∷ [] → id < length t'
 pushed_in t t' x id e f = omega (arith, e, ap (λ (y : Table). length y) f, length-append t (x ∷ []))
 
--- no loop is left
-pub left_none : (b : BoardValue) (t : Trail) (chains : Table) (frame : ℕ) (saved : List Saved)
-    → board_of t chains frame saved ≡ b
-    → slice_index_or chains frame [] ≡ [] → board_of t chains frame saved ≡ record b { frames = drop 1 b.frames }
-left_none b t chains frame saved e n = rw (← e, n) refl
-
--- a loop is left, and the later chains are kept
-pub leave_held : (b : BoardValue) (t : Trail) (chains : Table) (frame parent : ℕ) (saved : List Saved) (f : Frame)
-    → board_of t chains frame saved ≡ b → slice_index_or chains frame [] ≡ f ∷ slice_index_or chains parent []
-    → board_of t chains parent saved ≡ record b { frames = drop 1 b.frames }
-leave_held b t chains frame parent saved f e n = rw (← e, n) refl
-
 -- a loop is left, and the later chains are forgotten
 pub forget_held : (b : BoardValue) (t : Trail) (chains chains' : Table) (frame parent keep : ℕ) (saved : List Saved)
     (f : Frame)
@@ -141,20 +129,3 @@ back_held b t t' chains chains' frame old new s e f eo et ec =
       same_choices (reverse new) chains (take (s.chains + 1) chains) (states t) (states t') (s.chains + 1) s.changes
           fits.3 cut same,
     ) refl
-
--- choices fit each table that is longer than the newest one needs
-pub fits_kept : (saved : List Saved) (s : Saved) (n more c : ℕ) → 0 < length saved
-    → s ≡ slice_index_or saved (length saved - 1) s → s.chains < n → Fits (reverse saved) more c
-    → Fits (reverse saved) n c
-fits_kept saved s n more c l e h f =
-    let all : take (length saved - 1 + 1) saved ≡ saved = take_all (length saved - 1 + 1) saved (omega arith) in
-    let split : saved ≡ take (length saved - 1) saved ++ s ∷ [] =
-    sym all ∙ take_more saved (length saved - 1) s (omega arith)
-    ∙ ap (λ (x : Saved). take (length saved - 1) saved ++ x ∷ []) (sym e) in
-    let g = fits_newest saved (take (length saved - 1) saved) s more c split f in
-    subst (λ (x : List Saved). Fits x n c) (sym (reversed saved (take (length saved - 1) saved) s split))
-    (h, g.1, g.2, g.3)
-
-pub fits_none : (saved : List Saved) (n c : ℕ) → length saved ≡ 0 → Fits (reverse saved) n c
-fits_none [] n c e = tt
-fits_none (s ∷ ss) n c e = absurd (omega arith)

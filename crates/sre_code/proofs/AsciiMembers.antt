@@ -2,8 +2,8 @@
 use Rattle.std.proofs.Common.{ℕ, ◌+◌, ◌≡◌, ◌<◌, Bool, true, false, not, cond, ◌&&◌, ◌||◌, nat_eq, nat_lt, List, refl}
 use Rattle.std.proofs.Common.{sym, ◌∙◌, ap, subst, slice_range, arith, Option, Some, None, IfSome}
 use Rattle.std.proofs.lemmas.Bool.Decides.{nat_tests}
-use Rattle.sre_ascii.specs.Sets.{contains}
-use Rattle.sre_ascii.specs.declared.AsciiSet.{AsciiSet}
+use Rattle.sre_code.specs.AsciiSet.{contains}
+use Rattle.sre_code.specs.declared.ascii_set.AsciiSet.{AsciiSet}
 use Rattle.sre_chars.specs.Numbers.{category_number}
 use Rattle.sre_chars.specs.Tables.{Table, is_between}
 use Rattle.sre_chars.specs.Categories.{category}

@@ -145,9 +145,6 @@ pub record AlternativesLeft (ws : List ℕ) (start place : ℕ) (table : Table) 
       × (EachTestIn table set ts → EachTestIn table set rest))
       ⊎ (EachTestIn table set ts × Word ws place 0)
 
-abbrev BeginsIn : Table → List SetItem → Tree → Type 0
-BeginsIn table set t = TestIn table set (behind_marks t)
-
 module _ (ws : List ℕ) (start : ℕ) (table : Table) (set : List SetItem) where
   pub alternatives_start : AlternativesLeft ws start start table set
   alternatives_start = record { each = λ end ts r. inl (ts, r, λ x. x, λ x. x) }

@@ -18,3 +18,6 @@ pub mod Claimed
 pub mod FirstSets
 pub mod Scanning
 pub mod AsciiMembers
+pub mod Bits
+pub mod Halves
+pub mod CategorySets

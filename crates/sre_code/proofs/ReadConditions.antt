@@ -7,7 +7,7 @@ use Rattle.sre_chars.specs.declared.constants.SreOpcode.TheVariants as opcode
 use Rattle.sre_model.specs.Tree.{Tree, Empty, Then, Exists, ExistsElse}
 use Rattle.sre_model.specs.Grammar.{Opcode, word, skip, JumpsTo, Reads, ReadsItem}
 use Rattle.sre_model.specs.Width.{held, width, item_width}
-use Rattle.sre_model.specs.Roles.{ToAsk}
+use Rattle.sre_model.specs.Roles.{ToCheckGroup}
 use Rattle.sre_code.specs.Reading.{NoCode, IsFault}
 use Rattle.sre_code.specs.Steps.{ItemAt, Else, Closes, Unclosed, Exactly, Nowhere, IsEnd, IsInside}
 use Rattle.sre_code.specs.declared.code.error.CodeError.{CodeError}
@@ -35,7 +35,7 @@ abbrev Long : List ℕ → ℕ → ℕ → ℕ → Type 0
 Long ws i j w =
     (g : ℕ) × (a : Tree) × (b : Tree) × (w ≡ min (width a) (width b)) × ReadsItem ws i j (ExistsElse g a b)
 
-condition_here : (ws : List ℕ) (i : ℕ) → Opcode ws i opcode.GROUPREF_EXISTS → HasRole ws i ToAsk
+condition_here : (ws : List ℕ) (i : ℕ) → Opcode ws i opcode.GROUPREF_EXISTS → HasRole ws i ToCheckGroup
 condition_here ws i h = record { code = opcode.GROUPREF_EXISTS; there = h; begins = refl }
 
 shapes : (ws : List ℕ) (i j w : ℕ) → Opcode ws i opcode.GROUPREF_EXISTS → ItemAt ws i j w

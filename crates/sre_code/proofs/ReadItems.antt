@@ -9,7 +9,7 @@ use Rattle.sre_model.specs.Tree.{Atomic, Look, Positive, Negative, PossessiveRun
 use Rattle.sre_model.specs.Tree.{Plain, Ascii, Locale, Unicode}
 use Rattle.sre_model.specs.Grammar.{Opcode, Word, word, item_opcode, reference_opcode, ReadsItem}
 use Rattle.sre_model.specs.Width.{item_width}
-use Rattle.sre_model.specs.Roles.{ToFail, ToStand, ToMark, ToRefer}
+use Rattle.sre_model.specs.Roles.{ToFail, ToCheckPosition, ToMark, ToRefer}
 use Rattle.sre_code.specs.Reading.{NoCode, FoldedAt, ReadsTest, TestExactly, NoTest}
 use Rattle.sre_code.specs.Steps.{ItemAt, OnlyTests, Exactly, Nowhere}
 use Rattle.sre_code.specs.declared.code.step.Step.TheVariants.{Past}
@@ -39,7 +39,7 @@ fail_exactly ws i h =
     let f = is_fail ws i j y (fail_here ws i h) r in (f.1.1, ap item_width f.0))
 
 -- AT
-at_here : (ws : List ℕ) (i : ℕ) → Opcode ws i opcode.AT → HasRole ws i ToStand
+at_here : (ws : List ℕ) (i : ℕ) → Opcode ws i opcode.AT → HasRole ws i ToCheckPosition
 at_here ws i h = record { code = opcode.AT; there = h; begins = refl }
 
 pub at_exactly : (ws : List ℕ) (i : ℕ) (a : SreAtCode) → Opcode ws i opcode.AT → Word ws (i + 1) (at_number a)

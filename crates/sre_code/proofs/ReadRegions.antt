@@ -6,7 +6,7 @@ use Rattle.sre_chars.specs.declared.constants.SreOpcode.TheVariants as opcode
 use Rattle.sre_model.specs.Tree.{Tree, PossessiveLoop, Atomic, Look, Sign, Positive, Negative}
 use Rattle.sre_model.specs.Grammar.{Opcode, word, skip, look_opcode}
 use Rattle.sre_model.specs.Width.{held, width, item_width}
-use Rattle.sre_model.specs.Roles.{ToRepeatPossessively, ToGroup, ToLook}
+use Rattle.sre_model.specs.Roles.{ToRepeatPossessively, ToGroupAtomically, ToLook}
 use Rattle.sre_code.specs.Reading.{NoCode, IsFault}
 use Rattle.sre_code.specs.Steps.{ItemAt, LookAt, Closes, Unclosed, Exactly, Nowhere, IsEnd, IsInside}
 use Rattle.sre_code.specs.declared.code.error.CodeError.{CodeError}
@@ -118,7 +118,7 @@ possessive_counts ws i low high h lowest highest lt = record {
 pub ruleset possessive_repeat_laws = (possessive_exactly, possessive_cut, possessive_counts)
 
 -- ATOMIC_GROUP
-atomic_here : (ws : List ℕ) (i : ℕ) → Opcode ws i opcode.ATOMIC_GROUP → HasRole ws i ToGroup
+atomic_here : (ws : List ℕ) (i : ℕ) → Opcode ws i opcode.ATOMIC_GROUP → HasRole ws i ToGroupAtomically
 atomic_here ws i h = record { code = opcode.ATOMIC_GROUP; there = h; begins = refl }
 
 -- a body counts once for the group's width, as the descent adds it up

@@ -146,11 +146,6 @@ pub set_stops : (ws : List ℕ) (start place end : ℕ) → SameSets ws start pl
     → NoSet ws start end
 set_stops ws start place end inv lt n = record { none = λ s. n.none end lt (inv.to s) }
 
-pub set_goes_on : (ws : List ℕ) (start place next end : ℕ) → SameSets ws start place end → place < end
-    → SetItemExactly ws place next → SameSets ws start next end
-set_goes_on ws start place next end inv lt x =
-    record { to = λ s. x.complete end lt (inv.to s); from = λ s. inv.from (x.sound end s) }
-
 pub set_past : (ws : List ℕ) (start place end : ℕ) → SameSets ws start place end → end ≤ place → place ≢ end
     → NoSet ws start end
 set_past ws start place end inv le ne =

@@ -1,8 +1,8 @@
 -- Which ASCII characters the items of a set take.
 -- Words of the check's contracts; what sre_engine makes public does not rest on it.
 use Rattle.std.specs.Prelude.{ℕ, ◌≡◌, ◌<◌, Bool, true, ◌&&◌, ◌||◌, List, Option, Some, None}
-use Rattle.sre_ascii.specs.Sets.{contains}
-use Rattle.sre_ascii.specs.declared.AsciiSet.{AsciiSet}
+use Rattle.sre_code.specs.AsciiSet.{contains}
+use Rattle.sre_code.specs.declared.ascii_set.AsciiSet.{AsciiSet}
 use Rattle.sre_chars.specs.Tables.{Table}
 use Rattle.sre_model.specs.Tree.{SetItem}
 use Rattle.sre_model.specs.Characters.{verdict, is_member}

@@ -5,7 +5,7 @@ use Rattle.std.specs.Bool.{Decides}
 use Rattle.sre_chars.specs.declared.constants.SreOpcode.{SreOpcode}
 use Rattle.sre_model.specs.Tree.{Tree, Trees, SetItem}
 use Rattle.sre_model.specs.Standing.{SetStands, HasSet}
-use Rattle.sre_ascii.specs.declared.AsciiSet.{AsciiSet}
+use Rattle.sre_code.specs.declared.ascii_set.AsciiSet.{AsciiSet}
 use Rattle.sre_code.specs.AsciiSets.{AreTold}
 use Rattle.sre_model.specs.Roles.{role}
 use Rattle.sre_model.specs.FirstCharacters.{is_end}

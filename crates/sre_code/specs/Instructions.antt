@@ -4,8 +4,8 @@ use Rattle.std.specs.Prelude.{ℕ, ◌+◌, ◌≡◌, ◌<◌, ◌⊎◌, List,
 use Rattle.sre_chars.specs.declared.constants.SreOpcode.{SreOpcode}
 use Rattle.sre_model.specs.Tree.{Test}
 use Rattle.sre_model.specs.Grammar.{Opcode}
-use Rattle.sre_model.specs.Roles.{Role, ToFail, ToEnd, ToStand, ToMark, ToBranch, ToJump, ToRun, ToRepeat, ToLoop}
-use Rattle.sre_model.specs.Roles.{ToRepeatPossessively, ToGroup, ToLook, role}
+use Rattle.sre_model.specs.Roles.{Role, ToFail, ToEnd, ToCheckPosition, ToMark, ToBranch, ToJump, ToRun, ToRepeat, ToLoop}
+use Rattle.sre_model.specs.Roles.{ToRepeatPossessively, ToGroupAtomically, ToLook, role}
 use Rattle.sre_code.specs.Reading.{ReadsTest}
 
 -- how many words an instruction has before its body or what is behind it: with a BRANCH and a JUMP goes the length word
@@ -14,10 +14,10 @@ abbrev pub own_words : Role → Option ℕ
 own_words ToFail = Some 1
 own_words ToEnd = Some 1
 own_words (ToLoop order) = Some 1
-own_words ToStand = Some 2
+own_words ToCheckPosition = Some 2
 own_words ToMark = Some 2
 own_words ToBranch = Some 2
-own_words ToGroup = Some 2
+own_words ToGroupAtomically = Some 2
 own_words ToJump = Some 3
 own_words (ToLook sign) = Some 3
 own_words (ToRun kind) = Some 4

@@ -5,6 +5,7 @@ pub mod Fronts
 pub mod Borders
 pub mod Prefixes
 pub mod FirstSets
+pub mod AsciiSet
 pub mod AsciiSets
 pub mod Instructions
 pub mod Steps

@@ -3,7 +3,7 @@
 //! Most characters are ASCII, and of these a bit tells what a walk over a set's items would.
 
 ghost use Rattle.std.specs.Prelude.{◌≡◌, ℕ, ◌+◌, ◌<◌, ◌≤◌, ◌&&◌, ◌||◌, List, length, slice_range, IfSome};
-ghost use Rattle.sre_ascii.specs.Sets.{contains};
+ghost use Rattle.sre_code.specs.AsciiSet.{contains};
 ghost use Rattle.sre_chars.specs.Tables.{Table};
 ghost use Rattle.sre_model.specs.Tree.{SetItem, Charset};
 ghost use Rattle.sre_model.specs.Characters.{item_holds, is_member};
@@ -11,9 +11,9 @@ ghost use Rattle.sre_model.specs.Grammar.{Opcode};
 ghost use Rattle.sre_model.specs.Standing.{SetStands, HasSet};
 ghost use Rattle.sre_code.specs.AsciiSets.{HoldsFor};
 
+use crate::ascii_set::AsciiSet;
 use crate::members::opcode;
 use crate::operands::{category_code, operand};
-use sre_ascii::AsciiSet;
 use sre_chars::constants::SreOpcode;
 
 // The ASCII characters for which an item of a set holds, and where the next item begins.

@@ -2,6 +2,7 @@
 #![tactic(auto)]
 
 pub mod ascii_members;
+pub mod ascii_set;
 pub mod code;
 pub mod members;
 pub mod operands;

@@ -2,9 +2,7 @@
 use Rattle.std.proofs.Common.{◌≡◌, ℕ, List, Bool, true, false, ◌&&◌, nat_eq, nat_lt, None, refl, sym, ◌∙◌}
 use Rattle.std.proofs.Common.{subst, arith}
 use Rattle.std.proofs.lemmas.Bool.Decides.{nat_tests}
-use Rattle.sre_model.specs.Tree.{Tree, Empty, Then, One, Mark, At, Branch, Trees, Only, Or, Literal, In, Plain, SetItem}
-use Rattle.sre_chars.specs.Tables.{Table}
-use Rattle.sre_model.specs.Anchors.{is_anchored}
+use Rattle.sre_model.specs.Tree.{Tree, Empty, Then, One, Mark, Branch, Trees, Only, Or, Literal, In, Plain, SetItem}
 use Rattle.sre_model.specs.Characters.{is_member}
 use Rattle.sre_model.specs.Marks.{set_mark}
 use Rattle.sre_model.specs.Subject.{Subject, char_at, passes, after}
@@ -65,9 +63,3 @@ no_prefix code is =
     let said = code_confirmed code tree.0 tree.1 in
     let set = said.first_set.0 is in
     said.prefix ∙ (rw set.no_prefix refl)
-
--- nor does it begin with a position code
-pub set_unanchored : (table : Table) (set : List SetItem) (t : Tree) → FirstIn table set (behind_marks t)
-    → is_anchored t ≡ true → ⊥
-set_unanchored table set (Then (At a) rest) first is = first
-set_unanchored table set t first is = let never : false ≡ true = is in absurd (cc never)

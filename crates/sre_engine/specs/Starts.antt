@@ -2,8 +2,8 @@
 -- Words of the search's contracts; what sre_engine makes public does not rest on it.
 use Rattle.std.specs.Prelude.{ℕ, ◌≡◌, ◌<◌, ◌≤◌, ◌+◌, ◌-◌, ◌⊎◌, ◌||◌, nat_le, false, List, Option, Some, None}
 use Rattle.sre_chars.specs.declared.constants.SreAtCode.{SreAtCode}
-use Rattle.sre_ascii.specs.declared.AsciiSet.{AsciiSet}
-use Rattle.sre_ascii.specs.Sets.{contains}
+use Rattle.sre_code.specs.declared.ascii_set.AsciiSet.{AsciiSet}
+use Rattle.sre_code.specs.AsciiSet.{contains}
 use Rattle.sre_chars.specs.declared.string.StringCursor.{StringCursor}
 use Rattle.sre_model.specs.Tree.{Tree}
 use Rattle.sre_model.specs.Grammar.{WholeItems}

@@ -1,7 +1,7 @@
 //! The growths of lists, whose refusal is a value that nothing else makes.
 //!
 //! A [`Refusal`] carries the fact `Refused`: a growth was refused. `Refused` is sealed in the crate
-//! `sre_refused`, on which this crate alone stands, and the three functions here say it only where std's
+//! `sre_refusal_seal`, on which this crate alone stands, and the three functions here say it only where std's
 //! own growth of the list failed. So a call whose error has the fact errs only where memory was
 //! refused, however it came by the error.
 //!

@@ -1,8 +1,8 @@
 //! Worked cases with their answers, where memory is ample and where a request for it is refused.
 
+use sre_failing_allocator::Refusing;
 use sre_lines::cases::{CaseFault, answer_lines, run_cases};
 use sre_lines::line::{Operands, read_case};
-use sre_refusing::Refusing;
 use std::alloc::Global;
 use std::fmt::Write;
 use std::test::Fail;

@@ -1,19 +1,19 @@
 -- The lines of a file, answered one after the other.
 use Rattle.std.proofs.Common.{◌≡◌, ◌==◌, ◌+◌, ◌≤◌, ℕ, suc, List, [], ◌∷◌, ◌++◌, Bool, true, false, Option, Some, None}
-use Rattle.std.proofs.Common.{Result, Ok, Err, length, get_or, refl, sym, ap, ◌∙◌, arith, inl, inr}
+use Rattle.std.proofs.Common.{Result, Ok, Err, length, get_or, refl, sym, ap, ◌∙◌, arith, inr}
 use Rattle.std.proofs.Common.{append_assoc, length-append}
 use Rattle.std.proofs.lemmas.Bool.{eqb-true}
 use Rattle.std.proofs.lemmas.List.{get_or_default, append-nil}
-use Rattle.std.specs.Prelude.{◌≢◌, All, Contains, OnOk, OnErr, IfErr, codes}
+use Rattle.std.specs.Prelude.{All, Contains, OnOk, OnErr, IfErr, codes}
 use Rattle.std.specs.Io.KnownBytes.{Appends}
 use Rattle.std.proofs.lemmas.List.Splits.{slice_split_at, slice_split_none}
 use Rattle.sre_chars.specs.Tables.{Table, ascii_table}
 use Rattle.sre_lines.specs.declared.line.Case.{Case}
 use Rattle.sre_lines.specs.declared.cases.CaseFault.{CaseFault}
-use Rattle.sre_lines.specs.declared.cases.CaseFault.TheVariants.{Usage, CannotRead, NotACase, NoMemory, OutputFailed}
+use Rattle.sre_lines.specs.declared.cases.CaseFault.TheVariants.{NotACase, OutputFailed}
 use Rattle.sre_lines.specs.Fields.{case_text, IsCase}
 use Rattle.sre_lines.specs.Cases.{IsAnswer}
-use Rattle.sre_lines.specs.Lines.{lines_of, IsPassedOver, IsAnswered, AreAnswered, Answered, IsNoCase, IsBegun, StopsAt}
+use Rattle.sre_lines.specs.Lines.{lines_of, IsAnswered, AreAnswered, Answered, IsNoCase, IsBegun, StopsAt}
 
 -- what follows of an answer follows where it is there, and of a fault likewise
 pub where_ok : {U E : Type 0} {A B : Type 0} (r : Result U E) → (A → B) → OnOk r A → OnOk r B
@@ -66,9 +66,6 @@ one_answered : (a b : Option (List ℕ)) (line out : List ℕ) → IsAnswered li
 one_answered a b line out is appended =
     record { out = out; answers = (out, [], is, refl, sym (append-nil out)); appended = appended }
 
-pub passed_over : (known : Option (List ℕ)) (line : List ℕ) → IsPassedOver line → Answered known known (line ∷ [])
-passed_over known line is = one_answered known known line [] (inl (is, refl)) (appends_none known)
-
 pub case_answered : (a b : Option (List ℕ)) (line : List ℕ) (case : Case) (words text answer : List ℕ)
     → case_text case words text ≡ line → IsCase case words text
     → IsAnswer ascii_table case words text answer → Appends a b (answer ++ 10 ∷ []) → Answered a b (line ∷ [])
@@ -99,15 +96,6 @@ pub answer_begun : {U E : Type 0} (a b : Option (List ℕ)) (table : Table) (cas
 answer_begun a b table case words text said bytes (Ok u) answer is part = tt
 answer_begun a b table case words text said bytes (Err e) answer is part =
     (said, part.0, part.1, answer, part.2 ∙ is, part.3)
-
--- what stands of a line where nothing is written, or where the write of its answer failed
-pub nothing_begun : (known : Option (List ℕ)) (fault : CaseFault) (line : List ℕ) → fault ≢ OutputFailed
-    → (part : List ℕ) × IsBegun fault line part × Appends known known part
-nothing_begun known Usage line differs = ([], refl, appends_none known)
-nothing_begun known CannotRead line differs = ([], refl, appends_none known)
-nothing_begun known (NotACase n) line differs = ([], refl, appends_none known)
-nothing_begun known NoMemory line differs = ([], refl, appends_none known)
-nothing_begun known OutputFailed line differs = absurd (differs refl)
 
 pub case_begun : (a b : Option (List ℕ)) (line : List ℕ) (case : Case) (words text said part rest : List ℕ)
     → case_text case words text ≡ line → IsCase case words text → IsAnswer ascii_table case words text said

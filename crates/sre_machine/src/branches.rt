@@ -22,9 +22,10 @@ use sre_board::Board;
 use sre_chars::constants::SreOpcode;
 use sre_chars::string::{StrDrive, StringCursor};
 use sre_growth::Refusal;
-use sre_request::one_character::{takes, test_end};
-use sre_request::text::read;
-use sre_request::{Request, one_character};
+use sre_reading::one_character;
+use sre_reading::one_character::{takes, test_end};
+use sre_reading::text::read;
+use sre_request::Request;
 use sre_turns::{Next, Point};
 use std::alloc::Allocator;
 

@@ -5,11 +5,12 @@
 #![tactic(auto)]
 
 mod branches;
-mod groups;
+mod greedy_runs;
 mod lazy_runs;
 mod loops;
 mod machine;
 mod possessive_loops;
 mod possessive_runs;
+mod references;
 mod regions;
 pub mod turns;

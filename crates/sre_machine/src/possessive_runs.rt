@@ -9,8 +9,8 @@ ghost use Rattle.sre_request.specs.Runs.{run_of};
 use crate::machine::operand;
 use sre_chars::constants::SreOpcode;
 use sre_chars::string::{StrDrive, StringCursor};
+use sre_reading::runs::longest_run;
 use sre_request::Request;
-use sre_request::runs::longest_run;
 use sre_turns::Next;
 
 /// The run's tail behind the longest run, if that is long enough.

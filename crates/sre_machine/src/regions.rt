@@ -15,8 +15,8 @@ use sre_board::Board;
 use sre_chars::constants::SreOpcode;
 use sre_chars::string::{StrDrive, StringCursor};
 use sre_growth::Refusal;
+use sre_reading::text::back_by;
 use sre_request::Request;
-use sre_request::text::back_by;
 use sre_turns::{Next, Point, Region};
 use std::alloc::Allocator;
 

@@ -9,8 +9,8 @@ use Rattle.sre_model.specs.Tree.{Reference, Exists, ExistsElse, Trees, Test, Any
 use Rattle.sre_model.specs.Tree.{NotLiteral, In, Order, RunKind, GreedyRun, Sign, Positive}
 use Rattle.sre_model.specs.Tree.{Fold, Plain, Ascii, Locale, Unicode, SetItem, Greedy}
 use Rattle.sre_model.specs.Roles.{TestKind, OfAny, OfAnyAll, OfCategory, OfLiteral, OfNotLiteral, OfSet, Role, ToFail}
-use Rattle.sre_model.specs.Roles.{ToEnd, ToTest, ToStand, ToMark, ToBranch, ToJump, ToRun, ToRepeat, ToLoop}
-use Rattle.sre_model.specs.Roles.{ToRepeatPossessively, ToGroup, ToLook, ToRefer, ToAsk, ToNothing, role, is_test_role}
+use Rattle.sre_model.specs.Roles.{ToEnd, ToTest, ToCheckPosition, ToMark, ToBranch, ToJump, ToRun, ToRepeat, ToLoop}
+use Rattle.sre_model.specs.Roles.{ToRepeatPossessively, ToGroupAtomically, ToLook, ToRefer, ToCheckGroup, ToNothing, role, is_test_role}
 use Rattle.sre_model.specs.Roles.{begins_test}
 use Rattle.sre_model.specs.Grammar.{Opcode, test_opcode, run_opcode, until_opcode, look_opcode, reference_opcode}
 use Rattle.sre_model.specs.Grammar.{item_opcode, ReadsItem, TestOperands}
@@ -62,17 +62,17 @@ reference_role f = refl
 abbrev pub item_role : Item → Role
 item_role Fail = ToFail
 item_role (One t) = ToTest (test_kind t)
-item_role (At a) = ToStand
+item_role (At a) = ToCheckPosition
 item_role (Mark n) = ToMark
 item_role (Branch ts) = ToBranch
 item_role (Loop o low high body) = ToRepeat
 item_role (Run kind low high t) = ToRun kind
 item_role (PossessiveLoop low high body) = ToRepeatPossessively
-item_role (Atomic body) = ToGroup
+item_role (Atomic body) = ToGroupAtomically
 item_role (Look sign back body) = ToLook sign
 item_role (Reference fold g) = ToRefer
-item_role (Exists g there) = ToAsk
-item_role (ExistsElse g there absent) = ToAsk
+item_role (Exists g there) = ToCheckGroup
+item_role (ExistsElse g there absent) = ToCheckGroup
 
 pub role_same : (x : Item) → role (item_opcode x) ≡ item_role x
 role_same (One t) = test_role t
@@ -156,10 +156,10 @@ pub is_one : {kind : TestKind} (ws : List ℕ) (i j : ℕ) (x : Item) → HasRol
 is_one {kind} ws i j (One t) h r = (t, refl, r)
 is_one {kind} ws i j x h r = let e : ToTest kind ≡ item_role x = role_at ws i j (ToTest kind) x h r in absurd (cc)
 
-pub is_at : (ws : List ℕ) (i j : ℕ) (x : Item) → HasRole ws i ToStand → ReadsItem ws i j x
+pub is_at : (ws : List ℕ) (i j : ℕ) (x : Item) → HasRole ws i ToCheckPosition → ReadsItem ws i j x
     → (a : SreAtCode) × (x ≡ At a) × ReadsItem ws i j (At a)
 is_at ws i j (At a) h r = (a, refl, r)
-is_at ws i j x h r = let e : ToStand ≡ item_role x = role_at ws i j ToStand x h r in absurd (cc)
+is_at ws i j x h r = let e : ToCheckPosition ≡ item_role x = role_at ws i j ToCheckPosition x h r in absurd (cc)
 
 pub is_mark : (ws : List ℕ) (i j : ℕ) (x : Item) → HasRole ws i ToMark → ReadsItem ws i j x
     → (n : ℕ) × (x ≡ Mark n) × ReadsItem ws i j (Mark n)
@@ -193,10 +193,10 @@ is_possessive ws i j x h r =
     let e : ToRepeatPossessively ≡ item_role x = role_at ws i j ToRepeatPossessively x h r in
     absurd (cc)
 
-pub is_atomic : (ws : List ℕ) (i j : ℕ) (x : Item) → HasRole ws i ToGroup → ReadsItem ws i j x
+pub is_atomic : (ws : List ℕ) (i j : ℕ) (x : Item) → HasRole ws i ToGroupAtomically → ReadsItem ws i j x
     → (body : Tree) × (x ≡ Atomic body) × ReadsItem ws i j (Atomic body)
 is_atomic ws i j (Atomic body) h r = (body, refl, r)
-is_atomic ws i j x h r = let e : ToGroup ≡ item_role x = role_at ws i j ToGroup x h r in absurd (cc)
+is_atomic ws i j x h r = let e : ToGroupAtomically ≡ item_role x = role_at ws i j ToGroupAtomically x h r in absurd (cc)
 
 pub is_look : {sign : Sign} (ws : List ℕ) (i j : ℕ) (x : Item) → HasRole ws i (ToLook sign) → ReadsItem ws i j x
     → (back : ℕ) × (body : Tree) × (x ≡ Look sign back body) × ReadsItem ws i j (Look sign back body)
@@ -211,12 +211,12 @@ pub is_reference : (ws : List ℕ) (i j : ℕ) (x : Item) → HasRole ws i ToRef
 is_reference ws i j (Reference fold g) h r = (fold, g, refl, r)
 is_reference ws i j x h r = let e : ToRefer ≡ item_role x = role_at ws i j ToRefer x h r in absurd (cc)
 
-pub is_exists : (ws : List ℕ) (i j : ℕ) (x : Item) → HasRole ws i ToAsk → ReadsItem ws i j x
+pub is_exists : (ws : List ℕ) (i j : ℕ) (x : Item) → HasRole ws i ToCheckGroup → ReadsItem ws i j x
     → ((g : ℕ) × (a : Tree) × (x ≡ Exists g a) × ReadsItem ws i j (Exists g a))
     ⊎ ((g : ℕ) × (a : Tree) × (b : Tree) × (x ≡ ExistsElse g a b) × ReadsItem ws i j (ExistsElse g a b))
 is_exists ws i j (Exists g a) h r = inl (g, a, refl, r)
 is_exists ws i j (ExistsElse g a b) h r = inr (g, a, b, refl, r)
-is_exists ws i j x h r = let e : ToAsk ≡ item_role x = role_at ws i j ToAsk x h r in absurd (cc)
+is_exists ws i j x h r = let e : ToCheckGroup ≡ item_role x = role_at ws i j ToCheckGroup x h r in absurd (cc)
 
 -- the roles of opcodes that begin no item
 abbrev pub is_item_role : Role → Bool

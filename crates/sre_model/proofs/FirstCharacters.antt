@@ -15,8 +15,8 @@ use Rattle.sre_model.specs.Marks.{Marks, set_mark}
 use Rattle.sre_model.specs.Subject.{Subject, passes, holds_at}
 use Rattle.sre_model.specs.Grammar.{Word, Opcode, skip, item_opcode, until_opcode}
 use Rattle.sre_model.specs.Grammar.{Reads, ReadsBranch, Operands, ReadsItem, WholeItems}
-use Rattle.sre_model.specs.Roles.{Role, ToTest, role, ToStand, ToMark, ToBranch, ToRun, ToRepeat, ToRepeatPossessively}
-use Rattle.sre_model.specs.Roles.{ToGroup, ToLook, TestKind, begins_test}
+use Rattle.sre_model.specs.Roles.{Role, ToTest, role, ToCheckPosition, ToMark, ToBranch, ToRun, ToRepeat, ToRepeatPossessively}
+use Rattle.sre_model.specs.Roles.{ToGroupAtomically, ToLook, TestKind, begins_test}
 use Rattle.sre_model.specs.Ways.{ways, most_from, longest_run}
 use Rattle.sre_model.specs.Standing.{HasTest}
 use Rattle.sre_model.specs.FirstCharacters.{NoWay, NoneOf, NotPassed, is_end, TreeStands, HasTree, HasAlternatives}
@@ -248,23 +248,23 @@ module _ (ws : List ℕ) (t : Tree) (i : ℕ) (x : TreeStands ws i t) where
       none_as b (Branch is.0) s p is.1 (branch_none s is.0 b.rest p (each b.after is.0 is.2.1))
 
   -- AT: where its code does not hold, and on behind it
-  pub at_operand : HasRole ws i ToStand → i + 1 < length ws
+  pub at_operand : HasRole ws i ToCheckPosition → i + 1 < length ws
   at_operand h =
-      let b : Begins = begins ToStand refl h in
+      let b : Begins = begins ToCheckPosition refl h in
       let is = is_at ws i b.after b.item h b.here in
       word_within ws (i + 1) (at_number is.0) is.2.1.0
 
-  at_bars : (a : SreAtCode) → HasRole ws i ToStand → Word ws (i + 1) (at_number a) → (s : Subject) (p : ℕ)
+  at_bars : (a : SreAtCode) → HasRole ws i ToCheckPosition → Word ws (i + 1) (at_number a) → (s : Subject) (p : ℕ)
       → holds_at s a p ≡ false → NoWay s t p
   at_bars a h w s p fails =
-      let b : Begins = begins ToStand refl h in
+      let b : Begins = begins ToCheckPosition refl h in
       let is = is_at ws i b.after b.item h b.here in
       let same : is.0 ≡ a = same_at ws (i + 1) is.0 a is.2.1.0 w in
       none_as b (At a) s p (is.1 ∙ ap At same) (at_none s a b.rest p fails)
 
-  pub at_leads : HasRole ws i ToStand → Leads ws t (i + 2) 0
+  pub at_leads : HasRole ws i ToCheckPosition → Leads ws t (i + 2) 0
   at_leads h =
-      let b : Begins = begins ToStand refl h in
+      let b : Begins = begins ToCheckPosition refl h in
       let is = is_at ws i b.after b.item h b.here in
       leads_behind b (i + 2) is.2.1.1 (λ s p w. none_as b (At is.0) s p is.1 (at_passed s is.0 b.rest p w))
 
@@ -276,9 +276,9 @@ module _ (ws : List ℕ) (t : Tree) (i : ℕ) (x : TreeStands ws i t) where
       leads_behind b (i + 2) is.2.1.1 (λ s p w. none_as b (Mark is.0) s p is.1 (mark_none s is.0 b.rest p w))
 
   -- ATOMIC_GROUP: on inside
-  pub atomic_leads : HasRole ws i ToGroup → Leads ws t (i + 2) 0
+  pub atomic_leads : HasRole ws i ToGroupAtomically → Leads ws t (i + 2) 0
   atomic_leads h =
-      let b : Begins = begins ToGroup refl h in
+      let b : Begins = begins ToGroupAtomically refl h in
       let is = is_atomic ws i b.after b.item h b.here in
       leads_inside (i + 2) is.0 (stands_up_to ws (i + 2) (b.after - 1) is.0 opcode.SUCCESS is.2.1.1 is.2.1.2 refl)
       (λ s p w. none_as b (Atomic is.0) s p is.1 (atomic_none s is.0 b.rest p w))
@@ -369,7 +369,7 @@ module _ (ws : List ℕ) (start i far : ℕ) (l : (t : Tree) → TreeStands ws s
       let at = l t x in leads_on ws t i k far more back at (on at.tree at.stands) sum
 
   -- a position code there, where nothing is looked back
-  pub at_bars_there : (a : SreAtCode) → far ≡ 0 → HasRole ws i ToStand → Word ws (i + 1) (at_number a) → (t : Tree)
+  pub at_bars_there : (a : SreAtCode) → far ≡ 0 → HasRole ws i ToCheckPosition → Word ws (i + 1) (at_number a) → (t : Tree)
       → TreeStands ws start t → (s : Subject) (p : ℕ) → holds_at s a p ≡ false → NoWay s t p
   at_bars_there a none h w t x s p fails =
       let at = l t x in

@@ -223,9 +223,3 @@ accepted-apart a p q (x ∷ xs) (y ∷ ys) h e =
         let found : Some one ≡ None = rw b at e in
         absurd (cc)
     by_test false b same e later = rw (same ∙ b) (later (rw b at e))
-
--- so where no way is accepted under some marks, none is under any
-pub none_accepted : (a : Asked) (s : Subject) (t : Tree) (p q at : ℕ) (m n : Marks) → refers t ≡ false
-    → first_accepted a p (ways s t at m) ≡ None → first_accepted a q (ways s t at n) ≡ None
-none_accepted a s t p q at m n r e =
-    accepted-apart a p q (ways s t at m) (ways s t at n) (ways-apart s t r at m n) e

@@ -1,5 +1,5 @@
 -- Which opcodes begin a test of one character.
-use Rattle.std.proofs.Common.{ℕ, ◌+◌, ◌≡◌, ◌≢◌, ◌⊎◌, ◌-◌, Bool, true, List, sym, subst, arith}
+use Rattle.std.proofs.Common.{ℕ, ◌+◌, ◌≡◌, ◌≢◌, ◌⊎◌, ◌-◌, Bool, List, sym, subst, arith}
 use Rattle.sre_chars.specs.Tables.{Table}
 use Rattle.sre_model.specs.Characters.{holds}
 use Rattle.sre_chars.specs.declared.constants.SreOpcode.{SreOpcode}
@@ -36,14 +36,6 @@ only_tests ws i o h w any any_all category literal literal_ignore literal_loc_ig
     go (In Ascii set) x = in_ignore (same_opcode ws i o opcode.IN_IGNORE w x)
     go (In Locale set) x = in_loc_ignore (same_opcode ws i o opcode.IN_LOC_IGNORE w x)
     go (In Unicode set) x = in_uni_ignore (same_opcode ws i o opcode.IN_UNI_IGNORE w x)
-
--- a test where ANY_ALL is takes each character
-pub any_all_takes : (ws : List ℕ) (table : Table) (i j c : ℕ) (t : Test) → Opcode ws i opcode.ANY_ALL
-    → TestStands ws i j t → holds table t c ≡ true
-any_all_takes ws table i j c t w s = go t (same_opcode ws i opcode.ANY_ALL (test_opcode t) w s.code)
-  where
-    go : (u : Test) → opcode.ANY_ALL ≡ test_opcode u → holds table u c ≡ true
-    go u e = grind arith
 
 -- the opcode is one of those of sets
 abbrev pub IsSetOpcode : SreOpcode → Type 0

@@ -20,7 +20,7 @@ pub data Role : Type 0 where
   ToFail : Role
   ToEnd : Role
   ToTest : TestKind → Role
-  ToStand : Role
+  ToCheckPosition : Role
   ToMark : Role
   ToBranch : Role
   ToJump : Role
@@ -28,10 +28,10 @@ pub data Role : Type 0 where
   ToRepeat : Role
   ToLoop : Order → Role
   ToRepeatPossessively : Role
-  ToGroup : Role
+  ToGroupAtomically : Role
   ToLook : Sign → Role
   ToRefer : Role
-  ToAsk : Role
+  ToCheckGroup : Role
   ToNothing : Role
 
 abbrev pub role : SreOpcode → Role
@@ -52,7 +52,7 @@ role opcode.IN = ToTest OfSet
 role opcode.IN_IGNORE = ToTest OfSet
 role opcode.IN_LOC_IGNORE = ToTest OfSet
 role opcode.IN_UNI_IGNORE = ToTest OfSet
-role opcode.AT = ToStand
+role opcode.AT = ToCheckPosition
 role opcode.MARK = ToMark
 role opcode.BRANCH = ToBranch
 role opcode.JUMP = ToJump
@@ -63,14 +63,14 @@ role opcode.REPEAT = ToRepeat
 role opcode.MAX_UNTIL = ToLoop Greedy
 role opcode.MIN_UNTIL = ToLoop Lazy
 role opcode.POSSESSIVE_REPEAT = ToRepeatPossessively
-role opcode.ATOMIC_GROUP = ToGroup
+role opcode.ATOMIC_GROUP = ToGroupAtomically
 role opcode.ASSERT = ToLook Positive
 role opcode.ASSERT_NOT = ToLook Negative
 role opcode.GROUPREF = ToRefer
 role opcode.GROUPREF_IGNORE = ToRefer
 role opcode.GROUPREF_LOC_IGNORE = ToRefer
 role opcode.GROUPREF_UNI_IGNORE = ToRefer
-role opcode.GROUPREF_EXISTS = ToAsk
+role opcode.GROUPREF_EXISTS = ToCheckGroup
 role _ = ToNothing
 
 -- whether it is that of tests

@@ -1,3 +1,2 @@
-pub mod AsciiSets
 pub mod Requests
 pub mod Runs

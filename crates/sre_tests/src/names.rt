@@ -1,9 +1,9 @@
 //! The names at the engine's root, and those of its modules.
 
 use sre_engine::{
-    CODESIZE, Code, EmptyRule, MAXGROUPS, MAXREPEAT, Request, SRE_MAGIC, SearchIter, SreAtCode,
-    SreCatCode, SreFlag, SreInfo, SreOpcode, State, StrDrive, StringCursor, UniTable, code,
-    constants, engine, string,
+    CODESIZE, Code, CodeError, EmptyRule, Found, Hints, MAXGROUPS, MAXREPEAT, Marks, Request,
+    SRE_MAGIC, SearchIter, SreAtCode, SreCatCode, SreError, SreFlag, SreInfo, SreOpcode, State,
+    StrDrive, StringCursor, UniError, UniTable, all_matches, code, constants, engine, string,
 };
 use std::alloc::Global;
 use std::convert::TryFrom;
@@ -39,8 +39,10 @@ fn searched(
 ) -> Result<Option<string::StringCursor>, engine::SreError> {
     let req: engine::Request<'_, &str> = Request::new(text, 0, usize::MAX, checked, false);
     let mut state: engine::State<Global> = State::new(alloc);
-    let found: bool = state.search(req)?;
+    let found: Result<bool, SreError> = state.search(req);
+    let found: bool = found?;
     let marks: &engine::Marks<Global> = state.marks();
+    let marks: &Marks<Global> = marks;
     if !found || !marks.raw().is_empty() {
         return Ok(None);
     }
@@ -61,7 +63,8 @@ fn walked(
         found = true;
     }
     let all: Vec<engine::Found<Global>> = engine::all_matches(req, &mut State::new(alloc))?;
-    Ok((found, all.len()))
+    let again: Vec<Found<Global>> = all_matches(req, &mut State::new(alloc))?;
+    Ok((found && again.len() == all.len(), all.len()))
 }
 
 #[test]
@@ -72,12 +75,29 @@ fn names_stand_at_the_root_and_in_their_modules(rt: HostRuntime) -> Result<(), F
     let (flag, claim): (constants::SreFlag, constants::SreInfo) = (SreFlag::ASCII, SreInfo::PREFIX);
     assert!(rt; SRE_MAGIC == 20_221_023 && (flag, claim) == (SreFlag::ASCII, SreInfo::PREFIX));
     let words = words()?;
-    let uni: string::UniTable = UniTable::ascii(rt.alloc());
+    let uni: Result<string::UniTable, string::UniError> = UniTable::from_std(rt.alloc());
+    let uni: Result<UniTable, UniError> = uni;
+    let uni: UniTable = uni?;
     let checked: Result<code::Code<'_>, code::CodeError> = Code::check(rt.alloc(), &words, &uni);
+    let checked: Result<Code<'_>, CodeError> = checked;
     let checked: Code<'_> = checked?;
     let hints: code::Hints = checked.hints();
+    let hints: Hints = hints;
     assert!(rt; hints.width.is_none() && string::category(&uni, SreCatCode::DIGIT, 48));
     assert!(rt; searched(rt.alloc(), checked, "xa1")? == Some(end_of("xa1")));
     assert!(rt; walked(rt.alloc(), checked, "xa1")? == (true, 1));
+    Ok(())
+}
+
+// The example of the engine's head comment.
+#[test]
+fn the_example_at_the_root_runs(rt: HostRuntime) -> Result<(), Fail> {
+    let alloc = rt.alloc();
+    let uni = UniTable::ascii(alloc);
+    let code = Code::check(alloc, &[17, 0, 16, 97, 17, 1, 16, 98, 1], &uni)?;
+    let mut state = State::new(alloc);
+    let found = state.search(Request::new("xab", 0, usize::MAX, code, false))?;
+    assert!(rt; found && state.start() == 1 && state.cursor().position() == 3);
+    assert!(rt; state.marks().get(0) == (Some(1), Some(2)));
     Ok(())
 }

@@ -4,7 +4,7 @@ use crate::asking::{Call, Ends, Shown, ask, shows};
 use crate::walks::has_none;
 use sre_engine::engine::SreError;
 use sre_engine::{Code, Request, State, StrDrive, UniTable};
-use sre_refusing::Refusing;
+use sre_failing_allocator::Refusing;
 use sre_samples::SAMPLES;
 use std::alloc::Global;
 use std::process::Abort;

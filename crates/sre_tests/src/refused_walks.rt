@@ -3,7 +3,7 @@
 use crate::walks::{Span, gives, has_none, lists, whole};
 use sre_engine::engine::{Found, SreError, all_matches};
 use sre_engine::{Code, Request, SearchIter, State, UniTable};
-use sre_refusing::Refusing;
+use sre_failing_allocator::Refusing;
 use sre_samples::SAMPLES;
 use std::alloc::Global;
 use std::process::Abort;

@@ -6,14 +6,14 @@ pub mod StepsInBranches
 pub mod StepsInRuns
 pub mod StepsInLoops
 pub mod StepsInRegions
-pub mod StepsAtGroups
+pub mod StepsAtReferences
 pub mod StepsInPossessiveLoops
 pub mod Outcomes
 pub mod RanAtItems
 pub mod RanInRuns
 pub mod RanInLoops
 pub mod RanInRegions
-pub mod RanAtGroups
+pub mod RanAtReferences
 pub mod RanInPossessiveLoops
 pub mod Ran
 pub mod GoingBack

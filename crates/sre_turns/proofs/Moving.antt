@@ -19,13 +19,13 @@ use Rattle.sre_turns.specs.Moves.{AlternativesMove}
 use Rattle.sre_turns.specs.MovesInRuns.{RunOperands, run_turn, RunMove, LongerMove}
 use Rattle.sre_turns.specs.MovesInLoops.{UntilMove, AgainMove}
 use Rattle.sre_turns.specs.MovesInRegions.{LookMove}
-use Rattle.sre_turns.specs.MovesAtGroups.{ReferenceMove, ConditionMove}
+use Rattle.sre_turns.specs.MovesAtReferences.{ReferenceMove, ConditionMove}
 use Rattle.sre_turns.specs.Machine.{Placed, InRole, Moves, MovesAt, Runs, turns, Comes, stops, ends, goes, splits}
 use Rattle.sre_turns.specs.Machine.{enters, Waits, otherwise, kept, Goes, GoesBoth, Later, spot, HasRun, IsAt}
 use Rattle.sre_model.specs.Runs.{Run}
 use Rattle.sre_turns.specs.Machine.{Refuses, Skips, SkipsBoth, Exhausted, Continues}
-use Rattle.sre_model.specs.Roles.{Role, ToFail, ToEnd, ToTest, ToStand, ToMark, ToBranch, ToJump, ToRun, ToRepeat}
-use Rattle.sre_model.specs.Roles.{ToLoop, ToRepeatPossessively, ToGroup, ToLook, ToRefer, ToAsk, ToNothing, role}
+use Rattle.sre_model.specs.Roles.{Role, ToFail, ToEnd, ToTest, ToCheckPosition, ToMark, ToBranch, ToJump, ToRun, ToRepeat}
+use Rattle.sre_model.specs.Roles.{ToLoop, ToRepeatPossessively, ToGroupAtomically, ToLook, ToRefer, ToCheckGroup, ToNothing, role}
 use Rattle.sre_model.specs.Roles.{begins_test}
 use Rattle.sre_turns.specs.declared.Next.TheVariants as next
 use Rattle.sre_model.proofs.Words.{same_word, same_opcode, same_at, opcode_within}
@@ -118,7 +118,7 @@ same_in : (ws : List ℕ) (s : Subject) (f : Role) (i : ℕ) (x : Spot) (a b : M
 same_in ws s ToFail i x a b h k = h ∙ sym k
 same_in ws s ToEnd i x a b h k = h ∙ sym k
 same_in ws s (ToTest kind) i x a b h k = same_test ws s i x a b h k
-same_in ws s ToStand i x a b h k = same_at_code ws s i x a b h k
+same_in ws s ToCheckPosition i x a b h k = same_at_code ws s i x a b h k
 same_in ws s ToMark i x a b h k = same_mark ws i x a b h k
 same_in ws s ToBranch i x a b h k = h ∙ sym k
 same_in ws s ToJump i x a b h k = h.is ∙ sym k.is
@@ -126,10 +126,10 @@ same_in ws s (ToRun kind) i x a b h k = same_run ws s kind i x a b h k
 same_in ws s ToRepeat i x a b h k = h.is ∙ sym k.is
 same_in ws s (ToLoop o) i x a b h k = same_until ws o i x a b h k
 same_in ws s ToRepeatPossessively i x a b h k = h ∙ sym k
-same_in ws s ToGroup i x a b h k = h.is ∙ sym k.is
+same_in ws s ToGroupAtomically i x a b h k = h.is ∙ sym k.is
 same_in ws s (ToLook g) i x a b h k = same_look ws g i x a b h k
 same_in ws s ToRefer i x a b h k = same_reference ws s i x a b h k
-same_in ws s ToAsk i x a b h k = same_condition ws i x a b h k
+same_in ws s ToCheckGroup i x a b h k = same_condition ws i x a b h k
 same_in ws s ToNothing i x a b h k = absurd h
 
 -- a turn is determined
@@ -241,11 +241,6 @@ reached_within r i c x = go x.runs
     go : {os : List Way} {n : ℕ} → Runs r.words r.subject (spot_at (Instruction i) x.frames c.position x.marks) os n
         → i < length r.words
     go (turns mv h d) = opcode_within r.words i h.0 h.1
-
-pub goes_there : (r : Run) (all : List Way) (limit : ℕ) (pt : Point) (c : StringCursor) (b : BoardValue)
-    → Goes r all limit pt c b → IsAt r pt c b
-goes_there r all limit pt c b g =
-    record { outcomes = _; turns = _; stands = g.stands; placed = g.placed; runs = g.runs }
 
 -- what one turn keeps
 module _ (r : Run) (pt : Point) (c : StringCursor) (b : BoardValue) where
@@ -500,9 +495,6 @@ module _ (r : Run) (pt pt' : Point) (c c' : StringCursor) (on : Continues r pt c
             let x = on.runs fs m os n d in
             let y = then.runs fs m os x.0 x.2 in (y.0, omega (arith, x.1, y.1), y.2);
       }
-
-pub continues_here : (r : Run) (pt : Point) (c : StringCursor) → HasRun r pt c → Continues r pt c pt c
-continues_here r pt c x = record { stands = x.stands; runs = λ fs m os n d. (n, omega arith, d) }
 
 -- the machine goes on at an instruction: at where that continues
 pub later_continues : (r : Run) (i j : ℕ) (c c' : StringCursor) (b : BoardValue)

@@ -1,9 +1,8 @@
 -- Marks that are set lie in the text.
-use Rattle.std.proofs.Common.{◌≡◌, ℕ, zero, suc, ◌+◌, ◌*◌, ◌≤◌, ◌⊎◌, inl, inr, ⊎_elim, List, [], ◌∷◌, ◌++◌, length}
-use Rattle.std.proofs.Common.{replicate, slice_set, slice_index_or, nat_le, Bool, true, false, cond, Option, Some, None}
-use Rattle.std.proofs.Common.{refl, ap, arith}
-use Rattle.std.proofs.lemmas.Bool.Decides.{nat_tests}
-use Rattle.sre_model.specs.Marks.{Marks, mark_at, no_marks, set_mark, lengthened, group}
+use Rattle.std.proofs.Common.{◌≡◌, ℕ, zero, suc, ◌≤◌, ◌⊎◌, inl, inr, ⊎_elim, List, [], ◌∷◌, ◌++◌, length}
+use Rattle.std.proofs.Common.{replicate, slice_set, slice_index_or, Bool, cond, Option, Some, None}
+use Rattle.std.proofs.Common.{arith}
+use Rattle.sre_model.specs.Marks.{Marks, mark_at, no_marks, set_mark, lengthened}
 use Rattle.sre_model.specs.Subject.{Subject}
 use Rattle.sre_turns.specs.Machine.{Placed}
 
@@ -34,9 +33,6 @@ set_entry (x ∷ raw) zero (suc k) v p e = inr e
 set_entry (x ∷ raw) (suc n) zero v p e = inr e
 set_entry (x ∷ raw) (suc n) (suc k) v p e = set_entry raw n k v p e
 
-pair_same : (a b : ℕ × ℕ) → Some a ≡ Some b → a ≡ b
-pair_same a b e = cc
-
 abbrev spans : Bool → ℕ → ℕ → Option (ℕ × ℕ)
 spans b u v = cond b (Some (u, v)) None
 
@@ -50,33 +46,3 @@ set_placed s m n p h l = record { at = at }
     at k q e = ⊎_elim (λ (same : p ≡ q). omega (arith, same, l))
         (λ (old : slice_index_or (lengthened n m.raw) k None ≡ Some q). h.at k q (longer_entry m.raw k _ q old))
         (set_entry (lengthened n m.raw) n k p q e)
-
--- a group that is present starts no later than it ends, and lies in the text
-pub group_placed : (s : Subject) (m : Marks) (g x y : ℕ) → Placed s m → group m g ≡ Some (x, y)
-    → (x ≤ y) × (y ≤ length s.text)
-group_placed s m g x y h e = from (mark_at m (2 * g)) refl e
-  where
-    inside : (u v : ℕ) (b : Bool) → mark_at m (2 * g + 1) ≡ Some v → nat_le u v ≡ b
-        → spans b u v ≡ Some (x, y) → (x ≤ y) × (y ≤ length s.text)
-    inside u v false there l k = absurd (cc)
-    inside u v true there l k =
-        let first : u ≡ x = ap (λ (z : ℕ × ℕ). z.0) (pair_same (u, v) (x, y) k) in
-        let last : v ≡ y = ap (λ (z : ℕ × ℕ). z.1) (pair_same (u, v) (x, y) k) in
-        let ordered : u ≤ v = grind (arith, nat_tests) in
-        (omega (arith, ordered, first, last), omega (arith, last, h.at (2 * g + 1) v there))
-
-    to : (u : ℕ) (b : Option ℕ) → mark_at m (2 * g + 1) ≡ b
-        → ◌≡◌ {A = Option (ℕ × ℕ)} (elim b [ None ↦ None | (Some v) ↦ cond (nat_le u v) (Some (u, v)) None ])
-        (Some (x, y))
-        → (x ≤ y) × (y ≤ length s.text)
-    to u None there k = absurd (cc)
-    to u (Some v) there k = inside u v (nat_le u v) there refl k
-
-    from : (a : Option ℕ) → mark_at m (2 * g) ≡ a
-        → ◌≡◌ {A = Option (ℕ × ℕ)} (elim a [
-          | None ↦ None
-          | (Some u) ↦ elim (mark_at m (2 * g + 1)) [ None ↦ None | (Some v) ↦ cond (nat_le u v) (Some (u, v)) None ]
-        ]) (Some (x, y))
-        → (x ≤ y) × (y ≤ length s.text)
-    from None there k = absurd (cc)
-    from (Some u) there k = to u (mark_at m (2 * g + 1)) refl k

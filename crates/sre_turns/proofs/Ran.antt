@@ -28,7 +28,7 @@ use Rattle.sre_turns.proofs.RanInRuns.{run-ran, lazy-run-ran, longest-run-ran}
 use Rattle.sre_turns.proofs.RanInLoops.{loop-ran}
 use Rattle.sre_turns.proofs.RanInPossessiveLoops.{possessive-ran}
 use Rattle.sre_turns.proofs.RanInRegions.{atomic-ran, ahead-ran, not_ahead-ran}
-use Rattle.sre_turns.proofs.RanAtGroups.{reference-ran, condition-ran, present-followed}
+use Rattle.sre_turns.proofs.RanAtReferences.{reference-ran, condition-ran, present-followed}
 
 mutual
   pub ran : (ws : List ℕ) (s : Subject) (i j : ℕ) (t : Tree) → AreWords ws → Reads ws i j t

@@ -17,7 +17,7 @@ use Rattle.sre_turns.specs.declared.Point.TheVariants.{Instruction, Alternatives
 use Rattle.sre_model.specs.Standing.{TestStands}
 use Rattle.sre_turns.specs.Moves.{spot_at, Stop, Go, Split}
 use Rattle.sre_turns.specs.Machine.{Runs, turns, stops, goes, splits}
-use Rattle.sre_model.specs.Roles.{ToTest, ToStand, ToMark, ToJump}
+use Rattle.sre_model.specs.Roles.{ToTest, ToCheckPosition, ToMark, ToJump}
 use Rattle.sre_model.proofs.Families.{test_kind, test_role}
 use Rattle.sre_turns.proofs.Moving.{at_instruction}
 use Rattle.sre_model.proofs.Words.{word_past}
@@ -55,10 +55,10 @@ at-ran ws s i j a w h l fs K C p m e f = go (holds_at s a p) refl
         → Runs ws s (spot_at (Instruction i) fs p m) (followed K (cond y (here p m) [])) (cond y (suc (C p m)) 1)
     go true y =
         turns (Go (spot_at (Instruction (i + 2)) fs p m))
-        (at_instruction opcode.AT ToStand refl w (record { code = a; there = h; is = rw y refl }))
+        (at_instruction opcode.AT ToCheckPosition refl w (record { code = a; there = h; is = rw y refl }))
         (goes (moved l (alone (f p m (omega arith) e))))
     go false y =
-        turns Stop (at_instruction opcode.AT ToStand refl w (record { code = a; there = h; is = rw y refl })) stops
+        turns Stop (at_instruction opcode.AT ToCheckPosition refl w (record { code = a; there = h; is = rw y refl })) stops
 
 -- an alternative, and those behind it
 pub alternative-ran : (ws : List ℕ) (s : Subject) (q v n₁ n₂ : ℕ) (fs : List Frame) (p : ℕ) (m : Marks)

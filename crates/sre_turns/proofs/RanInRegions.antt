@@ -16,7 +16,7 @@ use Rattle.sre_turns.proofs.Moving.{at_instruction}
 use Rattle.sre_model.proofs.Bounds.{Bounded, EachBetween}
 use Rattle.sre_turns.proofs.Cost.{Costs, ending, atomic_cost, look_cost, looked_cost}
 use Rattle.sre_turns.specs.MovesInRegions.{look}
-use Rattle.sre_model.specs.Roles.{ToGroup, ToLook, role}
+use Rattle.sre_model.specs.Roles.{ToGroupAtomically, ToLook, role}
 use Rattle.sre_turns.proofs.Outcomes.{followed, Follows, Ran, alone, region}
 
 -- an atomic group, where its body has some ways
@@ -51,7 +51,7 @@ module _ (ws : List ℕ) (s : Subject) (i j k : ℕ) (W : Body) (counted : Costs
       let x : Spot = spot_at (Instruction i) fs p m in
       let body : Spot = spot_at (Instruction k) fs p m in
       let move : Moves ws s x (Enter (AtomicGroup j) x body) =
-      at_instruction opcode.ATOMIC_GROUP ToGroup refl w (record { there = there; is = rw (leads, at) refl }) in
+      at_instruction opcode.ATOMIC_GROUP ToGroupAtomically refl w (record { there = there; is = rw (leads, at) refl }) in
       turns (Enter (AtomicGroup j) x body) move
       (enters (region ws s k (j - 1) W counted r ends fs p m e) (atomic-closed ws s x j K C (W p m) (b p m e) f))
 

@@ -20,7 +20,7 @@ use Rattle.sre_turns.specs.Moves.{spot_at, Go}
 use Rattle.sre_turns.specs.Machine.{Moves, Goes, Later, HasRun, Refuses, Demands, Continues}
 use Rattle.sre_model.specs.Runs.{Run}
 use Rattle.sre_model.specs.Standing.{TestStands, HasTest}
-use Rattle.sre_model.specs.Roles.{ToFail, ToEnd, ToStand, ToMark, ToJump, ToNothing, role, begins_test}
+use Rattle.sre_model.specs.Roles.{ToFail, ToEnd, ToCheckPosition, ToMark, ToJump, begins_test}
 use Rattle.sre_turns.specs.declared.Next.TheVariants as next
 use Rattle.sre_model.proofs.Words.{same_word, at_low, word_of, word_within}
 use Rattle.sre_turns.proofs.Moving.{in_role, in_test, at_instruction, at_test, run_nothing, run_goes, run_on}
@@ -29,11 +29,6 @@ use Rattle.sre_turns.proofs.Moving.{turn_stops, turn_ends, turn_goes}
 use Rattle.sre_model.proofs.Passing.{past_end, read_passes, stands_at_own}
 use Rattle.sre_turns.proofs.Placed.{set_placed}
 use Rattle.sre_model.proofs.Families.{is_literal}
-
--- an opcode that begins nothing is never reached
-pub never_nothing : (r : Run) (i : ℕ) (c : StringCursor) (o : SreOpcode) → HasRun r (Instruction i) c
-    → Opcode r.words i o → role o ≡ ToNothing → ⊥
-never_nothing r i c o x w e = (in_role o ToNothing e w x.runs).1
 
 -- FAILURE
 pub failure_step : (r : Run) (i : ℕ) (c : StringCursor) (b : BoardValue) → Opcode r.words i opcode.FAILURE
@@ -94,7 +89,7 @@ test_past r i o c b w f t l = test_refused r i c b o w f t.end t.test t.stands (
 -- AT
 pub at_there : (r : Run) (i : ℕ) (c : StringCursor) → Opcode r.words i opcode.AT → HasRun r (Instruction i) c
     → (a : SreAtCode) × Word r.words (i + 1) (at_number a)
-at_there r i c w x = let h = (in_role opcode.AT ToStand refl w x.runs).1 in (h.code, h.there)
+at_there r i c w x = let h = (in_role opcode.AT ToCheckPosition refl w x.runs).1 in (h.code, h.there)
 
 pub at_operand : (r : Run) (i : ℕ) (c : StringCursor) → Opcode r.words i opcode.AT → HasRun r (Instruction i) c
     → i + 1 < length r.words
@@ -112,7 +107,7 @@ pub at_step : (r : Run) (i : ℕ) (a : SreAtCode) (c : StringCursor) (b : BoardV
     → Goes r all limit (Instruction i) c b → Later r all limit (next.At (i + 2) c) b
 at_step r i a c b w wa y all limit g =
     turn_goes r (Instruction i) c b (Instruction (i + 2)) c b
-    (at_instruction opcode.AT ToStand refl w (record { code = a; there = wa; is = rw y refl }))
+    (at_instruction opcode.AT ToCheckPosition refl w (record { code = a; there = wa; is = rw y refl }))
     g.stands g.placed refl all limit g
 
 pub at_refused : (r : Run) (i : ℕ) (a : SreAtCode) (c : StringCursor) (b : BoardValue) → Opcode r.words i opcode.AT
@@ -120,7 +115,7 @@ pub at_refused : (r : Run) (i : ℕ) (a : SreAtCode) (c : StringCursor) (b : Boa
     → Goes r all limit (Instruction i) c b → Later r all limit next.Back b
 at_refused r i a c b w wa n =
     turn_stops r (Instruction i) c b
-    (at_instruction opcode.AT ToStand refl w (record { code = a; there = wa; is = rw n refl }))
+    (at_instruction opcode.AT ToCheckPosition refl w (record { code = a; there = wa; is = rw n refl }))
 
 -- MARK
 pub mark_operand : (r : Run) (i : ℕ) (c : StringCursor) → Opcode r.words i opcode.MARK → HasRun r (Instruction i) c

@@ -22,11 +22,6 @@ use Rattle.sre_model.proofs.Words.{word_of, word_within}
 use Rattle.sre_turns.proofs.Moving.{in_role, at_instruction, has_run, run_goes, run_splits, turn_goes, turn_splits}
 use Rattle.sre_turns.proofs.Moving.{both_wait, both_first, both_second}
 
--- REPEAT
-pub repeat_operand : (r : Run) (i : ℕ) (c : StringCursor) → Opcode r.words i opcode.REPEAT → HasRun r (Instruction i) c
-    → i + 1 < length r.words
-repeat_operand r i c w x = (in_role opcode.REPEAT ToRepeat refl w x.runs).1.there
-
 pub repeat_step : (r : Run) (i v : ℕ) (c : StringCursor) (b b' : BoardValue) → Opcode r.words i opcode.REPEAT
     → Word r.words (i + 1) v → b' ≡ record b { frames = first_frame i ∷ b.frames } → (all : List Way) (limit : ℕ)
     → Goes r all limit (Instruction i) c b → Later r all limit (next.At (i + 1 + v) c) b'
@@ -97,13 +92,6 @@ pub record InLoop (r : Run) (o : Order) (u low high : ℕ) (b : BoardValue) (f :
   pub inside : b.frames ≡ f ∷ drop 1 b.frames
   pub lowest : Word r.words (f.repeat + 2) low
   pub highest : Word r.words (f.repeat + 3) high
-
--- there is one where its end is reached
-pub until_frames : (r : Run) (o : Order) (u : ℕ) (c : StringCursor) (b : BoardValue) → Opcode r.words u (until_opcode o)
-    → IsAt r (Instruction u) c b → 0 < length b.frames
-until_frames r o u c b w x =
-    let h = (in_role (until_opcode o) (ToLoop o) (until_role o) w x.runs).1 in
-    rw h.inside (omega arith)
 
 pub until_there : (r : Run) (o : Order) (u : ℕ) (c : StringCursor) (b : BoardValue) (f : Frame)
     → Opcode r.words u (until_opcode o) → IsAt r (Instruction u) c b → b.frames ≡ f ∷ drop 1 b.frames

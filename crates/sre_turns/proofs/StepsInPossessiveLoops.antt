@@ -37,13 +37,6 @@ pub record InPossessiveLoop (r : Run) (v low high : ℕ) (b : BoardValue) (f : F
   pub lowest : Word r.words (f.repeat + 2) low
   pub highest : Word r.words (f.repeat + 3) high
 
--- there is one
-pub again_frames : (r : Run) (c : StringCursor) (b : BoardValue) → IsAt r Again c b → 0 < length b.frames
-again_frames r c b x = go x.runs
-  where
-    go : {os : List Way} {n : ℕ} → Runs r.words r.subject (spot Again c b) os n → 0 < length b.frames
-    go (turns mv h d) = rw h.inside (omega arith)
-
 -- and its operands are there
 pub again_operands : (r : Run) (c : StringCursor) (b : BoardValue) (f : Frame) → IsAt r Again c b
     → b.frames ≡ f ∷ drop 1 b.frames → f.repeat + 3 < length r.words

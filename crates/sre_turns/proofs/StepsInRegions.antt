@@ -19,7 +19,7 @@ use Rattle.sre_turns.specs.MovesInRegions.{look}
 use Rattle.sre_turns.specs.Machine.{Moves, Runs, Comes, stops, goes, Waits, kept, Goes, Placed, Ends, Later, spot}
 use Rattle.sre_model.specs.Runs.{Run}
 use Rattle.sre_turns.specs.Machine.{HasRun, after_outcome, without_outcome, without_loop}
-use Rattle.sre_model.specs.Roles.{ToGroup, ToLook}
+use Rattle.sre_model.specs.Roles.{ToGroupAtomically, ToLook}
 use Rattle.sre_model.proofs.Families.{look_role}
 use Rattle.sre_turns.specs.declared.Next.TheVariants as next
 use Rattle.sre_model.proofs.Words.{word_of, word_within}
@@ -28,7 +28,7 @@ use Rattle.sre_turns.proofs.Moving.{in_role, at_instruction, turn_stops, turn_go
 -- ATOMIC_GROUP
 pub atomic_operand : (r : Run) (i : ℕ) (c : StringCursor) → Opcode r.words i opcode.ATOMIC_GROUP
     → HasRun r (Instruction i) c → i + 1 < length r.words
-atomic_operand r i c w x = (in_role opcode.ATOMIC_GROUP ToGroup refl w x.runs).1.there
+atomic_operand r i c w x = (in_role opcode.ATOMIC_GROUP ToGroupAtomically refl w x.runs).1.there
 
 -- a region is entered at a cursor
 abbrev pub entered : Region → StringCursor → BoardValue → BoardValue
@@ -41,7 +41,7 @@ atomic_step r i v c b b' w wv eb all limit g =
     let group : Region = AtomicGroup (i + 1 + v) in
     let body : Spot = spot (Instruction (i + 2)) c b in
     let move : Moves r.words r.subject (spot (Instruction i) c b) (Enter group (spot (Instruction i) c b) body) =
-    at_instruction opcode.ATOMIC_GROUP ToGroup refl w
+    at_instruction opcode.ATOMIC_GROUP ToGroupAtomically refl w
     (record { there = word_within r.words (i + 1) v wv; is = rw (word_of r.words (i + 1) v wv) refl }) in
     subst (λ x. Later r all limit (next.At (i + 2) c) x) (sym eb)
     (turn_enters r (Instruction i) b.frames (i + 2) group c c b (entered group c b) move g.stands refl refl all

@@ -3,5 +3,5 @@ pub mod Moves
 pub mod MovesInRuns
 pub mod MovesInLoops
 pub mod MovesInRegions
-pub mod MovesAtGroups
+pub mod MovesAtReferences
 pub mod Machine

@@ -8,8 +8,8 @@ use Rattle.sre_chars.specs.declared.string.StringCursor.{StringCursor}
 use Rattle.sre_chars.specs.Tables.{Table}
 use Rattle.sre_model.specs.Tree.{Tree, Test, Literal, Plain}
 use Rattle.sre_model.specs.Characters.{holds}
-use Rattle.sre_model.specs.Roles.{Role, ToFail, ToEnd, ToTest, ToStand, ToMark, ToBranch, ToJump, ToRun, ToRepeat}
-use Rattle.sre_model.specs.Roles.{ToLoop, ToRepeatPossessively, ToGroup, ToLook, ToRefer, ToAsk, ToNothing, role}
+use Rattle.sre_model.specs.Roles.{Role, ToFail, ToEnd, ToTest, ToCheckPosition, ToMark, ToBranch, ToJump, ToRun, ToRepeat}
+use Rattle.sre_model.specs.Roles.{ToLoop, ToRepeatPossessively, ToGroupAtomically, ToLook, ToRefer, ToCheckGroup, ToNothing, role}
 use Rattle.sre_model.specs.Marks.{Marks, mark_at, no_marks}
 use Rattle.sre_model.specs.Subject.{Subject, char_at, passes}
 use Rattle.sre_model.specs.Ways.{Way, here, ways}
@@ -27,7 +27,7 @@ use Rattle.sre_turns.specs.Moves.{MarkMove, JumpMove, AlternativesMove}
 use Rattle.sre_turns.specs.MovesInRuns.{RunMove, ShorterMove, LongerMove}
 use Rattle.sre_turns.specs.MovesInLoops.{first_frame, RepeatMove, UntilMove, AgainMove}
 use Rattle.sre_turns.specs.MovesInRegions.{AtomicMove, LookMove}
-use Rattle.sre_turns.specs.MovesAtGroups.{ReferenceMove, ConditionMove}
+use Rattle.sre_turns.specs.MovesAtReferences.{ReferenceMove, ConditionMove}
 use Rattle.sre_turns.specs.declared.Next.{Next}
 use Rattle.sre_turns.specs.declared.Next.TheVariants as next
 
@@ -36,7 +36,7 @@ abbrev pub InRole : List ℕ → Subject → Role → ℕ → Spot → Move → 
 InRole ws s ToFail i x mv = mv ≡ Stop
 InRole ws s ToEnd i x mv = mv ≡ End
 InRole ws s (ToTest kind) i x mv = TestMove ws s i x mv
-InRole ws s ToStand i x mv = AtMove ws s i x mv
+InRole ws s ToCheckPosition i x mv = AtMove ws s i x mv
 InRole ws s ToMark i x mv = MarkMove ws i x mv
 InRole ws s ToBranch i x mv = mv ≡ Go (to_point x (Alternatives (i + 1)))
 InRole ws s ToJump i x mv = JumpMove ws i x mv
@@ -44,10 +44,10 @@ InRole ws s (ToRun kind) i x mv = RunMove ws s kind i x mv
 InRole ws s ToRepeat i x mv = RepeatMove ws i x mv
 InRole ws s (ToLoop o) i x mv = UntilMove ws o i x mv
 InRole ws s ToRepeatPossessively i x mv = mv ≡ Go (record x { point = Again; frames = first_frame i ∷ x.frames })
-InRole ws s ToGroup i x mv = AtomicMove ws i x mv
+InRole ws s ToGroupAtomically i x mv = AtomicMove ws i x mv
 InRole ws s (ToLook sign) i x mv = LookMove ws sign i x mv
 InRole ws s ToRefer i x mv = ReferenceMove ws s i x mv
-InRole ws s ToAsk i x mv = ConditionMove ws i x mv
+InRole ws s ToCheckGroup i x mv = ConditionMove ws i x mv
 InRole ws s ToNothing i x mv = ⊥
 
 -- what a turn does at a point

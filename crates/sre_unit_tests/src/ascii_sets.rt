@@ -1,7 +1,7 @@
 //! Sets, each with all its characters.
 
-use sre_ascii::AsciiSet;
 use sre_chars::constants::SreCatCode;
+use sre_code::ascii_set::AsciiSet;
 
 // Whether a character is in a text of ASCII, whose bytes are its characters.
 fn is_in(text: &str, c: u32) -> bool {

@@ -2,9 +2,9 @@
 
 use sre_board::{Board, Change, Saved};
 use sre_chars::string::StringCursor;
+use sre_failing_allocator::Refusing;
 use sre_growth::Refusal;
 use sre_turns::Point;
-use sre_refusing::Refusing;
 use std::alloc::{Allocator, Global};
 use std::test::Fail;
 

@@ -1,7 +1,7 @@
 //! Each growth is refused in turn: an error comes exactly where one was, and else all items.
 
+use sre_failing_allocator::Refusing;
 use sre_growth::{from_slice, push, resize};
-use sre_refusing::Refusing;
 use std::alloc::Global;
 
 // Whether a request was refused since `left` were left up to the refused one.

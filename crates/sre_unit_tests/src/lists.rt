@@ -6,7 +6,7 @@ use sre_chars::string::UniError::{AsciiEntry, NotScalar, Unsorted};
 use sre_chars::string::{
     UniError, UniTable, category, lower_ascii, lower_unicode, upper_ascii, upper_unicode,
 };
-use sre_refusing::Refusing;
+use sre_failing_allocator::Refusing;
 use std::alloc::Global;
 use std::test::Fail;
 

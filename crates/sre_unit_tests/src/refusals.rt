@@ -1,6 +1,6 @@
 //! The allocator that refuses one request.
 
-use sre_refusing::Refusing;
+use sre_failing_allocator::Refusing;
 use std::alloc::Global;
 use std::test::Fail;
 

@@ -3,7 +3,7 @@
 use sre_chars::string::UniTable;
 use sre_code::check_in;
 use sre_code::code::CodeError;
-use sre_refusing::Refusing;
+use sre_failing_allocator::Refusing;
 use sre_samples::SAMPLES;
 use std::alloc::Global;
 use std::convert::TryFrom;

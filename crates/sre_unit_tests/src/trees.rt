@@ -5,7 +5,7 @@ use sre_chars::string::UniTable;
 use sre_code::Code;
 use sre_code::code::Hints;
 use sre_emit::{EmitError, Fold, Item, OneChar, Part, RunKind, SetItem, emit, emit_in};
-use sre_refusing::Refusing;
+use sre_failing_allocator::Refusing;
 use std::alloc::{AllocError, Global};
 use std::process::Abort;
 use std::test::Fail;

@@ -14,11 +14,11 @@ ghost use Rattle.sre_code.specs.Prefixes.{Ends};
 ghost use Rattle.sre_code.specs.FirstSets.{HasBlockSet, IsSetUpTo, Tells, TellsEach};
 
 use crate::ascii_members::ascii_members;
+use crate::ascii_set::AsciiSet;
 use crate::code::prefix::behind_marks;
 use crate::code::{set, words};
 use crate::members;
 use crate::operands::know_words;
-use sre_ascii::AsciiSet;
 use sre_chars::constants::SreOpcode;
 use sre_chars::string::UniTable;
 

@@ -8,8 +8,8 @@ ghost use Rattle.sre_request.specs.Runs.{run_of};
 
 use sre_chars::constants::{SreAtCode, SreOpcode};
 use sre_chars::string::StrDrive;
+use sre_code::operands::word;
 use sre_request::Request;
-use sre_request::operands::word;
 
 /// Whether a code's first item is a position code that holds at position 0 alone.
 #[inline(always)]

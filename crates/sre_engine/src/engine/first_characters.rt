@@ -2,7 +2,7 @@
 
 ghost use Rattle.std.specs.Prelude.{◌≡◌, ◌⊎◌, ◌+◌, ◌<◌, ℕ, length, true, IfSome};
 ghost use Rattle.sre_chars.specs.Numbers.{at_number};
-ghost use Rattle.sre_ascii.specs.Sets.{contains};
+ghost use Rattle.sre_code.specs.AsciiSet.{contains};
 ghost use Rattle.sre_model.specs.Tree.{Tree, Trees};
 ghost use Rattle.sre_model.specs.Subject.{Subject};
 ghost use Rattle.sre_model.specs.Grammar.{Word, AreItems, ReadsBranch};
@@ -12,10 +12,10 @@ ghost use Rattle.sre_model.specs.FirstCharacters.{TreeStands, HasTree, HasAltern
 ghost use Rattle.sre_model.specs.Roles.{ToNothing, begins_test};
 ghost use Rattle.sre_engine.specs.Starts.{IsElsewhere, NotAmong, IsLacking, Bars, TestsThere};
 
-use sre_ascii::AsciiSet;
 use sre_chars::constants::{SreAtCode, SreOpcode};
-use sre_request::ascii::ascii_taken;
-use sre_request::operands::{operand, word};
+use sre_code::ascii_set::AsciiSet;
+use sre_code::operands::{operand, word};
+use sre_reading::ascii::ascii_taken;
 use std::convert::TryFrom;
 
 /// What is wanted of the character at a position.

@@ -15,10 +15,11 @@ ghost use Rattle.sre_engine.specs.Starts.{NoneUntil};
 use crate::engine::first_characters::is_test;
 use sre_chars::constants::SreOpcode;
 use sre_chars::string::{StrDrive, StringCursor};
-use sre_request::one_character::{opcode, takes, test_end};
-use sre_request::runs::longest_run;
-use sre_request::text::read;
-use sre_request::{Request, operands};
+use sre_code::operands;
+use sre_reading::one_character::{opcode, takes, test_end};
+use sre_reading::runs::longest_run;
+use sre_reading::text::read;
+use sre_request::Request;
 use std::convert::TryFrom;
 
 /// A run with no greatest count that a code's words begin with: the place of its test, and that of the one test of a

@@ -9,12 +9,12 @@ ghost use Rattle.sre_request.specs.Requests.{end_of, code_of, asked_of};
 ghost use Rattle.sre_request.specs.Runs.{run_of};
 ghost use Rattle.sre_engine.specs.Members.{IsFirstSet, NextMember};
 
-use sre_ascii::AsciiSet;
 use sre_chars::string::{StrDrive, StringCursor};
 use sre_code::ascii_members::ascii_members;
+use sre_code::ascii_set::AsciiSet;
 use sre_code::members::is_member;
+use sre_reading::text::read;
 use sre_request::Request;
-use sre_request::text::read;
 
 // The ASCII characters of the first set, where its items tell them at once.
 #[inline(always)]

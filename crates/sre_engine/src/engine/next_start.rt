@@ -6,13 +6,13 @@ ghost use Rattle.sre_request.specs.Runs.{run_of};
 ghost use Rattle.sre_engine.specs.Starts.{TestsThere, WantedFrom, NextStart, NextHeld};
 
 use crate::engine::first_characters::{First, Wanted};
-use sre_ascii::AsciiSet;
 use sre_chars::constants::SreAtCode;
 use sre_chars::string::{StrDrive, StringCursor};
+use sre_code::ascii_set::AsciiSet;
+use sre_reading::position::holds_at;
+use sre_reading::runs::first_taken;
+use sre_reading::text::{back_by, cursor_at, read};
 use sre_request::Request;
-use sre_request::position::holds_at;
-use sre_request::runs::first_taken;
-use sre_request::text::{back_by, cursor_at, read};
 
 // The cursor some characters back, with no step where there are none.
 #[inline(always)]

@@ -15,8 +15,8 @@ ghost use Rattle.sre_engine.specs.Scans.{Overlapping, NoPlace, Here, GoesTo, Fir
 
 use crate::engine::next_start::looked_at;
 use sre_chars::string::{StrDrive, StringCursor};
+use sre_reading::text::{back_by, read};
 use sre_request::Request;
-use sre_request::text::{back_by, read};
 
 /// The words of a prefix and their overlap words.
 #[derive(Clone, Copy)]

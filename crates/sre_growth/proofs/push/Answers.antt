@@ -1,4 +1,4 @@
-use Rattle.sre_refused.specs.Seal.{refused}
+use Rattle.sre_refusal_seal.specs.Seal.{refused}
 use Rattle.sre_growth.proofs.push.Goals as goal
 
 -- the list's own growth was refused

@@ -8,7 +8,7 @@ use Rattle.sre_model.specs.Tree.{Tree}
 use Rattle.sre_model.specs.Subject.{Subject}
 use Rattle.sre_model.specs.Grammar.{Word, Opcode}
 use Rattle.sre_model.specs.FirstCharacters.{NoWay, TreeStands, Leads}
-use Rattle.sre_model.specs.Roles.{ToStand, ToMark, ToRepeat, ToRepeatPossessively, ToGroup, role}
+use Rattle.sre_model.specs.Roles.{ToCheckPosition, ToMark, ToRepeat, ToRepeatPossessively, ToGroupAtomically, role}
 use Rattle.sre_model.proofs.Families.{HasRole, role_here}
 use Rattle.sre_model.proofs.FirstCharacters.{leads_start, leads_tree, leads_further, tree_within}
 use Rattle.sre_model.proofs.FirstCharacters.{mark_leads, atomic_leads, look_operand, look_leads, at_operand, at_leads}
@@ -40,7 +40,7 @@ item-preserved-in-ATOMIC_GROUP c =
     let ws = c.args.words.now in
     let code : Opcode ws c.item.reached.place opcode.ATOMIC_GROUP = search rules in
     let further = leads_further ws _ _ _ c.item.invariant.leads _ 0 c.item.reached.back
-    (λ u stands. atomic_leads ws u _ stands (role_here _ _ opcode.ATOMIC_GROUP ToGroup code refl)) (omega arith) in
+    (λ u stands. atomic_leads ws u _ stands (role_here _ _ opcode.ATOMIC_GROUP ToGroupAtomically code refl)) (omega arith) in
     record {
       within = tree_within ws _ (leads_tree ws _ _ _ further c.requires);
       leads = further;
@@ -71,11 +71,11 @@ first_position-reached-requires c =
     let ws = c.args.words.now in
     let code : Opcode ws c.item.reached.place opcode.AT = search rules in
     let here = leads_tree ws _ _ _ c.item.invariant.leads c.requires in
-    at_operand ws here.tree _ here.stands (role_here _ _ opcode.AT ToStand code refl)
+    at_operand ws here.tree _ here.stands (role_here _ _ opcode.AT ToCheckPosition code refl)
 
 -- what the position code that is kept rules out
 position_bars : (ws : List ℕ) (start i far : ℕ) (before code : Option SreAtCode)
-    (l : (t : Tree) → TreeStands ws start t → Leads ws t i far) → HasRole ws i ToStand
+    (l : (t : Tree) → TreeStands ws start t → Leads ws t i far) → HasRole ws i ToCheckPosition
     → ((t : Tree) → TreeStands ws start t → (s : Subject) (p : ℕ) → IsElsewhere s before p → NoWay s t p)
     → (code ≡ before) ⊎ ((far ≡ 0) × IfSome code (λ a. Word ws (i + 1) (at_number a))) → (t : Tree)
     → TreeStands ws start t → (s : Subject) (p : ℕ) → IsElsewhere s code p → NoWay s t p
@@ -89,7 +89,7 @@ pub item-preserved-in-AT : goal.item-preserved-in-AT
 item-preserved-in-AT c =
     let ws = c.args.words.now in
     let code : Opcode ws c.item.reached.place opcode.AT = search rules in
-    let here = role_here _ _ opcode.AT ToStand code refl in
+    let here = role_here _ _ opcode.AT ToCheckPosition code refl in
     let further = leads_further ws _ _ _ c.item.invariant.leads _ 0 c.item.reached.back
     (λ u stands. at_leads ws u _ stands here) (omega arith) in
     record {

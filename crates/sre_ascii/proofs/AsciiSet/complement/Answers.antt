@@ -1,6 +1,0 @@
-use Rattle.std.proofs.Common.{refl, arith}
-use Rattle.sre_ascii.proofs.Halves.{in_complement}
-use Rattle.sre_ascii.proofs.AsciiSet.complement.Goals as goal
-
-pub returns : goal.returns
-returns c = in_complement _ c.args.self (omega arith) (omega arith) refl refl

@@ -1,6 +1,0 @@
-use Rattle.std.proofs.Common.{refl, arith}
-use Rattle.sre_ascii.proofs.Halves.{in_difference}
-use Rattle.sre_ascii.proofs.AsciiSet.difference.Goals as goal
-
-pub returns : goal.returns
-returns c = in_difference _ c.args.self c.args.other (omega arith) (omega arith) refl refl

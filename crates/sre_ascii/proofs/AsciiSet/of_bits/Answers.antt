@@ -1,5 +1,0 @@
-use Rattle.sre_ascii.proofs.Halves.{in_four_words}
-use Rattle.sre_ascii.proofs.AsciiSet.of_bits.Goals as goal
-
-pub returns : goal.returns
-returns c = in_four_words _ c.args.words c.join.ensures c.join-2.ensures

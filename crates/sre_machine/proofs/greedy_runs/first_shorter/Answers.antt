@@ -1,0 +1,51 @@
+use Rattle.std.proofs.Common.{◌-◌, subst}
+use Rattle.sre_turns.specs.declared.Point.TheVariants.{Instruction, Shorter}
+use Rattle.sre_turns.specs.Machine.{SkipsBoth, Demands, DemandsAny}
+use Rattle.sre_request.specs.Runs.{run_of}
+use Rattle.sre_turns.proofs.StepsInRuns.{shorter_none, shorter_past, shorter_skips}
+use Rattle.sre_turns.proofs.StepsInBranches.{positive}
+use Rattle.sre_turns.proofs.StepsAtItems.{other_character}
+use Rattle.sre_turns.proofs.Moving.{both_skips}
+use Rattle.sre_machine.proofs.greedy_runs.first_shorter.Goals as goal
+
+pub returns-then-count-eq0 : goal.returns-then-count-eq0
+returns-then-count-eq0 g c = λ b all limit x.
+    shorter_none (run_of c.args.req.now) c.args.tail _ _ b c.if-count-eq0.true all limit x
+
+pub back_one-requires-clause-past : goal.back_one-requires-clause-past
+back_one-requires-clause-past g c =
+    shorter_past (run_of c.args.req.now) c.args.tail _ _ (positive _ c.if-count-eq0.false) c.requires.stands
+
+pub returns-in_default : goal.returns-in_default
+returns-in_default g c =
+    shorter_skips (run_of c.args.req.now) _ c.args.start c.args.tail _ c.args.start c.back_one.result
+    c.if-count-eq0.false c.back_one.ensures.position c.back_one.ensures.stands c.requires.stands (λ b all limit x. x)
+
+pub returns-then-left-eq0 : goal.returns-then-left-eq0
+returns-then-left-eq0 g c = λ b all limit x.
+    shorter_none (run_of c.args.req.now) c.args.tail _ _ b c.if-left-eq0.true all limit
+    (c.count.invariant.same b all limit x)
+
+pub read_back-step-requires-clause-past : goal.read_back-step-requires-clause-past
+read_back-step-requires-clause-past g c =
+    shorter_past (run_of c.args.req.now) c.args.tail _ _ (positive _ c.if-left-eq0.false) c.count.invariant.at
+
+pub returns-then-step-value : goal.returns-then-step-value
+returns-then-step-value g c =
+    shorter_skips (run_of c.args.req.now) _ c.args.start c.args.tail _ c.count.cursor c.read_back-step.result.1
+    c.if-left-eq0.false c.read_back-step.ensures.position c.read_back-step.ensures.stands c.count.invariant.at
+    c.count.invariant.same
+
+pub count-preserved : goal.count-preserved
+count-preserved g c =
+    let r = run_of c.args.req.now in
+    let before = c.read_back-step.result.1 in
+    let s : SkipsBoth r (Shorter c.args.tail c.args.count) c.args.start (Instruction c.args.tail)
+    (Shorter c.args.tail (c.count.left - 1)) before =
+    shorter_skips r _ c.args.start c.args.tail _ c.count.cursor before c.if-left-eq0.false
+    c.read_back-step.ensures.position c.read_back-step.ensures.stands c.count.invariant.at c.count.invariant.same in
+    let demands : Demands r c.args.tail c.in-Some.value =
+    subst (λ w. DemandsAny r c.args.tail w) c.in-Some.is c.requires.wanted in
+    let none = demands before.position (other_character r.subject c.in-Some.value c.read_back-step.result.0
+    before.position c.read_back-step.ensures.character c.if-step-value.false) in
+    record { at = s.others; same = both_skips r _ c.args.start _ _ before none s }

@@ -1,0 +1,11 @@
+use Rattle.sre_request.specs.Runs.{run_of}
+use Rattle.sre_turns.proofs.StepsInRuns.{shorter_last}
+use Rattle.sre_machine.proofs.greedy_runs.shorter.Goals as goal
+
+pub returns-then-found-eq0 : goal.returns-then-found-eq0
+returns-then-found-eq0 g c = λ all limit x.
+    shorter_last (run_of c.args.req.now) c.args.tail c.args.tail c.in-Some.found.0 c.in-Some.found.1 c.args.board.now
+    c.if-found-eq0.true all limit (c.in-Some.ensures.skips c.args.board.now all limit x)
+
+pub returns : goal.returns
+returns g c = λ all limit x. c.in_ok-choose.ensures all limit (c.in-Some.ensures.skips c.args.board.now all limit x)

@@ -1,0 +1,158 @@
+//! Greedy runs of one character: the longest first, then the shorter ones.
+
+ghost use Rattle.std.specs.Prelude.{◌≡◌, ◌⊎◌, MatchOption, true, IfOk};
+ghost use Rattle.sre_model.specs.Grammar.{Opcode};
+ghost use Rattle.sre_model.specs.Standing.{HasTest};
+ghost use Rattle.sre_turns.specs.Board.{BoardValue};
+ghost use Rattle.sre_turns.specs.Machine.{HasRun, Advances, DemandsAny, Excludes, SkipsBoth};
+ghost use Rattle.sre_turns.specs.declared.Point.TheVariants.{Instruction, Shorter};
+ghost use Rattle.sre_request.specs.Runs.{run_of};
+
+use crate::machine::{choose, first_literal, lacks, operand, word_at};
+use sre_board::Board;
+use sre_chars::constants::SreOpcode;
+use sre_chars::string::{StrDrive, StringCursor};
+use sre_growth::Refusal;
+use sre_reading::runs::longest_run;
+use sre_reading::text::{back_one, read_back};
+use sre_request::Request;
+use sre_turns::{Next, Point};
+use std::alloc::Allocator;
+
+// The first of the shorter counts of a run of which something may come, if there is one: how many are left behind it,
+// and the cursor behind its characters.
+#[inline(always)]
+fn first_shorter<S: StrDrive>(
+    req: &Request<'_, S>,
+    tail: usize,
+    wanted: Option<u32>,
+    count: usize,
+    start: StringCursor,
+) -> Option<(usize, StringCursor)>
+    requires wanted { DemandsAny (run_of req.now) tail wanted }
+    requires stands { HasRun (run_of req.now) (Shorter tail count) start }
+    ensures { MatchOption result
+        ((b : BoardValue) → Advances (run_of req.now) (Shorter tail count) start b Next.Back b)
+        (λ x. SkipsBoth (run_of req.now) (Shorter tail count) start (Instruction tail) (Shorter tail x.0) x.1) }
+{
+    if count == 0 {
+        return None;
+    }
+    let Some(value) = wanted else {
+        return Some((count - 1, back_one(req, start)));
+    };
+    let mut cursor = start;
+    let mut left = count;
+    'count: loop {
+        if left == 0 {
+            return None;
+        }
+        left -= 1;
+        let step = read_back(req, cursor);
+        cursor = step.1;
+        if step.0 == value {
+            return Some((left, cursor));
+        }
+    }
+}
+
+/// The shorter counts of a run, so many of them, each followed by the run's tail, whose first character is at hand if
+/// the words tell it.
+#[inline(always)]
+fn shorter<S: StrDrive, A: Allocator>(
+    req: &Request<'_, S>,
+    board: &mut Board<A>,
+    tail: usize,
+    wanted: Option<u32>,
+    count: usize,
+    start: StringCursor,
+) -> Result<Next, Refusal>
+    requires wanted { DemandsAny (run_of req.now) tail wanted }
+    requires stands { HasRun (run_of req.now) (Shorter tail count) start }
+    ensures { IfOk result (λ next. Advances (run_of req.now) (Shorter tail count) start board.old next board.new) }
+{
+    let Some(found) = first_shorter(req, tail, wanted, count, start) else {
+        return Ok(Next::Back);
+    };
+    if found.0 == 0 {
+        return Ok(Next::At(tail, found.1));
+    }
+    Ok(choose(req, board, tail, Point::Shorter(tail, found.0), found.1)?)
+}
+
+/// The shorter counts of a run that were saved.
+#[inline(always)]
+pub(super) fn shorter_again<S: StrDrive, A: Allocator>(
+    req: &Request<'_, S>,
+    board: &mut Board<A>,
+    tail: usize,
+    count: usize,
+    start: StringCursor,
+) -> Result<Next, Refusal>
+    requires { HasRun (run_of req.now) (Shorter tail count) start }
+    ensures { IfOk result (λ next. Advances (run_of req.now) (Shorter tail count) start board.old next board.new) }
+{
+    if count == 0 {
+        return Ok(Next::Back);
+    }
+    let nearest = back_one(req, start);
+    let wanted = first_literal(req, tail, nearest);
+    Ok(shorter(req, board, tail, wanted, count, start)?)
+}
+
+// Whether only the longest count of a run has to be tried: none is left, or the run's test does not take the character
+// that has to come behind the run, so that none of the run's own is that character. The latter is asked of a
+// NOT_LITERAL alone, as in `[^>]*>`, of which a comparison tells it.
+#[inline(always)]
+fn is_only_count<S: StrDrive>(
+    req: &Request<'_, S>,
+    test: usize,
+    wanted: Option<u32>,
+    left: usize,
+) -> bool
+    requires { HasTest (run_of req.now).words test }
+    ensures { result ≡ true → (left ≡ 0) ⊎ Excludes (run_of req.now).words test wanted }
+{
+    if left == 0 {
+        return true;
+    }
+    let Some(character) = wanted else {
+        return false;
+    };
+    word_at(req, test) == SreOpcode::NOT_LITERAL as u32 && operand(req, test, 1) == character
+}
+
+/// `REPEAT_ONE skip least greatest test SUCCESS`: the longest run of the test, then the shorter ones.
+#[inline(always)]
+pub(super) fn repeat_one<S: StrDrive, A: Allocator>(
+    req: &Request<'_, S>,
+    board: &mut Board<A>,
+    place: usize,
+    cursor: StringCursor,
+) -> Result<Next, Refusal>
+    requires opcode { Opcode (run_of req.now).words place SreOpcode.REPEAT_ONE }
+    requires stands { HasRun (run_of req.now) (Instruction place) cursor }
+    ensures { IfOk result (λ next. Advances (run_of req.now) (Instruction place) cursor board.old next board.new) }
+{
+    let skip = operand(req, place, 1) as usize;
+    let least = operand(req, place, 2) as usize;
+    let greatest = operand(req, place, 3);
+    let run = longest_run(req, place + 4, greatest, cursor);
+    if run.0 < least {
+        return Ok(Next::Back);
+    }
+    let tail = place + 1 + skip;
+    let left = run.0 - least;
+    let wanted = first_literal(req, tail, run.1);
+    let is_only = is_only_count(req, place + 4, wanted, left);
+    if lacks(req, wanted, run.1) {
+        if is_only {
+            return Ok(Next::Back);
+        }
+        return Ok(shorter(req, board, tail, wanted, left, run.1)?);
+    }
+    if is_only {
+        return Ok(Next::At(tail, run.1));
+    }
+    Ok(choose(req, board, tail, Point::Shorter(tail, left), run.1)?)
+}

@@ -1,0 +1,77 @@
+//! References to groups, and conditions on them: `GROUPREF group` and its three foldings, and
+//! `GROUPREF_EXISTS group skip`.
+
+ghost use Rattle.std.specs.Prelude.{◌≡◌, ◌+◌, nat_le};
+ghost use Rattle.sre_model.specs.Grammar.{Opcode};
+ghost use Rattle.sre_turns.specs.declared.Point.TheVariants.{Instruction};
+ghost use Rattle.sre_model.specs.Roles.{ToRefer, role};
+ghost use Rattle.sre_turns.specs.Machine.{HasRun, IsAt, Advances};
+ghost use Rattle.sre_request.specs.Runs.{run_of};
+
+use crate::machine::operand;
+use sre_board::Board;
+use sre_chars::constants::SreOpcode;
+use sre_chars::string::{StrDrive, StringCursor};
+use sre_reading::references::is_repeated;
+use sre_reading::text::cursor_at;
+use sre_request::Request;
+use sre_turns::Next;
+use std::alloc::Allocator;
+
+// Whether so many characters from a position on end no later than the window.
+#[inline(always)]
+fn is_inside(position: usize, count: usize, end: usize) -> bool
+    ensures { result ≡ nat_le (position + count) end }
+{
+    position <= end && count <= end - position
+}
+
+/// `GROUPREF group`, and its foldings alike: passes the characters of the group, folded on both sides.
+#[inline(always)]
+pub(super) fn reference<S: StrDrive, A: Allocator>(
+    req: &Request<'_, S>,
+    board: &Board<A>,
+    opcode: SreOpcode,
+    place: usize,
+    cursor: StringCursor,
+) -> Next
+    requires opcode { Opcode (run_of req.now).words place opcode }
+    requires refers { role opcode ≡ ToRefer }
+    requires stands { IsAt (run_of req.now) (Instruction place) cursor board.now }
+    ensures { Advances (run_of req.now) (Instruction place) cursor board.now result board.now }
+{
+    let number = operand(req, place, 1);
+    let Some((start, end)) = board.group(number) else {
+        return Next::Back;
+    };
+    let count = end - start;
+    if !is_inside(cursor.position(), count, req.end()) {
+        return Next::Back;
+    }
+    let group = cursor_at(req, cursor, start);
+    match is_repeated(req, opcode, group, cursor, count) {
+        Some(after) => Next::At(place + 2, after),
+        None => Next::Back,
+    }
+}
+
+/// `GROUPREF_EXISTS group skip yes` or `GROUPREF_EXISTS group skip yes JUMP skip no`: goes on with the yes part where
+/// the group is present, else where the skip leads, counted from the group's word.
+#[inline(always)]
+pub(super) fn condition<S: StrDrive, A: Allocator>(
+    req: &Request<'_, S>,
+    board: &Board<A>,
+    place: usize,
+    cursor: StringCursor,
+) -> Next
+    requires opcode { Opcode (run_of req.now).words place SreOpcode.GROUPREF_EXISTS }
+    requires stands { HasRun (run_of req.now) (Instruction place) cursor }
+    ensures { Advances (run_of req.now) (Instruction place) cursor board.now result board.now }
+{
+    let number = operand(req, place, 1);
+    let skip = operand(req, place, 2);
+    match board.group(number) {
+        Some(_) => Next::At(place + 3, cursor),
+        None => Next::At(place + 1 + skip as usize, cursor),
+    }
+}

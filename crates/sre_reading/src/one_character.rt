@@ -1,0 +1,127 @@
+//! Tests of one character: which characters a test takes, and where its words end.
+//!
+//! A caller that knows the opcode passes it as a constant, so that nothing is left of the choice among them.
+
+ghost use Rattle.std.specs.Prelude.{◌≡◌, ℕ, List};
+ghost use Rattle.sre_model.specs.Tree.{Test, Locale, SetItem};
+ghost use Rattle.sre_model.specs.Characters.{is_literal, in_set, holds};
+ghost use Rattle.sre_model.specs.Grammar.{Opcode};
+ghost use Rattle.sre_model.specs.Standing.{SetStands, HasSet, TestStands, HasTest};
+ghost use Rattle.sre_request.specs.Runs.{run_of};
+
+use sre_chars::constants::SreOpcode;
+use sre_chars::string::{StrDrive, UniTable, category, lower_ascii, lower_unicode, upper_ascii};
+use sre_code::members::is_member;
+use sre_code::operands::{category_code, operand, word};
+use sre_request::Request;
+use std::convert::TryFrom;
+
+// Whether a value is a character or one of its ASCII cases.
+#[inline(always)]
+fn is_any_case(uni: &UniTable, value: u32, character: u32) -> bool
+    ensures { result ≡ is_literal uni.now Locale value character }
+{
+    value == character || value == lower_ascii(character) || value == upper_ascii(character)
+}
+
+// Whether a set takes one of a character's ASCII cases.
+#[inline(always)]
+fn takes_a_case(words: &[u32], uni: &UniTable, place: usize, character: u32) -> bool
+    requires { HasSet words.now place }
+    ensures { (j : ℕ) (set : List SetItem) → SetStands words.now place j set
+        → result ≡ in_set uni.now Locale set character }
+{
+    is_member(words, uni, place, lower_ascii(character))
+        || is_member(words, uni, place, upper_ascii(character))
+}
+
+/// The opcode of the test at a place.
+#[inline(always)]
+pub fn opcode<S: StrDrive>(req: &Request<'_, S>, place: usize) -> SreOpcode
+    requires { HasTest (run_of req.now).words place }
+    ensures { Opcode (run_of req.now).words place result }
+{
+    match SreOpcode::try_from(word(req.pattern_codes().items(), place)) {
+        Ok(opcode) => opcode,
+        Err(_) => unreachable!(),
+    }
+}
+
+/// Whether the test whose opcode is at a place takes a character.
+#[inline(always)]
+pub fn takes<S: StrDrive>(
+    req: &Request<'_, S>,
+    place: usize,
+    opcode: SreOpcode,
+    character: u32,
+) -> bool
+    requires code { Opcode (run_of req.now).words place opcode }
+    requires stands { HasTest (run_of req.now).words place }
+    ensures { (j : ℕ) (t : Test) → TestStands (run_of req.now).words place j t
+        → result ≡ holds (run_of req.now).subject.table t character }
+{
+    let words = req.pattern_codes().items();
+    let uni = req.pattern_codes().uni();
+    // A row for each folding but that of the locale: its opcodes, and the character as it shows it.
+    macro_rules! takes_folded {
+        ($($literal:ident $not_literal:ident $set:ident: $folded:expr,)*) => {
+            match opcode {
+                SreOpcode::ANY => character != 10,
+                SreOpcode::ANY_ALL => true,
+                SreOpcode::CATEGORY => category(uni, category_code(words, place + 1), character),
+                $(
+                    SreOpcode::$literal => operand(words, place, 1) == $folded,
+                    SreOpcode::$not_literal => operand(words, place, 1) != $folded,
+                    SreOpcode::$set => is_member(words, uni, place + 2, $folded),
+                )*
+                SreOpcode::LITERAL_LOC_IGNORE => {
+                    is_any_case(uni, operand(words, place, 1), character)
+                }
+                SreOpcode::NOT_LITERAL_LOC_IGNORE => {
+                    !is_any_case(uni, operand(words, place, 1), character)
+                }
+                SreOpcode::IN_LOC_IGNORE => takes_a_case(words, uni, place + 2, character),
+                _ => unreachable!(),
+            }
+        };
+    }
+    takes_folded!(
+        LITERAL NOT_LITERAL IN: character,
+        LITERAL_IGNORE NOT_LITERAL_IGNORE IN_IGNORE: lower_ascii(character),
+        LITERAL_UNI_IGNORE NOT_LITERAL_UNI_IGNORE IN_UNI_IGNORE: lower_unicode(uni, character),
+    )
+}
+
+/// What `takes` says, out of line: for the tests that are seldom met.
+#[inline(never)]
+pub fn takes_seldom<S: StrDrive>(
+    req: &Request<'_, S>,
+    place: usize,
+    opcode: SreOpcode,
+    character: u32,
+) -> bool
+    requires code { Opcode (run_of req.now).words place opcode }
+    requires stands { HasTest (run_of req.now).words place }
+    ensures { (j : ℕ) (t : Test) → TestStands (run_of req.now).words place j t
+        → result ≡ holds (run_of req.now).subject.table t character }
+{
+    takes(req, place, opcode, character)
+}
+
+/// Where the words of the test whose opcode is at a place end.
+#[inline(always)]
+pub fn test_end<S: StrDrive>(req: &Request<'_, S>, place: usize, opcode: SreOpcode) -> usize
+    requires code { Opcode (run_of req.now).words place opcode }
+    requires stands { HasTest (run_of req.now).words place }
+    ensures { (j : ℕ) (t : Test) → TestStands (run_of req.now).words place j t → result ≡ j }
+{
+    let words = req.pattern_codes().items();
+    match opcode {
+        SreOpcode::ANY | SreOpcode::ANY_ALL => place + 1,
+        SreOpcode::IN
+        | SreOpcode::IN_IGNORE
+        | SreOpcode::IN_LOC_IGNORE
+        | SreOpcode::IN_UNI_IGNORE => place + 1 + operand(words, place, 1) as usize,
+        _ => place + 2,
+    }
+}

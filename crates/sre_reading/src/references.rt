@@ -1,0 +1,101 @@
+//! References: whether the characters of a group stand again at a cursor.
+//!
+//! The opcode is looked at once, before a loop of its own that folds as it does.
+
+ghost use Rattle.std.specs.Prelude.{◌≡◌, ◌+◌, ◌≤◌, length, is_some, IfSome};
+ghost use Rattle.sre_model.specs.Tree.{Fold};
+ghost use Rattle.sre_model.specs.Characters.{folded};
+ghost use Rattle.sre_model.specs.Subject.{same_folded};
+ghost use Rattle.sre_model.specs.Grammar.{reference_opcode};
+ghost use Rattle.sre_model.specs.Roles.{ToRefer, role};
+ghost use Rattle.sre_request.specs.Requests.{end_of};
+ghost use Rattle.sre_request.specs.Runs.{run_of};
+
+use crate::text::{read, read_in_text};
+use sre_chars::constants::SreOpcode;
+use sre_chars::string::{StrDrive, StringCursor, UniTable, lower_ascii, lower_unicode};
+use sre_request::Request;
+
+/// A character as the folding of a reference's opcode shows it.
+#[inline(always)]
+pub fn folded(uni: &UniTable, opcode: SreOpcode, character: u32) -> u32
+    requires { role opcode ≡ ToRefer }
+    ensures { (fold : Fold) → opcode ≡ reference_opcode fold → result ≡ folded uni.now fold character }
+{
+    match opcode {
+        SreOpcode::GROUPREF => character,
+        SreOpcode::GROUPREF_IGNORE => lower_ascii(character),
+        SreOpcode::GROUPREF_LOC_IGNORE => lower_ascii(character),
+        SreOpcode::GROUPREF_UNI_IGNORE => lower_unicode(uni, character),
+        _ => unreachable!(),
+    }
+}
+
+// As `is_repeated`, where the opcode is a constant.
+#[inline(always)]
+fn is_repeated_folded<S: StrDrive>(
+    req: &Request<'_, S>,
+    opcode: SreOpcode,
+    start: StringCursor,
+    cursor: StringCursor,
+    count: usize,
+) -> Option<StringCursor>
+    requires opcode { role opcode ≡ ToRefer }
+    requires group { (run_of req.now).stands start start.position }
+    requires stands { (run_of req.now).stands cursor cursor.position }
+    requires in_text { start.position + count ≤ length (run_of req.now).subject.text }
+    requires in_window { cursor.position + count ≤ end_of req.now }
+    ensures repeated { (fold : Fold) → opcode ≡ reference_opcode fold
+        → is_some result ≡ same_folded (run_of req.now).subject fold count start.position cursor.position }
+    ensures position { IfSome result (λ behind. behind.position ≡ cursor.position + count) }
+    ensures stands { IfSome result (λ behind. (run_of req.now).stands behind behind.position) }
+{
+    let uni = req.pattern_codes().uni();
+    let mut of_group = start;
+    let mut here = cursor;
+    let mut passed = 0;
+    'character: while passed < count {
+        let (expected, after_expected) = read_in_text(req, of_group);
+        let (character, after) = read(req, here);
+        if folded(uni, opcode, expected) != folded(uni, opcode, character) {
+            return None;
+        }
+        of_group = after_expected;
+        here = after;
+        passed += 1;
+    }
+    Some(here)
+}
+
+/// The cursor behind so many characters of the window from a cursor on, where they are those of a group from its start
+/// on, both as the folding of the reference's opcode shows them.
+pub fn is_repeated<S: StrDrive>(
+    req: &Request<'_, S>,
+    opcode: SreOpcode,
+    start: StringCursor,
+    cursor: StringCursor,
+    count: usize,
+) -> Option<StringCursor>
+    requires opcode { role opcode ≡ ToRefer }
+    requires group { (run_of req.now).stands start start.position }
+    requires stands { (run_of req.now).stands cursor cursor.position }
+    requires in_text { start.position + count ≤ length (run_of req.now).subject.text }
+    requires in_window { cursor.position + count ≤ end_of req.now }
+    ensures repeated { (fold : Fold) → opcode ≡ reference_opcode fold
+        → is_some result ≡ same_folded (run_of req.now).subject fold count start.position cursor.position }
+    ensures position { IfSome result (λ behind. behind.position ≡ cursor.position + count) }
+    ensures stands { IfSome result (λ behind. (run_of req.now).stands behind behind.position) }
+{
+    // An arm for each opcode, so that each loop knows its own.
+    macro_rules! repeated_each {
+        ($($opcode:ident)*) => {
+            match opcode {
+                $(SreOpcode::$opcode => {
+                    is_repeated_folded(req, SreOpcode::$opcode, start, cursor, count)
+                })*
+                _ => unreachable!(),
+            }
+        };
+    }
+    repeated_each!(GROUPREF GROUPREF_IGNORE GROUPREF_LOC_IGNORE GROUPREF_UNI_IGNORE)
+}

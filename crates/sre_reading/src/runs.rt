@@ -1,0 +1,386 @@
+//! Runs: how far a test of one character goes on taking.
+//!
+//! The opcode is looked at once, before a loop of its own that holds what it needs of the words.
+
+ghost use Rattle.std.specs.Prelude.{⊤, ◌≡◌, ℕ, ◌+◌, ◌-◌, ◌<◌, ◌≤◌, Bool, true, false, cond, List, length};
+ghost use Rattle.std.specs.Prelude.{slice_range};
+ghost use Rattle.sre_chars.specs.Numbers.{category_number};
+ghost use Rattle.sre_chars.specs.Categories.{category};
+ghost use Rattle.sre_chars.specs.Tables.{Table, is_between};
+ghost use Rattle.sre_model.specs.Tree.{Test, SetItem, Charset};
+ghost use Rattle.sre_model.specs.Characters.{item_holds, is_member, holds};
+ghost use Rattle.sre_code.specs.AsciiSet.{contains};
+ghost use Rattle.sre_model.specs.Subject.{passes};
+ghost use Rattle.sre_model.specs.CountedRuns.{Ended};
+ghost use Rattle.sre_model.specs.Ways.{most_from, run_length, longest_run};
+ghost use Rattle.sre_model.specs.Grammar.{Opcode};
+ghost use Rattle.sre_model.specs.Standing.{SetStands, TestStands, HasTest};
+ghost use Rattle.sre_request.specs.Requests.{end_of};
+ghost use Rattle.sre_request.specs.Runs.{run_of};
+ghost use Rattle.sre_reading.specs.AsciiSets.{IsAsciiPart};
+
+use crate::one_character::{opcode, takes};
+use crate::text::read;
+use sre_chars::constants::{MAXREPEAT, SreCatCode, SreOpcode};
+use sre_chars::string::{StrDrive, StringCursor, UniTable};
+use sre_code::ascii_members::ascii_members;
+use sre_code::ascii_set::AsciiSet;
+use sre_code::members::{has_bit, is_between, is_in_category, is_member};
+use sre_code::operands::{category_code, operand, word};
+use sre_request::Request;
+
+// How many characters a run from a cursor may have: those that are left, up to the greatest count.
+#[inline(always)]
+fn most<S: StrDrive>(req: &Request<'_, S>, high: u32, cursor: StringCursor) -> usize
+    ensures { result ≡ most_from (run_of req.now).subject high cursor.position }
+{
+    let left = req.end().saturating_sub(cursor.position());
+    let high = high as usize;
+    if high == MAXREPEAT || left < high {
+        left
+    } else {
+        high
+    }
+}
+
+// A run of any characters, each of which is taken.
+#[inline(always)]
+fn run_any<S: StrDrive, const WANTED: bool>(
+    req: &Request<'_, S>,
+    most: usize,
+    start: StringCursor,
+) -> (usize, StringCursor)
+    requires stands { (run_of req.now).stands start start.position }
+    requires most { most ≤ end_of req.now - start.position }
+    ensures count { result.0 ≡ cond WANTED most 0 }
+    ensures position { result.1.position ≡ start.position + result.0 }
+    ensures stands { (run_of req.now).stands result.1 result.1.position }
+{
+    if !WANTED {
+        return (0, start);
+    }
+    let mut after = start;
+    req.string().skip(&mut after, most);
+    (most, after)
+}
+
+// The longest run of characters of which the test whose opcode is at a place says what is wanted, and the cursor behind
+// it.
+#[inline(always)]
+fn run_tested<S: StrDrive, const WANTED: bool>(
+    req: &Request<'_, S>,
+    place: usize,
+    opcode: SreOpcode,
+    most: usize,
+    start: StringCursor,
+) -> (usize, StringCursor)
+    requires code { Opcode (run_of req.now).words place opcode }
+    requires test { HasTest (run_of req.now).words place }
+    requires stands { (run_of req.now).stands start start.position }
+    requires most { most ≤ end_of req.now - start.position }
+    ensures { Ended (run_of req.now) place WANTED most start result.1 result.0 }
+{
+    let mut cursor = start;
+    let mut count = 0;
+    'character: while count < most {
+        let (character, after) = read(req, cursor);
+        if takes(req, place, opcode, character) != WANTED {
+            return (count, cursor);
+        }
+        cursor = after;
+        count += 1;
+    }
+    (count, cursor)
+}
+
+// A test with its operands at hand.
+trait Taker {
+    // What is known of its operands.
+    ghost fits: { Self → Type 0 };
+    // Whether it takes a character.
+    ghost says: { Self → ℕ → Bool → Type 0 };
+
+    fn takes(&self, character: u32) -> bool
+        requires { fits self.now }
+        ensures { says self.now character result };
+}
+
+// Takes the characters from low to high.
+#[derive(Clone, Copy)]
+struct Between {
+    low: u32,
+    high: u32,
+}
+
+impl Taker for Between {
+    ghost fits = { λ b. ⊤ };
+
+    ghost says = { λ b c taken. taken ≡ is_between b.low b.high c };
+
+    #[inline(always)]
+    fn takes(&self, character: u32) -> bool {
+        is_between(self.low, self.high, character)
+    }
+}
+
+// Takes the characters below 256 whose bit is set in the eight words behind a CHARSET.
+#[derive(Clone, Copy)]
+struct Bits<'a> {
+    words: &'a [u32],
+    place: usize,
+}
+
+impl<'a> Taker for Bits<'a> {
+    ghost fits = { λ b. b.place + 9 ≤ length b.words.now };
+
+    ghost says = { λ b c taken. (table : Table)
+        → taken ≡ item_holds table (Charset (slice_range b.words.now (b.place + 1) (b.place + 9))) c };
+
+    #[inline(always)]
+    fn takes(&self, character: u32) -> bool {
+        has_bit(self.words, self.place, character)
+    }
+}
+
+// Takes the characters of a category, of which the ASCII ones are at hand.
+#[derive(Clone, Copy)]
+struct OfCategory<'a> {
+    uni: &'a UniTable,
+    code: SreCatCode,
+    ascii: AsciiSet,
+}
+
+impl<'a> Taker for OfCategory<'a> {
+    ghost fits = { λ o. (c : ℕ) → c < 128 → contains o.ascii c ≡ category o.uni.now (category_number o.code) c };
+
+    ghost says = { λ o c taken. taken ≡ category o.uni.now (category_number o.code) c };
+
+    #[inline(always)]
+    fn takes(&self, character: u32) -> bool {
+        if character < 128 {
+            return self.ascii.contains(character);
+        }
+        is_in_category(self.uni, self.code, character)
+    }
+}
+
+// Takes the characters of a set, of which the ASCII ones are at hand.
+#[derive(Clone, Copy)]
+struct OfSet<'a> {
+    words: &'a [u32],
+    uni: &'a UniTable,
+    set: usize,
+    ascii: AsciiSet,
+}
+
+impl<'a> Taker for OfSet<'a> {
+    ghost fits = { λ o. IsAsciiPart o.words.now o.uni.now o.set o.ascii };
+
+    ghost says = { λ o c taken. (j : ℕ) (set : List SetItem) → SetStands o.words.now o.set j set
+        → taken ≡ is_member o.uni.now set c };
+
+    #[inline(always)]
+    fn takes(&self, character: u32) -> bool {
+        if character < 128 {
+            return self.ascii.contains(character);
+        }
+        is_member(self.words, self.uni, self.set, character)
+    }
+}
+
+// The same of the test at a place whose operands are at hand.
+#[inline(always)]
+fn run_while<S: StrDrive, T: Taker, const WANTED: bool>(
+    req: &Request<'_, S>,
+    place: usize,
+    taker: &T,
+    most: usize,
+    start: StringCursor,
+) -> (usize, StringCursor)
+    requires fits { T.fits taker.now }
+    requires taker { (j c : ℕ) (taken : Bool) (t : Test) → TestStands (run_of req.now).words place j t
+        → T.says taker.now c taken → taken ≡ holds (run_of req.now).subject.table t c }
+    requires stands { (run_of req.now).stands start start.position }
+    requires most { most ≤ end_of req.now - start.position }
+    ensures { Ended (run_of req.now) place WANTED most start result.1 result.0 }
+{
+    let mut cursor = start;
+    let mut count = 0;
+    'character: while count < most {
+        let (character, after) = read(req, cursor);
+        if taker.takes(character) != WANTED {
+            return (count, cursor);
+        }
+        cursor = after;
+        count += 1;
+    }
+    (count, cursor)
+}
+
+// The same of an IN at a place, of any items.
+#[inline(always)]
+fn run_in_items<S: StrDrive, const WANTED: bool>(
+    req: &Request<'_, S>,
+    place: usize,
+    most: usize,
+    start: StringCursor,
+) -> (usize, StringCursor)
+    requires code { Opcode (run_of req.now).words place SreOpcode.IN }
+    requires test { HasTest (run_of req.now).words place }
+    requires stands { (run_of req.now).stands start start.position }
+    requires most { most ≤ end_of req.now - start.position }
+    ensures { Ended (run_of req.now) place WANTED most start result.1 result.0 }
+{
+    let (words, set) = (req.pattern_codes().items(), place + 2);
+    let Some(ascii) = ascii_members(words, set) else {
+        return run_tested::<S, WANTED>(req, place, SreOpcode::IN, most, start);
+    };
+    let uni = req.pattern_codes().uni();
+    let of_set = OfSet {
+        words,
+        uni,
+        set,
+        ascii,
+    };
+    run_while::<S, OfSet<'_>, WANTED>(req, place, &of_set, most, start)
+}
+
+// The same of an IN at a place. A set of one RANGE, CATEGORY or CHARSET is told by its length and first word, and has a
+// loop of its own.
+#[inline(always)]
+fn run_in_set<S: StrDrive, const WANTED: bool>(
+    req: &Request<'_, S>,
+    place: usize,
+    most: usize,
+    start: StringCursor,
+) -> (usize, StringCursor)
+    requires code { Opcode (run_of req.now).words place SreOpcode.IN }
+    requires test { HasTest (run_of req.now).words place }
+    requires stands { (run_of req.now).stands start start.position }
+    requires most { most ≤ end_of req.now - start.position }
+    ensures { Ended (run_of req.now) place WANTED most start result.1 result.0 }
+{
+    let words = req.pattern_codes().items();
+    let (skip, set) = (operand(words, place, 1), place + 2);
+    let first = word(words, set);
+    if skip == 5 && first == SreOpcode::RANGE as u32 {
+        let low = operand(words, set, 1);
+        let high = operand(words, set, 2);
+        return run_while::<S, Between, WANTED>(req, place, &Between { low, high }, most, start);
+    }
+    if skip == 4 && first == SreOpcode::CATEGORY as u32 {
+        let (uni, code) = (req.pattern_codes().uni(), category_code(words, set + 1));
+        let ascii = AsciiSet::of_category(code);
+        return run_while::<S, OfCategory<'_>, WANTED>(
+            req,
+            place,
+            &OfCategory { uni, code, ascii },
+            most,
+            start,
+        );
+    }
+    if skip == 11 && first == SreOpcode::CHARSET as u32 {
+        let bits = Bits { words, place: set };
+        return run_while::<S, Bits<'_>, WANTED>(req, place, &bits, most, start);
+    }
+    run_in_items::<S, WANTED>(req, place, most, start)
+}
+
+// The longest run of characters of which the test at a place says what is wanted, from a cursor on, of at most so many
+// characters of the window, and the cursor behind it.
+#[inline(always)]
+fn run_wanted<S: StrDrive, const WANTED: bool>(
+    req: &Request<'_, S>,
+    place: usize,
+    most: usize,
+    start: StringCursor,
+) -> (usize, StringCursor)
+    requires test { HasTest (run_of req.now).words place }
+    requires stands { (run_of req.now).stands start start.position }
+    requires most { most ≤ end_of req.now - start.position }
+    ensures { Ended (run_of req.now) place WANTED most start result.1 result.0 }
+{
+    // An arm for each opcode, so that each loop knows its own.
+    macro_rules! run_each {
+        ($($opcode:ident)*) => {
+            match opcode(req, place) {
+                SreOpcode::ANY_ALL => run_any::<S, WANTED>(req, most, start),
+                SreOpcode::IN => run_in_set::<S, WANTED>(req, place, most, start),
+                $(SreOpcode::$opcode => {
+                    run_tested::<S, WANTED>(req, place, SreOpcode::$opcode, most, start)
+                })*
+                _ => unreachable!(),
+            }
+        };
+    }
+    run_each!(
+        ANY CATEGORY
+        LITERAL LITERAL_IGNORE LITERAL_LOC_IGNORE LITERAL_UNI_IGNORE
+        NOT_LITERAL NOT_LITERAL_IGNORE NOT_LITERAL_LOC_IGNORE NOT_LITERAL_UNI_IGNORE
+        IN_IGNORE IN_LOC_IGNORE IN_UNI_IGNORE
+    )
+}
+
+/// The longest run of the test at a place from a cursor on, of at most so many characters of the window, and the cursor
+/// behind it.
+#[inline(always)]
+pub fn run_up_to<S: StrDrive>(
+    req: &Request<'_, S>,
+    place: usize,
+    most: usize,
+    start: StringCursor,
+) -> (usize, StringCursor)
+    requires test { HasTest (run_of req.now).words place }
+    requires stands { (run_of req.now).stands start start.position }
+    requires most { most ≤ end_of req.now - start.position }
+    ensures count { (j : ℕ) (t : Test) → TestStands (run_of req.now).words place j t
+        → result.0 ≡ run_length (run_of req.now).subject t most start.position }
+    ensures position { result.1.position ≡ start.position + result.0 }
+    ensures stands { (run_of req.now).stands result.1 result.1.position }
+{
+    run_wanted::<S, true>(req, place, most, start)
+}
+
+/// The longest run of the test at a place from a cursor on: how many characters it has, inside the window and up to
+/// `high`, where 4294967295 means no limit, and the cursor behind it.
+pub fn longest_run<S: StrDrive>(
+    req: &Request<'_, S>,
+    place: usize,
+    high: u32,
+    start: StringCursor,
+) -> (usize, StringCursor)
+    requires test { HasTest (run_of req.now).words place }
+    requires stands { (run_of req.now).stands start start.position }
+    ensures count { (j : ℕ) (t : Test) → TestStands (run_of req.now).words place j t
+        → result.0 ≡ longest_run (run_of req.now).subject t high start.position }
+    ensures position { result.1.position ≡ start.position + result.0 }
+    ensures stands { (run_of req.now).stands result.1 result.1.position }
+{
+    let most = most(req, high, start);
+    run_up_to(req, place, most, start)
+}
+
+/// The first cursor from one on, inside the window, whose character the test at a place takes, or one at the window's
+/// end.
+#[inline(never)]
+pub fn first_taken<S: StrDrive>(
+    req: &Request<'_, S>,
+    place: usize,
+    start: StringCursor,
+) -> StringCursor
+    requires test { HasTest (run_of req.now).words place }
+    requires stands { (run_of req.now).stands start start.position }
+    requires inside { start.position ≤ end_of req.now }
+    ensures passed { (j q : ℕ) (t : Test) → TestStands (run_of req.now).words place j t → start.position ≤ q
+        → q < result.position → passes (run_of req.now).subject t q ≡ false }
+    ensures taken { result.position < end_of req.now → (j : ℕ) (t : Test)
+        → TestStands (run_of req.now).words place j t
+        → passes (run_of req.now).subject t result.position ≡ true }
+    ensures from { start.position ≤ result.position }
+    ensures inside { result.position ≤ end_of req.now }
+    ensures stands { (run_of req.now).stands result result.position }
+{
+    let left = req.end().saturating_sub(start.position());
+    let found = run_wanted::<S, false>(req, place, left, start);
+    found.1
+}

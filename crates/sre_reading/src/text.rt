@@ -1,0 +1,100 @@
+//! Steps over the text of a request, by one character or by some.
+
+ghost use Rattle.std.specs.Prelude.{◌≡◌, ◌+◌, ◌-◌, ◌<◌, ◌≤◌, length};
+ghost use Rattle.sre_model.specs.Subject.{char_at};
+ghost use Rattle.sre_request.specs.Requests.{end_of};
+ghost use Rattle.sre_request.specs.Runs.{run_of};
+
+use sre_chars::string::{StrDrive, StringCursor};
+use sre_request::Request;
+
+/// The character at a cursor that stands before the window's end, and the cursor behind it.
+#[inline(always)]
+pub fn read<S: StrDrive>(req: &Request<'_, S>, cursor: StringCursor) -> (u32, StringCursor)
+    requires stands { (run_of req.now).stands cursor cursor.position }
+    requires inside { cursor.position < end_of req.now }
+    ensures character { result.0 ≡ char_at (run_of req.now).subject cursor.position }
+    ensures position { result.1.position ≡ cursor.position + 1 }
+    ensures stands { (run_of req.now).stands result.1 (cursor.position + 1) }
+{
+    read_in_text(req, cursor)
+}
+
+/// The character at a cursor that stands before the text's end, inside the window or not, and the cursor behind it.
+#[inline(always)]
+pub fn read_in_text<S: StrDrive>(req: &Request<'_, S>, cursor: StringCursor) -> (u32, StringCursor)
+    requires stands { (run_of req.now).stands cursor cursor.position }
+    requires inside { cursor.position < length (run_of req.now).subject.text }
+    ensures character { result.0 ≡ char_at (run_of req.now).subject cursor.position }
+    ensures position { result.1.position ≡ cursor.position + 1 }
+    ensures stands { (run_of req.now).stands result.1 (cursor.position + 1) }
+{
+    let mut after = cursor;
+    let character = req.string().advance(&mut after);
+    (character, after)
+}
+
+/// The character before a cursor, and the cursor in front of it.
+#[inline(always)]
+pub fn read_back<S: StrDrive>(req: &Request<'_, S>, cursor: StringCursor) -> (u32, StringCursor)
+    requires stands { (run_of req.now).stands cursor cursor.position }
+    requires past { 1 ≤ cursor.position }
+    ensures position { cursor.position ≡ result.1.position + 1 }
+    ensures character { result.0 ≡ char_at (run_of req.now).subject result.1.position }
+    ensures stands { (run_of req.now).stands result.1 result.1.position }
+{
+    let mut before = cursor;
+    let character = req.string().back_advance(&mut before);
+    (character, before)
+}
+
+/// The cursor one character back.
+#[inline(always)]
+pub fn back_one<S: StrDrive>(req: &Request<'_, S>, cursor: StringCursor) -> StringCursor
+    requires stands { (run_of req.now).stands cursor cursor.position }
+    requires past { 1 ≤ cursor.position }
+    ensures position { cursor.position ≡ result.position + 1 }
+    ensures stands { (run_of req.now).stands result result.position }
+{
+    let mut before = cursor;
+    let _ = req.string().back_advance(&mut before);
+    before
+}
+
+/// The cursor some characters back.
+#[inline(always)]
+pub fn back_by<S: StrDrive>(
+    req: &Request<'_, S>,
+    cursor: StringCursor,
+    count: usize,
+) -> StringCursor
+    requires stands { (run_of req.now).stands cursor cursor.position }
+    requires past { count ≤ cursor.position }
+    ensures position { result.position ≡ cursor.position - count }
+    ensures stands { (run_of req.now).stands result result.position }
+{
+    let mut before = cursor;
+    req.string().back_skip(&mut before, count);
+    before
+}
+
+/// The cursor at a position of the text, reached from a cursor at hand. Out of line: only references need it.
+#[inline(never)]
+pub fn cursor_at<S: StrDrive>(
+    req: &Request<'_, S>,
+    cursor: StringCursor,
+    position: usize,
+) -> StringCursor
+    requires stands { (run_of req.now).stands cursor cursor.position }
+    requires in_text { position ≤ length (run_of req.now).subject.text }
+    ensures position { result.position ≡ position }
+    ensures stands { (run_of req.now).stands result result.position }
+{
+    let from = cursor.position();
+    if position < from {
+        return back_by(req, cursor, from - position);
+    }
+    let mut after = cursor;
+    req.string().skip(&mut after, position - from);
+    after
+}
