@@ -1,5 +1,5 @@
 #!/usr/bin/env python3
-"""What has to stand in the repository whatever else changes: its tests and cases, and the seal of refusals.
+"""What has to stand in the repository whatever else changes: its tests and cases, the seal of refusals, drawn tables.
 
     standing.py            tells what does not stand
     standing.py --write    writes today's numbers to .ci/counts
@@ -7,12 +7,15 @@
 Nothing else would notice that a test, a wrong body, a line of a case file or a pattern is gone: so .ci/counts has
 their numbers by crate, none of which may be less. And every clause on memory rests on the seal: a crate that could
 say that a growth was refused could pass on any error. Only sre_growth stands on the crate that has the fact, one line
-of one spec hands on the fact without its lemma, and the lemma is cited by the answers of the three growths alone. The
-status is 1 where something does not stand.
+of one spec hands on the fact without its lemma, and the lemma is cited by the answers of the three growths alone. A
+table that a tool draws from the files goes stale without a sign (adding.py). The status is 1 where something does not
+stand.
 """
 import os
 import re
 import sys
+
+import adding
 
 ROOT = os.path.dirname(os.path.dirname(os.path.realpath(__file__)))
 COUNTS = f"{ROOT}/.ci/counts"
@@ -98,7 +101,7 @@ def main(words):
         with open(COUNTS, "w", encoding="utf-8") as file:
             file.write("".join(f"{what} {number}\n" for what, number in counted().items()))
         return 0
-    lines = [*missed(), *unsealed()]
+    lines = [*missed(), *unsealed(), *adding.stale()]
     for line in lines:
         print(line)
     return 1 if lines else 0

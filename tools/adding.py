@@ -1,0 +1,94 @@
+#!/usr/bin/env python3
+"""The table of docs/ADDING.md: which files name an item of the grammar.
+
+    adding.py            tells whether the table is as the files are
+    adding.py --write    writes it anew
+
+The columns are items whose names nothing else has. A file names an item where it has one of its names as a whole word,
+or a word that begins as its lemmas do. Tests, cases and documents are not looked at. The status is 1 where the table
+is stale.
+"""
+import os
+import re
+import sys
+
+ROOT = os.path.dirname(os.path.dirname(os.path.realpath(__file__)))
+PAGE = f"{ROOT}/docs/ADDING.md"
+BEGIN, END = "<!-- the table begins -->\n", "<!-- the table ends -->\n"
+
+CRATES = ("sre_chars", "sre_model", "sre_turns", "sre_code", "sre_board", "sre_request", "sre_reading", "sre_machine",
+          "sre_engine", "sre_emit")
+
+# A column's head, and what names its item.
+ITEMS = {
+    "branch": r"Branch|BRANCH|ToBranch|is_branch|branch-ran|branch_turn",
+    "atomic": r"Atomic|ATOMIC_GROUP|ToGroupAtomically|AtomicMove|AtomicGroup|is_atomic|atomic[-_]\w+",
+    "look": r"Look|ASSERT|ASSERT_NOT|ToLook|LookMove|is_look|look_opcode",
+    "possessive": r"PossessiveLoop|POSSESSIVE_REPEAT|ToRepeatPossessively|is_possessive",
+    "reference": r"Reference|GROUPREF(_\w*IGNORE)?|ToRefer|is_reference|reference_opcode",
+    "condition": r"Exists|ExistsElse|GROUPREF_EXISTS|ToCheckGroup|is_exists",
+}
+
+
+def read(path):
+    with open(path, encoding="utf-8") as file:
+        return file.read()
+
+
+def files(crate):
+    """The files of a crate's code and proofs."""
+    found = []
+    for part in ("src", "specs", "proofs"):
+        for at, folders, names in os.walk(f"{ROOT}/crates/{crate}/{part}"):
+            folders.sort()
+            found += [f"{at}/{name}" for name in sorted(names) if name.endswith((".rt", ".antt"))]
+    return found
+
+
+def table():
+    """The table, and how many files name each item."""
+    named = {item: re.compile(rf"(?<![\w-])(?:{names})(?![\w-])") for item, names in ITEMS.items()}
+    lines = ["| File | " + " | ".join(ITEMS) + " |", "|---|" + "---|" * len(ITEMS)]
+    counts = dict.fromkeys(ITEMS, 0)
+    for crate in CRATES:
+        for path in files(crate):
+            text = read(path)
+            marks = ["x" if name.search(text) else "" for name in named.values()]
+            if any(marks):
+                for item, mark in zip(ITEMS, marks):
+                    counts[item] += bool(mark)
+                short = os.path.splitext(os.path.relpath(path, f"{ROOT}/crates"))[0]
+                lines.append(f"| `{short}` | " + " | ".join(marks) + " |")
+    lines.append("| files | " + " | ".join(str(it) for it in counts.values()) + " |")
+    return "\n".join(lines) + "\n"
+
+
+def renewed(page):
+    """The page with the table as the files are."""
+    before, _, rest = page.partition(BEGIN)
+    _, _, after = rest.partition(END)
+    return before + BEGIN + "\n" + table() + "\n" + END + after
+
+
+def stale():
+    """What is told where the table is not as the files are."""
+    page = read(PAGE)
+    return [] if page == renewed(page) else ["docs/ADDING.md: its table is stale, `tools/adding.py --write` renews it"]
+
+
+def main(words):
+    if words == ["--write"]:
+        page = renewed(read(PAGE))
+        with open(PAGE, "w", encoding="utf-8") as file:
+            file.write(page)
+        return 0
+    if words:
+        print(__doc__.strip())
+        return 2
+    for line in stale():
+        print(line)
+    return 1 if stale() else 0
+
+
+if __name__ == "__main__":
+    sys.exit(main(sys.argv[1:]))
