@@ -1,7 +1,7 @@
 //! The machine: a backtracking run over the words of a code, from one start.
 //!
 //! Each turn does one instruction, or takes up what is still to be tried; what it does is said by the model's relation
-//! over the words. [`turns::run`] answers with the first accepted way.
+//! over the words. [`turns::run_behind`] answers with the first accepted way.
 #![tactic(auto)]
 
 mod branches;
