@@ -3,12 +3,12 @@
 
     gate.py [cases]
 
-It looks whether each test and case and the seal still stand (`standing.py`). `rt ci` proves each crate and its tests
-from nothing, tries the must-fail edits, and runs the tests and the stored run. Once it has proved the crates below a
-crate, that crate's wrong bodies are tried (`wrong_bodies.py`), where cores are idle. In the end the programs answer the
-case files and random words (`hostile.py`); with `cases` they do that alone, over what an earlier run or `rt run` left.
-The gate tells the minutes of each phase, by the clock and of processors, and the dearest functions of the bundles,
-right or wrong. The last line counts what passed.
+It looks whether tests, cases, seal and pictures stand (`standing.py`). `rt ci` proves each crate and its tests from
+nothing, tries the must-fail edits, and runs the tests and the stored run. Once it has proved the crates below a crate,
+that crate's wrong bodies are tried (`wrong_bodies.py`), where cores are idle. In the end the programs answer the case
+files and random words (`hostile.py`); with `cases` they do that alone, over what an earlier run or `rt run` left. The
+gate tells the minutes of each phase, by the clock and of processors, and the dearest functions of the bundles, right or
+wrong. The last line counts what passed.
 """
 import os
 import re
@@ -303,7 +303,7 @@ def proved(room):
 
 def stands():
     """Counts what does not stand."""
-    lines = [*standing.missed(), *standing.unsealed()]
+    lines = standing.fallen()
     for line in lines:
         tell(line)
     return len(lines)

@@ -1,5 +1,5 @@
 #!/usr/bin/env python3
-"""What has to stand in the repository whatever else changes: its tests and cases, the seal of refusals, drawn tables.
+"""What has to stand in the repository whatever else changes: its tests and cases, the seal of refusals, what is drawn.
 
     standing.py            tells what does not stand
     standing.py --write    writes today's numbers to .ci/counts
@@ -7,15 +7,16 @@
 Nothing else would notice that a test, a wrong body, a line of a case file or a pattern is gone: so .ci/counts has
 their numbers by crate, none of which may be less. And every clause on memory rests on the seal: a crate that could
 say that a growth was refused could pass on any error. Only sre_growth stands on the crate that has the fact, one line
-of one spec hands on the fact without its lemma, and the lemma is cited by the answers of the three growths alone. A
-table that a tool draws from the files goes stale without a sign (adding.py). The status is 1 where something does not
-stand.
+of one spec hands on the fact without its lemma, and the lemma is cited by the answers of the three growths alone. And
+what tools draw goes stale without a sign: the pictures of docs/ (`pictures.py`) and a table (`adding.py`). The status
+is 1 where something does not stand.
 """
 import os
 import re
 import sys
 
 import adding
+import pictures
 
 ROOT = os.path.dirname(os.path.dirname(os.path.realpath(__file__)))
 COUNTS = f"{ROOT}/.ci/counts"
@@ -96,12 +97,25 @@ def unsealed():
                 yield f"the answers of sre_growth::{name} hand on more than goals: {line}"
 
 
+def stale():
+    """The pictures that are not what would be drawn now."""
+    for path, picture in pictures.drawn().items():
+        is_there = os.path.isfile(f"{ROOT}/{path}")
+        if not is_there or read(f"{ROOT}/{path}") != picture:
+            yield f"{path} is stale: python3 tools/pictures.py draws it anew"
+
+
+def fallen():
+    """All that does not stand."""
+    return [*missed(), *unsealed(), *adding.stale(), *stale()]
+
+
 def main(words):
     if words == ["--write"]:
         with open(COUNTS, "w", encoding="utf-8") as file:
             file.write("".join(f"{what} {number}\n" for what, number in counted().items()))
         return 0
-    lines = [*missed(), *unsealed(), *adding.stale()]
+    lines = fallen()
     for line in lines:
         print(line)
     return 1 if lines else 0
