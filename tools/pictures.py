@@ -4,9 +4,10 @@
     pictures.py    draws docs/crates.svg, from crates.txt, and docs/case.svg
 
 The gate compares both with what is drawn here (`standing.py`). They are placed by whole numbers in the order of
-crates.txt, so they are the same on each machine.
+crates.txt, so they are the same on each machine. docs/speed.svg is drawn by `speed.py --svg` from what it measured.
 """
 import html
+import math
 import sys
 
 import wrong_bodies
@@ -15,6 +16,7 @@ ROOT = wrong_bodies.ROOT
 
 PAPER, INK, LINE, EDGE = "#fcfcfa", "#1f2933", "#52606d", "#c9d1d9"
 USED, INNER, TESTS = "#ffd27a", "#dfeaf5", "#ececec"
+WITHOUT, WITH, LIMIT = "#3b6ea5", "#e09f3e", "#b3261e"
 
 
 def wide(text, size=14):
@@ -311,6 +313,40 @@ def case_picture():
     bend = left - GAP
     sheet.line(arrow((left, half(MACHINE)), (bend, half(MACHINE)), (bend, half(SEARCH)), (left, half(SEARCH))))
     sheet.text(bend - 6, (half(MACHINE) + half(SEARCH)) // 2 + 5, BACK, RIGHT)
+    return sheet.done()
+
+
+# Speed.
+
+def speed_picture(rows, against):
+    """Bars of ratios, from rows of a name and the ratios without and with the block, beside the CPython of a name."""
+    rows = [(name, round(bare, 2), round(block, 2)) for name, bare, block in rows]
+    left, width, high, top = MARGIN + max(wide(row[0]) for row in rows) + 10, 600, 30, 82
+    steps = max(5, math.ceil(4 * max(ratio for row in rows for ratio in row[1:]) + .2))
+    every = -(-steps // 12)  # a line of the scale for so many quarters
+    end = top + len(rows) * high
+    sheet = Sheet(f"Time beside {against}", left + width + MARGIN + 20, end + 34)
+    sheet.text(MARGIN, 30, f"Time of this engine as a part of that of {against}; left of the line at 1 it is ahead")
+    for x, fill, words in ((MARGIN, WITHOUT, "words without their block"), (MARGIN + 210, WITH, "with the block")):
+        sheet.box(x, 44, 14, 14, fill)
+        sheet.text(x + 22, 56, words)
+    for step in range(0, steps + 1, every):
+        x = left + width * step // steps
+        sheet.line(f"M {x} {top - 8} L {x} {end}", EDGE)
+        sheet.text(x, end + 20, f"{step / 4:.2f}", SMALL + MIDDLE)
+    bars = [(y, fill, ratio, max(1, int(width * 4 * ratio / steps)))
+            for number, row in enumerate(rows)
+            for y, fill, ratio in zip((top + number * high, top + number * high + 12), (WITHOUT, WITH), row[1:])]
+    for y, fill, _, length in bars:
+        sheet.box(left, y, length, 11, fill)
+    one = left + width * 4 // steps
+    sheet.line(f"M {one} {top - 12} L {one} {end}", LIMIT, ' stroke-width="2"')
+    for number, row in enumerate(rows):
+        sheet.text(left - 10, top + number * high + 17, row[0], RIGHT)
+    for y, _, ratio, length in bars:
+        # a bar may end right before the line, so its number has paper around it
+        sheet.text(left + length + 4, y + 10, f"{ratio:.2f}",
+                   f' font-size="10" paint-order="stroke" stroke="{PAPER}" stroke-width="4"')
     return sheet.done()
 
 
