@@ -235,6 +235,7 @@ def mean(ratios):
 def main():
     words.require_known_numbers()
     options = arguments().parse_args()
+    words.require_program(options.program)
     chosen = [work for work in WORK if not options.only or work.name in options.only.split(',')]
     print(f'{"":<16}{"characters":>11}{"CPython":>9}{"ours":>9}{"ratio":>7}   with the block{"ratio":>7}')
     columns, is_wrong = ([], []), False
@@ -258,4 +259,4 @@ def main():
 
 
 if __name__ == '__main__':
-    sys.exit(main())
+    sys.exit(words.status_of(main))

@@ -1,58 +1,49 @@
 #!/usr/bin/env python3
 """Words of Python's patterns, as cases for the program `sre_cases` (docs/PROGRAM.md).
 
-    words.py VERB PATTERN [TEXT]     writes the case; the verb is match, search, walk or check
-    words.py --cases FILE NAME       writes NAME.txt and NAME.expected from a file of patterns
-    words.py --tree PATTERN          writes the pattern's tree as a Rust expression of `Part`
-    words.py --words FILE NAME       writes the words of a file of patterns to NAME, a file of Rust
+    words.py VERB PATTERN [TEXT]        writes the case; the verb is match, search, walk or check
+    words.py --raw VERB WORDS [TEXT]    does so for words in place of a pattern
+    words.py --cases FILE NAME          writes NAME.txt and NAME.expected from a file of patterns
+    words.py --tree PATTERN             writes the pattern's tree as a Rust expression of `Part`
+    words.py --words FILE NAME          writes the words of a file of patterns to NAME, a file of Rust
 
-The words are those that CPython's own compiler makes, and the answers those of CPython's `re`.
+With --explain a case's words are listed item by item, and with --run the program answers it. The
+words of a pattern are those that CPython's own compiler makes, and the answers those of CPython's
+`re`. Where a text has letters past ASCII, which the program's table doesn't know, and the words ask
+about such letters, a line on standard error says so.
+
 It runs under CPython 3.11 to 3.13 and needs nothing else. The status is 0; or 1 where --run finds
-that the answers differ; or 2 behind a line on standard error.
+that the answers differ, or --explain that the words are refused; or 2 behind a line on standard
+error.
 """
 
 import argparse
 import os
 import re
+import shutil
 import subprocess
 import sys
 import tempfile
 import textwrap
 import typing
 
-import trees
-
+# An older Python ends here with a line, if it can read so far: this file and those that import it have no syntax that
+# Python 3.6 lacks, and import what has such a syntax, or is not there, below.
 SERVES = 'run it with CPython 3.11, 3.12 or 3.13'
+COMMAND = os.path.basename(sys.argv[0])
 try:
     import _sre
     from re import _compiler, _constants, _parser
 except ImportError:
-    print(f'words.py: the compiler of this Python is elsewhere: {SERVES}', file=sys.stderr)
+    print(f'{COMMAND}: this is Python {sys.version.split()[0]}, whose compiler of patterns is elsewhere: {SERVES}',
+          file=sys.stderr)
     sys.exit(2)
 
-# The numbers of the project, in order from 0 on (crates/sre_chars/src/constants.rt).
-OPCODES = """
-    FAILURE SUCCESS ANY ANY_ALL ASSERT ASSERT_NOT AT BRANCH CATEGORY CHARSET BIGCHARSET GROUPREF
-    GROUPREF_EXISTS IN INFO JUMP LITERAL MARK MAX_UNTIL MIN_UNTIL NOT_LITERAL NEGATE RANGE REPEAT
-    REPEAT_ONE SUBPATTERN MIN_REPEAT_ONE ATOMIC_GROUP POSSESSIVE_REPEAT POSSESSIVE_REPEAT_ONE
-    GROUPREF_IGNORE IN_IGNORE LITERAL_IGNORE NOT_LITERAL_IGNORE
-    GROUPREF_LOC_IGNORE IN_LOC_IGNORE LITERAL_LOC_IGNORE NOT_LITERAL_LOC_IGNORE
-    GROUPREF_UNI_IGNORE IN_UNI_IGNORE LITERAL_UNI_IGNORE NOT_LITERAL_UNI_IGNORE RANGE_UNI_IGNORE
-""".split()
-POSITIONS = """
-    BEGINNING BEGINNING_LINE BEGINNING_STRING BOUNDARY NON_BOUNDARY END END_LINE END_STRING
-    LOC_BOUNDARY LOC_NON_BOUNDARY UNI_BOUNDARY UNI_NON_BOUNDARY
-""".split()
-CATEGORIES = """
-    DIGIT NOT_DIGIT SPACE NOT_SPACE WORD NOT_WORD LINEBREAK NOT_LINEBREAK LOC_WORD LOC_NOT_WORD
-    UNI_DIGIT UNI_NOT_DIGIT UNI_SPACE UNI_NOT_SPACE UNI_WORD UNI_NOT_WORD UNI_LINEBREAK
-    UNI_NOT_LINEBREAK
-""".split()
+import trees
+from listing import CATEGORIES, NUMBER, OPCODES, POSITIONS, UNLIMITED, Listing
+
 # CPython 3.11, 3.12 and 3.13: the layouts of their words were compared.
 MAGICS = (20220615, 20221023, 20230612)
-UNLIMITED = 4294967295
-
-NUMBER = {name: number for number, name in enumerate(OPCODES)}
 FLAGS = {'i': re.I, 'm': re.M, 's': re.S, 'x': re.X, 'a': re.A, 'u': re.U, 'L': re.L}
 VERBS = ('match', 'search', 'walk', 'check')
 KEYS = ('name', 'flags', 'verb', 'window', 'pattern', 'text', 'bytes')
@@ -73,6 +64,22 @@ def require_known_numbers():
                     f'the project, or may be laid out otherwise: {SERVES}')
 
 
+def require_program(path):
+    """Refuses a program that is not there, and says how it is built."""
+    if shutil.which(path) is None:
+        raise Fault(f'{path} is no program; `cd crates/sre_cases && rt run -- FILE` builds '
+                    f'crates/sre_cases/out/sre_cases')
+
+
+def status_of(main):
+    """The status that `main` gives, or 2 behind one line where it ends by a fault."""
+    try:
+        return main()
+    except (Fault, OSError, UnicodeError, subprocess.SubprocessError) as fault:
+        print(f'{COMMAND}: {fault}', file=sys.stderr)
+        return 2
+
+
 # Patterns, and what is asked of them
 
 
@@ -83,6 +90,10 @@ class Pattern(typing.NamedTuple):
     flags: int
     tree: object
     words: list
+
+    def names(self):
+        """The names of groups, by the groups' numbers."""
+        return {number: name for name, number in self.tree.state.groupdict.items()}
 
 
 class Asked(typing.NamedTuple):
@@ -117,6 +128,18 @@ def without_block(words):
     return words[1 + words[1]:] if words[0] == NUMBER['INFO'] else words
 
 
+def words_of(written):
+    """The words that are written as a case has them."""
+    words = [int(number) for number in re.findall('[0-9]{1,10}', written)]
+    if case_words(words) != written or max(words, default=0) > UNLIMITED:
+        raise Fault(f'{ascii(written)} are no words: write numbers up to {UNLIMITED}, divided by commas, or - for none')
+    return words
+
+
+def case_words(words):
+    return ','.join(map(str, words)) or '-'
+
+
 def characters(value, is_bytes, escapes):
     """A pattern or a text as it is given, with Python's escapes in it where `escapes` says so."""
     try:
@@ -144,13 +167,45 @@ def window_of(written):
 
 def case_line(words, asked):
     """The line of a case file that asks `asked` of the words."""
-    fields = [asked.verb, ','.join(map(str, words))]
+    fields = [asked.verb, case_words(words)]
     if asked.verb != 'check':
         is_bytes = isinstance(asked.text, bytes)
         fields += ['b:' + asked.text.hex() if is_bytes else 's:' + asked.text.encode().hex(),
                    '{}..{}'.format(*asked.window) if asked.window else 'all',
                    'f' * asked.match_all + 'a' * asked.must_advance or '-']
     return ' '.join(fields)
+
+
+# The program's table
+
+# The names of opcodes, positions and categories that ask the table about characters past ASCII, and for which of these
+# characters Python knows what a table of ASCII alone doesn't.
+ASKING = {
+    'UNI_(NOT_)?DIGIT': str.isdecimal,
+    'UNI_(NOT_)?WORD|UNI_(NON_)?BOUNDARY': str.isalnum,
+    '(GROUPREF|IN|(NOT_)?LITERAL)_UNI_IGNORE': lambda letter: letter.lower() != letter,
+    'RANGE_UNI_IGNORE': lambda letter: letter.lower() != letter or letter.upper() != letter,
+}
+
+
+def unknown_letters(listing, asked):
+    """A line on characters past ASCII of which words ask the table; None where there are none.
+
+    They are the text's. Of a check, which has none, they are those of the literals.
+    """
+    text = asked.text.decode('latin-1') if isinstance(asked.text, bytes) else asked.text
+    if asked.verb == 'check':
+        text = ''.join(chr(value) for value in listing.literals if value <= sys.maxunicode)
+        text += text.swapcase()
+    found = [(name, letter) for family, is_unknown in ASKING.items()
+             for name in sorted(listing.used) if re.fullmatch(family, name)
+             for letter in dict.fromkeys(text) if letter > '\x7f' and is_unknown(letter)]
+    if not found:
+        return None
+    names, letters = (list(dict.fromkeys(each)) for each in zip(*found))
+    shown = ' '.join(map(repr, letters[:8])) + ' ...' * (len(letters) > 8)
+    return (f"the program's table knows ASCII alone, so its answer may differ from Python's: "
+            f'{", ".join(names)} asked of {shown}')
 
 
 # Python's answers
@@ -207,156 +262,6 @@ def answer(pattern, asked):
     return match_answer(next(found, None))
 
 
-# The words, item by item
-
-
-def character(value):
-    """A character's number and how it looks."""
-    return f'{value} {ascii(chr(value))}'
-
-
-def bits(words, first=0):
-    """The numbers of the bits that are set, counted from `first` on."""
-    return [first + 32 * place + bit
-            for place, word in enumerate(words) for bit in range(32) if word >> bit & 1]
-
-
-def ranges(members, shown=12):
-    """The first few ranges of the characters with these numbers, which rise."""
-    members = dict.fromkeys(members)
-    lows = [value for value in members if value - 1 not in members]
-    highs = [value for value in members if value + 1 not in members]
-    texts = [ascii(chr(low)) + (f'-{ascii(chr(high))}' if low < high else '')
-             for low, high in zip(lows, highs)]
-    return ' '.join(texts[:shown]) + (' ...' if len(texts) > shown else '')
-
-
-class Listing:
-    """The items of words that Python's compiler made, in `lines`.
-
-    Each method for a family of opcodes lists the item at `place`, and gives the place behind it.
-    """
-
-    def __init__(self, words):
-        self.words = words
-        self.lines = []
-        self.items(0, len(words), 0)
-
-    def line(self, place, depth, *said):
-        width = len(str(len(self.words) - 1))
-        self.lines.append(f'{place:>{width}}  {"  " * depth}{" ".join(map(str, said))}')
-
-    def items(self, place, end, depth):
-        """Lists the items from `place` up to `end`, and gives the place of the last one."""
-        last = place
-        while place < end:
-            last, place = place, self.item(place, depth)
-        return last
-
-    def item(self, place, depth):
-        name = OPCODES[self.words[place]]
-        for family, listed in self.FAMILIES.items():
-            if re.fullmatch(family, name):
-                return listed(self, name, place, depth)
-        self.line(place, depth, name)
-        return place + 1
-
-    def operand(self, name, place, depth):
-        word = self.words[place + 1]
-        if name in ('AT', 'CATEGORY'):
-            said = f'{word} {(POSITIONS if name == "AT" else CATEGORIES)[word]}'
-        elif name == 'MARK':
-            said = f'{word}, the {"end" if word % 2 else "start"} of group {word // 2 + 1}'
-        elif name == 'JUMP':
-            said = f'{word}, to {place + 1 + word}'
-        else:
-            said = f'{word}, group {word + 1}' if 'GROUPREF' in name else character(word)
-        self.line(place, depth, name, said)
-        return place + 2
-
-    def bounds(self, name, place, depth):
-        self.line(place, depth, name, ' to '.join(map(character, self.words[place + 1:place + 3])))
-        return place + 3
-
-    def charset(self, name, place, depth):
-        self.line(place, depth, name, ranges(bits(self.words[place + 1:place + 9])))
-        return place + 9
-
-    def bigcharset(self, name, place, depth):
-        count, blocks = self.words[place + 1], place + 66
-        numbers = [word >> shift & 255 for word in self.words[place + 2:blocks]
-                   for shift in (0, 8, 16, 24)]
-        members = [value for high, number in enumerate(numbers)
-                   for value in bits(self.words[blocks + 8 * number:][:8], 256 * high)]
-        self.line(place, depth, name, f'{count} blocks:', ranges(members))
-        return blocks + 8 * count
-
-    def region(self, name, place, depth, head=2, said=''):
-        """An item with its skip behind the opcode, and its body from `head` words on."""
-        behind = place + 1 + self.words[place + 1]
-        self.line(place, depth, name, f'skip {self.words[place + 1]}, to {behind}{said}')
-        self.items(place + head, behind, depth + 1)
-        return behind
-
-    def look(self, name, place, depth):
-        return self.region(name, place, depth, 3, f', {self.words[place + 2]} back')
-
-    def repeat(self, name, place, depth):
-        least, greatest = self.words[place + 2:place + 4]
-        shown = 'no limit' if greatest == UNLIMITED else greatest
-        return self.region(name, place, depth, 4, f', {least} to {shown}')
-
-    def branch(self, name, place, depth):
-        self.line(place, depth, name)
-        place += 1
-        while length := self.words[place]:
-            self.line(place, depth + 1, f'alternative of {length} words, to {place + length}')
-            self.items(place + 1, place + length, depth + 2)
-            place += length
-        self.line(place, depth + 1, '0, the end of the alternatives')
-        return place + 1
-
-    def condition(self, name, place, depth):
-        group, skip = self.words[place + 1:place + 3]
-        behind = place + 1 + skip
-        self.line(place, depth, name, f'{group}, group {group + 1}, skip {skip}, to {behind}')
-        last = self.items(place + 3, behind, depth + 1)
-        if last == behind - 2 and self.words[last] == NUMBER['JUMP']:
-            behind = last + 1 + self.words[last + 1]
-            self.line(last + 2, depth, f'otherwise, to {behind}')
-            self.items(last + 2, behind, depth + 1)
-        return behind
-
-    def block(self, name, place, depth):
-        skip, flags, least, greatest = self.words[place + 1:place + 5]
-        behind = place + 1 + skip
-        self.line(place, depth, name, f'skip {skip}, to {behind}, flags {flags},',
-                  f'width {least} to {greatest}')
-        if flags & _constants.SRE_INFO_PREFIX:
-            length, skipped = self.words[place + 5:place + 7]
-            overlaps = behind - length
-            prefix = ascii(''.join(map(chr, self.words[place + 7:overlaps])))
-            self.line(place + 5, depth + 1, f'{length} in a prefix, {skipped} to skip:', prefix)
-            self.line(overlaps, depth + 1, 'overlaps', *self.words[overlaps:behind])
-        elif flags & _constants.SRE_INFO_CHARSET:
-            self.items(place + 5, behind, depth + 1)
-        return behind
-
-    # How an item is listed: by the first pattern that its opcode's name is a match of, whole.
-    FAMILIES = {
-        r'INFO': block,
-        r'BRANCH': branch,
-        r'GROUPREF_EXISTS': condition,
-        r'ASSERT(_NOT)?': look,
-        r'(MIN_|POSSESSIVE_)?REPEAT(_ONE)?': repeat,
-        r'ATOMIC_GROUP|IN(_\w+)?': region,
-        r'RANGE(_\w+)?': bounds,
-        r'CHARSET': charset,
-        r'BIGCHARSET': bigcharset,
-        r'AT|CATEGORY|MARK|JUMP|GROUPREF(_\w+)?|(NOT_)?LITERAL(_\w+)?': operand,
-    }
-
-
 # Files of patterns
 
 
@@ -398,15 +303,21 @@ def cases_of(fields, cut):
             [answer(pattern, each) for each in asked])
 
 
+def cases_in(path, cut):
+    """What `cases_of` gives for each block of a file of patterns."""
+    for number, fields in blocks_of(path):
+        try:
+            made = cases_of(fields, cut)
+        except Fault as fault:
+            raise Fault(f'{path}, line {number}: {fault}') from None
+        yield made
+
+
 def write_cases(path, name, cut):
     """Writes NAME.txt and NAME.expected from a file of patterns."""
     opcodes, lines, answers = set(), [], []
-    for number, fields in blocks_of(path):
-        try:
-            words, more_lines, more_answers = cases_of(fields, cut)
-        except Fault as fault:
-            raise Fault(f'{path}, line {number}: {fault}') from None
-        opcodes |= {line.split()[1] for line in Listing(words).lines} & set(OPCODES)
+    for words, more_lines, more_answers in cases_in(path, cut):
+        opcodes |= Listing(words).used & set(OPCODES)
         lines += more_lines
         answers += more_answers
     version = '.'.join(map(str, sys.version_info[:3]))
@@ -425,15 +336,25 @@ def write_lines(path, lines):
 # The command
 
 
-def compare(program, line, expected):
-    """Writes the case and both answers, and gives the status: 0 where they are the same."""
+def compare(program, line, names, expected):
+    """Writes the case, the names of groups and both answers, and gives the status: 0 where they are the same.
+
+    Words without a pattern have no answer of Python's.
+    """
     with tempfile.TemporaryDirectory() as room:
         path = os.path.join(room, 'cases')
         write_lines(path, [line])
         done = subprocess.run([program, path], capture_output=True, text=True, check=False)
     ours = (done.stdout + done.stderr).strip() or f'nothing, and status {done.returncode}'
+    print(f'case    {line}')
+    if names:
+        print('names   ' + ', '.join(f'{number} {name}' for number, name in names.items()))
+    if expected is not None:
+        print(f'Python  {expected}')
+    print(f'ours    {ours}')
+    if expected is None:
+        return 0
     compared = ours.split()[0] if line.startswith('check ') else ours
-    print(f'case    {line}\nPython  {expected}\nours    {ours}')
     print('same' if compared == expected else 'different')
     return 0 if compared == expected else 1
 
@@ -458,12 +379,25 @@ def arguments():
     add('--bytes', action='store_true', help='pattern and text are bytes')
     add('--escapes', action='store_true', help="the text has escapes, as Python's strings")
     add('--no-block', action='store_true', help='cut the information block off the words')
-    add('--explain', action='store_true', help='list the words, item by item')
+    add('--raw', action='store_true', help='in place of a pattern there are words, as a case has them')
+    add('--explain', action='store_true', help='list the words, item by item, or up to where they are refused')
     add('--run', metavar='PROGRAM', help="run sre_cases, and compare its answer with Python's")
+    add = parser.add_mutually_exclusive_group().add_argument
     add('--cases', nargs=2, metavar=('FILE', 'NAME'), help='write a case file from patterns')
     add('--tree', metavar='PATTERN', help='write the tree as a Rust expression, behind the flags')
     add('--words', nargs=2, metavar=('FILE', 'NAME'), help='write the words as a Rust constant')
     return parser
+
+
+def listed(options):
+    """The listing of the words, and the pattern that they are of, if there is one."""
+    if options.raw:
+        if options.flags or options.no_block:
+            raise Fault('--raw takes words as they are, and neither --flags nor --no-block beside')
+        return Listing(words_of(options.pattern)), None
+    pattern = compiled(characters(options.pattern, options.bytes, False), flags_of(options.flags))
+    words = without_block(pattern.words) if options.no_block else pattern.words
+    return Listing(words, pattern.names()), pattern
 
 
 def one_case(options):
@@ -472,16 +406,23 @@ def one_case(options):
             or (options.text is None) != (options.verb == 'check')):
         raise Fault('write match, search or walk, a pattern and a text, or check and a pattern; '
                     '--help tells the options')
-    pattern = compiled(characters(options.pattern, options.bytes, False), flags_of(options.flags))
-    words = without_block(pattern.words) if options.no_block else pattern.words
+    if options.run is not None:
+        require_program(options.run)
+    listing, pattern = listed(options)
     asked = Asked(options.verb, characters(options.text or '', options.bytes, options.escapes),
                   window_of(options.window), options.match_all, options.must_advance)
-    line = case_line(words, asked)
+    note = unknown_letters(listing, asked)
+    if note:
+        print(f'{COMMAND}: {note}', file=sys.stderr)
+    line = case_line(listing.words, asked)
     if options.explain:
-        print('\n'.join(Listing(words).lines))
-    elif not options.run:
+        print('\n'.join(listing.lines))
+    elif options.run is None:
         print(line)
-    return compare(options.run, line, answer(pattern, asked)) if options.run else 0
+    status = 1 if options.explain and not listing.is_code else 0
+    if options.run is not None:
+        status |= compare(options.run, line, listing.groups, pattern and answer(pattern, asked))
+    return status
 
 
 def show_tree(options):
@@ -491,28 +432,21 @@ def show_tree(options):
 
 
 def main():
-    try:
-        require_known_numbers()
-        options = arguments().parse_intermixed_args()
-        if options.tree is not None:
-            if options.verb or options.run or options.explain or options.cases:
-                raise Fault('--tree takes a pattern, and --flags and --bytes alone beside')
-            show_tree(options)
-            return 0
-        if options.words:
-            path, name = options.words
-            trees.write_words([cases_of(fields, True)[0] for _, fields in blocks_of(path)], path, name)
-            return 0
-        if not options.cases:
-            return one_case(options)
-        if options.verb or options.run or options.explain:
-            raise Fault('--cases takes a file of patterns and a name, and --no-block alone beside')
+    require_known_numbers()
+    options = arguments().parse_intermixed_args()
+    if options.tree is None and options.words is None and options.cases is None:
+        return one_case(options)
+    if options.verb or options.run or options.explain or options.raw:
+        raise Fault('--cases, --tree and --words take no verb, and none of --run, --explain and --raw beside')
+    if options.tree is not None:
+        show_tree(options)
+    elif options.words:
+        path, name = options.words
+        trees.write_words([words for words, _, _ in cases_in(path, True)], path, name)
+    else:
         write_cases(*options.cases, options.no_block)
-        return 0
-    except (Fault, OSError, UnicodeError) as fault:
-        print(f'words.py: {fault}', file=sys.stderr)
-        return 2
+    return 0
 
 
 if __name__ == '__main__':
-    sys.exit(main())
+    sys.exit(status_of(main))
