@@ -15,7 +15,7 @@ pub mod lists;
 
 use lists::{Lists, checked_lists, checked_ranges, std_lists};
 use sre_growth::Refusal;
-use std::alloc::{AllocError, Global};
+use std::alloc::Global;
 use std::marker::Model;
 use thiserror::Error;
 
@@ -50,17 +50,6 @@ impl UniError {
             UniError::AsciiEntry => 3,
             UniError::NotScalar => 4,
         }
-    }
-}
-
-impl From<AllocError> for UniError {
-    ghost use Rattle.std.specs.Prelude.{◌≡◌};
-    ghost use Rattle.sre_chars.specs.declared.table.UniError.TheVariants.{Memory};
-
-    ghost from_gives = { λ _ error. error ≡ Memory };
-
-    fn from(_failed: AllocError) -> UniError {
-        UniError::Memory
     }
 }
 

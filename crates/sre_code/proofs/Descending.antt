@@ -5,7 +5,7 @@ use Rattle.std.proofs.lemmas.List.{reverse-append}
 use Rattle.sre_chars.specs.declared.constants.SreOpcode.TheVariants as opcode
 use Rattle.sre_model.specs.Tree.{Tree, Empty, Then}
 use Rattle.sre_model.specs.Grammar.{Reads, WholeItems, AreItems}
-use Rattle.sre_model.specs.Width.{held, width, item_width}
+use Rattle.sre_model.specs.Width.{capped, width, item_width}
 use Rattle.sre_code.specs.Refusals.{place_of}
 use Rattle.sre_code.specs.Reading.{IsFault}
 use Rattle.sre_code.specs.Steps.{ItemAt, Closes, Remains, next, Exactly, Nowhere, IsEnd, IsInside, Leaves, Unclosed}
@@ -43,10 +43,10 @@ after_to ws (Past p v) fs W r = (p, v, (refl, refl), r)
 after_to ws (Opens part p) fs W r = r
 
 -- the width of a part is that of its first items and that of the others
-sums : (a v x : ℕ) → held (a + held (v + x)) ≡ held (held (a + v) + x)
+sums : (a v x : ℕ) → capped (a + capped (v + x)) ≡ capped (capped (a + v) + x)
 sums a v x = omega arith
 
-no_more : (n a : ℕ) → a ≡ held n → held (held n + 0) ≡ a
+no_more : (n a : ℕ) → a ≡ capped n → capped (capped n + 0) ≡ a
 no_more n a e = omega arith
 
 closes_wide : (ws : List ℕ) (part : Part) (k u u2 j w : ℕ) → u ≡ u2 → Closes ws part k u j w → Closes ws part k u2 j w
@@ -54,28 +54,28 @@ closes_wide ws part k u u2 j w e c = let P : ℕ → Type 0 = λ n. Closes ws pa
 
 -- the item comes first, and then the rest of the part
 item_first : (ws : List ℕ) (s : Step) (part : Part) (a : ℕ) (fs : List Open) (W i j w k : ℕ) (t : Tree)
-    → IsInside ws part i → Exactly ws s (ItemAt ws i) → Reads ws i k t → Closes ws part k (held (a + width t)) j w
+    → IsInside ws part i → Exactly ws s (ItemAt ws i) → Reads ws i k t → Closes ws part k (capped (a + width t)) j w
     → Rest ws j w fs W → After ws s (record { part = part; width = a } ∷ fs) W
 item_first ws s part a fs W i j w k Empty inside x r c rest =
-    let P : ℕ → Type 0 = λ n. Closes ws part n (held (a + 0)) j w in absurd (inside.none _ j w (subst P (sym r) c))
+    let P : ℕ → Type 0 = λ n. Closes ws part n (capped (a + 0)) j w in absurd (inside.none _ j w (subst P (sym r) c))
 item_first ws s part a fs W i j w k (Then it t) inside x r c rest =
     after_from ws s (record { part = part; width = a } ∷ fs) W r.0 (item_width it)
     (x.complete r.0 (item_width it) (it, r.1, refl))
     (j, w, (k, (t, r.2, closes_wide ws part k _ _ j w (sums a (item_width it) (width t)) c)), rest)
 
 item_turns : (ws : List ℕ) (s : Step) (a : ℕ) (top : Open) (d : ℕ) (fs : List Open) (i : ℕ)
-    → a ≡ held (top.width + d) → IsInside ws top.part i → Exactly ws s (ItemAt ws i)
+    → a ≡ capped (top.width + d) → IsInside ws top.part i → Exactly ws s (ItemAt ws i)
     → Same (Rest ws i d (top ∷ fs)) (After ws s (record { part = top.part; width = a } ∷ fs))
 item_turns ws s a top d fs i ae inside x = record {
   to = λ W r.
       item_first ws s top.part a fs W i r.0 r.1 r.2.0 r.2.1.0 inside x r.2.1.1
-      (closes_wide ws top.part _ _ _ _ _ (ap (λ n. held (n + width r.2.1.0)) (sym ae)) r.2.1.2) r.3;
+      (closes_wide ws top.part _ _ _ _ _ (ap (λ n. capped (n + width r.2.1.0)) (sym ae)) r.2.1.2) r.3;
   from = λ W y.
       let b = after_to ws s (record { part = top.part; width = a } ∷ fs) W y in
       let it = x.sound b.0 b.1 b.2 in
-      let sum : held (held (a + b.1) + width b.3.2.1.0) ≡ held (held (top.width + d) + width (Then it.0 b.3.2.1.0)) =
-      ap (λ n. held (held (a + n) + width b.3.2.1.0)) it.2 ∙ sym (sums a (item_width it.0) (width b.3.2.1.0))
-      ∙ ap (λ n. held (n + width (Then it.0 b.3.2.1.0))) ae in (
+      let sum : capped (capped (a + b.1) + width b.3.2.1.0) ≡ capped (capped (top.width + d) + width (Then it.0 b.3.2.1.0)) =
+      ap (λ n. capped (capped (a + n) + width b.3.2.1.0)) it.2 ∙ sym (sums a (item_width it.0) (width b.3.2.1.0))
+      ∙ ap (λ n. capped (n + width (Then it.0 b.3.2.1.0))) ae in (
         b.3.0,
         b.3.1,
         (
@@ -99,7 +99,7 @@ item_stops ws top d fs i inside n =
     record { none = λ W r. item_refuses ws top.part i r.2.0 _ r.0 r.1 r.2.1.0 inside n r.2.1.1 r.2.1.2 }
 
 -- the part ends here, and its width is the sum so far
-closed_here : (ws : List ℕ) (top : Open) (d a : ℕ) (fs : List Open) (W i : ℕ) → a ≡ held (top.width + d)
+closed_here : (ws : List ℕ) (top : Open) (d a : ℕ) (fs : List Open) (W i : ℕ) → a ≡ capped (top.width + d)
     → IsEnd ws top.part i → Rest ws i d (top ∷ fs) W → (j : ℕ) × (w : ℕ) × Closes ws top.part i a j w × Rest ws j w fs W
 closed_here ws top d a fs W i ae end r =
     let empty : r.2.1.0 ≡ Empty = end.only r.2.0 _ r.0 r.1 r.2.1.0 r.2.1.1 r.2.1.2 in
@@ -109,11 +109,11 @@ closed_here ws top d a fs W i ae end r =
       r.1,
       subst P (sym at)
           (closes_wide ws top.part r.2.0 _ a r.0 r.1
-          (ap (λ t. held (held (top.width + d) + width t)) empty ∙ no_more (top.width + d) a ae) r.2.1.2),
+          (ap (λ t. capped (capped (top.width + d) + width t)) empty ∙ no_more (top.width + d) a ae) r.2.1.2),
       r.3,
     )
 
-close_turns : (ws : List ℕ) (s : Step) (top : Open) (d a : ℕ) (fs : List Open) (i : ℕ) → a ≡ held (top.width + d)
+close_turns : (ws : List ℕ) (s : Step) (top : Open) (d a : ℕ) (fs : List Open) (i : ℕ) → a ≡ capped (top.width + d)
     → IsEnd ws top.part i → Exactly ws s (Closes ws top.part i a) → Same (Rest ws i d (top ∷ fs)) (After ws s fs)
 close_turns ws s top d a fs i ae end x = record {
   to = λ W r.
@@ -134,7 +134,7 @@ close_turns ws s top d a fs i ae end x = record {
   );
 }
 
-close_stops : (ws : List ℕ) (top : Open) (d a : ℕ) (fs : List Open) (i : ℕ) → a ≡ held (top.width + d)
+close_stops : (ws : List ℕ) (top : Open) (d a : ℕ) (fs : List Open) (i : ℕ) → a ≡ capped (top.width + d)
     → IsEnd ws top.part i → Nowhere (Closes ws top.part i a) → Never (Rest ws i d (top ∷ fs))
 close_stops ws top d a fs i ae end n =
     record { none = λ W r. let here = closed_here ws top d a fs W i ae end r in n.none here.0 here.1 here.2 }
@@ -180,7 +180,7 @@ push_fails ws A (Opens part p) old new e m = memory ws A e m
 -- one turn
 pub step_closes : (ws : List ℕ) (r : Reached) (a : ℕ) (top : Open) (s : Step) (old new : List Open)
     (q : Result Reached CodeError)
-    → a ≡ held (top.width + r.width) → IsEnd ws top.part r.place → Leaves ws r.place s
+    → a ≡ capped (top.width + r.width) → IsEnd ws top.part r.place → Leaves ws r.place s
     → Exactly ws s (Closes ws top.part r.place a) → Pushes s old new q → ReadsOn ws r top old new q
 step_closes ws r a top s old new (Ok q) ae end l x e = (
   same_then _ _ _ (close_turns ws s top r.width a (reverse old) r.place ae end x) (pushed ws s old new q e),
@@ -196,7 +196,7 @@ item_pushed ws s f old new q e =
 
 pub step_reads : (ws : List ℕ) (r : Reached) (a : ℕ) (top : Open) (s : Step) (old new : List Open)
     (q : Result Reached CodeError)
-    → a ≡ held (top.width + r.width) → IsInside ws top.part r.place → r.place < length ws → r.place < next s
+    → a ≡ capped (top.width + r.width) → IsInside ws top.part r.place → r.place < length ws → r.place < next s
     → Exactly ws s (ItemAt ws r.place) → Pushes s (old ++ record { part = top.part; width = a } ∷ []) new q
     → ReadsOn ws r top old new q
 step_reads ws r a top s old new (Ok q) ae inside there lt x e = (
@@ -207,7 +207,7 @@ step_reads ws r a top s old new (Ok q) ae inside there lt x e = (
 step_reads ws r a top s old new (Err e) ae inside there lt x m =
     push_fails ws _ s (old ++ record { part = top.part; width = a } ∷ []) new e m
 
-pub step_no_close : (ws : List ℕ) (i d a : ℕ) (top : Open) (old : List Open) (e : CodeError) → a ≡ held (top.width + d)
+pub step_no_close : (ws : List ℕ) (i d a : ℕ) (top : Open) (old : List Open) (e : CodeError) → a ≡ capped (top.width + d)
     → Unclosed ws top.part i a e → Fails ws (Rest ws i d (top ∷ reverse old)) e
 step_no_close ws i d a top old e ae x =
     let stops = close_stops ws top d a (reverse old) i ae x.end x.nowhere in

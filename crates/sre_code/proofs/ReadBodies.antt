@@ -5,7 +5,7 @@ use Rattle.sre_chars.specs.declared.constants.SreOpcode.{SreOpcode}
 use Rattle.sre_chars.specs.declared.constants.SreOpcode.TheVariants as opcode
 use Rattle.sre_model.specs.Tree.{Tree, Loop, Order, Greedy, Lazy}
 use Rattle.sre_model.specs.Grammar.{Opcode, word, skip, until_opcode}
-use Rattle.sre_model.specs.Width.{held, width, item_width}
+use Rattle.sre_model.specs.Width.{capped, width, item_width}
 use Rattle.sre_model.specs.Roles.{ToRepeat}
 use Rattle.sre_code.specs.Reading.{NoCode, IsFault}
 use Rattle.sre_code.specs.Steps.{ItemAt, Closes, Unclosed, Exactly, Nowhere, IsEnd, IsInside}
@@ -21,7 +21,7 @@ loop_here : (ws : List ℕ) (i : ℕ) → Opcode ws i opcode.REPEAT → HasRole 
 loop_here ws i h = record { code = opcode.REPEAT; there = h; begins = refl }
 
 -- the width of a body, as the descent adds it up
-body_width : (t : Tree) → held (0 + width t) ≡ width t
+body_width : (t : Tree) → capped (0 + width t) ≡ width t
 body_width t = omega (arith, width_held t)
 
 pub loop_exactly : (ws : List ℕ) (i end low high : ℕ) → Opcode ws i opcode.REPEAT → end ≡ skip ws (i + 1)
@@ -43,8 +43,8 @@ loop_exactly ws i end low high h ends lowest highest there le = record {
             c.2 ∙ ap (λ n. n + 1) at,
           ),
         ),
-        c.3 ∙ ap (λ n. held (n * held (0 + width f.1.0))) lowest
-            ∙ ap (λ n. held (word ws (i + 2) * n)) (body_width f.1.0),
+        c.3 ∙ ap (λ n. capped (n * capped (0 + width f.1.0))) lowest
+            ∙ ap (λ n. capped (word ws (i + 2) * n)) (body_width f.1.0),
       );
   complete = λ j w y.
       let f = is_loop ws i j y.0 (loop_here ws i h) y.1 in
@@ -58,8 +58,8 @@ loop_exactly ws i end low high h ends lowest highest there le = record {
             sym ends,
             (f.0, r.4),
             r.5,
-            y.2 ∙ ap item_width f.4 ∙ ap (λ n. held (n * width f.3)) same
-                ∙ ap (λ n. held (low * n)) (sym (body_width f.3)),
+            y.2 ∙ ap item_width f.4 ∙ ap (λ n. capped (n * width f.3)) same
+                ∙ ap (λ n. capped (low * n)) (sym (body_width f.3)),
           ),
         ),
       );
@@ -88,16 +88,16 @@ body_end : (ws : List ℕ) (end least i : ℕ) → i ≡ end → IsEnd ws (Body 
 body_end ws end least i same = record { only = λ k u j w t r c. reads_nothing ws i k t r (c.0 ∙ sym same) }
 
 body_exactly : (ws : List ℕ) (o : Order) (end least i u v : ℕ) → i ≡ end → Opcode ws i (until_opcode o)
-    → v ≡ held (least * u) → Exactly ws (Past (i + 1) v) (Closes ws (Body end least) i u)
+    → v ≡ capped (least * u) → Exactly ws (Past (i + 1) v) (Closes ws (Body end least) i u)
 body_exactly ws o end least i u v same h e =
     record { sound = λ j w r. (same, (o, h), r.0, r.1 ∙ e); complete = λ j w c. (c.2, c.3 ∙ sym e) }
 
-pub body_max : (ws : List ℕ) (end least i u v : ℕ) → i ≡ end → Opcode ws i opcode.MAX_UNTIL → v ≡ held (least * u)
+pub body_max : (ws : List ℕ) (end least i u v : ℕ) → i ≡ end → Opcode ws i opcode.MAX_UNTIL → v ≡ capped (least * u)
     → IsEnd ws (Body end least) i × (i ≤ i + 1) × Exactly ws (Past (i + 1) v) (Closes ws (Body end least) i u)
 body_max ws end least i u v same h e =
     (body_end ws end least i same, omega arith, body_exactly ws Greedy end least i u v same h e)
 
-pub body_min : (ws : List ℕ) (end least i u v : ℕ) → i ≡ end → Opcode ws i opcode.MIN_UNTIL → v ≡ held (least * u)
+pub body_min : (ws : List ℕ) (end least i u v : ℕ) → i ≡ end → Opcode ws i opcode.MIN_UNTIL → v ≡ capped (least * u)
     → IsEnd ws (Body end least) i × (i ≤ i + 1) × Exactly ws (Past (i + 1) v) (Closes ws (Body end least) i u)
 body_min ws end least i u v same h e =
     (body_end ws end least i same, omega arith, body_exactly ws Lazy end least i u v same h e)

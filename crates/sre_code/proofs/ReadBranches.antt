@@ -6,7 +6,7 @@ use Rattle.sre_chars.specs.declared.constants.SreOpcode.{SreOpcode}
 use Rattle.sre_chars.specs.declared.constants.SreOpcode.TheVariants as opcode
 use Rattle.sre_model.specs.Tree.{Branch, Trees, Only, Or}
 use Rattle.sre_model.specs.Grammar.{Opcode, Word, word, skip, JumpsTo, ReadsBranch}
-use Rattle.sre_model.specs.Width.{held, width, item_width, least_width}
+use Rattle.sre_model.specs.Width.{capped, width, item_width, least_width}
 use Rattle.sre_model.specs.Roles.{ToBranch}
 use Rattle.sre_code.specs.Reading.{NoCode}
 use Rattle.sre_code.specs.Steps.{ItemAt, Closes, Remains, Exactly, Nowhere, IsEnd, IsInside, Leaves, EndGives, MoreAt}
@@ -84,7 +84,7 @@ trees_exactly ws q e tail least ee le te = record {
       let same : r.0 ≡ skip ws q - 2 = omega arith in
       let next : r.0 + 2 ≡ skip ws q = omega arith in
       let jump : JumpsTo ws r.0 j = (r.1.2.1.0, r.1.2.3 ∙ r.1.2.1.1) in
-      let least_now : ℕ = min least (held (0 + width r.1.0)) in
+      let least_now : ℕ = min least (capped (0 + width r.1.0)) in
       ⊎_elim
       (λ (last : Last ws (r.0 + 2) tail least_now w). (
         Only r.1.0,

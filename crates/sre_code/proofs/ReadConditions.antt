@@ -6,7 +6,7 @@ use Rattle.sre_chars.specs.declared.constants.SreOpcode.{SreOpcode}
 use Rattle.sre_chars.specs.declared.constants.SreOpcode.TheVariants as opcode
 use Rattle.sre_model.specs.Tree.{Tree, Empty, Then, Exists, ExistsElse}
 use Rattle.sre_model.specs.Grammar.{Opcode, word, skip, JumpsTo, Reads, ReadsItem}
-use Rattle.sre_model.specs.Width.{held, width, item_width}
+use Rattle.sre_model.specs.Width.{capped, width, item_width}
 use Rattle.sre_model.specs.Roles.{ToCheckGroup}
 use Rattle.sre_code.specs.Reading.{NoCode, IsFault}
 use Rattle.sre_code.specs.Steps.{ItemAt, Else, Closes, Unclosed, Exactly, Nowhere, IsEnd, IsInside}
@@ -48,7 +48,7 @@ shapes ws i j w h y = ⊎_elim
     (is_exists ws i j y.0 (condition_here ws i h) y.1)
 
 -- the least of both parts, as the descent adds it up
-both : (a b : Tree) → min (held (0 + width a)) (width b) ≡ min (width a) (width b)
+both : (a b : Tree) → min (capped (0 + width a)) (width b) ≡ min (width a) (width b)
 both a b = omega (arith, width_held a)
 
 -- GROUPREF_EXISTS
@@ -70,7 +70,7 @@ condition_exactly ws i tail h leads there =
             ),
             c.2,
           ))
-          (λ (c : Before ws tail f.0 (held (0 + width f.1.0)) j w).
+          (λ (c : Before ws tail f.0 (capped (0 + width f.1.0)) j w).
           let ends : f.0 ≡ i + 1 + word ws (i + 2) - 2 = omega (arith, c.0) in (
             ExistsElse (word ws (i + 1)) f.1.0 c.2.0,
             (

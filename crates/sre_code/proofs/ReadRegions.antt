@@ -5,7 +5,7 @@ use Rattle.sre_chars.specs.declared.constants.SreOpcode.{SreOpcode}
 use Rattle.sre_chars.specs.declared.constants.SreOpcode.TheVariants as opcode
 use Rattle.sre_model.specs.Tree.{Tree, PossessiveLoop, Atomic, Look, Sign, Positive, Negative}
 use Rattle.sre_model.specs.Grammar.{Opcode, word, skip, look_opcode}
-use Rattle.sre_model.specs.Width.{held, width, item_width}
+use Rattle.sre_model.specs.Width.{capped, width, item_width}
 use Rattle.sre_model.specs.Roles.{ToRepeatPossessively, ToGroupAtomically, ToLook}
 use Rattle.sre_code.specs.Reading.{NoCode, IsFault}
 use Rattle.sre_code.specs.Steps.{ItemAt, LookAt, Closes, Unclosed, Exactly, Nowhere, IsEnd, IsInside}
@@ -25,7 +25,7 @@ region_end : (ws : List ℕ) (end least i : ℕ) → i ≡ end → IsEnd ws (Reg
 region_end ws end least i same = record { only = λ k u j w t r c. reads_nothing ws i k t r (c.0 ∙ sym same) }
 
 pub region_closed : (ws : List ℕ) (end least i u v : ℕ) → i ≡ end → Opcode ws i opcode.SUCCESS
-    → v ≡ held (least * u)
+    → v ≡ capped (least * u)
     → IsEnd ws (Region end least) i × (i ≤ i + 1) × Exactly ws (Past (i + 1) v) (Closes ws (Region end least) i u)
 region_closed ws end least i u v same h e = (
   region_end ws end least i same,
@@ -54,7 +54,7 @@ possessive_here : (ws : List ℕ) (i : ℕ) → Opcode ws i opcode.POSSESSIVE_RE
 possessive_here ws i h = record { code = opcode.POSSESSIVE_REPEAT; there = h; begins = refl }
 
 -- the width of a body, as the descent adds it up
-body_width : (t : Tree) → held (0 + width t) ≡ width t
+body_width : (t : Tree) → capped (0 + width t) ≡ width t
 body_width t = omega (arith, width_held t)
 
 pub possessive_exactly : (ws : List ℕ) (i end low high : ℕ) → Opcode ws i opcode.POSSESSIVE_REPEAT
@@ -76,8 +76,8 @@ possessive_exactly ws i end low high h ends lowest highest there le = record {
             c.2 ∙ ap (λ n. n + 1) at,
           ),
         ),
-        c.3 ∙ ap (λ n. held (n * held (0 + width f.1.0))) lowest
-            ∙ ap (λ n. held (word ws (i + 2) * n)) (body_width f.1.0),
+        c.3 ∙ ap (λ n. capped (n * capped (0 + width f.1.0))) lowest
+            ∙ ap (λ n. capped (word ws (i + 2) * n)) (body_width f.1.0),
       );
   complete = λ j w y.
       let f = is_possessive ws i j y.0 (possessive_here ws i h) y.1 in
@@ -91,8 +91,8 @@ possessive_exactly ws i end low high h ends lowest highest there le = record {
             sym ends,
             r.4,
             r.5,
-            y.2 ∙ ap item_width f.3 ∙ ap (λ n. held (n * width f.2)) same
-                ∙ ap (λ n. held (low * n)) (sym (body_width f.2)),
+            y.2 ∙ ap item_width f.3 ∙ ap (λ n. capped (n * width f.2)) same
+                ∙ ap (λ n. capped (low * n)) (sym (body_width f.2)),
           ),
         ),
       );
@@ -122,7 +122,7 @@ atomic_here : (ws : List ℕ) (i : ℕ) → Opcode ws i opcode.ATOMIC_GROUP → 
 atomic_here ws i h = record { code = opcode.ATOMIC_GROUP; there = h; begins = refl }
 
 -- a body counts once for the group's width, as the descent adds it up
-once : (t : Tree) → held (1 * held (0 + width t)) ≡ width t
+once : (t : Tree) → capped (1 * capped (0 + width t)) ≡ width t
 once t = omega (arith, width_held t)
 
 pub atomic_exactly : (ws : List ℕ) (i tail : ℕ) → Opcode ws i opcode.ATOMIC_GROUP → tail ≡ skip ws (i + 1)
@@ -176,7 +176,7 @@ pub assert_not_there : (ws : List ℕ) (i : ℕ) → Opcode ws i opcode.ASSERT_N
 assert_not_there ws i h = record { sign = Negative; there = h }
 
 -- a look has no width
-never_counts : (n : ℕ) → held (0 * n) ≡ 0
+never_counts : (n : ℕ) → capped (0 * n) ≡ 0
 never_counts n = omega arith
 
 pub look_exactly : (ws : List ℕ) (i tail : ℕ) → LookAt ws i → tail ≡ skip ws (i + 1) → i + 4 ≤ tail
@@ -195,7 +195,7 @@ look_exactly ws i tail h leads long = record {
             opcode_moved ws f.0 (j - 1) opcode.SUCCESS at c.1,
           ),
         ),
-        c.3 ∙ never_counts (held (0 + width f.1.0)),
+        c.3 ∙ never_counts (capped (0 + width f.1.0)),
       );
   complete = λ j w y.
       let f = is_look ws i j y.0 (look_here ws i h.sign h.there) y.1 in
@@ -208,7 +208,7 @@ look_exactly ws i tail h leads long = record {
             omega (arith, r.0),
             r.3,
             omega (arith, r.0),
-            y.2 ∙ ap item_width f.2 ∙ sym (never_counts (held (0 + width f.1))),
+            y.2 ∙ ap item_width f.2 ∙ sym (never_counts (capped (0 + width f.1))),
           ),
         ),
       );

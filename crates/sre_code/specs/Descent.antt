@@ -5,7 +5,7 @@ use Rattle.std.specs.Prelude.{Result, Ok, Err}
 use Rattle.sre_chars.specs.declared.constants.SreOpcode.TheVariants as opcode
 use Rattle.sre_model.specs.Tree.{Tree}
 use Rattle.sre_model.specs.Grammar.{Opcode, Reads}
-use Rattle.sre_model.specs.Width.{held, width}
+use Rattle.sre_model.specs.Width.{capped, width}
 use Rattle.sre_code.specs.Refusals.{place_of}
 use Rattle.sre_code.specs.Steps.{Finishes}
 use Rattle.sre_growth.specs.Refusal.{Refused}
@@ -26,7 +26,7 @@ opened part = record { part = part; width = 0 }
 abbrev pub Rest : List ℕ → ℕ → ℕ → List Open → ℕ → Type 0
 Rest ws i d [] W = W ≡ d
 Rest ws i d (top ∷ below) W =
-    (j : ℕ) × (w : ℕ) × Finishes ws top.part (held (top.width + d)) i j w × Rest ws j w below W
+    (j : ℕ) × (w : ℕ) × Finishes ws top.part (capped (top.width + d)) i j w × Rest ws j w below W
 
 -- the same, with the innermost part last, as the stack keeps them
 abbrev pub StackRest : List ℕ → ℕ → ℕ → List Open → ℕ → Type 0

@@ -5,7 +5,7 @@ use Rattle.sre_chars.specs.declared.constants.SreOpcode.TheVariants as opcode
 use Rattle.sre_model.specs.Tree.{Tree, Empty, Item, One, Trees, Order, RunKind, Sign, Test}
 use Rattle.sre_model.specs.Grammar.{Word, Opcode, run_opcode, until_opcode, look_opcode, JumpsTo, Reads, ReadsItem}
 use Rattle.sre_model.specs.Grammar.{ReadsBranch}
-use Rattle.sre_model.specs.Width.{held, width, item_width, least_width}
+use Rattle.sre_model.specs.Width.{capped, width, item_width, least_width}
 use Rattle.sre_code.specs.Reading.{IsFault, ReadsTest}
 use Rattle.sre_code.specs.declared.code.error.CodeError.{CodeError}
 use Rattle.sre_code.specs.declared.code.step.Part.{Part}
@@ -51,8 +51,8 @@ IsUntil ws k = (o : Order) × Opcode ws k (until_opcode o)
 -- what it belongs to ends at j and has width w
 abbrev pub Closes : List ℕ → Part → ℕ → ℕ → ℕ → ℕ → Type 0
 Closes ws Whole k u j w = Opcode ws k opcode.SUCCESS × (k + 1 ≡ length ws) × (j ≡ k + 1) × (w ≡ u)
-Closes ws (Body end least) k u j w = (k ≡ end) × IsUntil ws k × (j ≡ k + 1) × (w ≡ held (least * u))
-Closes ws (Region end least) k u j w = (k ≡ end) × Opcode ws k opcode.SUCCESS × (j ≡ k + 1) × (w ≡ held (least * u))
+Closes ws (Body end least) k u j w = (k ≡ end) × IsUntil ws k × (j ≡ k + 1) × (w ≡ capped (least * u))
+Closes ws (Region end least) k u j w = (k ≡ end) × Opcode ws k opcode.SUCCESS × (j ≡ k + 1) × (w ≡ capped (least * u))
 Closes ws (Alternative end tail least) k u j w =
     (k ≡ end) × JumpsTo ws k tail × More ws (k + 2) tail (min least u) w × (j ≡ tail)
 Closes ws (There tail) k u j w =
@@ -61,7 +61,7 @@ Closes ws (Absent end least) k u j w = (k ≡ end) × (j ≡ end) × (w ≡ min 
 
 -- the words from i on are what is left of a part whose items so far have width a
 abbrev pub Finishes : List ℕ → Part → ℕ → ℕ → ℕ → ℕ → Type 0
-Finishes ws part a i j w = (k : ℕ) × ((t : Tree) × Reads ws i k t × Closes ws part k (held (a + width t)) j w)
+Finishes ws part a i j w = (k : ℕ) × ((t : Tree) × Reads ws i k t × Closes ws part k (capped (a + width t)) j w)
 
 -- what is left after a step, up to j, makes the whole that began before it one of width w
 abbrev pub Remains : List ℕ → Step → ℕ → ℕ → Type 0

@@ -30,7 +30,7 @@ fn ascii_bits(words: &[u32], place: usize) -> AsciiSet
     ensures { (table : Table) (c : ℕ) → c < 128
         → contains result c ≡ item_holds table (Charset (slice_range words.now (place + 1) (place + 9))) c }
 {
-    let _length = words.len();
+    let _length = words.len(); // a slice has few items, so no place overflows
     AsciiSet::of_bits([
         words[place + 1],
         words[place + 2],

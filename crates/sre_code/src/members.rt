@@ -184,7 +184,7 @@ fn has_bit_in_block(words: &[u32], place: usize, character: u32) -> bool
     if character >= 65536 {
         return false;
     }
-    let _length = words.len();
+    let _length = words.len(); // a slice has few items, so no place overflows
     let start = place + 66 + 8 * block(words, place, character);
     let word = words[start + (character % 256 / 32) as usize];
     bit(word, character % 32)
@@ -232,7 +232,7 @@ pub fn is_member(words: &[u32], uni: &UniTable, start: usize, character: u32) ->
     ensures { (j : ℕ) (set : List SetItem) → SetStands words.now start j set
         → result ≡ is_member uni.now set character }
 {
-    let _length = words.len();
+    let _length = words.len(); // a slice has few items, so no place overflows
     let mut place = start;
     let mut taken = true;
     'item: loop {

@@ -15,7 +15,7 @@ pub fn word(words: &[u32], place: usize) -> u32
     ensures word { Word words.now place result }
     ensures room { place + 2 ^ 33 < 2 ^ 64 }
 {
-    let _length = words.len();
+    let _length = words.len(); // a slice has few items, so no place overflows
     words[place]
 }
 
@@ -26,7 +26,7 @@ pub fn operand(words: &[u32], place: usize, offset: usize) -> u32
     ensures word { Word words.now (place + offset) result }
     ensures room { place + 2 ^ 33 < 2 ^ 64 }
 {
-    let _length = words.len();
+    let _length = words.len(); // a slice has few items, so no place overflows
     words[place + offset]
 }
 
@@ -47,5 +47,5 @@ pub fn category_code(words: &[u32], place: usize) -> SreCatCode
 pub fn know_words(words: &[u32])
     ensures { AreWords words.now }
 {
-    let _length = words.len();
+    let _length = words.len(); // a call on a slice tells what its items are
 }

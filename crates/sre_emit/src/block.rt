@@ -12,7 +12,7 @@ use crate::error::EmitError;
 use crate::part::{Fold, Item, OneChar, Part};
 use crate::width::part_width;
 use crate::writer::Writer;
-use sre_chars::constants::SreOpcode;
+use sre_chars::constants::{MAXREPEAT, SreOpcode};
 use sre_growth::Refusal;
 use std::alloc::Allocator;
 
@@ -20,7 +20,7 @@ use std::alloc::Allocator;
 const LONGEST: usize = 2147483644;
 
 // A block names no greatest width.
-const NO_LIMIT: u32 = u32::MAX;
+const NO_LIMIT: u32 = MAXREPEAT as u32;
 
 // The character of a plain literal.
 fn plain_value(test: &OneChar) -> Option<u32>

@@ -10,7 +10,7 @@ use Rattle.sre_model.specs.Found.{Asked, Match, subject_of, is_accepted, at_star
 use Rattle.sre_turns.specs.Machine.{Decides, outcomes}
 use Rattle.sre_model.specs.Runs.{Run}
 use Rattle.sre_engine.specs.Starts.{NoneBetween}
-use Rattle.sre_engine.specs.Answers.{Shown, Answers, AnswersAnywhere, given, AnswersAlike}
+use Rattle.sre_engine.specs.Answers.{Shown, Answers, AnswersAnywhere, answer_of, AnswersAlike}
 use Rattle.sre_model.proofs.FoundLaws.{match_of_first, first_accepted-filter, at_start-is, least-found}
 
 -- what a run for a request decides about; the words are those of its tree, whatever they are
@@ -57,7 +57,7 @@ answers_no stands match shown none = rw none refl
 
 -- an answer is the model's match
 pub given-answer : (stands : StringCursor → ℕ → Type 0) (match : Option Match) (b : Bool) (shown : Shown)
-    → Answers stands match b shown → given b shown ≡ match
+    → Answers stands match b shown → answer_of b shown ≡ match
 given-answer stands None b shown none = rw none refl
 given-answer stands (Some m) b shown some = rw (some.0, some.1.start, some.1.at, some.1.marks) refl
 

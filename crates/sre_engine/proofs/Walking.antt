@@ -9,7 +9,7 @@ use Rattle.sre_model.specs.WalkBounds.{most_matches}
 use Rattle.sre_model.proofs.WalkLaws.{walk-end, walk-next, most_matches-falls}
 use Rattle.sre_request.specs.declared.request.Request.{Request}
 use Rattle.sre_request.specs.Requests.{string_of, start_of, asked_of, stands_in}
-use Rattle.sre_engine.specs.Answers.{Shown, Answers, given}
+use Rattle.sre_engine.specs.Answers.{Shown, Answers, answer_of}
 use Rattle.sre_engine.specs.Walks.{match_shown, StepsTo, GoesOn}
 use Rattle.sre_engine.proofs.Answering.{given-answer}
 
@@ -37,7 +37,7 @@ stands_shown stands (Some m) b s answer is = subst (stands s.cursor) (sym answer
 module _ (stands : StringCursor → ℕ → Type 0) (a : Asked) (t : Tree) (b : Bool) (s : Shown)
     (answer : Answers stands (found a t) b s) where
   found_shown : b ≡ true → found a t ≡ Some (match_shown s)
-  found_shown is = sym (given-answer stands (found a t) b s answer) ∙ ap (λ c. given c s) is
+  found_shown is = sym (given-answer stands (found a t) b s answer) ∙ ap (λ c. answer_of c s) is
 
   -- a match, and the walk after it
   pub steps_on : b ≡ true → (after : Asked) → after ≡ asked_after a (match_shown s)
@@ -56,4 +56,4 @@ module _ (stands : StringCursor → ℕ → Type 0) (a : Asked) (t : Tree) (b : 
   pub steps_out : b ≡ false → (after : List Match) → StepsTo (walk a t) b s after
   steps_out is after =
       subst (λ c. StepsTo (walk a t) c s after) (sym is)
-      (walk-end a t (sym (given-answer stands (found a t) b s answer) ∙ ap (λ c. given c s) is))
+      (walk-end a t (sym (given-answer stands (found a t) b s answer) ∙ ap (λ c. answer_of c s) is))

@@ -12,7 +12,7 @@ use Rattle.sre_model.specs.Ways.{Way, Body, first, here, longest_run, rising, fa
 use Rattle.sre_model.specs.Ways.{ordered}
 use Rattle.sre_model.specs.Ways.{may_repeat, more, least, possessive_more, look_ways, reference_ways, ways, item_ways}
 use Rattle.sre_model.specs.Ways.{branch_ways}
-use Rattle.sre_model.specs.Width.{held, width, item_width, least_width}
+use Rattle.sre_model.specs.Width.{capped, width, item_width, least_width}
 use Rattle.sre_model.proofs.Each.{each-append, each-flat_map, each-weaken, each-map, each-first, each-cond}
 use Rattle.sre_model.proofs.Bounds.{EachBetween, ways-bounded}
 
@@ -159,7 +159,7 @@ module _ (s : Subject) where
     pub ways-far : (t : Tree) → IsWide (width t) (ways s t)
     ways-far Empty p m = here-far p m
     ways-far (Then item rest) p m =
-        shorter (item_width item + width rest) (held (item_width item + width rest)) p (omega arith)
+        shorter (item_width item + width rest) (capped (item_width item + width rest)) p (omega arith)
         (ways s (Then item rest) p m)
         (on-far (item_width item) (width rest) p (λ w. ways s rest w.stop w.marks) (λ w. ways-far rest w.stop w.marks)
         (item_ways s item p m) (item-far item p m))
@@ -173,13 +173,13 @@ module _ (s : Subject) where
     item-far (Branch ts) p m = branch-far ts p m
     item-far (Loop o low high body) p m =
         let some : IsWide 0 (ways s body) = λ q k. shorter (width body) 0 q (omega arith) _ (ways-far body q k) in
-        shorter (low * width body) (held (low * width body)) p (omega arith) _
+        shorter (low * width body) (capped (low * width body)) p (omega arith) _
         (least-far (width body) (ways s body) (λ q k. more s o high (ways s body) (s.end + 1 - q) low None q k)
         (ways-far body) (λ q k. more-far o high (ways s body) some (s.end + 1 - q) low None q k) low p m)
     item-far (Run kind low high t) p m = run-far kind low high t p m
     item-far (PossessiveLoop low high body) p m =
         let some : IsWide 0 (ways s body) = λ q k. shorter (width body) 0 q (omega arith) _ (ways-far body q k) in
-        shorter (low * width body) (held (low * width body)) p (omega arith) _
+        shorter (low * width body) (capped (low * width body)) p (omega arith) _
         (least-far (width body) (λ q k. first (within s q (ways s body q k)))
         (λ q k. possessive_more s high (ways s body) (s.end + 1 - q) low None q k)
         (λ q k. each-first _ (within s q (ways s body q k)) (within-far (width body) q (ways s body q k)

@@ -33,9 +33,9 @@ pub record Spans (start end : ℕ) (s : Shown) : Type 0 where
   pub inside : s.cursor.position ≤ end
 
 -- an answer as the match that it gives, none where it is no
-abbrev pub given : Bool → Shown → Option Match
-given true s = Some (record { start = s.start; end = s.cursor.position; marks = s.marks })
-given false s = None
+abbrev pub answer_of : Bool → Shown → Option Match
+answer_of true s = Some (record { start = s.start; end = s.cursor.position; marks = s.marks })
+answer_of false s = None
 
 -- an answer in a text of whatever type: which of its cursors stand where is left open
 abbrev pub AnswersAnywhere : Option Match → Bool → Shown → Type 0
@@ -47,4 +47,4 @@ AnswersAnywhere m b s = Answers (λ c p. ⊤) m b s
 pub record AnswersAlike (model : Asked → Option Match) (asked : Asked) (b : Bool) (s : Shown) : Type 0 where
   pub alike :
       (other : Asked) (c : Bool) (u : Shown) → other ≡ asked → AnswersAnywhere (model other) c u →
-      given c u ≡ given b s
+      answer_of c u ≡ answer_of b s

@@ -301,7 +301,6 @@ fn choose_alternative<S: StrDrive, A: Allocator>(
         Chooses (run_of req.now) (Instruction (first.length_word + 1)) (Alternatives others) cursor
         board.old next board.new) }
 {
-    let _ = req.end();
     board.save(Point::Alternatives(others), cursor)?;
     Ok(Next::At(first.place, first.cursor))
 }

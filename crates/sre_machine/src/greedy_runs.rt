@@ -82,7 +82,7 @@ fn shorter<S: StrDrive, A: Allocator>(
 
 /// The shorter counts of a run that were saved.
 #[inline(always)]
-pub(super) fn shorter_again<S: StrDrive, A: Allocator>(
+pub(super) fn shorter_saved<S: StrDrive, A: Allocator>(
     req: &Request<'_, S>,
     board: &mut Board<A>,
     tail: usize,

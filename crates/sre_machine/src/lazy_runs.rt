@@ -12,7 +12,7 @@ ghost use Rattle.sre_request.specs.Runs.{run_of};
 
 use crate::machine::{choose, first_literal, lacks, operand, refuses};
 use sre_board::Board;
-use sre_chars::constants::SreOpcode;
+use sre_chars::constants::{MAXREPEAT, SreOpcode};
 use sre_chars::string::{StrDrive, StringCursor};
 use sre_growth::Refusal;
 use sre_reading::one_character;
@@ -28,7 +28,7 @@ use std::alloc::Allocator;
 fn may_grow(greatest: u32, count: usize) -> bool
     ensures { result ≡ (nat_eq greatest unlimited || nat_lt count greatest) }
 {
-    greatest == u32::MAX || count < greatest as usize
+    greatest as usize == MAXREPEAT || count < greatest as usize
 }
 
 // The cursor behind one character more of the run at a place, which has so many of them, if it may be longer.

@@ -14,7 +14,7 @@ ghost use Rattle.sre_request.specs.Runs.{run_of};
 
 use crate::machine::{opcode, operand, refuses};
 use sre_board::Board;
-use sre_chars::constants::SreOpcode;
+use sre_chars::constants::{MAXREPEAT, SreOpcode};
 use sre_chars::string::{StrDrive, StringCursor};
 use sre_growth::Refusal;
 use sre_request::Request;
@@ -26,7 +26,7 @@ use std::alloc::Allocator;
 pub(super) fn may_repeat(greatest: u32, frame: Frame, cursor: StringCursor) -> bool
     ensures { result ≡ may_repeat greatest frame.count frame.last cursor.position }
 {
-    let is_below = greatest == u32::MAX || frame.count < greatest;
+    let is_below = greatest as usize == MAXREPEAT || frame.count < greatest;
     match frame.last {
         None => is_below,
         Some(last) => is_below && last != cursor.position(),

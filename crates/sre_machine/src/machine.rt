@@ -17,7 +17,7 @@ ghost use Rattle.sre_model.specs.Roles.{begins_test};
 ghost use Rattle.sre_request.specs.Runs.{run_of};
 
 use crate::branches::{alternatives, branch};
-use crate::greedy_runs::{repeat_one, shorter_again};
+use crate::greedy_runs::{repeat_one, shorter_saved};
 use crate::lazy_runs::{longer, min_repeat_one};
 use crate::loops::{max_until, min_until, repeat};
 use crate::possessive_loops::possessive_repeat;
@@ -238,7 +238,6 @@ pub(super) fn choose<S: StrDrive, A: Allocator>(
 ) -> Result<Next, Refusal>
     ensures { IfOk result (λ next. Chooses (run_of req.now) (Instruction place) other cursor board.old next board.new) }
 {
-    let _ = req.end();
     board.save(other, cursor)?;
     Ok(Next::At(place, cursor))
 }
@@ -259,7 +258,7 @@ pub(super) fn back<S: StrDrive, A: Allocator>(
         Some(choice) => match choice.0 {
             Point::Instruction(place) => Ok(Some(Next::At(place, choice.1))),
             Point::Alternatives(place) => Ok(Some(alternatives(req, board, place, choice.1)?)),
-            Point::Shorter(tail, count) => Ok(Some(shorter_again(
+            Point::Shorter(tail, count) => Ok(Some(shorter_saved(
                 req, board, tail, count, choice.1,
             )?)),
             Point::Longer(place, count) => Ok(Some(longer(req, board, place, count, choice.1)?)),

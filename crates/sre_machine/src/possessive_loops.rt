@@ -31,7 +31,6 @@ pub(super) fn possessive_repeat<S: StrDrive, A: Allocator>(
     requires stands { HasRun (run_of req.now) (Instruction place) cursor }
     ensures { IfOk result (λ next. Advances (run_of req.now) (Instruction place) cursor board.old next board.new) }
 {
-    let _ = req.end();
     board.enter(Frame {
         repeat: place,
         count: 0,

@@ -97,7 +97,6 @@ pub(super) fn end<S: StrDrive, A: Allocator>(
         ((from_region board.old.choices ≡ []) × (board.new ≡ board.old))
         (λ next. Closes (run_of req.now) cursor board.old next board.new) }
 {
-    let _ = req.end();
     let (region, entered) = board.cut()?;
     Some(after_outcome(region, cursor, entered))
 }

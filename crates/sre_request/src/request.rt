@@ -25,7 +25,7 @@ impl<'a, S: StrDrive> Clone for Request<'a, S> {
     ghost is_infallible = { λ _. ⊤ };
 
     fn clone(&self) -> Result<Request<'a, S>, AllocError> {
-        Ok(self.again())
+        Ok(self.copied())
     }
 }
 
@@ -68,7 +68,7 @@ impl<'a, S: StrDrive> Request<'a, S> {
 
     // The same request: a generic function cannot copy one as a whole.
     #[inline(always)]
-    pub(crate) fn again(&self) -> Request<'a, S>
+    pub(crate) fn copied(&self) -> Request<'a, S>
         ensures { result ≡ self.now }
     {
         Request {

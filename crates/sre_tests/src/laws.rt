@@ -8,7 +8,7 @@ ghost use Rattle.sre_engine.specs.Tree.{Tree};
 ghost use Rattle.sre_engine.specs.Grammar.{Whole, behind_block};
 ghost use Rattle.sre_engine.specs.Codes.{words_of};
 ghost use Rattle.sre_engine.specs.Requests.{asked_of, code_of, start_of, end_of};
-ghost use Rattle.sre_engine.specs.Answers.{given, Spans};
+ghost use Rattle.sre_engine.specs.Answers.{answer_of, Spans};
 ghost use Rattle.sre_engine.specs.Marks.{no_marks};
 ghost use Rattle.sre_engine.specs.WalkBounds.{most_matches, AreInOrder};
 ghost use Rattle.sre_engine.specs.Listed.{match_of};
@@ -33,7 +33,7 @@ fn both_matched<S: StrDrive, T: StrDrive>(
 ) -> Result<(bool, bool), SreError>
     requires same { asked_of other.now ≡ asked_of one.now }
     requires tree { (t : Tree) → Whole (words_of (code_of one.now)) t → Whole (words_of (code_of other.now)) t }
-    ensures { IfOk result (λ answers. given answers.1 second.new ≡ given answers.0 first.new) }
+    ensures { IfOk result (λ answers. answer_of answers.1 second.new ≡ answer_of answers.0 first.new) }
 {
     let _words = one.pattern_codes().words(); // which have a tree
     let matched = first.pymatch(one)?;
@@ -50,7 +50,7 @@ fn both_searched<S: StrDrive, T: StrDrive>(
 ) -> Result<(bool, bool), SreError>
     requires same { asked_of other ≡ asked_of one }
     requires tree { (t : Tree) → Whole (words_of (code_of one)) t → Whole (words_of (code_of other)) t }
-    ensures { IfOk result (λ answers. given answers.1 second.new ≡ given answers.0 first.new) }
+    ensures { IfOk result (λ answers. answer_of answers.1 second.new ≡ answer_of answers.0 first.new) }
 {
     let _words = one.pattern_codes().words(); // which have a tree
     let found = first.search(one)?;
@@ -67,7 +67,7 @@ fn matched_without_its_block<S: StrDrive, T: StrDrive>(
 ) -> Result<(bool, bool), SreError>
     requires same { asked_of cut.now ≡ asked_of one.now }
     requires behind { words_of (code_of cut.now) ≡ behind_block (words_of (code_of one.now)) }
-    ensures { IfOk result (λ answers. given answers.1 second.new ≡ given answers.0 first.new) }
+    ensures { IfOk result (λ answers. answer_of answers.1 second.new ≡ answer_of answers.0 first.new) }
 {
     let _words = one.pattern_codes().words(); // whose tree is that of the words behind the block
     both_matched(one, cut, first, second)
@@ -82,7 +82,7 @@ fn searched_without_its_block<S: StrDrive, T: StrDrive>(
 ) -> Result<(bool, bool), SreError>
     requires same { asked_of cut ≡ asked_of one }
     requires behind { words_of (code_of cut) ≡ behind_block (words_of (code_of one)) }
-    ensures { IfOk result (λ answers. given answers.1 second.new ≡ given answers.0 first.new) }
+    ensures { IfOk result (λ answers. answer_of answers.1 second.new ≡ answer_of answers.0 first.new) }
 {
     let _words = one.pattern_codes().words(); // whose tree is that of the words behind the block
     both_searched(one, cut, first, second)

@@ -14,7 +14,7 @@ use Rattle.sre_model.specs.Grammar.{Word, Opcode, skip}
 use Rattle.sre_turns.specs.declared.Frame.{Frame}
 use Rattle.sre_turns.specs.declared.Region.TheVariants.{Owed, Further}
 use Rattle.sre_turns.specs.declared.Point.TheVariants.{Instruction, Again}
-use Rattle.sre_turns.specs.Moves.{Spot, spot_at, Move, Go, Enter, closed}
+use Rattle.sre_turns.specs.Moves.{Spot, spot_at, Move, Go, Enter, closing_move}
 use Rattle.sre_turns.specs.MovesInLoops.{again_move}
 use Rattle.sre_turns.specs.Machine.{Moves, Runs, turns, stops, goes, enters, Comes}
 use Rattle.sre_model.specs.Roles.{ToRepeatPossessively}
@@ -67,7 +67,7 @@ module _ (ws : List ℕ) (s : Subject) (i u low high : ℕ) (W : Body) (counted 
       → EachBetween s p os → Runs ws s (spot_at (Instruction (u + 1)) fs p m) (K p m) (C p m)
       → ((w : Way) → Between s p w
       → Runs ws s (spot_at Again (f ∷ fs) w.stop w.marks) (followed K (K' w.stop w.marks)) (C' w.stop w.marks))
-      → Comes ws s (spot_at Again (f ∷ fs) p m) (closed (Further (u + 1)) (spot_at Again (f ∷ fs) p m) os)
+      → Comes ws s (spot_at Again (f ∷ fs) p m) (closing_move (Further (u + 1)) (spot_at Again (f ∷ fs) p m) os)
       (followed K (or_here K' p m (first os))) (further_cost C C' p m os)
   further-closed fs f K K' C C' p m [] bs d ih = goes (alone d)
   further-closed fs f K K' C C' p m (w ∷ os) bs d ih = goes (ih w bs.0)
@@ -77,7 +77,7 @@ module _ (ws : List ℕ) (s : Subject) (i u low high : ℕ) (W : Body) (counted 
       → EachBetween s p os
       → ((w : Way) → Between s p w
       → Runs ws s (spot_at Again (f ∷ fs) w.stop w.marks) (followed K (K' w.stop w.marks)) (C' w.stop w.marks))
-      → Comes ws s (spot_at Again (f ∷ fs) p m) (closed Owed (spot_at Again (f ∷ fs) p m) os)
+      → Comes ws s (spot_at Again (f ∷ fs) p m) (closing_move Owed (spot_at Again (f ∷ fs) p m) os)
       (followed K (flat_map (λ (w : Way). K' w.stop w.marks) (first os))) (atomic_cost C' os)
   owed-closed fs f K K' C' p m [] bs ih = stops
   owed-closed fs f K K' C' p m (w ∷ os) bs ih = goes (rw append-nil (ih w bs.0))
@@ -104,7 +104,7 @@ module _ (ws : List ℕ) (s : Subject) (i u low high : ℕ) (W : Body) (counted 
       let body : Spot = spot_at (Instruction (i + 4)) (g ∷ fs) p m in
       let mv : Move = Enter (Further (u + 1)) entered body in
       let move : Moves ws s (at_loop n last fs p m) mv = loop_turn n last fs p m mv (rw (beyond, allowed) refl) in
-      let behind : Comes ws s entered (closed (Further (u + 1)) entered (W p m))
+      let behind : Comes ws s entered (closing_move (Further (u + 1)) entered (W p m))
       (followed K (or_here K' p m (first (W p m)))) (further_cost C C' p m (W p m)) =
       further-closed fs g K K' C C' p m (W p m) (b p m e) (f p m (omega arith) e) (ih x) in
       subst (λ y. Runs ws s (at_loop n last fs p m) (followed K (or_here K' p m y))

@@ -10,7 +10,7 @@ use Rattle.sre_model.specs.Grammar.{Word, Opcode, skip, look_opcode}
 use Rattle.sre_turns.specs.declared.Frame.{Frame}
 use Rattle.sre_turns.specs.declared.Region.TheVariants.{AtomicGroup, Ahead, NotAhead}
 use Rattle.sre_turns.specs.declared.Point.TheVariants.{Instruction}
-use Rattle.sre_turns.specs.Moves.{Spot, spot_at, Stop, Go, Enter, closed}
+use Rattle.sre_turns.specs.Moves.{Spot, spot_at, Stop, Go, Enter, closing_move}
 use Rattle.sre_turns.specs.Machine.{Moves, Runs, turns, stops, goes, enters, Comes}
 use Rattle.sre_turns.proofs.Moving.{at_instruction}
 use Rattle.sre_model.proofs.Bounds.{Bounded, EachBetween}
@@ -22,14 +22,14 @@ use Rattle.sre_turns.proofs.Outcomes.{followed, Follows, Ran, alone, region}
 -- an atomic group, where its body has some ways
 atomic-closed : (ws : List ℕ) (s : Subject) (x : Spot) (j : ℕ) (K : Body) (C : Costs) (os : List Way)
     → EachBetween s x.position os → Follows ws s x.position (Instruction j) x.frames K C
-    → Comes ws s x (closed (AtomicGroup j) x os) (followed K (first os)) (atomic_cost C os)
+    → Comes ws s x (closing_move (AtomicGroup j) x os) (followed K (first os)) (atomic_cost C os)
 atomic-closed ws s x j K C [] b f = stops
 atomic-closed ws s x j K C (w ∷ os) b f = goes (alone (f w.stop w.marks b.0.0 b.0.1))
 
 -- a look
 ahead-closed : (ws : List ℕ) (s : Subject) (x : Spot) (j : ℕ) (K : Body) (C : Costs) (os : List Way)
     → x.position ≤ s.end → Follows ws s x.position (Instruction j) x.frames K C
-    → Comes ws s x (closed (Ahead j) x os)
+    → Comes ws s x (closing_move (Ahead j) x os)
     (followed K (map (λ (w : Way). record { stop = x.position; marks = w.marks }) (first os)))
     (look_cost Positive C x.position x.marks os)
 ahead-closed ws s x j K C [] e f = stops
@@ -37,7 +37,7 @@ ahead-closed ws s x j K C (w ∷ os) e f = goes (alone (f x.position w.marks (om
 
 not_ahead-closed : (ws : List ℕ) (s : Subject) (x : Spot) (j : ℕ) (K : Body) (C : Costs) (os : List Way)
     → x.position ≤ s.end → Follows ws s x.position (Instruction j) x.frames K C
-    → Comes ws s x (closed (NotAhead j) x os) (followed K (elim os [ [] ↦ here x.position x.marks | (w ∷ _) ↦ [] ]))
+    → Comes ws s x (closing_move (NotAhead j) x os) (followed K (elim os [ [] ↦ here x.position x.marks | (w ∷ _) ↦ [] ]))
     (look_cost Negative C x.position x.marks os)
 not_ahead-closed ws s x j K C [] e f = goes (alone (f x.position x.marks (omega arith) e))
 not_ahead-closed ws s x j K C (w ∷ os) e f = stops
@@ -59,7 +59,7 @@ module _ (ws : List ℕ) (s : Subject) (i j k : ℕ) (W : Body) (counted : Costs
     -- a look is entered, or comes too early
     look_entered : (sign : Sign) → role (look_opcode sign) ≡ ToLook sign → Opcode ws i (look_opcode sign)
         → (fs : List Frame) (p : ℕ) (m : Marks) (y : Bool) → nat_lt p back ≡ y
-        → Moves ws s (spot_at (Instruction i) fs p m) (cond y (closed (look sign j) (spot_at (Instruction i) fs p m) [])
+        → Moves ws s (spot_at (Instruction i) fs p m) (cond y (closing_move (look sign j) (spot_at (Instruction i) fs p m) [])
         (Enter (look sign j) (spot_at (Instruction i) fs p m) (spot_at (Instruction k) fs (p - back) m)))
     look_entered sign known w fs p m y e =
         at_instruction (look_opcode sign) (ToLook sign) known w

@@ -14,7 +14,7 @@ use Rattle.sre_turns.specs.declared.Region.{Region}
 use Rattle.sre_turns.specs.declared.Point.TheVariants.{Instruction, Again}
 use Rattle.sre_turns.specs.declared.Point.{Point}
 use Rattle.sre_turns.specs.declared.Frame.{Frame}
-use Rattle.sre_turns.specs.Moves.{Spot, spot_at, Stop, Go, Enter, closed}
+use Rattle.sre_turns.specs.Moves.{Spot, spot_at, Stop, Go, Enter, closing_move}
 use Rattle.sre_turns.specs.MovesInRegions.{look}
 use Rattle.sre_turns.specs.Machine.{Moves, Runs, Comes, stops, goes, Waits, kept, Goes, Placed, Ends, Later, spot}
 use Rattle.sre_model.specs.Runs.{Run}
@@ -63,7 +63,7 @@ pub record AtLook (r : Run) (sign : Sign) (i v back : ℕ) : Type 0 where
 -- fewer characters stand before
 look_early : (r : Run) (sign : Sign) (i v back : ℕ) (c : StringCursor) (b : BoardValue) → AtLook r sign i v back
     → c.position < back
-    → Moves r.words r.subject (spot (Instruction i) c b) (closed (look sign (i + 1 + v)) (spot (Instruction i) c b) [])
+    → Moves r.words r.subject (spot (Instruction i) c b) (closing_move (look sign (i + 1 + v)) (spot (Instruction i) c b) [])
 look_early r sign i v back c b h l =
     let early : nat_lt c.position back ≡ true = grind (arith, nat_tests) in
     at_instruction (look_opcode sign) (ToLook sign) (look_role sign) h.code

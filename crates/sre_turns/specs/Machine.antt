@@ -22,7 +22,7 @@ use Rattle.sre_turns.specs.declared.Region.TheVariants.{AtomicGroup, Ahead, NotA
 use Rattle.sre_turns.specs.declared.Region.{Region}
 use Rattle.sre_turns.specs.declared.Point.TheVariants.{Instruction, Alternatives, Shorter, Longer, Inside, Again}
 use Rattle.sre_turns.specs.declared.Point.{Point}
-use Rattle.sre_turns.specs.Moves.{Spot, spot_at, Move, Stop, End, Go, Split, Enter, closed, to_point, TestMove, AtMove}
+use Rattle.sre_turns.specs.Moves.{Spot, spot_at, Move, Stop, End, Go, Split, Enter, closing_move, to_point, TestMove, AtMove}
 use Rattle.sre_turns.specs.Moves.{MarkMove, JumpMove, AlternativesMove}
 use Rattle.sre_turns.specs.MovesInRuns.{RunMove, ShorterMove, LongerMove}
 use Rattle.sre_turns.specs.MovesInLoops.{first_frame, RepeatMove, UntilMove, AgainMove}
@@ -75,7 +75,7 @@ mutual
     splits : {x y z : Spot} {os₁ os₂ : List Way} {n₁ n₂ : ℕ} → Runs ws s y os₁ n₁ → Runs ws s z os₂ n₂
         → Comes ws s x (Split y z) (os₁ ++ os₂) (suc (suc (n₁ + n₂)))
     enters : {x y z : Spot} {g : Region} {now os : List Way} {n₁ n₂ : ℕ} → Runs ws s z now n₁
-        → Comes ws s y (closed g y now) os n₂ → Comes ws s x (Enter g y z) os (suc (n₁ + n₂))
+        → Comes ws s y (closing_move g y now) os n₂ → Comes ws s x (Enter g y z) os (suc (n₁ + n₂))
 
 -- each mark that is set lies in the text
 pub record Placed (s : Subject) (m : Marks) : Type 0 where
@@ -92,7 +92,7 @@ pub data Waits (r : Run) : List Choice → List Way → List Way → ℕ → Typ
   kept : {g : Region} {pt : Point} {fs : List Frame} {c : StringCursor} {n k : ℕ} {m : Marks} {os now all : List Way}
       {cs : List Choice}
       → r.stands c c.position → Placed r.subject m
-      → Comes r.words r.subject (spot_at pt fs c.position m) (closed g (spot_at pt fs c.position m) now) os n
+      → Comes r.words r.subject (spot_at pt fs c.position m) (closing_move g (spot_at pt fs c.position m) now) os n
       → Waits r cs os all k → Waits r (Keep g fs c m ∷ cs) now all (n + k)
 
 -- where the machine stands at a point and a cursor

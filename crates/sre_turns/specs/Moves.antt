@@ -43,17 +43,17 @@ abbrev pub to_place : Spot → Point → ℕ → Spot
 to_place x pt p = record x { point = pt; position = p }
 
 -- what comes of a region that was entered at a spot, where its body has these outcomes
-abbrev pub closed : Region → Spot → List Way → Move
-closed (AtomicGroup t) x [] = Stop
-closed (AtomicGroup t) x (w ∷ ws) = Go (record x { point = Instruction t; position = w.stop; marks = w.marks })
-closed (Ahead t) x [] = Stop
-closed (Ahead t) x (w ∷ ws) = Go (record x { point = Instruction t; marks = w.marks })
-closed (NotAhead t) x [] = Go (to_point x (Instruction t))
-closed (NotAhead t) x (w ∷ ws) = Stop
-closed Owed x [] = Stop
-closed Owed x (w ∷ ws) = Go (record x { point = Again; position = w.stop; marks = w.marks })
-closed (Further t) x [] = Go (record x { point = Instruction t; frames = drop 1 x.frames })
-closed (Further t) x (w ∷ ws) = Go (record x { point = Again; position = w.stop; marks = w.marks })
+abbrev pub closing_move : Region → Spot → List Way → Move
+closing_move (AtomicGroup t) x [] = Stop
+closing_move (AtomicGroup t) x (w ∷ ws) = Go (record x { point = Instruction t; position = w.stop; marks = w.marks })
+closing_move (Ahead t) x [] = Stop
+closing_move (Ahead t) x (w ∷ ws) = Go (record x { point = Instruction t; marks = w.marks })
+closing_move (NotAhead t) x [] = Go (to_point x (Instruction t))
+closing_move (NotAhead t) x (w ∷ ws) = Stop
+closing_move Owed x [] = Stop
+closing_move Owed x (w ∷ ws) = Go (record x { point = Again; position = w.stop; marks = w.marks })
+closing_move (Further t) x [] = Go (record x { point = Instruction t; frames = drop 1 x.frames })
+closing_move (Further t) x (w ∷ ws) = Go (record x { point = Again; position = w.stop; marks = w.marks })
 
 -- a test of one character
 pub record TestMove (ws : List ℕ) (s : Subject) (i : ℕ) (x : Spot) (mv : Move) : Type 0 where

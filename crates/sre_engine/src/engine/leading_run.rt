@@ -13,7 +13,7 @@ ghost use Rattle.sre_request.specs.Runs.{run_of};
 ghost use Rattle.sre_engine.specs.Starts.{NoneUntil};
 
 use crate::engine::first_characters::is_test;
-use sre_chars::constants::SreOpcode;
+use sre_chars::constants::{MAXREPEAT, SreOpcode};
 use sre_chars::string::{StrDrive, StringCursor};
 use sre_code::operands;
 use sre_reading::one_character::{opcode, takes, test_end};
@@ -69,7 +69,7 @@ pub(crate) fn leading_run<S: StrDrive>(req: &Request<'_, S>) -> Option<LeadingRu
             }
             SreOpcode::REPEAT_ONE | SreOpcode::MIN_REPEAT_ONE | SreOpcode::POSSESSIVE_REPEAT_ONE =>
                 {
-                    if operand_at(req, place, 3) != u32::MAX {
+                    if operand_at(req, place, 3) as usize != MAXREPEAT {
                         return None;
                     }
                     let test = place + 4;
@@ -117,7 +117,7 @@ fn behind_run<S: StrDrive>(
         → NoneUntil (asked_of req.now) t start.position result }
 {
     let Some(first) = lead.first else {
-        let run = longest_run(req, lead.test, u32::MAX, start);
+        let run = longest_run(req, lead.test, MAXREPEAT as u32, start);
         return one_on(req, run.1);
     };
     if start.position() >= req.end() {
@@ -127,7 +127,7 @@ fn behind_run<S: StrDrive>(
     if !takes(req, first, opcode(req, first), character) {
         return Some(after);
     }
-    let run = longest_run(req, lead.test, u32::MAX, after);
+    let run = longest_run(req, lead.test, MAXREPEAT as u32, after);
     Some(run.1)
 }
 

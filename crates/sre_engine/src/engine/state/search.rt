@@ -256,7 +256,8 @@ impl<A: Allocator + Copy> State<A> {
         self.board.clear(); // of an earlier search
         (self.compared, self.started) = (0, 0);
         let last = last_start(req);
-        let first = First::of_items(req.pattern_codes().items(), false);
+        let reads_alternatives = false;
+        let first = First::of_items(req.pattern_codes().items(), reads_alternatives);
         let Some(start) = next_start(req, &first, from) else {
             return Ok(false);
         };
@@ -303,7 +304,8 @@ impl<A: Allocator + Copy> State<A> {
             (self.new.start + 1) self.new.cursor.position self.new) }
     {
         self.board.clear();
-        let first = First::of_items(req.pattern_codes().items(), true);
+        let reads_alternatives = true;
+        let first = First::of_items(req.pattern_codes().items(), reads_alternatives);
         let lead = leading_run(req);
         let mut start = tried;
         'start: loop {

@@ -19,12 +19,12 @@ returns-in_ok-alternatives-in-Alternatives g c = λ all limit x.
     later_again (run_of c.args.req.now) all limit _ _ s.0
     (c.in_ok-alternatives-in-Alternatives.ensures all (limit - 1) s.1)
 
-pub returns-in_ok-shorter_again-in-Shorter : goal.returns-in_ok-shorter_again-in-Shorter
-returns-in_ok-shorter_again-in-Shorter g c = λ all limit x.
+pub returns-in_ok-shorter_saved-in-Shorter : goal.returns-in_ok-shorter_saved-in-Shorter
+returns-in_ok-shorter_saved-in-Shorter g c = λ all limit x.
     let s = back_at (run_of c.args.req.now) c.args.board.now c.back.new.self c.in-Some.choice.0
     (Shorter c.in-Shorter.tail c.in-Shorter.count) c.in-Some.choice.1 c.in-Some.ensures c.in-Shorter.is refl
     all limit x in
-    later_again (run_of c.args.req.now) all limit _ _ s.0 (c.in_ok-shorter_again-in-Shorter.ensures all (limit - 1) s.1)
+    later_again (run_of c.args.req.now) all limit _ _ s.0 (c.in_ok-shorter_saved-in-Shorter.ensures all (limit - 1) s.1)
 
 pub returns-in_ok-longer-in-Longer : goal.returns-in_ok-longer-in-Longer
 returns-in_ok-longer-in-Longer g c = λ all limit x.

@@ -1,6 +1,6 @@
 use Rattle.std.proofs.Common.{ap}
 use Rattle.std.specs.Coded.{×_prop, le_prop}
-use Rattle.sre_request.proofs.request.Request.again.Goals as goal
+use Rattle.sre_request.proofs.request.Request.copied.Goals as goal
 
 pub returns : goal.returns
 returns g c =

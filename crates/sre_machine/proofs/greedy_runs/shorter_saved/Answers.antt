@@ -1,7 +1,7 @@
 use Rattle.sre_request.specs.Runs.{run_of}
 use Rattle.sre_turns.proofs.StepsInRuns.{shorter_none, shorter_past, shorter_skips}
 use Rattle.sre_turns.proofs.StepsInBranches.{positive}
-use Rattle.sre_machine.proofs.greedy_runs.shorter_again.Goals as goal
+use Rattle.sre_machine.proofs.greedy_runs.shorter_saved.Goals as goal
 
 pub returns-then-count-eq0 : goal.returns-then-count-eq0
 returns-then-count-eq0 g c = shorter_none (run_of c.args.req.now) c.args.tail _ _ _ c.if-count-eq0.true
