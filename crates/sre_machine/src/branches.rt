@@ -8,14 +8,15 @@ ghost use Rattle.std.specs.Prelude.{◌≡◌, ℕ, ◌+◌, ◌<◌, ◌^◌, t
 ghost use Rattle.sre_model.specs.Tree.{Test};
 ghost use Rattle.sre_model.specs.Characters.{holds};
 ghost use Rattle.sre_model.specs.Subject.{char_at};
-ghost use Rattle.sre_model.specs.Grammar.{word, Opcode};
-ghost use Rattle.sre_model.specs.Standing.{TestStands, HasTest};
+ghost use Rattle.sre_model.specs.Grammar.{word};
+ghost use Rattle.sre_model.specs.Standing.{TestStands};
 ghost use Rattle.sre_turns.specs.declared.Point.TheVariants.{Instruction, Alternatives};
 ghost use Rattle.sre_turns.specs.declared.Point.{Point};
 ghost use Rattle.sre_turns.specs.Machine.{HasRun, Advances, Chooses, Refuses, Exhausted, Continues, IsRead};
 ghost use Rattle.sre_model.specs.Roles.{begins_test};
 ghost use Rattle.sre_request.specs.Requests.{end_of};
-ghost use Rattle.sre_request.specs.Runs.{run_of};
+ghost use Rattle.sre_request.specs.Runs.{run_of, OpcodeAt, TestAt};
+ghost use Rattle.sre_machine.specs.Turns.{At, Turn};
 
 use crate::machine::{choose, opcode, operand, word_at};
 use sre_board::Board;
@@ -38,9 +39,9 @@ fn misses<S: StrDrive>(
     character: u32,
     cursor: StringCursor,
 ) -> bool
-    requires opcode { Opcode (run_of req.now).words place opcode }
+    requires opcode { OpcodeAt req.now place opcode }
     requires tests { begins_test opcode ≡ true }
-    requires stands { HasRun (run_of req.now) (Instruction place) cursor }
+    requires stands { At req.now place cursor }
     requires inside { cursor.position < end_of req.now }
     requires character { character ≡ char_at (run_of req.now).subject cursor.position }
     ensures { result ≡ true → Refuses (run_of req.now) place cursor.position }
@@ -51,7 +52,7 @@ fn misses<S: StrDrive>(
 // Whether a test may take a character; one that a run seldom has is not asked.
 #[inline(always)]
 fn may_take<S: StrDrive>(req: &Request<'_, S>, place: usize, character: u32) -> bool
-    requires { HasTest (run_of req.now).words place }
+    requires { TestAt req.now place }
     ensures { result ≡ false → (j : ℕ) (t : Test) → TestStands (run_of req.now).words place j t
         → holds (run_of req.now).subject.table t character ≡ false }
 {
@@ -71,8 +72,8 @@ fn misses_run<S: StrDrive>(
     character: u32,
     cursor: StringCursor,
 ) -> bool
-    requires opcode { Opcode (run_of req.now).words place SreOpcode.REPEAT_ONE }
-    requires stands { HasRun (run_of req.now) (Instruction place) cursor }
+    requires opcode { OpcodeAt req.now place SreOpcode.REPEAT_ONE }
+    requires stands { At req.now place cursor }
     requires inside { cursor.position < end_of req.now }
     requires character { character ≡ char_at (run_of req.now).subject cursor.position }
     ensures { result ≡ true → Refuses (run_of req.now) place cursor.position }
@@ -93,7 +94,7 @@ fn begins_otherwise<S: StrDrive>(
     character: u32,
     cursor: StringCursor,
 ) -> bool
-    requires stands { HasRun (run_of req.now) (Instruction start) cursor }
+    requires stands { At req.now start cursor }
     requires inside { cursor.position < end_of req.now }
     requires character { character ≡ char_at (run_of req.now).subject cursor.position }
     ensures { result ≡ true → Refuses (run_of req.now) start cursor.position }
@@ -129,9 +130,9 @@ fn behind_test<S: StrDrive>(
     after: StringCursor,
     cursor: StringCursor,
 ) -> Option<(usize, StringCursor)>
-    requires opcode { Opcode (run_of req.now).words place opcode }
+    requires opcode { OpcodeAt req.now place opcode }
     requires tests { begins_test opcode ≡ true }
-    requires stands { HasRun (run_of req.now) (Instruction place) cursor }
+    requires stands { At req.now place cursor }
     requires read { IsRead (run_of req.now) cursor character after }
     ensures { MatchOption result (Refuses (run_of req.now) place cursor.position)
         (λ x. Continues (run_of req.now) (Instruction place) cursor (Instruction x.0) x.1) }
@@ -146,7 +147,7 @@ fn behind_test<S: StrDrive>(
 // Behind a JUMP if one stands at a place, and else at the place.
 #[inline(always)]
 fn behind_jump<S: StrDrive>(req: &Request<'_, S>, place: usize, cursor: StringCursor) -> usize
-    requires { HasRun (run_of req.now) (Instruction place) cursor }
+    requires { At req.now place cursor }
     ensures { Continues (run_of req.now) (Instruction place) cursor (Instruction result) cursor }
 {
     if word_at(req, place) == SreOpcode::JUMP as u32 {
@@ -165,8 +166,8 @@ fn behind_set<S: StrDrive>(
     after: StringCursor,
     cursor: StringCursor,
 ) -> Option<(usize, StringCursor)>
-    requires opcode { Opcode (run_of req.now).words place SreOpcode.IN }
-    requires stands { HasRun (run_of req.now) (Instruction place) cursor }
+    requires opcode { OpcodeAt req.now place SreOpcode.IN }
+    requires stands { At req.now place cursor }
     requires read { IsRead (run_of req.now) cursor character after }
     ensures { MatchOption result (Refuses (run_of req.now) place cursor.position)
         (λ x. Continues (run_of req.now) (Instruction place) cursor (Instruction x.0) x.1) }
@@ -187,7 +188,7 @@ fn begin<S: StrDrive>(
     after: StringCursor,
     cursor: StringCursor,
 ) -> Option<(usize, StringCursor)>
-    requires stands { HasRun (run_of req.now) (Instruction place) cursor }
+    requires stands { At req.now place cursor }
     requires read { IsRead (run_of req.now) cursor character after }
     ensures { MatchOption result (Refuses (run_of req.now) place cursor.position)
         (λ x. Continues (run_of req.now) (Instruction place) cursor (Instruction x.0) x.1) }
@@ -339,10 +340,10 @@ pub(super) fn branch<S: StrDrive, A: Allocator>(
     place: usize,
     cursor: StringCursor,
 ) -> Result<Next, Refusal>
-    requires opcode { Opcode (run_of req.now).words place SreOpcode.BRANCH }
+    requires opcode { OpcodeAt req.now place SreOpcode.BRANCH }
     requires room { place + 2 ^ 33 < 2 ^ 64 }
-    requires stands { HasRun (run_of req.now) (Instruction place) cursor }
-    ensures { IfOk result (λ next. Advances (run_of req.now) (Instruction place) cursor board.old next board.new) }
+    requires stands { At req.now place cursor }
+    ensures { IfOk result (λ next. Turn req.now place cursor board.old next board.new) }
 {
     Ok(alternatives(req, board, place + 1, cursor)?)
 }

@@ -1,12 +1,11 @@
 //! Greedy runs of one character: the longest first, then the shorter ones.
 
 ghost use Rattle.std.specs.Prelude.{◌≡◌, ◌⊎◌, MatchOption, true, IfOk};
-ghost use Rattle.sre_model.specs.Grammar.{Opcode};
-ghost use Rattle.sre_model.specs.Standing.{HasTest};
 ghost use Rattle.sre_turns.specs.Board.{BoardValue};
 ghost use Rattle.sre_turns.specs.Machine.{HasRun, Advances, DemandsAny, Excludes, SkipsBoth};
 ghost use Rattle.sre_turns.specs.declared.Point.TheVariants.{Instruction, Shorter};
-ghost use Rattle.sre_request.specs.Runs.{run_of};
+ghost use Rattle.sre_request.specs.Runs.{run_of, OpcodeAt, TestAt};
+ghost use Rattle.sre_machine.specs.Turns.{At, Turn};
 
 use crate::machine::{choose, first_literal, lacks, operand, word_at};
 use sre_board::Board;
@@ -110,7 +109,7 @@ fn is_only_count<S: StrDrive>(
     wanted: Option<u32>,
     left: usize,
 ) -> bool
-    requires { HasTest (run_of req.now).words test }
+    requires { TestAt req.now test }
     ensures { result ≡ true → (left ≡ 0) ⊎ Excludes (run_of req.now).words test wanted }
 {
     if left == 0 {
@@ -130,9 +129,9 @@ pub(super) fn repeat_one<S: StrDrive, A: Allocator>(
     place: usize,
     cursor: StringCursor,
 ) -> Result<Next, Refusal>
-    requires opcode { Opcode (run_of req.now).words place SreOpcode.REPEAT_ONE }
-    requires stands { HasRun (run_of req.now) (Instruction place) cursor }
-    ensures { IfOk result (λ next. Advances (run_of req.now) (Instruction place) cursor board.old next board.new) }
+    requires opcode { OpcodeAt req.now place SreOpcode.REPEAT_ONE }
+    requires stands { At req.now place cursor }
+    ensures { IfOk result (λ next. Turn req.now place cursor board.old next board.new) }
 {
     let skip = operand(req, place, 1) as usize;
     let least = operand(req, place, 2) as usize;

@@ -4,11 +4,12 @@
 
 ghost use Rattle.std.specs.Prelude.{⊤, ◌≡◌, ◌+◌, ◌<◌, ◌||◌, nat_eq, nat_lt, IfOk, MatchOption};
 ghost use Rattle.sre_model.specs.Ways.{unlimited};
-ghost use Rattle.sre_model.specs.Grammar.{Opcode, skip};
+ghost use Rattle.sre_model.specs.Grammar.{skip};
 ghost use Rattle.sre_turns.specs.Board.{BoardValue};
 ghost use Rattle.sre_turns.specs.declared.Point.TheVariants.{Instruction, Longer};
 ghost use Rattle.sre_turns.specs.Machine.{HasRun, Advances, SkipsBoth};
-ghost use Rattle.sre_request.specs.Runs.{run_of};
+ghost use Rattle.sre_request.specs.Runs.{run_of, OpcodeAt};
+ghost use Rattle.sre_machine.specs.Turns.{At, Turn};
 
 use crate::machine::{choose, first_literal, lacks, operand, refuses};
 use sre_board::Board;
@@ -42,7 +43,7 @@ fn one_longer<S: StrDrive>(
     cursor: StringCursor,
 ) -> Option<StringCursor>
     requires tail { tail ≡ skip (run_of req.now).words (place + 1) }
-    requires opcode { Opcode (run_of req.now).words (place + 4) opcode }
+    requires opcode { OpcodeAt req.now (place + 4) opcode }
     requires stands { HasRun (run_of req.now) (Longer place count) cursor }
     ensures longer { MatchOption result
         ((b : BoardValue) → Advances (run_of req.now) (Longer place count) cursor b Next.Back b)
@@ -130,9 +131,9 @@ pub(super) fn min_repeat_one<S: StrDrive, A: Allocator>(
     place: usize,
     cursor: StringCursor,
 ) -> Result<Next, Refusal>
-    requires opcode { Opcode (run_of req.now).words place SreOpcode.MIN_REPEAT_ONE }
-    requires stands { HasRun (run_of req.now) (Instruction place) cursor }
-    ensures { IfOk result (λ next. Advances (run_of req.now) (Instruction place) cursor board.old next board.new) }
+    requires opcode { OpcodeAt req.now place SreOpcode.MIN_REPEAT_ONE }
+    requires stands { At req.now place cursor }
+    ensures { IfOk result (λ next. Turn req.now place cursor board.old next board.new) }
 {
     let skip = operand(req, place, 1) as usize;
     let least = operand(req, place, 2) as usize;

@@ -6,11 +6,11 @@
 
 ghost use Rattle.std.specs.Prelude.{◌≡◌, ◌+◌, IfOk};
 ghost use Rattle.sre_model.specs.Ways.{may_repeat};
-ghost use Rattle.sre_model.specs.Grammar.{Opcode};
 ghost use Rattle.sre_turns.specs.declared.Point.TheVariants.{Instruction};
 ghost use Rattle.sre_turns.specs.MovesInLoops.{next_frame};
-ghost use Rattle.sre_turns.specs.Machine.{IsAt, Advances, with_loop};
-ghost use Rattle.sre_request.specs.Runs.{run_of};
+ghost use Rattle.sre_turns.specs.Machine.{IsAt, with_loop};
+ghost use Rattle.sre_request.specs.Runs.{run_of, OpcodeAt};
+ghost use Rattle.sre_machine.specs.Turns.{Turn};
 
 use crate::machine::{opcode, operand, refuses};
 use sre_board::Board;
@@ -53,9 +53,9 @@ pub(super) fn repeat<S: StrDrive, A: Allocator>(
     place: usize,
     cursor: StringCursor,
 ) -> Result<Next, Refusal>
-    requires opcode { Opcode (run_of req.now).words place SreOpcode.REPEAT }
+    requires opcode { OpcodeAt req.now place SreOpcode.REPEAT }
     requires stands { IsAt (run_of req.now) (Instruction place) cursor board.old }
-    ensures { IfOk result (λ next. Advances (run_of req.now) (Instruction place) cursor board.old next board.new) }
+    ensures { IfOk result (λ next. Turn req.now place cursor board.old next board.new) }
 {
     let skip = operand(req, place, 1);
     let end = place + 1 + skip as usize;
@@ -82,10 +82,10 @@ fn further<S: StrDrive, A: Allocator>(
     frame: Frame,
     cursor: StringCursor,
 ) -> Result<Next, Refusal>
-    requires opcode { Opcode (run_of req.now).words place SreOpcode.MAX_UNTIL }
+    requires opcode { OpcodeAt req.now place SreOpcode.MAX_UNTIL }
     requires stands { IsAt (run_of req.now) (Instruction place) cursor (with_loop frame board.old) }
     ensures { IfOk result
-        (λ next. Advances (run_of req.now) (Instruction place) cursor (with_loop frame board.old) next board.new) }
+        (λ next. Turn req.now place cursor (with_loop frame board.old) next board.new) }
 {
     let _opcode = operand(req, place, 0);
     let least = operand(req, frame.repeat, 2);
@@ -119,9 +119,9 @@ pub(super) fn max_until<S: StrDrive, A: Allocator>(
     place: usize,
     cursor: StringCursor,
 ) -> Result<Next, Refusal>
-    requires opcode { Opcode (run_of req.now).words place SreOpcode.MAX_UNTIL }
+    requires opcode { OpcodeAt req.now place SreOpcode.MAX_UNTIL }
     requires stands { IsAt (run_of req.now) (Instruction place) cursor board.old }
-    ensures { IfOk result (λ next. Advances (run_of req.now) (Instruction place) cursor board.old next board.new) }
+    ensures { IfOk result (λ next. Turn req.now place cursor board.old next board.new) }
 {
     let frame = board.top();
     board.leave();
@@ -136,9 +136,9 @@ pub(super) fn min_until<S: StrDrive, A: Allocator>(
     place: usize,
     cursor: StringCursor,
 ) -> Result<Next, Refusal>
-    requires opcode { Opcode (run_of req.now).words place SreOpcode.MIN_UNTIL }
+    requires opcode { OpcodeAt req.now place SreOpcode.MIN_UNTIL }
     requires stands { IsAt (run_of req.now) (Instruction place) cursor board.old }
-    ensures { IfOk result (λ next. Advances (run_of req.now) (Instruction place) cursor board.old next board.new) }
+    ensures { IfOk result (λ next. Turn req.now place cursor board.old next board.new) }
 {
     let _opcode = operand(req, place, 0);
     let frame = board.top();

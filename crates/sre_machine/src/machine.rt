@@ -6,15 +6,15 @@
 
 ghost use Rattle.std.specs.Prelude.{◌≡◌, ℕ, ◌+◌, ◌^◌, ◌<◌, [], List, length, IfOk, MatchOption, true};
 ghost use Rattle.sre_model.specs.Ways.{Way};
-ghost use Rattle.sre_model.specs.Grammar.{Word, word, Opcode};
+ghost use Rattle.sre_model.specs.Grammar.{Word, word};
 ghost use Rattle.sre_turns.specs.Board.{BoardValue};
 ghost use Rattle.sre_turns.specs.declared.Point.TheVariants.{Instruction};
 ghost use Rattle.sre_turns.specs.declared.Point.{Point};
-ghost use Rattle.sre_turns.specs.Machine.{HasRun, IsAt, IsBack, Advances, Chooses, Retreats, Refuses, DemandsAny};
+ghost use Rattle.sre_turns.specs.Machine.{IsAt, IsBack, Chooses, Retreats, Refuses, DemandsAny};
 ghost use Rattle.sre_turns.specs.Machine.{Stands};
-ghost use Rattle.sre_model.specs.Standing.{HasTest};
 ghost use Rattle.sre_model.specs.Roles.{begins_test};
-ghost use Rattle.sre_request.specs.Runs.{run_of};
+ghost use Rattle.sre_request.specs.Runs.{run_of, OpcodeAt, Standing};
+ghost use Rattle.sre_machine.specs.Turns.{At, Turn};
 
 use crate::branches::{alternatives, branch};
 use crate::greedy_runs::{repeat_one, shorter_saved};
@@ -64,8 +64,8 @@ pub(super) fn opcode<S: StrDrive>(
     place: usize,
     cursor: StringCursor,
 ) -> SreOpcode
-    requires { HasRun (run_of req.now) (Instruction place) cursor }
-    ensures code { Opcode (run_of req.now).words place result }
+    requires { At req.now place cursor }
+    ensures code { OpcodeAt req.now place result }
     ensures room { place + 2 ^ 33 < 2 ^ 64 }
 {
     match SreOpcode::try_from(word_at(req, place)) {
@@ -82,10 +82,10 @@ fn test<S: StrDrive>(
     place: usize,
     cursor: StringCursor,
 ) -> Next
-    requires opcode { Opcode (run_of req.now).words place opcode }
+    requires opcode { OpcodeAt req.now place opcode }
     requires tests { begins_test opcode ≡ true }
-    requires stands { HasRun (run_of req.now) (Instruction place) cursor }
-    ensures { (b : BoardValue) → Advances (run_of req.now) (Instruction place) cursor b result b }
+    requires stands { At req.now place cursor }
+    ensures { (b : BoardValue) → Turn req.now place cursor b result b }
 {
     if cursor.position() >= req.end() {
         return Next::Back;
@@ -106,10 +106,10 @@ fn seldom_test<S: StrDrive>(
     place: usize,
     cursor: StringCursor,
 ) -> Next
-    requires opcode { Opcode (run_of req.now).words place opcode }
+    requires opcode { OpcodeAt req.now place opcode }
     requires tests { begins_test opcode ≡ true }
-    requires stands { HasRun (run_of req.now) (Instruction place) cursor }
-    ensures { (b : BoardValue) → Advances (run_of req.now) (Instruction place) cursor b result b }
+    requires stands { At req.now place cursor }
+    ensures { (b : BoardValue) → Turn req.now place cursor b result b }
 {
     if cursor.position() >= req.end() {
         Next::Back
@@ -126,9 +126,9 @@ fn seldom_test<S: StrDrive>(
 /// `AT code`: goes on where the cursor stands as the code asks.
 #[inline(always)]
 fn at<S: StrDrive>(req: &Request<'_, S>, place: usize, cursor: StringCursor) -> Next
-    requires opcode { Opcode (run_of req.now).words place SreOpcode.AT }
-    requires stands { HasRun (run_of req.now) (Instruction place) cursor }
-    ensures { (b : BoardValue) → Advances (run_of req.now) (Instruction place) cursor b result b }
+    requires opcode { OpcodeAt req.now place SreOpcode.AT }
+    requires stands { At req.now place cursor }
+    ensures { (b : BoardValue) → Turn req.now place cursor b result b }
 {
     match SreAtCode::try_from(operand(req, place, 1)) {
         Ok(code) => {
@@ -150,9 +150,9 @@ fn mark<S: StrDrive, A: Allocator>(
     place: usize,
     cursor: StringCursor,
 ) -> Result<Next, Refusal>
-    requires opcode { Opcode (run_of req.now).words place SreOpcode.MARK }
-    requires stands { HasRun (run_of req.now) (Instruction place) cursor }
-    ensures { IfOk result (λ next. Advances (run_of req.now) (Instruction place) cursor board.old next board.new) }
+    requires opcode { OpcodeAt req.now place SreOpcode.MARK }
+    requires stands { At req.now place cursor }
+    ensures { IfOk result (λ next. Turn req.now place cursor board.old next board.new) }
 {
     let n = operand(req, place, 1);
     board.set(n, cursor.position())?;
@@ -162,9 +162,9 @@ fn mark<S: StrDrive, A: Allocator>(
 /// `JUMP skip`: goes on where the skip leads.
 #[inline(always)]
 fn jump<S: StrDrive>(req: &Request<'_, S>, place: usize, cursor: StringCursor) -> Next
-    requires opcode { Opcode (run_of req.now).words place SreOpcode.JUMP }
-    requires stands { HasRun (run_of req.now) (Instruction place) cursor }
-    ensures { (b : BoardValue) → Advances (run_of req.now) (Instruction place) cursor b result b }
+    requires opcode { OpcodeAt req.now place SreOpcode.JUMP }
+    requires stands { At req.now place cursor }
+    ensures { (b : BoardValue) → Turn req.now place cursor b result b }
 {
     let skip = operand(req, place, 1);
     Next::At(place + 1 + skip as usize, cursor)
@@ -177,7 +177,7 @@ pub(super) fn first_literal<S: StrDrive>(
     start: usize,
     cursor: StringCursor,
 ) -> Option<u32>
-    requires { HasRun (run_of req.now) (Instruction start) cursor }
+    requires { At req.now start cursor }
     ensures { DemandsAny (run_of req.now) start result }
 {
     let mut place = start;
@@ -200,7 +200,7 @@ pub(super) fn lacks<S: StrDrive>(
     wanted: Option<u32>,
     cursor: StringCursor,
 ) -> bool
-    requires { (run_of req.now).stands cursor cursor.position }
+    requires { Standing req.now cursor }
     ensures { result ≡ true
         → (i : ℕ) → DemandsAny (run_of req.now) i wanted → Refuses (run_of req.now) i cursor.position }
 {
@@ -220,7 +220,7 @@ pub(super) fn lacks<S: StrDrive>(
 // Whether nothing can come of standing at an instruction, as the next character tells.
 #[inline(always)]
 pub(super) fn refuses<S: StrDrive>(req: &Request<'_, S>, place: usize, cursor: StringCursor) -> bool
-    requires { HasRun (run_of req.now) (Instruction place) cursor }
+    requires { At req.now place cursor }
     ensures { result ≡ true → Refuses (run_of req.now) place cursor.position }
 {
     let wanted = first_literal(req, place, cursor);
@@ -278,7 +278,7 @@ pub(super) fn instruction<S: StrDrive, A: Allocator>(
     cursor: StringCursor,
 ) -> Result<Next, Refusal>
     requires { IsAt (run_of req.now) (Instruction place) cursor board.old }
-    ensures { IfOk result (λ next. Advances (run_of req.now) (Instruction place) cursor board.old next board.new) }
+    ensures { IfOk result (λ next. Turn req.now place cursor board.old next board.new) }
 {
     let code = opcode(req, place, cursor);
     // An arm for each frequent test and each reference, so that each knows its own opcode.

@@ -4,10 +4,10 @@
 //! to an earlier body. The loop is counted on the board before a body begins, so that the body's end finds it counted.
 
 ghost use Rattle.std.specs.Prelude.{IfOk};
-ghost use Rattle.sre_model.specs.Grammar.{Opcode};
-ghost use Rattle.sre_turns.specs.declared.Point.TheVariants.{Instruction, Again};
-ghost use Rattle.sre_turns.specs.Machine.{HasRun, IsAt, Advances};
-ghost use Rattle.sre_request.specs.Runs.{run_of};
+ghost use Rattle.sre_turns.specs.declared.Point.TheVariants.{Again};
+ghost use Rattle.sre_turns.specs.Machine.{IsAt, Advances};
+ghost use Rattle.sre_request.specs.Runs.{run_of, OpcodeAt};
+ghost use Rattle.sre_machine.specs.Turns.{At, Turn};
 
 use crate::loops::{may_repeat, next_frame};
 use crate::machine::operand;
@@ -27,9 +27,9 @@ pub(super) fn possessive_repeat<S: StrDrive, A: Allocator>(
     place: usize,
     cursor: StringCursor,
 ) -> Result<Next, Refusal>
-    requires opcode { Opcode (run_of req.now).words place SreOpcode.POSSESSIVE_REPEAT }
-    requires stands { HasRun (run_of req.now) (Instruction place) cursor }
-    ensures { IfOk result (λ next. Advances (run_of req.now) (Instruction place) cursor board.old next board.new) }
+    requires opcode { OpcodeAt req.now place SreOpcode.POSSESSIVE_REPEAT }
+    requires stands { At req.now place cursor }
+    ensures { IfOk result (λ next. Turn req.now place cursor board.old next board.new) }
 {
     board.enter(Frame {
         repeat: place,

@@ -1,10 +1,7 @@
 //! `POSSESSIVE_REPEAT_ONE skip least greatest test SUCCESS`: the longest run alone.
-
-ghost use Rattle.sre_model.specs.Grammar.{Opcode};
 ghost use Rattle.sre_turns.specs.Board.{BoardValue};
-ghost use Rattle.sre_turns.specs.declared.Point.TheVariants.{Instruction};
-ghost use Rattle.sre_turns.specs.Machine.{HasRun, Advances};
-ghost use Rattle.sre_request.specs.Runs.{run_of};
+ghost use Rattle.sre_request.specs.Runs.{OpcodeAt};
+ghost use Rattle.sre_machine.specs.Turns.{At, Turn};
 
 use crate::machine::operand;
 use sre_chars::constants::SreOpcode;
@@ -20,9 +17,9 @@ pub(super) fn possessive_repeat_one<S: StrDrive>(
     place: usize,
     cursor: StringCursor,
 ) -> Next
-    requires opcode { Opcode (run_of req.now).words place SreOpcode.POSSESSIVE_REPEAT_ONE }
-    requires stands { HasRun (run_of req.now) (Instruction place) cursor }
-    ensures { (b : BoardValue) → Advances (run_of req.now) (Instruction place) cursor b result b }
+    requires opcode { OpcodeAt req.now place SreOpcode.POSSESSIVE_REPEAT_ONE }
+    requires stands { At req.now place cursor }
+    ensures { (b : BoardValue) → Turn req.now place cursor b result b }
 {
     let skip = operand(req, place, 1) as usize;
     let least = operand(req, place, 2) as usize;

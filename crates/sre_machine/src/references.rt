@@ -2,11 +2,11 @@
 //! `GROUPREF_EXISTS group skip`.
 
 ghost use Rattle.std.specs.Prelude.{◌≡◌, ◌+◌, nat_le};
-ghost use Rattle.sre_model.specs.Grammar.{Opcode};
 ghost use Rattle.sre_turns.specs.declared.Point.TheVariants.{Instruction};
 ghost use Rattle.sre_model.specs.Roles.{ToRefer, role};
-ghost use Rattle.sre_turns.specs.Machine.{HasRun, IsAt, Advances};
-ghost use Rattle.sre_request.specs.Runs.{run_of};
+ghost use Rattle.sre_turns.specs.Machine.{IsAt};
+ghost use Rattle.sre_request.specs.Runs.{run_of, OpcodeAt};
+ghost use Rattle.sre_machine.specs.Turns.{At, Turn};
 
 use crate::machine::operand;
 use sre_board::Board;
@@ -35,10 +35,10 @@ pub(super) fn reference<S: StrDrive, A: Allocator>(
     place: usize,
     cursor: StringCursor,
 ) -> Next
-    requires opcode { Opcode (run_of req.now).words place opcode }
+    requires opcode { OpcodeAt req.now place opcode }
     requires refers { role opcode ≡ ToRefer }
     requires stands { IsAt (run_of req.now) (Instruction place) cursor board.now }
-    ensures { Advances (run_of req.now) (Instruction place) cursor board.now result board.now }
+    ensures { Turn req.now place cursor board.now result board.now }
 {
     let number = operand(req, place, 1);
     let Some((start, end)) = board.group(number) else {
@@ -64,9 +64,9 @@ pub(super) fn condition<S: StrDrive, A: Allocator>(
     place: usize,
     cursor: StringCursor,
 ) -> Next
-    requires opcode { Opcode (run_of req.now).words place SreOpcode.GROUPREF_EXISTS }
-    requires stands { HasRun (run_of req.now) (Instruction place) cursor }
-    ensures { Advances (run_of req.now) (Instruction place) cursor board.now result board.now }
+    requires opcode { OpcodeAt req.now place SreOpcode.GROUPREF_EXISTS }
+    requires stands { At req.now place cursor }
+    ensures { Turn req.now place cursor board.now result board.now }
 {
     let number = operand(req, place, 1);
     let skip = operand(req, place, 2);

@@ -4,11 +4,10 @@
 //! the first: so the choices inside it go as soon as the body ends.
 
 ghost use Rattle.std.specs.Prelude.{◌≡◌, ◌-◌, [], IfOk, MatchOption};
-ghost use Rattle.sre_model.specs.Grammar.{Opcode};
 ghost use Rattle.sre_turns.specs.Board.{from_region};
-ghost use Rattle.sre_turns.specs.declared.Point.TheVariants.{Instruction};
-ghost use Rattle.sre_turns.specs.Machine.{HasRun, Advances, Closes, after_outcome, without_outcome, without_loop};
-ghost use Rattle.sre_request.specs.Runs.{run_of};
+ghost use Rattle.sre_turns.specs.Machine.{Closes, after_outcome, without_outcome, without_loop};
+ghost use Rattle.sre_request.specs.Runs.{run_of, OpcodeAt};
+ghost use Rattle.sre_machine.specs.Turns.{At, Turn};
 
 use crate::machine::operand;
 use sre_board::Board;
@@ -28,9 +27,9 @@ pub(super) fn atomic_group<S: StrDrive, A: Allocator>(
     place: usize,
     cursor: StringCursor,
 ) -> Result<Next, Refusal>
-    requires opcode { Opcode (run_of req.now).words place SreOpcode.ATOMIC_GROUP }
-    requires stands { HasRun (run_of req.now) (Instruction place) cursor }
-    ensures { IfOk result (λ next. Advances (run_of req.now) (Instruction place) cursor board.old next board.new) }
+    requires opcode { OpcodeAt req.now place SreOpcode.ATOMIC_GROUP }
+    requires stands { At req.now place cursor }
+    ensures { IfOk result (λ next. Turn req.now place cursor board.old next board.new) }
 {
     let skip = operand(req, place, 1);
     board.save(
@@ -48,9 +47,9 @@ pub(super) fn assert<S: StrDrive, A: Allocator>(
     place: usize,
     cursor: StringCursor,
 ) -> Result<Next, Refusal>
-    requires opcode { Opcode (run_of req.now).words place SreOpcode.ASSERT }
-    requires stands { HasRun (run_of req.now) (Instruction place) cursor }
-    ensures { IfOk result (λ next. Advances (run_of req.now) (Instruction place) cursor board.old next board.new) }
+    requires opcode { OpcodeAt req.now place SreOpcode.ASSERT }
+    requires stands { At req.now place cursor }
+    ensures { IfOk result (λ next. Turn req.now place cursor board.old next board.new) }
 {
     let skip = operand(req, place, 1);
     let back = operand(req, place, 2) as usize;
@@ -72,9 +71,9 @@ pub(super) fn assert_not<S: StrDrive, A: Allocator>(
     place: usize,
     cursor: StringCursor,
 ) -> Result<Next, Refusal>
-    requires opcode { Opcode (run_of req.now).words place SreOpcode.ASSERT_NOT }
-    requires stands { HasRun (run_of req.now) (Instruction place) cursor }
-    ensures { IfOk result (λ next. Advances (run_of req.now) (Instruction place) cursor board.old next board.new) }
+    requires opcode { OpcodeAt req.now place SreOpcode.ASSERT_NOT }
+    requires stands { At req.now place cursor }
+    ensures { IfOk result (λ next. Turn req.now place cursor board.old next board.new) }
 {
     let skip = operand(req, place, 1);
     let back = operand(req, place, 2) as usize;

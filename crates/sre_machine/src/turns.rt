@@ -9,7 +9,7 @@ ghost use Rattle.sre_model.specs.Prefixes.{behind_items, ReadsBehind};
 ghost use Rattle.sre_turns.specs.Board.{bare};
 ghost use Rattle.sre_turns.specs.Machine.{Stands, SaysAccepted, Decides, outcomes};
 ghost use Rattle.sre_request.specs.Requests.{end_of};
-ghost use Rattle.sre_request.specs.Runs.{run_of};
+ghost use Rattle.sre_request.specs.Runs.{run_of, Standing};
 
 use crate::machine::{back, instruction};
 use crate::possessive_loops::again;
@@ -139,7 +139,7 @@ pub fn run_behind<S: StrDrive, A: Allocator>(
     start: StringCursor,
     board: &mut Board<A>,
 ) -> Result<Option<StringCursor>, Refusal>
-    requires stands { (run_of req.now).stands start start.position }
+    requires stands { Standing req.now start }
     requires inside { start.position ≤ end_of req.now }
     requires fresh { board.old ≡ bare no_marks }
     requires behind { (t : Tree) → WholeItems (run_of req.now).words t → ReadsBehind (run_of req.now).words literals t }

@@ -5,9 +5,8 @@
 ghost use Rattle.std.specs.Prelude.{◌≡◌, ℕ, List};
 ghost use Rattle.sre_model.specs.Tree.{Test, Locale, SetItem};
 ghost use Rattle.sre_model.specs.Characters.{is_literal, in_set, holds};
-ghost use Rattle.sre_model.specs.Grammar.{Opcode};
-ghost use Rattle.sre_model.specs.Standing.{SetStands, HasSet, TestStands, HasTest};
-ghost use Rattle.sre_request.specs.Runs.{run_of};
+ghost use Rattle.sre_model.specs.Standing.{SetStands, HasSet, TestStands};
+ghost use Rattle.sre_request.specs.Runs.{run_of, OpcodeAt, TestAt};
 
 use sre_chars::constants::SreOpcode;
 use sre_chars::string::{StrDrive, UniTable, category, lower_ascii, lower_unicode, upper_ascii};
@@ -38,8 +37,8 @@ fn takes_a_case(words: &[u32], uni: &UniTable, place: usize, character: u32) -> 
 /// The opcode of the test at a place.
 #[inline(always)]
 pub fn opcode<S: StrDrive>(req: &Request<'_, S>, place: usize) -> SreOpcode
-    requires { HasTest (run_of req.now).words place }
-    ensures { Opcode (run_of req.now).words place result }
+    requires { TestAt req.now place }
+    ensures { OpcodeAt req.now place result }
 {
     match SreOpcode::try_from(word(req.pattern_codes().items(), place)) {
         Ok(opcode) => opcode,
@@ -55,8 +54,8 @@ pub fn takes<S: StrDrive>(
     opcode: SreOpcode,
     character: u32,
 ) -> bool
-    requires code { Opcode (run_of req.now).words place opcode }
-    requires stands { HasTest (run_of req.now).words place }
+    requires code { OpcodeAt req.now place opcode }
+    requires stands { TestAt req.now place }
     ensures { (j : ℕ) (t : Test) → TestStands (run_of req.now).words place j t
         → result ≡ holds (run_of req.now).subject.table t character }
 {
@@ -100,8 +99,8 @@ pub fn takes_seldom<S: StrDrive>(
     opcode: SreOpcode,
     character: u32,
 ) -> bool
-    requires code { Opcode (run_of req.now).words place opcode }
-    requires stands { HasTest (run_of req.now).words place }
+    requires code { OpcodeAt req.now place opcode }
+    requires stands { TestAt req.now place }
     ensures { (j : ℕ) (t : Test) → TestStands (run_of req.now).words place j t
         → result ≡ holds (run_of req.now).subject.table t character }
 {
@@ -111,8 +110,8 @@ pub fn takes_seldom<S: StrDrive>(
 /// Where the words of the test whose opcode is at a place end.
 #[inline(always)]
 pub fn test_end<S: StrDrive>(req: &Request<'_, S>, place: usize, opcode: SreOpcode) -> usize
-    requires code { Opcode (run_of req.now).words place opcode }
-    requires stands { HasTest (run_of req.now).words place }
+    requires code { OpcodeAt req.now place opcode }
+    requires stands { TestAt req.now place }
     ensures { (j : ℕ) (t : Test) → TestStands (run_of req.now).words place j t → result ≡ j }
 {
     let words = req.pattern_codes().items();

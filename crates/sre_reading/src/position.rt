@@ -7,7 +7,7 @@ ghost use Rattle.sre_chars.specs.Numbers.{category_number};
 ghost use Rattle.sre_chars.specs.Categories.{category, is_linebreak};
 ghost use Rattle.sre_model.specs.Subject.{before, after, is_on_nothing, bars_non_boundary, is_boundary, holds_at};
 ghost use Rattle.sre_request.specs.Requests.{end_of};
-ghost use Rattle.sre_request.specs.Runs.{run_of};
+ghost use Rattle.sre_request.specs.Runs.{run_of, Standing};
 
 use sre_chars::constants::{EmptyRule, SreAtCode, SreCatCode};
 use sre_chars::string::{StrDrive, StringCursor, UniTable, category};
@@ -28,7 +28,7 @@ fn is_in(uni: &UniTable, code: SreCatCode, character: u32) -> bool
 // Whether the character before a cursor is in a category; none is before the text's start.
 #[inline(always)]
 fn is_behind<S: StrDrive>(req: &Request<'_, S>, code: SreCatCode, cursor: StringCursor) -> bool
-    requires { (run_of req.now).stands cursor cursor.position }
+    requires { Standing req.now cursor }
     ensures { result ≡ before (run_of req.now).subject (category (run_of req.now).subject.table (category_number code))
         cursor.position }
 {
@@ -42,7 +42,7 @@ fn is_behind<S: StrDrive>(req: &Request<'_, S>, code: SreCatCode, cursor: String
 // Whether the character at a cursor is in a category; none is at the window's end.
 #[inline(always)]
 fn is_ahead<S: StrDrive>(req: &Request<'_, S>, code: SreCatCode, cursor: StringCursor) -> bool
-    requires { (run_of req.now).stands cursor cursor.position }
+    requires { Standing req.now cursor }
     ensures { result ≡ after (run_of req.now).subject (category (run_of req.now).subject.table (category_number code))
         cursor.position }
 {
@@ -56,9 +56,10 @@ fn is_ahead<S: StrDrive>(req: &Request<'_, S>, code: SreCatCode, cursor: StringC
 // Whether a linebreak at a cursor is the window's last character.
 #[inline(always)]
 fn is_last_linebreak<S: StrDrive>(req: &Request<'_, S>, cursor: StringCursor) -> bool
-    requires { (run_of req.now).stands cursor cursor.position }
+    requires { Standing req.now cursor }
     ensures { result
-        ≡ (nat_eq (cursor.position + 1) (end_of req.now) && after (run_of req.now).subject is_linebreak cursor.position) }
+        ≡ (nat_eq (cursor.position + 1) (end_of req.now)
+        && after (run_of req.now).subject is_linebreak cursor.position) }
 {
     let position = cursor.position();
     position < req.end()
@@ -86,7 +87,7 @@ fn bars_non_boundary<S: StrDrive>(req: &Request<'_, S>, cursor: StringCursor) ->
 // is one function, which is inlined in its loop only while it is small.
 #[inline(never)]
 fn is_boundary<S: StrDrive>(req: &Request<'_, S>, word: SreCatCode, cursor: StringCursor) -> bool
-    requires { (run_of req.now).stands cursor cursor.position }
+    requires { Standing req.now cursor }
     ensures { result ≡ is_boundary (run_of req.now).subject
         (category (run_of req.now).subject.table (category_number word)) cursor.position }
 {
@@ -96,7 +97,7 @@ fn is_boundary<S: StrDrive>(req: &Request<'_, S>, word: SreCatCode, cursor: Stri
 /// Whether a cursor stands where a code asks for.
 #[inline(always)]
 pub fn holds_at<S: StrDrive>(req: &Request<'_, S>, code: SreAtCode, cursor: StringCursor) -> bool
-    requires { (run_of req.now).stands cursor cursor.position }
+    requires { Standing req.now cursor }
     ensures { result ≡ holds_at (run_of req.now).subject code cursor.position }
 {
     let position = cursor.position();

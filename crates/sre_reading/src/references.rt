@@ -9,7 +9,7 @@ ghost use Rattle.sre_model.specs.Subject.{same_folded};
 ghost use Rattle.sre_model.specs.Grammar.{reference_opcode};
 ghost use Rattle.sre_model.specs.Roles.{ToRefer, role};
 ghost use Rattle.sre_request.specs.Requests.{end_of};
-ghost use Rattle.sre_request.specs.Runs.{run_of};
+ghost use Rattle.sre_request.specs.Runs.{run_of, Standing};
 
 use crate::text::{read, read_in_text};
 use sre_chars::constants::SreOpcode;
@@ -41,14 +41,14 @@ fn is_repeated_folded<S: StrDrive>(
     count: usize,
 ) -> Option<StringCursor>
     requires opcode { role opcode ≡ ToRefer }
-    requires group { (run_of req.now).stands start start.position }
-    requires stands { (run_of req.now).stands cursor cursor.position }
+    requires group { Standing req.now start }
+    requires stands { Standing req.now cursor }
     requires in_text { start.position + count ≤ length (run_of req.now).subject.text }
     requires in_window { cursor.position + count ≤ end_of req.now }
     ensures repeated { (fold : Fold) → opcode ≡ reference_opcode fold
         → is_some result ≡ same_folded (run_of req.now).subject fold count start.position cursor.position }
     ensures position { IfSome result (λ behind. behind.position ≡ cursor.position + count) }
-    ensures stands { IfSome result (λ behind. (run_of req.now).stands behind behind.position) }
+    ensures stands { IfSome result (λ behind. Standing req.now behind) }
 {
     let uni = req.pattern_codes().uni();
     let mut of_group = start;
@@ -77,14 +77,14 @@ pub fn is_repeated<S: StrDrive>(
     count: usize,
 ) -> Option<StringCursor>
     requires opcode { role opcode ≡ ToRefer }
-    requires group { (run_of req.now).stands start start.position }
-    requires stands { (run_of req.now).stands cursor cursor.position }
+    requires group { Standing req.now start }
+    requires stands { Standing req.now cursor }
     requires in_text { start.position + count ≤ length (run_of req.now).subject.text }
     requires in_window { cursor.position + count ≤ end_of req.now }
     ensures repeated { (fold : Fold) → opcode ≡ reference_opcode fold
         → is_some result ≡ same_folded (run_of req.now).subject fold count start.position cursor.position }
     ensures position { IfSome result (λ behind. behind.position ≡ cursor.position + count) }
-    ensures stands { IfSome result (λ behind. (run_of req.now).stands behind behind.position) }
+    ensures stands { IfSome result (λ behind. Standing req.now behind) }
 {
     // An arm for each opcode, so that each loop knows its own.
     macro_rules! repeated_each {

@@ -13,10 +13,9 @@ ghost use Rattle.sre_code.specs.AsciiSet.{contains};
 ghost use Rattle.sre_model.specs.Subject.{passes};
 ghost use Rattle.sre_model.specs.CountedRuns.{Ended};
 ghost use Rattle.sre_model.specs.Ways.{most_from, run_length, longest_run};
-ghost use Rattle.sre_model.specs.Grammar.{Opcode};
-ghost use Rattle.sre_model.specs.Standing.{SetStands, TestStands, HasTest};
+ghost use Rattle.sre_model.specs.Standing.{SetStands, TestStands};
 ghost use Rattle.sre_request.specs.Requests.{end_of};
-ghost use Rattle.sre_request.specs.Runs.{run_of};
+ghost use Rattle.sre_request.specs.Runs.{run_of, OpcodeAt, Standing, TestAt};
 ghost use Rattle.sre_reading.specs.AsciiSets.{IsAsciiPart};
 
 use crate::one_character::{opcode, takes};
@@ -50,11 +49,11 @@ fn run_any<S: StrDrive, const WANTED: bool>(
     most: usize,
     start: StringCursor,
 ) -> (usize, StringCursor)
-    requires stands { (run_of req.now).stands start start.position }
+    requires stands { Standing req.now start }
     requires most { most ≤ end_of req.now - start.position }
     ensures count { result.0 ≡ cond WANTED most 0 }
     ensures position { result.1.position ≡ start.position + result.0 }
-    ensures stands { (run_of req.now).stands result.1 result.1.position }
+    ensures stands { Standing req.now result.1 }
 {
     if !WANTED {
         return (0, start);
@@ -74,9 +73,9 @@ fn run_tested<S: StrDrive, const WANTED: bool>(
     most: usize,
     start: StringCursor,
 ) -> (usize, StringCursor)
-    requires code { Opcode (run_of req.now).words place opcode }
-    requires test { HasTest (run_of req.now).words place }
-    requires stands { (run_of req.now).stands start start.position }
+    requires code { OpcodeAt req.now place opcode }
+    requires test { TestAt req.now place }
+    requires stands { Standing req.now start }
     requires most { most ≤ end_of req.now - start.position }
     ensures { Ended (run_of req.now) place WANTED most start result.1 result.0 }
 {
@@ -200,7 +199,7 @@ fn run_while<S: StrDrive, T: Taker, const WANTED: bool>(
     requires fits { T.fits taker.now }
     requires taker { (j c : ℕ) (taken : Bool) (t : Test) → TestStands (run_of req.now).words place j t
         → T.says taker.now c taken → taken ≡ holds (run_of req.now).subject.table t c }
-    requires stands { (run_of req.now).stands start start.position }
+    requires stands { Standing req.now start }
     requires most { most ≤ end_of req.now - start.position }
     ensures { Ended (run_of req.now) place WANTED most start result.1 result.0 }
 {
@@ -225,9 +224,9 @@ fn run_in_items<S: StrDrive, const WANTED: bool>(
     most: usize,
     start: StringCursor,
 ) -> (usize, StringCursor)
-    requires code { Opcode (run_of req.now).words place SreOpcode.IN }
-    requires test { HasTest (run_of req.now).words place }
-    requires stands { (run_of req.now).stands start start.position }
+    requires code { OpcodeAt req.now place SreOpcode.IN }
+    requires test { TestAt req.now place }
+    requires stands { Standing req.now start }
     requires most { most ≤ end_of req.now - start.position }
     ensures { Ended (run_of req.now) place WANTED most start result.1 result.0 }
 {
@@ -254,9 +253,9 @@ fn run_in_set<S: StrDrive, const WANTED: bool>(
     most: usize,
     start: StringCursor,
 ) -> (usize, StringCursor)
-    requires code { Opcode (run_of req.now).words place SreOpcode.IN }
-    requires test { HasTest (run_of req.now).words place }
-    requires stands { (run_of req.now).stands start start.position }
+    requires code { OpcodeAt req.now place SreOpcode.IN }
+    requires test { TestAt req.now place }
+    requires stands { Standing req.now start }
     requires most { most ≤ end_of req.now - start.position }
     ensures { Ended (run_of req.now) place WANTED most start result.1 result.0 }
 {
@@ -295,8 +294,8 @@ fn run_wanted<S: StrDrive, const WANTED: bool>(
     most: usize,
     start: StringCursor,
 ) -> (usize, StringCursor)
-    requires test { HasTest (run_of req.now).words place }
-    requires stands { (run_of req.now).stands start start.position }
+    requires test { TestAt req.now place }
+    requires stands { Standing req.now start }
     requires most { most ≤ end_of req.now - start.position }
     ensures { Ended (run_of req.now) place WANTED most start result.1 result.0 }
 {
@@ -330,13 +329,13 @@ pub fn run_up_to<S: StrDrive>(
     most: usize,
     start: StringCursor,
 ) -> (usize, StringCursor)
-    requires test { HasTest (run_of req.now).words place }
-    requires stands { (run_of req.now).stands start start.position }
+    requires test { TestAt req.now place }
+    requires stands { Standing req.now start }
     requires most { most ≤ end_of req.now - start.position }
     ensures count { (j : ℕ) (t : Test) → TestStands (run_of req.now).words place j t
         → result.0 ≡ run_length (run_of req.now).subject t most start.position }
     ensures position { result.1.position ≡ start.position + result.0 }
-    ensures stands { (run_of req.now).stands result.1 result.1.position }
+    ensures stands { Standing req.now result.1 }
 {
     run_wanted::<S, true>(req, place, most, start)
 }
@@ -349,12 +348,12 @@ pub fn longest_run<S: StrDrive>(
     high: u32,
     start: StringCursor,
 ) -> (usize, StringCursor)
-    requires test { HasTest (run_of req.now).words place }
-    requires stands { (run_of req.now).stands start start.position }
+    requires test { TestAt req.now place }
+    requires stands { Standing req.now start }
     ensures count { (j : ℕ) (t : Test) → TestStands (run_of req.now).words place j t
         → result.0 ≡ longest_run (run_of req.now).subject t high start.position }
     ensures position { result.1.position ≡ start.position + result.0 }
-    ensures stands { (run_of req.now).stands result.1 result.1.position }
+    ensures stands { Standing req.now result.1 }
 {
     let most = most(req, high, start);
     run_up_to(req, place, most, start)
@@ -368,8 +367,8 @@ pub fn first_taken<S: StrDrive>(
     place: usize,
     start: StringCursor,
 ) -> StringCursor
-    requires test { HasTest (run_of req.now).words place }
-    requires stands { (run_of req.now).stands start start.position }
+    requires test { TestAt req.now place }
+    requires stands { Standing req.now start }
     requires inside { start.position ≤ end_of req.now }
     ensures passed { (j q : ℕ) (t : Test) → TestStands (run_of req.now).words place j t → start.position ≤ q
         → q < result.position → passes (run_of req.now).subject t q ≡ false }
@@ -378,7 +377,7 @@ pub fn first_taken<S: StrDrive>(
         → passes (run_of req.now).subject t result.position ≡ true }
     ensures from { start.position ≤ result.position }
     ensures inside { result.position ≤ end_of req.now }
-    ensures stands { (run_of req.now).stands result result.position }
+    ensures stands { Standing req.now result }
 {
     let left = req.end().saturating_sub(start.position());
     let found = run_wanted::<S, false>(req, place, left, start);

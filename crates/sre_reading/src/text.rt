@@ -3,7 +3,7 @@
 ghost use Rattle.std.specs.Prelude.{◌≡◌, ◌+◌, ◌-◌, ◌<◌, ◌≤◌, length};
 ghost use Rattle.sre_model.specs.Subject.{char_at};
 ghost use Rattle.sre_request.specs.Requests.{end_of};
-ghost use Rattle.sre_request.specs.Runs.{run_of};
+ghost use Rattle.sre_request.specs.Runs.{run_of, Standing};
 
 use sre_chars::string::{StrDrive, StringCursor};
 use sre_request::Request;
@@ -11,7 +11,7 @@ use sre_request::Request;
 /// The character at a cursor that stands before the window's end, and the cursor behind it.
 #[inline(always)]
 pub fn read<S: StrDrive>(req: &Request<'_, S>, cursor: StringCursor) -> (u32, StringCursor)
-    requires stands { (run_of req.now).stands cursor cursor.position }
+    requires stands { Standing req.now cursor }
     requires inside { cursor.position < end_of req.now }
     ensures character { result.0 ≡ char_at (run_of req.now).subject cursor.position }
     ensures position { result.1.position ≡ cursor.position + 1 }
@@ -23,7 +23,7 @@ pub fn read<S: StrDrive>(req: &Request<'_, S>, cursor: StringCursor) -> (u32, St
 /// The character at a cursor that stands before the text's end, inside the window or not, and the cursor behind it.
 #[inline(always)]
 pub fn read_in_text<S: StrDrive>(req: &Request<'_, S>, cursor: StringCursor) -> (u32, StringCursor)
-    requires stands { (run_of req.now).stands cursor cursor.position }
+    requires stands { Standing req.now cursor }
     requires inside { cursor.position < length (run_of req.now).subject.text }
     ensures character { result.0 ≡ char_at (run_of req.now).subject cursor.position }
     ensures position { result.1.position ≡ cursor.position + 1 }
@@ -37,11 +37,11 @@ pub fn read_in_text<S: StrDrive>(req: &Request<'_, S>, cursor: StringCursor) -> 
 /// The character before a cursor, and the cursor in front of it.
 #[inline(always)]
 pub fn read_back<S: StrDrive>(req: &Request<'_, S>, cursor: StringCursor) -> (u32, StringCursor)
-    requires stands { (run_of req.now).stands cursor cursor.position }
+    requires stands { Standing req.now cursor }
     requires past { 1 ≤ cursor.position }
     ensures position { cursor.position ≡ result.1.position + 1 }
     ensures character { result.0 ≡ char_at (run_of req.now).subject result.1.position }
-    ensures stands { (run_of req.now).stands result.1 result.1.position }
+    ensures stands { Standing req.now result.1 }
 {
     let mut before = cursor;
     let character = req.string().back_advance(&mut before);
@@ -51,10 +51,10 @@ pub fn read_back<S: StrDrive>(req: &Request<'_, S>, cursor: StringCursor) -> (u3
 /// The cursor one character back.
 #[inline(always)]
 pub fn back_one<S: StrDrive>(req: &Request<'_, S>, cursor: StringCursor) -> StringCursor
-    requires stands { (run_of req.now).stands cursor cursor.position }
+    requires stands { Standing req.now cursor }
     requires past { 1 ≤ cursor.position }
     ensures position { cursor.position ≡ result.position + 1 }
-    ensures stands { (run_of req.now).stands result result.position }
+    ensures stands { Standing req.now result }
 {
     let mut before = cursor;
     let _ = req.string().back_advance(&mut before);
@@ -68,10 +68,10 @@ pub fn back_by<S: StrDrive>(
     cursor: StringCursor,
     count: usize,
 ) -> StringCursor
-    requires stands { (run_of req.now).stands cursor cursor.position }
+    requires stands { Standing req.now cursor }
     requires past { count ≤ cursor.position }
     ensures position { result.position ≡ cursor.position - count }
-    ensures stands { (run_of req.now).stands result result.position }
+    ensures stands { Standing req.now result }
 {
     let mut before = cursor;
     req.string().back_skip(&mut before, count);
@@ -85,10 +85,10 @@ pub fn cursor_at<S: StrDrive>(
     cursor: StringCursor,
     position: usize,
 ) -> StringCursor
-    requires stands { (run_of req.now).stands cursor cursor.position }
+    requires stands { Standing req.now cursor }
     requires in_text { position ≤ length (run_of req.now).subject.text }
     ensures position { result.position ≡ position }
-    ensures stands { (run_of req.now).stands result result.position }
+    ensures stands { Standing req.now result }
 {
     let from = cursor.position();
     if position < from {

@@ -1,7 +1,12 @@
 -- The run of the machine for a request.
 -- Words of the machine's contracts; what sre_engine makes public does not rest on it.
+use Rattle.std.specs.Prelude.{ℕ}
+use Rattle.sre_chars.specs.declared.constants.SreOpcode.{SreOpcode}
 use Rattle.sre_chars.specs.declared.string.StrDrive.{Ghosts}
+use Rattle.sre_chars.specs.declared.string.StringCursor.{StringCursor}
 use Rattle.sre_model.specs.Found.{subject_of, is_accepted}
+use Rattle.sre_model.specs.Grammar.{Opcode}
+use Rattle.sre_model.specs.Standing.{HasTest}
 use Rattle.sre_model.specs.Runs.{Run}
 use Rattle.sre_code.specs.Codes.{items_of}
 use Rattle.sre_request.specs.declared.request.Request.{Request}
@@ -15,3 +20,14 @@ run_of r = record {
   stands = stands_in r;
   accepts = is_accepted (asked_of r);
 }
+
+-- a cursor stands at its own position of the text
+abbrev pub Standing : {S : Type 0} {text : Ghosts S} → Request S text → StringCursor → Type 0
+Standing r cursor = (run_of r).stands cursor cursor.position
+
+-- an opcode is at a place of the words; a test is
+abbrev pub OpcodeAt : {S : Type 0} {text : Ghosts S} → Request S text → ℕ → SreOpcode → Type 0
+OpcodeAt r place code = Opcode (run_of r).words place code
+
+abbrev pub TestAt : {S : Type 0} {text : Ghosts S} → Request S text → ℕ → Type 0
+TestAt r place = HasTest (run_of r).words place

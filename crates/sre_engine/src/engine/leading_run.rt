@@ -5,11 +5,11 @@
 
 ghost use Rattle.std.specs.Prelude.{◌≡◌, ◌+◌, ◌^◌, ◌<◌, ◌≤◌, length, IfSome, MatchOption, None};
 ghost use Rattle.sre_model.specs.Tree.{Tree};
-ghost use Rattle.sre_model.specs.Grammar.{Word, Opcode, WholeItems};
+ghost use Rattle.sre_model.specs.Grammar.{Word, WholeItems};
 ghost use Rattle.sre_model.specs.Found.{at_start};
 ghost use Rattle.sre_model.specs.LeadingRuns.{RunStands};
 ghost use Rattle.sre_request.specs.Requests.{end_of, asked_of};
-ghost use Rattle.sre_request.specs.Runs.{run_of};
+ghost use Rattle.sre_request.specs.Runs.{run_of, OpcodeAt, Standing};
 ghost use Rattle.sre_engine.specs.Starts.{NoneUntil};
 
 use crate::engine::first_characters::is_test;
@@ -34,7 +34,7 @@ pub(crate) struct LeadingRun {
 #[inline(always)]
 fn opcode_at<S: StrDrive>(req: &Request<'_, S>, place: usize) -> Option<SreOpcode>
     requires { place < length (run_of req.now).words }
-    ensures opcode { IfSome result (λ opcode. Opcode (run_of req.now).words place opcode) }
+    ensures opcode { IfSome result (λ opcode. OpcodeAt req.now place opcode) }
     ensures room { place + 2 ^ 33 < 2 ^ 64 }
 {
     SreOpcode::try_from(operands::word(req.pattern_codes().items(), place)).ok()
@@ -89,10 +89,10 @@ pub(crate) fn leading_run<S: StrDrive>(req: &Request<'_, S>) -> Option<LeadingRu
 // The cursor one character on, in the window.
 #[inline(always)]
 fn one_on<S: StrDrive>(req: &Request<'_, S>, start: StringCursor) -> Option<StringCursor>
-    requires stands { (run_of req.now).stands start start.position }
+    requires stands { Standing req.now start }
     ensures next { MatchOption result (end_of req.now ≤ start.position)
         (λ next. (next.position ≡ start.position + 1) × (next.position ≤ end_of req.now)) }
-    ensures stands { IfSome result (λ next. (run_of req.now).stands next next.position) }
+    ensures stands { IfSome result (λ next. Standing req.now next) }
 {
     if start.position() >= req.end() {
         return None;
@@ -106,12 +106,12 @@ fn behind_run<S: StrDrive>(
     lead: LeadingRun,
     start: StringCursor,
 ) -> Option<StringCursor>
-    requires stands { (run_of req.now).stands start start.position }
+    requires stands { Standing req.now start }
     requires inside { start.position ≤ end_of req.now }
     requires lead { (t : Tree) → WholeItems (run_of req.now).words t
         → RunStands (run_of req.now).words t lead.first lead.test }
     ensures next { IfSome result (λ next. (start.position < next.position) × (next.position ≤ end_of req.now)) }
-    ensures stands { IfSome result (λ next. (run_of req.now).stands next next.position) }
+    ensures stands { IfSome result (λ next. Standing req.now next) }
     ensures none { (t : Tree) → WholeItems (run_of req.now).words t
         → at_start (asked_of req.now) t start.position ≡ None
         → NoneUntil (asked_of req.now) t start.position result }
@@ -138,12 +138,12 @@ pub(crate) fn start_behind<S: StrDrive>(
     lead: Option<LeadingRun>,
     start: StringCursor,
 ) -> Option<StringCursor>
-    requires stands { (run_of req.now).stands start start.position }
+    requires stands { Standing req.now start }
     requires inside { start.position ≤ end_of req.now }
     requires lead { (t : Tree) → WholeItems (run_of req.now).words t
         → IfSome lead (λ run. RunStands (run_of req.now).words t run.first run.test) }
     ensures next { IfSome result (λ next. (start.position < next.position) × (next.position ≤ end_of req.now)) }
-    ensures stands { IfSome result (λ next. (run_of req.now).stands next next.position) }
+    ensures stands { IfSome result (λ next. Standing req.now next) }
     ensures none { (t : Tree) → WholeItems (run_of req.now).words t
         → at_start (asked_of req.now) t start.position ≡ None
         → NoneUntil (asked_of req.now) t start.position result }

@@ -6,7 +6,7 @@ ghost use Rattle.sre_model.specs.Characters.{is_member};
 ghost use Rattle.sre_code.specs.AsciiSets.{AreTold};
 ghost use Rattle.sre_code.specs.Codes.{words_of, uni_of, hints_of};
 ghost use Rattle.sre_request.specs.Requests.{end_of, code_of, asked_of};
-ghost use Rattle.sre_request.specs.Runs.{run_of};
+ghost use Rattle.sre_request.specs.Runs.{Standing};
 ghost use Rattle.sre_engine.specs.Members.{IsFirstSet, NextMember};
 
 use sre_chars::string::{StrDrive, StringCursor};
@@ -51,10 +51,10 @@ fn next_taken<S: StrDrive>(
 ) -> Option<StringCursor>
     requires set { (hints_of (code_of req.now)).first_set ≡ true }
     requires told { AreTold (words_of (code_of req.now)) 5 told }
-    requires stands { (run_of req.now).stands start start.position }
+    requires stands { Standing req.now start }
     requires inside { start.position ≤ end_of req.now }
     ensures next { NextMember (asked_of req.now) (words_of (code_of req.now)) start.position result }
-    ensures stands { IfSome result (λ next. (run_of req.now).stands next next.position) }
+    ensures stands { IfSome result (λ next. Standing req.now next) }
 {
     let mut cursor = start;
     'character: while cursor.position() < req.end() {
@@ -74,10 +74,10 @@ pub(crate) fn next_member<S: StrDrive>(
     start: StringCursor,
 ) -> Option<StringCursor>
     requires set { (hints_of (code_of req.now)).first_set ≡ true }
-    requires stands { (run_of req.now).stands start start.position }
+    requires stands { Standing req.now start }
     requires inside { start.position ≤ end_of req.now }
     ensures next { NextMember (asked_of req.now) (words_of (code_of req.now)) start.position result }
-    ensures stands { IfSome result (λ next. (run_of req.now).stands next next.position) }
+    ensures stands { IfSome result (λ next. Standing req.now next) }
 {
     if start.position() >= req.end() {
         return None;

@@ -2,7 +2,7 @@
 
 ghost use Rattle.std.specs.Prelude.{◌≡◌, ◌-◌, ◌≤◌};
 ghost use Rattle.sre_request.specs.Requests.{end_of};
-ghost use Rattle.sre_request.specs.Runs.{run_of};
+ghost use Rattle.sre_request.specs.Runs.{run_of, Standing};
 ghost use Rattle.sre_engine.specs.Starts.{TestsThere, WantedFrom, NextStart, NextHeld};
 
 use crate::engine::first_characters::{First, Wanted};
@@ -21,10 +21,10 @@ pub(super) fn looked_at<S: StrDrive>(
     cursor: StringCursor,
     back: usize,
 ) -> StringCursor
-    requires stands { (run_of req.now).stands cursor cursor.position }
+    requires stands { Standing req.now cursor }
     requires past { back ≤ cursor.position }
     ensures position { result.position ≡ cursor.position - back }
-    ensures stands { (run_of req.now).stands result result.position }
+    ensures stands { Standing req.now result }
 {
     if back == 0 {
         return cursor;
@@ -39,7 +39,7 @@ fn first_among<S: StrDrive>(
     characters: AsciiSet,
     start: StringCursor,
 ) -> StringCursor
-    requires stands { (run_of req.now).stands start start.position }
+    requires stands { Standing req.now start }
     requires inside { start.position ≤ end_of req.now }
     ensures { WantedFrom (run_of req.now) (Wanted.Characters characters) start result }
 {
@@ -62,7 +62,7 @@ fn first_wanted<S: StrDrive>(
     start: StringCursor,
 ) -> StringCursor
     requires test { TestsThere (run_of req.now).words wanted.now }
-    requires stands { (run_of req.now).stands start start.position }
+    requires stands { Standing req.now start }
     requires inside { start.position ≤ end_of req.now }
     ensures { WantedFrom (run_of req.now) wanted.now start result }
 {
@@ -81,7 +81,7 @@ fn next_wanted<S: StrDrive>(
     start: StringCursor,
 ) -> Option<StringCursor>
     requires test { TestsThere (run_of req.now).words first.now.wanted }
-    requires stands { (run_of req.now).stands start start.position }
+    requires stands { Standing req.now start }
     requires inside { start.position ≤ end_of req.now }
     ensures { NextStart (run_of req.now) first.now start.position result }
 {
@@ -115,7 +115,7 @@ fn next_wanted<S: StrDrive>(
 #[inline(always)]
 #[tactic(auto, using(crate::proofs::Starting::line_sought, crate::proofs::Starting::no_line_sought))]
 fn next_line<S: StrDrive>(req: &Request<'_, S>, cursor: StringCursor) -> Option<StringCursor>
-    requires stands { (run_of req.now).stands cursor cursor.position }
+    requires stands { Standing req.now cursor }
     requires inside { cursor.position ≤ end_of req.now }
     ensures { NextHeld (run_of req.now) SreAtCode.BEGINNING_LINE cursor.position result }
 {
@@ -133,7 +133,7 @@ fn next_held<S: StrDrive>(
     code: SreAtCode,
     cursor: StringCursor,
 ) -> Option<StringCursor>
-    requires { (run_of req.now).stands cursor cursor.position }
+    requires { Standing req.now cursor }
     ensures { NextHeld (run_of req.now) code cursor.position result }
 {
     if cursor.position() >= req.end() {
@@ -154,7 +154,7 @@ pub(crate) fn next_start<S: StrDrive>(
     start: StringCursor,
 ) -> Option<StringCursor>
     requires test { TestsThere (run_of req.now).words first.now.wanted }
-    requires stands { (run_of req.now).stands start start.position }
+    requires stands { Standing req.now start }
     requires inside { start.position ≤ end_of req.now }
     ensures { NextStart (run_of req.now) first.now start.position result }
 {

@@ -9,7 +9,7 @@ ghost use Rattle.std.specs.Prelude.{◌≡◌, ◌≢◌, ◌↔◌, ◌+◌, �
 ghost use Rattle.std.specs.Prelude.{slice_index, None, IfSome, not, ◌||◌, nat_eq};
 ghost use Rattle.sre_code.specs.Codes.{hints_of};
 ghost use Rattle.sre_request.specs.Requests.{start_of, end_of, code_of, match_all_of};
-ghost use Rattle.sre_request.specs.Runs.{run_of};
+ghost use Rattle.sre_request.specs.Runs.{run_of, Standing};
 ghost use Rattle.sre_engine.specs.Prefixed.{IsPrefix};
 ghost use Rattle.sre_engine.specs.Scans.{Overlapping, NoPlace, Here, GoesTo, FirstSame};
 
@@ -130,7 +130,7 @@ pub(crate) fn behind_literals<S: StrDrive>(
     requires few { prefix.now.literals ≤ length prefix.now.words.now }
     ensures position { result.position
         ≡ spot.cursor.position - length prefix.now.words.now + prefix.now.literals }
-    ensures stands { (run_of req.now).stands result result.position }
+    ensures stands { Standing req.now result }
 {
     looked_at(req, spot.cursor, prefix.words.len() - prefix.literals)
 }
@@ -156,7 +156,7 @@ fn behind_next<S: StrDrive>(
     start: StringCursor,
     compared: &mut u64,
 ) -> (bool, StringCursor)
-    requires stands { (run_of req.now).stands start start.position }
+    requires stands { Standing req.now start }
     requires inside { start.position ≤ end_of req.now }
     requires room { compared.old + (end_of req.now - start.position) < 2 ^ 64 }
     ensures first { FirstSame (run_of req.now) word start result.0 result.1 }
@@ -178,7 +178,7 @@ fn behind_sought<S: StrDrive>(
     start: StringCursor,
     compared: &mut u64,
 ) -> (bool, Spot)
-    requires stands { (run_of req.now).stands start start.position }
+    requires stands { Standing req.now start }
     requires before { start.position < end_of req.now }
     requires here { Here (run_of req.now).subject.text prefix.now.words.now (start_of req.now) (end_of req.now)
         start.position 0 compared.old }
@@ -224,7 +224,7 @@ fn behind_none<S: StrDrive>(
     start: StringCursor,
     compared: &mut u64,
 ) -> (bool, Spot)
-    requires stands { (run_of req.now).stands start start.position }
+    requires stands { Standing req.now start }
     requires before { start.position < end_of req.now }
     requires here { Here (run_of req.now).subject.text prefix.now.words.now (start_of req.now) (end_of req.now)
         start.position 0 compared.old }

@@ -12,7 +12,7 @@ ghost use Rattle.sre_turns.specs.Board.{bare};
 ghost use Rattle.sre_turns.specs.Machine.{Decides, outcomes};
 ghost use Rattle.sre_code.specs.Codes.{words_of, hints_of};
 ghost use Rattle.sre_request.specs.Requests.{string_of, start_of, end_of, code_of, asked_of, stands_in};
-ghost use Rattle.sre_request.specs.Runs.{run_of};
+ghost use Rattle.sre_request.specs.Runs.{run_of, Standing};
 ghost use Rattle.sre_engine.specs.Answers.{Answers, AnswersAlike, Spans};
 ghost use Rattle.sre_engine.specs.Counts.{CountsUpTo};
 ghost use Rattle.sre_growth.specs.Refusal.{Refused};
@@ -88,7 +88,7 @@ fn attempt<S: StrDrive, A: Allocator>(
     board: &mut Board<A>,
     started: &mut u64,
 ) -> Result<Option<StringCursor>, SreError>
-    requires stands { (run_of req.now).stands start start.position }
+    requires stands { Standing req.now start }
     requires inside { start.position ≤ end_of req.now }
     requires fresh { board.old ≡ bare no_marks }
     requires behind { (t : Tree) → WholeItems (run_of req.now).words t → ReadsBehind (run_of req.now).words literals t }
