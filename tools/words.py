@@ -384,7 +384,7 @@ def arguments():
     add('--run', metavar='PROGRAM', help="run sre_cases, and compare its answer with Python's")
     add = parser.add_mutually_exclusive_group().add_argument
     add('--cases', nargs=2, metavar=('FILE', 'NAME'), help='write a case file from patterns')
-    add('--tree', metavar='PATTERN', help='write the tree as a Rust expression, behind the flags')
+    add('--tree', metavar='PATTERN', help='write the tree of a pattern as a Rust expression')
     add('--words', nargs=2, metavar=('FILE', 'NAME'), help='write the words as a Rust constant')
     return parser
 
