@@ -310,6 +310,9 @@ def stands():
 
 
 def main(words):
+    if words not in ([], ["cases"]):
+        print(__doc__.strip())
+        return 2
     passed, failed, cases = 0, 0, Cases()
     lost = stands()
     if words != ["cases"]:

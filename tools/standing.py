@@ -115,6 +115,9 @@ def main(words):
         with open(COUNTS, "w", encoding="utf-8") as file:
             file.write("".join(f"{what} {number}\n" for what, number in counted().items()))
         return 0
+    if words:
+        print(__doc__.strip())
+        return 2
     lines = fallen()
     for line in lines:
         print(line)

@@ -345,6 +345,9 @@ def by_hand(crate, picked, is_alone, is_right):
 
 
 def main(words):
+    if any(it.startswith("-") and it not in ("--alone", "--right") for it in words):
+        print(__doc__.strip())
+        return 2
     is_alone, is_right = "--alone" in words, "--right" in words
     known, failed, picked = crates(), 0, {}
     for word in words:

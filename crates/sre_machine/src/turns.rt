@@ -72,7 +72,7 @@ impl Plan for Brand {
 }
 
 // Turns until the whole is decided: the cursor at the first accepted outcome's end, where there is one. It is one
-// function out of line, whatever its size, so that `run` itself is inlined where a search tries its starts.
+// function out of line, whatever its size, so that `run_behind` is inlined where a search tries its starts.
 #[inline(never)]
 fn turns<L: Ledger, K: Plan, S: StrDrive, A: Allocator>(
     req: &Request<'_, S>,
