@@ -109,7 +109,8 @@ fn beginnings(bytes: &[u8]) -> usize
     count
 }
 
-// Passes whole blocks, of N bytes each, in which no more than `n` characters begin: the offset behind them, and how many are left.
+// Passes whole blocks, of N bytes each, in which no more than `n` characters begin: the offset behind them, and how
+// many are left.
 fn pass_blocks<const N: usize>(bytes: &[u8], mut offset: usize, mut n: usize) -> (usize, usize)
     requires some { 0 < N }
     requires few { N ≤ 64 }

@@ -73,7 +73,8 @@ item_turns ws s a top d fs i ae inside x = record {
   from = λ W y.
       let b = after_to ws s (record { part = top.part; width = a } ∷ fs) W y in
       let it = x.sound b.0 b.1 b.2 in
-      let sum : capped (capped (a + b.1) + width b.3.2.1.0) ≡ capped (capped (top.width + d) + width (Then it.0 b.3.2.1.0)) =
+      let sum : capped (capped (a + b.1) + width b.3.2.1.0)
+          ≡ capped (capped (top.width + d) + width (Then it.0 b.3.2.1.0)) =
       ap (λ n. capped (capped (a + n) + width b.3.2.1.0)) it.2 ∙ sym (sums a (item_width it.0) (width b.3.2.1.0))
       ∙ ap (λ n. capped (n + width (Then it.0 b.3.2.1.0))) ae in (
         b.3.0,
@@ -207,8 +208,8 @@ step_reads ws r a top s old new (Ok q) ae inside there lt x e = (
 step_reads ws r a top s old new (Err e) ae inside there lt x m =
     push_fails ws _ s (old ++ record { part = top.part; width = a } ∷ []) new e m
 
-pub step_no_close : (ws : List ℕ) (i d a : ℕ) (top : Open) (old : List Open) (e : CodeError) → a ≡ capped (top.width + d)
-    → Unclosed ws top.part i a e → Fails ws (Rest ws i d (top ∷ reverse old)) e
+pub step_no_close : (ws : List ℕ) (i d a : ℕ) (top : Open) (old : List Open) (e : CodeError)
+    → a ≡ capped (top.width + d) → Unclosed ws top.part i a e → Fails ws (Rest ws i d (top ∷ reverse old)) e
 step_no_close ws i d a top old e ae x =
     let stops = close_stops ws top d a (reverse old) i ae x.end x.nowhere in
     record { never = λ _. stops; grows = λ m. absurd (x.fault.1 m); within = x.fault.0 }

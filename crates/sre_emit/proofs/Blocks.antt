@@ -14,7 +14,7 @@ use Rattle.sre_model.specs.Tree.{Literal, NotLiteral, In, Plain, Ascii, Locale, 
 use Rattle.sre_model.specs.Ways.{unlimited}
 use Rattle.sre_model.specs.Grammar.{has_block, behind_block, fits_block, WholeItems, Whole}
 use Rattle.sre_model.specs.Standing.{AreWords}
-use Rattle.sre_model.specs.Shown.{items, a, b}
+use Rattle.sre_model.specs.Shown.{items, a, b, c, d}
 use Rattle.sre_model.specs.Width.{width}
 use Rattle.sre_model.specs.Claims.{border_length, are_overlaps, has_prefix, prefix_words}
 use Rattle.sre_model.specs.Claims.{overlap_words, behind_adjacent, behind_spread, then_spread, is_at_end, behind_prefix}
@@ -37,6 +37,14 @@ letter = refl
 
 empty_or_letter : block_words (items (Branch (Or Empty (Only (items (a ∷ [])))) ∷ [])) ≡ 14 ∷ 4 ∷ 0 ∷ 0 ∷ unlimited ∷ []
 empty_or_letter = refl
+
+-- ab(cd)
+marks_between : block_words (items (a ∷ b ∷ Mark 0 ∷ c ∷ d ∷ Mark 1 ∷ []))
+    ≡ 14 ∷ 14 ∷ 1 ∷ 4 ∷ unlimited ∷ 4 ∷ 2 ∷ 97 ∷ 98 ∷ 99 ∷ 100 ∷ 0 ∷ 0 ∷ 0 ∷ 0 ∷ []
+marks_between = refl
+
+mark_behind : block_words (items (a ∷ Mark 0 ∷ [])) ≡ 14 ∷ 8 ∷ 1 ∷ 1 ∷ unlimited ∷ 1 ∷ 1 ∷ 97 ∷ 0 ∷ []
+mark_behind = refl
 
 -- aab
 overlapping : block_words (items (a ∷ a ∷ b ∷ []))

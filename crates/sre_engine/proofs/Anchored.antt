@@ -17,14 +17,6 @@ use Rattle.sre_model.proofs.Families.{item_role, role_same}
 use Rattle.sre_model.proofs.FoundLaws.{none-found}
 use Rattle.sre_engine.proofs.Answering.{NoneBefore}
 
--- what the words say of it
-abbrev said : ℕ → ℕ → Bool
-said first second = nat_eq first 6 && (nat_eq second 0 || nat_eq second 2)
-
--- another item does not begin with AT
-other_item : (x : Item) → item_role x ≢ ToCheckPosition → item_opcode x ≡ opcode.AT → ⊥
-other_item x other e = other (sym (role_same x) ∙ ap role e)
-
 -- it begins nowhere else
 anchored_none : (s : Subject) (t : Tree) (p : ℕ) → is_anchored t ≡ true → 0 < p → NoWay s t p
 anchored_none s (Then (At at.BEGINNING) rest) p e l =

@@ -10,7 +10,8 @@ use Rattle.sre_model.specs.Tree.{NotLiteral, In, Order, RunKind, GreedyRun, Sign
 use Rattle.sre_model.specs.Tree.{Fold, Plain, Ascii, Locale, Unicode, SetItem, Greedy}
 use Rattle.sre_model.specs.Roles.{TestKind, OfAny, OfAnyAll, OfCategory, OfLiteral, OfNotLiteral, OfSet, Role, ToFail}
 use Rattle.sre_model.specs.Roles.{ToEnd, ToTest, ToCheckPosition, ToMark, ToBranch, ToJump, ToRun, ToRepeat, ToLoop}
-use Rattle.sre_model.specs.Roles.{ToRepeatPossessively, ToGroupAtomically, ToLook, ToRefer, ToCheckGroup, ToNothing, role, is_test_role}
+use Rattle.sre_model.specs.Roles.{ToRepeatPossessively, ToGroupAtomically, ToLook, ToRefer, ToCheckGroup, ToNothing}
+use Rattle.sre_model.specs.Roles.{role, is_test_role}
 use Rattle.sre_model.specs.Roles.{begins_test}
 use Rattle.sre_model.specs.Grammar.{Opcode, test_opcode, run_opcode, until_opcode, look_opcode, reference_opcode}
 use Rattle.sre_model.specs.Grammar.{item_opcode, ReadsItem, TestOperands}

@@ -15,7 +15,8 @@ use Rattle.sre_model.specs.Marks.{Marks, set_mark}
 use Rattle.sre_model.specs.Subject.{Subject, passes, holds_at}
 use Rattle.sre_model.specs.Grammar.{Word, Opcode, skip, item_opcode, until_opcode}
 use Rattle.sre_model.specs.Grammar.{Reads, ReadsBranch, Operands, ReadsItem, WholeItems}
-use Rattle.sre_model.specs.Roles.{Role, ToTest, role, ToCheckPosition, ToMark, ToBranch, ToRun, ToRepeat, ToRepeatPossessively}
+use Rattle.sre_model.specs.Roles.{Role, ToTest, role, ToCheckPosition, ToMark, ToBranch, ToRun, ToRepeat}
+use Rattle.sre_model.specs.Roles.{ToRepeatPossessively}
 use Rattle.sre_model.specs.Roles.{ToGroupAtomically, ToLook, TestKind, begins_test}
 use Rattle.sre_model.specs.Ways.{ways, most_from, longest_run}
 use Rattle.sre_model.specs.Standing.{HasTest}
@@ -369,7 +370,8 @@ module _ (ws : List ℕ) (start i far : ℕ) (l : (t : Tree) → TreeStands ws s
       let at = l t x in leads_on ws t i k far more back at (on at.tree at.stands) sum
 
   -- a position code there, where nothing is looked back
-  pub at_bars_there : (a : SreAtCode) → far ≡ 0 → HasRole ws i ToCheckPosition → Word ws (i + 1) (at_number a) → (t : Tree)
+  pub at_bars_there : (a : SreAtCode) → far ≡ 0 → HasRole ws i ToCheckPosition → Word ws (i + 1) (at_number a)
+        → (t : Tree)
       → TreeStands ws start t → (s : Subject) (p : ℕ) → holds_at s a p ≡ false → NoWay s t p
   at_bars_there a none h w t x s p fails =
       let at = l t x in

@@ -203,23 +203,3 @@ stops-equal (x ∷ xs) (y ∷ ys) h = rw h.0 (ap (λ l. y.stop ∷ l) (stops-equ
 pub same_stops : (s : Subject) (t : Tree) (p : ℕ) (m n : Marks) → refers t ≡ false
     → map (λ w. w.stop) (ways s t p m) ≡ map (λ w. w.stop) (ways s t p n)
 same_stops s t p m n r = stops-equal (ways s t p m) (ways s t p n) (ways-apart s t r p m n)
-
--- what is accepted is told by the stop
-accepted-apart : (a : Asked) (p q : ℕ) (xs ys : List Way) → SameStops xs ys → first_accepted a p xs ≡ None
-    → first_accepted a q ys ≡ None
-accepted-apart a p q [] [] h e = refl
-accepted-apart a p q [] (y ∷ ys) h e = absurd h
-accepted-apart a p q (x ∷ xs) [] h e = absurd h
-accepted-apart a p q (x ∷ xs) (y ∷ ys) h e =
-    let same : is_accepted a x ≡ is_accepted a y =
-    ap (λ k. (not a.match_all || nat_eq k a.end) && (not a.must_advance || not (nat_eq k a.start))) h.0 in
-    by_test (is_accepted a x) refl (sym same) e (λ k. accepted-apart a p q xs ys h.1 k)
-  where
-    by_test : (b : Bool) → is_accepted a x ≡ b → is_accepted a y ≡ is_accepted a x
-        → first_accepted a p (x ∷ xs) ≡ None → (first_accepted a p xs ≡ None → first_accepted a q ys ≡ None)
-        → first_accepted a q (y ∷ ys) ≡ None
-    by_test true b same e later =
-        let one : Match = record { start = p; end = x.stop; marks = x.marks } in
-        let found : Some one ≡ None = rw b at e in
-        absurd (cc)
-    by_test false b same e later = rw (same ∙ b) (later (rw b at e))

@@ -24,8 +24,10 @@ use Rattle.sre_turns.specs.Machine.{Placed, InRole, Moves, MovesAt, Runs, turns,
 use Rattle.sre_turns.specs.Machine.{enters, Waits, otherwise, kept, Goes, GoesBoth, Later, spot, HasRun, IsAt}
 use Rattle.sre_model.specs.Runs.{Run}
 use Rattle.sre_turns.specs.Machine.{Refuses, Skips, SkipsBoth, Exhausted, Continues}
-use Rattle.sre_model.specs.Roles.{Role, ToFail, ToEnd, ToTest, ToCheckPosition, ToMark, ToBranch, ToJump, ToRun, ToRepeat}
-use Rattle.sre_model.specs.Roles.{ToLoop, ToRepeatPossessively, ToGroupAtomically, ToLook, ToRefer, ToCheckGroup, ToNothing, role}
+use Rattle.sre_model.specs.Roles.{Role, ToFail, ToEnd, ToTest, ToCheckPosition, ToMark, ToBranch, ToJump, ToRun}
+use Rattle.sre_model.specs.Roles.{ToRepeat}
+use Rattle.sre_model.specs.Roles.{ToLoop, ToRepeatPossessively, ToGroupAtomically, ToLook, ToRefer, ToCheckGroup}
+use Rattle.sre_model.specs.Roles.{ToNothing, role}
 use Rattle.sre_model.specs.Roles.{begins_test}
 use Rattle.sre_turns.specs.declared.Next.TheVariants as next
 use Rattle.sre_model.proofs.Words.{same_word, same_opcode, same_at, opcode_within}

@@ -33,9 +33,6 @@ set_entry (x ∷ raw) zero (suc k) v p e = inr e
 set_entry (x ∷ raw) (suc n) zero v p e = inr e
 set_entry (x ∷ raw) (suc n) (suc k) v p e = set_entry raw n k v p e
 
-abbrev spans : Bool → ℕ → ℕ → Option (ℕ × ℕ)
-spans b u v = cond b (Some (u, v)) None
-
 pub none_placed : (s : Subject) → Placed s no_marks
 none_placed s = record { at = λ n p e. absurd (cc) }
 

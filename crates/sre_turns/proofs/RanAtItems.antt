@@ -58,7 +58,8 @@ at-ran ws s i j a w h l fs K C p m e f = go (holds_at s a p) refl
         (at_instruction opcode.AT ToCheckPosition refl w (record { code = a; there = h; is = rw y refl }))
         (goes (moved l (alone (f p m (omega arith) e))))
     go false y =
-        turns Stop (at_instruction opcode.AT ToCheckPosition refl w (record { code = a; there = h; is = rw y refl })) stops
+        turns Stop (at_instruction opcode.AT ToCheckPosition refl w (record { code = a; there = h; is = rw y refl }))
+        stops
 
 -- an alternative, and those behind it
 pub alternative-ran : (ws : List ℕ) (s : Subject) (q v n₁ n₂ : ℕ) (fs : List Frame) (p : ℕ) (m : Marks)

@@ -37,7 +37,8 @@ ahead-closed ws s x j K C (w ∷ os) e f = goes (alone (f x.position w.marks (om
 
 not_ahead-closed : (ws : List ℕ) (s : Subject) (x : Spot) (j : ℕ) (K : Body) (C : Costs) (os : List Way)
     → x.position ≤ s.end → Follows ws s x.position (Instruction j) x.frames K C
-    → Comes ws s x (closing_move (NotAhead j) x os) (followed K (elim os [ [] ↦ here x.position x.marks | (w ∷ _) ↦ [] ]))
+    → Comes ws s x (closing_move (NotAhead j) x os)
+    (followed K (elim os [ [] ↦ here x.position x.marks | (w ∷ _) ↦ [] ]))
     (look_cost Negative C x.position x.marks os)
 not_ahead-closed ws s x j K C [] e f = goes (alone (f x.position x.marks (omega arith) e))
 not_ahead-closed ws s x j K C (w ∷ os) e f = stops
@@ -51,7 +52,8 @@ module _ (ws : List ℕ) (s : Subject) (i j k : ℕ) (W : Body) (counted : Costs
       let x : Spot = spot_at (Instruction i) fs p m in
       let body : Spot = spot_at (Instruction k) fs p m in
       let move : Moves ws s x (Enter (AtomicGroup j) x body) =
-      at_instruction opcode.ATOMIC_GROUP ToGroupAtomically refl w (record { there = there; is = rw (leads, at) refl }) in
+      at_instruction opcode.ATOMIC_GROUP ToGroupAtomically refl w
+      (record { there = there; is = rw (leads, at) refl }) in
       turns (Enter (AtomicGroup j) x body) move
       (enters (region ws s k (j - 1) W counted r ends fs p m e) (atomic-closed ws s x j K C (W p m) (b p m e) f))
 
@@ -59,8 +61,8 @@ module _ (ws : List ℕ) (s : Subject) (i j k : ℕ) (W : Body) (counted : Costs
     -- a look is entered, or comes too early
     look_entered : (sign : Sign) → role (look_opcode sign) ≡ ToLook sign → Opcode ws i (look_opcode sign)
         → (fs : List Frame) (p : ℕ) (m : Marks) (y : Bool) → nat_lt p back ≡ y
-        → Moves ws s (spot_at (Instruction i) fs p m) (cond y (closing_move (look sign j) (spot_at (Instruction i) fs p m) [])
-        (Enter (look sign j) (spot_at (Instruction i) fs p m) (spot_at (Instruction k) fs (p - back) m)))
+        → Moves ws s (spot_at (Instruction i) fs p m)
+        (cond y (closing_move (look sign j) (spot_at (Instruction i) fs p m) []) (Enter (look sign j) (spot_at (Instruction i) fs p m) (spot_at (Instruction k) fs (p - back) m)))
     look_entered sign known w fs p m y e =
         at_instruction (look_opcode sign) (ToLook sign) known w
         (record { back = back; there = there; is = rw (← leads, at, e) refl })

@@ -63,7 +63,8 @@ pub record AtLook (r : Run) (sign : Sign) (i v back : ℕ) : Type 0 where
 -- fewer characters stand before
 look_early : (r : Run) (sign : Sign) (i v back : ℕ) (c : StringCursor) (b : BoardValue) → AtLook r sign i v back
     → c.position < back
-    → Moves r.words r.subject (spot (Instruction i) c b) (closing_move (look sign (i + 1 + v)) (spot (Instruction i) c b) [])
+    → Moves r.words r.subject (spot (Instruction i) c b)
+    (closing_move (look sign (i + 1 + v)) (spot (Instruction i) c b) [])
 look_early r sign i v back c b h l =
     let early : nat_lt c.position back ≡ true = grind (arith, nat_tests) in
     at_instruction (look_opcode sign) (ToLook sign) (look_role sign) h.code

@@ -8,8 +8,10 @@ use Rattle.sre_chars.specs.declared.string.StringCursor.{StringCursor}
 use Rattle.sre_chars.specs.Tables.{Table}
 use Rattle.sre_model.specs.Tree.{Tree, Test, Literal, Plain}
 use Rattle.sre_model.specs.Characters.{holds}
-use Rattle.sre_model.specs.Roles.{Role, ToFail, ToEnd, ToTest, ToCheckPosition, ToMark, ToBranch, ToJump, ToRun, ToRepeat}
-use Rattle.sre_model.specs.Roles.{ToLoop, ToRepeatPossessively, ToGroupAtomically, ToLook, ToRefer, ToCheckGroup, ToNothing, role}
+use Rattle.sre_model.specs.Roles.{Role, ToFail, ToEnd, ToTest, ToCheckPosition, ToMark, ToBranch, ToJump, ToRun}
+use Rattle.sre_model.specs.Roles.{ToRepeat}
+use Rattle.sre_model.specs.Roles.{ToLoop, ToRepeatPossessively, ToGroupAtomically, ToLook, ToRefer, ToCheckGroup}
+use Rattle.sre_model.specs.Roles.{ToNothing, role}
 use Rattle.sre_model.specs.Marks.{Marks, mark_at, no_marks}
 use Rattle.sre_model.specs.Subject.{Subject, char_at, passes}
 use Rattle.sre_model.specs.Ways.{Way, here, ways}
@@ -22,7 +24,8 @@ use Rattle.sre_turns.specs.declared.Region.TheVariants.{AtomicGroup, Ahead, NotA
 use Rattle.sre_turns.specs.declared.Region.{Region}
 use Rattle.sre_turns.specs.declared.Point.TheVariants.{Instruction, Alternatives, Shorter, Longer, Inside, Again}
 use Rattle.sre_turns.specs.declared.Point.{Point}
-use Rattle.sre_turns.specs.Moves.{Spot, spot_at, Move, Stop, End, Go, Split, Enter, closing_move, to_point, TestMove, AtMove}
+use Rattle.sre_turns.specs.Moves.{Spot, spot_at, Move, Stop, End, Go, Split, Enter, closing_move, to_point, TestMove}
+use Rattle.sre_turns.specs.Moves.{AtMove}
 use Rattle.sre_turns.specs.Moves.{MarkMove, JumpMove, AlternativesMove}
 use Rattle.sre_turns.specs.MovesInRuns.{RunMove, ShorterMove, LongerMove}
 use Rattle.sre_turns.specs.MovesInLoops.{first_frame, RepeatMove, UntilMove, AgainMove}

@@ -24,4 +24,5 @@ pub record LookMove (ws : List ℕ) (sign : Sign) (i : ℕ) (x : Spot) (mv : Mov
   pub there : Word ws (i + 2) back
   pub is : mv ≡
       let g = look sign (skip ws (i + 1)) in
-      cond (nat_lt x.position back) (closing_move g x []) (Enter g x (to_place x (Instruction (i + 3)) (x.position - back)))
+      cond (nat_lt x.position back) (closing_move g x [])
+      (Enter g x (to_place x (Instruction (i + 3)) (x.position - back)))

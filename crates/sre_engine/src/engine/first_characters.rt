@@ -2,14 +2,13 @@
 
 ghost use Rattle.std.specs.Prelude.{◌≡◌, ◌⊎◌, ◌+◌, ◌<◌, ℕ, length, true, IfSome};
 ghost use Rattle.sre_chars.specs.Numbers.{at_number};
-ghost use Rattle.sre_code.specs.AsciiSet.{contains};
 ghost use Rattle.sre_model.specs.Tree.{Tree, Trees};
 ghost use Rattle.sre_model.specs.Subject.{Subject};
 ghost use Rattle.sre_model.specs.Grammar.{Word, AreItems, ReadsBranch};
 ghost use Rattle.sre_model.specs.Standing.{HasTest};
 ghost use Rattle.sre_model.specs.FirstCharacters.{NoWay, NoneOf, NotPassed, Leads};
 ghost use Rattle.sre_model.specs.FirstCharacters.{TreeStands, HasTree, HasAlternatives};
-ghost use Rattle.sre_model.specs.Roles.{ToNothing, begins_test};
+ghost use Rattle.sre_model.specs.Roles.{begins_test};
 ghost use Rattle.sre_engine.specs.Starts.{IsElsewhere, NotAmong, IsLacking, Bars, TestsThere};
 
 use sre_chars::constants::{SreAtCode, SreOpcode};
@@ -21,7 +20,7 @@ use std::convert::TryFrom;
 /// What is wanted of the character at a position.
 #[derive(Clone, Copy)]
 pub(crate) enum Wanted {
-    /// ToNothing is known of it.
+    /// Nothing is known of it.
     Anything,
     /// The test whose opcode is at a place of the words takes it.
     Test(usize),

@@ -5,8 +5,8 @@
 //! compared more than twice on average. Where no word is matched, the text seeks one of the first words, the one that
 //! is likely to be the rarest, and the scan goes back to its place: only what lies between is read twice.
 
-ghost use Rattle.std.specs.Prelude.{◌≡◌, ◌≢◌, ◌↔◌, ◌+◌, ◌-◌, ◌*◌, ◌^◌, ◌<◌, ◌≤◌, ℕ, length, true, false, IsTrue};
-ghost use Rattle.std.specs.Prelude.{slice_index, None, IfSome, not, ◌||◌, nat_eq};
+ghost use Rattle.std.specs.Prelude.{◌≡◌, ◌↔◌, ◌+◌, ◌-◌, ◌*◌, ◌^◌, ◌<◌, ◌≤◌, length, true, false, IsTrue};
+ghost use Rattle.std.specs.Prelude.{None, IfSome, not, ◌||◌, nat_eq};
 ghost use Rattle.sre_code.specs.Codes.{hints_of};
 ghost use Rattle.sre_request.specs.Requests.{start_of, end_of, code_of, match_all_of};
 ghost use Rattle.sre_request.specs.Runs.{run_of, Standing};
