@@ -36,6 +36,8 @@ pub struct Board<A: Allocator> {
     frame: usize,
     choices: Vec<Saved, A>,
     regions: usize,
+    // how many characters were passed by long runs and references since this was last asked
+    passed: usize,
 }
 
 impl<A: Allocator> Model for Board<A> {
@@ -103,6 +105,7 @@ impl<A: Allocator + Copy> Board<A> {
             frame: 0,
             choices: Vec::new(alloc),
             regions: 0,
+            passed: 0,
         }
     }
 
@@ -143,6 +146,7 @@ impl<A: Allocator> Board<A> {
         self.frame = 0;
         self.chains.clear();
         self.regions = 0;
+        self.passed = 0;
     }
 
     /// Sets mark `n` to `position`. After an error the board is good for `clear` alone.
@@ -205,6 +209,27 @@ impl<A: Allocator> Board<A> {
         self.chains.cut(saved.chains);
         self.frame = saved.frame;
         Some((saved.point, saved.cursor))
+    }
+
+    /// Notes that so many characters were passed in a turn. Stretches of less than 64 characters are not noted: a turn
+    /// is not shorter than those.
+    #[inline(always)]
+    pub fn pass(&mut self, characters: usize)
+        ensures { self.new ≡ self.old }
+    {
+        if characters >= 64 {
+            self.passed = self.passed.saturating_add(characters);
+        }
+    }
+
+    /// How many passed characters were noted since this was last asked.
+    #[inline(always)]
+    pub fn take_passed(&mut self) -> usize
+        ensures { self.new ≡ self.old }
+    {
+        let passed = self.passed;
+        self.passed = 0;
+        passed
     }
 
     /// The innermost loop in progress.

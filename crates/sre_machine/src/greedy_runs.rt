@@ -137,6 +137,7 @@ pub(super) fn repeat_one<S: StrDrive, A: Allocator>(
     let least = operand(req, place, 2) as usize;
     let greatest = operand(req, place, 3);
     let run = longest_run(req, place + 4, greatest, cursor);
+    board.pass(run.0);
     if run.0 < least {
         return Ok(Next::Back);
     }

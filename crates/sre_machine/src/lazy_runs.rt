@@ -68,7 +68,7 @@ fn one_longer<S: StrDrive>(
 }
 
 // The first of the longer counts of which something may come, if there is one: that count, and the cursor behind it.
-// It is out of line, so that its loop has the registers to itself.
+// How many characters it passed comes beside. It is out of line, so that its loop has the registers to itself.
 #[inline(never)]
 fn first_longer<S: StrDrive>(
     req: &Request<'_, S>,
@@ -76,6 +76,7 @@ fn first_longer<S: StrDrive>(
     tail: usize,
     least: usize,
     start: StringCursor,
+    passed: &mut usize,
 ) -> Option<(usize, StringCursor)>
     requires tail { tail ≡ skip (run_of req.now).words (place + 1) }
     requires stands { HasRun (run_of req.now) (Longer place least) start }
@@ -93,9 +94,11 @@ fn first_longer<S: StrDrive>(
     let mut count = least + 1;
     'count: loop {
         if !lacks(req, wanted, cursor) {
+            *passed = count.saturating_sub(least);
             return Some((count, cursor));
         }
         let Some(after) = one_longer(req, place, tail, opcode, count, cursor) else {
+            *passed = count.saturating_sub(least);
             return None;
         };
         cursor = after;
@@ -117,7 +120,10 @@ pub(super) fn longer<S: StrDrive, A: Allocator>(
 {
     let skip = operand(req, place, 1) as usize;
     let tail = place + 1 + skip;
-    let Some(found) = first_longer(req, place, tail, count, start) else {
+    let mut passed = 0;
+    let found = first_longer(req, place, tail, count, start, &mut passed);
+    board.pass(passed);
+    let Some(found) = found else {
         return Ok(Next::Back);
     };
     Ok(choose(req, board, tail, Point::Longer(place, found.0), found.1)?)
@@ -141,6 +147,7 @@ pub(super) fn min_repeat_one<S: StrDrive, A: Allocator>(
         return Ok(Next::Back);
     }
     let run = run_up_to(req, place + 4, least, cursor);
+    board.pass(run.0);
     if run.0 < least {
         return Ok(Next::Back);
     }

@@ -293,7 +293,9 @@ pub(super) fn instruction<S: StrDrive, A: Allocator>(
                 SreOpcode::MARK => mark(req, board, place, cursor),
                 SreOpcode::REPEAT_ONE => repeat_one(req, board, place, cursor),
                 SreOpcode::MIN_REPEAT_ONE => min_repeat_one(req, board, place, cursor),
-                SreOpcode::POSSESSIVE_REPEAT_ONE => Ok(possessive_repeat_one(req, place, cursor)),
+                SreOpcode::POSSESSIVE_REPEAT_ONE => {
+                    Ok(possessive_repeat_one(req, board, place, cursor))
+                },
                 SreOpcode::REPEAT => repeat(req, board, place, cursor),
                 SreOpcode::MAX_UNTIL => max_until(req, board, place, cursor),
                 SreOpcode::MIN_UNTIL => min_until(req, board, place, cursor),

@@ -1,30 +1,33 @@
 //! `POSSESSIVE_REPEAT_ONE skip least greatest test SUCCESS`: the longest run alone.
-ghost use Rattle.sre_turns.specs.Board.{BoardValue};
 ghost use Rattle.sre_request.specs.Runs.{OpcodeAt};
 ghost use Rattle.sre_machine.specs.Turns.{At, Turn};
 
 use crate::machine::operand;
+use sre_board::Board;
 use sre_chars::constants::SreOpcode;
 use sre_chars::string::{StrDrive, StringCursor};
 use sre_reading::runs::longest_run;
 use sre_request::Request;
 use sre_turns::Next;
+use std::alloc::Allocator;
 
 /// The run's tail behind the longest run, if that is long enough.
 #[inline(always)]
-pub(super) fn possessive_repeat_one<S: StrDrive>(
+pub(super) fn possessive_repeat_one<S: StrDrive, A: Allocator>(
     req: &Request<'_, S>,
+    board: &mut Board<A>,
     place: usize,
     cursor: StringCursor,
 ) -> Next
     requires opcode { OpcodeAt req.now place SreOpcode.POSSESSIVE_REPEAT_ONE }
     requires stands { At req.now place cursor }
-    ensures { (b : BoardValue) → Turn req.now place cursor b result b }
+    ensures { Turn req.now place cursor board.old result board.new }
 {
     let skip = operand(req, place, 1) as usize;
     let least = operand(req, place, 2) as usize;
     let greatest = operand(req, place, 3);
     let run = longest_run(req, place + 4, greatest, cursor);
+    board.pass(run.0);
     if run.0 < least {
         return Next::Back;
     }

@@ -30,21 +30,22 @@ fn is_inside(position: usize, count: usize, end: usize) -> bool
 #[inline(always)]
 pub(super) fn reference<S: StrDrive, A: Allocator>(
     req: &Request<'_, S>,
-    board: &Board<A>,
+    board: &mut Board<A>,
     opcode: SreOpcode,
     place: usize,
     cursor: StringCursor,
 ) -> Next
     requires opcode { OpcodeAt req.now place opcode }
     requires refers { role opcode ≡ ToRefer }
-    requires stands { IsAt (run_of req.now) (Instruction place) cursor board.now }
-    ensures { Turn req.now place cursor board.now result board.now }
+    requires stands { IsAt (run_of req.now) (Instruction place) cursor board.old }
+    ensures { Turn req.now place cursor board.old result board.new }
 {
     let number = operand(req, place, 1);
     let Some((start, end)) = board.group(number) else {
         return Next::Back;
     };
     let count = end - start;
+    board.pass(count);
     if !is_inside(cursor.position(), count, req.end()) {
         return Next::Back;
     }

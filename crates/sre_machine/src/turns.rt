@@ -1,14 +1,15 @@
 //! The machine's loop: turns until the whole is decided.
 
-ghost use Rattle.std.specs.Prelude.{◌≡◌, ℕ, ◌+◌, ◌*◌, ◌^◌, ◌<◌, ◌≤◌, [], List, IfOk};
+ghost use Rattle.std.specs.Prelude.{◌≡◌, ℕ, ◌+◌, ◌*◌, ◌^◌, ◌<◌, ◌≤◌, [], List, IfOk, IfErr, true, false};
 ghost use Rattle.sre_model.specs.Marks.{no_marks};
 ghost use Rattle.sre_model.specs.Tree.{Tree};
 ghost use Rattle.sre_model.specs.Ways.{Way};
 ghost use Rattle.sre_model.specs.Grammar.{WholeItems};
 ghost use Rattle.sre_model.specs.Prefixes.{behind_items, ReadsBehind};
+ghost use Rattle.sre_model.specs.TurnBounds.{turns_of, most_each};
 ghost use Rattle.sre_turns.specs.Board.{bare};
 ghost use Rattle.sre_turns.specs.Machine.{Stands, SaysAccepted, Decides, outcomes};
-ghost use Rattle.sre_request.specs.Requests.{end_of};
+ghost use Rattle.sre_request.specs.Requests.{end_of, asked_of};
 ghost use Rattle.sre_request.specs.Runs.{run_of, Standing};
 
 use crate::machine::{back, instruction};
@@ -71,22 +72,74 @@ impl Plan for Brand {
     ghost limit = { 0 };
 }
 
+/// Why a run was given up.
+#[derive(Clone, Copy, Debug)]
+pub enum Halt {
+    /// Memory was refused to it.
+    Refused(Refusal),
+    /// The turns that it might take are used up.
+    UsedUp,
+}
+
+impl From<Refusal> for Halt {
+    ghost use Rattle.std.specs.Prelude.{◌≢◌};
+    ghost use Rattle.sre_machine.specs.declared.turns.Halt.TheVariants.{UsedUp};
+
+    ghost from_gives = { λ _ halt. halt ≢ UsedUp };
+
+    fn from(refusal: Refusal) -> Halt {
+        Halt::Refused(refusal)
+    }
+}
+
+// Takes a turn off those that are left, and one for each eight characters that the turn before went over by a long run
+// or reference: whether one was left. No such stretch counts for more than the window. Nothing is taken where the turns
+// are not limited.
+#[inline(always)]
+fn takes_turn<S: StrDrive, A: Allocator, const LIMITED: bool>(
+    req: &Request<'_, S>,
+    board: &mut Board<A>,
+    left: &mut u64,
+) -> bool
+    ensures board { board.new ≡ board.old }
+    ensures spent { left.old ≤ left.new + most_each (asked_of req.now) }
+    ensures used { result ≡ false → (LIMITED ≡ true) × (left.new ≡ 0) }
+{
+    if !LIMITED {
+        return true;
+    }
+    let window = req.end().saturating_sub(req.start());
+    let passed = board.take_passed().min(window) / 8;
+    *left = left.saturating_sub(passed as u64);
+    if *left == 0 {
+        return false;
+    }
+    *left -= 1;
+    true
+}
+
 // Turns until the whole is decided: the cursor at the first accepted outcome's end, where there is one. It is one
 // function out of line, whatever its size, so that `run_behind` is inlined where a search tries its starts.
 #[inline(never)]
-fn turns<L: Ledger, K: Plan, S: StrDrive, A: Allocator>(
+fn turns<L: Ledger, K: Plan, S: StrDrive, A: Allocator, const LIMITED: bool>(
     req: &Request<'_, S>,
     board: &mut Board<A>,
     place: usize,
     start: StringCursor,
     turned: &mut Turned<L>,
-) -> Result<Option<StringCursor>, Refusal>
+    left: &mut u64,
+) -> Result<Option<StringCursor>, Halt>
     requires new { turned.old ≡ 0 }
     requires stands { Stands (run_of req.now) K.all K.limit (Next.At place start) board.old }
-    ensures { IfOk result (λ found. Decides (run_of req.now) K.all found board.new.marks) }
+    ensures decides { IfOk result (λ found. Decides (run_of req.now) K.all found board.new.marks) }
+    ensures spent { left.old ≤ left.new + (K.limit + 1) * most_each (asked_of req.now) }
+    ensures used { IfErr result (λ halt. halt ≡ Halt.UsedUp → (LIMITED ≡ true) × (left.new ≡ 0)) }
 {
     let mut next = Next::At(place, start);
     'turn: loop {
+        if !takes_turn::<S, A, LIMITED>(req, board, left) {
+            return Err(Halt::UsedUp);
+        }
         turned.tick();
         match next {
             Next::At(place, cursor) => next = instruction(req, board, place, cursor)?,
@@ -116,39 +169,53 @@ fn turns_from<L: Ledger, K: Plan, S: StrDrive, A: Allocator>(
     literals: usize,
     start: StringCursor,
     blank: Blank,
-) -> Result<Option<StringCursor>, Refusal>
+    limited: bool,
+    left: &mut u64,
+) -> Result<Option<StringCursor>, Halt>
     requires name { blank.name ≡ L.name }
     requires parts { blank.parts ≡ L.parts }
     requires some { 0 < blank.parts }
     requires room { 2 * literals < 2 ^ 64 }
     requires stands { Stands (run_of req.now) K.all K.limit (Next.At (2 * literals) start) board.old }
-    ensures { IfOk result (λ found. Decides (run_of req.now) K.all found board.new.marks) }
+    ensures decides { IfOk result (λ found. Decides (run_of req.now) K.all found board.new.marks) }
+    ensures spent { left.old ≤ left.new + (K.limit + 1) * most_each (asked_of req.now) }
+    ensures used { IfErr result (λ halt. halt ≡ Halt.UsedUp → (limited ≡ true) × (left.new ≡ 0)) }
 {
     let (book, share) = blank.open::<L>();
     let mut turned = Turned { book, share };
-    turns::<L, K, S, A>(req, board, 2 * literals, start, &mut turned)
+    if limited {
+        turns::<L, K, S, A, true>(req, board, 2 * literals, start, &mut turned, left)
+    } else {
+        turns::<L, K, S, A, false>(req, board, 2 * literals, start, &mut turned, left)
+    }
 }
 
 /// Runs the machine from a cursor behind some literals that the words begin with, on an empty board: the cursor at the
 /// end of the first accepted way of what follows these literals, whose marks are then on the board, or `None` where no
-/// way is accepted.
+/// way is accepted. Where it is limited it takes its turns off those that are left, and is given up where none is.
 #[inline(always)]
 pub fn run_behind<S: StrDrive, A: Allocator>(
     req: &Request<'_, S>,
     literals: usize,
     start: StringCursor,
     board: &mut Board<A>,
-) -> Result<Option<StringCursor>, Refusal>
+    limited: bool,
+    left: &mut u64,
+) -> Result<Option<StringCursor>, Halt>
     requires stands { Standing req.now start }
     requires inside { start.position ≤ end_of req.now }
     requires fresh { board.old ≡ bare no_marks }
     requires behind { (t : Tree) → WholeItems (run_of req.now).words t → ReadsBehind (run_of req.now).words literals t }
     requires room { 2 * literals < 2 ^ 64 }
-    ensures { (t : Tree) → WholeItems (run_of req.now).words t
+    ensures decides { (t : Tree) → WholeItems (run_of req.now).words t
         → IfOk result
         (λ found. Decides (run_of req.now)
         (outcomes (run_of req.now) (behind_items literals t) start.position) found board.new.marks) }
+    ensures spent { (t : Tree) → WholeItems (run_of req.now).words t
+        → left.old ≤ left.new + turns_of (run_of req.now).subject (behind_items literals t) start.position
+        * most_each (asked_of req.now) }
+    ensures used { IfErr result (λ halt. halt ≡ Halt.UsedUp → (limited ≡ true) × (left.new ≡ 0)) }
 {
     know_words(req.pattern_codes().items());
-    turns_from::<Brand, Brand, S, A>(req, board, literals, start, Blank::new(1))
+    turns_from::<Brand, Brand, S, A>(req, board, literals, start, Blank::new(1), limited, left)
 }

@@ -35,3 +35,4 @@ mod RowsWritten
 mod ReaderRows
 mod HintRows
 pub mod Passing
+pub mod TurnBounds

@@ -1,6 +1,6 @@
 -- A tree without references: where its ways stop does not depend on the marks that they begin with.
-use Rattle.std.proofs.Common.{◌≡◌, ℕ, zero, suc, ◌+◌, ◌-◌, Bool, true, false, cond, ◌&&◌, ◌||◌, not, nat_le, nat_lt}
-use Rattle.std.proofs.Common.{nat_eq, List, [], ◌∷◌, ◌++◌, Option, Some, None, map, refl, sym, ap, ◌∙◌, subst}
+use Rattle.std.proofs.Common.{◌≡◌, ℕ, zero, suc, ◌+◌, ◌-◌, Bool, true, false, cond, ◌&&◌, nat_le, nat_lt}
+use Rattle.std.proofs.Common.{List, [], ◌∷◌, ◌++◌, Option, Some, None, map, refl, ap, subst}
 use Rattle.std.specs.List.{flat_map}
 use Rattle.std.proofs.lemmas.Bool.{or_parts, true≢false}
 use Rattle.sre_model.specs.Tree.{Tree, Empty, Then, Item, Fail, One, At, Mark, Branch, Loop, Run, PossessiveLoop}
@@ -11,7 +11,6 @@ use Rattle.sre_model.specs.Marks.{Marks}
 use Rattle.sre_model.specs.Subject.{Subject, passes, holds_at}
 use Rattle.sre_model.specs.Ways.{Way, Body, first, here, within, ordered, may_repeat, more, least, possessive_more}
 use Rattle.sre_model.specs.Ways.{look_ways, longest_run, counts, run_ways, ways, item_ways, branch_ways}
-use Rattle.sre_model.specs.Found.{Asked, Match, is_accepted, first_accepted}
 
 -- as many ways on both sides, each with the other's stop
 abbrev pub SameStops : List Way → List Way → Type 0

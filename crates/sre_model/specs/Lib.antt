@@ -22,4 +22,6 @@ pub mod Rows
 pub mod RowsOfWalks
 pub mod Standing
 pub mod Runs
+pub mod Cost
+pub mod TurnBounds
 pub mod CountedRuns

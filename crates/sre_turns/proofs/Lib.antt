@@ -1,4 +1,3 @@
-pub mod Cost
 pub mod Moving
 pub mod Placed
 pub mod StepsAtItems

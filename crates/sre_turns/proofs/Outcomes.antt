@@ -14,7 +14,7 @@ use Rattle.sre_turns.specs.Moves.{Spot, spot_at, End}
 use Rattle.sre_turns.specs.Machine.{Runs, turns, ends}
 use Rattle.sre_model.specs.Roles.{ToEnd}
 use Rattle.sre_turns.proofs.Moving.{at_instruction}
-use Rattle.sre_turns.proofs.Cost.{Costs, ending}
+use Rattle.sre_model.specs.Cost.{Costs, ending}
 
 -- what follows each of some ways
 abbrev pub followed : Body → List Way → List Way

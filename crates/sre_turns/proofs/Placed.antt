@@ -1,6 +1,6 @@
 -- Marks that are set lie in the text.
 use Rattle.std.proofs.Common.{◌≡◌, ℕ, zero, suc, ◌≤◌, ◌⊎◌, inl, inr, ⊎_elim, List, [], ◌∷◌, ◌++◌, length}
-use Rattle.std.proofs.Common.{replicate, slice_set, slice_index_or, Bool, cond, Option, Some, None}
+use Rattle.std.proofs.Common.{replicate, slice_set, slice_index_or, Option, Some, None}
 use Rattle.std.proofs.Common.{arith}
 use Rattle.sre_model.specs.Marks.{Marks, mark_at, no_marks, set_mark, lengthened}
 use Rattle.sre_model.specs.Subject.{Subject}

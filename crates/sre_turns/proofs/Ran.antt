@@ -20,7 +20,7 @@ use Rattle.sre_model.proofs.Each.{flat_map-flat_map}
 use Rattle.sre_model.proofs.Bounds.{ways-bounded}
 use Rattle.sre_model.proofs.Words.{opcode_within, word_there}
 use Rattle.sre_model.proofs.Places.{reads_within, alternative_long, branch_past}
-use Rattle.sre_turns.proofs.Cost.{Costs, cost, item_cost, branch_cost}
+use Rattle.sre_model.specs.Cost.{Costs, cost, item_cost, branch_cost}
 use Rattle.sre_turns.proofs.Outcomes.{followed, Follows, Ran, moved, alone}
 use Rattle.sre_turns.proofs.RanAtItems.{one-ran, at-ran, mark-ran, alternative-ran, last_alternative, skip_there}
 use Rattle.sre_turns.proofs.RanAtItems.{jump-ran}

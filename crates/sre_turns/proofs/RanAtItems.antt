@@ -21,7 +21,7 @@ use Rattle.sre_model.specs.Roles.{ToTest, ToCheckPosition, ToMark, ToJump}
 use Rattle.sre_model.proofs.Families.{test_kind, test_role}
 use Rattle.sre_turns.proofs.Moving.{at_instruction}
 use Rattle.sre_model.proofs.Words.{word_past}
-use Rattle.sre_turns.proofs.Cost.{Costs, item_cost}
+use Rattle.sre_model.specs.Cost.{Costs, item_cost}
 use Rattle.sre_turns.proofs.Outcomes.{followed, Ran, moved, alone}
 
 pub passes-below : (s : Subject) (t : Test) (p : ℕ) → passes s t p ≡ true → p < s.end

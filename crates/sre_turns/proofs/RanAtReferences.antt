@@ -16,7 +16,7 @@ use Rattle.sre_turns.specs.Machine.{Moves, Runs, turns, stops, goes}
 use Rattle.sre_model.specs.Roles.{ToRefer, ToCheckGroup}
 use Rattle.sre_model.proofs.Families.{reference_role}
 use Rattle.sre_turns.proofs.Moving.{at_instruction}
-use Rattle.sre_turns.proofs.Cost.{reference_cost, condition_cost}
+use Rattle.sre_model.specs.Cost.{reference_cost, condition_cost}
 use Rattle.sre_turns.proofs.Outcomes.{followed, Ran, moved, alone}
 
 pub reference-ran : (ws : List ℕ) (s : Subject) (i j g : ℕ) (f : Fold) → Opcode ws i (reference_opcode f)

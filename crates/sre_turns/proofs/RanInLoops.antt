@@ -24,7 +24,7 @@ use Rattle.sre_model.proofs.Each.{flat_map-flat_map}
 use Rattle.sre_model.proofs.Bounds.{Bounded, within-all}
 use Rattle.sre_model.proofs.LoopCases.{stays}
 use Rattle.sre_model.proofs.Words.{word_within}
-use Rattle.sre_turns.proofs.Cost.{Costs, least_cost, more_cost}
+use Rattle.sre_model.specs.Cost.{Costs, least_cost, more_cost}
 use Rattle.sre_turns.proofs.Outcomes.{followed, Follows, Ran, alone}
 
 -- counts that are held at the greatest word decide alike

@@ -22,7 +22,7 @@ use Rattle.sre_turns.proofs.Moving.{at_instruction}
 use Rattle.sre_model.proofs.Bounds.{Between, EachBetween, Bounded, within-all}
 use Rattle.sre_model.proofs.LoopCases.{stays}
 use Rattle.sre_model.proofs.PossessiveCases.{first-bounded, first_of_body-all}
-use Rattle.sre_turns.proofs.Cost.{Costs, ending, atomic_cost, owed_cost, further_cost, possessive_cost}
+use Rattle.sre_model.specs.Cost.{Costs, ending, atomic_cost, owed_cost, further_cost, possessive_cost}
 use Rattle.sre_turns.proofs.Outcomes.{followed, Follows, Ran, alone, region}
 use Rattle.sre_turns.proofs.RanInLoops.{may_repeat-held, Room, room_left}
 

@@ -14,7 +14,7 @@ use Rattle.sre_turns.specs.Moves.{Spot, spot_at, Stop, Go, Enter, closing_move}
 use Rattle.sre_turns.specs.Machine.{Moves, Runs, turns, stops, goes, enters, Comes}
 use Rattle.sre_turns.proofs.Moving.{at_instruction}
 use Rattle.sre_model.proofs.Bounds.{Bounded, EachBetween}
-use Rattle.sre_turns.proofs.Cost.{Costs, ending, atomic_cost, look_cost, looked_cost}
+use Rattle.sre_model.specs.Cost.{Costs, ending, atomic_cost, look_cost, looked_cost}
 use Rattle.sre_turns.specs.MovesInRegions.{look}
 use Rattle.sre_model.specs.Roles.{ToGroupAtomically, ToLook, role}
 use Rattle.sre_turns.proofs.Outcomes.{followed, Follows, Ran, alone, region}

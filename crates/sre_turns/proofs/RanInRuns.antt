@@ -18,7 +18,7 @@ use Rattle.sre_model.specs.Roles.{ToRun}
 use Rattle.sre_turns.proofs.Moving.{at_instruction}
 use Rattle.sre_model.proofs.Bounds.{longest_run-fits}
 use Rattle.sre_model.proofs.Longest.{goes_on, longest_goes_on, longest_stops, least_there, least_short}
-use Rattle.sre_turns.proofs.Cost.{Costs, shorter_cost, run_cost, longer_cost, lazy_run_cost, longest_run_cost}
+use Rattle.sre_model.specs.Cost.{Costs, shorter_cost, run_cost, longer_cost, lazy_run_cost, longest_run_cost}
 use Rattle.sre_turns.proofs.Outcomes.{followed, Follows, Ran, alone}
 
 shorter-ran : (ws : List ℕ) (s : Subject) (j low n : ℕ) (fs : List Frame) (K : Body) (C : Costs) (p : ℕ) (m : Marks)

@@ -15,7 +15,7 @@ use Rattle.sre_turns.specs.Machine.{Waits, outermost, otherwise, Goes, Ends, Sta
 use Rattle.sre_model.specs.Runs.{Run}
 use Rattle.sre_turns.specs.declared.Next.{Next}
 use Rattle.sre_turns.specs.declared.Next.TheVariants as next
-use Rattle.sre_turns.proofs.Cost.{cost, ending}
+use Rattle.sre_model.specs.Cost.{cost, ending}
 use Rattle.sre_turns.proofs.Outcomes.{region}
 use Rattle.sre_turns.proofs.Placed.{none_placed}
 use Rattle.sre_turns.proofs.Ran.{ran}

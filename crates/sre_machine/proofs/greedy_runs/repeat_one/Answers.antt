@@ -26,10 +26,11 @@ longest_run-run-requires-clause-test g c =
 
 pub returns-then-run-least : goal.returns-then-run-least
 returns-then-run-least g c =
-    run_short (run_of c.args.req.now) _ c.operand-least.result c.operand-greatest.result c.longest_run-run.result.0
+    rw c.pass.ensures (run_short (run_of c.args.req.now) _ c.operand-least.result c.operand-greatest.result
+    c.longest_run-run.result.0
     c.args.cursor c.args.board.now c.requires.opcode
     (run_there (run_of c.args.req.now) GreedyRun _ c.args.cursor c.requires.opcode c.requires.stands).test
-    c.operand-least.ensures.word c.operand-greatest.ensures.word c.longest_run-run.ensures.count c.if-run-least.true
+    c.operand-least.ensures.word c.operand-greatest.ensures.word c.longest_run-run.ensures.count c.if-run-least.true)
 
 pub first_literal-wanted-requires : goal.first_literal-wanted-requires
 first_literal-wanted-requires g c =
@@ -51,14 +52,15 @@ shorter-requires-clause-stands g c =
 
 pub returns-then-lacks : goal.returns-then-lacks
 returns-then-lacks g c = λ all limit x.
-    c.in_ok-shorter.ensures all limit (both_pass (run_of c.args.req.now) _ _ c.longest_run-run.result.1 c.args.board.now
+    c.in_ok-shorter.ensures all limit
+    (rw c.pass.ensures (both_pass (run_of c.args.req.now) _ _ c.longest_run-run.result.1 c.args.board.now
     (c.lacks.ensures c.if-lacks.true _ c.first_literal-wanted.ensures) all limit
     (run_both (run_of c.args.req.now) _ c.operand-skip.result c.operand-least.result c.operand-greatest.result
     c.longest_run-run.result.0 c.args.cursor c.longest_run-run.result.1 c.requires.opcode
     (run_there (run_of c.args.req.now) GreedyRun _ c.args.cursor c.requires.opcode c.requires.stands).test
     c.operand-skip.ensures.word c.operand-least.ensures.word c.operand-greatest.ensures.word
     c.longest_run-run.ensures.count c.if-run-least.false c.longest_run-run.ensures.position
-    c.longest_run-run.ensures.stands c.args.board.now all limit x))
+    c.longest_run-run.ensures.stands c.args.board.now all limit x)))
 
 pub is_only_count-is_only-requires : goal.is_only_count-is_only-requires
 is_only_count-is_only-requires g c =
@@ -66,7 +68,7 @@ is_only_count-is_only-requires g c =
 
 pub returns-then-is_only : goal.returns-then-is_only
 returns-then-is_only g c = λ all limit x.
-    exhausted_back (run_of c.args.req.now) _ c.longest_run-run.result.1 c.args.board.now
+    rw c.pass.ensures (exhausted_back (run_of c.args.req.now) _ c.longest_run-run.result.1 c.args.board.now
     (run_only (run_of c.args.req.now) _ c.operand-skip.result c.operand-least.result c.operand-greatest.result
     c.longest_run-run.result.0 c.args.cursor c.longest_run-run.result.1 c.requires.opcode
     (run_there (run_of c.args.req.now) GreedyRun _ c.args.cursor c.requires.opcode c.requires.stands).test
@@ -81,11 +83,11 @@ returns-then-is_only g c = λ all limit x.
     (run_there (run_of c.args.req.now) GreedyRun _ c.args.cursor c.requires.opcode c.requires.stands).test
     c.operand-skip.ensures.word c.operand-least.ensures.word c.operand-greatest.ensures.word
     c.longest_run-run.ensures.count c.if-run-least.false c.longest_run-run.ensures.position
-    c.longest_run-run.ensures.stands c.args.board.now all limit x))
+    c.longest_run-run.ensures.stands c.args.board.now all limit x)))
 
 pub returns-then-is_only-2 : goal.returns-then-is_only-2
 returns-then-is_only-2 g c = λ all limit x.
-    both_exhausted (run_of c.args.req.now) _ _ c.longest_run-run.result.1 c.args.board.now
+    rw c.pass.ensures (both_exhausted (run_of c.args.req.now) _ _ c.longest_run-run.result.1 c.args.board.now
     (run_only (run_of c.args.req.now) _ c.operand-skip.result c.operand-least.result c.operand-greatest.result
     c.longest_run-run.result.0 c.args.cursor c.longest_run-run.result.1 c.requires.opcode
     (run_there (run_of c.args.req.now) GreedyRun _ c.args.cursor c.requires.opcode c.requires.stands).test
@@ -98,13 +100,14 @@ returns-then-is_only-2 g c = λ all limit x.
     (run_there (run_of c.args.req.now) GreedyRun _ c.args.cursor c.requires.opcode c.requires.stands).test
     c.operand-skip.ensures.word c.operand-least.ensures.word c.operand-greatest.ensures.word
     c.longest_run-run.ensures.count c.if-run-least.false c.longest_run-run.ensures.position
-    c.longest_run-run.ensures.stands c.args.board.now all limit x)
+    c.longest_run-run.ensures.stands c.args.board.now all limit x))
 
 pub returns : goal.returns
 returns g c = λ all limit x.
-    c.in_ok-choose.ensures all limit (run_both (run_of c.args.req.now) _ c.operand-skip.result c.operand-least.result
+    c.in_ok-choose.ensures all limit
+    (rw c.pass.ensures (run_both (run_of c.args.req.now) _ c.operand-skip.result c.operand-least.result
     c.operand-greatest.result c.longest_run-run.result.0 c.args.cursor c.longest_run-run.result.1 c.requires.opcode
     (run_there (run_of c.args.req.now) GreedyRun _ c.args.cursor c.requires.opcode c.requires.stands).test
     c.operand-skip.ensures.word c.operand-least.ensures.word c.operand-greatest.ensures.word
     c.longest_run-run.ensures.count c.if-run-least.false c.longest_run-run.ensures.position
-    c.longest_run-run.ensures.stands c.args.board.now all limit x)
+    c.longest_run-run.ensures.stands c.args.board.now all limit x))

@@ -14,10 +14,11 @@ returns-then-saturating_sub-least g c =
 
 pub returns-then-run-least : goal.returns-then-run-least
 returns-then-run-least g c =
-    lazy_short (run_of c.args.req.now) c.args.place c.operand-least.result c.args.cursor c.requires.opcode
+    rw c.pass.ensures (lazy_short (run_of c.args.req.now) c.args.place c.operand-least.result c.args.cursor
+    c.requires.opcode
     (run_there (run_of c.args.req.now) LazyRun c.args.place c.args.cursor c.requires.opcode c.requires.stands)
     c.operand-least.ensures.word c.args.board.now c.run_up_to-run.result.0 c.run_up_to-run.ensures.count
-    c.if-run-least.true
+    c.if-run-least.true)
 
 pub refuses-requires : goal.refuses-requires
 refuses-requires g c =
@@ -37,22 +38,24 @@ longer-requires g c =
 
 pub returns-then-refuses : goal.returns-then-refuses
 returns-then-refuses g c = λ all limit x.
-    c.in_ok-longer.ensures all limit (both_pass (run_of c.args.req.now) _ _ c.run_up_to-run.result.1 c.args.board.now
+    c.in_ok-longer.ensures all limit
+    (rw c.pass.ensures (both_pass (run_of c.args.req.now) _ _ c.run_up_to-run.result.1 c.args.board.now
     (c.refuses.ensures c.if-refuses.true) all limit
     (lazy_both (run_of c.args.req.now) c.args.place c.operand-least.result c.args.cursor c.requires.opcode
     (run_there (run_of c.args.req.now) LazyRun c.args.place c.args.cursor c.requires.opcode c.requires.stands)
     c.operand-least.ensures.word c.operand-skip.result c.run_up_to-run.result.0 c.run_up_to-run.result.1
     c.operand-skip.ensures.word c.run_up_to-run.ensures.count c.if-run-least.false c.run_up_to-run.ensures.position
-    c.run_up_to-run.ensures.stands c.args.board.now all limit x))
+    c.run_up_to-run.ensures.stands c.args.board.now all limit x)))
 
 pub returns : goal.returns
 returns g c = λ all limit x.
     c.in_ok-choose.ensures all limit
-    (lazy_both (run_of c.args.req.now) c.args.place c.operand-least.result c.args.cursor c.requires.opcode
+    (rw c.pass.ensures (lazy_both (run_of c.args.req.now) c.args.place c.operand-least.result c.args.cursor
+    c.requires.opcode
     (run_there (run_of c.args.req.now) LazyRun c.args.place c.args.cursor c.requires.opcode c.requires.stands)
     c.operand-least.ensures.word c.operand-skip.result c.run_up_to-run.result.0 c.run_up_to-run.result.1
     c.operand-skip.ensures.word c.run_up_to-run.ensures.count c.if-run-least.false c.run_up_to-run.ensures.position
-    c.run_up_to-run.ensures.stands c.args.board.now all limit x)
+    c.run_up_to-run.ensures.stands c.args.board.now all limit x))
 
 pub operand-skip-requires : goal.operand-skip-requires
 operand-skip-requires g c =

@@ -37,6 +37,3 @@ returns-in-AT g c = c.at.ensures _
 
 pub returns-in-JUMP : goal.returns-in-JUMP
 returns-in-JUMP g c = c.jump.ensures _
-
-pub returns-in-POSSESSIVE_REPEAT_ONE : goal.returns-in-POSSESSIVE_REPEAT_ONE
-returns-in-POSSESSIVE_REPEAT_ONE g c = c.possessive_repeat_one.ensures _

@@ -24,17 +24,19 @@ longest_run-run-requires-clause-test g c =
     (run_there (run_of c.args.req.now) PossessiveRun _ c.args.cursor c.requires.opcode c.requires.stands).test
 
 pub returns-then-run-least : goal.returns-then-run-least
-returns-then-run-least g c = λ b.
-    longest_short (run_of c.args.req.now) _ c.operand-least.result c.operand-greatest.result c.longest_run-run.result.0
-    c.args.cursor b c.requires.opcode
+returns-then-run-least g c =
+    rw c.pass.ensures (longest_short (run_of c.args.req.now) _ c.operand-least.result c.operand-greatest.result
+    c.longest_run-run.result.0
+    c.args.cursor c.args.board.now c.requires.opcode
     (run_there (run_of c.args.req.now) PossessiveRun _ c.args.cursor c.requires.opcode c.requires.stands).test
-    c.operand-least.ensures.word c.operand-greatest.ensures.word c.longest_run-run.ensures.count c.if-run-least.true
+    c.operand-least.ensures.word c.operand-greatest.ensures.word c.longest_run-run.ensures.count c.if-run-least.true)
 
 pub returns : goal.returns
-returns g c = λ b.
-    longest_step (run_of c.args.req.now) _ c.operand-least.result c.operand-greatest.result c.longest_run-run.result.0
-    c.args.cursor b c.requires.opcode
+returns g c =
+    rw c.pass.ensures (longest_step (run_of c.args.req.now) _ c.operand-least.result c.operand-greatest.result
+    c.longest_run-run.result.0
+    c.args.cursor c.args.board.now c.requires.opcode
     (run_there (run_of c.args.req.now) PossessiveRun _ c.args.cursor c.requires.opcode c.requires.stands).test
     c.operand-least.ensures.word c.operand-greatest.ensures.word c.longest_run-run.ensures.count c.operand-skip.result
     c.longest_run-run.result.1 c.operand-skip.ensures.word c.if-run-least.false c.longest_run-run.ensures.position
-    c.longest_run-run.ensures.stands
+    c.longest_run-run.ensures.stands)

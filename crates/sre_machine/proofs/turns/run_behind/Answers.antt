@@ -17,5 +17,8 @@ turns_from-requires-clause-stands g c =
     (subst (λ (ws : List ℕ). AreWords ws) same c.know_words.ensures) (c.requires.behind (tree_of r.words) whole)
     whole.1 c.requires.stands c.requires.inside c.requires.fresh
 
-pub returns : goal.returns
-returns g c = λ t w. rw (← whole-read _ t w) c.turns_from.ensures
+pub returns-clause-decides : goal.returns-clause-decides
+returns-clause-decides g c = λ t w. rw (← whole-read _ t w) c.turns_from.ensures.decides
+
+pub returns-clause-spent : goal.returns-clause-spent
+returns-clause-spent g c = λ t w. rw (← whole-read _ t w) c.turns_from.ensures.spent

@@ -3,7 +3,7 @@ use Rattle.sre_turns.specs.Machine.{outcomes}
 use Rattle.sre_model.specs.Prefixes.{behind_items}
 use Rattle.sre_request.specs.Runs.{run_of}
 use Rattle.sre_model.proofs.TreeOf.{tree_of}
-use Rattle.sre_turns.proofs.Cost.{cost, ending}
+use Rattle.sre_model.specs.Cost.{cost, ending}
 use Rattle.sre_machine.proofs.turns.run_behind.Given as goal
 
 abbrev pub ghosts-turns_from-L-Ledger : goal.ghosts-turns_from-L-Ledger

@@ -1,5 +1,6 @@
--- How many turns the machine takes for a tree, given how many it takes for what follows.
-use Rattle.std.proofs.Common.{ℕ, zero, suc, ◌+◌, ◌-◌, cond, nat_lt, nat_le, ◌&&◌, List, [], ◌∷◌, Option, Some, None}
+-- How many turns it takes to go over all ways of a tree, given how many it takes for what follows.
+-- Of the meaning: what sre_engine makes public rests on it.
+use Rattle.std.specs.Prelude.{ℕ, zero, suc, ◌+◌, ◌-◌, cond, nat_lt, nat_le, ◌&&◌, List, [], ◌∷◌, Option, Some, None}
 use Rattle.sre_model.specs.Tree.{Tree, Empty, Then, Item, One, At, Mark, Branch, Loop, Run, GreedyRun, LazyRun}
 use Rattle.sre_model.specs.Tree.{PossessiveRun, PossessiveLoop, Atomic, Look, Sign, Positive, Negative, Trees, Only, Or}
 use Rattle.sre_model.specs.Tree.{Fail, Reference, Exists, ExistsElse, Fold}
