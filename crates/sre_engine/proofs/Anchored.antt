@@ -1,19 +1,15 @@
 -- Codes that match at the text's start alone.
-use Rattle.std.proofs.Common.{◌≡◌, ◌<◌, ℕ, Bool, true, false, ◌&&◌, ◌||◌, nat_eq, None, refl, sym, ap, ◌∙◌}
-use Rattle.std.proofs.Common.{arith, inl, inr, subst, ◌≢◌}
+use Rattle.std.proofs.Common.{◌≡◌, ◌<◌, ℕ, true, false, nat_eq, None, refl}
+use Rattle.std.proofs.Common.{arith, inl, inr, subst}
 use Rattle.std.proofs.lemmas.Bool.{cases_lt}
 use Rattle.std.proofs.lemmas.Bool.Decides.{nat_tests}
 use Rattle.sre_chars.specs.declared.constants.SreAtCode.TheVariants as at
-use Rattle.sre_chars.specs.declared.constants.SreOpcode.TheVariants as opcode
-use Rattle.sre_model.specs.Tree.{Tree, Then, Item, At}
+use Rattle.sre_model.specs.Tree.{Tree, Then, At}
 use Rattle.sre_model.specs.Anchors.{is_anchored}
 use Rattle.sre_model.specs.Marks.{no_marks}
 use Rattle.sre_model.specs.Subject.{Subject}
-use Rattle.sre_model.specs.Grammar.{item_opcode}
-use Rattle.sre_model.specs.Roles.{ToCheckPosition, role}
 use Rattle.sre_model.specs.FirstCharacters.{NoWay}
 use Rattle.sre_model.specs.Found.{Asked, subject_of, at_start, found}
-use Rattle.sre_model.proofs.Families.{item_role, role_same}
 use Rattle.sre_model.proofs.FoundLaws.{none-found}
 use Rattle.sre_engine.proofs.Answering.{NoneBefore}
 

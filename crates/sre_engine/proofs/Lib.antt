@@ -13,3 +13,4 @@ pub mod Claiming
 pub mod FirstMembers
 pub mod AmongMembers
 pub mod Hinting
+pub mod Spending

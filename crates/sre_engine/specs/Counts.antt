@@ -1,7 +1,9 @@
 -- What a search counts at most.
 -- Public clauses rest on it.
 use Rattle.std.specs.Prelude.{ℕ, ◌+◌, ◌-◌, ◌*◌, ◌≡◌, ◌≤◌, List, true, Some, None}
-use Rattle.sre_model.specs.Tree.{SetItem}
+use Rattle.sre_model.specs.Tree.{Tree, SetItem}
+use Rattle.sre_model.specs.Grammar.{Whole}
+use Rattle.sre_model.specs.TurnBounds.{RunsWithin}
 use Rattle.sre_model.specs.Found.{Asked, subject_of}
 use Rattle.sre_model.specs.Prefixes.{stands_at, how_many}
 use Rattle.sre_code.specs.Codes.{words_of, hints_of}
@@ -24,3 +26,7 @@ pub record CountsUpTo (a : Asked) (code : Code) (to seen : ℕ) (s : Shown) : Ty
       → s.started ≤ how_many (is_among a set) a.start (to - a.start)
   pub compared : s.compared ≤ 2 * (seen - a.start)
   pub uncompared : (hints_of code).prefix ≡ None → s.compared ≡ 0
+
+-- of turns that were given, those that are left are no fewer than those that so many runs of the machine leave
+pub record SpentUpTo (a : Asked) (code : Code) (given left started : ℕ) : Type 0 where
+  pub each : (t : Tree) → Whole (words_of code) t → (most : ℕ) → RunsWithin a t most → given ≤ left + started * most

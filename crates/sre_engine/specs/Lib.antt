@@ -11,6 +11,8 @@ pub use Rattle.sre_model.specs.Width
 pub use Rattle.sre_model.specs.Claims
 pub use Rattle.sre_model.specs.Found
 pub use Rattle.sre_model.specs.WalkBounds
+pub use Rattle.sre_model.specs.Cost
+pub use Rattle.sre_model.specs.TurnBounds
 pub use Rattle.sre_model.specs.Anchors
 pub use Rattle.sre_model.specs.Prefixes
 pub use Rattle.sre_code.specs.Refusals
@@ -26,4 +28,5 @@ pub mod Starts
 pub mod Scans
 pub mod Members
 pub mod Counts
+pub mod Halts
 pub mod Prefixed

@@ -1,7 +1,7 @@
 //! A state: what a search leaves of a match.
 
 ghost use Rattle.std.specs.Prelude.{◌≡◌, ◌+◌, ◌-◌, ◌*◌, ◌^◌, ◌<◌, ◌≤◌, ℕ, length, IfOk, OnErr, true, false, Some};
-ghost use Rattle.std.specs.Prelude.{None};
+ghost use Rattle.std.specs.Prelude.{None, IfSome, IfErr, ◌≢◌};
 ghost use Rattle.sre_model.specs.Tree.{Tree};
 ghost use Rattle.sre_model.specs.Grammar.{Whole, WholeItems};
 ghost use Rattle.sre_model.specs.Marks.{no_marks};
@@ -14,13 +14,14 @@ ghost use Rattle.sre_code.specs.Codes.{words_of, hints_of};
 ghost use Rattle.sre_request.specs.Requests.{string_of, start_of, end_of, code_of, asked_of, stands_in};
 ghost use Rattle.sre_request.specs.Runs.{run_of, Standing};
 ghost use Rattle.sre_engine.specs.Answers.{Answers, AnswersAlike, Spans};
-ghost use Rattle.sre_engine.specs.Counts.{CountsUpTo};
+ghost use Rattle.sre_engine.specs.Counts.{CountsUpTo, SpentUpTo};
+ghost use Rattle.sre_engine.specs.Halts.{Halted};
 ghost use Rattle.sre_growth.specs.Refusal.{Refused};
 
 use sre_board::{Board, Marks};
 use sre_chars::string::{StrDrive, StringCursor};
 use sre_growth::Refusal;
-use sre_machine::turns::run_behind;
+use sre_machine::turns::{Halt, run_behind};
 use sre_request::Request;
 use std::alloc::Allocator;
 use std::marker::Model;
@@ -78,8 +79,8 @@ impl<A: Allocator + Copy> Model for State<A> {
 }
 
 // The first accepted way of what follows some literals, from a cursor and on an empty board: the cursor at its end, and
-// its marks on the board. Without a way, or with an error, the board is empty. No other function begins a run of the
-// machine, and this one begins one.
+// its marks on the board. Without a way, or with an error, the board is empty. Where the run is limited it takes its
+// turns off those that are left. No other function begins a run of the machine, and this one begins one.
 #[inline(always)]
 fn attempt<S: StrDrive, A: Allocator>(
     req: &Request<'_, S>,
@@ -87,7 +88,9 @@ fn attempt<S: StrDrive, A: Allocator>(
     start: StringCursor,
     board: &mut Board<A>,
     started: &mut u64,
-) -> Result<Option<StringCursor>, SreError>
+    limited: bool,
+    left: &mut u64,
+) -> Result<Option<StringCursor>, Halt>
     requires stands { Standing req.now start }
     requires inside { start.position ≤ end_of req.now }
     requires fresh { board.old ≡ bare no_marks }
@@ -101,18 +104,19 @@ fn attempt<S: StrDrive, A: Allocator>(
         board.new.marks) }
     ensures none { result ≡ Ok None → board.new ≡ bare no_marks }
     ensures err { OnErr result (board.new ≡ bare no_marks) }
-    ensures refused { OnErr result Refused }
+    ensures halted { IfErr result (Halted limited left.new) }
+    ensures spent { SpentUpTo (asked_of req.now) (code_of req.now) left.old left.new 1 }
 {
     *started += 1;
-    match run_behind(req, literals, start, board) {
+    match run_behind(req, literals, start, board, limited, left) {
         Ok(Some(end)) => Ok(Some(end)),
         Ok(None) => {
             board.clear();
             Ok(None)
         }
-        Err(error) => {
+        Err(halt) => {
             board.clear();
-            Err(SreError::from(error))
+            Err(halt)
         }
     }
 }
@@ -207,9 +211,69 @@ impl<A: Allocator + Copy> State<A> {
         ensures started { self.new.started ≡ self.old.started }
     {
         let start = req.string().create_cursor(req.start());
+        let limited = false;
+        match self.match_from(req, start, limited, &mut 0) {
+            Ok(found) => Ok(found),
+            Err(Halt::Refused(refusal)) => Err(SreError::from(refusal)),
+            Err(Halt::UsedUp) => unreachable!(),
+        }
+    }
+
+    /// Matches at the window's start as `pymatch` does, within a number of turns of the machine: `None` where they were
+    /// used up before the answer was known, and then there are no marks.
+    ///
+    /// What is left of the turns comes back. A turn is one instruction, or one step back to what is still to be tried;
+    /// a stretch of 64 characters or more that a run or a reference goes over counts for one more for each eight of
+    /// them. So the time of a turn is bounded by the code's length, and a number of turns bounds the time of a call.
+    pub fn match_within<S: StrDrive>(
+        &mut self,
+        req: &Request<'_, S>,
+        turns: &mut u64,
+    ) -> Result<Option<bool>, SreError>
+        ensures ok { (t : Tree) → Whole (words_of (code_of req.now)) t → IfOk result
+            (λ told. IfSome told (λ b. Answers (stands_in req.now) (matched (asked_of req.now) t) b self.new)) }
+        ensures alike { (t : Tree) → Whole (words_of (code_of req.now)) t → IfOk result
+            (λ told. IfSome told (λ b. AnswersAlike (λ asked. matched asked t) (asked_of req.now) b self.new)) }
+        ensures span { IfOk result (λ told. told ≡ Some true → Spans (start_of req.now) (end_of req.now) self.new) }
+        ensures no { IfOk result (λ told. told ≢ Some true → self.new.marks ≡ no_marks) }
+        ensures used { IfOk result (λ told. told ≡ None → turns.new ≡ 0) }
+        ensures spent { SpentUpTo (asked_of req.now) (code_of req.now) turns.old turns.new 1 }
+        ensures err { OnErr result (self.new.marks ≡ no_marks) }
+        ensures refused { OnErr result Refused }
+        ensures compared { self.new.compared ≡ self.old.compared }
+        ensures started { self.new.started ≡ self.old.started }
+    {
+        let start = req.string().create_cursor(req.start());
+        let limited = true;
+        match self.match_from(req, start, limited, turns) {
+            Ok(found) => Ok(Some(found)),
+            Err(Halt::Refused(refusal)) => Err(SreError::from(refusal)),
+            Err(Halt::UsedUp) => Ok(None),
+        }
+    }
+
+    // Matches as `pymatch` does, from a cursor that stands at the window's start.
+    fn match_from<S: StrDrive>(
+        &mut self,
+        req: &Request<'_, S>,
+        from: StringCursor,
+        limited: bool,
+        left: &mut u64,
+    ) -> Result<bool, Halt>
+        requires { stands_in req.now from (start_of req.now) }
+        ensures ok { (t : Tree) → Whole (words_of (code_of req.now)) t
+            → IfOk result (λ b. Answers (stands_in req.now) (matched (asked_of req.now) t) b self.new) }
+        ensures span { IfOk result (λ b. b ≡ true → Spans (start_of req.now) (end_of req.now) self.new) }
+        ensures no { IfOk result (λ b. b ≡ false → self.new.marks ≡ no_marks) }
+        ensures err { OnErr result (self.new.marks ≡ no_marks) }
+        ensures halted { IfErr result (Halted limited left.new) }
+        ensures spent { SpentUpTo (asked_of req.now) (code_of req.now) left.old left.new 1 }
+        ensures compared { self.new.compared ≡ self.old.compared }
+        ensures started { self.new.started ≡ self.old.started }
+    {
         let mut own = 0; // no search
         self.board.clear(); // of an earlier match
-        match attempt(req, 0, start, &mut self.board, &mut own)? {
+        match attempt(req, 0, from, &mut self.board, &mut own, limited, left)? {
             Some(end) => {
                 (self.start, self.cursor) = (req.start(), end);
                 Ok(true)
@@ -251,7 +315,52 @@ impl<A: Allocator + Copy> State<A> {
         ensures literal { (l k : ℕ) → (hints_of (code_of req.entry)).prefix ≡ Some (l, k)
             → (hints_of (code_of req.entry)).literal ≡ true → OnErr result ⊥ }
     {
-        self.search_from(&req, req.string().create_cursor(req.start()))
+        let start = req.string().create_cursor(req.start());
+        let limited = false;
+        match self.search_from(&req, start, limited, &mut 0) {
+            Ok(found) => Ok(found),
+            Err(Halt::Refused(refusal)) => Err(SreError::from(refusal)),
+            Err(Halt::UsedUp) => unreachable!(),
+        }
+    }
+
+    /// Searches the window as `search` does, within a number of turns of the machine over all its starts: `None` where
+    /// they were used up before the answer was known, and then there are no marks. `match_within` says what a turn is.
+    ///
+    /// What is left of the turns comes back, so one number can bound several searches. Beside its turns a search goes
+    /// over each character of the window a bounded number of times, to find the starts that it tries.
+    pub fn search_within<S: StrDrive>(
+        &mut self,
+        req: Request<'_, S>,
+        turns: &mut u64,
+    ) -> Result<Option<bool>, SreError>
+        ensures ok { (t : Tree) → Whole (words_of (code_of req.entry)) t → IfOk result
+            (λ told. IfSome told (λ b. Answers (stands_in req.entry) (found (asked_of req.entry) t) b self.new)) }
+        ensures alike { (t : Tree) → Whole (words_of (code_of req.entry)) t → IfOk result
+            (λ told. IfSome told (λ b. AnswersAlike (λ asked. found asked t) (asked_of req.entry) b self.new)) }
+        ensures span { IfOk result (λ told. told ≡ Some true
+            → (start_of req.entry ≤ self.new.start) × Spans self.new.start (end_of req.entry) self.new) }
+        ensures no { IfOk result (λ told. told ≢ Some true → self.new.marks ≡ no_marks) }
+        ensures used { IfOk result (λ told. told ≡ None → turns.new ≡ 0) }
+        ensures spent { SpentUpTo (asked_of req.entry) (code_of req.entry) turns.old turns.new self.new.started }
+        ensures err { OnErr result (self.new.marks ≡ no_marks) }
+        ensures refused { OnErr result Refused }
+        ensures counts { CountsUpTo (asked_of req.entry) (code_of req.entry) (end_of req.entry + 1) (end_of req.entry)
+            self.new }
+        ensures up_to_match { IfOk result (λ told. told ≡ Some true → CountsUpTo (asked_of req.entry)
+            (code_of req.entry) (self.new.start + 1) self.new.cursor.position self.new) }
+        ensures anchored { (t : Tree) → Whole (words_of (code_of req.entry)) t
+            → is_anchored t ≡ true → self.new.started ≤ 1 }
+        ensures literal { (l k : ℕ) → (hints_of (code_of req.entry)).prefix ≡ Some (l, k)
+            → (hints_of (code_of req.entry)).literal ≡ true → (OnErr result ⊥) × IfOk result (λ told. told ≢ None) }
+    {
+        let start = req.string().create_cursor(req.start());
+        let limited = true;
+        match self.search_from(&req, start, limited, turns) {
+            Ok(found) => Ok(Some(found)),
+            Err(Halt::Refused(refusal)) => Err(SreError::from(refusal)),
+            Err(Halt::UsedUp) => Ok(None),
+        }
     }
 
     // The allocator that its memory is taken from.

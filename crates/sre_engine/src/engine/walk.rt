@@ -1,6 +1,6 @@
 //! One step of a walk: the next match, and what is asked after it.
 
-ghost use Rattle.std.specs.Prelude.{◌≡◌, ◌<◌, ℕ, IfOk, OnErr, true, false, Some};
+ghost use Rattle.std.specs.Prelude.{◌≡◌, ◌<◌, ℕ, IfOk, IfErr, OnErr, true, false, Some};
 ghost use Rattle.sre_model.specs.Tree.{Tree};
 ghost use Rattle.sre_model.specs.Grammar.{Whole};
 ghost use Rattle.sre_model.specs.Marks.{no_marks};
@@ -9,10 +9,13 @@ ghost use Rattle.sre_model.specs.WalkBounds.{most_matches};
 ghost use Rattle.sre_code.specs.Codes.{words_of, hints_of};
 ghost use Rattle.sre_request.specs.Requests.{start_of, code_of, asked_of, stands_in};
 ghost use Rattle.sre_engine.specs.Walks.{StepsTo, GoesOn};
+ghost use Rattle.sre_engine.specs.Counts.{SpentUpTo};
+ghost use Rattle.sre_engine.specs.Halts.{Halted};
 ghost use Rattle.sre_growth.specs.Refusal.{Refused};
 
 use crate::engine::state::{SreError, State};
 use sre_chars::string::{StrDrive, StringCursor};
+use sre_machine::turns::Halt;
 use sre_request::Request;
 use std::alloc::Allocator;
 
@@ -20,7 +23,39 @@ use std::alloc::Allocator;
 /// at its end, where the cursor stands, and must advance where the match was empty. So no step counts characters from
 /// the text's start on.
 ///
-/// Without a match, and after an error, there are no marks, and the request is as it was.
+/// Without a match, and after an error, there are no marks, and the request is as it was. Where it is limited it takes
+/// its turns off those that are left.
+pub(crate) fn step_within<S: StrDrive, A: Allocator + Copy>(
+    req: &mut Request<'_, S>,
+    state: &mut State<A>,
+    cursor: &mut StringCursor,
+    limited: bool,
+    left: &mut u64,
+) -> Result<bool, Halt>
+    requires { stands_in req.old cursor.old (start_of req.old) }
+    ensures ok { (t : Tree) → Whole (words_of (code_of req.old)) t
+        → IfOk result (λ b. StepsTo (walk (asked_of req.old) t) b state.new (walk (asked_of req.new) t)) }
+    ensures yes { IfOk result (λ b. b ≡ true → GoesOn req.old state.new req.new) }
+    ensures falls { IfOk result (λ b. b ≡ true → most_matches (asked_of req.new) < most_matches (asked_of req.old)) }
+    ensures no { IfOk result (λ b. b ≡ false → (req.new ≡ req.old) × (state.new.marks ≡ no_marks)) }
+    ensures here { stands_in req.new cursor.new (start_of req.new) }
+    ensures err { OnErr result ((req.new ≡ req.old) × (state.new.marks ≡ no_marks)) }
+    ensures halted { IfErr result (Halted limited left.new) }
+    ensures spent { SpentUpTo (asked_of req.old) (code_of req.old) left.old left.new state.new.started }
+    ensures literal { (l k : ℕ) → (hints_of (code_of req.old)).prefix ≡ Some (l, k)
+        → (hints_of (code_of req.old)).literal ≡ true → OnErr result ⊥ }
+{
+    if !state.search_from(req, *cursor, limited, left)? {
+        return Ok(false);
+    }
+    *cursor = state.cursor();
+    let end = cursor.position();
+    req.set_must_advance(end == state.start());
+    req.set_start(end);
+    Ok(true)
+}
+
+/// The same without a limit.
 pub(crate) fn step<S: StrDrive, A: Allocator + Copy>(
     req: &mut Request<'_, S>,
     state: &mut State<A>,
@@ -38,12 +73,10 @@ pub(crate) fn step<S: StrDrive, A: Allocator + Copy>(
     ensures literal { (l k : ℕ) → (hints_of (code_of req.old)).prefix ≡ Some (l, k)
         → (hints_of (code_of req.old)).literal ≡ true → OnErr result ⊥ }
 {
-    if !state.search_from(req, *cursor)? {
-        return Ok(false);
+    let limited = false;
+    match step_within(req, state, cursor, limited, &mut 0) {
+        Ok(found) => Ok(found),
+        Err(Halt::Refused(refusal)) => Err(SreError::from(refusal)),
+        Err(Halt::UsedUp) => unreachable!(),
     }
-    *cursor = state.cursor();
-    let end = cursor.position();
-    req.set_must_advance(end == state.start());
-    req.set_start(end);
-    Ok(true)
 }

@@ -1,7 +1,7 @@
 //! The search, by what its code's hints confirm: along the places of a prefix, the members of a first set, or the
 //! starts that what has to come first leaves.
 
-ghost use Rattle.std.specs.Prelude.{◌≡◌, ◌+◌, ◌≤◌, ℕ, IfOk, OnErr, true, false, Some, None};
+ghost use Rattle.std.specs.Prelude.{◌≡◌, ◌+◌, ◌≤◌, ℕ, IfOk, IfErr, OnErr, true, false, Some, None};
 ghost use Rattle.sre_model.specs.Tree.{Tree};
 ghost use Rattle.sre_model.specs.Grammar.{Whole};
 ghost use Rattle.sre_model.specs.Marks.{no_marks};
@@ -10,10 +10,10 @@ ghost use Rattle.sre_model.specs.Anchors.{is_anchored};
 ghost use Rattle.sre_code.specs.Codes.{words_of, hints_of};
 ghost use Rattle.sre_request.specs.Requests.{start_of, end_of, code_of, asked_of, stands_in};
 ghost use Rattle.sre_engine.specs.Answers.{Answers, Spans};
-ghost use Rattle.sre_engine.specs.Counts.{CountsUpTo};
+ghost use Rattle.sre_engine.specs.Counts.{CountsUpTo, SpentUpTo};
 ghost use Rattle.sre_engine.specs.Prefixed.{IsPrefix, IsLast, FitsAt};
 ghost use Rattle.sre_engine.specs.Starts.{NoneBetween};
-ghost use Rattle.sre_growth.specs.Refusal.{Refused};
+ghost use Rattle.sre_engine.specs.Halts.{Halted};
 
 use crate::engine::anchors::is_anchored;
 use crate::engine::first_characters::First;
@@ -23,9 +23,10 @@ use crate::engine::next_start::next_start;
 use crate::engine::prefix::{
     Prefix, Spot, behind_literals, find, go_on, may_end, prefix_of, start_of,
 };
-use crate::engine::state::{SreError, State, attempt};
+use crate::engine::state::{State, attempt};
 use crate::engine::widths::{is_past, last_start};
 use sre_chars::string::{StrDrive, StringCursor};
+use sre_machine::turns::Halt;
 use sre_request::Request;
 use std::alloc::Allocator;
 
@@ -35,7 +36,9 @@ impl<A: Allocator + Copy> State<A> {
         &mut self,
         req: &Request<'_, S>,
         from: StringCursor,
-    ) -> Result<bool, SreError>
+        limited: bool,
+        left: &mut u64,
+    ) -> Result<bool, Halt>
         requires { stands_in req.now from (start_of req.now) }
         ensures ok { (t : Tree) → Whole (words_of (code_of req.now)) t
             → IfOk result (λ b. Answers (stands_in req.now) (found (asked_of req.now) t) b self.new) }
@@ -43,7 +46,8 @@ impl<A: Allocator + Copy> State<A> {
             (λ b. b ≡ true → (start_of req.now ≤ self.new.start) × Spans self.new.start (end_of req.now) self.new) }
         ensures no { IfOk result (λ b. b ≡ false → self.new.marks ≡ no_marks) }
         ensures err { OnErr result (self.new.marks ≡ no_marks) }
-        ensures refused { OnErr result Refused }
+        ensures halted { IfErr result (Halted limited left.new) }
+        ensures spent { SpentUpTo (asked_of req.now) (code_of req.now) left.old left.new self.new.started }
         ensures counts { CountsUpTo (asked_of req.now) (code_of req.now) (end_of req.now + 1) (end_of req.now)
             self.new }
         ensures up_to_match { IfOk result (λ b. b ≡ true → CountsUpTo (asked_of req.now) (code_of req.now)
@@ -57,15 +61,15 @@ impl<A: Allocator + Copy> State<A> {
             if prefix.whole {
                 return Ok(self.search_whole(req, &prefix, from));
             }
-            return self.search_places(req, &prefix, from);
+            return self.search_places(req, &prefix, from, limited, left);
         }
         if req.pattern_codes().hints().first_set {
-            return self.search_members(req, from);
+            return self.search_members(req, from, limited, left);
         }
         if is_anchored(req) {
-            return self.search_anchored(req, from);
+            return self.search_anchored(req, from, limited, left);
         }
-        self.search_starts(req, from)
+        self.search_starts(req, from, limited, left)
     }
 
     // Searches the places where a prefix stands, which is all of the code.
@@ -110,7 +114,9 @@ impl<A: Allocator + Copy> State<A> {
         req: &Request<'_, S>,
         prefix: &Prefix<'_>,
         from: StringCursor,
-    ) -> Result<bool, SreError>
+        limited: bool,
+        left: &mut u64,
+    ) -> Result<bool, Halt>
         requires stands { stands_in req.now from (start_of req.now) }
         requires is { IsPrefix (code_of req.now) prefix.now.words.now prefix.now.literals prefix.now.whole }
         requires more { prefix.now.whole ≡ false }
@@ -120,7 +126,8 @@ impl<A: Allocator + Copy> State<A> {
             (λ b. b ≡ true → (start_of req.now ≤ self.new.start) × Spans self.new.start (end_of req.now) self.new) }
         ensures no { IfOk result (λ b. b ≡ false → self.new.marks ≡ no_marks) }
         ensures err { OnErr result (self.new.marks ≡ no_marks) }
-        ensures refused { OnErr result Refused }
+        ensures halted { IfErr result (Halted limited left.new) }
+        ensures spent { SpentUpTo (asked_of req.now) (code_of req.now) left.old left.new self.new.started }
         ensures counts { CountsUpTo (asked_of req.now) (code_of req.now) (end_of req.now + 1) (end_of req.now)
             self.new }
         ensures up_to_match { IfOk result (λ b. b ≡ true → CountsUpTo (asked_of req.now) (code_of req.now)
@@ -145,6 +152,8 @@ impl<A: Allocator + Copy> State<A> {
                 behind,
                 &mut self.board,
                 &mut self.started,
+                limited,
+                left,
             )? {
                 (self.start, self.cursor) = (start, end);
                 return Ok(true);
@@ -159,7 +168,9 @@ impl<A: Allocator + Copy> State<A> {
         &mut self,
         req: &Request<'_, S>,
         from: StringCursor,
-    ) -> Result<bool, SreError>
+        limited: bool,
+        left: &mut u64,
+    ) -> Result<bool, Halt>
         requires stands { stands_in req.now from (start_of req.now) }
         requires plain { (hints_of (code_of req.now)).prefix ≡ None }
         requires no_set { (hints_of (code_of req.now)).first_set ≡ false }
@@ -170,7 +181,8 @@ impl<A: Allocator + Copy> State<A> {
             (λ b. b ≡ true → (start_of req.now ≤ self.new.start) × Spans self.new.start (end_of req.now) self.new) }
         ensures no { IfOk result (λ b. b ≡ false → self.new.marks ≡ no_marks) }
         ensures err { OnErr result (self.new.marks ≡ no_marks) }
-        ensures refused { OnErr result Refused }
+        ensures halted { IfErr result (Halted limited left.new) }
+        ensures spent { SpentUpTo (asked_of req.now) (code_of req.now) left.old left.new self.new.started }
         ensures counts { CountsUpTo (asked_of req.now) (code_of req.now) (end_of req.now + 1) (end_of req.now)
             self.new }
         ensures up_to_match { IfOk result (λ b. b ≡ true → CountsUpTo (asked_of req.now) (code_of req.now)
@@ -182,7 +194,15 @@ impl<A: Allocator + Copy> State<A> {
         if is_past(last_start(req), from.position()) {
             return Ok(false);
         }
-        if let Some(end) = attempt(req, 0, from, &mut self.board, &mut self.started)? {
+        if let Some(end) = attempt(
+            req,
+            0,
+            from,
+            &mut self.board,
+            &mut self.started,
+            limited,
+            left,
+        )? {
             (self.start, self.cursor) = (from.position(), end);
             return Ok(true);
         }
@@ -194,7 +214,9 @@ impl<A: Allocator + Copy> State<A> {
         &mut self,
         req: &Request<'_, S>,
         from: StringCursor,
-    ) -> Result<bool, SreError>
+        limited: bool,
+        left: &mut u64,
+    ) -> Result<bool, Halt>
         requires stands { stands_in req.now from (start_of req.now) }
         requires plain { (hints_of (code_of req.now)).prefix ≡ None }
         requires set { (hints_of (code_of req.now)).first_set ≡ true }
@@ -204,7 +226,8 @@ impl<A: Allocator + Copy> State<A> {
             (λ b. b ≡ true → (start_of req.now ≤ self.new.start) × Spans self.new.start (end_of req.now) self.new) }
         ensures no { IfOk result (λ b. b ≡ false → self.new.marks ≡ no_marks) }
         ensures err { OnErr result (self.new.marks ≡ no_marks) }
-        ensures refused { OnErr result Refused }
+        ensures halted { IfErr result (Halted limited left.new) }
+        ensures spent { SpentUpTo (asked_of req.now) (code_of req.now) left.old left.new self.new.started }
         ensures counts { CountsUpTo (asked_of req.now) (code_of req.now) (end_of req.now + 1) (end_of req.now)
             self.new }
         ensures up_to_match { IfOk result (λ b. b ≡ true → CountsUpTo (asked_of req.now) (code_of req.now)
@@ -221,7 +244,15 @@ impl<A: Allocator + Copy> State<A> {
             if is_past(last, next.position()) {
                 return Ok(false);
             }
-            if let Some(end) = attempt(req, 0, next, &mut self.board, &mut self.started)? {
+            if let Some(end) = attempt(
+                req,
+                0,
+                next,
+                &mut self.board,
+                &mut self.started,
+                limited,
+                left,
+            )? {
                 (self.start, self.cursor) = (next.position(), end);
                 return Ok(true);
             }
@@ -237,7 +268,9 @@ impl<A: Allocator + Copy> State<A> {
         &mut self,
         req: &Request<'_, S>,
         from: StringCursor,
-    ) -> Result<bool, SreError>
+        limited: bool,
+        left: &mut u64,
+    ) -> Result<bool, Halt>
         requires stands { stands_in req.now from (start_of req.now) }
         requires plain { (hints_of (code_of req.now)).prefix ≡ None }
         requires no_set { (hints_of (code_of req.now)).first_set ≡ false }
@@ -247,7 +280,8 @@ impl<A: Allocator + Copy> State<A> {
             (λ b. b ≡ true → (start_of req.now ≤ self.new.start) × Spans self.new.start (end_of req.now) self.new) }
         ensures no { IfOk result (λ b. b ≡ false → self.new.marks ≡ no_marks) }
         ensures err { OnErr result (self.new.marks ≡ no_marks) }
-        ensures refused { OnErr result Refused }
+        ensures halted { IfErr result (Halted limited left.new) }
+        ensures spent { SpentUpTo (asked_of req.now) (code_of req.now) left.old left.new self.new.started }
         ensures counts { CountsUpTo (asked_of req.now) (code_of req.now) (end_of req.now + 1) (end_of req.now)
             self.new }
         ensures up_to_match { IfOk result (λ b. b ≡ true → CountsUpTo (asked_of req.now) (code_of req.now)
@@ -264,11 +298,19 @@ impl<A: Allocator + Copy> State<A> {
         if is_past(last, start.position()) {
             return Ok(false);
         }
-        if let Some(end) = attempt(req, 0, start, &mut self.board, &mut self.started)? {
+        if let Some(end) = attempt(
+            req,
+            0,
+            start,
+            &mut self.board,
+            &mut self.started,
+            limited,
+            left,
+        )? {
             (self.start, self.cursor) = (start.position(), end);
             return Ok(true);
         }
-        self.search_behind(req, last, start)
+        self.search_behind(req, last, start, limited, left)
     }
 
     // Goes on with a search behind the first of its starts that was tried. Only now it is worth to read in the words
@@ -278,7 +320,9 @@ impl<A: Allocator + Copy> State<A> {
         req: &Request<'_, S>,
         last: Option<usize>,
         tried: StringCursor,
-    ) -> Result<bool, SreError>
+        limited: bool,
+        left: &mut u64,
+    ) -> Result<bool, Halt>
         requires plain { (hints_of (code_of req.now)).prefix ≡ None }
         requires no_set { (hints_of (code_of req.now)).first_set ≡ false }
         requires last { IsLast (asked_of req.now) (code_of req.now) last }
@@ -297,7 +341,9 @@ impl<A: Allocator + Copy> State<A> {
             (λ b. b ≡ true → (start_of req.now ≤ self.new.start) × Spans self.new.start (end_of req.now) self.new) }
         ensures no { IfOk result (λ b. b ≡ false → self.new.marks ≡ no_marks) }
         ensures err { OnErr result (self.new.marks ≡ no_marks) }
-        ensures refused { OnErr result Refused }
+        ensures halted { IfErr result (Halted limited left.new) }
+        ensures spent { (given : ℕ) → SpentUpTo (asked_of req.now) (code_of req.now) given left.old 1
+            → SpentUpTo (asked_of req.now) (code_of req.now) given left.new self.new.started }
         ensures counts { CountsUpTo (asked_of req.now) (code_of req.now) (end_of req.now + 1) (end_of req.now)
             self.new }
         ensures up_to_match { IfOk result (λ b. b ≡ true → CountsUpTo (asked_of req.now) (code_of req.now)
@@ -319,7 +365,15 @@ impl<A: Allocator + Copy> State<A> {
             if is_past(last, start.position()) {
                 return Ok(false);
             }
-            if let Some(end) = attempt(req, 0, start, &mut self.board, &mut self.started)? {
+            if let Some(end) = attempt(
+                req,
+                0,
+                start,
+                &mut self.board,
+                &mut self.started,
+                limited,
+                left,
+            )? {
                 (self.start, self.cursor) = (start.position(), end);
                 return Ok(true);
             }

@@ -41,7 +41,7 @@ item-preserved-in-ATOMIC_GROUP c =
     let code : Opcode ws c.item.reached.place opcode.ATOMIC_GROUP = search rules in
     let further = leads_further ws _ _ _ c.item.invariant.leads _ 0 c.item.reached.back
     (λ u stands.
-        atomic_leads ws u _ stands (role_here _ _ opcode.ATOMIC_GROUP ToGroupAtomically code refl)) (omega arith) in
+    atomic_leads ws u _ stands (role_here _ _ opcode.ATOMIC_GROUP ToGroupAtomically code refl)) (omega arith) in
     record {
       within = tree_within ws _ (leads_tree ws _ _ _ further c.requires);
       leads = further;

@@ -9,6 +9,7 @@ use Rattle.sre_engine.specs.Prefixed.{FitsAt}
 use Rattle.sre_engine.proofs.Hinting.{past_none, counts_tried}
 use Rattle.sre_engine.proofs.Starting.{passed_none, found_nowhere}
 use Rattle.sre_code.proofs.Checked.{code_tree, items_whole}
+use Rattle.sre_engine.proofs.Spending.{run_spent}
 use Rattle.sre_engine.proofs.engine.state.State.search_behind.Goals as goal
 
 pub returns-in_default-clause-ok : goal.returns-in_default-clause-ok
@@ -76,6 +77,9 @@ start-preserved g c =
             c.attempt.ensures.counted,
           );
       uncompared = c.start.invariant.uncompared;
+      spent = λ given one.
+          run_spent (asked_of asked) (code_of asked) given _ _ _ _ (c.start.invariant.spent given one)
+          c.attempt.ensures.spent c.attempt.ensures.counted;
       bars = c.start.invariant.bars;
       none = λ t whole.
           let items = items_whole asked.pattern_codes t whole in

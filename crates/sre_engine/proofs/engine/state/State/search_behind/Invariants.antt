@@ -1,4 +1,4 @@
-use Rattle.std.proofs.Common.{◌+◌, ◌-◌, ◌≤◌, ◌≡◌, None}
+use Rattle.std.proofs.Common.{◌+◌, ◌-◌, ◌≤◌, ◌≡◌, None, ℕ}
 use Rattle.sre_model.specs.Tree.{Tree}
 use Rattle.sre_model.specs.Found.{at_start}
 use Rattle.sre_model.specs.Marks.{no_marks}
@@ -9,6 +9,7 @@ use Rattle.sre_request.specs.Requests.{start_of, end_of, code_of, asked_of}
 use Rattle.sre_request.specs.Runs.{run_of}
 use Rattle.sre_engine.specs.Prefixed.{FitsAt}
 use Rattle.sre_engine.specs.Starts.{Bars}
+use Rattle.sre_engine.specs.Counts.{SpentUpTo}
 use Rattle.sre_engine.proofs.Answering.{NoneBefore}
 use Rattle.sre_engine.proofs.engine.state.State.search_behind.Given as goal
 
@@ -21,6 +22,8 @@ invariant-start g l = record {
   fits : FitsAt l.last l.start.position;
   once : l.self-inside.started ≤ l.start.position - start_of l.req + 1;
   uncompared : l.self-inside.compared ≡ 0;
+  spent : (given : ℕ) → SpentUpTo (asked_of l.req) (code_of l.req) given l.fn.left 1
+      → SpentUpTo (asked_of l.req) (code_of l.req) given l.left l.self-inside.started;
   bars : Bars (run_of l.req).words l.first;
   none : (t : Tree) → Whole (words_of (code_of l.req)) t
       → NoneBefore (asked_of l.req) t l.start.position × (at_start (asked_of l.req) t l.start.position ≡ None);

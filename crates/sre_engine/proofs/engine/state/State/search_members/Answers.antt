@@ -9,6 +9,7 @@ use Rattle.sre_engine.proofs.Hinting.{past_none}
 use Rattle.sre_engine.proofs.LeadingStarts.{none_joined, found_none_behind}
 use Rattle.sre_engine.proofs.AmongMembers.{none_left, none_to_member, counts_members, counts_next, tried_more}
 use Rattle.sre_engine.proofs.AmongMembers.{fit_more, members_later}
+use Rattle.sre_engine.proofs.Spending.{run_spent}
 use Rattle.sre_engine.proofs.engine.state.State.search_members.Goals as goal
 
 pub returns-in_default-clause-ok : goal.returns-in_default-clause-ok
@@ -152,4 +153,7 @@ start-preserved g c =
           fit_more (asked_of asked) (code_of asked) c.last_start-last.result _ _ _ c.in-Some.next.position
           c.last_start-last.ensures fits inv.from next.from inv.few c.attempt.ensures.counted;
       uncompared = inv.uncompared;
+      spent =
+          run_spent (asked_of asked) (code_of asked) _ _ _ _ _ inv.spent c.attempt.ensures.spent
+          c.attempt.ensures.counted;
     }

@@ -6,6 +6,7 @@ use Rattle.sre_turns.specs.Board.{bare}
 use Rattle.sre_code.specs.Codes.{words_of, hints_of}
 use Rattle.sre_request.specs.Requests.{start_of, end_of, code_of, asked_of}
 use Rattle.sre_request.specs.Runs.{run_of}
+use Rattle.sre_engine.specs.Counts.{SpentUpTo}
 use Rattle.sre_engine.proofs.Answering.{NoneBefore}
 use Rattle.sre_engine.proofs.AmongMembers.{TriedAtMembers}
 use Rattle.sre_engine.proofs.engine.state.State.search_members.Given as goal
@@ -22,6 +23,7 @@ invariant-start g l = record {
   fit : (w : ℕ) → (hints_of (code_of l.req)).width ≡ Some w
       → l.self-inside.started ≤ end_of l.req + 1 - (start_of l.req + w);
   uncompared : l.self-inside.compared ≡ 0;
+  spent : SpentUpTo (asked_of l.req) (code_of l.req) l.fn.left l.left l.self-inside.started;
 }
 
 abbrev pub decreases-start : goal.decreases-start

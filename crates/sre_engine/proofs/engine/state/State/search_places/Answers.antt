@@ -16,6 +16,7 @@ use Rattle.sre_engine.proofs.Hinting.{past_none}
 use Rattle.sre_engine.proofs.Searching.{none_further, none_in_window, none_unplaced, decided_behind, far_end}
 use Rattle.sre_engine.proofs.Searching.{places_more, places_later, counts_at, few_counted}
 use Rattle.sre_code.proofs.Checked.{code_tree, whole_items}
+use Rattle.sre_engine.proofs.Spending.{run_spent}
 use Rattle.sre_engine.proofs.engine.state.State.search_places.Goals as goal
 
 pub attempt-requires-clause-behind : goal.attempt-requires-clause-behind
@@ -315,4 +316,6 @@ place-preserved g c =
           none_unplaced a (code_of asked) vs _ _ is some t whole _ _ (none_further a t _ before none) passed;
       few = places_later a (code_of asked) vs _ _ is some _ _ _ most passed.forward;
       fit = fit;
+      spent =
+          run_spent a (code_of asked) _ _ _ _ _ inv.spent c.attempt.ensures.spent c.attempt.ensures.counted;
     }

@@ -9,6 +9,7 @@ use Rattle.sre_code.specs.Codes.{words_of, hints_of}
 use Rattle.sre_request.specs.Requests.{start_of, end_of, code_of, asked_of}
 use Rattle.sre_request.specs.Runs.{run_of}
 use Rattle.sre_engine.specs.Scans.{Here}
+use Rattle.sre_engine.specs.Counts.{SpentUpTo}
 use Rattle.sre_engine.proofs.Answering.{NoneBefore}
 use Rattle.sre_engine.proofs.engine.state.State.search_places.Given as goal
 
@@ -25,6 +26,7 @@ invariant-place g l = record {
       (l.spot.cursor.position - l.spot.matched - start_of l.req);
   fit : (w : ℕ) → (hints_of (code_of l.req)).width ≡ Some w
       → l.self-inside.started ≤ end_of l.req + 1 - (start_of l.req + w);
+  spent : SpentUpTo (asked_of l.req) (code_of l.req) l.fn.left l.left l.self-inside.started;
 }
 
 abbrev pub decreases-place : goal.decreases-place

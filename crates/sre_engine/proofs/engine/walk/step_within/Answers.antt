@@ -5,9 +5,9 @@ use Rattle.sre_request.specs.Requests.{code_of, asked_of, stands_in}
 use Rattle.sre_engine.specs.Walks.{GoesOn}
 use Rattle.sre_engine.proofs.Walking.{asked_next, stands_next, stands_shown, steps_on, falls_on}
 use Rattle.sre_code.proofs.Checked.{code_tree}
-use Rattle.sre_engine.proofs.engine.walk.step.Goals as goal
-use Rattle.sre_engine.proofs.engine.walk.step.Goals.{After-set_start}
-use Rattle.sre_engine.proofs.engine.walk.step.Given.{Over}
+use Rattle.sre_engine.proofs.engine.walk.step_within.Goals as goal
+use Rattle.sre_engine.proofs.engine.walk.step_within.Goals.{After-set_start}
+use Rattle.sre_engine.proofs.engine.walk.step_within.Given.{Over}
 
 goes_on : (g : Over) (c : After-set_start g)
     → GoesOn {S = g.row.S.Denot} {text = g.S.StrDrive} c.args.req.now c.search_from.new.self c.set_start.new.self

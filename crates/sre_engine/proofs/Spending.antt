@@ -1,0 +1,47 @@
+-- How the turns of a search's runs add up.
+use Rattle.std.proofs.Common.{◌≡◌, ℕ, ◌+◌, ◌*◌, ◌≤◌, Bool, true, refl, arith}
+use Rattle.sre_model.specs.Tree.{Tree}
+use Rattle.sre_model.specs.Grammar.{Whole}
+use Rattle.sre_model.specs.Found.{Asked, subject_of}
+use Rattle.sre_model.specs.Prefixes.{behind_items}
+use Rattle.sre_model.specs.TurnBounds.{turns_of, most_each}
+use Rattle.sre_code.specs.Codes.{words_of}
+use Rattle.sre_code.specs.declared.code.Code.{Code}
+use Rattle.sre_machine.specs.declared.turns.Halt.{Halt}
+use Rattle.sre_machine.specs.declared.turns.Halt.TheVariants as halt
+use Rattle.sre_engine.specs.Counts.{SpentUpTo}
+use Rattle.sre_engine.specs.Halts.{Halted}
+
+-- before any run
+pub none_spent : (a : Asked) (code : Code) (given : ℕ) → SpentUpTo a code given given 0
+none_spent a code given = record { each = λ t whole most within. omega arith }
+
+-- where nothing is taken
+pub nothing_spent : (a : Asked) (code : Code) (given started : ℕ) → SpentUpTo a code given given started
+nothing_spent a code given started = record { each = λ t whole most within. omega arith }
+
+-- a run
+pub once_spent : (a : Asked) (code : Code) (n p given left : ℕ) → p ≤ a.end
+    → ((t : Tree) → Whole (words_of code) t
+    → given ≤ left + turns_of (subject_of a) (behind_items n t) p * most_each a)
+    → SpentUpTo a code given left 1
+once_spent a code n p given left inside run = record {
+  each = λ t whole most within. omega (arith, run t whole, within.each n p inside);
+}
+
+-- another run
+pub run_spent : (a : Asked) (code : Code) (given left after before started : ℕ) → SpentUpTo a code given left before
+    → SpentUpTo a code left after 1 → started ≡ before + 1 → SpentUpTo a code given after started
+run_spent a code given left after before started old one e = record {
+  each = λ t whole most within.
+      let o = old.each t whole most within in
+      let n = one.each t whole most within in
+      let sum : given ≤ after + (before + 1) * most = omega (arith, o, n) in
+      rw e sum;
+}
+
+-- why a run is given up
+pub halted : (limited : Bool) (left : ℕ) (why : Halt) → (why ≡ halt.UsedUp → (limited ≡ true) × (left ≡ 0))
+    → Halted limited left why
+halted limited left (halt.Refused refusal) used = refusal.refused
+halted limited left halt.UsedUp used = used refl
