@@ -64,3 +64,19 @@ NextGives it None next = IsOver it × Ends it next
 NextGives it (Some (Ok _)) next = Gives it next
 NextGives it (Some (Err _)) next =
     (has_ended it ≡ false) × Refused × Ends it next × MayTakeMemory (code_of (request_of it))
+
+-- the walk stands where it stood, and goes on from there: there are no marks, and the request is as it was
+pub record Stays {S A : Type 0} {text : Ghosts S} (it next : SearchIter S A text) : Type 0 where
+  pub before : has_ended it ≡ false
+  pub after : has_ended next ≡ false
+  pub marks : (shown_of next).marks ≡ no_marks
+  pub request : request_of next ≡ request_of it
+
+-- the next item within a number of turns: whether there is one, or that the turns were used up before that was known
+abbrev pub NextWithin : {S A : Type 0} {text : Ghosts S}
+    → SearchIter S A text → Result (Option Bool) SreError → SearchIter S A text → Type 0
+NextWithin it (Ok (Some true)) next = Gives it next
+NextWithin it (Ok (Some false)) next = IsOver it × Ends it next
+NextWithin it (Ok None) next = Stays it next × MayTakeMemory (code_of (request_of it))
+NextWithin it (Err _) next =
+    (has_ended it ≡ false) × Refused × Ends it next × MayTakeMemory (code_of (request_of it))

@@ -62,7 +62,8 @@ module _ (ws : List ℕ) (s : Subject) (i j k : ℕ) (W : Body) (counted : Costs
     look_entered : (sign : Sign) → role (look_opcode sign) ≡ ToLook sign → Opcode ws i (look_opcode sign)
         → (fs : List Frame) (p : ℕ) (m : Marks) (y : Bool) → nat_lt p back ≡ y
         → Moves ws s (spot_at (Instruction i) fs p m)
-        (cond y (closing_move (look sign j) (spot_at (Instruction i) fs p m) []) (Enter (look sign j) (spot_at (Instruction i) fs p m) (spot_at (Instruction k) fs (p - back) m)))
+        (cond y (closing_move (look sign j) (spot_at (Instruction i) fs p m) [])
+        (Enter (look sign j) (spot_at (Instruction i) fs p m) (spot_at (Instruction k) fs (p - back) m)))
     look_entered sign known w fs p m y e =
         at_instruction (look_opcode sign) (ToLook sign) known w
         (record { back = back; there = there; is = rw (← leads, at, e) refl })

@@ -1,12 +1,13 @@
 //! The walk over all matches, one after the other.
 
-ghost use Rattle.std.specs.Prelude.{◌≡◌, true, false};
+ghost use Rattle.std.specs.Prelude.{◌≡◌, true, false, IfOk, None};
 ghost use Rattle.sre_model.specs.Marks.{no_marks};
-ghost use Rattle.sre_request.specs.Requests.{start_of, stands_in};
+ghost use Rattle.sre_request.specs.Requests.{start_of, code_of, asked_of, stands_in};
 
 use crate::engine::state::{SreError, State};
-use crate::engine::walk::step;
+use crate::engine::walk::{step, step_within};
 use sre_chars::string::{StrDrive, StringCursor};
+use sre_machine::turns::Halt;
 use sre_request::Request;
 use std::alloc::Allocator;
 
@@ -27,7 +28,8 @@ pub struct SearchIter<'a, S: StrDrive, A: Allocator + Copy> {
 }
 
 impl<'a, S: StrDrive, A: Allocator + Copy> SearchIter<'a, S, A> {
-    ghost use Rattle.sre_engine.specs.Iterators.{request_of, shown_of, has_ended};
+    ghost use Rattle.sre_engine.specs.Iterators.{request_of, shown_of, has_ended, NextWithin};
+    ghost use Rattle.sre_engine.specs.Counts.{SpentUpTo};
 
     /// The walk over the request's window. The state shows what it showed until the first item comes.
     pub fn new(req: Request<'a, S>, state: State<A>) -> SearchIter<'a, S, A>
@@ -50,6 +52,41 @@ impl<'a, S: StrDrive, A: Allocator + Copy> SearchIter<'a, S, A> {
         ensures { result.now ≡ request_of self.now }
     {
         &self.req
+    }
+
+    /// The next match within a number of turns of the machine: whether there is one, as `next` tells it, or `None` where
+    /// they were used up before that was known. `State::match_within` says what a turn is.
+    ///
+    /// What is left of the turns comes back, so one number can bound a whole walk. Where they are used up there are no
+    /// marks, and the walk stands where it stood: `next`, or this with more turns, begins its step anew.
+    pub fn next_within(&mut self, turns: &mut u64) -> Result<Option<bool>, SreError>
+        ensures gives { NextWithin self.old result self.new }
+        ensures used { IfOk result (λ told. told ≡ None → turns.new ≡ 0) }
+        ensures spent { SpentUpTo (asked_of (request_of self.old)) (code_of (request_of self.old)) turns.old turns.new
+            (shown_of self.new).started }
+    {
+        if self.ended {
+            return Ok(Some(false));
+        }
+        let limited = true;
+        match step_within(
+            &mut self.req,
+            &mut self.state,
+            &mut self.cursor,
+            limited,
+            turns,
+        ) {
+            Ok(true) => Ok(Some(true)),
+            Ok(false) => {
+                self.ended = true;
+                Ok(Some(false))
+            }
+            Err(Halt::Refused(refusal)) => {
+                self.ended = true;
+                Err(SreError::from(refusal))
+            }
+            Err(Halt::UsedUp) => Ok(None),
+        }
     }
 
     /// The state, which shows the match of the last item.

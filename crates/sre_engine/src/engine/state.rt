@@ -224,7 +224,7 @@ impl<A: Allocator + Copy> State<A> {
     ///
     /// What is left of the turns comes back. A turn is one instruction, or one step back to what is still to be tried;
     /// a stretch of 64 characters or more that a run or a reference goes over counts for one more for each eight of
-    /// them. So the time of a turn is bounded by the code's length, and a number of turns bounds the time of a call.
+    /// them. So the code alone bounds the time of a turn, and a number of turns bounds that of a call.
     pub fn match_within<S: StrDrive>(
         &mut self,
         req: &Request<'_, S>,
