@@ -1,10 +1,11 @@
 -- How the turns of a search's runs add up.
-use Rattle.std.proofs.Common.{◌≡◌, ℕ, ◌+◌, ◌*◌, ◌≤◌, Bool, true, refl, arith}
+use Rattle.std.proofs.Common.{◌≡◌, ℕ, ◌+◌, ◌*◌, ◌≤◌, ◌<◌, ◌≢◌, Bool, true, refl, arith}
+use Rattle.std.proofs.Math.Nat.{mul-le-mul_right}
 use Rattle.sre_model.specs.Tree.{Tree}
 use Rattle.sre_model.specs.Grammar.{Whole}
 use Rattle.sre_model.specs.Found.{Asked, subject_of}
 use Rattle.sre_model.specs.Prefixes.{behind_items}
-use Rattle.sre_model.specs.TurnBounds.{turns_of, most_each}
+use Rattle.sre_model.specs.TurnBounds.{turns_of, most_each, RunsWithin}
 use Rattle.sre_code.specs.Codes.{words_of}
 use Rattle.sre_code.specs.declared.code.Code.{Code}
 use Rattle.sre_machine.specs.declared.turns.Halt.{Halt}
@@ -45,3 +46,10 @@ pub halted : (limited : Bool) (left : ℕ) (why : Halt) → (why ≡ halt.UsedUp
     → Halted limited left why
 halted limited left (halt.Refused refusal) used = refusal.refused
 halted limited left halt.UsedUp used = used refl
+
+-- more turns than so many runs can take are not used up
+pub never_used_up : (a : Asked) (code : Code) (t : Tree) (given left started most count : ℕ) → Whole (words_of code) t
+    → RunsWithin a t most → SpentUpTo a code given left started → started ≤ count → count * most < given → left ≢ 0
+never_used_up a code t given left started most count whole within spent few more used =
+    let all = spent.each t whole most within in
+    absurd (omega (arith, all, mul-le-mul_right most few, more, used))

@@ -1,4 +1,5 @@
-//! How the tests ask: by `pymatch` or by `search`, with whatever text and memory.
+//! How the tests ask: by `pymatch` or by `search`, or by either within turns that are ample, with whatever text and
+//! memory.
 
 use sre_engine::engine::SreError;
 use sre_engine::{Code, Request, State, StrDrive, UniTable};
@@ -10,6 +11,8 @@ use std::test::Fail;
 pub enum Call {
     Match,
     Search,
+    MatchWithin,
+    SearchWithin,
 }
 
 /// Where a match starts and where it ends, in characters, and the offset of its end in bytes.
@@ -30,11 +33,14 @@ pub fn ask<S: StrDrive, A: Allocator + Copy>(
     req: Request<'_, S>,
     state: &mut State<A>,
 ) -> Result<Option<Ends>, SreError> {
+    let mut turns = u64::MAX;
     let found = match call {
-        Call::Match => state.pymatch(&req),
-        Call::Search => state.search(req),
+        Call::Match => state.pymatch(&req)?,
+        Call::Search => state.search(req)?,
+        Call::MatchWithin => state.match_within(&req, &mut turns)? == Some(true),
+        Call::SearchWithin => state.search_within(req, &mut turns)? == Some(true),
     };
-    Ok(if found? { Some(ends_of(state)) } else { None })
+    Ok(if found { Some(ends_of(state)) } else { None })
 }
 
 /// Whether the state shows this after the call.

@@ -1,6 +1,7 @@
 //! Laws drawn from several clauses or calls: that requests over texts of two types are answered alike, that what was
 //! emitted is accepted, and what a search, a walk and its list leave where they end otherwise than by a match.
 
+ghost use Rattle.std.specs.Prelude.{◌<◌, ◌+◌, ◌-◌, ◌*◌, ℕ};
 ghost use Rattle.std.specs.Prelude.{◌≡◌, ◌≢◌, ◌≤◌, IfOk, IfErr, OnErr, Some, true, false, None, Err, cond, ◌&&◌, map};
 ghost use Rattle.std.specs.Vec.{vec_len};
 ghost use Rattle.sre_growth.specs.Refusal.{Refused};
@@ -10,6 +11,7 @@ ghost use Rattle.sre_engine.specs.Codes.{words_of};
 ghost use Rattle.sre_engine.specs.Requests.{asked_of, code_of, start_of, end_of};
 ghost use Rattle.sre_engine.specs.Answers.{answer_of, Spans};
 ghost use Rattle.sre_engine.specs.Marks.{no_marks};
+ghost use Rattle.sre_engine.specs.TurnBounds.{RunsWithin};
 ghost use Rattle.sre_engine.specs.WalkBounds.{most_matches, AreInOrder};
 ghost use Rattle.sre_engine.specs.Listed.{match_of};
 ghost use Rattle.sre_engine.specs.Width.{width};
@@ -137,6 +139,21 @@ fn searched_in_window<S: StrDrive>(
     ensures refused { OnErr result Refused }
 {
     state.search(req)
+}
+
+// A search is answered within more turns than all its runs can take.
+fn searched_within<S: StrDrive>(
+    req: Request<'_, S>,
+    state: &mut State<Global>,
+    turns: &mut u64,
+) -> Result<Option<bool>, SreError>
+    requires { (t : Tree) → Whole (words_of (code_of req)) t
+        → (most : ℕ) × RunsWithin (asked_of req) t most × ((end_of req + 1 - start_of req) * most < turns.old) }
+    ensures told { IfOk result (λ told. told ≢ None) }
+    ensures refused { OnErr result Refused }
+{
+    let _words = req.pattern_codes().words(); // which have a tree
+    state.search_within(req, turns)
 }
 
 // The next match of a walk is refused only where memory was.

@@ -94,11 +94,13 @@ fn refusals(
 static CASES: [(&[u32], &str); 3] = [(ALTERNATIVES, "xac"), (LOOP, "xabac"), (REGIONS, "xac")];
 
 // The calls and starts, and whether they have a match where all of the text matches but its first character
-static CALLS: [(Call, usize, bool); 4] = [
+static CALLS: [(Call, usize, bool); 6] = [
     (Call::Match, 0, false),
     (Call::Match, 1, true),
     (Call::Search, 0, true),
     (Call::Search, 1, true),
+    (Call::MatchWithin, 1, true),
+    (Call::SearchWithin, 0, true),
 ];
 
 static FLAGS: [(bool, bool); 4] = [(false, false), (false, true), (true, false), (true, true)];
