@@ -5,7 +5,7 @@
 
 ghost use Rattle.std.specs.Prelude.{◌≡◌, ℕ, ◌<◌, [], ◌∷◌, drop, length, reverse, IfOk, MatchOption};
 ghost use Rattle.sre_model.specs.Marks.{no_marks, set_mark, group};
-ghost use Rattle.sre_turns.specs.Board.{choice, from_region, Cuts, bare};
+ghost use Rattle.sre_turns.specs.Board.{Keep, choice, from_region, Cuts, bare};
 ghost use Rattle.sre_turns.specs.declared.Point.TheVariants.{Inside};
 ghost use Rattle.sre_board.specs.Choices.{Fits, regions_of, down_to_region};
 
@@ -176,6 +176,19 @@ impl<A: Allocator> Board<A> {
         };
         sre_growth::push(&mut self.choices, saved)?;
         self.regions += regions_of(point);
+        Ok(())
+    }
+
+    /// Begins a region: what comes of it waits among the choices, and the loops in progress are put aside so long.
+    #[inline(always)]
+    pub fn begin_region(&mut self, region: Region, cursor: StringCursor) -> Result<(), Refusal>
+        ensures { IfOk result (λ _. self.new ≡ record self.old {
+          frames = [];
+          choices = Keep region self.old.frames cursor self.old.marks ∷ self.old.choices;
+        }) }
+    {
+        self.save(Point::Inside(region), cursor)?;
+        self.frame = self.chains.empty();
         Ok(())
     }
 

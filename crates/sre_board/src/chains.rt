@@ -99,6 +99,17 @@ impl<A: Allocator> Chains<A> {
         self.nodes.len()
     }
 
+    /// The number of the empty chain.
+    #[inline(always)]
+    pub(crate) fn empty(&self) -> usize
+        ensures chain { slice_index_or self.now result [] ≡ [] }
+        ensures there { result < length self.now }
+    {
+        // a read of the nodes, without which the proof sees no chains
+        let _nodes = self.nodes.len();
+        0
+    }
+
     /// Whether a chain is the empty one.
     #[inline(always)]
     pub(crate) fn is_empty(&self, id: usize) -> bool

@@ -16,7 +16,7 @@ use sre_chars::constants::SreOpcode;
 use sre_chars::string::{StrDrive, StringCursor};
 use sre_growth::Refusal;
 use sre_request::Request;
-use sre_turns::{Frame, Next, Point, Region};
+use sre_turns::{Frame, Next, Region};
 use std::alloc::Allocator;
 
 /// `POSSESSIVE_REPEAT skip least greatest body SUCCESS`: begins a loop, before its first body.
@@ -57,13 +57,13 @@ pub(super) fn again<S: StrDrive, A: Allocator>(
     board.leave();
     if frame.count < least {
         board.enter(next_frame(frame, frame.last))?;
-        board.save(Point::Inside(Region::Owed), cursor)?;
+        board.begin_region(Region::Owed, cursor)?;
         return Ok(Next::At(frame.repeat + 4, cursor));
     }
     if !may_repeat(greatest, frame, cursor) {
         return Ok(Next::At(tail, cursor));
     }
     board.enter(next_frame(frame, Some(cursor.position())))?;
-    board.save(Point::Inside(Region::Further(tail)), cursor)?;
+    board.begin_region(Region::Further(tail), cursor)?;
     Ok(Next::At(frame.repeat + 4, cursor))
 }

@@ -1,7 +1,7 @@
 //! Regions: `ATOMIC_GROUP skip body SUCCESS`, and `ASSERT skip back body SUCCESS` and ASSERT_NOT alike.
 //!
-//! A region waits on the board while its body is in progress. Its body has at most one outcome that counts,
-//! the first: so the choices inside it go as soon as the body ends.
+//! A region waits on the board while its body is in progress, and the loops around it are put aside so long. Its body
+//! has at most one outcome that counts, the first: so the choices inside it go as soon as the body ends.
 
 ghost use Rattle.std.specs.Prelude.{◌≡◌, ◌-◌, [], IfOk, MatchOption};
 ghost use Rattle.sre_turns.specs.Board.{from_region};
@@ -16,7 +16,7 @@ use sre_chars::string::{StrDrive, StringCursor};
 use sre_growth::Refusal;
 use sre_reading::text::back_by;
 use sre_request::Request;
-use sre_turns::{Next, Point, Region};
+use sre_turns::{Next, Region};
 use std::alloc::Allocator;
 
 /// `ATOMIC_GROUP skip body SUCCESS`: the first way of the body alone.
@@ -32,10 +32,7 @@ pub(super) fn atomic_group<S: StrDrive, A: Allocator>(
     ensures { IfOk result (λ next. Turn req.now place cursor board.old next board.new) }
 {
     let skip = operand(req, place, 1);
-    board.save(
-        Point::Inside(Region::AtomicGroup(place + 1 + skip as usize)),
-        cursor,
-    )?;
+    board.begin_region(Region::AtomicGroup(place + 1 + skip as usize), cursor)?;
     Ok(Next::At(place + 2, cursor))
 }
 
@@ -56,10 +53,7 @@ pub(super) fn assert<S: StrDrive, A: Allocator>(
     if cursor.position() < back {
         return Ok(Next::Back);
     }
-    board.save(
-        Point::Inside(Region::Ahead(place + 1 + skip as usize)),
-        cursor,
-    )?;
+    board.begin_region(Region::Ahead(place + 1 + skip as usize), cursor)?;
     Ok(Next::At(place + 3, back_by(req, cursor, back)))
 }
 
@@ -81,7 +75,7 @@ pub(super) fn assert_not<S: StrDrive, A: Allocator>(
     if cursor.position() < back {
         return Ok(Next::At(tail, cursor));
     }
-    board.save(Point::Inside(Region::NotAhead(tail)), cursor)?;
+    board.begin_region(Region::NotAhead(tail), cursor)?;
     Ok(Next::At(place + 3, back_by(req, cursor, back)))
 }
 

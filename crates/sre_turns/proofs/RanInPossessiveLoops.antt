@@ -101,7 +101,7 @@ module _ (ws : List ℕ) (s : Subject) (i u low high : ℕ) (W : Body) (counted 
       let beyond : nat_lt n low ≡ false = grind (arith, nat_tests) in
       let allowed : may_repeat high n last p ≡ true = may_repeat-held high n c p last highest en ∙ x in
       let entered : Spot = spot_at Again (g ∷ fs) p m in
-      let body : Spot = spot_at (Instruction (i + 4)) (g ∷ fs) p m in
+      let body : Spot = spot_at (Instruction (i + 4)) [] p m in
       let mv : Move = Enter (Further (u + 1)) entered body in
       let move : Moves ws s (at_loop n last fs p m) mv = loop_turn n last fs p m mv (rw (beyond, allowed) refl) in
       let behind : Comes ws s entered (closing_move (Further (u + 1)) entered (W p m))
@@ -110,7 +110,7 @@ module _ (ws : List ℕ) (s : Subject) (i u low high : ℕ) (W : Body) (counted 
       subst (λ y. Runs ws s (at_loop n last fs p m) (followed K (or_here K' p m y))
       (suc (counted ending p m + further_cost C C' p m (W p m))))
       (sym (first_of_body-all s W p m b e))
-      (turns mv move (enters (region ws s (i + 4) u W counted r wu (g ∷ fs) p m e) behind))
+      (turns mv move (enters (region ws s (i + 4) u W counted r wu [] p m e) behind))
   more_step fuel n c p last m fs K C en l e f ih false x =
       loop_ends n last fs p m (followed K (here p m)) (C p m) (omega arith)
       (may_repeat-held high n c p last highest en ∙ x) (alone (f p m (omega arith) e))
@@ -148,7 +148,7 @@ module _ (ws : List ℕ) (s : Subject) (i u low high : ℕ) (W : Body) (counted 
       let g : Frame = frame (min (n + 1) unlimited) None in
       let below : nat_lt n low ≡ true = grind (arith, nat_tests) in
       let entered : Spot = spot_at Again (g ∷ fs) p m in
-      let body : Spot = spot_at (Instruction (i + 4)) (g ∷ fs) p m in
+      let body : Spot = spot_at (Instruction (i + 4)) [] p m in
       let mv : Move = Enter Owed entered body in
       let move : Moves ws s (at_loop n None fs p m) mv = loop_turn n None fs p m mv (rw below refl) in
       let ih : (w : Way) → Between s p w
@@ -159,7 +159,7 @@ module _ (ws : List ℕ) (s : Subject) (i u low high : ℕ) (W : Body) (counted 
       within-all s p (first_of_body s W p m) (first-bounded s W p m e) ∙ first_of_body-all s W p m b e in
       subst (λ y. Runs ws s (at_loop n None fs p m) (followed K (flat_map (λ (w : Way). K' w.stop w.marks) y))
       (suc (counted ending p m + atomic_cost C' (W p m)))) (sym firsts)
-      (turns mv move (enters (region ws s (i + 4) u W counted r wu (g ∷ fs) p m e)
+      (turns mv move (enters (region ws s (i + 4) u W counted r wu [] p m e)
       (owed-closed fs g K K' C' p m (W p m) (b p m e) ih)))
 
   pub possessive-ran : Opcode ws i opcode.POSSESSIVE_REPEAT

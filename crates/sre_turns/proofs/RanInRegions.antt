@@ -50,12 +50,12 @@ module _ (ws : List ℕ) (s : Subject) (i j k : ℕ) (W : Body) (counted : Costs
       → Ran ws s (Instruction i) j (λ p m. first (W p m)) (λ C p m. suc (counted ending p m + atomic_cost C (W p m)))
   atomic-ran w there at b fs K C p m e f =
       let x : Spot = spot_at (Instruction i) fs p m in
-      let body : Spot = spot_at (Instruction k) fs p m in
+      let body : Spot = spot_at (Instruction k) [] p m in
       let move : Moves ws s x (Enter (AtomicGroup j) x body) =
       at_instruction opcode.ATOMIC_GROUP ToGroupAtomically refl w
       (record { there = there; is = rw (leads, at) refl }) in
       turns (Enter (AtomicGroup j) x body) move
-      (enters (region ws s k (j - 1) W counted r ends fs p m e) (atomic-closed ws s x j K C (W p m) (b p m e) f))
+      (enters (region ws s k (j - 1) W counted r ends [] p m e) (atomic-closed ws s x j K C (W p m) (b p m e) f))
 
   module _ (back : ℕ) (there : Word ws (i + 2) back) (at : k ≡ i + 3) where
     -- a look is entered, or comes too early
@@ -63,7 +63,7 @@ module _ (ws : List ℕ) (s : Subject) (i j k : ℕ) (W : Body) (counted : Costs
         → (fs : List Frame) (p : ℕ) (m : Marks) (y : Bool) → nat_lt p back ≡ y
         → Moves ws s (spot_at (Instruction i) fs p m)
         (cond y (closing_move (look sign j) (spot_at (Instruction i) fs p m) [])
-        (Enter (look sign j) (spot_at (Instruction i) fs p m) (spot_at (Instruction k) fs (p - back) m)))
+        (Enter (look sign j) (spot_at (Instruction i) fs p m) (spot_at (Instruction k) [] (p - back) m)))
     look_entered sign known w fs p m y e =
         at_instruction (look_opcode sign) (ToLook sign) known w
         (record { back = back; there = there; is = rw (← leads, at, e) refl })
@@ -83,9 +83,9 @@ module _ (ws : List ℕ) (s : Subject) (i j k : ℕ) (W : Body) (counted : Costs
             (suc (counted ending (p - back) m + look_cost Positive C p m (W (p - back) m))))
         go true y = turns Stop (look_entered Positive refl w fs p m true y) stops
         go false y =
-            turns (Enter (Ahead j) x (spot_at (Instruction k) fs (p - back) m))
+            turns (Enter (Ahead j) x (spot_at (Instruction k) [] (p - back) m))
             (look_entered Positive refl w fs p m false y)
-            (enters (region ws s k (j - 1) W counted r ends fs (p - back) m (omega arith))
+            (enters (region ws s k (j - 1) W counted r ends [] (p - back) m (omega arith))
             (ahead-closed ws s x j K C (W (p - back) m) e f))
 
     pub not_ahead-ran : Opcode ws i opcode.ASSERT_NOT
@@ -104,7 +104,7 @@ module _ (ws : List ℕ) (s : Subject) (i j k : ℕ) (W : Body) (counted : Costs
             turns (Go (spot_at (Instruction j) fs p m)) (look_entered Negative refl w fs p m true y)
             (goes (alone (f p m (omega arith) e)))
         go false y =
-            turns (Enter (NotAhead j) x (spot_at (Instruction k) fs (p - back) m))
+            turns (Enter (NotAhead j) x (spot_at (Instruction k) [] (p - back) m))
             (look_entered Negative refl w fs p m false y)
-            (enters (region ws s k (j - 1) W counted r ends fs (p - back) m (omega arith))
+            (enters (region ws s k (j - 1) W counted r ends [] (p - back) m (omega arith))
             (not_ahead-closed ws s x j K C (W (p - back) m) e f))

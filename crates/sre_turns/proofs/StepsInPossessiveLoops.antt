@@ -1,5 +1,5 @@
 -- Turns at a possessive loop: POSSESSIVE_REPEAT, and a body or the end.
-use Rattle.std.proofs.Common.{◌≡◌, ℕ, ◌+◌, ◌<◌, ◌≤◌, true, false, nat_lt, List, ◌∷◌, length, drop, Option, Some}
+use Rattle.std.proofs.Common.{◌≡◌, ℕ, ◌+◌, ◌<◌, ◌≤◌, true, false, nat_lt, List, [], ◌∷◌, length, drop, Option, Some}
 use Rattle.std.proofs.Common.{refl, sym, ◌∙◌, subst, arith}
 use Rattle.std.proofs.lemmas.Bool.Decides.{nat_tests}
 use Rattle.sre_chars.specs.declared.constants.SreOpcode.TheVariants as opcode
@@ -77,10 +77,10 @@ again_done r v low high c b b' f h l no_ eb all limit g =
     (turn_goes r Again c b (Instruction (f.repeat + 1 + v + 1)) c left
     (again_at r v low high c b f end h (rw (beyond, no_) refl)) g.stands g.placed refl all limit g)
 
--- a body is entered, counted on the board
+-- a body is entered, counted on the board, and the loops are put aside
 abbrev begun : Region → Frame → Option ℕ → StringCursor → BoardValue → BoardValue
 begun k f last c b = record b {
-  frames = next_frame f last ∷ drop 1 b.frames;
+  frames = [];
   choices = Keep k (next_frame f last ∷ drop 1 b.frames) c b.marks ∷ b.choices;
 }
 
@@ -118,6 +118,6 @@ again_further r v low high c b b' f h l y eb =
 -- the board, as it is changed
 pub begun_board : (b left counted saved : BoardValue) (k : Region) (f g : Frame) (last : Option ℕ) (c : StringCursor)
     → left ≡ record b { frames = drop 1 b.frames } → counted ≡ record left { frames = g ∷ left.frames }
-    → saved ≡ record counted { choices = Keep k counted.frames c counted.marks ∷ counted.choices }
+    → saved ≡ record counted { frames = []; choices = Keep k counted.frames c counted.marks ∷ counted.choices }
     → g ≡ next_frame f last → saved ≡ begun k f last c b
 begun_board b left counted saved k f g last c el ec es eg = rw (es, ec, el, eg) refl

@@ -30,16 +30,16 @@ pub atomic_operand : (r : Run) (i : ℕ) (c : StringCursor) → Opcode r.words i
     → HasRun r (Instruction i) c → i + 1 < length r.words
 atomic_operand r i c w x = (in_role opcode.ATOMIC_GROUP ToGroupAtomically refl w x.runs).1.there
 
--- a region is entered at a cursor
+-- a region is entered at a cursor, and the loops are put aside
 abbrev pub entered : Region → StringCursor → BoardValue → BoardValue
-entered g c b = record b { choices = Keep g b.frames c b.marks ∷ b.choices }
+entered g c b = record b { frames = []; choices = Keep g b.frames c b.marks ∷ b.choices }
 
 pub atomic_step : (r : Run) (i v : ℕ) (c : StringCursor) (b b' : BoardValue) → Opcode r.words i opcode.ATOMIC_GROUP
     → Word r.words (i + 1) v → b' ≡ entered (AtomicGroup (i + 1 + v)) c b → (all : List Way) (limit : ℕ)
     → Goes r all limit (Instruction i) c b → Later r all limit (next.At (i + 2) c) b'
 atomic_step r i v c b b' w wv eb all limit g =
     let group : Region = AtomicGroup (i + 1 + v) in
-    let body : Spot = spot (Instruction (i + 2)) c b in
+    let body : Spot = spot_at (Instruction (i + 2)) [] c.position b.marks in
     let move : Moves r.words r.subject (spot (Instruction i) c b) (Enter group (spot (Instruction i) c b) body) =
     at_instruction opcode.ATOMIC_GROUP ToGroupAtomically refl w
     (record { there = word_within r.words (i + 1) v wv; is = rw (word_of r.words (i + 1) v wv) refl }) in
@@ -91,7 +91,7 @@ look_step r sign i v back c c' b b' h l place there eb all limit g =
     let region : Region = look sign (i + 1 + v) in
     let late : nat_lt c.position back ≡ false = grind (arith, nat_tests) in
     let move : Moves r.words r.subject (spot (Instruction i) c b)
-    (Enter region (spot (Instruction i) c b) (spot (Instruction (i + 3)) c' b)) =
+    (Enter region (spot (Instruction i) c b) (spot_at (Instruction (i + 3)) [] c'.position b.marks)) =
     at_instruction (look_opcode sign) (ToLook sign) (look_role sign) h.code
     (record { back = back; there = h.there; is = rw (word_of r.words (i + 1) v h.leads, late, place) refl }) in
     subst (λ x. Later r all limit (next.At (i + 3) c') x) (sym eb)

@@ -42,6 +42,10 @@ to_point x pt = record x { point = pt }
 abbrev pub to_place : Spot → Point → ℕ → Spot
 to_place x pt p = record x { point = pt; position = p }
 
+-- where a region's body begins: the loops in progress are put aside until the region ends
+abbrev pub into_region : Spot → ℕ → ℕ → Spot
+into_region x i p = spot_at (Instruction i) [] p x.marks
+
 -- what comes of a region that was entered at a spot, where its body has these outcomes
 abbrev pub closing_move : Region → Spot → List Way → Move
 closing_move (AtomicGroup t) x [] = Stop

@@ -9,7 +9,7 @@ use Rattle.sre_turns.specs.declared.Frame.{Frame}
 use Rattle.sre_turns.specs.declared.Point.TheVariants.{Instruction}
 use Rattle.sre_turns.specs.declared.Region.{Region}
 use Rattle.sre_turns.specs.declared.Region.TheVariants.{Owed, Further}
-use Rattle.sre_turns.specs.Moves.{Spot, Move, Go, Split, Enter}
+use Rattle.sre_turns.specs.Moves.{Spot, into_region, Move, Go, Split, Enter}
 
 -- a loop that has had no body
 abbrev pub first_frame : ℕ → Frame
@@ -55,9 +55,10 @@ pub record UntilMove (ws : List ℕ) (o : Order) (u : ℕ) (x : Spot) (mv : Move
   pub highest : Word ws (frame.repeat + 3) high
   pub is : mv ≡ until_move o low high u frame outer x
 
--- a body of a possessive loop is entered, and counted before it begins
+-- a body of a possessive loop is entered, and counted before the loops are put aside
 abbrev pub enter_body : Region → Frame → Option ℕ → List Frame → Spot → Move
-enter_body g f last outer x = Enter g (record x { frames = next_frame f last ∷ outer }) (at_body f last outer x)
+enter_body g f last outer x =
+    Enter g (record x { frames = next_frame f last ∷ outer }) (into_region x (f.repeat + 4) x.position)
 
 -- below the least count a body is owed; from it on a further one is tried where one may be, and else the loop ends
 abbrev pub again_move : ℕ → ℕ → ℕ → Frame → List Frame → Spot → Move

@@ -5,13 +5,12 @@ use Rattle.sre_model.specs.Tree.{Sign, Positive, Negative}
 use Rattle.sre_model.specs.Grammar.{Word, skip}
 use Rattle.sre_turns.specs.declared.Region.TheVariants.{AtomicGroup, Ahead, NotAhead}
 use Rattle.sre_turns.specs.declared.Region.{Region}
-use Rattle.sre_turns.specs.declared.Point.TheVariants.{Instruction}
-use Rattle.sre_turns.specs.Moves.{Spot, to_point, to_place, Move, Enter, closing_move}
+use Rattle.sre_turns.specs.Moves.{Spot, into_region, Move, Enter, closing_move}
 
 -- ATOMIC_GROUP
 pub record AtomicMove (ws : List ℕ) (i : ℕ) (x : Spot) (mv : Move) : Type 0 where
   pub there : i + 1 < length ws
-  pub is : mv ≡ Enter (AtomicGroup (skip ws (i + 1))) x (to_point x (Instruction (i + 2)))
+  pub is : mv ≡ Enter (AtomicGroup (skip ws (i + 1))) x (into_region x (i + 2) x.position)
 
 -- a look, by where one goes on behind it
 abbrev pub look : Sign → ℕ → Region
@@ -24,5 +23,4 @@ pub record LookMove (ws : List ℕ) (sign : Sign) (i : ℕ) (x : Spot) (mv : Mov
   pub there : Word ws (i + 2) back
   pub is : mv ≡
       let g = look sign (skip ws (i + 1)) in
-      cond (nat_lt x.position back) (closing_move g x [])
-      (Enter g x (to_place x (Instruction (i + 3)) (x.position - back)))
+      cond (nat_lt x.position back) (closing_move g x []) (Enter g x (into_region x (i + 3) (x.position - back)))

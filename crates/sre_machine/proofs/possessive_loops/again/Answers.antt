@@ -19,9 +19,9 @@ returns-then-frame-least g c =
       highest = c.operand-greatest.ensures.word;
     } in
     again_owed r c.operand-skip.result c.operand-least.result c.operand-greatest.result c.args.cursor c.args.board.now
-    c.save.new.self f loop c.if-frame-least.true
-    (begun_board c.args.board.now c.leave.new.self c.enter.new.self c.save.new.self _ f c.next_frame.result f.last
-    c.args.cursor c.leave.ensures c.in_ok-enter.ensures c.in_ok-save.ensures c.next_frame.ensures)
+    c.begin_region.new.self f loop c.if-frame-least.true
+    (begun_board c.args.board.now c.leave.new.self c.enter.new.self c.begin_region.new.self _ f c.next_frame.result
+    f.last c.args.cursor c.leave.ensures c.in_ok-enter.ensures c.in_ok-begin_region.ensures c.next_frame.ensures)
 
 pub returns-then-not-may_repeat : goal.returns-then-not-may_repeat
 returns-then-not-may_repeat g c =
@@ -51,9 +51,10 @@ returns g c =
       highest = c.operand-greatest.ensures.word;
     } in
     again_further r c.operand-skip.result c.operand-least.result c.operand-greatest.result c.args.cursor
-    c.args.board.now c.save-2.new.self f loop (omega arith) (sym c.if-not-may_repeat.ensures)
-    (begun_board c.args.board.now c.leave.new.self c.enter-2.new.self c.save-2.new.self _ f c.next_frame-2.result
-    (Some c.args.cursor.position) c.args.cursor c.leave.ensures c.in_ok-enter-2.ensures c.in_ok-save-2.ensures
+    c.args.board.now c.begin_region-2.new.self f loop (omega arith) (sym c.if-not-may_repeat.ensures)
+    (begun_board c.args.board.now c.leave.new.self c.enter-2.new.self c.begin_region-2.new.self _ f
+    c.next_frame-2.result (Some c.args.cursor.position) c.args.cursor c.leave.ensures c.in_ok-enter-2.ensures
+    c.in_ok-begin_region-2.ensures
     (c.next_frame-2.ensures ∙ ap (λ p. next_frame f (Some p)) c.position.ensures))
 
 pub operand-least-requires : goal.operand-least-requires

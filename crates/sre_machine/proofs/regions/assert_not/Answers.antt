@@ -22,6 +22,6 @@ returns-then-position-back g c =
 pub returns : goal.returns
 returns g c =
     look_step (run_of c.args.req.now) Negative c.args.place c.operand-skip.result c.operand-back.result c.args.cursor
-    c.back_by.result c.args.board.now c.save.new.self
+    c.back_by.result c.args.board.now c.begin_region.new.self
     (record { code = c.requires.opcode; leads = c.operand-skip.ensures.word; there = c.operand-back.ensures.word })
-    (omega arith) c.back_by.ensures.position c.back_by.ensures.stands c.in_ok-save.ensures
+    (omega arith) c.back_by.ensures.position c.back_by.ensures.stands c.in_ok-begin_region.ensures

@@ -8,4 +8,4 @@ operand-skip-requires g c = atomic_operand (run_of c.args.req.now) _ c.args.curs
 pub returns : goal.returns
 returns g c =
     atomic_step (run_of c.args.req.now) _ _ c.args.cursor _ _ c.requires.opcode c.operand-skip.ensures.word
-    c.in_ok-save.ensures
+    c.in_ok-begin_region.ensures
