@@ -1,10 +1,12 @@
 -- The words of a tree have the tree's ways.
-use Rattle.std.proofs.Common.{ℕ, suc, ◌+◌, ◌-◌, ◌<◌, ◌≤◌, List, length, refl, sym, arith}
+use Rattle.std.proofs.Common.{◌≡◌, ℕ, suc, ◌+◌, ◌-◌, ◌<◌, ◌≤◌, true, List, length, refl, sym, arith}
+use Rattle.std.proofs.lemmas.Bool.{or_left, or_right}
 use Rattle.std.proofs.lemmas.Grind.{flat_map-append}
 use Rattle.sre_chars.specs.declared.constants.SreOpcode.TheVariants as opcode
 use Rattle.sre_model.specs.Tree.{Tree, Atomic, Look, Positive, Negative, Empty, Then, Item, Fail, One, At, Mark, Branch}
 use Rattle.sre_model.specs.Tree.{Run, GreedyRun, Trees, Only, Or, Loop, LazyRun, PossessiveRun, PossessiveLoop}
 use Rattle.sre_model.specs.Tree.{Reference, Exists, ExistsElse}
+use Rattle.sre_model.specs.References.{refers, item_refers, some_refers}
 use Rattle.sre_model.specs.Marks.{Marks, group}
 use Rattle.sre_model.specs.Subject.{Subject}
 use Rattle.sre_model.specs.Ways.{Way, Body, here, ways, item_ways, branch_ways}
@@ -13,6 +15,7 @@ use Rattle.sre_turns.specs.declared.Frame.{Frame}
 use Rattle.sre_turns.specs.declared.Point.TheVariants.{Instruction, Alternatives}
 use Rattle.sre_model.specs.Standing.{AreWords}
 use Rattle.sre_turns.specs.Moves.{spot_at, Stop, Go}
+use Rattle.sre_turns.specs.MovesAtReferences.{HasReference}
 use Rattle.sre_turns.specs.Machine.{Runs, turns, stops, goes}
 use Rattle.sre_model.specs.Roles.{ToFail, ToBranch}
 use Rattle.sre_turns.proofs.Moving.{at_instruction}
@@ -31,86 +34,92 @@ use Rattle.sre_turns.proofs.RanInRegions.{atomic-ran, ahead-ran, not_ahead-ran}
 use Rattle.sre_turns.proofs.RanAtReferences.{reference-ran, condition-ran, present-followed}
 
 mutual
-  pub ran : (ws : List ℕ) (s : Subject) (i j : ℕ) (t : Tree) → AreWords ws → Reads ws i j t
+  pub ran : (ws : List ℕ) (s : Subject) (i j : ℕ) (t : Tree) → AreWords ws → (refers t ≡ true → HasReference ws)
+      → Reads ws i j t
       → Ran ws s (Instruction i) j (λ p m. ways s t p m) (λ C p m. cost s t C p m)
-  ran ws s i j Empty v h fs K C p m e f = moved (sym h) (alone (f p m (omega arith) e))
-  ran ws s i j (Then item rest) v h fs K C p m e f =
+  ran ws s i j Empty v has h fs K C p m e f = moved (sym h) (alone (f p m (omega arith) e))
+  ran ws s i j (Then item rest) v has h fs K C p m e f =
       rw (flat_map-flat_map (λ (w : Way). K w.stop w.marks)
       (λ (w : Way). ways s rest w.stop w.marks) (item_ways s item p m))
-      (item-ran ws s i h.0 item v h.1 fs (λ q k. followed K (ways s rest q k)) (λ q k. cost s rest C q k) p m e
-      (λ q k l g. ran ws s h.0 j rest v h.2 fs K C q k g (λ q' k' l' g'. f q' k' (omega arith) g')))
+      (item-ran ws s i h.0 item v (λ y. has (or_left (item_refers item) (refers rest) y)) h.1 fs
+      (λ q k. followed K (ways s rest q k)) (λ q k. cost s rest C q k) p m e
+      (λ q k l g. ran ws s h.0 j rest v (λ y. has (or_right (item_refers item) (refers rest) y)) h.2 fs K C q k g
+      (λ q' k' l' g'. f q' k' (omega arith) g')))
 
-  pub item-ran : (ws : List ℕ) (s : Subject) (i j : ℕ) (x : Item) → AreWords ws → ReadsItem ws i j x
+  pub item-ran : (ws : List ℕ) (s : Subject) (i j : ℕ) (x : Item) → AreWords ws
+      → (item_refers x ≡ true → HasReference ws) → ReadsItem ws i j x
       → Ran ws s (Instruction i) j (λ p m. item_ways s x p m) (λ C p m. item_cost s x C p m)
-  item-ran ws s i j Fail v h fs K C p m e f = turns Stop (at_instruction opcode.FAILURE ToFail refl h.0 refl) stops
-  item-ran ws s i j (One t) v h fs K C p m e f = one-ran ws s i j t h.0 h.1 fs K C p m e f
-  item-ran ws s i j (At a) v h fs K C p m e f = at-ran ws s i j a h.0 h.1.0 h.1.1 fs K C p m e f
-  item-ran ws s i j (Mark n) v h fs K C p m e f = mark-ran ws s i j n h.0 h.1.0 h.1.1 fs K C p m e f
-  item-ran ws s i j (Branch ts) v h fs K C p m e f =
+  item-ran ws s i j Fail v has h fs K C p m e f = turns Stop (at_instruction opcode.FAILURE ToFail refl h.0 refl) stops
+  item-ran ws s i j (One t) v has h fs K C p m e f = one-ran ws s i j t h.0 h.1 fs K C p m e f
+  item-ran ws s i j (At a) v has h fs K C p m e f = at-ran ws s i j a h.0 h.1.0 h.1.1 fs K C p m e f
+  item-ran ws s i j (Mark n) v has h fs K C p m e f = mark-ran ws s i j n h.0 h.1.0 h.1.1 fs K C p m e f
+  item-ran ws s i j (Branch ts) v has h fs K C p m e f =
       turns (Go (spot_at (Alternatives (i + 1)) fs p m)) (at_instruction opcode.BRANCH ToBranch refl h.0 refl)
-      (goes (branch-ran ws s (i + 1) j ts v h.1 fs K C p m e f))
-  item-ran ws s i j (Run GreedyRun low high t) v h fs K C p m e f =
+      (goes (branch-ran ws s (i + 1) j ts v has h.1 fs K C p m e f))
+  item-ran ws s i j (Run GreedyRun low high t) v has h fs K C p m e f =
       run-ran ws s i j low high t h.0 h.1.0 h.1.1 h.1.2 h.1.4 h.1.5 fs K C p m e f
-  item-ran ws s i j (Loop o low high body) v h fs K C p m e f =
+  item-ran ws s i j (Loop o low high body) v has h fs K C p m e f =
       loop-ran ws s i (skip ws (i + 1)) low high o (λ q k. ways s body q k) (λ D q k. cost s body D q k)
       (ways-bounded s body) (v.fits (i + 3) high h.1.1) h.1.2 h.1.0 h.1.1
-      (ran ws s (i + 4) (skip ws (i + 1)) body v h.1.3) h.1.4 h.0 refl fs K C p m e
+      (ran ws s (i + 4) (skip ws (i + 1)) body v has h.1.3) h.1.4 h.0 refl fs K C p m e
       (λ q' k' l' g'. moved h.1.5 (f q' k' l' g'))
-  item-ran ws s i j (PossessiveLoop low high body) v h fs K C p m e f =
+  item-ran ws s i j (PossessiveLoop low high body) v has h fs K C p m e f =
       possessive-ran ws s i (skip ws (i + 1)) low high (λ q k. ways s body q k) (λ D q k. cost s body D q k)
       (ways-bounded s body) (v.fits (i + 3) high h.1.1) h.1.2 h.1.0 h.1.1
-      (ran ws s (i + 4) (skip ws (i + 1)) body v h.1.3)
+      (ran ws s (i + 4) (skip ws (i + 1)) body v has h.1.3)
       h.1.4 refl h.0 fs K C p m e (λ q' k' l' g'. moved h.1.5 (f q' k' l' g'))
-  item-ran ws s i j (Run LazyRun low high t) v h fs K C p m e f =
+  item-ran ws s i j (Run LazyRun low high t) v has h fs K C p m e f =
       lazy-run-ran ws s i j low high t h.0 h.1.0 h.1.1 h.1.2 h.1.3 h.1.4 h.1.5 fs K C p m e f
-  item-ran ws s i j (Run PossessiveRun low high t) v h fs K C p m e f =
+  item-ran ws s i j (Run PossessiveRun low high t) v has h fs K C p m e f =
       let b = h.1 in
       longest-run-ran ws s i j low high t h.0 b.0
       (record { lowest = b.1; highest = b.2; stands = record { code = b.4; operands = b.5 } }) fs K C p m e f
-  item-ran ws s i j (Atomic body) v h fs K C p m e f =
+  item-ran ws s i j (Atomic body) v has h fs K C p m e f =
       let b = h.1 in
       let there : i + 1 < length ws =
       omega (arith, reads_within body ws (i + 2) (j - 1) b.1, opcode_within ws (j - 1) opcode.SUCCESS b.2) in
       atomic-ran ws s i j (i + 2) (λ q k. ways s body q k) (λ D q k. cost s body D q k)
-      (ran ws s (i + 2) (j - 1) body v b.1) b.2 b.0 h.0 there refl (ways-bounded s body) fs K C p m e f
-  item-ran ws s i j (Look Positive back body) v h fs K C p m e f =
+      (ran ws s (i + 2) (j - 1) body v has b.1) b.2 b.0 h.0 there refl (ways-bounded s body) fs K C p m e f
+  item-ran ws s i j (Look Positive back body) v has h fs K C p m e f =
       let b = h.1 in
       ahead-ran ws s i j (i + 3) (λ q k. ways s body q k) (λ D q k. cost s body D q k)
-      (ran ws s (i + 3) (j - 1) body v b.2) b.3 b.0 back b.1 refl h.0 fs K C p m e f
-  item-ran ws s i j (Look Negative back body) v h fs K C p m e f =
+      (ran ws s (i + 3) (j - 1) body v has b.2) b.3 b.0 back b.1 refl h.0 fs K C p m e f
+  item-ran ws s i j (Look Negative back body) v has h fs K C p m e f =
       let b = h.1 in
       not_ahead-ran ws s i j (i + 3) (λ q k. ways s body q k) (λ D q k. cost s body D q k)
-      (ran ws s (i + 3) (j - 1) body v b.2) b.3 b.0 back b.1 refl h.0 fs K C p m e f
-  item-ran ws s i j (Reference fold g) v h fs K C p m e f =
-      reference-ran ws s i j g fold h.0 h.1.0 h.1.1 fs K C p m e f
-  item-ran ws s i j (Exists g there) v h fs K C p m e f =
+      (ran ws s (i + 3) (j - 1) body v has b.2) b.3 b.0 back b.1 refl h.0 fs K C p m e f
+  item-ran ws s i j (Reference fold g) v has h fs K C p m e f =
+      reference-ran ws s i j g fold (has refl) h.0 h.1.0 h.1.1 fs K C p m e f
+  item-ran ws s i j (Exists g there) v has h fs K C p m e f =
       let inside = reads_within there ws (i + 3) j h.1.2 in
       rw (present-followed K (group m g) (ways s there p m) (here p m))
-      (condition-ran ws s i g h.0 h.1.0 (skip_there ws (i + 2) (omega (arith, inside, h.1.1))) fs p m _ _ _ _
-      (ran ws s (i + 3) j there v h.1.2 fs K C p m e f) (moved h.1.1 (alone (f p m (omega arith) e))))
-  item-ran ws s i j (ExistsElse g there absent) v h fs K C p m e f =
+      (condition-ran ws s i g (has refl) h.0 h.1.0 (skip_there ws (i + 2) (omega (arith, inside, h.1.1))) fs p m _ _ _ _
+      (ran ws s (i + 3) j there v (λ _. has refl) h.1.2 fs K C p m e f) (moved h.1.1 (alone (f p m (omega arith) e))))
+  item-ran ws s i j (ExistsElse g there absent) v has h fs K C p m e f =
       let yes = reads_within there ws (i + 3) (i + 1 + word ws (i + 2) - 2) h.1.1 in
       let no_ = reads_within absent ws (i + 1 + word ws (i + 2)) j h.1.3 in
       rw (present-followed K (group m g) (ways s there p m) (ways s absent p m))
-      (condition-ran ws s i g h.0 h.1.0 (skip_there ws (i + 2) (omega (arith, yes))) fs p m _ _ _ _
-      (ran ws s (i + 3) (i + 1 + word ws (i + 2) - 2) there v h.1.1 fs K (λ a b. suc (C a b)) p m e
+      (condition-ran ws s i g (has refl) h.0 h.1.0 (skip_there ws (i + 2) (omega (arith, yes))) fs p m _ _ _ _
+      (ran ws s (i + 3) (i + 1 + word ws (i + 2) - 2) there v (λ _. has refl) h.1.1 fs K (λ a b. suc (C a b)) p m e
       (λ q' k' l' g'. jump-ran ws s (i + 1 + word ws (i + 2) - 2) j (omega (arith, yes, no_)) h.1.2 fs K C q' k'
       (f q' k' l' g')))
-      (ran ws s (i + 1 + word ws (i + 2)) j absent v h.1.3 fs K C p m e f))
+      (ran ws s (i + 1 + word ws (i + 2)) j absent v (λ _. has refl) h.1.3 fs K C p m e f))
 
-  pub branch-ran : (ws : List ℕ) (s : Subject) (q j : ℕ) (ts : Trees) → AreWords ws → ReadsBranch ws q j ts
+  pub branch-ran : (ws : List ℕ) (s : Subject) (q j : ℕ) (ts : Trees) → AreWords ws
+      → (some_refers ts ≡ true → HasReference ws) → ReadsBranch ws q j ts
       → (fs : List Frame) (K : Body) (C : Costs) (p : ℕ) (m : Marks) → p ≤ s.end → Follows ws s p (Instruction j) fs K C
       → Runs ws s (spot_at (Alternatives q) fs p m) (followed K (branch_ways s ts p m))
       (branch_cost s ts (λ a b. suc (C a b)) p m)
-  branch-ran ws s q j (Only t) v h fs K C p m e f =
+  branch-ran ws s q j (Only t) v has h fs K C p m e f =
       let l : q + 3 ≤ skip ws q = alternative_long ws q j (Only t) h in
       last_alternative ws s q (word ws q) _ fs p m _ (word_there ws q (skip_there ws q (omega arith))) (omega arith) h.2
-      (ran ws s (q + 1) (skip ws q - 2) t v h.0 fs K (λ a b. suc (C a b)) p m e
+      (ran ws s (q + 1) (skip ws q - 2) t v has h.0 fs K (λ a b. suc (C a b)) p m e
       (λ q' k' l' g'. jump-ran ws s (skip ws q - 2) j (omega (arith, h.3)) h.1 fs K C q' k' (f q' k' l' g')))
-  branch-ran ws s q j (Or t ts) v h fs K C p m e f =
+  branch-ran ws s q j (Or t ts) v has h fs K C p m e f =
       let l : q + 3 ≤ skip ws q = alternative_long ws q j (Or t ts) h in
       rw (flat_map-append (λ (w : Way). K w.stop w.marks) (ways s t p m) (branch_ways s ts p m))
       (alternative-ran ws s q (word ws q) _ _ fs p m _ _ (word_there ws q (skip_there ws q (omega arith))) (omega arith)
-      (ran ws s (q + 1) (skip ws q - 2) t v h.0 fs K (λ a b. suc (C a b)) p m e (λ q' k' l' g'. jump-ran ws s
+      (ran ws s (q + 1) (skip ws q - 2) t v (λ y. has (or_left (refers t) (some_refers ts) y)) h.0 fs K
+      (λ a b. suc (C a b)) p m e (λ q' k' l' g'. jump-ran ws s
       (skip ws q - 2) j (omega (arith, branch_past ts ws (skip ws q) j h.2)) h.1 fs K C q' k' (f q' k' l' g')))
-      (branch-ran ws s (skip ws q) j ts v h.2 fs K C p m e f))
+      (branch-ran ws s (skip ws q) j ts v (λ y. has (or_right (refers t) (some_refers ts) y)) h.2 fs K C p m e f))

@@ -1,31 +1,48 @@
 -- How a run begins, and how it ends.
 use Rattle.std.proofs.Common.{◌≡◌, ℕ, ◌+◌, ◌-◌, ◌≤◌, ◌++◌, Bool, true, false, List, [], ◌∷◌, refl, sym, ap, ◌∙◌, subst}
-use Rattle.std.proofs.Common.{arith, length}
+use Rattle.std.proofs.Common.{arith, length, zero, suc}
 use Rattle.std.specs.List.{filter}
+use Rattle.std.proofs.lemmas.Bool.{or_right}
 use Rattle.sre_chars.specs.declared.constants.SreOpcode.TheVariants as opcode
 use Rattle.sre_chars.specs.declared.string.StringCursor.{StringCursor}
-use Rattle.sre_model.specs.Tree.{Tree}
+use Rattle.sre_model.specs.Tree.{Tree, Empty, Then}
+use Rattle.sre_model.specs.References.{refers, item_refers}
+use Rattle.sre_model.specs.Prefixes.{behind_items}
 use Rattle.sre_model.specs.Marks.{no_marks}
 use Rattle.sre_model.specs.Ways.{Way, ways}
-use Rattle.sre_model.specs.Grammar.{Opcode, Reads}
+use Rattle.sre_model.specs.Grammar.{Opcode, Reads, WholeItems}
 use Rattle.sre_model.specs.Standing.{AreWords}
 use Rattle.sre_turns.specs.Board.{Choice, Else, Keep, from_region, BoardValue, bare}
 use Rattle.sre_turns.specs.declared.Point.TheVariants.{Instruction}
+use Rattle.sre_turns.specs.MovesAtReferences.{HasReference}
 use Rattle.sre_turns.specs.Machine.{Waits, outermost, otherwise, Goes, Ends, Stands, Later, SaysAccepted, outcomes}
 use Rattle.sre_model.specs.Runs.{Run}
 use Rattle.sre_turns.specs.declared.Next.{Next}
 use Rattle.sre_turns.specs.declared.Next.TheVariants as next
 use Rattle.sre_model.specs.Cost.{cost, ending}
+use Rattle.sre_model.proofs.Unique.{items_same}
 use Rattle.sre_turns.proofs.Outcomes.{region}
 use Rattle.sre_turns.proofs.Placed.{none_placed}
 use Rattle.sre_turns.proofs.Ran.{ran}
 
+-- a reference behind some items is one of the whole
+behind_refers : (n : ℕ) (t : Tree) → refers (behind_items n t) ≡ true → refers t ≡ true
+behind_refers zero t e = e
+behind_refers (suc n) Empty e = e
+behind_refers (suc n) (Then x rest) e = or_right (item_refers x) (refers rest) (behind_refers n rest e)
+
+-- so the words have one
+pub behind_has : (ws : List ℕ) (n : ℕ) (t : Tree) → WholeItems ws t → refers (behind_items n t) ≡ true
+    → HasReference ws
+behind_has ws n t w e = λ u w'. subst (λ x. refers x ≡ true) (items_same ws t u w w') (behind_refers n t e)
+
 -- a run from a cursor and a place has the accepted ways of the tree whose words are those from there on
 pub started : (r : Run) (i : ℕ) (t : Tree) (c : StringCursor) (b : BoardValue) → AreWords r.words
+    → (refers t ≡ true → HasReference r.words)
     → Reads r.words i (length r.words - 1) t → Opcode r.words (length r.words - 1) opcode.SUCCESS
     → r.stands c c.position → c.position ≤ r.subject.end → b ≡ bare no_marks
     → Goes r (outcomes r t c.position) (cost r.subject t ending c.position no_marks) (Instruction i) c b
-started r i t c b v reads ends stands inside fresh =
+started r i t c b v has reads ends stands inside fresh =
     subst (λ x. Goes r (outcomes r t c.position) (cost r.subject t ending c.position no_marks) (Instruction i) c x)
     (sym fresh)
     (record {
@@ -36,7 +53,7 @@ started r i t c b v reads ends stands inside fresh =
       placed = none_placed r.subject;
       runs =
           region r.words r.subject i _ (λ q k. ways r.subject t q k) (λ C q k. cost r.subject t C q k)
-          (ran r.words r.subject i _ t v reads) ends [] c.position no_marks inside;
+          (ran r.words r.subject i _ t v has reads) ends [] c.position no_marks inside;
       waits = outermost;
       within = omega arith;
     })

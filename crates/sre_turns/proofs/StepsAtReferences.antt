@@ -38,27 +38,34 @@ reference_there r i c o w e x =
 
 module _ (r : Run) (fold : Fold) (i g : ℕ) (c : StringCursor) (b : BoardValue)
     (w : Opcode r.words i (reference_opcode fold)) (there : Word r.words (i + 1) g) where
-  refers : (mv : Move) → mv ≡ reference_turn r.subject fold g (i + 2) (spot (Instruction i) c b)
+  -- a turn there: that it is at a reference is known of the run that stands there
+  turn_there : (all : List Way) (limit : ℕ) → Goes r all limit (Instruction i) c b → (mv : Move)
+      → mv ≡ reference_turn r.subject fold g (i + 2) (spot (Instruction i) c b)
       → Moves r.words r.subject (spot (Instruction i) c b) mv
-  refers mv is =
+  turn_there all limit k mv is =
+      let h = (in_role (reference_opcode fold) ToRefer (reference_role fold) w k.runs).1 in
       at_instruction (reference_opcode fold) ToRefer (reference_role fold) w
-      (record { fold = fold; number = g; code = w; there = there; is = is })
+      (record { refers = h.refers; fold = fold; number = g; code = w; there = there; is = is })
 
   pub reference_missing : group b.marks g ≡ None → (all : List Way) (limit : ℕ) → Goes r all limit (Instruction i) c b
       → Later r all limit next.Back b
-  reference_missing known = turn_stops r (Instruction i) c b (refers Stop (rw (known, reference_turn) refl))
+  reference_missing known all limit k =
+      turn_stops r (Instruction i) c b (turn_there all limit k Stop (rw (known, reference_turn) refl)) all limit k
 
   module _ (x y : ℕ) (known : group b.marks g ≡ Some (x, y)) where
     -- the group is longer than what is left of the window, or the window goes on otherwise
     pub reference_past : nat_le (c.position + (y - x)) r.subject.end ≡ false → (all : List Way) (limit : ℕ)
         → Goes r all limit (Instruction i) c b → Later r all limit next.Back b
-    reference_past past = turn_stops r (Instruction i) c b (refers Stop (rw (known, past, reference_turn) refl))
+    reference_past past all limit k =
+        turn_stops r (Instruction i) c b (turn_there all limit k Stop (rw (known, past, reference_turn) refl)) all limit
+        k
 
     pub reference_unlike : nat_le (c.position + (y - x)) r.subject.end ≡ true
         → same_folded r.subject fold (y - x) x c.position ≡ false → (all : List Way) (limit : ℕ)
         → Goes r all limit (Instruction i) c b → Later r all limit next.Back b
-    reference_unlike inside unlike =
-        turn_stops r (Instruction i) c b (refers Stop (rw (known, inside, unlike, reference_turn) refl))
+    reference_unlike inside unlike all limit k =
+        turn_stops r (Instruction i) c b
+        (turn_there all limit k Stop (rw (known, inside, unlike, reference_turn) refl)) all limit k
 
     pub reference_step : (after : StringCursor) → nat_le (c.position + (y - x)) r.subject.end ≡ true
         → same_folded r.subject fold (y - x) x c.position ≡ true → after.position ≡ c.position + (y - x)
@@ -66,7 +73,8 @@ module _ (r : Run) (fold : Fold) (i g : ℕ) (c : StringCursor) (b : BoardValue)
         → Later r all limit (next.At (i + 2) after) b
     reference_step after inside alike place stands all limit k =
         turn_goes r (Instruction i) c b (Instruction (i + 2)) after b
-        (refers (Go (spot (Instruction (i + 2)) after b)) (rw (known, inside, alike, place, reference_turn) refl))
+        (turn_there all limit k (Go (spot (Instruction (i + 2)) after b))
+        (rw (known, inside, alike, place, reference_turn) refl))
         stands k.placed refl all limit k
 
 module _ (r : Run) (i g v : ℕ) (c : StringCursor) (b : BoardValue) (w : Opcode r.words i opcode.GROUPREF_EXISTS)
@@ -74,9 +82,11 @@ module _ (r : Run) (i g v : ℕ) (c : StringCursor) (b : BoardValue) (w : Opcode
   pub condition_present : (u : ℕ × ℕ) → group b.marks g ≡ Some u → (all : List Way) (limit : ℕ)
       → Goes r all limit (Instruction i) c b → Later r all limit (next.At (i + 3) c) b
   condition_present u known all limit k =
+      let h = (in_role opcode.GROUPREF_EXISTS ToCheckGroup refl w k.runs).1 in
       turn_goes r (Instruction i) c b (Instruction (i + 3)) c b
       (at_instruction opcode.GROUPREF_EXISTS ToCheckGroup refl w
       (record {
+        refers = h.refers;
         number = g;
         there = there;
         skips = word_within r.words (i + 2) v leads;
@@ -86,8 +96,10 @@ module _ (r : Run) (i g v : ℕ) (c : StringCursor) (b : BoardValue) (w : Opcode
   pub condition_absent : group b.marks g ≡ None → (all : List Way) (limit : ℕ)
       → Goes r all limit (Instruction i) c b → Later r all limit (next.At (i + 1 + v) c) b
   condition_absent known all limit k =
+      let h = (in_role opcode.GROUPREF_EXISTS ToCheckGroup refl w k.runs).1 in
       turn_goes r (Instruction i) c b (Instruction (i + 1 + v)) c b
       (at_instruction opcode.GROUPREF_EXISTS ToCheckGroup refl w (record {
+        refers = h.refers;
         number = g;
         there = there;
         skips = word_within r.words (i + 2) v leads;

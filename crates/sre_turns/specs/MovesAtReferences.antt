@@ -1,13 +1,18 @@
 -- What the machine does in one turn at a reference to a group: GROUPREF group and its three foldings, and at a
 -- condition on one: GROUPREF_EXISTS group skip.
 -- Words of the machine's contracts; what sre_engine makes public does not rest on it.
-use Rattle.std.specs.Prelude.{ℕ, ◌+◌, ◌-◌, ◌≡◌, ◌<◌, ◌&&◌, length, cond, nat_le, List, Some, None}
-use Rattle.sre_model.specs.Tree.{Fold}
+use Rattle.std.specs.Prelude.{ℕ, ◌+◌, ◌-◌, ◌≡◌, ◌<◌, ◌&&◌, length, cond, nat_le, true, List, Some, None}
+use Rattle.sre_model.specs.Tree.{Tree, Fold}
+use Rattle.sre_model.specs.References.{refers}
 use Rattle.sre_model.specs.Marks.{Marks, group}
 use Rattle.sre_model.specs.Subject.{Subject, same_folded}
-use Rattle.sre_model.specs.Grammar.{Word, word, Opcode, reference_opcode}
+use Rattle.sre_model.specs.Grammar.{Word, word, Opcode, WholeItems, reference_opcode}
 use Rattle.sre_turns.specs.declared.Point.TheVariants.{Instruction}
 use Rattle.sre_turns.specs.Moves.{Spot, to_point, to_place, Move, Stop, Go}
+
+-- a reference or a condition is in the words, whatever tree they have; each turn at one says so
+abbrev pub HasReference : List ℕ → Type 0
+HasReference ws = (t : Tree) → WholeItems ws t → refers t ≡ true
 
 -- what comes of a reference whose tail is at t: nothing of a group that is missing
 abbrev pub reference_turn : Subject → Fold → ℕ → ℕ → Spot → Move
@@ -20,6 +25,7 @@ reference_turn s fold g t x = elim (group x.marks g) [
 
 -- GROUPREF, GROUPREF_IGNORE, GROUPREF_LOC_IGNORE or GROUPREF_UNI_IGNORE
 pub record ReferenceMove (ws : List ℕ) (s : Subject) (i : ℕ) (x : Spot) (mv : Move) : Type 0 where
+  pub refers : HasReference ws
   pub fold : Fold
   pub number : ℕ
   pub code : Opcode ws i (reference_opcode fold)
@@ -32,6 +38,7 @@ condition_place ws i g m = elim (group m g) [ None ↦ i + 1 + word ws (i + 2) |
 
 -- GROUPREF_EXISTS
 pub record ConditionMove (ws : List ℕ) (i : ℕ) (x : Spot) (mv : Move) : Type 0 where
+  pub refers : HasReference ws
   pub number : ℕ
   pub there : Word ws (i + 1) number
   pub skips : i + 2 < length ws
