@@ -24,7 +24,7 @@ abbrev pub Apart : Body → Type 0
 Apart body = (p : ℕ) (m n : Marks) → SameStops (body p m) (body p n)
 
 -- lists of ways
-append-apart : (xs ys us vs : List Way) → SameStops xs ys → SameStops us vs → SameStops (xs ++ us) (ys ++ vs)
+pub append-apart : (xs ys us vs : List Way) → SameStops xs ys → SameStops us vs → SameStops (xs ++ us) (ys ++ vs)
 append-apart [] [] us vs h k = k
 append-apart [] (y ∷ ys) us vs h k = absurd h
 append-apart (x ∷ xs) [] us vs h k = absurd h

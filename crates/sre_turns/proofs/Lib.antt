@@ -17,3 +17,7 @@ pub mod RanInPossessiveLoops
 pub mod Ran
 pub mod GoingBack
 pub mod Start
+pub mod Onward
+pub mod AlikeLoops
+pub mod AlikeTurns
+pub mod SameComes

@@ -4,4 +4,5 @@ pub mod MovesInRuns
 pub mod MovesInLoops
 pub mod MovesInRegions
 pub mod MovesAtReferences
+pub mod Alike
 pub mod Machine

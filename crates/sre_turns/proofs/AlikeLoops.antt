@@ -1,0 +1,118 @@
+-- Loops that are alike: how long they stay so, and that they decide alike on a further body. A memory of failures, for
+-- which these laws wait, will keep of a loop its count, as far as it is told, and one bit of its last body.
+use Rattle.std.proofs.Common.{◌≡◌, ℕ, ◌+◌, ◌≤◌, Bool, true, false, not, ◌&&◌, ◌||◌, List, [], ◌∷◌, min, max, drop}
+use Rattle.std.proofs.Common.{nat_eq, nat_lt, Option, Some, None, IfSome, refl, sym, ap, ◌∙◌, subst, arith}
+use Rattle.std.proofs.lemmas.Bool.Decides.{nat_tests}
+use Rattle.sre_model.specs.Ways.{unlimited, may_repeat}
+use Rattle.sre_model.specs.Grammar.{Word}
+use Rattle.sre_turns.specs.declared.Frame.{Frame}
+use Rattle.sre_turns.specs.MovesInLoops.{next_frame}
+use Rattle.sre_turns.specs.Alike.{is_last, counted_to, FramesAlike, LoopsAlike}
+
+-- from a position on, so from a later one on
+frame_later : (ws : List ℕ) (p q : ℕ) (f g : Frame) → p ≤ q → FramesAlike ws p f g → FramesAlike ws q f g
+frame_later ws p q f g l h =
+    record { repeat = h.repeat; count = h.count; last = λ k at. h.last k (omega (arith, l, at)) }
+
+pub loops_later : (ws : List ℕ) (p q : ℕ) (fs gs : List Frame) → p ≤ q → LoopsAlike ws p fs gs → LoopsAlike ws q fs gs
+loops_later ws p q [] [] l h = tt
+loops_later ws p q [] (g ∷ gs) l h = absurd h
+loops_later ws p q (f ∷ fs) [] l h = absurd h
+loops_later ws p q (f ∷ fs) (g ∷ gs) l h = (frame_later ws p q f g l h.0, loops_later ws p q fs gs l h.1)
+
+-- without the innermost one
+pub loops_left : (ws : List ℕ) (p : ℕ) (fs gs : List Frame) → LoopsAlike ws p fs gs
+    → LoopsAlike ws p (drop 1 fs) (drop 1 gs)
+loops_left ws p [] [] h = tt
+loops_left ws p [] (g ∷ gs) h = absurd h
+loops_left ws p (f ∷ fs) [] h = absurd h
+loops_left ws p (f ∷ fs) (g ∷ gs) h = h.1
+
+-- loops are alike to themselves
+pub frame-alike : (ws : List ℕ) (p : ℕ) (f : Frame) → FramesAlike ws p f f
+frame-alike ws p f = record { repeat = refl; count = λ low high wl wh. refl; last = λ q at. refl }
+
+pub loops-alike : (ws : List ℕ) (p : ℕ) (fs : List Frame) → LoopsAlike ws p fs fs
+loops-alike ws p [] = tt
+loops-alike ws p (f ∷ fs) = (frame-alike ws p f, loops-alike ws p fs)
+
+-- where one side has a loop, so has the other
+pub record Beside (ws : List ℕ) (p : ℕ) (f : Frame) (outer gs : List Frame) : Type 0 where
+  pub frame : Frame
+  pub others : List Frame
+  pub inside : gs ≡ frame ∷ others
+  pub alike : FramesAlike ws p f frame
+  pub around : LoopsAlike ws p outer others
+
+pub beside : (ws : List ℕ) (p : ℕ) (f : Frame) (outer fs gs : List Frame) → fs ≡ f ∷ outer → LoopsAlike ws p fs gs
+    → Beside ws p f outer gs
+beside ws p f outer fs gs e h = go gs (subst (λ x. LoopsAlike ws p x gs) e h)
+  where
+    go : (gs : List Frame) → LoopsAlike ws p (f ∷ outer) gs → Beside ws p f outer gs
+    go [] h = absurd h
+    go (g ∷ gs) h = record { frame = g; others = gs; inside = refl; alike = h.0; around = h.1 }
+
+-- of the last body it is enough to know whether it began here, where none began later
+pub last-alike : (a b : Option ℕ) (p : ℕ) → IfSome a (λ last. last ≤ p) → IfSome b (λ last. last ≤ p)
+    → is_last a p ≡ is_last b p → (q : ℕ) → p ≤ q → is_last a q ≡ is_last b q
+last-alike None None p l k same q at = refl
+last-alike None (Some b) p l k same q at = grind (arith, nat_tests)
+last-alike (Some a) None p l k same q at = grind (arith, nat_tests)
+last-alike (Some a) (Some b) p l k same q at = grind (arith, nat_tests)
+
+-- a further body leaves them alike
+held-alike : (a b cap : ℕ) → min a cap ≡ min b cap
+    → min (min (a + 1) unlimited) cap ≡ min (min (b + 1) unlimited) cap
+held-alike a b cap h = omega (arith, h)
+
+pub next-alike : (ws : List ℕ) (p : ℕ) (f g : Frame) (a b : Option ℕ) → FramesAlike ws p f g
+    → ((q : ℕ) → p ≤ q → is_last a q ≡ is_last b q) → FramesAlike ws p (next_frame f a) (next_frame g b)
+next-alike ws p f g a b h last = record {
+  repeat = h.repeat;
+  count = λ low high wl wh. held-alike f.count g.count (counted_to low high) (h.count low high wl wh);
+  last = last;
+}
+
+-- they decide alike
+module _ (ws : List ℕ) (p low high : ℕ) (f g : Frame) (h : FramesAlike ws p f g) (wl : Word ws (f.repeat + 2) low)
+    (wh : Word ws (f.repeat + 3) high) where
+  same_count : min f.count (counted_to low high) ≡ min g.count (counted_to low high)
+  same_count = h.count low high wl wh
+
+  -- whether a body is owed
+  pub below-alike : nat_lt f.count low ≡ nat_lt g.count low
+  below-alike = go (nat_eq high unlimited) refl
+    where
+      go : (b : Bool) → nat_eq high unlimited ≡ b → nat_lt f.count low ≡ nat_lt g.count low
+      go true y = let held : min f.count low ≡ min g.count low = rw y at same_count in grind (arith, nat_tests)
+      go false y =
+          let held : min f.count (max low high) ≡ min g.count (max low high) = rw y at same_count in
+          grind (arith, nat_tests)
+
+  under-alike : (nat_eq high unlimited || nat_lt f.count high) ≡ (nat_eq high unlimited || nat_lt g.count high)
+  under-alike = go (nat_eq high unlimited) refl
+    where
+      go : (b : Bool) → nat_eq high unlimited ≡ b
+          → (nat_eq high unlimited || nat_lt f.count high) ≡ (nat_eq high unlimited || nat_lt g.count high)
+      go true y = rw y refl
+      go false y =
+          let held : min f.count (max low high) ≡ min g.count (max low high) = rw y at same_count in
+          let below : nat_lt f.count high ≡ nat_lt g.count high = grind (arith, nat_tests) in
+          ap (λ b. nat_eq high unlimited || b) below
+
+  repeats : (count : ℕ) (last : Option ℕ) (q : ℕ)
+      → may_repeat high count last q ≡ ((nat_eq high unlimited || nat_lt count high) && not (is_last last q))
+  repeats count None q = by_test (nat_eq high unlimited || nat_lt count high)
+    where
+      by_test : (b : Bool) → b ≡ (b && true)
+      by_test true = refl
+      by_test false = refl
+  repeats count (Some last) q = refl
+
+  -- whether a further one may be tried
+  pub repeat-alike : (q : ℕ) → p ≤ q → may_repeat high f.count f.last q ≡ may_repeat high g.count g.last q
+  repeat-alike q at =
+      repeats f.count f.last q
+      ∙ ap (λ b. b && not (is_last f.last q)) under-alike
+      ∙ ap (λ b. (nat_eq high unlimited || nat_lt g.count high) && not b) (h.last q at)
+      ∙ sym (repeats g.count g.last q)
