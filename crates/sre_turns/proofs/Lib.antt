@@ -21,3 +21,4 @@ pub mod Onward
 pub mod AlikeLoops
 pub mod AlikeTurns
 pub mod SameComes
+pub mod Hopeless

@@ -67,8 +67,8 @@ first_waits r (Else pt fs c m ∷ cs) w rest none y (otherwise {os = os} there p
 first_waits r (Keep g fs c m ∷ cs) w rest none y wt = absurd (cc)
 
 -- and else it is passed over
-refused_waits : (r : Run) (cs : List Choice) (w : Way) (rest : List Way) {all : List Way} {k : ℕ} → from_region cs ≡ []
-    → r.accepts w ≡ false → Waits r cs (w ∷ rest) all k → Waits r cs rest all k
+pub refused_waits : (r : Run) (cs : List Choice) (w : Way) (rest : List Way) {all : List Way} {k : ℕ}
+    → from_region cs ≡ [] → r.accepts w ≡ false → Waits r cs (w ∷ rest) all k → Waits r cs rest all k
 refused_waits r [] w rest none n outermost = rw n outermost
 refused_waits r (Else pt fs c m ∷ cs) w rest none n (otherwise {os = os} there placed d wt) =
     otherwise there placed d (refused_waits r cs w (rest ++ os) none n wt)

@@ -6,3 +6,4 @@ pub mod MovesInRegions
 pub mod MovesAtReferences
 pub mod Alike
 pub mod Machine
+pub mod Hopeless

@@ -1,0 +1,71 @@
+-- A spot of which nothing came is hopeless, and outside all regions what is not accepted may be left out.
+-- Nothing calls these laws yet: a memory of failures will, which leaves hopeless spots at once.
+use Rattle.std.proofs.Common.{◌≡◌, ℕ, Bool, true, false, List, [], ◌∷◌, refl, sym, ◌∙◌}
+use Rattle.std.specs.List.{filter}
+use Rattle.std.proofs.lemmas.Bool.{true≢false}
+use Rattle.sre_model.specs.Tree.{Tree}
+use Rattle.sre_model.specs.References.{refers}
+use Rattle.sre_model.specs.Ways.{Way}
+use Rattle.sre_model.specs.Grammar.{WholeItems}
+use Rattle.sre_model.specs.Runs.{Run}
+use Rattle.sre_model.proofs.MarksApart.{SameStops}
+use Rattle.sre_turns.specs.Board.{Choice, from_region}
+use Rattle.sre_turns.specs.Moves.{Spot}
+use Rattle.sre_turns.specs.MovesAtReferences.{HasReference}
+use Rattle.sre_turns.specs.Machine.{Runs, Waits}
+use Rattle.sre_turns.specs.Hopeless.{Fruitless, SameFruit, Hopeless, AcceptsByStop}
+use Rattle.sre_turns.proofs.SameComes.{same_comes}
+use Rattle.sre_turns.proofs.Start.{refused_waits}
+
+-- the words of a tree that has no reference have none
+pub no_reference : (ws : List ℕ) (t : Tree) → WholeItems ws t → refers t ≡ false → HasReference ws → ⊥
+no_reference ws t w e has = true≢false (sym (has t w) ∙ e)
+
+-- outcomes with the same stops are fruitless alike
+pub same_fruitless : (r : Run) → AcceptsByStop r → (inside : Bool) (xs ys : List Way) → SameStops xs ys
+    → Fruitless r inside xs → Fruitless r inside ys
+same_fruitless r told true [] [] h e = refl
+same_fruitless r told true [] (y ∷ ys) h e = absurd h
+same_fruitless r told true (x ∷ xs) [] h e = refl
+same_fruitless r told true (x ∷ xs) (y ∷ ys) h e = absurd (cc)
+same_fruitless r told false [] [] h e = refl
+same_fruitless r told false [] (y ∷ ys) h e = absurd h
+same_fruitless r told false (x ∷ xs) [] h e = refl
+same_fruitless r told false (x ∷ xs) (y ∷ ys) h e =
+    by_test (r.accepts x) refl (λ left. same_fruitless r told false xs ys h.1 left)
+  where
+    by_test : (b : Bool) → r.accepts x ≡ b → (filter r.accepts xs ≡ [] → filter r.accepts ys ≡ [])
+        → filter r.accepts (y ∷ ys) ≡ []
+    by_test true k later = let found : x ∷ filter r.accepts xs ≡ [] = rw k at e in absurd (cc)
+    by_test false k later = rw (sym (told x y h.0) ∙ k) (later (rw k at e))
+
+-- a spot that was fruitless is hopeless, where the words have no reference
+pub hopeless_again : (r : Run) → AcceptsByStop r → (HasReference r.words → ⊥) → (inside : Bool) (x : Spot)
+    (os : List Way) (n : ℕ) → Runs r.words r.subject x os n → Fruitless r inside os → Hopeless r inside x
+hopeless_again r told none inside x os n d e = record {
+  none = λ y us k h d'.
+      same_fruitless r told inside os us (same_comes r.words r.subject none h d d').0 e;
+}
+
+-- outside all regions what is not accepted may be left out
+pub hopeless_waits : (r : Run) (cs : List Choice) (now : List Way) {all : List Way} {k : ℕ} → from_region cs ≡ []
+    → filter r.accepts now ≡ [] → Waits r cs now all k → Waits r cs [] all k
+hopeless_waits r cs [] outside e wt = wt
+hopeless_waits r cs (w ∷ now) {all} {k} outside e wt =
+    by_test (r.accepts w) refl (λ left wt'. hopeless_waits r cs now outside left wt')
+  where
+    by_test : (b : Bool) → r.accepts w ≡ b
+        → (filter r.accepts now ≡ [] → Waits r cs now all k → Waits r cs [] all k) → Waits r cs [] all k
+    by_test true y later = let found : w ∷ filter r.accepts now ≡ [] = rw y at e in absurd (cc)
+    by_test false y later =
+        let left : filter r.accepts now ≡ [] = rw y at e in later left (refused_waits r cs w now outside y wt)
+
+-- what a spot that was tried came to is what is still to come of it: where that is nothing, it was fruitless
+pub tried_fruitless : (r : Run) (inside : Bool) (os : List Way) → SameFruit r inside os [] → Fruitless r inside os
+tried_fruitless r true os h = h
+tried_fruitless r false os h = h
+
+-- an outcome that is not accepted changes nothing of that
+pub refused_fruit : (r : Run) (os : List Way) (w : Way) (now : List Way) → r.accepts w ≡ false
+    → SameFruit r false os (w ∷ now) → SameFruit r false os now
+refused_fruit r os w now e h = h ∙ rw e refl
