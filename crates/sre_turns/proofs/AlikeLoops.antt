@@ -44,9 +44,9 @@ pub record Beside (ws : List ℕ) (p : ℕ) (f : Frame) (outer gs : List Frame) 
   pub alike : FramesAlike ws p f frame
   pub around : LoopsAlike ws p outer others
 
-pub beside : (ws : List ℕ) (p : ℕ) (f : Frame) (outer fs gs : List Frame) → fs ≡ f ∷ outer → LoopsAlike ws p fs gs
+pub loop_beside : (ws : List ℕ) (p : ℕ) (f : Frame) (outer fs gs : List Frame) → fs ≡ f ∷ outer → LoopsAlike ws p fs gs
     → Beside ws p f outer gs
-beside ws p f outer fs gs e h = go gs (subst (λ x. LoopsAlike ws p x gs) e h)
+loop_beside ws p f outer fs gs e h = go gs (subst (λ x. LoopsAlike ws p x gs) e h)
   where
     go : (gs : List Frame) → LoopsAlike ws p (f ∷ outer) gs → Beside ws p f outer gs
     go [] h = absurd h

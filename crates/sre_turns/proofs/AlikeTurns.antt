@@ -30,8 +30,8 @@ use Rattle.sre_turns.specs.Machine.{InRole, Moves, MovesAt}
 use Rattle.sre_turns.specs.Alike.{is_last, LoopsAlike, FramesAlike, least_from, Alike}
 use Rattle.sre_turns.proofs.Moving.{moves_same}
 use Rattle.sre_turns.proofs.Onward.{goes_behind, EndFrom}
-use Rattle.sre_turns.proofs.AlikeLoops.{loops_later, loops_left, Beside, beside, frame-alike, next-alike, below-alike}
-use Rattle.sre_turns.proofs.AlikeLoops.{repeat-alike}
+use Rattle.sre_turns.proofs.AlikeLoops.{loops_later, loops_left, Beside, loop_beside, frame-alike, next-alike}
+use Rattle.sre_turns.proofs.AlikeLoops.{below-alike, repeat-alike}
 
 -- a region of which the same comes, entered at one spot or at another, where its body begins at the third or the last
 pub record EntersAlike (ws : List ℕ) (g : Region) (x y body other : Spot) : Type 0 where
@@ -288,7 +288,7 @@ module _ (ws : List ℕ) (s : Subject) (i p : ℕ) (fs gs : List Frame) (m n : M
       (record { there = k.there; is = refl })
       (record { point = refl; position = refl; loops = (frame-alike ws p (first_frame i), h) })
   role-alike none (ToLoop o) a k =
-      let loops : Beside ws p k.frame k.outer gs = beside ws p k.frame k.outer fs gs k.inside h in
+      let loops : Beside ws p k.frame k.outer gs = loop_beside ws p k.frame k.outer fs gs k.inside h in
       mirrors ws (AtOther (ToLoop o)) a (until_move o k.low k.high i k.frame k.outer one)
       (until_move o k.low k.high i loops.frame loops.others other) k.is
       (record {
@@ -395,7 +395,7 @@ module _ (ws : List ℕ) (s : Subject) (p : ℕ) (fs gs : List Frame) (m n : Mar
   possessive-alike : (a : Move) → LoopsAlike ws p fs gs → AgainMove ws (spot_at Again fs p m) a
       → Mirrored ws (λ b. AgainMove ws (spot_at Again gs p n) b) a
   possessive-alike a h k =
-      let loops : Beside ws p k.frame k.outer gs = beside ws p k.frame k.outer fs gs k.inside h in
+      let loops : Beside ws p k.frame k.outer gs = loop_beside ws p k.frame k.outer fs gs k.inside h in
       let u : ℕ = skip ws (k.frame.repeat + 1) in
       let same : skip ws (loops.frame.repeat + 1) ≡ u = ap (λ r. skip ws (r + 1)) (sym loops.alike.repeat) in
       mirrors ws (λ b. AgainMove ws (spot_at Again gs p n) b) a

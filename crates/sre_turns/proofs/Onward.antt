@@ -113,37 +113,37 @@ module _ (ws : List ℕ) (s : Subject) (i p : ℕ) (fs : List Frame) (m : Marks)
       (omega arith))
 
   role-onward : (f : Role) (a : Move) → InRole ws s f i standing a → Onward p a
-  role-onward ToFail a h = subst (λ z. Onward p z) (sym h) tt
-  role-onward ToEnd a h = subst (λ z. Onward p z) (sym h) tt
+  role-onward ToFail a h = subst (λ move. Onward p move) (sym h) tt
+  role-onward ToEnd a h = subst (λ move. Onward p move) (sym h) tt
   role-onward (ToTest kind) a h =
-      subst (λ z. Onward p z) (sym h.is) (cond-onward p (passes s h.test p) _ Stop (omega arith) tt)
+      subst (λ move. Onward p move) (sym h.is) (cond-onward p (passes s h.test p) _ Stop (omega arith) tt)
   role-onward ToCheckPosition a h =
-      subst (λ z. Onward p z) (sym h.is) (cond-onward p (holds_at s h.code p) _ Stop (omega arith) tt)
-  role-onward ToMark a h = subst (λ z. Onward p z) (sym h.is) (omega arith)
-  role-onward ToBranch a h = subst (λ z. Onward p z) (sym h) (omega arith)
-  role-onward ToJump a h = subst (λ z. Onward p z) (sym h.is) (omega arith)
+      subst (λ move. Onward p move) (sym h.is) (cond-onward p (holds_at s h.code p) _ Stop (omega arith) tt)
+  role-onward ToMark a h = subst (λ move. Onward p move) (sym h.is) (omega arith)
+  role-onward ToBranch a h = subst (λ move. Onward p move) (sym h) (omega arith)
+  role-onward ToJump a h = subst (λ move. Onward p move) (sym h.is) (omega arith)
   role-onward (ToRun kind) a h =
-      subst (λ z. Onward p z) (sym h.is) (run-onward kind (skip ws (i + 1)) h.low h.high h.test)
-  role-onward ToRepeat a h = subst (λ z. Onward p z) (sym h.is) (omega arith)
-  role-onward (ToLoop o) a h = subst (λ z. Onward p z) (sym h.is) (until-onward o h.low h.high h.frame h.outer)
-  role-onward ToRepeatPossessively a h = subst (λ z. Onward p z) (sym h) (omega arith)
-  role-onward ToGroupAtomically a h = subst (λ z. Onward p z) (sym h.is) (omega arith, λ e. omega arith)
-  role-onward (ToLook sign) a h = subst (λ z. Onward p z) (sym h.is) (look-onward sign (skip ws (i + 1)) h.back)
-  role-onward ToRefer a h = subst (λ z. Onward p z) (sym h.is) (reference-onward h.fold h.number (i + 2))
-  role-onward ToCheckGroup a h = subst (λ z. Onward p z) (sym h.is) (omega arith)
+      subst (λ move. Onward p move) (sym h.is) (run-onward kind (skip ws (i + 1)) h.low h.high h.test)
+  role-onward ToRepeat a h = subst (λ move. Onward p move) (sym h.is) (omega arith)
+  role-onward (ToLoop o) a h = subst (λ move. Onward p move) (sym h.is) (until-onward o h.low h.high h.frame h.outer)
+  role-onward ToRepeatPossessively a h = subst (λ move. Onward p move) (sym h) (omega arith)
+  role-onward ToGroupAtomically a h = subst (λ move. Onward p move) (sym h.is) (omega arith, λ e. omega arith)
+  role-onward (ToLook sign) a h = subst (λ move. Onward p move) (sym h.is) (look-onward sign (skip ws (i + 1)) h.back)
+  role-onward ToRefer a h = subst (λ move. Onward p move) (sym h.is) (reference-onward h.fold h.number (i + 2))
+  role-onward ToCheckGroup a h = subst (λ move. Onward p move) (sym h.is) (omega arith)
   role-onward ToNothing a h = absurd h
 
 -- a turn at any point
 again-onward : (ws : List ℕ) (p : ℕ) (fs : List Frame) (m : Marks) (a : Move) → AgainMove ws (spot_at Again fs p m) a
     → Onward p a
 again-onward ws p fs m a h =
-    subst (λ z. Onward p z) (sym h.is)
+    subst (λ move. Onward p move) (sym h.is)
     (cond-onward p (nat_lt h.frame.count h.low) _ _ (omega arith, λ e. omega arith)
     (cond-onward p (may_repeat h.high h.frame.count h.frame.last p) _ _ (omega arith, λ e. omega arith) (omega arith)))
 
 shorter-onward : (p t k : ℕ) (fs : List Frame) (m : Marks) (a : Move)
     → ShorterMove t k (spot_at (Shorter t k) fs p m) a → Onward (p - k) a
-shorter-onward p t k fs m a h = subst (λ z. Onward (p - k) z) (sym h.is) (go (nat_eq k 0) refl)
+shorter-onward p t k fs m a h = subst (λ move. Onward (p - k) move) (sym h.is) (go (nat_eq k 0) refl)
   where
     go : (b : Bool) → nat_eq k 0 ≡ b → Onward (p - k) (cond b Stop
         (Split (spot_at (Instruction t) fs (p - 1) m) (spot_at (Shorter t (k - 1)) fs (p - 1) m)))
@@ -155,10 +155,10 @@ point-onward : (ws : List ℕ) (s : Subject) (pt : Point) (fs : List Frame) (p :
     → MovesAt ws s pt (spot_at pt fs p m) a → Onward (least_from pt p) a
 point-onward ws s (Instruction i) fs p m a h = role-onward ws s i p fs m (role h.0) a h.2
 point-onward ws s (Alternatives q) fs p m a h =
-    subst (λ z. Onward p z) (sym h.is) (cond-onward p (nat_eq h.value 0) Stop _ tt (omega arith, omega arith))
+    subst (λ move. Onward p move) (sym h.is) (cond-onward p (nat_eq h.value 0) Stop _ tt (omega arith, omega arith))
 point-onward ws s (Shorter t k) fs p m a h = shorter-onward p t k fs m a h
 point-onward ws s (Longer i n) fs p m a h =
-    subst (λ z. Onward p z) (sym h.is)
+    subst (λ move. Onward p move) (sym h.is)
     (cond-onward p ((nat_eq h.high unlimited || nat_lt n h.high) && passes s h.test p) _ Stop
     (omega arith, omega arith) tt)
 point-onward ws s (Inside g) fs p m a h = absurd h

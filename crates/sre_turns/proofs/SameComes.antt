@@ -43,7 +43,7 @@ module _ (ws : List ℕ) (s : Subject) (none : HasReference ws → ⊥) where
         let body = same_comes h.1.begins d e in
         let turn = region-alike ws s g v w v' w' now after n₁ h.1 d body.0 in
         let moved : Comes ws s w (closing_move g w after) us k₂ =
-        subst (λ z. Comes ws s w (closing_move z w after) us k₂) (sym h.0) e' in
+        subst (λ region. Comes ws s w (closing_move region w after) us k₂) (sym h.0) e' in
         let rest =
         same_after v w (closing_move g v now) (closing_move g w after) h.1.entered.position turn d' moved in
         (rest.0, omega (arith, body.1, rest.1))
