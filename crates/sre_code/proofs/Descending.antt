@@ -74,7 +74,7 @@ item_turns ws s a top d fs i ae inside x = record {
       let b = after_to ws s (record { part = top.part; width = a } ∷ fs) W y in
       let it = x.sound b.0 b.1 b.2 in
       let sum : capped (capped (a + b.1) + width b.3.2.1.0)
-          ≡ capped (capped (top.width + d) + width (Then it.0 b.3.2.1.0)) =
+      ≡ capped (capped (top.width + d) + width (Then it.0 b.3.2.1.0)) =
       ap (λ n. capped (capped (a + n) + width b.3.2.1.0)) it.2 ∙ sym (sums a (item_width it.0) (width b.3.2.1.0))
       ∙ ap (λ n. capped (n + width (Then it.0 b.3.2.1.0))) ae in (
         b.3.0,

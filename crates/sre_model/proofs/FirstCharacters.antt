@@ -371,7 +371,7 @@ module _ (ws : List ℕ) (start i far : ℕ) (l : (t : Tree) → TreeStands ws s
 
   -- a position code there, where nothing is looked back
   pub at_bars_there : (a : SreAtCode) → far ≡ 0 → HasRole ws i ToCheckPosition → Word ws (i + 1) (at_number a)
-        → (t : Tree)
+      → (t : Tree)
       → TreeStands ws start t → (s : Subject) (p : ℕ) → holds_at s a p ≡ false → NoWay s t p
   at_bars_there a none h w t x s p fails =
       let at = l t x in

@@ -54,8 +54,8 @@ impl<'a, S: StrDrive, A: Allocator + Copy> SearchIter<'a, S, A> {
         &self.req
     }
 
-    /// The next match within a number of turns of the machine: whether there is one, as `next` tells it, or `None` where
-    /// they were used up before that was known. `State::match_within` says what a turn is.
+    /// The next match within a number of turns of the machine: whether there is one, as `next` tells it, or `None`
+    /// where they were used up before that was known. `State::match_within` says what a turn is.
     ///
     /// What is left of the turns comes back, so one number can bound a whole walk. Where they are used up there are no
     /// marks, and the walk stands where it stood: `next`, or this with more turns, begins its step anew.
