@@ -17,7 +17,7 @@ use Rattle.sre_model.proofs.MarksApart.{SameStops}
 use Rattle.sre_turns.specs.declared.Frame.{Frame}
 use Rattle.sre_turns.specs.declared.Region.TheVariants.{AtomicGroup, Ahead, NotAhead, Owed, Further}
 use Rattle.sre_turns.specs.declared.Region.{Region}
-use Rattle.sre_turns.specs.declared.Point.TheVariants.{Instruction, Alternatives, Shorter, Longer, Inside, Again}
+use Rattle.sre_turns.specs.declared.Point.TheVariants.{Instruction, Alternatives, Shorter, Longer, Inside, Again, Tried}
 use Rattle.sre_turns.specs.declared.Point.{Point}
 use Rattle.sre_turns.specs.Moves.{Spot, spot_at, to_point, to_place, into_region, Move, Stop, End, Go, Split, Enter}
 use Rattle.sre_turns.specs.Moves.{closing_move, AlternativesMove}
@@ -423,6 +423,7 @@ module _ (ws : List ℕ) (s : Subject) (p : ℕ) (fs gs : List Frame) (m n : Mar
   point-alike none (Longer i c) a h k = longer-alike i c a h k
   point-alike none (Inside g) a h k = absurd k
   point-alike none Again a h k = possessive-alike a h k
+  point-alike none (Tried i) a h k = absurd k
 
 -- alike spots make alike turns
 pub turns-alike : (ws : List ℕ) (s : Subject) → (HasReference ws → ⊥) → (x y : Spot) (a b : Move) → Alike ws x y

@@ -64,8 +64,3 @@ hopeless_waits r cs (w ∷ now) {all} {k} outside e wt =
 pub tried_fruitless : (r : Run) (inside : Bool) (os : List Way) → SameFruit r inside os [] → Fruitless r inside os
 tried_fruitless r true os h = h
 tried_fruitless r false os h = h
-
--- an outcome that is not accepted changes nothing of that
-pub refused_fruit : (r : Run) (os : List Way) (w : Way) (now : List Way) → r.accepts w ≡ false
-    → SameFruit r false os (w ∷ now) → SameFruit r false os now
-refused_fruit r os w now e h = h ∙ rw e refl

@@ -22,3 +22,4 @@ pub mod AlikeLoops
 pub mod AlikeTurns
 pub mod SameComes
 pub mod Hopeless
+pub mod Trying

@@ -9,10 +9,10 @@ use Rattle.sre_model.specs.Marks.{Marks}
 use Rattle.sre_model.specs.Subject.{Subject}
 use Rattle.sre_model.specs.Ways.{Way}
 use Rattle.sre_model.specs.Grammar.{Word, Opcode, skip}
-use Rattle.sre_turns.specs.Board.{Choice, Else, Keep, choice, from_region, BoardValue}
+use Rattle.sre_turns.specs.Board.{Choice, Else, Keep, Trying, choice, from_region, BoardValue}
 use Rattle.sre_turns.specs.declared.Frame.{Frame}
 use Rattle.sre_turns.specs.declared.Region.{Region}
-use Rattle.sre_turns.specs.declared.Point.TheVariants.{Instruction, Alternatives, Shorter, Longer, Inside, Again}
+use Rattle.sre_turns.specs.declared.Point.TheVariants.{Instruction, Alternatives, Shorter, Longer, Inside, Again, Tried}
 use Rattle.sre_turns.specs.declared.Point.{Point}
 use Rattle.sre_turns.specs.Moves.{Spot, spot_at, Move, Stop, End, Go, Split, Enter, TestMove, AtMove, MarkMove}
 use Rattle.sre_turns.specs.Moves.{AlternativesMove}
@@ -21,7 +21,7 @@ use Rattle.sre_turns.specs.MovesInLoops.{UntilMove, AgainMove}
 use Rattle.sre_turns.specs.MovesInRegions.{LookMove}
 use Rattle.sre_turns.specs.MovesAtReferences.{ReferenceMove, ConditionMove}
 use Rattle.sre_turns.specs.Machine.{Placed, InRole, Moves, MovesAt, Runs, turns, Comes, stops, ends, goes, splits}
-use Rattle.sre_turns.specs.Machine.{enters, Waits, otherwise, kept, Goes, GoesBoth, Later, spot, HasRun, IsAt}
+use Rattle.sre_turns.specs.Machine.{enters, Waits, otherwise, kept, tried, Goes, GoesBoth, Later, spot, HasRun, IsAt}
 use Rattle.sre_model.specs.Runs.{Run}
 use Rattle.sre_turns.specs.Machine.{Refuses, Skips, SkipsBoth, Exhausted, Continues}
 use Rattle.sre_model.specs.Roles.{Role, ToFail, ToEnd, ToTest, ToCheckPosition, ToMark, ToBranch, ToJump, ToRun}
@@ -145,6 +145,7 @@ moves_same ws s (Shorter t n) x a b h k = h.is ∙ sym k.is
 moves_same ws s (Longer i n) x a b h k = same_longer ws s i n x a b h k
 moves_same ws s (Inside g) x a b h k = absurd h
 moves_same ws s Again x a b h k = same_again ws x a b h k
+moves_same ws s (Tried i) x a b h k = absurd h
 
 -- so what comes of a spot comes of the one turn there
 pub comes : {ws : List ℕ} {s : Subject} {x : Spot} {os : List Way} {n : ℕ} (mv : Move) → Moves ws s x mv
@@ -380,6 +381,10 @@ both_choose r i (Alternatives q) c b b' eb all limit g = both_other r i (Alterna
 both_choose r i (Shorter j n) c b b' eb all limit g = both_other r i (Shorter j n) c b b' eb all limit g
 both_choose r i (Longer j n) c b b' eb all limit g = both_other r i (Longer j n) c b b' eb all limit g
 both_choose r i Again c b b' eb all limit g = both_other r i Again c b b' eb all limit g
+both_choose r i (Tried j) c b b' eb all limit g = absurd (nowhere g.others)
+  where
+    nowhere : {os : List Way} {n : ℕ} → Runs r.words r.subject (spot (Tried j) c b) os n → ⊥
+    nowhere (turns mv m d) = absurd m
 
 -- a spot of which nothing comes
 abbrev pub Barren : Run → Spot → Type 0
@@ -573,5 +578,7 @@ pub cut_waits : (r : Run) (cs rest : List Choice) (g : Region) (fs : List Frame)
 cut_waits r [] rest g fs c m w ws all k e wt = absurd (cc)
 cut_waits r (Else pt gs d l ∷ cs) rest g fs c m w ws all k e (otherwise {n = n} {k = k'} {os = os} there placed x wt) =
     let u = cut_waits r cs rest g fs c m w (ws ++ os) all k' e wt in (u.0, u.1, omega (arith, u.2), u.3)
+cut_waits r (Trying i gs d l ∷ cs) rest g fs c m w ws all k e (tried there placed x same wt) =
+    cut_waits r cs rest g fs c m w ws all k e wt
 cut_waits r (Keep h gs d l ∷ cs) rest g fs c m w ws all k e wt =
     (ws, k, omega arith, subst (λ x. Waits r x (w ∷ ws) all k) e wt)

@@ -17,7 +17,7 @@ use Rattle.sre_model.specs.Roles.{ToCheckGroup, ToNothing, role}
 use Rattle.sre_turns.specs.declared.Frame.{Frame}
 use Rattle.sre_turns.specs.declared.Region.TheVariants.{AtomicGroup, Ahead, NotAhead, Owed, Further}
 use Rattle.sre_turns.specs.declared.Region.{Region}
-use Rattle.sre_turns.specs.declared.Point.TheVariants.{Instruction, Alternatives, Shorter, Longer, Inside, Again}
+use Rattle.sre_turns.specs.declared.Point.TheVariants.{Instruction, Alternatives, Shorter, Longer, Inside, Again, Tried}
 use Rattle.sre_turns.specs.declared.Point.{Point}
 use Rattle.sre_turns.specs.Moves.{Spot, spot_at, to_place, into_region, Move, Stop, End, Go, Split, Enter, closing_move}
 use Rattle.sre_turns.specs.MovesInRuns.{run_turn, ShorterMove}
@@ -163,6 +163,7 @@ point-onward ws s (Longer i n) fs p m a h =
     (omega arith, omega arith) tt)
 point-onward ws s (Inside g) fs p m a h = absurd h
 point-onward ws s Again fs p m a h = again-onward ws p fs m a h
+point-onward ws s (Tried i) fs p m a h = absurd h
 
 onward-less : (p q : ℕ) (a : Move) → p ≤ q → Onward q a → Onward p a
 onward-less p q Stop l h = tt
@@ -178,6 +179,7 @@ least_position (Shorter t k) p = omega arith
 least_position (Longer i n) p = omega arith
 least_position (Inside g) p = omega arith
 least_position Again p = omega arith
+least_position (Tried i) p = omega arith
 
 -- so the outcomes of a spot end no earlier
 module _ (ws : List ℕ) (s : Subject) where

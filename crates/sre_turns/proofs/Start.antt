@@ -12,10 +12,11 @@ use Rattle.sre_model.specs.Marks.{no_marks}
 use Rattle.sre_model.specs.Ways.{Way, ways}
 use Rattle.sre_model.specs.Grammar.{Opcode, Reads, WholeItems}
 use Rattle.sre_model.specs.Standing.{AreWords}
-use Rattle.sre_turns.specs.Board.{Choice, Else, Keep, from_region, BoardValue, bare}
+use Rattle.sre_turns.specs.Board.{Choice, Else, Keep, Trying, from_region, BoardValue, bare}
+use Rattle.sre_turns.specs.Fruit.{SameFruit, is_inside}
 use Rattle.sre_turns.specs.declared.Point.TheVariants.{Instruction}
 use Rattle.sre_turns.specs.MovesAtReferences.{HasReference}
-use Rattle.sre_turns.specs.Machine.{Waits, outermost, otherwise, Goes, Ends, Stands, Later, SaysAccepted, outcomes}
+use Rattle.sre_turns.specs.Machine.{Waits, outermost, otherwise, tried, Goes, Ends, Stands, Later, SaysAccepted, outcomes}
 use Rattle.sre_model.specs.Runs.{Run}
 use Rattle.sre_turns.specs.declared.Next.{Next}
 use Rattle.sre_turns.specs.declared.Next.TheVariants as next
@@ -58,12 +59,23 @@ started r i t c b v has reads ends stands inside fresh =
       within = omega arith;
     })
 
+-- an outcome that is not accepted changes nothing of what came
+refused_fruit : (r : Run) (os : List Way) (w : Way) (now : List Way) → r.accepts w ≡ false
+    → SameFruit r false os (w ∷ now) → SameFruit r false os now
+refused_fruit r os w now e h = h ∙ rw e refl
+
+-- what waits outside all regions is not inside one
+pub none_inside : (cs : List Choice) → from_region cs ≡ [] → is_inside cs ≡ false
+none_inside cs e = ap (λ (rest : List Choice). elim rest [ [] ↦ false | (c ∷ others) ↦ true ]) e
+
 -- outside all regions the first outcome, if it is accepted, is the first of all
 first_waits : (r : Run) (cs : List Choice) (w : Way) (rest : List Way) {all : List Way} {k : ℕ} → from_region cs ≡ []
     → r.accepts w ≡ true → Waits r cs (w ∷ rest) all k → (others : List Way) × (all ≡ w ∷ others)
 first_waits r [] w rest none y outermost = rw y (filter r.accepts rest, refl)
 first_waits r (Else pt fs c m ∷ cs) w rest none y (otherwise {os = os} there placed d wt) =
     first_waits r cs w (rest ++ os) none y wt
+first_waits r (Trying i fs c m ∷ cs) w rest none y (tried there placed d same wt) =
+    first_waits r cs w rest none y wt
 first_waits r (Keep g fs c m ∷ cs) w rest none y wt = absurd (cc)
 
 -- and else it is passed over
@@ -72,6 +84,12 @@ pub refused_waits : (r : Run) (cs : List Choice) (w : Way) (rest : List Way) {al
 refused_waits r [] w rest none n outermost = rw n outermost
 refused_waits r (Else pt fs c m ∷ cs) w rest none n (otherwise {os = os} there placed d wt) =
     otherwise there placed d (refused_waits r cs w (rest ++ os) none n wt)
+refused_waits r (Trying i fs c m ∷ cs) w rest none n (tried {os = os} there placed d same wt) =
+    let outside : is_inside cs ≡ false = none_inside cs none in
+    let was : SameFruit r false os (w ∷ rest) = subst (λ b. SameFruit r b os (w ∷ rest)) outside same in
+    let left : SameFruit r (is_inside cs) os rest =
+    subst (λ b. SameFruit r b os rest) (sym outside) (refused_fruit r os w rest n was) in
+    tried there placed d left (refused_waits r cs w rest none n wt)
 refused_waits r (Keep g fs c m ∷ cs) w rest none n wt = absurd (cc)
 
 -- the machine stands at the end of the whole

@@ -1,28 +1,32 @@
 -- The board: what a run of the machine holds beside its place and position.
 -- Words of the machine's contracts; what sre_engine makes public does not rest on it.
-use Rattle.std.specs.Prelude.{◌≡◌, List, [], ◌∷◌}
+use Rattle.std.specs.Prelude.{ℕ, ◌≡◌, List, [], ◌∷◌}
 use Rattle.sre_chars.specs.declared.string.StringCursor.{StringCursor}
 use Rattle.sre_model.specs.Marks.{Marks}
 use Rattle.sre_turns.specs.declared.Frame.{Frame}
 use Rattle.sre_turns.specs.declared.Point.{Point}
-use Rattle.sre_turns.specs.declared.Point.TheVariants.{Inside}
+use Rattle.sre_turns.specs.declared.Point.TheVariants.{Inside, Tried}
 use Rattle.sre_turns.specs.declared.Region.{Region}
 
 -- what is still to be tried: another point, under other loops and marks; or what comes of a region, whose body is in
--- progress, and which was entered under those loops and marks
+-- progress, and which was entered under those loops and marks; or an instruction that is tried, by its place, of which
+-- all comes that waits above it
 pub data Choice : Type 0 where
   Else : Point → List Frame → StringCursor → Marks → Choice
   Keep : Region → List Frame → StringCursor → Marks → Choice
+  Trying : ℕ → List Frame → StringCursor → Marks → Choice
 
 -- a choice, by its point
 abbrev pub choice : Point → List Frame → StringCursor → Marks → Choice
 choice (Inside g) fs c m = Keep g fs c m
+choice (Tried i) fs c m = Trying i fs c m
 choice pt fs c m = Else pt fs c m
 
 -- the innermost region, and what waits behind it
 abbrev pub from_region : List Choice → List Choice
 from_region [] = []
 from_region (Else pt fs c m ∷ cs) = from_region cs
+from_region (Trying i fs c m ∷ cs) = from_region cs
 from_region (Keep g fs c m ∷ cs) = Keep g fs c m ∷ cs
 
 -- the loops in progress, innermost first, the marks, and the choices, newest first

@@ -6,4 +6,5 @@ pub mod MovesInRegions
 pub mod MovesAtReferences
 pub mod Alike
 pub mod Machine
+pub mod Fruit
 pub mod Hopeless

@@ -18,11 +18,12 @@ use Rattle.sre_model.specs.Ways.{Way, here, ways}
 use Rattle.sre_model.specs.Runs.{Run}
 use Rattle.sre_model.specs.Grammar.{Opcode}
 use Rattle.sre_model.specs.Standing.{TestStands}
-use Rattle.sre_turns.specs.Board.{Choice, Else, Keep, BoardValue}
+use Rattle.sre_turns.specs.Board.{Choice, Else, Keep, Trying, BoardValue}
+use Rattle.sre_turns.specs.Fruit.{SameFruit, is_inside}
 use Rattle.sre_turns.specs.declared.Frame.{Frame}
 use Rattle.sre_turns.specs.declared.Region.TheVariants.{AtomicGroup, Ahead, NotAhead, Owed, Further}
 use Rattle.sre_turns.specs.declared.Region.{Region}
-use Rattle.sre_turns.specs.declared.Point.TheVariants.{Instruction, Alternatives, Shorter, Longer, Inside, Again}
+use Rattle.sre_turns.specs.declared.Point.TheVariants.{Instruction, Alternatives, Shorter, Longer, Inside, Again, Tried}
 use Rattle.sre_turns.specs.declared.Point.{Point}
 use Rattle.sre_turns.specs.Moves.{Spot, spot_at, Move, Stop, End, Go, Split, Enter, closing_move, to_point, TestMove}
 use Rattle.sre_turns.specs.Moves.{AtMove}
@@ -61,6 +62,7 @@ MovesAt ws s (Shorter t k) x mv = ShorterMove t k x mv
 MovesAt ws s (Longer i n) x mv = LongerMove ws s i n x mv
 MovesAt ws s (Inside g) x mv = ⊥
 MovesAt ws s Again x mv = AgainMove ws x mv
+MovesAt ws s (Tried i) x mv = ⊥
 
 abbrev pub Moves : List ℕ → Subject → Spot → Move → Type 0
 Moves ws s x mv = MovesAt ws s x.point x mv
@@ -97,6 +99,10 @@ pub data Waits (r : Run) : List Choice → List Way → List Way → ℕ → Typ
       → r.stands c c.position → Placed r.subject m
       → Comes r.words r.subject (spot_at pt fs c.position m) (closing_move g (spot_at pt fs c.position m) now) os n
       → Waits r cs os all k → Waits r (Keep g fs c m ∷ cs) now all (n + k)
+  tried : {i : ℕ} {fs : List Frame} {c : StringCursor} {n k : ℕ} {m : Marks} {os now all : List Way} {cs : List Choice}
+      → r.stands c c.position → Placed r.subject m
+      → Runs r.words r.subject (spot_at (Instruction i) fs c.position m) os n → SameFruit r (is_inside cs) os now
+      → Waits r cs now all k → Waits r (Trying i fs c m ∷ cs) now all k
 
 -- where the machine stands at a point and a cursor
 abbrev pub spot : Point → StringCursor → BoardValue → Spot

@@ -37,6 +37,9 @@ pub enum Point {
     Inside(Region),
     /// At the innermost loop, a possessive one, before a body or its end.
     Again,
+    /// Behind all that comes of an instruction that is tried, by its place. Nobody goes on there: where it is come to,
+    /// nothing came of the instruction.
+    Tried(usize),
 }
 
 /// A loop in progress: the place of its REPEAT, its bodies so far, held at 4294967295,
