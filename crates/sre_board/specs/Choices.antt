@@ -1,5 +1,5 @@
 -- The choices of a board, which share one trail and one table of chains.
--- Words of private contracts: the value of a board is `Board` of sre_model.
+-- Words of private contracts: the value of a board is `BoardValue` of sre_turns.
 use Rattle.std.specs.Prelude.{ℕ, ◌+◌, ◌<◌, ◌≤◌, cond, nat_eq, List, [], ◌∷◌, map, reverse, slice_index_or}
 use Rattle.sre_model.specs.Marks.{Marks, no_marks}
 use Rattle.sre_board.specs.Trail.{Trail, states}

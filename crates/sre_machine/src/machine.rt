@@ -253,18 +253,25 @@ pub(super) fn back<S: StrDrive, A: Allocator>(
         ((all : List Way) (limit : ℕ) → Stands (run_of req.now) all limit Next.Back board.old → all ≡ [])
         (λ next. Retreats (run_of req.now) board.old next board.new)) }
 {
-    match board.back() {
-        None => Ok(None),
-        Some(choice) => match choice.0 {
-            Point::Instruction(place) => Ok(Some(Next::At(place, choice.1))),
-            Point::Alternatives(place) => Ok(Some(alternatives(req, board, place, choice.1)?)),
-            Point::Shorter(tail, count) => Ok(Some(shorter_saved(
-                req, board, tail, count, choice.1,
-            )?)),
-            Point::Longer(place, count) => Ok(Some(longer(req, board, place, count, choice.1)?)),
-            Point::Again => Ok(Some(Next::Again(choice.1))),
-            Point::Inside(region) => Ok(Some(without_outcome(board, region, choice.1))),
-        },
+    'choice: loop {
+        let Some(choice) = board.back() else {
+            return Ok(None);
+        };
+        match choice.0 {
+            Point::Instruction(place) => return Ok(Some(Next::At(place, choice.1))),
+            Point::Alternatives(place) => {
+                return Ok(Some(alternatives(req, board, place, choice.1)?));
+            }
+            Point::Shorter(tail, count) => {
+                return Ok(Some(shorter_saved(req, board, tail, count, choice.1)?));
+            }
+            Point::Longer(place, count) => {
+                return Ok(Some(longer(req, board, place, count, choice.1)?));
+            }
+            Point::Again => return Ok(Some(Next::Again(choice.1))),
+            Point::Inside(region) => return Ok(Some(without_outcome(board, region, choice.1))),
+            Point::Tried(_) => {} // nothing came of it, and what waits below is next
+        }
     }
 }
 

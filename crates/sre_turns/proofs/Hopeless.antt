@@ -1,25 +1,35 @@
--- A spot of which nothing came is hopeless, and outside all regions what is not accepted may be left out.
--- Nothing calls these laws yet: a memory of failures will, which leaves hopeless spots at once.
-use Rattle.std.proofs.Common.{◌≡◌, ℕ, Bool, true, false, List, [], ◌∷◌, refl, sym, ◌∙◌}
+-- A spot of which nothing came is hopeless, and the machine may go back at once from one that is alike.
+-- Nothing calls these laws yet: a memory of failures will, which keeps hopeless spots.
+use Rattle.std.proofs.Common.{◌≡◌, ℕ, Bool, true, false, List, [], ◌∷◌, refl, sym, ◌∙◌, subst, arith}
 use Rattle.std.specs.List.{filter}
 use Rattle.std.proofs.lemmas.Bool.{true≢false}
 use Rattle.sre_model.specs.Tree.{Tree}
 use Rattle.sre_model.specs.References.{refers}
 use Rattle.sre_model.specs.Ways.{Way}
+use Rattle.sre_model.specs.Found.{Asked, is_accepted}
 use Rattle.sre_model.specs.Grammar.{WholeItems}
 use Rattle.sre_model.specs.Runs.{Run}
 use Rattle.sre_model.proofs.MarksApart.{SameStops}
-use Rattle.sre_turns.specs.Board.{Choice, from_region}
+use Rattle.sre_chars.specs.declared.string.StringCursor.{StringCursor}
+use Rattle.sre_turns.specs.Board.{Choice, from_region, BoardValue}
 use Rattle.sre_turns.specs.Moves.{Spot}
 use Rattle.sre_turns.specs.MovesAtReferences.{HasReference}
-use Rattle.sre_turns.specs.Machine.{Runs, Waits}
-use Rattle.sre_turns.specs.Hopeless.{Fruitless, SameFruit, Hopeless, AcceptsByStop}
+use Rattle.sre_turns.specs.Machine.{Runs, Waits, Goes, Later, spot}
+use Rattle.sre_turns.specs.declared.Next.TheVariants as next
+use Rattle.sre_turns.specs.declared.Point.{Point}
+use Rattle.sre_turns.specs.Alike.{Alike}
+use Rattle.sre_turns.specs.Hopeless.{Fruitless, SameFruit, Hopeless, AcceptsByStop, is_inside}
+use Rattle.sre_turns.proofs.Moving.{some_turns}
 use Rattle.sre_turns.proofs.SameComes.{same_comes}
 use Rattle.sre_turns.proofs.Start.{refused_waits}
 
 -- the words of a tree that has no reference have none
 pub no_reference : (ws : List ℕ) (t : Tree) → WholeItems ws t → refers t ≡ false → HasReference ws → ⊥
 no_reference ws t w e has = true≢false (sym (has t w) ∙ e)
+
+-- what is asked of a whole match is told by where it stops
+pub asked_by_stop : (a : Asked) (v w : Way) → v.stop ≡ w.stop → is_accepted a v ≡ is_accepted a w
+asked_by_stop a v w e = rw e refl
 
 -- outcomes with the same stops are fruitless alike
 pub same_fruitless : (r : Run) → AcceptsByStop r → (inside : Bool) (xs ys : List Way) → SameStops xs ys
@@ -59,6 +69,29 @@ hopeless_waits r cs (w ∷ now) {all} {k} outside e wt =
     by_test true y later = let found : w ∷ filter r.accepts now ≡ [] = rw y at e in absurd (cc)
     by_test false y later =
         let left : filter r.accepts now ≡ [] = rw y at e in later left (refused_waits r cs w now outside y wt)
+
+-- so anywhere what was fruitless may be left out
+pub fruitless_waits : (r : Run) (cs : List Choice) (now : List Way) {all : List Way} {k : ℕ}
+    → Fruitless r (is_inside cs) now → Waits r cs now all k → Waits r cs [] all k
+fruitless_waits r cs now {all} {k} fruitless wt = go (from_region cs) refl fruitless
+  where
+    go : (waiting : List Choice) → from_region cs ≡ waiting
+        → Fruitless r (elim waiting [ [] ↦ false | (c ∷ rest) ↦ true ]) now → Waits r cs [] all k
+    go [] outside e = hopeless_waits r cs now outside e wt
+    go (c ∷ rest) inside e = subst (λ os. Waits r cs os all k) e wt
+
+-- the machine goes back at once from where a spot that is alike is hopeless
+pub hopeless_back : (r : Run) (x : Spot) (pt : Point) (c : StringCursor) (b : BoardValue)
+    → Hopeless r (is_inside b.choices) x → Alike r.words x (spot pt c b) → (all : List Way) (limit : ℕ)
+    → Goes r all limit pt c b → Later r all limit next.Back b
+hopeless_back r x pt c b hopeless alike all limit g = (
+  omega (arith, some_turns g.runs, g.within),
+  record {
+    later = g.later;
+    waits = fruitless_waits r b.choices g.now (hopeless.none (spot pt c b) g.now g.turns alike g.runs) g.waits;
+    within = omega (arith, some_turns g.runs, g.within);
+  },
+)
 
 -- what a spot that was tried came to is what is still to come of it: where that is nothing, it was fruitless
 pub tried_fruitless : (r : Run) (inside : Bool) (os : List Way) → SameFruit r inside os [] → Fruitless r inside os

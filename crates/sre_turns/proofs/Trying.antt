@@ -1,23 +1,20 @@
 -- An instruction that is tried: a mark waits below all that comes of it, and where that mark is come to again, nothing
 -- came of the instruction, and nothing will.
-use Rattle.std.proofs.Common.{◌≡◌, ℕ, ◌-◌, ◌≤◌, Bool, true, false, List, [], ◌∷◌, refl, sym, ap, ◌∙◌, subst, arith}
-use Rattle.std.specs.List.{filter}
+use Rattle.std.proofs.Common.{◌≡◌, ℕ, ◌≤◌, Bool, true, false, List, [], ◌∷◌, refl, sym, subst}
 use Rattle.sre_chars.specs.declared.string.StringCursor.{StringCursor}
 use Rattle.sre_model.specs.Ways.{Way}
 use Rattle.sre_model.specs.Runs.{Run}
-use Rattle.sre_turns.specs.Board.{Choice, Trying, choice, from_region, BoardValue}
+use Rattle.sre_turns.specs.Board.{Trying, BoardValue}
 use Rattle.sre_turns.specs.Moves.{Spot}
 use Rattle.sre_turns.specs.MovesAtReferences.{HasReference}
 use Rattle.sre_turns.specs.declared.Frame.{Frame}
-use Rattle.sre_turns.specs.declared.Point.{Point}
-use Rattle.sre_turns.specs.declared.Point.TheVariants.{Instruction, Tried}
+use Rattle.sre_turns.specs.declared.Point.TheVariants.{Instruction}
 use Rattle.sre_turns.specs.declared.Next.TheVariants as next
-use Rattle.sre_turns.specs.Machine.{Runs, Waits, tried, Goes, Backs, Later, spot}
-use Rattle.sre_turns.specs.Fruit.{Fruitless, SameFruit, is_inside}
-use Rattle.sre_turns.specs.Alike.{Alike, LoopsAlike, FramesAlike, least_from}
+use Rattle.sre_turns.specs.Machine.{Waits, tried, Goes, Backs, Later, spot}
+use Rattle.sre_turns.specs.Fruit.{SameFruit, is_inside}
+use Rattle.sre_turns.specs.Alike.{Alike, LoopsAlike, least_from}
 use Rattle.sre_turns.specs.Hopeless.{Hopeless, AcceptsByStop}
-use Rattle.sre_turns.proofs.Hopeless.{hopeless_again, hopeless_waits, tried_fruitless}
-use Rattle.sre_turns.proofs.Moving.{some_turns}
+use Rattle.sre_turns.proofs.Hopeless.{hopeless_again, hopeless_back, tried_fruitless}
 
 -- the same fruit comes of the same outcomes
 same_fruit : (r : Run) (inside : Bool) (os : List Way) → SameFruit r inside os os
@@ -41,20 +38,26 @@ trying_goes r i c b b' e all limit g =
       within = g.within;
     })
 
--- the mark is come to: the instruction is hopeless, and what waited below it still waits
-pub tried_back : (r : Run) → AcceptsByStop r → (HasReference r.words → ⊥) → (i : ℕ) (c : StringCursor)
-    (b b' : BoardValue) → b.choices ≡ Trying i b'.frames c b'.marks ∷ b'.choices → (all : List Way) (limit : ℕ)
-    → Backs r all limit b
-    → Hopeless r (is_inside b'.choices) (spot (Instruction i) c b') × Backs r all limit b'
-tried_back r told none i c b b' e all limit g = go (subst (λ x. Waits r x [] all g.later) e g.waits) g.within
+-- the mark is come to: what waited below it still waits
+pub tried_waits : (r : Run) (i : ℕ) (c : StringCursor) (b b' : BoardValue)
+    → b.choices ≡ Trying i b'.frames c b'.marks ∷ b'.choices → (all : List Way) (limit : ℕ) → Backs r all limit b
+    → Backs r all limit b'
+tried_waits r i c b b' e all limit g = go (subst (λ x. Waits r x [] all g.later) e g.waits) g.within
   where
-    go : {k : ℕ} → Waits r (Trying i b'.frames c b'.marks ∷ b'.choices) [] all k → k ≤ limit
-        → Hopeless r (is_inside b'.choices) (spot (Instruction i) c b') × Backs r all limit b'
-    go (tried {n = n} {k = k} {os = os} there placed d same wt) l = (
-      hopeless_again r told none (is_inside b'.choices) (spot (Instruction i) c b') os n d
-          (tried_fruitless r (is_inside b'.choices) os same),
-      record { later = k; waits = wt; within = l },
-    )
+    go : {k : ℕ} → Waits r (Trying i b'.frames c b'.marks ∷ b'.choices) [] all k → k ≤ limit → Backs r all limit b'
+    go (tried {k = k} there placed d same wt) l = record { later = k; waits = wt; within = l }
+
+-- and the instruction is hopeless
+pub tried_hopeless : (r : Run) → AcceptsByStop r → (HasReference r.words → ⊥) → (i : ℕ) (c : StringCursor)
+    (b b' : BoardValue) → b.choices ≡ Trying i b'.frames c b'.marks ∷ b'.choices → (all : List Way) (limit : ℕ)
+    → Backs r all limit b → Hopeless r (is_inside b'.choices) (spot (Instruction i) c b')
+tried_hopeless r told none i c b b' e all limit g = go (subst (λ x. Waits r x [] all g.later) e g.waits)
+  where
+    go : {k : ℕ} → Waits r (Trying i b'.frames c b'.marks ∷ b'.choices) [] all k
+        → Hopeless r (is_inside b'.choices) (spot (Instruction i) c b')
+    go (tried {n = n} {os = os} there placed d same wt) =
+        hopeless_again r told none (is_inside b'.choices) (spot (Instruction i) c b') os n d
+        (tried_fruitless r (is_inside b'.choices) os same)
 
 -- a spot is alike to itself
 loops_itself : (ws : List ℕ) (p : ℕ) (fs : List Frame) → LoopsAlike ws p fs fs
@@ -70,31 +73,9 @@ alike_itself ws x = record {
 }
 
 -- a hopeless instruction is left at once
-module _ (r : Run) (i : ℕ) (c : StringCursor) (b : BoardValue) (all : List Way) (limit : ℕ)
-    (g : Goes r all limit (Instruction i) c b) where
-  left : (inside : Bool) → is_inside b.choices ≡ inside → Fruitless r inside g.now
-      → Waits r b.choices [] all g.later
-  left true e none = subst (λ os. Waits r b.choices os all g.later) none g.waits
-  left false e none = hopeless_waits r b.choices g.now (not_inside b.choices e) none g.waits
-    where
-      not_inside : (cs : List Choice) → is_inside cs ≡ false → from_region cs ≡ []
-      not_inside cs h = by_rest (from_region cs) refl h
-        where
-          by_rest : (rest : List Choice) → from_region cs ≡ rest → is_inside cs ≡ false → from_region cs ≡ []
-          by_rest [] f k = f
-          by_rest (d ∷ others) f k =
-              let inside : is_inside cs ≡ true =
-              ap (λ (x : List Choice). elim x [ [] ↦ false | (y ∷ ys) ↦ true ]) f in
-              absurd (cc (sym inside ∙ k))
-
-  pub hopeless_left : Hopeless r (is_inside b.choices) (spot (Instruction i) c b) → Later r all limit next.Back b
-  hopeless_left hopeless =
-      let none = hopeless.none (spot (Instruction i) c b) g.now g.turns (alike_itself r.words (spot (Instruction i) c b))
-      g.runs in (
-        omega (arith, some_turns g.runs, g.within),
-        record {
-          later = g.later;
-          waits = left (is_inside b.choices) refl none;
-          within = omega (arith, some_turns g.runs, g.within);
-        },
-      )
+pub hopeless_left : (r : Run) (i : ℕ) (c : StringCursor) (b : BoardValue)
+    → Hopeless r (is_inside b.choices) (spot (Instruction i) c b) → (all : List Way) (limit : ℕ)
+    → Goes r all limit (Instruction i) c b → Later r all limit next.Back b
+hopeless_left r i c b hopeless all limit g =
+    hopeless_back r (spot (Instruction i) c b) (Instruction i) c b hopeless
+    (alike_itself r.words (spot (Instruction i) c b)) all limit g
