@@ -9,6 +9,8 @@
 #[cfg(test)]
 mod asking;
 #[cfg(test)]
+mod bounded_memory;
+#[cfg(test)]
 mod changed_runs;
 #[cfg(test)]
 mod counting;
