@@ -36,7 +36,7 @@ pub struct Board<A: Allocator> {
     frame: usize,
     choices: Vec<Saved, A>,
     regions: usize,
-    // how many characters were passed by long runs and references since this was last asked
+    // how many characters were passed in long stretches since this was last asked
     passed: usize,
 }
 
@@ -224,8 +224,8 @@ impl<A: Allocator> Board<A> {
         Some((saved.point, saved.cursor))
     }
 
-    /// Notes that so many characters were passed in a turn. Stretches of less than 64 characters are not noted: a turn
-    /// is not shorter than those.
+    /// Notes that so many characters were passed in a turn. Stretches of less than 64 characters are not noted: what
+    /// they take is that of a few turns.
     #[inline(always)]
     pub fn pass(&mut self, characters: usize)
         ensures { self.new ≡ self.old }

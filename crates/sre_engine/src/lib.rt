@@ -3,7 +3,8 @@
 //! [`Code::check`] takes the words of a pattern that are a code, and refuses all others. A [`Request`] asks for such a
 //! code in a window of a text. A [`State`] answers it: `pymatch` at the window's start, `search` at the least start of
 //! the window. It then holds the match: its start, its end and the marks of its groups. [`SearchIter`] goes from match
-//! to match, and [`all_matches`] lists them. Each answer is the one of the definitions that `specs/` passes on, and an
+//! to match, and [`all_matches`] lists them. `match_within`, `search_within` and `next_within` do so within a number of
+//! turns, for words from strangers. Each answer is the one of the definitions that `specs/` passes on, and an
 //! error comes only where memory was refused.
 //!
 //! ```

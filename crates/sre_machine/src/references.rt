@@ -45,7 +45,7 @@ pub(super) fn reference<S: StrDrive, A: Allocator>(
         return Next::Back;
     };
     let count = end - start;
-    board.pass(count);
+    board.pass(count.max(cursor.position().saturating_sub(start)));
     if !is_inside(cursor.position(), count, req.end()) {
         return Next::Back;
     }

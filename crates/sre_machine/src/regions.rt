@@ -54,6 +54,7 @@ pub(super) fn assert<S: StrDrive, A: Allocator>(
         return Ok(Next::Back);
     }
     board.begin_region(Region::Ahead(place + 1 + skip as usize), cursor)?;
+    board.pass(back);
     Ok(Next::At(place + 3, back_by(req, cursor, back)))
 }
 
@@ -76,6 +77,7 @@ pub(super) fn assert_not<S: StrDrive, A: Allocator>(
         return Ok(Next::At(tail, cursor));
     }
     board.begin_region(Region::NotAhead(tail), cursor)?;
+    board.pass(back);
     Ok(Next::At(place + 3, back_by(req, cursor, back)))
 }
 

@@ -92,8 +92,8 @@ impl From<Refusal> for Halt {
     }
 }
 
-// Takes a turn off those that are left, and one for each eight characters that the turn before went over by a long run
-// or reference: whether one was left. No such stretch counts for more than the window. Nothing is taken where the turns
+// Takes a turn off those that are left, and one for each eight characters of the long stretches that the turn before
+// went over: whether one was left. They count for no more than the window. Nothing is taken where the turns
 // are not limited.
 #[inline(always)]
 fn takes_turn<S: StrDrive, A: Allocator, const LIMITED: bool>(

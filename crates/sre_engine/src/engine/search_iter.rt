@@ -14,9 +14,10 @@ use std::alloc::Allocator;
 /// The matches of a window, each searched from the end of the one before.
 ///
 /// An item `Ok(())` says that there is a match, which `state` shows: `req` then starts at its end, and must advance
-/// exactly where it was empty, so that no empty match comes twice. The walk ends with `None`, or with an error, which
-/// means that a growth of the state's memory was refused; from then on there is no item, there are no marks, and `req`
-/// is as it was. A window of n characters has at most 2n + 1 matches. No step counts characters from the start on.
+/// exactly where it was empty, so that no empty match comes twice. The walk ends with `None`, which `next_within` tells
+/// as `Some(false)`, or with an error, which means that a growth of the state's memory was refused; from then on there
+/// is no item, there are no marks, and `req` is as it was. A window of n characters has at most 2n + 1 matches. No step
+/// counts characters from the start on.
 #[derive(Drop)]
 pub struct SearchIter<'a, S: StrDrive, A: Allocator + Copy> {
     req: Request<'a, S>,
@@ -46,8 +47,7 @@ impl<'a, S: StrDrive, A: Allocator + Copy> SearchIter<'a, S, A> {
         }
     }
 
-    /// What is asked next: the matches still to come are those of its walk, until `next` has answered `None` or an
-    /// error, and none after.
+    /// What is asked next: the matches still to come are those of its walk, until the walk has ended, and none after.
     pub fn req(&self) -> &Request<'a, S>
         ensures { result.now ≡ request_of self.now }
     {

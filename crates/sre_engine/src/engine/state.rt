@@ -223,8 +223,9 @@ impl<A: Allocator + Copy> State<A> {
     /// used up before the answer was known, and then there are no marks.
     ///
     /// What is left of the turns comes back. A turn is one instruction, or one step back to what is still to be tried;
-    /// a stretch of 64 characters or more that a run or a reference goes over counts for one more for each eight of
-    /// them. So the code alone bounds the time of a turn, and a number of turns bounds that of a call.
+    /// a stretch of 64 characters or more that a run, a reference or a look goes over counts for one more for each
+    /// eight of them, on the way back to the group or the look's start, too. So the code alone bounds the time of a
+    /// turn, and a number of turns bounds that of a call.
     pub fn match_within<S: StrDrive>(
         &mut self,
         req: &Request<'_, S>,
@@ -327,8 +328,8 @@ impl<A: Allocator + Copy> State<A> {
     /// Searches the window as `search` does, within a number of turns of the machine over all its starts: `None` where
     /// they were used up before the answer was known, and then there are no marks. `match_within` says what a turn is.
     ///
-    /// What is left of the turns comes back, so one number can bound several searches. Beside its turns a search goes
-    /// over each character of the window a bounded number of times, to find the starts that it tries.
+    /// What is left of the turns comes back, so one number can bound several searches. Beside its turns a search looks
+    /// for the starts that it tries; the code alone bounds the time that this takes for each character of the window.
     pub fn search_within<S: StrDrive>(
         &mut self,
         req: Request<'_, S>,

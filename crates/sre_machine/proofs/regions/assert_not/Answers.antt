@@ -1,4 +1,4 @@
-use Rattle.std.proofs.Common.{arith}
+use Rattle.std.proofs.Common.{arith, ◌∙◌}
 use Rattle.sre_model.specs.Tree.{Negative}
 use Rattle.sre_request.specs.Runs.{run_of}
 use Rattle.sre_turns.proofs.StepsInRegions.{look_operand, not_ahead_early, look_step}
@@ -22,6 +22,6 @@ returns-then-position-back g c =
 pub returns : goal.returns
 returns g c =
     look_step (run_of c.args.req.now) Negative c.args.place c.operand-skip.result c.operand-back.result c.args.cursor
-    c.back_by.result c.args.board.now c.begin_region.new.self
+    c.back_by.result c.args.board.now c.pass.new.self
     (record { code = c.requires.opcode; leads = c.operand-skip.ensures.word; there = c.operand-back.ensures.word })
-    (omega arith) c.back_by.ensures.position c.back_by.ensures.stands c.in_ok-begin_region.ensures
+    (omega arith) c.back_by.ensures.position c.back_by.ensures.stands (c.pass.ensures ∙ c.in_ok-begin_region.ensures)
