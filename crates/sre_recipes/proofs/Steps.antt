@@ -1,0 +1,40 @@
+-- What a step over a match leaves to come, and what it adds to what is kept.
+use Rattle.std.proofs.Common.{◌≡◌, ℕ, List, [], ◌∷◌, ◌++◌, map, ap, sym, ◌∙◌, subst, append_assoc, length}
+use Rattle.std.proofs.lemmas.List.{map-append}
+use Rattle.std.specs.List.{slice_range}
+use Rattle.std.specs.Str.{chars}
+use Rattle.sre_chars.specs.declared.string.StrDrive.{Ghosts}
+use Rattle.sre_chars.specs.declared.string.StringCursor.{StringCursor}
+use Rattle.sre_engine.specs.Tree.{Tree}
+use Rattle.sre_engine.specs.Grammar.{Whole}
+use Rattle.sre_engine.specs.Codes.{words_of}
+use Rattle.sre_engine.specs.Requests.{code_of}
+use Rattle.sre_engine.specs.Answers.{Shown}
+use Rattle.sre_engine.specs.Walks.{match_shown}
+use Rattle.sre_engine.specs.Iterators.{request_of, shown_of, left_of, Gives, IsOver}
+use Rattle.sre_engine.specs.declared.engine.search_iter.SearchIter.{SearchIter}
+use Rattle.sre_recipes.specs.Slices.{slice_of}
+use Rattle.sre_recipes.specs.Spans.{IsSpan}
+
+-- a match comes off a walk whose words are still those that were asked for
+pub walk_step : {S A : Type 0} {text : Ghosts S} (it next : SearchIter S A text) (words : List ℕ) (t : Tree)
+    → Gives it next → words_of (code_of (request_of it)) ≡ words → Whole words t
+    → left_of it t ≡ match_shown (shown_of next) ∷ left_of next t
+walk_step it next words t gives same whole = gives.first t (subst (λ ws. Whole ws t) (sym same) whole)
+
+-- and none is left
+pub walk_over : {S A : Type 0} {text : Ghosts S} (it : SearchIter S A text) (words : List ℕ) (t : Tree)
+    → IsOver it → words_of (code_of (request_of it)) ≡ words → Whole words t → left_of it t ≡ []
+walk_over it words t over same whole = over.none t (subst (λ ws. Whole ws t) (sym same) whole)
+
+-- the text from a match's start to its end
+pub span_slice : (text : List ℕ) (s : Shown) (start end : StringCursor) → IsSpan text s start end
+    → slice_range (chars text) start.position end.position ≡ slice_of (chars text) (match_shown s)
+span_slice text s start end span =
+    ap (λ p. slice_range (chars text) p end.position) span.from.0 ∙ ap (slice_range (chars text) s.start) span.to.0
+
+-- an item more, and one less to come
+pub map_step : {X Y : Type 0} (f : X → Y) (xs : List X) (x : X) (y : Y) (rest all : List Y) → f x ≡ y
+    → map f xs ++ y ∷ rest ≡ all → map f (xs ++ x ∷ []) ++ rest ≡ all
+map_step f xs x y rest all is h =
+    rw (map-append f xs (x ∷ []), is) (append_assoc (map f xs) (y ∷ []) rest ∙ h)

@@ -1,0 +1,72 @@
+//! The text of a match and of its groups, reached from the cursor at the match's end.
+
+ghost use Rattle.std.specs.Prelude.{◌≡◌, ◌+◌, ◌<◌, ◌≤◌, length, slice_range, MatchOption};
+ghost use Rattle.std.specs.Option.{option_map};
+ghost use Rattle.std.specs.Str.{chars};
+ghost use Rattle.sre_chars.specs.Texts.{StandsInText};
+ghost use Rattle.sre_recipes.specs.Slices.{group_of};
+
+use sre_engine::{State, StrDrive, StringCursor};
+use std::alloc::Allocator;
+
+// The text from one cursor to another.
+pub(crate) fn between<'t>(text: &'t str, start: &StringCursor, end: &StringCursor) -> &'t str
+    requires start { StandsInText text.now start.now start.now.position }
+    requires end { StandsInText text.now end.now end.now.position }
+    requires forward { start.now.position ≤ end.now.position }
+    ensures { chars result.now ≡ slice_range (chars text.now) start.now.position end.now.position }
+{
+    &text[start.offset()..end.offset()]
+}
+
+// The cursor at a position, reached from another cursor, where the text has so many characters.
+fn moved_to(text: &str, from: &StringCursor, position: usize) -> Option<StringCursor>
+    requires { StandsInText text.now from.now from.now.position }
+    ensures { MatchOption result (length (chars text.now) < position) (λ to. StandsInText text.now to position) }
+{
+    let mut cursor = *from;
+    if position <= cursor.position() {
+        text.back_skip(&mut cursor, from.position() - position);
+        return Some(cursor);
+    }
+    'forward: while cursor.position() < position {
+        if cursor.offset() == text.len() {
+            return None;
+        }
+        text.advance(&mut cursor);
+    }
+    Some(cursor)
+}
+
+/// The text of the match that a state shows.
+pub fn matched_text<'t, A: Allocator + Copy>(text: &'t str, state: &State<A>) -> &'t str
+    requires stands { StandsInText text.now state.now.cursor state.now.cursor.position }
+    requires forward { state.now.start ≤ state.now.cursor.position }
+    ensures { chars result.now ≡ slice_range (chars text.now) state.now.start state.now.cursor.position }
+{
+    let end = state.cursor();
+    let mut start = end;
+    text.back_skip(&mut start, end.position() - state.start());
+    between(text, &start, &end)
+}
+
+/// The text of group `group` of the match that a state shows, counted from 0: `None` where it took no part.
+pub fn group_text<'t, A: Allocator + Copy>(
+    text: &'t str,
+    state: &State<A>,
+    group: usize,
+) -> Option<&'t str>
+    requires { StandsInText text.now state.now.cursor state.now.cursor.position }
+    ensures { option_map (λ s. chars s.now) result ≡ group_of (chars text.now) state.now.marks group }
+{
+    let (Some(from), Some(to)) = state.marks().get(group) else {
+        return None;
+    };
+    if to < from {
+        return None;
+    }
+    let end = moved_to(text, &state.cursor(), to)?;
+    let mut start = end;
+    text.back_skip(&mut start, to - from);
+    Some(between(text, &start, &end))
+}
