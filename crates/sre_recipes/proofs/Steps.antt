@@ -1,5 +1,5 @@
 -- What a step over a match leaves to come, and what it adds to what is kept.
-use Rattle.std.proofs.Common.{◌≡◌, ℕ, List, [], ◌∷◌, ◌++◌, map, ap, sym, ◌∙◌, subst, append_assoc, length}
+use Rattle.std.proofs.Common.{◌≡◌, ◌≤◌, ℕ, Bor, List, [], ◌∷◌, ◌++◌, map, ap, sym, ◌∙◌, subst, append_assoc, length}
 use Rattle.std.proofs.lemmas.List.{map-append}
 use Rattle.std.specs.List.{slice_range}
 use Rattle.std.specs.Str.{chars}
@@ -8,7 +8,7 @@ use Rattle.sre_chars.specs.declared.string.StringCursor.{StringCursor}
 use Rattle.sre_engine.specs.Tree.{Tree}
 use Rattle.sre_engine.specs.Grammar.{Whole}
 use Rattle.sre_engine.specs.Codes.{words_of}
-use Rattle.sre_engine.specs.Requests.{code_of}
+use Rattle.sre_engine.specs.Requests.{string_of, start_of, end_of, code_of}
 use Rattle.sre_engine.specs.Answers.{Shown}
 use Rattle.sre_engine.specs.Walks.{match_shown}
 use Rattle.sre_engine.specs.Iterators.{request_of, shown_of, left_of, Gives, IsOver}
@@ -26,6 +26,26 @@ walk_step it next words t gives same whole = gives.first t (subst (λ ws. Whole 
 pub walk_over : {S A : Type 0} {text : Ghosts S} (it : SearchIter S A text) (words : List ℕ) (t : Tree)
     → IsOver it → words_of (code_of (request_of it)) ≡ words → Whole words t → left_of it t ≡ []
 walk_over it words t over same whole = over.none t (subst (λ ws. Whole ws t) (sym same) whole)
+
+-- what stays in a walk over a text
+pub record Kept {A : Type 0} {text : Ghosts (Bor (List ℕ))} (it : SearchIter (Bor (List ℕ)) A text)
+    (whole : Bor (List ℕ)) (code : List ℕ) (stop : ℕ) : Type 0 where
+  pub string : string_of (request_of it) ≡ whole
+  pub words : words_of (code_of (request_of it)) ≡ code
+  pub end : end_of (request_of it) ≡ stop
+  pub inside : start_of (request_of it) ≤ stop
+
+pub kept_on : {A : Type 0} {text : Ghosts (Bor (List ℕ))} (it next : SearchIter (Bor (List ℕ)) A text)
+    (whole : Bor (List ℕ)) (code : List ℕ) (stop : ℕ) → Gives it next → Kept it whole code stop
+    → Kept next whole code stop
+kept_on it next whole code stop gives kept =
+    let inside : (shown_of next).cursor.position ≤ stop = rw (← kept.end) gives.request.span.inside in
+    record {
+      string = gives.request.string ∙ kept.string;
+      words = ap words_of gives.request.pattern_codes ∙ kept.words;
+      end = gives.request.end ∙ kept.end;
+      inside = rw gives.request.start inside;
+    }
 
 -- the text from a match's start to its end
 pub span_slice : (text : List ℕ) (s : Shown) (start end : StringCursor) → IsSpan text s start end

@@ -1,2 +1,5 @@
 pub mod Slices
+pub mod Pieces
+pub mod Templates
+pub mod Lexed
 pub mod Spans

@@ -5,8 +5,9 @@ use Rattle.sre_chars.specs.Texts.{StandsInText}
 use Rattle.sre_chars.specs.declared.string.StringCursor.{StringCursor}
 use Rattle.sre_engine.specs.Answers.{Shown}
 
--- two cursors of a text stand where the match that a state shows starts and ends
+-- two cursors of a text stand where the match that a state shows starts and ends; the state's own one does, too
 pub record IsSpan (text : List ℕ) (s : Shown) (start end : StringCursor) : Type 0 where
   pub from : StandsInText text start s.start
   pub to : StandsInText text end s.cursor.position
+  pub at : StandsInText text s.cursor s.cursor.position
   pub forward : s.start ≤ s.cursor.position

@@ -2,9 +2,15 @@
 //! them, their replacement, and tokens.
 #![tactic(auto)]
 
+mod divide;
 mod find;
-mod slices;
-mod spans;
+mod lexer;
+mod replace;
+mod slice;
+mod span;
 
-pub use find::find_all;
-pub use slices::{group_text, matched_text};
+pub use divide::split;
+pub use find::{find_all, match_text, search_text};
+pub use lexer::{Token, Tokens, tokens_of};
+pub use replace::{Piece, replace_all};
+pub use slice::{group_text, matched_text};

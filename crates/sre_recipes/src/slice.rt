@@ -19,6 +19,18 @@ pub(crate) fn between<'t>(text: &'t str, start: &StringCursor, end: &StringCurso
     &text[start.offset()..end.offset()]
 }
 
+// The text from a cursor to a position.
+pub(crate) fn up_to<'t>(text: &'t str, start: &StringCursor, position: usize) -> &'t str
+    requires start { StandsInText text.now start.now start.now.position }
+    requires forward { start.now.position ≤ position }
+    requires within { position ≤ length (chars text.now) }
+    ensures { chars result.now ≡ slice_range (chars text.now) start.now.position position }
+{
+    let mut end = *start;
+    text.skip(&mut end, position - start.position());
+    between(text, start, &end)
+}
+
 // The cursor at a position, reached from another cursor, where the text has so many characters.
 fn moved_to(text: &str, from: &StringCursor, position: usize) -> Option<StringCursor>
     requires { StandsInText text.now from.now from.now.position }

@@ -1,6 +1,6 @@
 use Rattle.std.proofs.Common.{arith, sym, ◌∙◌}
 use Rattle.sre_recipes.proofs.Cuts.{none_after, some_before_end}
-use Rattle.sre_recipes.proofs.slices.moved_to.Goals as goal
+use Rattle.sre_recipes.proofs.slice.moved_to.Goals as goal
 
 pub returns-then-offset-text : goal.returns-then-offset-text
 returns-then-offset-text c =

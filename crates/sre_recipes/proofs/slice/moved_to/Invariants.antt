@@ -1,6 +1,6 @@
 use Rattle.std.proofs.Common.{◌≡◌, ◌-◌, ◌≤◌}
 use Rattle.sre_chars.specs.Texts.{StandsInText}
-use Rattle.sre_recipes.proofs.slices.moved_to.Given as goal
+use Rattle.sre_recipes.proofs.slice.moved_to.Given as goal
 
 abbrev pub invariant-forward : goal.invariant-forward
 invariant-forward l = record {

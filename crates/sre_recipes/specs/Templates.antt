@@ -1,0 +1,24 @@
+-- What a template makes of a match, and a text whose matches are replaced.
+-- Of the meaning: what sre_recipes makes public rests on it.
+use Rattle.std.specs.Prelude.{ℕ, List, [], ◌∷◌, ◌++◌, slice_range, unwrap_or}
+use Rattle.std.specs.List.{flat_map}
+use Rattle.std.specs.Str.{chars}
+use Rattle.sre_engine.specs.Found as model
+use Rattle.sre_recipes.specs.declared.replace.Piece.{Piece}
+use Rattle.sre_recipes.specs.declared.replace.Piece.TheVariants.{Text, Match, Group}
+use Rattle.sre_recipes.specs.Slices.{slice_of, group_of}
+
+-- the characters that a piece stands for; a group that took no part stands for none
+abbrev pub piece_of : List ℕ → model.Match → Piece → List ℕ
+piece_of text m (Text literal) = chars literal.now
+piece_of text m Match = slice_of text m
+piece_of text m (Group g) = unwrap_or (group_of text m.marks g) []
+
+-- a template's pieces, one after the other
+abbrev pub written : List ℕ → List Piece → model.Match → List ℕ
+written text template m = flat_map (piece_of text m) template
+
+-- the characters up to each match and what stands in its place, and those behind the last one up to `to`
+abbrev pub replaced : List ℕ → (model.Match → List ℕ) → ℕ → ℕ → List model.Match → List ℕ
+replaced text new from to [] = slice_range text from to
+replaced text new from to (m ∷ ms) = slice_range text from m.start ++ (new m ++ replaced text new m.end to ms)

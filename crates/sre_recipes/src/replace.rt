@@ -1,0 +1,118 @@
+//! A text with its matches replaced.
+
+ghost use Rattle.std.specs.Prelude.{◌≡◌, ◌++◌, IfOk, OnErr};
+ghost use Rattle.std.specs.Str.{chars, IsUtf8};
+ghost use Rattle.std.specs.String.{string_bytes};
+ghost use Rattle.sre_engine.specs.Tree.{Tree};
+ghost use Rattle.sre_engine.specs.Grammar.{Whole};
+ghost use Rattle.sre_engine.specs.Found.{walk};
+ghost use Rattle.sre_engine.specs.Codes.{words_of};
+ghost use Rattle.sre_engine.specs.Requests.{string_of, start_of, end_of, code_of, asked_of};
+ghost use Rattle.sre_engine.specs.Walks.{match_shown};
+ghost use Rattle.sre_growth.specs.Refusal.{Refused};
+ghost use Rattle.sre_recipes.specs.Spans.{IsSpan};
+ghost use Rattle.sre_recipes.specs.Templates.{piece_of, written, replaced};
+
+use crate::slice::{between, group_text, up_to};
+use crate::span::{Span, next_span};
+use sre_engine::{Request, SearchIter, SreError, State, StrDrive};
+use std::alloc::Allocator;
+
+/// A piece of a template: what it writes in place of a match.
+#[derive(Clone, Copy)]
+pub enum Piece<'a> {
+    /// A text as it stands.
+    Text(&'a str),
+    /// The match.
+    Match,
+    /// A group, counted from 0; nothing where it took no part.
+    Group(usize),
+}
+
+// Appends bytes.
+fn append_bytes<A: Allocator>(output: &mut Vec<u8, A>, bytes: &[u8]) -> Result<(), SreError>
+    ensures ok { IfOk result (λ _. output.new.items ≡ output.old.items ++ bytes.now) }
+    ensures refused { OnErr result Refused }
+{
+    for byte in bytes {
+        sre_growth::push(output, *byte)?;
+    }
+    Ok(())
+}
+
+// Appends a text to a text.
+fn append<A: Allocator>(output: &mut Vec<u8, A>, text: &str) -> Result<(), SreError>
+    requires { IsUtf8 output.old.items }
+    ensures ok { IfOk result (λ _. chars output.new.items ≡ chars output.old.items ++ chars text.now) }
+    ensures utf8 { IfOk result (λ _. IsUtf8 output.new.items) }
+    ensures refused { OnErr result Refused }
+{
+    append_bytes(output, text.as_bytes())?;
+    Ok(())
+}
+
+// The text that a piece stands for.
+fn piece_text<'t, A: Allocator + Copy>(
+    text: &'t str,
+    state: &State<A>,
+    span: &Span,
+    piece: Piece<'t>,
+) -> &'t str
+    requires { IsSpan text.now state.now span.now.start span.now.end }
+    ensures { chars result.now ≡ piece_of (chars text.now) (match_shown state.now) piece.entry }
+{
+    match piece {
+        Piece::Text(literal) => literal,
+        Piece::Match => between(text, &span.start, &span.end),
+        Piece::Group(group) => match group_text(text, state, group) {
+            Some(part) => part,
+            None => "",
+        },
+    }
+}
+
+// Appends what a template makes of the match that a state shows.
+fn append_replacement<A: Allocator + Copy>(
+    output: &mut Vec<u8, A>,
+    text: &str,
+    state: &State<A>,
+    span: &Span,
+    template: &[Piece<'_>],
+) -> Result<(), SreError>
+    requires span { IsSpan text.now state.now span.now.start span.now.end }
+    requires utf8 { IsUtf8 output.old.items }
+    ensures ok { IfOk result (λ _.
+        chars output.new.items ≡ chars output.old.items ++ written (chars text.now) template.now (match_shown state.now)) }
+    ensures utf8 { IfOk result (λ _. IsUtf8 output.new.items) }
+    ensures refused { OnErr result Refused }
+{
+    'piece: for piece in template {
+        append(output, piece_text(text, state, span, *piece))?;
+    }
+    Ok(())
+}
+
+/// A window of a text in which each match is replaced by what a template makes of it, as Python's `sub` replaces.
+pub fn replace_all<A: Allocator + Copy>(
+    alloc: A,
+    req: Request<'_, &str>,
+    template: &[Piece<'_>],
+) -> Result<String<A>, SreError>
+    ensures ok { (t : Tree) → Whole (words_of (code_of req.entry)) t → IfOk result (λ new.
+        chars (string_bytes new)
+        ≡ replaced (chars (string_of req.entry).now) (written (chars (string_of req.entry).now) template.now)
+        (start_of req.entry) (end_of req.entry) (walk (asked_of req.entry) t)) }
+    ensures refused { OnErr result Refused }
+{
+    let (text, stop) = (req.string(), req.end());
+    let mut output = Vec::new(alloc);
+    let mut last = text.create_cursor(req.start());
+    let mut walk = SearchIter::new(req, State::new(alloc));
+    'walk: while let Some(span) = next_span(&mut walk)? {
+        append(&mut output, between(text, &last, &span.start))?;
+        append_replacement(&mut output, text, walk.state(), &span, template)?;
+        last = span.end;
+    }
+    append(&mut output, up_to(text, &last, stop))?;
+    Ok(String::from_utf8(output).unwrap())
+}
