@@ -1,3 +1,4 @@
 pub mod Cuts
 pub mod Steps
+pub mod Adjoining
 pub mod Written

@@ -1,5 +1,5 @@
 -- What a step over a match leaves to come, and what it adds to what is kept.
-use Rattle.std.proofs.Common.{◌≡◌, ◌≤◌, ℕ, Bor, List, [], ◌∷◌, ◌++◌, map, ap, sym, ◌∙◌, subst, append_assoc, length}
+use Rattle.std.proofs.Common.{◌≡◌, ◌≤◌, ℕ, false, cond, Bor, List, [], ◌∷◌, ◌++◌, map, ap, sym, ◌∙◌, subst, append_assoc, length}
 use Rattle.std.proofs.lemmas.List.{map-append}
 use Rattle.std.specs.List.{slice_range}
 use Rattle.std.specs.Str.{chars}
@@ -7,14 +7,20 @@ use Rattle.sre_chars.specs.declared.string.StrDrive.{Ghosts}
 use Rattle.sre_chars.specs.declared.string.StringCursor.{StringCursor}
 use Rattle.sre_engine.specs.Tree.{Tree}
 use Rattle.sre_engine.specs.Grammar.{Whole}
+use Rattle.sre_engine.specs.Found.{walk}
 use Rattle.sre_engine.specs.Codes.{words_of}
-use Rattle.sre_engine.specs.Requests.{string_of, start_of, end_of, code_of}
+use Rattle.sre_engine.specs.Requests.{string_of, start_of, end_of, code_of, asked_of}
 use Rattle.sre_engine.specs.Answers.{Shown}
 use Rattle.sre_engine.specs.Walks.{match_shown}
-use Rattle.sre_engine.specs.Iterators.{request_of, shown_of, left_of, Gives, IsOver}
+use Rattle.sre_engine.specs.Iterators.{request_of, shown_of, has_ended, left_of, Gives, IsOver}
 use Rattle.sre_engine.specs.declared.engine.search_iter.SearchIter.{SearchIter}
 use Rattle.sre_recipes.specs.Slices.{slice_of}
 use Rattle.sre_recipes.specs.Spans.{IsSpan}
+
+-- of a walk that has not ended all is left
+pub walk_all : {S A : Type 0} {text : Ghosts S} (it : SearchIter S A text) (t : Tree) → has_ended it ≡ false
+    → left_of it t ≡ walk (asked_of (request_of it)) t
+walk_all it t open_is = ap (λ ended. cond ended [] (walk (asked_of (request_of it)) t)) open_is
 
 -- a match comes off a walk whose words are still those that were asked for
 pub walk_step : {S A : Type 0} {text : Ghosts S} (it next : SearchIter S A text) (words : List ℕ) (t : Tree)

@@ -9,7 +9,8 @@ use Rattle.sre_recipes.specs.declared.lexer.Token.{Token}
 use Rattle.sre_recipes.specs.Slices.{slice_of}
 use Rattle.sre_recipes.specs.Pieces.{pieces_between}
 use Rattle.sre_recipes.specs.Templates.{replaced}
-use Rattle.sre_recipes.specs.Lexed.{Lexeme, adjoining, reached, lexeme_of, lexeme_shown}
+use Rattle.sre_recipes.specs.Lexed.{Lexeme, reached, lexeme_of, lexeme_shown}
+use Rattle.sre_recipes.proofs.Adjoining.{adjoining, adjoining_more}
 use Rattle.sre_recipes.proofs.Steps.{map_step}
 
 -- the piece before a match
@@ -50,14 +51,6 @@ replaced_step text new before after m left ms p q stop all step to is kept =
     ∙ append_assoc before piece (new m ++ rest)
     ∙ ap (λ l. before ++ replaced text new p stop l) (sym step)
     ∙ kept)
-
--- a token more
-adjoining_more : (m : Match) (ms : List Match) (p : ℕ) → m.start ≡ p → p < m.end
-    → adjoining p (m ∷ ms) ≡ m ∷ adjoining m.end ms
-adjoining_more m ms p start more = rw (eq-eqb m.start p start) (rw (past m.end p more) refl)
-  where
-    past : (q p : ℕ) → p < q → eqb q p ≡ false
-    past q p h = ne_eqb q p (λ e. omega arith)
 
 -- a token as it shows is the match
 pub lexeme_same : (text : List ℕ) (x : Token) (m : Match) → x.kind ≡ m.marks.last → chars x.text.now ≡ slice_of text m

@@ -1,8 +1,9 @@
 -- The tokens that a text begins with.
 -- Of the meaning: what sre_recipes makes public rests on it.
-use Rattle.std.specs.Prelude.{ℕ, ℤ, List, [], ◌∷◌, cond, nat_eq}
+use Rattle.std.specs.Prelude.{ℕ, zero, suc, ◌+◌, ◌-◌, ℤ, true, List, [], ◌∷◌, Option, Some, None}
 use Rattle.std.specs.Str.{chars}
-use Rattle.sre_engine.specs.Found.{Match}
+use Rattle.sre_engine.specs.Tree.{Tree}
+use Rattle.sre_engine.specs.Found.{Asked, Match, matched}
 use Rattle.sre_recipes.specs.declared.lexer.Token.{Token}
 use Rattle.sre_recipes.specs.Slices.{slice_of}
 
@@ -18,11 +19,18 @@ lexeme_of text m = record { kind = m.marks.last; text = slice_of text m }
 abbrev pub lexeme_shown : Token → Lexeme
 lexeme_shown token = record { kind = token.kind; text = chars token.text.now }
 
--- of matches in order those up to the first gap from p on, without the empty ones
-abbrev pub adjoining : ℕ → List Match → List Match
-adjoining p [] = []
-adjoining p (m ∷ ms) =
-    cond (nat_eq m.start p) (cond (nat_eq m.end p) (adjoining p ms) (m ∷ adjoining m.end ms)) []
+-- the token at a position: the first accepted way from there that is not empty, as a match
+abbrev pub token_at : Asked → Tree → ℕ → Option Match
+token_at a t p = matched (record a { start = p; must_advance = true }) t
+
+-- at most n tokens from a position on, each where the one before ends
+abbrev pub tokens_from : ℕ → Asked → Tree → ℕ → List Match
+tokens_from zero a t p = []
+tokens_from (suc n) a t p = elim (token_at a t p) [ (Some m) ↦ m ∷ tokens_from n a t m.end | None ↦ [] ]
+
+-- the tokens that a window begins with
+abbrev pub tokens : Asked → Tree → List Match
+tokens a t = tokens_from (a.end + 1 - a.start) a t a.start
 
 -- where the last of some matches ends, p where there is none
 abbrev pub reached : ℕ → List Match → ℕ

@@ -1,6 +1,7 @@
-use Rattle.std.proofs.Common.{rules, ◌≡◌, ◌<◌, ℕ, List, Bor, map, refl, ap, sym, ◌∙◌, subst, arith, w64, to_z, of_z}
+use Rattle.std.proofs.Common.{rules, ◌≡◌, ◌<◌, ◌≤◌, ◌+◌, ◌-◌, ℕ, List, Bor, map, refl, ap, sym, ◌∙◌, subst, arith, w64, to_z, of_z}
 use Rattle.std.specs.Str.{chars}
 use Rattle.std.specs.List.{slice_range}
+use Rattle.sre_engine.specs.Tree.{Tree}
 use Rattle.sre_engine.specs.Found.{walk}
 use Rattle.sre_engine.specs.Codes.{words_of}
 use Rattle.sre_engine.specs.Requests.{string_of, start_of, end_of, code_of, asked_of}
@@ -8,11 +9,32 @@ use Rattle.sre_engine.specs.Iterators.{request_of, shown_of, left_of}
 use Rattle.sre_engine.specs.Walks.{match_shown}
 use Rattle.sre_chars.specs.Texts.{offset_of}
 use Rattle.sre_recipes.specs.declared.lexer.Token.{Token}
-use Rattle.sre_recipes.specs.Lexed.{adjoining, reached, lexeme_of, lexeme_shown}
+use Rattle.sre_recipes.specs.Lexed.{tokens, reached, lexeme_of, lexeme_shown}
 use Rattle.sre_recipes.specs.Spans.{IsSpan}
-use Rattle.sre_recipes.proofs.Steps.{walk_step, kept_on, span_slice}
+use Rattle.sre_recipes.proofs.Adjoining.{adjoining, adjoining_tokens}
+use Rattle.sre_recipes.proofs.Steps.{walk_all, walk_step, kept_on, span_slice}
 use Rattle.sre_recipes.proofs.Written.{lexeme_same, tokens_step, reached_step}
 use Rattle.sre_recipes.proofs.lexer.tokens_of.Goals as goal
+
+pub walk-init : goal.walk-init
+walk-init g c =
+    let asked = asked_of c.args.req in
+    let inside : asked.start ≤ asked.end = rw (← c.start.ensures.value) c.start.ensures.in_window in
+    let few : asked.end + 1 - asked.start ≤ asked.end + 1 - asked.start = omega arith in
+    let first : c.create_cursor-end.result.position ≡ asked.start =
+    c.create_cursor-end.ensures.0 ∙ c.start.ensures.value in
+    let all : (t : Tree) → adjoining c.create_cursor-end.result.position (left_of c.new-walk.result t) ≡ tokens asked t =
+    λ t. ap (adjoining c.create_cursor-end.result.position)
+    (walk_all c.new-walk.result t c.new-walk.ensures.open ∙ ap (λ r. walk (asked_of r) t) c.new-walk.ensures.req)
+    ∙ ap (λ (p : ℕ). adjoining p (walk asked t)) first
+    ∙ adjoining_tokens (asked.end + 1 - asked.start) asked t asked.start asked.must_advance inside few in
+    record {
+      kept = search rules;
+      stands = search rules;
+      at = search rules;
+      left = λ t tree. rw (c.new-tokens.ensures.items, all t) refl;
+      end = λ t tree. rw (all t, first) refl;
+    }
 
 pub walk-preserved-then-position-2 : goal.walk-preserved-then-position-2
 walk-preserved-then-position-2 g c =
@@ -53,11 +75,11 @@ walk-preserved-then-position-2 g c =
       at = span.to.0 ∙ sym gives.0.request.start;
       left = λ t tree.
           tokens_step text c.walk.tokens.items c.push.new.list.items token found (left_of before t) (left_of after t) c.walk.end.position
-          c.in-Some.span.end.position (map (lexeme_of text) (adjoining (start_of c.args.req) (walk (asked_of c.args.req) t)))
+          c.in-Some.span.end.position (map (lexeme_of text) (tokens (asked_of c.args.req) t))
           c.in_ok-push.ensures.items (walk_step before after words t gives.0 kept.words tree) there more span.to.0 shown
           (c.walk.invariant.left t tree);
       end = λ t tree.
           reached_step found (left_of before t) (left_of after t) c.walk.end.position c.in-Some.span.end.position
-          (reached (start_of c.args.req) (adjoining (start_of c.args.req) (walk (asked_of c.args.req) t)))
+          (reached (start_of c.args.req) (tokens (asked_of c.args.req) t))
           (walk_step before after words t gives.0 kept.words tree) there more span.to.0 (c.walk.invariant.end t tree);
     }
