@@ -27,6 +27,8 @@ mod limits;
 #[cfg(test)]
 mod names;
 #[cfg(test)]
+mod recipes;
+#[cfg(test)]
 mod refused_runs;
 #[cfg(test)]
 mod refused_walks;
