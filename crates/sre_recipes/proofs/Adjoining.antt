@@ -1,17 +1,17 @@
 -- The matches of a walk that adjoin each other: what a lexer keeps of a walk.
 use Rattle.std.proofs.Common.{◌≡◌, ◌≢◌, ◌<◌, ◌≤◌, ◌+◌, ◌-◌, ℕ, zero, suc, List, [], ◌∷◌, Bool, true, false, not, ◌&&◌}
-use Rattle.std.proofs.Common.{◌||◌, ◌⊎◌, cond, nat_eq, eqb, Option, Some, None, refl, sym, ap, ◌∙◌, subst, arith, inl, inr}
+use Rattle.std.proofs.Common.{◌||◌, ◌⊎◌, cond, nat_eq, Some, None, refl, sym, ap, ◌∙◌, subst, arith, inl, inr}
 use Rattle.std.proofs.lemmas.Bool.Decides.{eqb_tells, nat_tests}
 use Rattle.std.proofs.lemmas.Bool.{and_parts, eq-eqb, ne_eqb, eqb-true}
 use Rattle.sre_engine.specs.Tree.{Tree}
 use Rattle.sre_engine.specs.Ways.{Way, ways}
 use Rattle.sre_engine.specs.Marks.{no_marks}
-use Rattle.sre_engine.specs.Found.{Asked, Match, subject_of, is_accepted, first_accepted, at_start, matched, found}
+use Rattle.sre_engine.specs.Found.{Asked, Match, subject_of, first_accepted, at_start, found}
 use Rattle.sre_engine.specs.Found.{asked_after, walk}
-use Rattle.sre_model.proofs.FoundLaws.{Either, either, IsLeast, IsFrom, found-least, found-is, found-none}
+use Rattle.sre_model.proofs.FoundLaws.{Either, either, found-least, found-is, found-none}
 use Rattle.sre_model.proofs.FoundLaws.{least-found, none-found}
 use Rattle.sre_model.proofs.WalkLaws.{walk-end, walk-next}
-use Rattle.sre_recipes.specs.Lexed.{token_at, tokens_from, tokens}
+use Rattle.sre_recipes.specs.Lexed.{token_at, tokens_from}
 
 -- of matches in order those up to the first gap from p on, without the empty ones
 abbrev pub adjoining : ℕ → List Match → List Match

@@ -1,5 +1,5 @@
 -- Where a text is cut: the bytes between the offsets of two places are the characters between these.
-use Rattle.std.proofs.Common.{◌≡◌, ℕ, ◌+◌, ◌-◌, ◌<◌, ◌≤◌, List, ◌++◌, length, take, drop, refl, ap, sym, ◌∙◌, arith}
+use Rattle.std.proofs.Common.{◌≡◌, ℕ, ◌+◌, ◌-◌, ◌<◌, ◌≤◌, List, ◌++◌, length, take, drop, ap, sym, ◌∙◌, arith}
 use Rattle.std.proofs.Common.{◌≢◌, inl, inr, length-append}
 use Rattle.std.proofs.Math.Seq.{take-add, take-append_seam, take-length, drop-length}
 use Rattle.std.proofs.lemmas.List.{take-append-drop}

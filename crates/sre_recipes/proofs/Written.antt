@@ -1,6 +1,5 @@
 -- What a step over a match adds to pieces, to tokens and to a text.
-use Rattle.std.proofs.Common.{◌≡◌, ◌<◌, ℕ, false, eqb, Bor, List, [], ◌∷◌, ◌++◌, map, refl, ap, sym, ◌∙◌, append_assoc, arith}
-use Rattle.std.proofs.lemmas.Bool.{eq-eqb, ne_eqb}
+use Rattle.std.proofs.Common.{◌≡◌, ◌<◌, ℕ, Bor, List, [], ◌∷◌, ◌++◌, map, refl, ap, sym, ◌∙◌, append_assoc}
 use Rattle.std.proofs.lemmas.List.{append-nil}
 use Rattle.std.specs.List.{slice_range}
 use Rattle.std.specs.Str.{chars}

@@ -29,8 +29,8 @@ tokens_from zero a t p = []
 tokens_from (suc n) a t p = elim (token_at a t p) [ (Some m) ↦ m ∷ tokens_from n a t m.end | None ↦ [] ]
 
 -- the tokens that a window begins with
-abbrev pub tokens : Asked → Tree → List Match
-tokens a t = tokens_from (a.end + 1 - a.start) a t a.start
+abbrev pub token_matches : Asked → Tree → List Match
+token_matches a t = tokens_from (a.end + 1 - a.start) a t a.start
 
 -- where the last of some matches ends, p where there is none
 abbrev pub reached : ℕ → List Match → ℕ

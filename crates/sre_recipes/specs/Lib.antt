@@ -3,3 +3,4 @@ pub mod Pieces
 pub mod Templates
 pub mod Lexed
 pub mod Spans
+pub mod Rows

@@ -1,8 +1,6 @@
 -- The characters of a match and of its groups.
 -- Of the meaning: what sre_recipes makes public rests on it.
 use Rattle.std.specs.Prelude.{ℕ, List, length, Option, Some, None, cond, nat_le, slice_range}
-use Rattle.std.specs.Str.{chars}
-use Rattle.std.specs.Option.{option_map}
 use Rattle.sre_engine.specs.Marks.{Marks, group}
 use Rattle.sre_engine.specs.Found.{Match}
 

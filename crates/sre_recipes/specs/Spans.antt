@@ -1,6 +1,5 @@
 -- Where a match starts and ends in a text, as a walk leaves it: words of private functions' contracts.
-use Rattle.std.specs.Prelude.{ℕ, List, ◌≡◌, ◌≤◌}
-use Rattle.std.specs.Str.{chars}
+use Rattle.std.specs.Prelude.{ℕ, List, ◌≤◌}
 use Rattle.sre_chars.specs.Texts.{StandsInText}
 use Rattle.sre_chars.specs.declared.string.StringCursor.{StringCursor}
 use Rattle.sre_engine.specs.Answers.{Shown}

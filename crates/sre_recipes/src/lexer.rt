@@ -8,7 +8,7 @@ ghost use Rattle.sre_engine.specs.Grammar.{Whole};
 ghost use Rattle.sre_engine.specs.Codes.{words_of};
 ghost use Rattle.sre_engine.specs.Requests.{string_of, start_of, code_of, asked_of};
 ghost use Rattle.sre_growth.specs.Refusal.{Refused};
-ghost use Rattle.sre_recipes.specs.Lexed.{tokens, reached, lexeme_of, lexeme_shown};
+ghost use Rattle.sre_recipes.specs.Lexed.{token_matches, reached, lexeme_of, lexeme_shown};
 
 use crate::slice::between;
 use crate::span::next_span;
@@ -40,10 +40,10 @@ pub fn tokens_of<'t, A: Allocator + Copy>(
     ensures ok { (t : Tree) → Whole (words_of (code_of req.entry)) t → IfOk result (λ all.
         map lexeme_shown all.tokens.items
         ≡ map (lexeme_of (chars (string_of req.entry).now))
-        (tokens (asked_of req.entry) t)) }
+        (token_matches (asked_of req.entry) t)) }
     ensures end { (t : Tree) → Whole (words_of (code_of req.entry)) t → IfOk result (λ all.
         StandsInText (string_of req.entry).now all.end
-        (reached (start_of req.entry) (tokens (asked_of req.entry) t))) }
+        (reached (start_of req.entry) (token_matches (asked_of req.entry) t))) }
     ensures refused { OnErr result Refused }
 {
     let text = req.string();

@@ -1,10 +1,10 @@
-use Rattle.std.proofs.Common.{◌≡◌, ◌∷◌, ◌++◌, ℕ, List, Bor, map, ap, sym, ◌∙◌, subst}
+use Rattle.std.proofs.Common.{◌++◌, ℕ, List, Bor, map, ap, sym, ◌∙◌, subst}
 use Rattle.std.specs.Str.{chars}
 use Rattle.std.specs.List.{slice_range}
 use Rattle.sre_engine.specs.Found.{walk}
 use Rattle.sre_engine.specs.Codes.{words_of}
 use Rattle.sre_engine.specs.Requests.{string_of, code_of, asked_of}
-use Rattle.sre_engine.specs.Iterators.{request_of, shown_of, left_of}
+use Rattle.sre_engine.specs.Iterators.{shown_of, left_of}
 use Rattle.sre_engine.specs.Walks.{match_shown}
 use Rattle.sre_recipes.specs.Slices.{slice_of}
 use Rattle.sre_recipes.specs.Spans.{IsSpan}

@@ -5,11 +5,11 @@ use Rattle.sre_engine.specs.Tree.{Tree}
 use Rattle.sre_engine.specs.Found.{walk}
 use Rattle.sre_engine.specs.Codes.{words_of}
 use Rattle.sre_engine.specs.Requests.{string_of, start_of, end_of, code_of, asked_of}
-use Rattle.sre_engine.specs.Iterators.{request_of, shown_of, left_of}
+use Rattle.sre_engine.specs.Iterators.{shown_of, left_of}
 use Rattle.sre_engine.specs.Walks.{match_shown}
 use Rattle.sre_chars.specs.Texts.{offset_of}
 use Rattle.sre_recipes.specs.declared.lexer.Token.{Token}
-use Rattle.sre_recipes.specs.Lexed.{tokens, reached, lexeme_of, lexeme_shown}
+use Rattle.sre_recipes.specs.Lexed.{token_matches, reached, lexeme_of}
 use Rattle.sre_recipes.specs.Spans.{IsSpan}
 use Rattle.sre_recipes.proofs.Adjoining.{adjoining, adjoining_tokens}
 use Rattle.sre_recipes.proofs.Steps.{walk_all, walk_step, kept_on, span_slice}
@@ -23,7 +23,7 @@ walk-init g c =
     let few : asked.end + 1 - asked.start ≤ asked.end + 1 - asked.start = omega arith in
     let first : c.create_cursor-end.result.position ≡ asked.start =
     c.create_cursor-end.ensures.0 ∙ c.start.ensures.value in
-    let all : (t : Tree) → adjoining c.create_cursor-end.result.position (left_of c.new-walk.result t) ≡ tokens asked t =
+    let all : (t : Tree) → adjoining c.create_cursor-end.result.position (left_of c.new-walk.result t) ≡ token_matches asked t =
     λ t. ap (adjoining c.create_cursor-end.result.position)
     (walk_all c.new-walk.result t c.new-walk.ensures.open ∙ ap (λ r. walk (asked_of r) t) c.new-walk.ensures.req)
     ∙ ap (λ (p : ℕ). adjoining p (walk asked t)) first
@@ -75,11 +75,11 @@ walk-preserved-then-position-2 g c =
       at = span.to.0 ∙ sym gives.0.request.start;
       left = λ t tree.
           tokens_step text c.walk.tokens.items c.push.new.list.items token found (left_of before t) (left_of after t) c.walk.end.position
-          c.in-Some.span.end.position (map (lexeme_of text) (tokens (asked_of c.args.req) t))
+          c.in-Some.span.end.position (map (lexeme_of text) (token_matches (asked_of c.args.req) t))
           c.in_ok-push.ensures.items (walk_step before after words t gives.0 kept.words tree) there more span.to.0 shown
           (c.walk.invariant.left t tree);
       end = λ t tree.
           reached_step found (left_of before t) (left_of after t) c.walk.end.position c.in-Some.span.end.position
-          (reached (start_of c.args.req) (tokens (asked_of c.args.req) t))
+          (reached (start_of c.args.req) (token_matches (asked_of c.args.req) t))
           (walk_step before after words t gives.0 kept.words tree) there more span.to.0 (c.walk.invariant.end t tree);
     }

@@ -1,4 +1,4 @@
-use Rattle.std.proofs.Common.{rules, refl, ◌≡◌, ◌≤◌, ◌++◌, ℕ, List, Bor, ap, sym, ◌∙◌, subst, arith}
+use Rattle.std.proofs.Common.{rules, refl, ◌≡◌, ◌++◌, ℕ, List, Bor, ap, sym, ◌∙◌, subst}
 use Rattle.std.specs.Str.{chars, IsUtf8}
 use Rattle.std.specs.List.{slice_range}
 use Rattle.std.proofs.lemmas.Str.{chars-nil, IsUtf8-nil}

@@ -1,4 +1,4 @@
-use Rattle.std.proofs.Common.{◌≡◌, ◌-◌, ◌≤◌}
+use Rattle.std.proofs.Common.{◌-◌, ◌≤◌}
 use Rattle.sre_chars.specs.Texts.{StandsInText}
 use Rattle.sre_recipes.proofs.slice.moved_to.Given as goal
 
