@@ -138,7 +138,8 @@ tokens_advance n b t p inside later = by_match (either (found (asked_from b p tr
     by_place m some (inl start) =
         let least = found-least (asked_from b p true) t m some in
         let is = found-is (asked_from b p true) t m some in
-        let here : token_at b t p ≡ Some m = subst (λ (q : ℕ). at_start (asked_from b p true) t q ≡ Some m) start least.here
+        let here : token_at b t p ≡ Some m =
+        subst (λ (q : ℕ). at_start (asked_from b p true) t q ≡ Some m) start least.here
         in
         let advances = (and_parts (not b.match_all || nat_eq m.end b.end) (not (nat_eq m.end p)) is.accepted).1 in
         let more : p < m.end = grind (arith, nat_tests) in

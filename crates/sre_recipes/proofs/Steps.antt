@@ -1,5 +1,6 @@
 -- What a step over a match leaves to come, and what it adds to what is kept.
-use Rattle.std.proofs.Common.{◌≡◌, ◌≤◌, ℕ, false, cond, Bor, List, [], ◌∷◌, ◌++◌, map, ap, sym, ◌∙◌, subst, append_assoc}
+use Rattle.std.proofs.Common.{◌≡◌, ◌≤◌, ℕ, false, cond, Bor, List, [], ◌∷◌, ◌++◌, map, ap, sym, ◌∙◌, subst}
+use Rattle.std.proofs.Common.{append_assoc}
 use Rattle.std.proofs.lemmas.List.{map-append}
 use Rattle.std.specs.List.{slice_range}
 use Rattle.std.specs.Str.{chars}

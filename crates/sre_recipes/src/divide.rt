@@ -16,7 +16,11 @@ use sre_engine::{Request, SearchIter, SreError, State, StrDrive};
 use std::alloc::Allocator;
 
 /// The pieces of a window between its matches, as Python's `split` gives them for a pattern without groups: one more
-/// than there are matches, empty ones and those of empty matches among them.
+/// than there are matches, empty ones among them. An empty match divides, too.
+///
+/// # Errors
+///
+/// [`SreError::Memory`], where a growth was refused.
 pub fn split<'t, A: Allocator + Copy>(
     alloc: A,
     req: Request<'_, &'t str>,

@@ -18,6 +18,10 @@ use sre_engine::{Request, SearchIter, SreError, State};
 use std::alloc::Allocator;
 
 /// The texts of all matches of a window, in order, as Python's `findall` gives them for a pattern without groups.
+///
+/// # Errors
+///
+/// [`SreError::Memory`], where a growth was refused.
 pub fn find_all<'t, A: Allocator + Copy>(
     alloc: A,
     req: Request<'_, &'t str>,
@@ -36,7 +40,11 @@ pub fn find_all<'t, A: Allocator + Copy>(
     Ok(all)
 }
 
-/// Matches at the window's start: the text of the match, which the state then shows.
+/// Matches at the window's start, as `State::pymatch`: the text of the match, which the state then shows.
+///
+/// # Errors
+///
+/// [`SreError::Memory`], where a growth was refused.
 pub fn match_text<'t, A: Allocator + Copy>(
     req: &Request<'_, &'t str>,
     state: &mut State<A>,
@@ -57,7 +65,11 @@ pub fn match_text<'t, A: Allocator + Copy>(
     Ok(Some(matched_text(req.string(), state)))
 }
 
-/// Searches the window: the text of the match of the least start, which the state then shows.
+/// Searches the window, as `State::search`: the text of the match of the least start, which the state then shows.
+///
+/// # Errors
+///
+/// [`SreError::Memory`], where a growth was refused.
 pub fn search_text<'t, A: Allocator + Copy>(
     req: Request<'_, &'t str>,
     state: &mut State<A>,

@@ -29,18 +29,23 @@ pub struct Tokens<'t, A: Allocator> {
     pub end: StringCursor,
 }
 
-/// The tokens that a window begins with: each begins where the one before ends, and none is empty. They are all of the
-/// window exactly where `end` stands at its end; else no token begins at `end`.
+/// The tokens that a window begins with: each is the first match that is not empty where the one before ends, as
+/// Python's `match` finds it there. No token begins where `end` stands; they are the whole window exactly where that is
+/// the window's end.
 ///
-/// The code is a branch of groups, one for each kind of token.
+/// The code is a branch of groups, one for each kind of token. The search for a token that is not there goes on to the
+/// next match in the window.
+///
+/// # Errors
+///
+/// [`SreError::Memory`], where a growth was refused.
 pub fn tokens_of<'t, A: Allocator + Copy>(
     alloc: A,
     req: Request<'_, &'t str>,
 ) -> Result<Tokens<'t, A>, SreError>
     ensures ok { (t : Tree) → Whole (words_of (code_of req.entry)) t → IfOk result (λ all.
         map lexeme_shown all.tokens.items
-        ≡ map (lexeme_of (chars (string_of req.entry).now))
-        (token_matches (asked_of req.entry) t)) }
+        ≡ map (lexeme_of (chars (string_of req.entry).now)) (token_matches (asked_of req.entry) t)) }
     ensures end { (t : Tree) → Whole (words_of (code_of req.entry)) t → IfOk result (λ all.
         StandsInText (string_of req.entry).now all.end
         (reached (start_of req.entry) (token_matches (asked_of req.entry) t))) }

@@ -1,5 +1,20 @@
-//! What is written first over a regex engine: the text of a match and of its groups, all matches, the pieces between
-//! them, their replacement, and tokens.
+//! What is written first over a regex engine: the text of a match and of its groups, the texts of all matches, the
+//! pieces between them, a text with its matches replaced, and tokens.
+//!
+//! All of them are slices of the text that was asked, but for what is replaced. No call walks from the text's start for
+//! each match: a match's text is reached from the cursor at its end.
+//!
+//! ```
+//! // The words of `(a)|b`.
+//! let uni = UniTable::ascii(alloc);
+//! let words = [7, 9, 17, 0, 16, 97, 17, 1, 15, 7, 5, 16, 98, 15, 2, 0, 1];
+//! let code = Code::check(alloc, &words, &uni)?;
+//! let whole = Request::new("xaéb", 0, usize::MAX, code, false);
+//! assert!(find_all(alloc, whole)?.as_slice() == ["a", "b"].as_slice());
+//! assert!(split(alloc, whole)?.as_slice() == ["x", "é", ""].as_slice());
+//! let template = [Piece::Text("<"), Piece::Group(0), Piece::Text(">")];
+//! assert!(replace_all(alloc, whole, &template)?.as_str() == "x<a>é<>");
+//! ```
 #![tactic(auto)]
 
 mod divide;

@@ -25,7 +25,7 @@ pub enum Piece<'a> {
     Text(&'a str),
     /// The match.
     Match,
-    /// A group, counted from 0; nothing where it took no part.
+    /// A group, counted from 0 as `Marks::get` counts; nothing where it took no part.
     Group(usize),
 }
 
@@ -82,7 +82,8 @@ fn append_replacement<A: Allocator + Copy>(
     requires span { IsSpan text.now state.now span.now.start span.now.end }
     requires utf8 { IsUtf8 output.old.items }
     ensures ok { IfOk result (λ _.
-        chars output.new.items ≡ chars output.old.items ++ written (chars text.now) template.now (match_shown state.now)) }
+        chars output.new.items
+        ≡ chars output.old.items ++ written (chars text.now) template.now (match_shown state.now)) }
     ensures utf8 { IfOk result (λ _. IsUtf8 output.new.items) }
     ensures refused { OnErr result Refused }
 {
@@ -92,7 +93,12 @@ fn append_replacement<A: Allocator + Copy>(
     Ok(())
 }
 
-/// A window of a text in which each match is replaced by what a template makes of it, as Python's `sub` replaces.
+/// The text of a window in which each match is replaced by what a template makes of it, as Python's `sub` replaces:
+/// empty matches, too.
+///
+/// # Errors
+///
+/// [`SreError::Memory`], where a growth was refused.
 pub fn replace_all<A: Allocator + Copy>(
     alloc: A,
     req: Request<'_, &str>,

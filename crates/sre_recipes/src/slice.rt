@@ -50,7 +50,8 @@ fn moved_to(text: &str, from: &StringCursor, position: usize) -> Option<StringCu
     Some(cursor)
 }
 
-/// The text of the match that a state shows.
+/// The text of the match that a state shows. `search_text` and `match_text` leave such a state, and so does a walk with
+/// each match; the text is the one that was asked.
 pub fn matched_text<'t, A: Allocator + Copy>(text: &'t str, state: &State<A>) -> &'t str
     requires stands { StandsInText text.now state.now.cursor state.now.cursor.position }
     requires forward { state.now.start ≤ state.now.cursor.position }
@@ -62,7 +63,8 @@ pub fn matched_text<'t, A: Allocator + Copy>(text: &'t str, state: &State<A>) ->
     between(text, &start, &end)
 }
 
-/// The text of group `group` of the match that a state shows, counted from 0: `None` where it took no part.
+/// The text of group `group` of the match that a state shows, counted from 0 as `Marks::get` counts: `None` where it
+/// took no part. A group of a look may lie before the match, or behind it.
 pub fn group_text<'t, A: Allocator + Copy>(
     text: &'t str,
     state: &State<A>,

@@ -1,4 +1,5 @@
-use Rattle.std.proofs.Common.{rules, ◌≡◌, ◌<◌, ◌≤◌, ◌+◌, ◌-◌, ℕ, List, Bor, map, refl, ap, sym, ◌∙◌, subst, arith, w64, to_z, of_z}
+use Rattle.std.proofs.Common.{rules, ◌≡◌, ◌<◌, ◌≤◌, ◌+◌, ◌-◌, ℕ, List, Bor, map, refl, ap, sym, ◌∙◌, subst, arith}
+use Rattle.std.proofs.Common.{w64, to_z, of_z}
 use Rattle.std.specs.Str.{chars}
 use Rattle.std.specs.List.{slice_range}
 use Rattle.sre_engine.specs.Tree.{Tree}
@@ -23,7 +24,8 @@ walk-init g c =
     let few : asked.end + 1 - asked.start ≤ asked.end + 1 - asked.start = omega arith in
     let first : c.create_cursor-end.result.position ≡ asked.start =
     c.create_cursor-end.ensures.0 ∙ c.start.ensures.value in
-    let all : (t : Tree) → adjoining c.create_cursor-end.result.position (left_of c.new-walk.result t) ≡ token_matches asked t =
+    let all : (t : Tree)
+    → adjoining c.create_cursor-end.result.position (left_of c.new-walk.result t) ≡ token_matches asked t =
     λ t. ap (adjoining c.create_cursor-end.result.position)
     (walk_all c.new-walk.result t c.new-walk.ensures.open ∙ ap (λ r. walk (asked_of r) t) c.new-walk.ensures.req)
     ∙ ap (λ (p : ℕ). adjoining p (walk asked t)) first
@@ -74,7 +76,8 @@ walk-preserved-then-position-2 g c =
       stands = (refl, span.to.1 ∙ ap (offset_of whole.now) (sym span.to.0), rw span.to.0 span.to.2);
       at = span.to.0 ∙ sym gives.0.request.start;
       left = λ t tree.
-          tokens_step text c.walk.tokens.items c.push.new.list.items token found (left_of before t) (left_of after t) c.walk.end.position
+          tokens_step text c.walk.tokens.items c.push.new.list.items token found (left_of before t) (left_of after t)
+          c.walk.end.position
           c.in-Some.span.end.position (map (lexeme_of text) (token_matches (asked_of c.args.req) t))
           c.in_ok-push.ensures.items (walk_step before after words t gives.0 kept.words tree) there more span.to.0 shown
           (c.walk.invariant.left t tree);

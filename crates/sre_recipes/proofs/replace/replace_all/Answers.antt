@@ -56,7 +56,8 @@ walk-preserved g c =
       left = λ t tree.
           replaced_step text new (chars c.walk.output.items) (chars c.append_replacement.new.output.items) found
           (left_of before t) (left_of after t) (start_of (request_of before)) (start_of (request_of after))
-          (end_of c.args.req) (replaced text new (start_of c.args.req) (end_of c.args.req) (walk (asked_of c.args.req) t))
+          (end_of c.args.req)
+          (replaced text new (start_of c.args.req) (end_of c.args.req) (walk (asked_of c.args.req) t))
           (walk_step before after words t gives.0 kept.words tree) gives.0.request.start
           (put ∙ ap (λ (cs : List ℕ). cs ++ new found) between) (c.walk.invariant.left t tree);
     }
@@ -74,7 +75,8 @@ returns-clause-ok g c = λ t tree.
     ∙ ap (λ (p : ℕ). slice_range text p c.end-stop.result) c.walk.invariant.stands.0
     ∙ ap (slice_range text start) c.end-stop.ensures.value in
     let none = walk_over before words t over c.walk.invariant.kept.words tree in
-    let kept = ap (λ (l : List Match). chars c.walk.output.items ++ replaced text new start (end_of c.args.req) l) (sym none)
+    let kept = ap (λ (l : List Match). chars c.walk.output.items ++ replaced text new start (end_of c.args.req) l)
+    (sym none)
     ∙ c.walk.invariant.left t tree in
     let made = rw c.unwrap.ensures at c.from_utf8.ensures.ok in
     ap (λ v. chars v.items) made

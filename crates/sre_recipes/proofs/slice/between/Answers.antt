@@ -13,7 +13,8 @@ range-requires-clause-start_le_end c =
     (offset_order c.args.text.now c.args.start.now.position c.args.end.now.position c.requires.forward)
 
 pub range-requires-clause-start_boundary : goal.range-requires-clause-start_boundary
-range-requires-clause-start_boundary c = λ _. rw (c.offset.ensures, c.requires.start.1) (offset_boundary _ _ c.utf8.text)
+range-requires-clause-start_boundary c =
+    λ _. rw (c.offset.ensures, c.requires.start.1) (offset_boundary _ _ c.utf8.text)
 
 pub range-requires-clause-end_boundary : goal.range-requires-clause-end_boundary
 range-requires-clause-end_boundary c = rw (c.offset-2.ensures, c.requires.end.1) (offset_boundary _ _ c.utf8.text)
