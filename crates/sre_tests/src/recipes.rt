@@ -1,6 +1,6 @@
 //! The recipes over words that CPython 3.11 made; its `re` gave each answer.
 
-use sre_engine::{Code, Request, SreError, State, UniTable};
+use sre_engine::{Code, Request, SearchIter, SreError, State, UniTable};
 use sre_failing_allocator::Refusing;
 use sre_recipes::{
     Piece, Token, find_all, group_text, match_text, matched_text, replace_all, search_text, split,
@@ -315,6 +315,21 @@ fn a_match_at_the_start_has_its_text(rt: HostRuntime) -> Result<(), Fail> {
     }
     let before = Request::new(text, 1, 4, code, false);
     assert!(rt; match_text(&before, &mut state)? == None);
+    Ok(())
+}
+
+#[test]
+fn a_walk_shows_texts(rt: HostRuntime) -> Result<(), Fail> {
+    let uni = UniTable::ascii(rt.alloc());
+    let code = Code::check(rt.alloc(), BETWEEN, &uni)?;
+    let whole = Request::new("éb€éb€b", 0, usize::MAX, code, false);
+    let mut walk = SearchIter::new(whole, State::new(rt.alloc()));
+    'walk: while let Some(item) = walk.next() {
+        item?;
+        let text = walk.req().string();
+        assert!(rt; matched_text(text, walk.state()) == "b");
+        assert!(rt; group_text(text, walk.state(), 0) == Some("é"));
+    }
     Ok(())
 }
 
