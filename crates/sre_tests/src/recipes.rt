@@ -333,6 +333,21 @@ fn a_walk_shows_texts(rt: HostRuntime) -> Result<(), Fail> {
     Ok(())
 }
 
+// The example at the crate's root.
+#[test]
+fn the_example_at_the_root_runs(rt: HostRuntime) -> Result<(), Fail> {
+    let alloc = rt.alloc();
+    let uni = UniTable::ascii(alloc);
+    let words = [7, 9, 17, 0, 16, 97, 17, 1, 15, 7, 5, 16, 98, 15, 2, 0, 1];
+    let code = Code::check(alloc, &words, &uni)?;
+    let whole = Request::new("xaéb", 0, usize::MAX, code, false);
+    assert!(rt; find_all(alloc, whole)?.as_slice() == ["a", "b"].as_slice());
+    assert!(rt; split(alloc, whole)?.as_slice() == ["x", "é", ""].as_slice());
+    let template = [Piece::Text("<"), Piece::Group(0), Piece::Text(">")];
+    assert!(rt; replace_all(alloc, whole, &template)?.as_str() == "x<a>é<>");
+    Ok(())
+}
+
 // Which recipe is asked.
 #[derive(Clone, Copy)]
 enum Recipe {
