@@ -1,6 +1,8 @@
 -- The innermost region among the choices of a board, and what is left when it ends.
 use Rattle.std.proofs.Common.{◌≡◌, ℕ, ◌+◌, ◌-◌, ◌<◌, ◌≤◌, ◌⊎◌, inl, inr, List, [], ◌∷◌, length, map, reverse, take}
-use Rattle.std.proofs.Common.{slice_index_or, refl, sym, ap, ◌∙◌, subst, arith}
+use Rattle.std.proofs.Common.{slice_index_or, refl, sym, ap, ◌∙◌, subst, arith, Bool, true, false, not, nat_eq}
+use Rattle.std.proofs.lemmas.Bool.Decides.{nat_tests}
+use Rattle.sre_turns.specs.Fruit.{is_inside}
 use Rattle.std.proofs.lemmas.List.{get_or-take, length-take-le}
 use Rattle.sre_model.specs.Marks.{Marks, no_marks}
 use Rattle.sre_board.specs.Trail.{Trail, states}
@@ -150,3 +152,40 @@ cut_invariant old new s g chains chains' c n es d f ec en =
       fits-more (reverse new) (s.chains + 1) (length chains') s.changes c (omega arith) fits.1 fits.3,
       omega (arith, down_counts (reverse old) s (reverse new) d, one),
     )
+
+-- whether there is one among them
+abbrev there_is : List Choice → Bool
+there_is cs = elim cs [ [] ↦ false | (c ∷ rest) ↦ true ]
+
+not_inside : (cs : List Choice) → from_region cs ≡ [] → is_inside cs ≡ false
+not_inside cs e = ap (λ (x : List Choice). there_is x) e
+
+really_inside : (cs : List Choice) (x : Choice) (rest : List Choice) → from_region cs ≡ x ∷ rest → is_inside cs ≡ true
+really_inside cs x rest e = ap (λ (x : List Choice). there_is x) e
+
+-- a board is inside a region where it counts one
+pub inside_law : (b : BoardValue) (t : Trail) (chains : Table) (frame : ℕ) (saved : List Saved) (n : ℕ)
+    → board_of t chains frame saved ≡ b → n ≡ regions_in (reverse saved) → not (nat_eq n 0) ≡ is_inside b.choices
+inside_law b t chains frame saved n e is = go (down_to_region (reverse saved)) refl
+  where
+    was : from_region b.choices ≡ chosen chains (states t) (down_to_region (reverse saved))
+    was =
+        ap (λ (x : BoardValue). from_region x.choices) (sym e) ∙ from_down chains (states t) (reverse saved)
+
+    go : (ss : List Saved) → down_to_region (reverse saved) ≡ ss → not (nat_eq n 0) ≡ is_inside b.choices
+    go [] d =
+        let zero : n ≡ 0 = is ∙ none_in (reverse saved) d in
+        let none : from_region b.choices ≡ [] = was ∙ ap (λ (x : List Saved). chosen chains (states t) x) d in
+        rw zero (sym (not_inside b.choices none))
+    go (s ∷ ss) d =
+        let some : from_region b.choices ≡ choice_of chains (states t) s ∷ chosen chains (states t) ss =
+        was ∙ ap (λ (x : List Saved). chosen chains (states t) x) d in
+        let counted : nat_eq n 0 ≡ false = by_test (nat_eq n 0) refl in
+        rw counted (sym (really_inside b.choices _ _ some))
+      where
+        by_test : (c : Bool) → nat_eq n 0 ≡ c → nat_eq n 0 ≡ false
+        by_test false f = f
+        by_test true f =
+            let zero : n ≡ 0 = grind (arith, nat_tests) in
+            let none : down_to_region (reverse saved) ≡ [] = none_there (reverse saved) (sym is ∙ zero) in
+            absurd (cc)

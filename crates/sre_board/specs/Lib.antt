@@ -1,3 +1,4 @@
 pub mod Chains
 pub mod Trail
 pub mod Choices
+pub mod Failures

@@ -3,9 +3,10 @@
 //! Its value has frames, marks and choices as if each choice held its own. In memory all choices share one trail and
 //! one table of chains, and a chain is forgotten as soon as no choice can come back to it.
 
-ghost use Rattle.std.specs.Prelude.{◌≡◌, ℕ, ◌<◌, [], ◌∷◌, drop, length, reverse, IfOk, MatchOption};
+ghost use Rattle.std.specs.Prelude.{◌≡◌, ℕ, ◌<◌, [], ◌∷◌, drop, length, reverse, IfOk, MatchOption, slice_index_or};
 ghost use Rattle.sre_model.specs.Marks.{no_marks, set_mark, group};
 ghost use Rattle.sre_turns.specs.Board.{Keep, choice, from_region, Cuts, bare};
+ghost use Rattle.sre_turns.specs.Fruit.{is_inside};
 ghost use Rattle.sre_turns.specs.declared.Point.TheVariants.{Inside};
 ghost use Rattle.sre_board.specs.Choices.{Fits, regions_of, down_to_region};
 
@@ -134,6 +135,23 @@ impl<A: Allocator> Board<A> {
             (Some(start), Some(end)) if start <= end => Some((start, end)),
             _ => None,
         }
+    }
+
+    /// Whether the board is inside a region.
+    #[inline(always)]
+    pub fn is_inside(&self) -> bool
+        ensures { result ≡ is_inside self.now.choices }
+    {
+        self.regions != 0
+    }
+
+    /// The chains, and the number of the one that is the loops in progress.
+    #[inline(always)]
+    pub(crate) fn loops(&self) -> (&Chains<A>, usize)
+        ensures there { result.1 < length result.0.now }
+        ensures frames { slice_index_or result.0.now result.1 [] ≡ self.now.frames }
+    {
+        (&self.chains, self.frame)
     }
 
     /// Takes all away; the memory is kept.

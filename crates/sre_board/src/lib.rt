@@ -7,8 +7,10 @@
 
 mod board;
 mod chains;
+mod failures;
 mod marks;
 mod trail;
 
 pub use board::{Board, Saved};
+pub use failures::Failures;
 pub use marks::{Change, Marks};

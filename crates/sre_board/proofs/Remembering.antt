@@ -1,0 +1,68 @@
+-- What is remembered of the spots of which nothing came.
+use Rattle.std.proofs.Common.{◌≡◌, ℕ, ◌+◌, ◌⊎◌, inl, inr, Bool, List, [], ◌∷◌, refl, sym, ap, ◌∙◌, subst, arith}
+use Rattle.sre_model.specs.Grammar.{Word}
+use Rattle.sre_model.specs.Runs.{Run}
+use Rattle.sre_turns.specs.Alike.{FramesAlike, LoopsAlike, Alike, least_from}
+use Rattle.sre_turns.specs.Hopeless.{Hopeless}
+use Rattle.sre_turns.specs.Moves.{Spot}
+use Rattle.sre_turns.specs.declared.Frame.{Frame}
+use Rattle.sre_turns.specs.declared.Point.{Point}
+use Rattle.sre_board.specs.Failures.{Kept, Holds, HoldsNone, HoldsNoMore, HoldsOneMore, Remembers}
+
+frames_onward : (ws : List ℕ) (p : ℕ) (f g h : Frame) → FramesAlike ws p f g → FramesAlike ws p g h
+    → FramesAlike ws p f h
+frames_onward ws p f g h a b = record {
+  repeat = a.repeat ∙ b.repeat;
+  count = λ low high el eh.
+      a.count low high el eh
+      ∙ b.count low high (subst (λ q. Word ws (q + 2) low) a.repeat el) (subst (λ q. Word ws (q + 3) high) a.repeat eh);
+  last = λ q le. a.last q le ∙ b.last q le;
+}
+
+loops_onward : (ws : List ℕ) (p : ℕ) (fs gs hs : List Frame) → LoopsAlike ws p fs gs → LoopsAlike ws p gs hs
+    → LoopsAlike ws p fs hs
+loops_onward ws p [] [] hs a b = b
+loops_onward ws p [] (g ∷ gs) hs a b = absurd a
+loops_onward ws p (f ∷ fs) [] hs a b = absurd a
+loops_onward ws p (f ∷ fs) (g ∷ gs) [] a b = absurd b
+loops_onward ws p (f ∷ fs) (g ∷ gs) (h ∷ hs) a b =
+    (frames_onward ws p f g h a.0 b.0, loops_onward ws p fs gs hs a.1 b.1)
+
+-- alike to one that is alike
+pub alike_onward : (ws : List ℕ) (x y z : Spot) → Alike ws x y → Alike ws y z → Alike ws x z
+alike_onward ws x y z a b =
+    let from : least_from y.point y.position ≡ least_from x.point x.position =
+    ap (λ (pt : Point). least_from pt y.position) (sym a.point)
+    ∙ ap (λ p. least_from x.point p) (sym a.position) in
+    record {
+      point = a.point ∙ b.point;
+      position = a.position ∙ b.position;
+      loops =
+          loops_onward ws (least_from x.point x.position) x.frames y.frames z.frames a.loops
+          (subst (λ p. LoopsAlike ws p y.frames z.frames) from b.loops);
+    }
+
+-- nothing comes of what is alike to a hopeless spot
+pub hopeless_alike : (r : Run) (inside : Bool) (x y : Spot) → Alike r.words x y → Hopeless r inside x
+    → Hopeless r inside y
+hopeless_alike r inside x y a h = record {
+  none = λ z os n b d. h.none z os n (alike_onward r.words x y z a b) d;
+}
+
+-- where no spot is kept, none is kept that is not hopeless
+pub remembers_none : (r : Run) (k : Kept) → HoldsNone k → Remembers r k
+remembers_none r k none = λ inside x held. absurd (none r.words inside x held)
+
+-- where no more are kept, all are still hopeless
+pub remembers_still : (r : Run) (old new : Kept) → HoldsNoMore old new → Remembers r old → Remembers r new
+remembers_still r old new fewer was = λ inside x held. was inside x (fewer r.words inside x held)
+
+-- a hopeless spot may be kept
+pub remembers_more : (r : Run) (inside : Bool) (x : Spot) (old new : Kept) → HoldsOneMore r.words inside x old new
+    → Hopeless r inside x → Remembers r old → Remembers r new
+remembers_more r inside x old new more hopeless was = λ other y held.
+    elim (more other y held) [
+      | inl before ↦ was other y before
+      | inr one ↦
+          subst (λ (b : Bool). Hopeless r b y) (sym one.0) (hopeless_alike r inside x y one.1 hopeless)
+    ]
