@@ -4,3 +4,4 @@ pub mod Choosing
 pub mod InnermostRegion
 pub mod AlikeBySlot
 pub mod Remembering
+pub mod KeptSpots
