@@ -4,9 +4,9 @@ use Rattle.std.proofs.Common.{Bool, List, [], ◌∷◌, ◌++◌, length, repli
 use Rattle.std.proofs.Common.{slice_set, get_or, refl, sym, ap, ◌∙◌, subst, arith, w64, length-append}
 use Rattle.std.specs.Prelude.{bit_or}
 use Rattle.std.specs.Int.{bit_at}
-use Rattle.std.proofs.lemmas.Bool.{cases_order, cases_eq, cases_lt}
+use Rattle.std.proofs.lemmas.Bool.{cases_order, cases_eq}
 use Rattle.std.proofs.lemmas.List.{get_or-set_same, get_or-set_other, get_or_append_left, get_or-append_right}
-use Rattle.std.proofs.lemmas.List.{length-replicate, length-set, get_or_past, get_or-replicate}
+use Rattle.std.proofs.lemmas.List.{length-replicate, length-set, get_or_read}
 use Rattle.std.proofs.lemmas.Nat.{same_from_place}
 use Rattle.std.proofs.lemmas.Nat.Bits.{bit_at_set_other, bit_at-zero}
 use Rattle.sre_turns.specs.Alike.{LoopsAlike, Alike, least_from}
@@ -14,8 +14,9 @@ use Rattle.sre_turns.specs.Moves.{Spot}
 use Rattle.sre_turns.specs.declared.Frame.{Frame}
 use Rattle.sre_turns.specs.declared.Point.{Point}
 use Rattle.sre_turns.specs.declared.Point.TheVariants.{Instruction}
-use Rattle.sre_board.specs.Failures.{Kept, Entry, Holds, HoldsNone, HoldsNoMore, HoldsOneMore, HasSlot, Laid, radix, digit}
+use Rattle.sre_board.specs.Failures.{Kept, kept_of, Entry, Holds, HoldsNone, HoldsNoMore, HoldsOneMore, HasSlot, Laid, radix, digit}
 use Rattle.sre_board.specs.declared.failures.Row.{Row}
+use Rattle.sre_board.proofs.ChainLaws.{get_some}
 use Rattle.sre_board.proofs.AlikeBySlot.{one_if, same_pair, slot_length, loops_alike}
 
 same_row : (k : Kept) (m n : ℕ) (r s : Row) (i j at : ℕ) → Laid k → slice_get k.rows m ≡ Some r
@@ -122,14 +123,6 @@ kept_more k ws inside x at bit laid small there e = λ other y held.
             })
       ]
     ]
-
-pub laid_kept : (k : Kept) (at bit : ℕ) → Laid k → Laid (with_bit k at bit)
-laid_kept k at bit laid =
-    let same = length-set k.bits at (bit_or (get_or k.bits at 0) ((1 * 2 ^ bit) % 2 ^ 64)) in
-    record {
-      within = λ n r e. (omega (arith, same, (laid.within n r e).0), (laid.within n r e).1);
-      apart = laid.apart;
-    }
 
 -- the word of a longer list, before its end
 get_before : (xs ys : List ℕ) (i : ℕ) → i < length xs → slice_get (xs ++ ys) i ≡ slice_get xs i
@@ -298,3 +291,34 @@ module _ (k : Kept) (row : Row) (n : ℕ) (laid : Laid k) (base : row.base ≡ l
             let far : length k.bits ≤ h.at = omega (arith, base, ap (λ (r : Row). r.base) g.1, e.at_is) in
             absurd (bits_after k.bits n h.at h.bit far h.is_set)
       ]
+
+-- the same, as the bits are written
+pub kept_written : (k : Kept) (rows : List Row) (shapes bits : List ℕ) (ws : List ℕ) (inside : Bool) (x : Spot)
+    (at bit v : ℕ) → kept_of rows shapes bits ≡ k → Laid (kept_of rows shapes bits) → bit < 64 → at < length k.bits
+    → Entry k ws inside x at bit → v ≡ get_or bits at v
+    → HoldsOneMore ws inside x k (kept_of rows shapes (slice_set bits at (bit_or v ((1 * 2 ^ bit) % 2 ^ 64))))
+kept_written k rows shapes bits ws inside x at bit v is laid small there e ev =
+    let room : at < length bits = omega (arith, there, ap (λ (y : Kept). length y.bits) is) in
+    let read : v ≡ get_or bits at 0 = get_or_read bits at v room ev 0 in
+    let entry : Entry (kept_of rows shapes bits) ws inside x at bit =
+    subst (λ (y : Kept). Entry y ws inside x at bit) (sym is) e in
+    let more = kept_more (kept_of rows shapes bits) ws inside x at bit laid small room entry in
+    subst
+        (λ (y : Kept). HoldsOneMore ws inside x y
+        (kept_of rows shapes (slice_set bits at (bit_or v ((1 * 2 ^ bit) % 2 ^ 64))))) is
+        (rw read more)
+
+pub laid_written : (rows : List Row) (shapes bits : List ℕ) (at v : ℕ) → Laid (kept_of rows shapes bits)
+    → Laid (kept_of rows shapes (slice_set bits at v))
+laid_written rows shapes bits at v laid =
+    let same = length-set bits at v in
+    record {
+      within = λ n r e. (omega (arith, same, (laid.within n r e).0), (laid.within n r e).1);
+      apart = laid.apart;
+    }
+
+-- the row of a number
+pub row_at : (k : Kept) (rows : List Row) (shapes bits : List ℕ) (n : ℕ) (r : Row) → kept_of rows shapes bits ≡ k
+    → n < length rows → r ≡ get_or rows n r → slice_get k.rows n ≡ Some r
+row_at k rows shapes bits n r is h e =
+    ap (λ (y : Kept). slice_get y.rows n) (sym is) ∙ get_some rows n r h ∙ ap (λ (x : Row). Some x) (sym e)

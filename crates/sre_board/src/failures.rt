@@ -1,7 +1,8 @@
 //! The spots of which nothing came, kept so that one that is alike is left at once.
 
-ghost use Rattle.std.specs.Prelude.{◌≡◌, ℕ, ◌+◌, ◌*◌, ◌<◌, ◌≤◌, ⊤, true, cond, length, MatchOption, Some, None, IfOk};
+ghost use Rattle.std.specs.Prelude.{◌≡◌, ℕ, ◌+◌, ◌*◌, ◌<◌, ◌≤◌, ⊤, true, cond, length, IfSome, Some, None, IfOk, ◌^◌};
 ghost use Rattle.std.specs.Prelude.{slice_get, slice_index_or, [], ◌++◌, replicate};
+ghost use Rattle.sre_turns.specs.Alike.{is_last};
 ghost use Rattle.sre_turns.specs.Fruit.{is_inside};
 ghost use Rattle.sre_turns.specs.Moves.{spot_at};
 ghost use Rattle.sre_turns.specs.declared.Point.TheVariants.{Instruction};
@@ -48,6 +49,94 @@ impl<A: Allocator> Model for Failures<A> {
     ghost invariant = { λ f. Laid (kept_of f.rows.items f.shapes.items f.bits.items) };
 }
 
+// Where a bit stands: the word, and its number within the word.
+#[derive(Clone, Copy)]
+struct Bit {
+    word: usize,
+    number: u32,
+}
+
+// A place has at most so many numbers of loops.
+const MOST_SLOTS: usize = 4096;
+
+// Up to which number the bodies of the loop at a place are counted, if its words are there.
+#[inline(always)]
+fn counted_at(words: &[u32], repeat: usize) -> Option<usize>
+    ensures { IfSome result (λ n. (n ≡ counted_at words.now repeat) × (n < 2 ^ 32)) }
+{
+    if words.len() < 4 || repeat > words.len() - 4 {
+        return None;
+    }
+    let low = words[repeat + 2];
+    let high = words[repeat + 3];
+    if high == u32::MAX {
+        return Some(low as usize);
+    }
+    Some(low.max(high) as usize)
+}
+
+// Whether a loop's last body began at a position; none where it began behind it.
+#[inline(always)]
+fn is_here(last: Option<usize>, position: usize) -> Option<bool>
+    ensures { IfSome result (λ here. IsPassed last position × (here ≡ is_last last position)) }
+{
+    match last {
+        None => Some(false),
+        Some(last) if last > position => None,
+        Some(last) => Some(last == position),
+    }
+}
+
+// The number of the inner loops with that of one loop more, if there is one that is not too great.
+#[inline(always)]
+fn with_loop(words: &[u32], frame: Frame, position: usize, slot: usize) -> Option<usize>
+    requires { slot < 4096 }
+    ensures { IfSome result (λ n. (n < 4096) × IsPassed frame.last position
+        × (n ≡ slot * radix words.now frame.repeat + digit words.now position frame)) }
+{
+    let counted = counted_at(words, frame.repeat)?;
+    let here = is_here(frame.last, position)?;
+    let count = counted.min(frame.count as usize);
+    let inner = slot * ((counted + 1) * 2);
+    let next = inner + (count * 2 + if here { 1 } else { 0 });
+    if next >= MOST_SLOTS {
+        return None;
+    }
+    Some(next)
+}
+
+// The number of the loops in progress, if they are those of the shape that stands from `shape` to `end`.
+#[inline(always)]
+fn slot_of<A: Allocator>(
+    words: &[u32],
+    shapes: &[usize],
+    row: Row,
+    chains: &Chains<A>,
+    innermost: usize,
+    position: usize,
+) -> Option<usize>
+    requires { innermost < length chains.now }
+    ensures { IfSome result (λ slot. (slot < 4096) × HasSlot words.now position shapes.now row.end row.shape 0
+        (slice_index_or chains.now innermost []) slot) }
+{
+    let mut id = innermost;
+    let mut at = row.shape;
+    let mut slot = 0;
+    'walk: while !chains.is_empty(id) {
+        let node = chains.node(id);
+        if at >= shapes.len() || shapes[at] != node.repeat {
+            return None;
+        }
+        slot = with_loop(words, frame_of(node), position, slot)?;
+        at += 1;
+        id = node.parent;
+    }
+    if at != row.end {
+        return None;
+    }
+    Some(slot)
+}
+
 impl<A: Allocator + Copy> Failures<A> {
     /// No spots. It takes no memory.
     #[inline(always)]
@@ -72,5 +161,72 @@ impl<A: Allocator> Failures<A> {
         self.rows.clear();
         self.shapes.clear();
         self.bits.clear();
+    }
+
+    // The row of a place, if it has one.
+    #[inline(always)]
+    fn row(&self, place: usize) -> Option<Row>
+        ensures { IfSome result (λ r. (r.place ≡ place) × (n : ℕ) × (slice_get self.now.rows n ≡ Some r)) }
+    {
+        if place >= self.numbers.len() {
+            return None;
+        }
+        let number = self.numbers[place] as usize;
+        if number >= self.rows.len() {
+            return None;
+        }
+        let row = self.rows[number];
+        if row.place != place {
+            return None;
+        }
+        Some(row)
+    }
+
+    // Where the bit of a spot stands, if there is one for it.
+    #[inline(always)]
+    fn bit(&self, words: &[u32], board: &Board<A>, place: usize, position: usize) -> Option<Bit>
+        ensures { IfSome result (λ b. (b.word < length self.now.bits) × (b.number < 64)
+            × Entry self.now words.now (is_inside board.now.choices)
+                (spot_at (Instruction place) board.now.frames position board.now.marks) b.word b.number) }
+    {
+        let row = self.row(place)?;
+        if position < row.first || position - row.first >= row.positions {
+            return None;
+        }
+        let (chains, innermost) = board.loops();
+        let slot = slot_of(words, &self.shapes, row, chains, innermost, position)?;
+        let line = slot * 2 + if board.is_inside() { 1 } else { 0 };
+        let index = line.checked_mul(row.positions)?.checked_add(position - row.first)?;
+        if index / 64 >= row.length {
+            return None;
+        }
+        Some(Bit {
+            word: row.base + index / 64,
+            number: (index % 64) as u32,
+        })
+    }
+
+    /// Whether the spot at a place and a position is kept, under the loops of a board and inside a region or not as it
+    /// is.
+    #[inline(never)]
+    pub fn is_kept(&self, words: &[u32], board: &Board<A>, place: usize, position: usize) -> bool
+        ensures { result ≡ true → Holds self.now words.now (is_inside board.now.choices)
+            (spot_at (Instruction place) board.now.frames position board.now.marks) }
+    {
+        match self.bit(words, board, place, position) {
+            None => false,
+            Some(bit) => (self.bits[bit.word] >> bit.number) & 1 == 1,
+        }
+    }
+
+    /// Keeps a spot, if there is a bit for it.
+    #[inline(never)]
+    pub fn keep(&mut self, words: &[u32], board: &Board<A>, place: usize, position: usize)
+        ensures { HoldsOneMore words.now (is_inside board.now.choices)
+            (spot_at (Instruction place) board.now.frames position board.now.marks) self.old self.new }
+    {
+        if let Some(bit) = self.bit(words, board, place, position) {
+            self.bits[bit.word] |= 1 << bit.number;
+        }
     }
 }
