@@ -1,11 +1,11 @@
 -- The spots that are kept as bits: when one more is kept, and when a row is added.
 use Rattle.std.proofs.Common.{◌≡◌, ◌≢◌, ℕ, zero, suc, ◌+◌, ◌-◌, ◌*◌, ◌/◌, ◌%◌, ◌^◌, ◌<◌, ◌≤◌, ◌⊎◌, inl, inr}
-use Rattle.std.proofs.Common.{Bool, List, [], ◌∷◌, ◌++◌, length, replicate, Option, Some, slice_get, slice_index}
+use Rattle.std.proofs.Common.{Bool, List, [], ◌∷◌, ◌++◌, length, take, replicate, Option, Some, slice_get, slice_index}
 use Rattle.std.proofs.Common.{slice_set, get_or, refl, sym, ap, ◌∙◌, subst, arith, w64, length-append}
 use Rattle.std.specs.Prelude.{bit_or}
 use Rattle.std.specs.Int.{bit_at}
 use Rattle.std.proofs.lemmas.Bool.{cases_order, cases_eq}
-use Rattle.std.proofs.lemmas.List.{get_or-set_same, get_or-set_other, get_or_append_left, get_or-append_right}
+use Rattle.std.proofs.lemmas.List.{get_or-set_same, get_or-set_other, get_or_append_left, get_or-append_right, take_all}
 use Rattle.std.proofs.lemmas.List.{length-replicate, length-set, get_or_read}
 use Rattle.std.proofs.lemmas.Nat.{same_from_place}
 use Rattle.std.proofs.lemmas.Nat.Bits.{bit_at_set_other, bit_at-zero}
@@ -322,3 +322,63 @@ pub row_at : (k : Kept) (rows : List Row) (shapes bits : List ℕ) (n : ℕ) (r 
     → n < length rows → r ≡ get_or rows n r → slice_get k.rows n ≡ Some r
 row_at k rows shapes bits n r is h e =
     ap (λ (y : Kept). slice_get y.rows n) (sym is) ∙ get_some rows n r h ∙ ap (λ (x : Row). Some x) (sym e)
+
+-- the shapes of a further row are appended
+module _ (k : Kept) (rows : List Row) (shapes bits new : List ℕ) (is : kept_of rows shapes bits ≡ k)
+    (laid : Laid (kept_of rows shapes bits)) (more : (xs : List ℕ) × (new ≡ shapes ++ xs)) where
+  pub laid_grown : Laid (kept_of rows new bits)
+  laid_grown =
+      subst (λ (ss : List ℕ). Laid (kept_of rows ss bits)) (sym more.1)
+      (laid_shapes (kept_of rows shapes bits) more.0 laid)
+
+  pub grown_no_more : HoldsNoMore k (kept_of rows new bits)
+  grown_no_more =
+      subst (λ (y : Kept). HoldsNoMore y (kept_of rows new bits)) is
+      (subst (λ (ss : List ℕ). HoldsNoMore (kept_of rows shapes bits) (kept_of rows ss bits)) (sym more.1)
+      (shapes_no_more (kept_of rows shapes bits) more.0 laid))
+
+-- and then spots of no more
+pub no_more_after : (k l m : Kept) → HoldsNoMore k l → HoldsNoMore l m → HoldsNoMore k m
+no_more_after k l m a b = λ ws inside x h. a ws inside x (b ws inside x h)
+
+-- bits that are filled up
+filled : (bits new : List ℕ) (base n taken : ℕ) → base ≡ length bits → taken ≡ length bits
+    → new ≡ take (base + n) bits ++ replicate (base + n - taken) 0 → new ≡ bits ++ replicate n 0
+filled bits new base n taken eb et e =
+    let all : take (base + n) bits ≡ bits = take_all (base + n) bits (omega (arith, eb)) in
+    let left : base + n - taken ≡ n = omega (arith, eb, et) in
+    e ∙ rw (all, left) refl
+
+-- the bits of a further row are appended, and then the row
+module _ (k : Kept) (rows : List Row) (shapes bits new : List ℕ) (row : Row) (taken : ℕ)
+    (is : kept_of rows shapes bits ≡ k) (laid : Laid (kept_of rows shapes bits)) (base : row.base ≡ length k.bits)
+    (end : row.end ≤ length k.shapes) (et : taken ≡ length bits)
+    (e : new ≡ take (row.base + row.length) bits ++ replicate (row.base + row.length - taken) 0) where
+  here : row.base ≡ length bits
+  here = base ∙ ap (λ (y : Kept). length y.bits) (sym is)
+
+  long : new ≡ bits ++ replicate row.length 0
+  long = filled bits new row.base row.length taken here et e
+
+  pub laid_filled : Laid (kept_of rows shapes new)
+  laid_filled =
+      subst (λ (bs : List ℕ). Laid (kept_of rows shapes bs)) (sym long)
+      (laid_bits (kept_of rows shapes bits) row.length laid)
+
+  pub filled_no_more : HoldsNoMore k (kept_of rows shapes new)
+  filled_no_more =
+      subst (λ (y : Kept). HoldsNoMore y (kept_of rows shapes new)) is
+      (subst (λ (bs : List ℕ). HoldsNoMore (kept_of rows shapes bits) (kept_of rows shapes bs)) (sym long)
+      (bits_no_more (kept_of rows shapes bits) row.length laid))
+
+  shaped : row.end ≤ length shapes
+  shaped = omega (arith, end, ap (λ (y : Kept). length y.shapes) is)
+
+  pub laid_pushed : (rs : List Row) → rs ≡ rows ++ row ∷ [] → Laid (kept_of rs shapes new)
+  laid_pushed rs er =
+      rw (er, long) (laid_row (kept_of rows shapes bits) row row.length laid here (omega arith) shaped)
+
+  pub pushed_no_more : (rs : List Row) → rs ≡ rows ++ row ∷ [] → HoldsNoMore k (kept_of rs shapes new)
+  pushed_no_more rs er =
+      subst (λ (y : Kept). HoldsNoMore y (kept_of rs shapes new)) is
+      (rw (er, long) (row_no_more (kept_of rows shapes bits) row row.length laid here (omega arith) shaped))

@@ -1,6 +1,6 @@
 //! The spots of which nothing came, kept so that one that is alike is left at once.
 
-ghost use Rattle.std.specs.Prelude.{◌≡◌, ℕ, ◌+◌, ◌*◌, ◌<◌, ◌≤◌, ⊤, true, cond, length, IfSome, Some, None, IfOk, ◌^◌};
+ghost use Rattle.std.specs.Prelude.{◌≡◌, ℕ, ◌+◌, ◌*◌, ◌<◌, ◌≤◌, ⊤, true, cond, List, length, IfSome, Some, None, IfOk, ◌^◌};
 ghost use Rattle.std.specs.Prelude.{slice_get, slice_index_or, [], ◌++◌, replicate};
 ghost use Rattle.sre_turns.specs.Alike.{is_last};
 ghost use Rattle.sre_turns.specs.Fruit.{is_inside};
@@ -58,6 +58,11 @@ struct Bit {
 
 // A place has at most so many numbers of loops.
 const MOST_SLOTS: usize = 4096;
+
+// A row has at most so many positions and words of bits, and all rows so many words together.
+const MOST_POSITIONS: usize = 34359738368;
+const MOST_WORDS_IN_ROW: usize = 1073741824;
+const MOST_WORDS: usize = 4294967296;
 
 // Up to which number the bodies of the loop at a place are counted, if its words are there.
 #[inline(always)]
@@ -137,6 +142,77 @@ fn slot_of<A: Allocator>(
     Some(slot)
 }
 
+// Sets the number of a place's row, in a list for so many places.
+#[inline(always)]
+fn set_number<A: Allocator>(
+    numbers: &mut Vec<u32, A>,
+    places: usize,
+    place: usize,
+    number: u32,
+) -> Result<(), Refusal>
+    requires { (place < places) × (places ≤ 2 ^ 32) }
+    ensures { IfOk result (λ _. slice_get numbers.new.items place ≡ Some number) }
+{
+    if place >= numbers.len() {
+        sre_growth::resize(numbers, places, 0)?;
+    }
+    numbers[place] = number;
+    Ok(())
+}
+
+// How many numbers the loops have with one more: none where there are too many, or its words are not there.
+#[inline(always)]
+fn more_slots(words: &[u32], repeat: usize, slots: usize) -> usize
+    ensures { result ≤ 4096 }
+{
+    let Some(counted) = counted_at(words, repeat) else {
+        return 0;
+    };
+    let all = slots.saturating_mul((counted + 1) * 2);
+    if all > MOST_SLOTS { 0 } else { all }
+}
+
+// Appends the places of the loops in progress, innermost first, and says how many numbers they have.
+#[inline(always)]
+fn add_shape<A: Allocator>(
+    shapes: &mut Vec<usize, A>,
+    words: &[u32],
+    chains: &Chains<A>,
+    innermost: usize,
+) -> Result<usize, Refusal>
+    requires { innermost < length chains.now }
+    ensures more { (more : List ℕ) × (shapes.new.items ≡ shapes.old.items ++ more) }
+    ensures few { IfOk result (λ slots. slots ≤ 4096) }
+{
+    let mut id = innermost;
+    let mut slots = 1;
+    'walk: while !chains.is_empty(id) {
+        let node = chains.node(id);
+        sre_growth::push(shapes, node.repeat)?;
+        slots = more_slots(words, node.repeat, slots);
+        id = node.parent;
+    }
+    Ok(slots)
+}
+
+// How many positions there are from `first` to `end`, and how many words their bits take behind those that are taken:
+// none where they are too many.
+#[inline(always)]
+fn room(slots: usize, first: usize, end: usize, taken: usize) -> (usize, usize)
+    requires { (slots ≤ 4096) × (taken ≤ 2 ^ 32) }
+    ensures { taken + result.1 ≤ 2 ^ 32 }
+{
+    if slots == 0 || first > end || end - first >= MOST_POSITIONS {
+        return (0, 0);
+    }
+    let positions = end - first + 1;
+    let length = (slots * 2).saturating_mul(positions) / 64 + 1;
+    if length > MOST_WORDS_IN_ROW || length > MOST_WORDS - taken {
+        return (0, 0);
+    }
+    (positions, length)
+}
+
 impl<A: Allocator + Copy> Failures<A> {
     /// No spots. It takes no memory.
     #[inline(always)]
@@ -161,6 +237,76 @@ impl<A: Allocator> Failures<A> {
         self.rows.clear();
         self.shapes.clear();
         self.bits.clear();
+    }
+
+    /// Makes a row for a place under the loops of a board, for the positions from `first` to `end`, if it has none. One
+    /// that would be too large keeps nothing.
+    ///
+    /// # Errors
+    ///
+    /// [`Refusal`], where memory was refused. The spots that are kept stay so.
+    #[inline(always)]
+    pub fn prepare(
+        &mut self,
+        words: &[u32],
+        board: &Board<A>,
+        place: usize,
+        first: usize,
+        end: usize,
+    ) -> Result<(), Refusal>
+        ensures { HoldsNoMore self.old self.new }
+    {
+        if self.row(place).is_some() {
+            return Ok(());
+        }
+        self.add_row(words, board, place, first, end)
+    }
+
+    // Makes a row for a place that has none.
+    #[inline(never)]
+    fn add_row(
+        &mut self,
+        words: &[u32],
+        board: &Board<A>,
+        place: usize,
+        first: usize,
+        end: usize,
+    ) -> Result<(), Refusal>
+        ensures { HoldsNoMore self.old self.new }
+    {
+        let number = self.rows.len();
+        let base = self.bits.len();
+        if place >= words.len() || words.len() > MOST_WORDS || number >= MOST_WORDS || base > MOST_WORDS {
+            return Ok(());
+        }
+        set_number(&mut self.numbers, words.len(), place, number as u32)?;
+        let shape = self.shapes.len();
+        let (chains, innermost) = board.loops();
+        let slots = add_shape(&mut self.shapes, words, chains, innermost)?;
+        let (positions, length) = room(slots, first, end, base);
+        let row = Row {
+            place,
+            first,
+            positions,
+            shape,
+            end: self.shapes.len(),
+            base,
+            length,
+        };
+        self.push_row(row)
+    }
+
+    // Appends a row, with bits of its own.
+    #[inline(always)]
+    fn push_row(&mut self, row: Row) -> Result<(), Refusal>
+        requires base { row.base ≡ length self.old.bits }
+        requires room { row.base + row.length ≤ 2 ^ 32 }
+        requires end { row.end ≤ length self.old.shapes }
+        ensures { HoldsNoMore self.old self.new }
+    {
+        sre_growth::resize(&mut self.bits, row.base + row.length, 0)?;
+        sre_growth::push(&mut self.rows, row)?;
+        Ok(())
     }
 
     // The row of a place, if it has one.
