@@ -1,5 +1,5 @@
 -- The spots that are kept as bits: when one more is kept, and when a row is added.
-use Rattle.std.proofs.Common.{◌≡◌, ◌≢◌, ℕ, zero, suc, ◌+◌, ◌-◌, ◌*◌, ◌/◌, ◌%◌, ◌^◌, ◌<◌, ◌≤◌, ◌⊎◌, inl, inr}
+use Rattle.std.proofs.Common.{◌≡◌, ℕ, zero, suc, ◌+◌, ◌-◌, ◌*◌, ◌/◌, ◌%◌, ◌^◌, ◌<◌, ◌≤◌, ◌⊎◌, inl, inr}
 use Rattle.std.proofs.Common.{Bool, List, [], ◌∷◌, ◌++◌, length, take, replicate, Option, Some, slice_get, slice_index}
 use Rattle.std.proofs.Common.{slice_set, get_or, refl, sym, ap, ◌∙◌, subst, arith, w64, length-append}
 use Rattle.std.specs.Prelude.{bit_or}
@@ -14,7 +14,7 @@ use Rattle.sre_turns.specs.Moves.{Spot}
 use Rattle.sre_turns.specs.declared.Frame.{Frame}
 use Rattle.sre_turns.specs.declared.Point.{Point}
 use Rattle.sre_turns.specs.declared.Point.TheVariants.{Instruction}
-use Rattle.sre_board.specs.Failures.{Kept, kept_of, Entry, Holds, HoldsNone, HoldsNoMore, HoldsOneMore, HasSlot, Laid, radix, digit}
+use Rattle.sre_board.specs.Failures.{Kept, kept_of, Entry, HoldsNoMore, HoldsOneMore, HasSlot, Laid, radix, digit}
 use Rattle.sre_board.specs.declared.failures.Row.{Row}
 use Rattle.sre_board.proofs.ChainLaws.{get_some}
 use Rattle.sre_board.proofs.AlikeBySlot.{one_if, same_pair, slot_length, loops_alike}
@@ -304,9 +304,9 @@ kept_written k rows shapes bits ws inside x at bit v is laid small there e ev =
     subst (λ (y : Kept). Entry y ws inside x at bit) (sym is) e in
     let more = kept_more (kept_of rows shapes bits) ws inside x at bit laid small room entry in
     subst
-        (λ (y : Kept). HoldsOneMore ws inside x y
-        (kept_of rows shapes (slice_set bits at (bit_or v ((1 * 2 ^ bit) % 2 ^ 64))))) is
-        (rw read more)
+    (λ (y : Kept). HoldsOneMore ws inside x y
+    (kept_of rows shapes (slice_set bits at (bit_or v ((1 * 2 ^ bit) % 2 ^ 64))))) is
+    (rw read more)
 
 pub laid_written : (rows : List Row) (shapes bits : List ℕ) (at v : ℕ) → Laid (kept_of rows shapes bits)
     → Laid (kept_of rows shapes (slice_set bits at v))

@@ -1,5 +1,5 @@
 -- What is remembered of the spots of which nothing came.
-use Rattle.std.proofs.Common.{◌≡◌, ℕ, ◌+◌, ◌⊎◌, inl, inr, Bool, List, [], ◌∷◌, refl, sym, ap, ◌∙◌, subst, arith}
+use Rattle.std.proofs.Common.{◌≡◌, ℕ, ◌+◌, inl, inr, Bool, List, [], ◌∷◌, sym, ap, ◌∙◌, subst}
 use Rattle.sre_model.specs.Grammar.{Word}
 use Rattle.sre_model.specs.Runs.{Run}
 use Rattle.sre_turns.specs.Alike.{FramesAlike, LoopsAlike, Alike, least_from}
@@ -7,7 +7,7 @@ use Rattle.sre_turns.specs.Hopeless.{Hopeless}
 use Rattle.sre_turns.specs.Moves.{Spot}
 use Rattle.sre_turns.specs.declared.Frame.{Frame}
 use Rattle.sre_turns.specs.declared.Point.{Point}
-use Rattle.sre_board.specs.Failures.{Kept, Holds, HoldsNone, HoldsNoMore, HoldsOneMore, Remembers}
+use Rattle.sre_board.specs.Failures.{Kept, HoldsNone, HoldsNoMore, HoldsOneMore, Remembers}
 
 frames_onward : (ws : List ℕ) (p : ℕ) (f g h : Frame) → FramesAlike ws p f g → FramesAlike ws p g h
     → FramesAlike ws p f h

@@ -1,12 +1,19 @@
-//! The spots of which nothing came, kept so that one that is alike is left at once.
+//! The spots of which nothing came, kept so that the machine leaves one that is alike at once.
+//!
+//! A place that is prepared has a row of bits, one for each spot that tells a difference there: for each position,
+//! inside a region and outside, and for each slot, which is the loops in progress as one number. Of a loop a slot tells
+//! the count, held where a further body makes no difference any more, and whether the last body began at that position.
+//!
+//! A row is for the loops that were in progress when it was made, so a spot under others has no bit. Nothing is
+//! expected of the words: where one is missing there is no bit either.
 
-ghost use Rattle.std.specs.Prelude.{◌≡◌, ℕ, ◌+◌, ◌*◌, ◌<◌, ◌≤◌, ⊤, true, cond, List, length, IfSome, Some, None, IfOk, ◌^◌};
-ghost use Rattle.std.specs.Prelude.{slice_get, slice_index_or, [], ◌++◌, replicate};
+ghost use Rattle.std.specs.Prelude.{◌≡◌, ℕ, ◌+◌, ◌*◌, ◌^◌, ◌<◌, ◌≤◌, true, List, [], ◌++◌, length, IfSome, Some, IfOk};
+ghost use Rattle.std.specs.Prelude.{slice_get, slice_index_or};
 ghost use Rattle.sre_turns.specs.Alike.{is_last};
 ghost use Rattle.sre_turns.specs.Fruit.{is_inside};
 ghost use Rattle.sre_turns.specs.Moves.{spot_at};
 ghost use Rattle.sre_turns.specs.declared.Point.TheVariants.{Instruction};
-ghost use Rattle.sre_board.specs.Failures.{Kept, Entry, Holds, HoldsNone, HoldsNoMore, HoldsOneMore, HasSlot, IsPassed};
+ghost use Rattle.sre_board.specs.Failures.{Entry, Holds, HoldsNone, HoldsNoMore, HoldsOneMore, HasSlot, IsPassed};
 ghost use Rattle.sre_board.specs.Failures.{counted_at, digit, radix};
 
 use crate::board::Board;
@@ -16,8 +23,8 @@ use sre_turns::Frame;
 use std::alloc::Allocator;
 use std::marker::Model;
 
-/// The bits of a place: for so many positions from the first one on, under loops of one shape. Their words begin at a
-/// base, and the places of the loops stand from one number of the shapes to another.
+/// The bits of a place: for so many positions from the first one on, in so many words from a base on. The places of the
+/// loops stand among the shapes from `shape` to `end`, innermost first.
 #[derive(Clone, Copy)]
 pub(crate) struct Row {
     pub place: usize,
@@ -32,7 +39,7 @@ pub(crate) struct Row {
 /// The spots of which nothing came.
 #[derive(Drop)]
 pub struct Failures<A: Allocator> {
-    // by places: the number of the place's row, or any number
+    // by place: the number of the place's row, or any number where it has none
     numbers: Vec<u32, A>,
     rows: Vec<Row, A>,
     shapes: Vec<usize, A>,
@@ -56,12 +63,16 @@ struct Bit {
     number: u32,
 }
 
-// A place has at most so many numbers of loops.
+// A row has at most so many slots.
 const MOST_SLOTS: usize = 4096;
 
-// A row has at most so many positions and words of bits, and all rows so many words together.
+// A row has fewer positions, so that their bits can be counted.
 const MOST_POSITIONS: usize = 34359738368;
+
+// A row has at most so many words, which are 2^36 bits.
 const MOST_WORDS_IN_ROW: usize = 1073741824;
+
+// All rows have at most so many words, as many as a list can be filled up to.
 const MOST_WORDS: usize = 4294967296;
 
 // Up to which number the bodies of the loop at a place are counted, if its words are there.
@@ -92,7 +103,7 @@ fn is_here(last: Option<usize>, position: usize) -> Option<bool>
     }
 }
 
-// The number of the inner loops with that of one loop more, if there is one that is not too great.
+// The slot of the inner loops with one loop more, if there is one.
 #[inline(always)]
 fn with_loop(words: &[u32], frame: Frame, position: usize, slot: usize) -> Option<usize>
     requires { slot < 4096 }
@@ -110,7 +121,7 @@ fn with_loop(words: &[u32], frame: Frame, position: usize, slot: usize) -> Optio
     Some(next)
 }
 
-// The number of the loops in progress, if they are those of the shape that stands from `shape` to `end`.
+// The slot of the loops in progress, if they are those of a row.
 #[inline(always)]
 fn slot_of<A: Allocator>(
     words: &[u32],
@@ -160,7 +171,7 @@ fn set_number<A: Allocator>(
     Ok(())
 }
 
-// How many numbers the loops have with one more: none where there are too many, or its words are not there.
+// How many slots there are with one loop more: none where they are too many, or its words are not there.
 #[inline(always)]
 fn more_slots(words: &[u32], repeat: usize, slots: usize) -> usize
     ensures { result ≤ 4096 }
@@ -172,7 +183,7 @@ fn more_slots(words: &[u32], repeat: usize, slots: usize) -> usize
     if all > MOST_SLOTS { 0 } else { all }
 }
 
-// Appends the places of the loops in progress, innermost first, and says how many numbers they have.
+// Appends the places of the loops in progress, innermost first, and says how many slots they have.
 #[inline(always)]
 fn add_shape<A: Allocator>(
     shapes: &mut Vec<usize, A>,
@@ -276,7 +287,11 @@ impl<A: Allocator> Failures<A> {
     {
         let number = self.rows.len();
         let base = self.bits.len();
-        if place >= words.len() || words.len() > MOST_WORDS || number >= MOST_WORDS || base > MOST_WORDS {
+        if place >= words.len()
+            || words.len() > MOST_WORDS
+            || number >= MOST_WORDS
+            || base > MOST_WORDS
+        {
             return Ok(());
         }
         set_number(&mut self.numbers, words.len(), place, number as u32)?;
@@ -333,7 +348,7 @@ impl<A: Allocator> Failures<A> {
     fn bit(&self, words: &[u32], board: &Board<A>, place: usize, position: usize) -> Option<Bit>
         ensures { IfSome result (λ b. (b.word < length self.now.bits) × (b.number < 64)
             × Entry self.now words.now (is_inside board.now.choices)
-                (spot_at (Instruction place) board.now.frames position board.now.marks) b.word b.number) }
+            (spot_at (Instruction place) board.now.frames position board.now.marks) b.word b.number) }
     {
         let row = self.row(place)?;
         if position < row.first || position - row.first >= row.positions {
@@ -342,7 +357,9 @@ impl<A: Allocator> Failures<A> {
         let (chains, innermost) = board.loops();
         let slot = slot_of(words, &self.shapes, row, chains, innermost, position)?;
         let line = slot * 2 + if board.is_inside() { 1 } else { 0 };
-        let index = line.checked_mul(row.positions)?.checked_add(position - row.first)?;
+        let index = line
+            .checked_mul(row.positions)?
+            .checked_add(position - row.first)?;
         if index / 64 >= row.length {
             return None;
         }

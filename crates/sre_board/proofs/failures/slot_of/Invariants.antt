@@ -1,4 +1,4 @@
-use Rattle.std.proofs.Common.{◌≡◌, ℕ, ◌<◌, [], length, slice_index_or}
+use Rattle.std.proofs.Common.{ℕ, ◌<◌, [], length, slice_index_or}
 use Rattle.sre_board.specs.Failures.{HasSlot}
 use Rattle.sre_board.proofs.failures.slot_of.Given as goal
 
@@ -9,7 +9,7 @@ invariant-walk g l = record {
   slot : (s : ℕ)
       → HasSlot l.words l.position l.shapes l.row.end l.at l.slot (slice_index_or l.chains l.id []) s
       → HasSlot l.words l.position l.shapes l.row.end l.row.shape 0
-            (slice_index_or l.chains l.innermost []) s;
+      (slice_index_or l.chains l.innermost []) s;
 }
 
 abbrev pub decreases-walk : goal.decreases-walk
