@@ -95,7 +95,8 @@ kept_more k ws inside x at bit laid small there e = λ other y held.
     entry_below k (with_bit k at bit) ws other y held.at held.bit refl refl held.entry in
     elim (cases_eq held.at at) [
       | inr apart ↦
-          let same = get_or-set_other k.bits at held.at (bit_or (get_or k.bits at 0) ((1 * 2 ^ bit) % 2 ^ 64)) 0 apart in
+          let word : ℕ = bit_or (get_or k.bits at 0) ((1 * 2 ^ bit) % 2 ^ 64) in
+          let same = get_or-set_other k.bits at held.at word 0 apart in
           inl (record {
             at = held.at;
             bit = held.bit;
