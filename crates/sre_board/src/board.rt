@@ -4,8 +4,9 @@
 //! one table of chains, and a chain is forgotten as soon as no choice can come back to it.
 
 ghost use Rattle.std.specs.Prelude.{◌≡◌, ℕ, ◌<◌, [], ◌∷◌, drop, length, reverse, IfOk, MatchOption, slice_index_or};
+ghost use Rattle.std.specs.Prelude.{true, false};
 ghost use Rattle.sre_model.specs.Marks.{no_marks, set_mark, group};
-ghost use Rattle.sre_turns.specs.Board.{Keep, choice, from_region, Cuts, bare};
+ghost use Rattle.sre_turns.specs.Board.{Keep, Trying, choice, from_region, Cuts, bare};
 ghost use Rattle.sre_turns.specs.Fruit.{is_inside};
 ghost use Rattle.sre_turns.specs.declared.Point.TheVariants.{Inside};
 ghost use Rattle.sre_board.specs.Choices.{Fits, regions_of, down_to_region};
@@ -39,6 +40,8 @@ pub struct Board<A: Allocator> {
     regions: usize,
     // how many characters were passed in long stretches since this was last asked
     passed: usize,
+    // how many loops and bodies of loops began since this was last asked
+    entered: usize,
 }
 
 impl<A: Allocator> Model for Board<A> {
@@ -107,6 +110,7 @@ impl<A: Allocator + Copy> Board<A> {
             choices: Vec::new(alloc),
             regions: 0,
             passed: 0,
+            entered: 0,
         }
     }
 
@@ -154,7 +158,7 @@ impl<A: Allocator> Board<A> {
         (&self.chains, self.frame)
     }
 
-    /// Takes all away; the memory is kept.
+    /// Takes all away but what was counted, which is of a whole search; the memory is kept.
     #[inline(always)]
     pub fn clear(&mut self)
         ensures { self.new ≡ bare no_marks }
@@ -164,7 +168,6 @@ impl<A: Allocator> Board<A> {
         self.frame = 0;
         self.chains.clear();
         self.regions = 0;
-        self.passed = 0;
     }
 
     /// Sets mark `n` to `position`. After an error the board is good for `clear` alone.
@@ -195,6 +198,28 @@ impl<A: Allocator> Board<A> {
         sre_growth::push(&mut self.choices, saved)?;
         self.regions += regions_of(point);
         Ok(())
+    }
+
+    /// Marks that an instruction is tried: what comes of it waits above the mark. Whether the mark was made; where its
+    /// memory is refused the board is as it was.
+    #[inline(always)]
+    pub fn begin_trying(&mut self, place: usize, cursor: StringCursor) -> bool
+        ensures marked { result ≡ true → self.new ≡ record self.old {
+          choices = Trying place self.old.frames cursor self.old.marks ∷ self.old.choices;
+        } }
+        ensures left { result ≡ false → self.new ≡ self.old }
+    {
+        let saved = Saved {
+            point: Point::Tried(place),
+            cursor,
+            frame: self.frame,
+            chains: self.chains.count(),
+            changes: self.trail.length(),
+        };
+        match sre_growth::push(&mut self.choices, saved) {
+            Ok(()) => true,
+            Err(_) => false,
+        }
     }
 
     /// Begins a region: what comes of it waits among the choices, and the loops in progress are put aside so long.
@@ -263,6 +288,16 @@ impl<A: Allocator> Board<A> {
         passed
     }
 
+    /// How many loops and bodies of loops began since this was last asked.
+    #[inline(always)]
+    pub fn take_entered(&mut self) -> usize
+        ensures { self.new ≡ self.old }
+    {
+        let entered = self.entered;
+        self.entered = 0;
+        entered
+    }
+
     /// The innermost loop in progress.
     #[inline(always)]
     pub fn top(&self) -> Frame
@@ -287,12 +322,13 @@ impl<A: Allocator> Board<A> {
         }
     }
 
-    /// Begins a loop.
+    /// Begins a loop, or a body of one.
     #[inline(always)]
     pub fn enter(&mut self, frame: Frame) -> Result<(), Refusal>
         ensures { IfOk result (λ _. self.new ≡ record self.old { frames = frame ∷ self.old.frames }) }
     {
         self.frame = self.chains.push(frame, self.frame)?;
+        self.entered = self.entered.wrapping_add(1);
         Ok(())
     }
 }

@@ -3,6 +3,8 @@
 //!
 //! All choices share one list of marks with a trail of its changes, and one table of loops. So a choice is a record of
 //! one size, and to go back takes no memory.
+//!
+//! Beside a board stand the spots of which nothing came, so that one that is alike is left at once.
 #![tactic(auto)]
 
 mod board;
