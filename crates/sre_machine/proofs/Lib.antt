@@ -1,1 +1,2 @@
 pub mod Halting
+pub mod Failing

@@ -2,6 +2,9 @@
 //!
 //! Each turn does one instruction, or takes up what is still to be tried; what it does is said by the model's relation
 //! over the words. [`turns::run_behind`] answers with the first accepted way.
+//!
+//! A search that has gone back often remembers what it tried in vain ([`memo::Memo`]), and leaves at once what is
+//! alike. The answer is the same.
 #![tactic(auto)]
 
 mod branches;
@@ -9,8 +12,10 @@ mod greedy_runs;
 mod lazy_runs;
 mod loops;
 mod machine;
+pub mod memo;
 mod possessive_loops;
 mod possessive_runs;
 mod references;
 mod regions;
+mod trying;
 pub mod turns;

@@ -14,16 +14,19 @@ ghost use Rattle.sre_turns.specs.Machine.{IsAt, IsBack, Chooses, Retreats, Refus
 ghost use Rattle.sre_turns.specs.Machine.{Stands};
 ghost use Rattle.sre_model.specs.Roles.{begins_test};
 ghost use Rattle.sre_request.specs.Runs.{run_of, OpcodeAt, Standing};
+ghost use Rattle.sre_board.specs.Failures.{Remembers};
 ghost use Rattle.sre_machine.specs.Turns.{At, Turn};
 
 use crate::branches::{alternatives, branch};
 use crate::greedy_runs::{repeat_one, shorter_saved};
 use crate::lazy_runs::{longer, min_repeat_one};
 use crate::loops::{max_until, min_until, repeat};
+use crate::memo::Memo;
 use crate::possessive_loops::possessive_repeat;
 use crate::possessive_runs::possessive_repeat_one;
 use crate::references::{condition, reference};
 use crate::regions::{assert, assert_not, atomic_group, without_outcome};
+use crate::trying::keep;
 use sre_board::Board;
 use sre_chars::constants::{SreAtCode, SreOpcode};
 use sre_chars::string::{StrDrive, StringCursor};
@@ -242,16 +245,20 @@ pub(super) fn choose<S: StrDrive, A: Allocator>(
     Ok(Next::At(place, cursor))
 }
 
-/// Goes on with the newest choice, if there is one.
+/// Goes on with the newest choice, if there is one. Marks of instructions that were tried are passed over: nothing came
+/// of them, which is kept where failures are.
 #[inline(always)]
-pub(super) fn back<S: StrDrive, A: Allocator>(
+pub(super) fn back<S: StrDrive, A: Allocator, const KEEPS: bool>(
     req: &Request<'_, S>,
     board: &mut Board<A>,
+    memo: &mut Memo<A>,
 ) -> Result<Option<Next>, Refusal>
-    requires { IsBack (run_of req.now) board.old }
-    ensures { IfOk result (λ found. MatchOption found
+    requires stands { IsBack (run_of req.now) board.old }
+    requires remembers { Remembers (run_of req.now) memo.old }
+    ensures next { IfOk result (λ found. MatchOption found
         ((all : List Way) (limit : ℕ) → Stands (run_of req.now) all limit Next.Back board.old → all ≡ [])
         (λ next. Retreats (run_of req.now) board.old next board.new)) }
+    ensures remembers { Remembers (run_of req.now) memo.new }
 {
     'choice: loop {
         let Some(choice) = board.back() else {
@@ -270,7 +277,11 @@ pub(super) fn back<S: StrDrive, A: Allocator>(
             }
             Point::Again => return Ok(Some(Next::Again(choice.1))),
             Point::Inside(region) => return Ok(Some(without_outcome(board, region, choice.1))),
-            Point::Tried(_) => {} // nothing came of it, and what waits below is next
+            Point::Tried(place) => {
+                if KEEPS {
+                    keep(req, board, memo, place, choice.1);
+                }
+            }
         }
     }
 }

@@ -1,6 +1,6 @@
 //! The machine's loop: turns until the whole is decided.
 
-ghost use Rattle.std.specs.Prelude.{◌≡◌, ℕ, ◌+◌, ◌*◌, ◌^◌, ◌<◌, ◌≤◌, [], List, IfOk, IfErr, true, false};
+ghost use Rattle.std.specs.Prelude.{◌≡◌, ℕ, ◌+◌, ◌-◌, ◌*◌, ◌^◌, ◌<◌, ◌≤◌, [], List, IfOk, IfErr, true, false};
 ghost use Rattle.sre_model.specs.Marks.{no_marks};
 ghost use Rattle.sre_model.specs.Tree.{Tree};
 ghost use Rattle.sre_model.specs.Ways.{Way};
@@ -9,12 +9,15 @@ ghost use Rattle.sre_model.specs.Prefixes.{behind_items, ReadsBehind};
 ghost use Rattle.sre_model.specs.TurnBounds.{turns_of, most_each};
 ghost use Rattle.sre_turns.specs.Board.{bare};
 ghost use Rattle.sre_turns.specs.Machine.{Stands, SaysAccepted, Decides, outcomes};
+ghost use Rattle.sre_board.specs.Failures.{Remembers};
 ghost use Rattle.sre_request.specs.Requests.{end_of, asked_of};
 ghost use Rattle.sre_request.specs.Runs.{run_of, Standing};
 
 use crate::machine::{back, instruction};
+use crate::memo::Memo;
 use crate::possessive_loops::again;
 use crate::regions::end;
+use crate::trying::instruction_or_back;
 use sre_board::Board;
 use sre_chars::string::{StrDrive, StringCursor};
 use sre_code::operands::know_words;
@@ -96,20 +99,24 @@ impl From<Refusal> for Halt {
 // went over: whether one was left. They count for no more than the window. Nothing is taken where the turns
 // are not limited.
 #[inline(always)]
-fn takes_turn<S: StrDrive, A: Allocator, const LIMITED: bool>(
+fn takes_turn<S: StrDrive, A: Allocator>(
     req: &Request<'_, S>,
     board: &mut Board<A>,
+    memo: &mut Memo<A>,
+    limited: bool,
     left: &mut u64,
 ) -> bool
     ensures board { board.new ≡ board.old }
+    ensures memo { memo.new ≡ memo.old }
     ensures spent { left.old ≤ left.new + most_each (asked_of req.now) }
-    ensures used { result ≡ false → (LIMITED ≡ true) × (left.new ≡ 0) }
+    ensures used { result ≡ false → (limited ≡ true) × (left.new ≡ 0) }
 {
-    if !LIMITED {
+    if !limited {
         return true;
     }
     let window = req.end().saturating_sub(req.start());
     let passed = board.take_passed().min(window) / 8;
+    memo.wait(passed);
     *left = left.saturating_sub(passed as u64);
     if *left == 0 {
         return false;
@@ -118,33 +125,38 @@ fn takes_turn<S: StrDrive, A: Allocator, const LIMITED: bool>(
     true
 }
 
-// Turns until the whole is decided: the cursor at the first accepted outcome's end, where there is one. It is one
-// function out of line, whatever its size, so that `run_behind` is inlined where a search tries its starts.
+// Turns until the whole is decided, of which some may have been taken: the cursor at the first accepted outcome's end,
+// where there is one. What fails is kept once the memo is open. They are limited or not.
 #[inline(never)]
-fn turns<L: Ledger, K: Plan, S: StrDrive, A: Allocator, const LIMITED: bool>(
+fn remembering_turns<L: Ledger, K: Plan, S: StrDrive, A: Allocator>(
     req: &Request<'_, S>,
     board: &mut Board<A>,
-    place: usize,
-    start: StringCursor,
+    memo: &mut Memo<A>,
+    first: Next,
     turned: &mut Turned<L>,
+    limited: bool,
     left: &mut u64,
 ) -> Result<Option<StringCursor>, Halt>
-    requires new { turned.old ≡ 0 }
-    requires stands { Stands (run_of req.now) K.all K.limit (Next.At place start) board.old }
+    requires within { turned.old ≤ K.limit }
+    requires stands { Stands (run_of req.now) K.all (K.limit - turned.old) first board.old }
+    requires remembers { Remembers (run_of req.now) memo.old }
     ensures decides { IfOk result (λ found. Decides (run_of req.now) K.all found board.new.marks) }
+    ensures remembers { Remembers (run_of req.now) memo.new }
     ensures spent { left.old ≤ left.new + (K.limit + 1) * most_each (asked_of req.now) }
-    ensures used { IfErr result (λ halt. halt ≡ Halt.UsedUp → (LIMITED ≡ true) × (left.new ≡ 0)) }
+    ensures used { IfErr result (λ halt. halt ≡ Halt.UsedUp → (limited ≡ true) × (left.new ≡ 0)) }
 {
-    let mut next = Next::At(place, start);
+    let mut next = first;
     'turn: loop {
-        if !takes_turn::<S, A, LIMITED>(req, board, left) {
+        if !takes_turn(req, board, memo, limited, left) {
             return Err(Halt::UsedUp);
         }
         turned.tick();
         match next {
-            Next::At(place, cursor) => next = instruction(req, board, place, cursor)?,
+            Next::At(place, cursor) => {
+                next = instruction_or_back(req, board, memo, place, cursor)?;
+            }
             Next::Again(cursor) => next = again(req, board, cursor)?,
-            Next::Back => match back(req, board)? {
+            Next::Back => match back::<S, A, true>(req, board, memo)? {
                 Some(after) => next = after,
                 None => return Ok(None),
             },
@@ -161,6 +173,70 @@ fn turns<L: Ledger, K: Plan, S: StrDrive, A: Allocator, const LIMITED: bool>(
     }
 }
 
+// The same with no limit, and with no failure kept: where the memo opens, the turns above go on. It is one function out
+// of line, whatever its size, so that `run_behind` is inlined where a search tries its starts.
+#[inline(never)]
+fn turns<L: Ledger, K: Plan, S: StrDrive, A: Allocator>(
+    req: &Request<'_, S>,
+    board: &mut Board<A>,
+    memo: &mut Memo<A>,
+    place: usize,
+    start: StringCursor,
+    turned: &mut Turned<L>,
+) -> Result<Option<StringCursor>, Halt>
+    requires new { turned.old ≡ 0 }
+    requires stands { Stands (run_of req.now) K.all K.limit (Next.At place start) board.old }
+    requires remembers { Remembers (run_of req.now) memo.old }
+    ensures decides { IfOk result (λ found. Decides (run_of req.now) K.all found board.new.marks) }
+    ensures remembers { Remembers (run_of req.now) memo.new }
+    ensures used { IfErr result (λ halt. halt ≡ Halt.UsedUp → ⊥) }
+{
+    let mut next = Next::At(place, start);
+    'turn: loop {
+        match next {
+            Next::At(place, cursor) => {
+                turned.tick();
+                next = instruction(req, board, place, cursor)?;
+            }
+            Next::Again(cursor) => {
+                turned.tick();
+                next = again(req, board, cursor)?;
+            }
+            Next::Back => {
+                if memo.opens(req, board) {
+                    let limited = false;
+                    return remembering_turns::<L, K, S, A>(
+                        req,
+                        board,
+                        memo,
+                        Next::Back,
+                        turned,
+                        limited,
+                        &mut 0,
+                    );
+                }
+                turned.tick();
+                match back::<S, A, false>(req, board, memo)? {
+                    Some(after) => next = after,
+                    None => return Ok(None),
+                }
+            }
+            Next::Done(cursor) => {
+                turned.tick();
+                match end(req, board, cursor) {
+                    Some(after) => next = after,
+                    None => {
+                        if is_accepted(req, cursor.position()) {
+                            return Ok(Some(cursor));
+                        }
+                        next = Next::Back;
+                    }
+                }
+            }
+        }
+    }
+}
+
 // Turns from the place behind some literals, on an empty board.
 #[inline(always)]
 fn turns_from<L: Ledger, K: Plan, S: StrDrive, A: Allocator>(
@@ -168,6 +244,7 @@ fn turns_from<L: Ledger, K: Plan, S: StrDrive, A: Allocator>(
     board: &mut Board<A>,
     literals: usize,
     start: StringCursor,
+    memo: &mut Memo<A>,
     blank: Blank,
     limited: bool,
     left: &mut u64,
@@ -177,16 +254,19 @@ fn turns_from<L: Ledger, K: Plan, S: StrDrive, A: Allocator>(
     requires some { 0 < blank.parts }
     requires room { 2 * literals < 2 ^ 64 }
     requires stands { Stands (run_of req.now) K.all K.limit (Next.At (2 * literals) start) board.old }
+    requires remembers { Remembers (run_of req.now) memo.old }
+    ensures remembers { Remembers (run_of req.now) memo.new }
     ensures decides { IfOk result (λ found. Decides (run_of req.now) K.all found board.new.marks) }
     ensures spent { left.old ≤ left.new + (K.limit + 1) * most_each (asked_of req.now) }
     ensures used { IfErr result (λ halt. halt ≡ Halt.UsedUp → (limited ≡ true) × (left.new ≡ 0)) }
 {
     let (book, share) = blank.open::<L>();
     let mut turned = Turned { book, share };
-    if limited {
-        turns::<L, K, S, A, true>(req, board, 2 * literals, start, &mut turned, left)
+    if limited || memo.is_open() {
+        let first = Next::At(2 * literals, start);
+        remembering_turns::<L, K, S, A>(req, board, memo, first, &mut turned, limited, left)
     } else {
-        turns::<L, K, S, A, false>(req, board, 2 * literals, start, &mut turned, left)
+        turns::<L, K, S, A>(req, board, memo, 2 * literals, start, &mut turned)
     }
 }
 
@@ -199,6 +279,7 @@ pub fn run_behind<S: StrDrive, A: Allocator>(
     literals: usize,
     start: StringCursor,
     board: &mut Board<A>,
+    memo: &mut Memo<A>,
     limited: bool,
     left: &mut u64,
 ) -> Result<Option<StringCursor>, Halt>
@@ -207,6 +288,8 @@ pub fn run_behind<S: StrDrive, A: Allocator>(
     requires fresh { board.old ≡ bare no_marks }
     requires behind { (t : Tree) → WholeItems (run_of req.now).words t → ReadsBehind (run_of req.now).words literals t }
     requires room { 2 * literals < 2 ^ 64 }
+    requires remembers { Remembers (run_of req.now) memo.old }
+    ensures remembers { Remembers (run_of req.now) memo.new }
     ensures decides { (t : Tree) → WholeItems (run_of req.now).words t
         → IfOk result
         (λ found. Decides (run_of req.now)
@@ -217,5 +300,14 @@ pub fn run_behind<S: StrDrive, A: Allocator>(
     ensures used { IfErr result (λ halt. halt ≡ Halt.UsedUp → (limited ≡ true) × (left.new ≡ 0)) }
 {
     know_words(req.pattern_codes().items());
-    turns_from::<Brand, Brand, S, A>(req, board, literals, start, Blank::new(1), limited, left)
+    turns_from::<Brand, Brand, S, A>(
+        req,
+        board,
+        literals,
+        start,
+        memo,
+        Blank::new(1),
+        limited,
+        left,
+    )
 }

@@ -1,5 +1,5 @@
--- Loops that are alike: how long they stay so, and that they decide alike on a further body. A memory of failures, for
--- which these laws wait, will keep of a loop its count, as far as it is told, and one bit of its last body.
+-- Loops that are alike: how long they stay so, and that they decide alike on a further body. So the memory of failures
+-- keeps of a loop its count, as far as it is told, and one bit of its last body.
 use Rattle.std.proofs.Common.{◌≡◌, ℕ, ◌+◌, ◌≤◌, Bool, true, false, not, ◌&&◌, ◌||◌, List, [], ◌∷◌, min, max, drop}
 use Rattle.std.proofs.Common.{nat_eq, nat_lt, Option, Some, None, IfSome, refl, sym, ap, ◌∙◌, subst, arith}
 use Rattle.std.proofs.lemmas.Bool.Decides.{nat_tests}

@@ -1,5 +1,5 @@
--- Alike spots make alike turns, where the words have no reference; and a region closes alike. Nothing but the laws of
--- alike spots calls these yet: a memory of failures will.
+-- Alike spots make alike turns, where the words have no reference; and a region closes alike. By these laws alike spots
+-- have the same stops (SameComes), on which the memory of failures rests.
 use Rattle.std.proofs.Common.{◌≡◌, ℕ, ◌+◌, ◌-◌, ◌≤◌, ◌&&◌, ◌||◌, Bool, true, false, cond, nat_eq, nat_lt, List, [], ◌∷◌}
 use Rattle.std.proofs.Common.{Option, Some, refl, sym, ap, subst, arith}
 use Rattle.std.specs.Bool.{⊤}

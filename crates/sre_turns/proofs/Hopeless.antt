@@ -1,5 +1,5 @@
 -- A spot of which nothing came is hopeless, and the machine may go back at once from one that is alike.
--- Nothing calls these laws yet: a memory of failures will, which keeps hopeless spots.
+-- The memory of failures, which keeps hopeless spots, rests on these laws.
 use Rattle.std.proofs.Common.{◌≡◌, ℕ, Bool, true, false, List, [], ◌∷◌, refl, sym, ◌∙◌, subst, arith}
 use Rattle.std.specs.List.{filter}
 use Rattle.std.proofs.lemmas.Bool.{true≢false}

@@ -1,6 +1,6 @@
 -- Alike spots: those between which no turn tells a difference, where the words have no reference.
--- Words of laws about the machine. No contract cites them yet: a memory of failures will, since of a spot that is
--- alike to one of which nothing came nothing will come. What sre_engine makes public does not rest on it.
+-- Words of the machine's contracts: the memory of failures goes by them, since of a spot that is alike to one of which
+-- nothing came nothing will come. What sre_engine makes public does not rest on it.
 use Rattle.std.specs.Prelude.{⊤, ℕ, ◌+◌, ◌-◌, ◌≡◌, ◌≤◌, Bool, false, List, [], ◌∷◌, min, max, cond, nat_eq}
 use Rattle.std.specs.Prelude.{Option, Some, None}
 use Rattle.sre_model.specs.Ways.{unlimited}

@@ -1,6 +1,6 @@
 -- Hopeless spots: where the machine stood and nothing came of it, so that nothing comes of a spot that is alike.
--- Words of laws about the machine. No contract cites them yet: a memory of failures will, which keeps such spots and
--- leaves them at once. What sre_engine makes public does not rest on it.
+-- Words of the machine's contracts: the memory of failures keeps such spots, and the machine leaves them at once. What
+-- sre_engine makes public does not rest on it.
 use Rattle.std.specs.Prelude.{ℕ, ◌≡◌, Bool, List}
 use Rattle.sre_model.specs.Ways.{Way}
 use Rattle.sre_model.specs.Runs.{Run}

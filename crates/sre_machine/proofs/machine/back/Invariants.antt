@@ -1,6 +1,7 @@
 use Rattle.std.proofs.Common.{ℕ, List, length}
 use Rattle.sre_model.specs.Ways.{Way}
 use Rattle.sre_turns.specs.Machine.{IsBack, Backs}
+use Rattle.sre_board.specs.Failures.{Remembers}
 use Rattle.sre_request.specs.Runs.{run_of}
 use Rattle.sre_machine.proofs.machine.back.Given as goal
 
@@ -8,6 +9,7 @@ abbrev pub invariant-choice : goal.invariant-choice
 invariant-choice g l = record {
   back : IsBack (run_of l.req) l.board;
   backs : (all : List Way) (limit : ℕ) → Backs (run_of l.req) all limit l.fn.board → Backs (run_of l.req) all limit l.board;
+  remembers : Remembers (run_of l.req) l.memo;
 }
 
 abbrev pub decreases-choice : goal.decreases-choice

@@ -1,0 +1,13 @@
+use Rattle.sre_machine.proofs.Failing.{turn_stays}
+use Rattle.sre_machine.proofs.trying.instruction_or_back.Goals as goal
+
+pub instruction-requires : goal.instruction-requires
+instruction-requires g c = (c.is_hopeless.ensures.tried c.if-is_hopeless.false).here c.requires.stands
+
+pub returns-then-is_hopeless-clause-turn : goal.returns-then-is_hopeless-clause-turn
+returns-then-is_hopeless-clause-turn g c = c.is_hopeless.ensures.left c.if-is_hopeless.true
+
+pub returns-clause-turn : goal.returns-clause-turn
+returns-clause-turn g c =
+    turn_stays c.args.req.now c.args.place c.args.cursor _ _ _ c.instruction.result
+    (c.is_hopeless.ensures.tried c.if-is_hopeless.false) c.instruction.ensures

@@ -1,0 +1,128 @@
+//! Instructions that are tried: what failed is kept, and where it comes again the machine goes back at once.
+
+ghost use Rattle.std.specs.Prelude.{◌≡◌, IfOk, true, false};
+ghost use Rattle.sre_turns.specs.declared.Point.TheVariants.{Instruction};
+ghost use Rattle.sre_turns.specs.Fruit.{is_inside};
+ghost use Rattle.sre_turns.specs.Moves.{spot_at};
+ghost use Rattle.sre_turns.specs.Hopeless.{Hopeless};
+ghost use Rattle.sre_turns.specs.Machine.{IsAt};
+ghost use Rattle.sre_turns.specs.MovesAtReferences.{HasReference};
+ghost use Rattle.sre_board.specs.Failures.{Remembers};
+ghost use Rattle.sre_request.specs.Runs.{run_of};
+ghost use Rattle.sre_machine.specs.Turns.{At, Turn, StaysAt};
+
+use crate::machine::{instruction, opcode};
+use crate::memo::Memo;
+use sre_board::Board;
+use sre_chars::constants::SreOpcode;
+use sre_chars::string::{StrDrive, StringCursor};
+use sre_growth::Refusal;
+use sre_request::Request;
+use sre_turns::Next;
+use std::alloc::Allocator;
+
+// Whether the machine may have more than one way to go on at a place: between two such places nothing branches, so
+// failures are kept there alone.
+#[inline(always)]
+fn may_branch<S: StrDrive>(req: &Request<'_, S>, place: usize, cursor: StringCursor) -> bool
+    requires { At req.now place cursor }
+{
+    matches!(
+        opcode(req, place, cursor),
+        SreOpcode::BRANCH
+            | SreOpcode::REPEAT
+            | SreOpcode::MAX_UNTIL
+            | SreOpcode::MIN_UNTIL
+            | SreOpcode::REPEAT_ONE
+            | SreOpcode::MIN_REPEAT_ONE
+    )
+}
+
+// Keeps an instruction of which nothing came.
+#[inline(never)]
+pub(super) fn keep<S: StrDrive, A: Allocator>(
+    req: &Request<'_, S>,
+    board: &Board<A>,
+    memo: &mut Memo<A>,
+    place: usize,
+    cursor: StringCursor,
+)
+    requires hopeless { (HasReference (run_of req.now).words → ⊥) → Hopeless (run_of req.now) (is_inside board.now.choices)
+        (spot_at (Instruction place) board.now.frames cursor.position board.now.marks) }
+    requires remembers { Remembers (run_of req.now) memo.old }
+    ensures { Remembers (run_of req.now) memo.new }
+{
+    let code = req.pattern_codes();
+    if !code.refers() {
+        memo.keep(code.items(), board, place, cursor.position());
+    }
+}
+
+// Whether the instruction at a place is known to fail. Where it is not, its mark is made, so that its failure is told.
+#[inline(never)]
+fn has_failed<S: StrDrive, A: Allocator>(
+    req: &Request<'_, S>,
+    board: &mut Board<A>,
+    memo: &mut Memo<A>,
+    place: usize,
+    cursor: StringCursor,
+) -> bool
+    requires remembers { Remembers (run_of req.now) memo.old }
+    ensures remembers { Remembers (run_of req.now) memo.new }
+    ensures left { result ≡ true → Turn req.now place cursor board.old Next.Back board.new }
+    ensures tried { result ≡ false → StaysAt req.now place cursor board.old board.new }
+{
+    let words = req.pattern_codes().items();
+    memo.prepare(words, board, place, req.start(), req.end());
+    if memo.is_kept(words, board, place, cursor.position()) {
+        return true;
+    }
+    let _made = board.begin_trying(place, cursor);
+    false
+}
+
+// Whether an instruction is left at once, since failures are kept by now and it is known to fail. Where it is not, the
+// machine stands there still.
+#[inline(always)]
+fn is_hopeless<S: StrDrive, A: Allocator>(
+    req: &Request<'_, S>,
+    board: &mut Board<A>,
+    memo: &mut Memo<A>,
+    place: usize,
+    cursor: StringCursor,
+) -> bool
+    requires stands { At req.now place cursor }
+    requires remembers { Remembers (run_of req.now) memo.old }
+    ensures remembers { Remembers (run_of req.now) memo.new }
+    ensures left { result ≡ true → Turn req.now place cursor board.old Next.Back board.new }
+    ensures tried { result ≡ false → StaysAt req.now place cursor board.old board.new }
+{
+    if !may_branch(req, place, cursor) {
+        return false;
+    }
+    if !memo.opens(req, board) {
+        return false;
+    }
+    has_failed(req, board, memo, place, cursor)
+}
+
+/// One instruction, which is left at once where it is known to fail.
+#[tactic(auto, using(sre_turns::proofs::Moving::on_board))]
+#[inline(always)]
+pub(super) fn instruction_or_back<S: StrDrive, A: Allocator>(
+    req: &Request<'_, S>,
+    board: &mut Board<A>,
+    memo: &mut Memo<A>,
+    place: usize,
+    cursor: StringCursor,
+) -> Result<Next, Refusal>
+    requires stands { IsAt (run_of req.now) (Instruction place) cursor board.old }
+    requires remembers { Remembers (run_of req.now) memo.old }
+    ensures turn { IfOk result (λ next. Turn req.now place cursor board.old next board.new) }
+    ensures remembers { Remembers (run_of req.now) memo.new }
+{
+    if is_hopeless(req, board, memo, place, cursor) {
+        return Ok(Next::Back);
+    }
+    instruction(req, board, place, cursor)
+}
