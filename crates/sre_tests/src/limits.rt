@@ -117,7 +117,7 @@ fn serves_again(alloc: Global, uni: &UniTable, state: &mut State<Global>) -> Res
     Ok(found && state.marks().raw() == marks.as_slice())
 }
 
-// What would take the age of the world is given up at once.
+// What takes far more turns than it may is given up at once.
 #[test]
 fn a_run_away_is_given_up(rt: HostRuntime) -> Result<(), Fail> {
     let alloc: Global = rt.alloc();

@@ -9,6 +9,7 @@ ghost use Rattle.sre_model.specs.Found.{matched, found};
 ghost use Rattle.sre_model.specs.Anchors.{is_anchored};
 ghost use Rattle.sre_model.specs.Prefixes.{behind_items, ReadsBehind};
 ghost use Rattle.sre_turns.specs.Board.{bare};
+ghost use Rattle.sre_board.specs.Failures.{Remembers};
 ghost use Rattle.sre_turns.specs.Machine.{Decides, outcomes};
 ghost use Rattle.sre_code.specs.Codes.{words_of, hints_of};
 ghost use Rattle.sre_request.specs.Requests.{string_of, start_of, end_of, code_of, asked_of, stands_in};
@@ -21,6 +22,7 @@ ghost use Rattle.sre_growth.specs.Refusal.{Refused};
 use sre_board::{Board, Marks};
 use sre_chars::string::{StrDrive, StringCursor};
 use sre_growth::Refusal;
+use sre_machine::memo::Memo;
 use sre_machine::turns::{Halt, run_behind};
 use sre_request::Request;
 use std::alloc::Allocator;
@@ -58,6 +60,7 @@ impl From<Refusal> for SreError {
 #[derive(Drop)]
 pub struct State<A: Allocator + Copy> {
     board: Board<A>,
+    memo: Memo<A>,
     start: usize,
     cursor: StringCursor,
     compared: u64,
@@ -80,13 +83,15 @@ impl<A: Allocator + Copy> Model for State<A> {
 
 // The first accepted way of what follows some literals, from a cursor and on an empty board: the cursor at its end, and
 // its marks on the board. Without a way, or with an error, the board is empty. Where the run is limited it takes its
-// turns off those that are left. No other function begins a run of the machine, and this one begins one.
+// turns off those that are left. What fails is remembered for the later starts of a search. No other function begins a
+// run of the machine, and this one begins one.
 #[inline(always)]
 fn attempt<S: StrDrive, A: Allocator>(
     req: &Request<'_, S>,
     literals: usize,
     start: StringCursor,
     board: &mut Board<A>,
+    memo: &mut Memo<A>,
     started: &mut u64,
     limited: bool,
     left: &mut u64,
@@ -97,6 +102,8 @@ fn attempt<S: StrDrive, A: Allocator>(
     requires behind { (t : Tree) → WholeItems (run_of req.now).words t → ReadsBehind (run_of req.now).words literals t }
     requires few { 2 * literals < 2 ^ 64 }
     requires room { started.old + 1 < 2 ^ 64 }
+    requires remembers { Remembers (run_of req.now) memo.old }
+    ensures remembers { Remembers (run_of req.now) memo.new }
     ensures counted { started.new ≡ started.old + 1 }
     ensures found { (t : Tree) → Whole (words_of (code_of req.now)) t
         → IfOk result
@@ -108,7 +115,7 @@ fn attempt<S: StrDrive, A: Allocator>(
     ensures spent { SpentUpTo (asked_of req.now) (code_of req.now) left.old left.new 1 }
 {
     *started += 1;
-    match run_behind(req, literals, start, board, limited, left) {
+    match run_behind(req, literals, start, board, memo, limited, left) {
         Ok(Some(end)) => Ok(Some(end)),
         Ok(None) => {
             board.clear();
@@ -134,6 +141,7 @@ impl<A: Allocator + Copy> State<A> {
     {
         State {
             board: Board::new(alloc),
+            memo: Memo::new(alloc),
             start: 0,
             cursor: StringCursor::default(),
             compared: 0,
@@ -225,7 +233,7 @@ impl<A: Allocator + Copy> State<A> {
     /// What is left of the turns comes back. A turn is one instruction, or one step back to what is still to be tried;
     /// a stretch of 64 characters or more that a run, a reference or a look goes over counts for one more for each
     /// eight of them, on the way back to the group or the look's start, too. So the code alone bounds the time of a
-    /// turn, and a number of turns bounds that of a call.
+    /// turn, but for one in which room for failures is made, and a number of turns bounds that of a call.
     pub fn match_within<S: StrDrive>(
         &mut self,
         req: &Request<'_, S>,
@@ -274,7 +282,17 @@ impl<A: Allocator + Copy> State<A> {
     {
         let mut own = 0; // no search
         self.board.clear(); // of an earlier match
-        match attempt(req, 0, from, &mut self.board, &mut own, limited, left)? {
+        self.memo.begin(req, &mut self.board);
+        match attempt(
+            req,
+            0,
+            from,
+            &mut self.board,
+            &mut self.memo,
+            &mut own,
+            limited,
+            left,
+        )? {
             Some(end) => {
                 (self.start, self.cursor) = (req.start(), end);
                 Ok(true)

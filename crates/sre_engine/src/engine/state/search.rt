@@ -134,6 +134,7 @@ impl<A: Allocator + Copy> State<A> {
             (self.new.start + 1) self.new.cursor.position self.new) }
     {
         self.board.clear(); // of an earlier search
+        self.memo.begin(req, &mut self.board);
         (self.compared, self.started) = (0, 0);
         let last = last_start(req);
         let mut spot = Spot {
@@ -151,6 +152,7 @@ impl<A: Allocator + Copy> State<A> {
                 prefix.literals,
                 behind,
                 &mut self.board,
+                &mut self.memo,
                 &mut self.started,
                 limited,
                 left,
@@ -190,6 +192,7 @@ impl<A: Allocator + Copy> State<A> {
         ensures once { self.new.started ≤ 1 }
     {
         self.board.clear(); // of an earlier search
+        self.memo.begin(req, &mut self.board);
         (self.compared, self.started) = (0, 0);
         if is_past(last_start(req), from.position()) {
             return Ok(false);
@@ -199,6 +202,7 @@ impl<A: Allocator + Copy> State<A> {
             0,
             from,
             &mut self.board,
+            &mut self.memo,
             &mut self.started,
             limited,
             left,
@@ -234,6 +238,7 @@ impl<A: Allocator + Copy> State<A> {
             (self.new.start + 1) self.new.cursor.position self.new) }
     {
         self.board.clear(); // of an earlier search
+        self.memo.begin(req, &mut self.board);
         (self.compared, self.started) = (0, 0);
         let last = last_start(req);
         let mut start = from;
@@ -249,6 +254,7 @@ impl<A: Allocator + Copy> State<A> {
                 0,
                 next,
                 &mut self.board,
+                &mut self.memo,
                 &mut self.started,
                 limited,
                 left,
@@ -288,6 +294,7 @@ impl<A: Allocator + Copy> State<A> {
             (self.new.start + 1) self.new.cursor.position self.new) }
     {
         self.board.clear(); // of an earlier search
+        self.memo.begin(req, &mut self.board);
         (self.compared, self.started) = (0, 0);
         let last = last_start(req);
         let reads_alternatives = false;
@@ -303,6 +310,7 @@ impl<A: Allocator + Copy> State<A> {
             0,
             start,
             &mut self.board,
+            &mut self.memo,
             &mut self.started,
             limited,
             left,
@@ -350,6 +358,7 @@ impl<A: Allocator + Copy> State<A> {
             (self.new.start + 1) self.new.cursor.position self.new) }
     {
         self.board.clear();
+        self.memo.begin(req, &mut self.board);
         let reads_alternatives = true;
         let first = First::of_items(req.pattern_codes().items(), reads_alternatives);
         let lead = leading_run(req);
@@ -370,6 +379,7 @@ impl<A: Allocator + Copy> State<A> {
                 0,
                 start,
                 &mut self.board,
+                &mut self.memo,
                 &mut self.started,
                 limited,
                 left,

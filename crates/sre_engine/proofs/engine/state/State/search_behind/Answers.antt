@@ -66,6 +66,7 @@ start-preserved g c =
       from = omega (arith, c.start.invariant.from, c.in-Some.ensures.next.0, next.after);
       inside = next.inside;
       fresh = search rules;
+      remembers = search rules;
       fits = subst (FitsAt c.args.last) c.position.ensures (c.is_past.ensures.fits c.if-is_past.false);
       once =
           omega (

@@ -138,6 +138,7 @@ start-preserved g c =
       from = omega (arith, inv.from, next.from, behind.next.0);
       inside = omega (arith, behind.next.1);
       fresh = search rules;
+      remembers = search rules;
       none = λ t whole.
           let before = none_to_member (code_of asked) c.requires.set (asked_of asked) t refl whole _ _
           (inv.none t whole) next in

@@ -301,6 +301,7 @@ place-preserved g c =
           subst (λ (x : StringCursor). stands_in asked x x.position) (sym on.at) c.find.ensures.stands;
       here = on.here;
       fresh = search rules;
+      remembers = search rules;
       none = λ t whole.
           let before : NoneBefore a t c.start_of-start.result =
           subst (NoneBefore a t) at
