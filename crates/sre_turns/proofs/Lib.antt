@@ -23,3 +23,4 @@ pub mod AlikeTurns
 pub mod SameComes
 pub mod Hopeless
 pub mod Trying
+pub mod RunEnds

@@ -31,11 +31,11 @@ use Rattle.sre_turns.proofs.Moving.{turn_goes, run_nothing, run_second}
 use Rattle.sre_turns.proofs.StepsInBranches.{positive}
 
 -- shorter counts
-shorter_stop : (r : Run) (t k p : ℕ) (fs : List Frame) (m : Marks) → k ≡ 0
+pub shorter_stop : (r : Run) (t k p : ℕ) (fs : List Frame) (m : Marks) → k ≡ 0
     → Moves r.words r.subject (spot_at (Shorter t k) fs p m) Stop
 shorter_stop r t k p fs m e = record { past = omega arith; is = rw e refl }
 
-shorter_moves : (r : Run) (t k j p q : ℕ) (fs : List Frame) (m : Marks) → k ≡ suc j → p ≡ q + 1 → k ≤ p
+pub shorter_moves : (r : Run) (t k j p q : ℕ) (fs : List Frame) (m : Marks) → k ≡ suc j → p ≡ q + 1 → k ≤ p
     → Moves r.words r.subject (spot_at (Shorter t k) fs p m)
     (Split (spot_at (Instruction t) fs q m) (spot_at (Shorter t j) fs q m))
 shorter_moves r t k j p q fs m e place l =
@@ -44,7 +44,7 @@ shorter_moves r t k j p q fs m e place l =
     let before : p - 1 ≡ q = omega arith in
     record { past = l; is = rw (more, less, before) refl }
 
-shorter_within : (r : Run) {t k p n : ℕ} {fs : List Frame} {m : Marks} {os : List Way}
+pub shorter_within : (r : Run) {t k p n : ℕ} {fs : List Frame} {m : Marks} {os : List Way}
     → Runs r.words r.subject (spot_at (Shorter t k) fs p m) os n → k ≤ p
 shorter_within r (turns mv h d) = h.past
 

@@ -65,7 +65,7 @@ loops_itself ws p [] = tt
 loops_itself ws p (f ∷ fs) =
     (record { repeat = refl; count = λ low high l h. refl; last = λ q at. refl }, loops_itself ws p fs)
 
-alike_itself : (ws : List ℕ) (x : Spot) → Alike ws x x
+pub alike_itself : (ws : List ℕ) (x : Spot) → Alike ws x x
 alike_itself ws x = record {
   point = refl;
   position = refl;
