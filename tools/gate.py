@@ -3,12 +3,12 @@
 
     gate.py [cases]
 
-It looks whether tests, cases, seal and pictures stand (`standing.py`). `rt ci` proves each crate and its tests from
-nothing, tries the must-fail edits, and runs the tests and the stored run. Once it has proved the crates below a crate,
-that crate's wrong bodies are tried (`wrong_bodies.py`), where cores are idle. In the end the programs answer the case
-files and random words (`hostile.py`); with `cases` they do that alone, over what an earlier run or `rt run` left. The
-gate tells the minutes of each phase, by the clock and of processors, and the dearest functions of the bundles, right or
-wrong. The last line counts what passed.
+It looks whether tests, cases, seal and pictures stand (`standing.py`). `rt ci` proves each crate and its tests, or
+takes over what an earlier run on this machine proved of the same files, tries the must-fail edits, and runs the tests
+and the stored run. Once the crates below a crate are proved, its wrong bodies are tried (`wrong_bodies.py`), where
+cores are idle. In the end the programs answer the case files and random words (`hostile.py`); with `cases` they do that
+alone, over what an earlier run or `rt run` left. The gate tells the minutes of each phase, by the clock and of
+processors, and the dearest functions of the bundles, right or wrong. The last line counts what passed.
 """
 import os
 import re
@@ -136,9 +136,9 @@ class Prover:
             tell(self.last)
             self.tests += bool(re.fullmatch(r"test .* \.\.\. ok", self.last))
             self.idle_edits += SAYS_NOTHING in self.last
-            ended = re.fullmatch(r"rt: (\w+) (proved|NOT PROVED)", self.last)
+            ended = re.fullmatch(r"rt: (\w+) (proved|is kept|NOT PROVED)(?:: .*)?", self.last)
             if ended:
-                self.end(ended[1], ended[2] == "proved")
+                self.end(ended[1], ended[2] != "NOT PROVED")
         self.rt.wait()
         with self.changed:
             self.changed.notify_all()
