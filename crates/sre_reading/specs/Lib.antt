@@ -1,1 +1,2 @@
 pub mod AsciiSets
+pub mod Stretches

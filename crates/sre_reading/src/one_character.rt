@@ -8,10 +8,11 @@ ghost use Rattle.sre_model.specs.Characters.{is_literal, in_set, holds};
 ghost use Rattle.sre_model.specs.Standing.{SetStands, HasSet, TestStands};
 ghost use Rattle.sre_request.specs.Runs.{run_of, OpcodeAt, TestAt};
 
+use crate::words::word;
 use sre_chars::constants::SreOpcode;
 use sre_chars::string::{StrDrive, UniTable, category, lower_ascii, lower_unicode, upper_ascii};
 use sre_code::members::is_member;
-use sre_code::operands::{category_code, operand, word};
+use sre_code::operands::{category_code, operand};
 use sre_request::Request;
 use std::convert::TryFrom;
 
@@ -40,7 +41,7 @@ pub fn opcode<S: StrDrive>(req: &Request<'_, S>, place: usize) -> SreOpcode
     requires { TestAt req.now place }
     ensures { OpcodeAt req.now place result }
 {
-    match SreOpcode::try_from(word(req.pattern_codes().items(), place)) {
+    match SreOpcode::try_from(word(req, place)) {
         Ok(opcode) => opcode,
         Err(_) => unreachable!(),
     }

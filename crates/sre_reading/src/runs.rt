@@ -11,12 +11,12 @@ ghost use Rattle.sre_model.specs.Tree.{Test, SetItem, Charset};
 ghost use Rattle.sre_model.specs.Characters.{item_holds, is_member, holds};
 ghost use Rattle.sre_code.specs.AsciiSet.{contains};
 ghost use Rattle.sre_model.specs.Subject.{passes};
-ghost use Rattle.sre_model.specs.CountedRuns.{Ended};
 ghost use Rattle.sre_model.specs.Ways.{most_from, run_length, longest_run};
 ghost use Rattle.sre_model.specs.Standing.{SetStands, TestStands};
 ghost use Rattle.sre_request.specs.Requests.{end_of};
 ghost use Rattle.sre_request.specs.Runs.{run_of, OpcodeAt, Standing, TestAt};
 ghost use Rattle.sre_reading.specs.AsciiSets.{IsAsciiPart};
+ghost use Rattle.sre_reading.specs.Stretches.{IsLongest};
 
 use crate::one_character::{opcode, takes};
 use crate::text::read;
@@ -27,6 +27,13 @@ use sre_code::ascii_set::AsciiSet;
 use sre_code::members::{has_bit, is_between, is_in_category, is_member};
 use sre_code::operands::{category_code, operand, word};
 use sre_request::Request;
+
+/// Some characters from a cursor on: how many, and the cursor behind them.
+#[derive(Clone, Copy)]
+pub struct Stretch {
+    pub count: usize,
+    pub end: StringCursor,
+}
 
 // How many characters a run from a cursor may have: those that are left, up to the greatest count.
 #[inline(always)]
@@ -48,23 +55,28 @@ fn run_any<S: StrDrive, const WANTED: bool>(
     req: &Request<'_, S>,
     most: usize,
     start: StringCursor,
-) -> (usize, StringCursor)
+) -> Stretch
     requires stands { Standing req.now start }
     requires most { most ≤ end_of req.now - start.position }
-    ensures count { result.0 ≡ cond WANTED most 0 }
-    ensures position { result.1.position ≡ start.position + result.0 }
-    ensures stands { Standing req.now result.1 }
+    ensures count { result.count ≡ cond WANTED most 0 }
+    ensures position { result.end.position ≡ start.position + result.count }
+    ensures stands { Standing req.now result.end }
 {
     if !WANTED {
-        return (0, start);
+        return Stretch {
+            count: 0,
+            end: start,
+        };
     }
     let mut after = start;
     req.string().skip(&mut after, most);
-    (most, after)
+    Stretch {
+        count: most,
+        end: after,
+    }
 }
 
-// The longest run of characters of which the test whose opcode is at a place says what is wanted, and the cursor behind
-// it.
+// The longest run of characters of which the test whose opcode is at a place says what is wanted.
 #[inline(always)]
 fn run_tested<S: StrDrive, const WANTED: bool>(
     req: &Request<'_, S>,
@@ -72,24 +84,24 @@ fn run_tested<S: StrDrive, const WANTED: bool>(
     opcode: SreOpcode,
     most: usize,
     start: StringCursor,
-) -> (usize, StringCursor)
+) -> Stretch
     requires code { OpcodeAt req.now place opcode }
     requires test { TestAt req.now place }
     requires stands { Standing req.now start }
     requires most { most ≤ end_of req.now - start.position }
-    ensures { Ended (run_of req.now) place WANTED most start result.1 result.0 }
+    ensures { IsLongest req.now place WANTED most start result }
 {
     let mut cursor = start;
     let mut count = 0;
     'character: while count < most {
         let (character, after) = read(req, cursor);
         if takes(req, place, opcode, character) != WANTED {
-            return (count, cursor);
+            return Stretch { count, end: cursor };
         }
         cursor = after;
         count += 1;
     }
-    (count, cursor)
+    Stretch { count, end: cursor }
 }
 
 // A test with its operands at hand.
@@ -195,25 +207,25 @@ fn run_while<S: StrDrive, T: Taker, const WANTED: bool>(
     taker: &T,
     most: usize,
     start: StringCursor,
-) -> (usize, StringCursor)
+) -> Stretch
     requires fits { T.fits taker.now }
     requires taker { (j c : ℕ) (taken : Bool) (t : Test) → TestStands (run_of req.now).words place j t
         → T.says taker.now c taken → taken ≡ holds (run_of req.now).subject.table t c }
     requires stands { Standing req.now start }
     requires most { most ≤ end_of req.now - start.position }
-    ensures { Ended (run_of req.now) place WANTED most start result.1 result.0 }
+    ensures { IsLongest req.now place WANTED most start result }
 {
     let mut cursor = start;
     let mut count = 0;
     'character: while count < most {
         let (character, after) = read(req, cursor);
         if taker.takes(character) != WANTED {
-            return (count, cursor);
+            return Stretch { count, end: cursor };
         }
         cursor = after;
         count += 1;
     }
-    (count, cursor)
+    Stretch { count, end: cursor }
 }
 
 // The same of an IN at a place, of any items.
@@ -223,12 +235,12 @@ fn run_in_items<S: StrDrive, const WANTED: bool>(
     place: usize,
     most: usize,
     start: StringCursor,
-) -> (usize, StringCursor)
+) -> Stretch
     requires code { OpcodeAt req.now place SreOpcode.IN }
     requires test { TestAt req.now place }
     requires stands { Standing req.now start }
     requires most { most ≤ end_of req.now - start.position }
-    ensures { Ended (run_of req.now) place WANTED most start result.1 result.0 }
+    ensures { IsLongest req.now place WANTED most start result }
 {
     let (words, set) = (req.pattern_codes().items(), place + 2);
     let Some(ascii) = ascii_members(words, set) else {
@@ -252,12 +264,12 @@ fn run_in_set<S: StrDrive, const WANTED: bool>(
     place: usize,
     most: usize,
     start: StringCursor,
-) -> (usize, StringCursor)
+) -> Stretch
     requires code { OpcodeAt req.now place SreOpcode.IN }
     requires test { TestAt req.now place }
     requires stands { Standing req.now start }
     requires most { most ≤ end_of req.now - start.position }
-    ensures { Ended (run_of req.now) place WANTED most start result.1 result.0 }
+    ensures { IsLongest req.now place WANTED most start result }
 {
     let words = req.pattern_codes().items();
     let (skip, set) = (operand(words, place, 1), place + 2);
@@ -286,18 +298,18 @@ fn run_in_set<S: StrDrive, const WANTED: bool>(
 }
 
 // The longest run of characters of which the test at a place says what is wanted, from a cursor on, of at most so many
-// characters of the window, and the cursor behind it.
+// characters of the window.
 #[inline(always)]
 fn run_wanted<S: StrDrive, const WANTED: bool>(
     req: &Request<'_, S>,
     place: usize,
     most: usize,
     start: StringCursor,
-) -> (usize, StringCursor)
+) -> Stretch
     requires test { TestAt req.now place }
     requires stands { Standing req.now start }
     requires most { most ≤ end_of req.now - start.position }
-    ensures { Ended (run_of req.now) place WANTED most start result.1 result.0 }
+    ensures { IsLongest req.now place WANTED most start result }
 {
     // An arm for each opcode, so that each loop knows its own.
     macro_rules! run_each {
@@ -320,40 +332,39 @@ fn run_wanted<S: StrDrive, const WANTED: bool>(
     )
 }
 
-/// The longest run of the test at a place from a cursor on, of at most so many characters of the window, and the cursor
-/// behind it.
+/// The longest run of the test at a place from a cursor on, of at most so many characters of the window.
 #[inline(always)]
 pub fn run_up_to<S: StrDrive>(
     req: &Request<'_, S>,
     place: usize,
     most: usize,
     start: StringCursor,
-) -> (usize, StringCursor)
+) -> Stretch
     requires test { TestAt req.now place }
     requires stands { Standing req.now start }
     requires most { most ≤ end_of req.now - start.position }
     ensures count { (j : ℕ) (t : Test) → TestStands (run_of req.now).words place j t
-        → result.0 ≡ run_length (run_of req.now).subject t most start.position }
-    ensures position { result.1.position ≡ start.position + result.0 }
-    ensures stands { Standing req.now result.1 }
+        → result.count ≡ run_length (run_of req.now).subject t most start.position }
+    ensures position { result.end.position ≡ start.position + result.count }
+    ensures stands { Standing req.now result.end }
 {
     run_wanted::<S, true>(req, place, most, start)
 }
 
-/// The longest run of the test at a place from a cursor on: how many characters it has, inside the window and up to
-/// `high`, where 4294967295 means no limit, and the cursor behind it.
+/// The longest run of the test at a place from a cursor on, inside the window and up to `high` characters, where
+/// 4294967295 means no limit.
 pub fn longest_run<S: StrDrive>(
     req: &Request<'_, S>,
     place: usize,
     high: u32,
     start: StringCursor,
-) -> (usize, StringCursor)
+) -> Stretch
     requires test { TestAt req.now place }
     requires stands { Standing req.now start }
     ensures count { (j : ℕ) (t : Test) → TestStands (run_of req.now).words place j t
-        → result.0 ≡ longest_run (run_of req.now).subject t high start.position }
-    ensures position { result.1.position ≡ start.position + result.0 }
-    ensures stands { Standing req.now result.1 }
+        → result.count ≡ longest_run (run_of req.now).subject t high start.position }
+    ensures position { result.end.position ≡ start.position + result.count }
+    ensures stands { Standing req.now result.end }
 {
     let most = most(req, high, start);
     run_up_to(req, place, most, start)
@@ -380,6 +391,5 @@ pub fn first_taken<S: StrDrive>(
     ensures stands { Standing req.now result }
 {
     let left = req.end().saturating_sub(start.position());
-    let found = run_wanted::<S, false>(req, place, left, start);
-    found.1
+    run_wanted::<S, false>(req, place, left, start).end
 }

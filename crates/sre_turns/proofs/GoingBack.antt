@@ -1,34 +1,35 @@
 -- Turns that take the newest choice.
-use Rattle.std.proofs.Common.{◌≡◌, ℕ, ◌-◌, ◌≤◌, List, [], ◌∷◌, refl, sym, ap, ◌∙◌, subst, arith}
+use Rattle.std.proofs.Common.{◌≡◌, ℕ, ◌+◌, ◌-◌, ◌≤◌, List, [], ◌∷◌, refl, sym, ap, ◌∙◌, subst, arith}
 use Rattle.sre_chars.specs.declared.string.StringCursor.{StringCursor}
 use Rattle.sre_model.specs.Ways.{Way}
 use Rattle.sre_turns.specs.Board.{Else, Keep, choice, BoardValue}
 use Rattle.sre_turns.specs.declared.Region.{Region}
 use Rattle.sre_turns.specs.declared.Point.TheVariants.{Inside}
 use Rattle.sre_turns.specs.declared.Point.{Point}
-use Rattle.sre_turns.specs.Machine.{Waits, outermost, otherwise, Goes, Backs, Stands, Later, without_outcome}
+use Rattle.sre_turns.specs.Machine.{Waits, outermost, otherwise, Goes, Arrives, Backs, Stands, Later, without_outcome}
 use Rattle.sre_model.specs.Runs.{Run}
 use Rattle.sre_turns.specs.Machine.{without_loop}
 use Rattle.sre_turns.specs.declared.Next.{Next}
 use Rattle.sre_turns.specs.declared.Next.TheVariants as next
+use Rattle.sre_turns.proofs.Moving.{sooner, arrived}
 use Rattle.sre_turns.proofs.StepsInRegions.{region_back}
 
 -- a choice is resumed
 pub back_none : (r : Run) (b : BoardValue) → b.choices ≡ [] → (all : List Way) (limit : ℕ)
     → Backs r all limit b → all ≡ []
-back_none r b e all limit g = go (subst (λ x. Waits r x [] all g.later) e g.waits)
+back_none r b e all limit g = go (subst (λ x. Waits r x 0 [] all g.later) e g.waits)
   where
-    go : {xs : List Way} {k : ℕ} → Waits r [] [] xs k → xs ≡ []
+    go : {xs : List Way} {k : ℕ} → Waits r [] 0 [] xs k → xs ≡ []
     go outermost = refl
 
 pub back_goes : (r : Run) (b b' : BoardValue) (pt : Point) (c : StringCursor)
     → b.choices ≡ Else pt b'.frames c b'.marks ∷ b'.choices → (all : List Way) (limit : ℕ) → Backs r all limit b
-    → (1 ≤ limit) × Goes r all (limit - 1) pt c b'
-back_goes r b b' pt c e all limit g = go (subst (λ x. Waits r x [] all g.later) e g.waits) g.within
+    → (1 ≤ limit) × Arrives r all (limit - 1) pt c b'
+back_goes r b b' pt c e all limit g = go (subst (λ x. Waits r x 0 [] all g.later) e g.waits) g.within
   where
-    go : {xs : List Way} {k : ℕ} → Waits r (Else pt b'.frames c b'.marks ∷ b'.choices) [] xs k → k ≤ limit
-        → (1 ≤ limit) × Goes r xs (limit - 1) pt c b'
-    go (otherwise there placed x wt) l = (
+    go : {xs : List Way} {k : ℕ} → Waits r (Else pt b'.frames c b'.marks ∷ b'.choices) 0 [] xs k → k ≤ limit
+        → (1 ≤ limit) × Arrives r xs (limit - 1) pt c b'
+    go (otherwise {n = n} there placed x wt) l = (
       omega arith,
       record {
         now = _;
@@ -37,19 +38,27 @@ back_goes r b b' pt c e all limit g = go (subst (λ x. Waits r x [] all g.later)
         stands = there;
         placed = placed;
         runs = x;
-        waits = wt;
+        waits = sooner (0 + n + 1) (n + 1) (omega arith) wt;
         within = omega arith;
       },
     )
 
 -- the same for a point that is known
+pub back_arrives : (r : Run) (b b' : BoardValue) (pt pt' : Point) (c : StringCursor)
+    → b.choices ≡ choice pt b'.frames c b'.marks ∷ b'.choices → pt ≡ pt'
+    → choice pt' b'.frames c b'.marks ≡ Else pt' b'.frames c b'.marks → (all : List Way) (limit : ℕ)
+    → Backs r all limit b → (1 ≤ limit) × Arrives r all (limit - 1) pt' c b'
+back_arrives r b b' pt pt' c e same is all limit g =
+    let found : b.choices ≡ choice pt' b'.frames c b'.marks ∷ b'.choices = e ∙ rw same refl in
+    back_goes r b b' pt' c (found ∙ ap (λ x. x ∷ b'.choices) is) all limit g
+
+-- the same where the turn goes on
 pub back_at : (r : Run) (b b' : BoardValue) (pt pt' : Point) (c : StringCursor)
     → b.choices ≡ choice pt b'.frames c b'.marks ∷ b'.choices → pt ≡ pt'
     → choice pt' b'.frames c b'.marks ≡ Else pt' b'.frames c b'.marks → (all : List Way) (limit : ℕ)
     → Backs r all limit b → (1 ≤ limit) × Goes r all (limit - 1) pt' c b'
 back_at r b b' pt pt' c e same is all limit g =
-    let found : b.choices ≡ choice pt' b'.frames c b'.marks ∷ b'.choices = e ∙ rw same refl in
-    back_goes r b b' pt' c (found ∙ ap (λ x. x ∷ b'.choices) is) all limit g
+    let s = back_arrives r b b' pt pt' c e same is all limit g in (s.0, arrived s.1)
 
 -- a region whose body has no outcome
 pub back_region : (r : Run) (b b' b'' : BoardValue) (pt : Point) (g : Region) (c : StringCursor) (n : Next)
@@ -57,8 +66,8 @@ pub back_region : (r : Run) (b b' b'' : BoardValue) (pt : Point) (g : Region) (c
     → b'' ≡ without_loop g b' → (all : List Way) (limit : ℕ) → Backs r all limit b → Later r all limit n b''
 back_region r b b' b'' pt g c n e same is left all limit k =
     let found : b.choices ≡ Keep g b'.frames c b'.marks ∷ b'.choices = e ∙ rw same refl in
-    let kept : Waits r (Keep g b'.frames c b'.marks ∷ b'.choices) [] all k.later =
-    subst (λ x. Waits r x [] all k.later) found k.waits in
+    let kept : Waits r (Keep g b'.frames c b'.marks ∷ b'.choices) 0 [] all k.later =
+    subst (λ x. Waits r x 0 [] all k.later) found k.waits in
     let back : Later r all limit (without_outcome g c) (without_loop g b') =
     region_back r c b' g all limit k.later kept k.within in
     subst (λ x. Later r all limit x b'') (sym is)

@@ -1,6 +1,6 @@
 -- A spot of which nothing came is hopeless, and the machine may go back at once from one that is alike.
 -- The memory of failures, which keeps hopeless spots, rests on these laws.
-use Rattle.std.proofs.Common.{◌≡◌, ℕ, Bool, true, false, List, [], ◌∷◌, refl, sym, ◌∙◌, subst, arith}
+use Rattle.std.proofs.Common.{◌≡◌, ℕ, ◌+◌, Bool, true, false, List, [], ◌∷◌, refl, sym, ◌∙◌, subst, arith}
 use Rattle.std.specs.List.{filter}
 use Rattle.std.proofs.lemmas.Bool.{true≢false}
 use Rattle.sre_model.specs.Tree.{Tree}
@@ -19,7 +19,7 @@ use Rattle.sre_turns.specs.declared.Next.TheVariants as next
 use Rattle.sre_turns.specs.declared.Point.{Point}
 use Rattle.sre_turns.specs.Alike.{Alike}
 use Rattle.sre_turns.specs.Hopeless.{Fruitless, SameFruit, Hopeless, AcceptsByStop, is_inside}
-use Rattle.sre_turns.proofs.Moving.{some_turns}
+use Rattle.sre_turns.proofs.Moving.{some_turns, sooner}
 use Rattle.sre_turns.proofs.SameComes.{same_comes}
 use Rattle.sre_turns.proofs.Start.{refused_waits}
 
@@ -58,27 +58,27 @@ hopeless_again r told none inside x os n d e = record {
 }
 
 -- outside all regions what is not accepted may be left out
-pub hopeless_waits : (r : Run) (cs : List Choice) (now : List Way) {all : List Way} {k : ℕ} → from_region cs ≡ []
-    → filter r.accepts now ≡ [] → Waits r cs now all k → Waits r cs [] all k
+pub hopeless_waits : (r : Run) (cs : List Choice) (now : List Way) {all : List Way} {u k : ℕ} → from_region cs ≡ []
+    → filter r.accepts now ≡ [] → Waits r cs u now all k → Waits r cs u [] all k
 hopeless_waits r cs [] outside e wt = wt
-hopeless_waits r cs (w ∷ now) {all} {k} outside e wt =
+hopeless_waits r cs (w ∷ now) {all} {u} {k} outside e wt =
     by_test (r.accepts w) refl (λ left wt'. hopeless_waits r cs now outside left wt')
   where
     by_test : (b : Bool) → r.accepts w ≡ b
-        → (filter r.accepts now ≡ [] → Waits r cs now all k → Waits r cs [] all k) → Waits r cs [] all k
+        → (filter r.accepts now ≡ [] → Waits r cs u now all k → Waits r cs u [] all k) → Waits r cs u [] all k
     by_test true y later = let found : w ∷ filter r.accepts now ≡ [] = rw y at e in absurd (cc)
     by_test false y later =
         let left : filter r.accepts now ≡ [] = rw y at e in later left (refused_waits r cs w now outside y wt)
 
 -- so anywhere what was fruitless may be left out
-pub fruitless_waits : (r : Run) (cs : List Choice) (now : List Way) {all : List Way} {k : ℕ}
-    → Fruitless r (is_inside cs) now → Waits r cs now all k → Waits r cs [] all k
-fruitless_waits r cs now {all} {k} fruitless wt = go (from_region cs) refl fruitless
+pub fruitless_waits : (r : Run) (cs : List Choice) (now : List Way) {all : List Way} {u k : ℕ}
+    → Fruitless r (is_inside cs) now → Waits r cs u now all k → Waits r cs u [] all k
+fruitless_waits r cs now {all} {u} {k} fruitless wt = go (from_region cs) refl fruitless
   where
     go : (waiting : List Choice) → from_region cs ≡ waiting
-        → Fruitless r (elim waiting [ [] ↦ false | (c ∷ rest) ↦ true ]) now → Waits r cs [] all k
+        → Fruitless r (elim waiting [ [] ↦ false | (c ∷ rest) ↦ true ]) now → Waits r cs u [] all k
     go [] outside e = hopeless_waits r cs now outside e wt
-    go (c ∷ rest) inside e = subst (λ os. Waits r cs os all k) e wt
+    go (c ∷ rest) inside e = subst (λ os. Waits r cs u os all k) e wt
 
 -- the machine goes back at once from where a spot that is alike is hopeless
 pub hopeless_back : (r : Run) (x : Spot) (pt : Point) (c : StringCursor) (b : BoardValue)
@@ -88,7 +88,8 @@ hopeless_back r x pt c b hopeless alike all limit g = (
   omega (arith, some_turns g.runs, g.within),
   record {
     later = g.later;
-    waits = fruitless_waits r b.choices g.now (hopeless.none (spot pt c b) g.now g.turns alike g.runs) g.waits;
+    waits = sooner (g.turns + 0) 0 (omega arith)
+        (fruitless_waits r b.choices g.now (hopeless.none (spot pt c b) g.now g.turns alike g.runs) g.waits);
     within = omega (arith, some_turns g.runs, g.within);
   },
 )

@@ -18,9 +18,17 @@ pub mod Ran
 pub mod GoingBack
 pub mod Start
 pub mod Onward
+pub mod NestedMoves
+pub mod NestedStarts
+pub mod NestedPlaces
+pub mod NestedPositions
+pub mod NestedSlots
+pub mod NestedWindow
 pub mod AlikeLoops
 pub mod AlikeTurns
 pub mod SameComes
 pub mod Hopeless
 pub mod Trying
 pub mod RunEnds
+pub mod LazyRunEnds
+pub mod OpenMarks

@@ -21,8 +21,9 @@ use Rattle.sre_turns.specs.MovesInLoops.{UntilMove, AgainMove}
 use Rattle.sre_turns.specs.MovesInRegions.{LookMove}
 use Rattle.sre_turns.specs.MovesAtReferences.{ReferenceMove, ConditionMove}
 use Rattle.sre_turns.specs.Machine.{Placed, InRole, Moves, MovesAt, Runs, turns, Comes, stops, ends, goes, splits}
-use Rattle.sre_turns.specs.Machine.{enters, Waits, otherwise, kept, tried, Goes, GoesBoth, Later, spot, HasRun, IsAt}
+use Rattle.sre_turns.specs.Machine.{enters, Waits, outermost, otherwise, kept, tried, GoesWith, Goes, Arrives, GoesBoth, Later}
 use Rattle.sre_model.specs.Runs.{Run}
+use Rattle.sre_turns.specs.Machine.{spot, HasRun, IsAt}
 use Rattle.sre_turns.specs.Machine.{Refuses, Skips, SkipsBoth, Exhausted, Continues}
 use Rattle.sre_model.specs.Roles.{Role, ToFail, ToEnd, ToTest, ToCheckPosition, ToMark, ToBranch, ToJump, ToRun}
 use Rattle.sre_model.specs.Roles.{ToRepeat}
@@ -245,36 +246,67 @@ reached_within r i c x = go x.runs
         → i < length r.words
     go (turns mv h d) = opcode_within r.words i h.0 h.1
 
+-- what waits for so many turns waits for fewer
+pub sooner : {r : Run} {cs : List Choice} {now all : List Way} {k : ℕ} (u v : ℕ) → v ≤ u → Waits r cs u now all k
+    → Waits r cs v now all k
+sooner u v l outermost = outermost
+sooner u v l (otherwise {n = n} there placed d wt) =
+    otherwise there placed d (sooner (u + n + 1) (v + n + 1) (omega arith) wt)
+sooner u v l (kept {pt = pt} {n = n} there placed d wt) =
+    kept {pt = pt} there placed d (sooner (u + n) (v + n) (omega arith) wt)
+sooner u v l (tried there placed d most same wt) = tried there placed d (omega arith) same (sooner u v l wt)
+
+-- what is come to is gone on with
+pub arrived : {r : Run} {all : List Way} {limit : ℕ} {pt : Point} {c : StringCursor} {b : BoardValue}
+    → Arrives r all limit pt c b → Goes r all limit pt c b
+arrived g = record {
+  now = g.now;
+  turns = g.turns;
+  later = g.later;
+  stands = g.stands;
+  placed = g.placed;
+  runs = g.runs;
+  waits = sooner (g.turns + 1) (g.turns + 0) (omega arith) g.waits;
+  within = g.within;
+}
+
 -- what one turn keeps
 module _ (r : Run) (pt : Point) (c : StringCursor) (b : BoardValue) where
   pub turn_stops : Moves r.words r.subject (spot pt c b) Stop → (all : List Way) (limit : ℕ) → Goes r all limit pt c b
       → Later r all limit next.Back b
   turn_stops h all limit g = go (comes Stop h g.runs) g.waits g.within
     where
-      go : {os : List Way} {n k : ℕ} → Comes r.words r.subject (spot pt c b) Stop os n → Waits r b.choices os all k
-          → n + k ≤ limit → Later r all limit next.Back b
-      go stops wt l = (omega arith, record { later = _; waits = wt; within = omega arith })
+      go : {os : List Way} {n k : ℕ} → Comes r.words r.subject (spot pt c b) Stop os n
+          → Waits r b.choices (n + 0) os all k → n + k ≤ limit → Later r all limit next.Back b
+      go stops wt l =
+          (omega arith, record { later = _; waits = sooner (1 + 0) 0 (omega arith) wt; within = omega arith })
 
   pub turn_ends : Moves r.words r.subject (spot pt c b) End → (all : List Way) (limit : ℕ) → Goes r all limit pt c b
       → Later r all limit (next.Done c) b
   turn_ends h all limit g = go (comes End h g.runs) g.waits g.within
     where
-      go : {os : List Way} {n k : ℕ} → Comes r.words r.subject (spot pt c b) End os n → Waits r b.choices os all k
-          → n + k ≤ limit → Later r all limit (next.Done c) b
+      go : {os : List Way} {n k : ℕ} → Comes r.words r.subject (spot pt c b) End os n
+          → Waits r b.choices (n + 0) os all k → n + k ≤ limit → Later r all limit (next.Done c) b
       go ends wt l = (
         omega arith,
-        record { later = _; stands = g.stands; placed = g.placed; waits = wt; within = omega arith },
+        record {
+          later = _;
+          stands = g.stands;
+          placed = g.placed;
+          waits = sooner (2 + 0) 0 (omega arith) wt;
+          within = omega arith;
+        },
       )
 
   pub turn_goes : (pt' : Point) (c' : StringCursor) (b' : BoardValue)
       → Moves r.words r.subject (spot pt c b) (Go (spot pt' c' b')) → r.stands c' c'.position
       → Placed r.subject b'.marks → b'.choices ≡ b.choices
-      → (all : List Way) (limit : ℕ) → Goes r all limit pt c b → (1 ≤ limit) × Goes r all (limit - 1) pt' c' b'
+      → (all : List Way) (limit : ℕ) → Goes r all limit pt c b → (1 ≤ limit) × Arrives r all (limit - 1) pt' c' b'
   turn_goes pt' c' b' h there placed e all limit g = go (comes (Go (spot pt' c' b')) h g.runs) g.waits g.within
     where
       go : {os : List Way} {n k : ℕ} → Comes r.words r.subject (spot pt c b) (Go (spot pt' c' b')) os n
-          → Waits r b.choices os all k → n + k ≤ limit → (1 ≤ limit) × Goes r all (limit - 1) pt' c' b'
-      go {os} {n} {k} (goes d) wt l = (
+          → Waits r b.choices (n + 0) os all k → n + k ≤ limit → (1 ≤ limit) × Arrives r all (limit - 1) pt' c' b'
+      go {os} {n} {k} (goes {n = n'} d) wt l = (
         omega arith,
         record {
           now = _;
@@ -283,7 +315,7 @@ module _ (r : Run) (pt : Point) (c : StringCursor) (b : BoardValue) where
           stands = there;
           placed = placed;
           runs = d;
-          waits = subst (λ x. Waits r x os all k) (sym e) wt;
+          waits = subst (λ x. Waits r x (n' + 1) os all k) (sym e) (sooner (suc n' + 0) (n' + 1) (omega arith) wt);
           within = omega arith;
         },
       )
@@ -295,8 +327,8 @@ module _ (r : Run) (pt : Point) (c : StringCursor) (b : BoardValue) where
   turn_splits y z c' h there ey ez all limit g = go (comes (Split y z) h g.runs) g.waits g.within
     where
       go : {os : List Way} {n k : ℕ} → Comes r.words r.subject (spot pt c b) (Split y z) os n
-          → Waits r b.choices os all k → n + k ≤ limit → GoesBoth r all limit y z c' b.choices
-      go (splits d e) wt l = record {
+          → Waits r b.choices (n + 0) os all k → n + k ≤ limit → GoesBoth r all limit y z c' b.choices
+      go (splits {n₁ = n₁} {n₂ = n₂} d e) wt l = record {
         now = _;
         next = _;
         turns = _;
@@ -307,7 +339,7 @@ module _ (r : Run) (pt : Point) (c : StringCursor) (b : BoardValue) where
         others_placed = subst (λ m. Placed r.subject m) (sym ez) g.placed;
         runs = d;
         others = e;
-        waits = wt;
+        waits = sooner (suc (suc (n₁ + n₂)) + 0) (n₁ + n₂ + 2) (omega arith) wt;
         within = omega arith;
       }
 
@@ -323,8 +355,9 @@ both_pass r i second c b no_ all limit g =
       stands = g.stands;
       placed = g.others_placed;
       runs = g.others;
-      waits =
-          subst (λ x. Waits r b.choices (x ++ g.next) all g.later) (no_ b.frames b.marks g.now g.turns g.runs) g.waits;
+      waits = sooner (g.turns + g.further + 2) (g.further + 0) (omega arith)
+          (subst (λ x. Waits r b.choices (g.turns + g.further + 2) (x ++ g.next) all g.later)
+          (no_ b.frames b.marks g.now g.turns g.runs) g.waits);
       within = omega (arith, g.within);
     }
 
@@ -354,8 +387,9 @@ both_wait r i z c b b' cs same_place eb all limit g =
         placed = g.placed;
         runs = g.runs;
         waits =
-            subst (λ x. Waits r x g.now all (suc (g.further + g.later))) (sym eb)
-            (otherwise g.stands g.others_placed others g.waits);
+            subst (λ x. Waits r x (g.turns + 1) g.now all (suc (g.further + g.later))) (sym eb)
+            (otherwise g.stands g.others_placed others
+            (sooner (g.turns + g.further + 2) (g.turns + 1 + g.further + 1) (omega arith) g.waits));
         within = omega (arith, g.within);
       },
     )
@@ -404,7 +438,9 @@ both_second r y i c b cs none e all limit g =
         stands = g.stands;
         placed = g.others_placed;
         runs = g.others;
-        waits = subst (λ x. Waits r x g.next all g.later) (sym e) (subst (λ x. Waits r cs x all g.later) same g.waits);
+        waits = sooner (g.turns + g.further + 2) (g.further + 1) (omega arith)
+            (subst (λ x. Waits r x (g.turns + g.further + 2) g.next all g.later) (sym e)
+            (subst (λ x. Waits r cs (g.turns + g.further + 2) x all g.later) same g.waits));
         within = omega (arith, g.within);
       },
     )
@@ -422,7 +458,9 @@ both_first r z i c b cs none e all limit g =
         stands = g.stands;
         placed = g.placed;
         runs = g.runs;
-        waits = subst (λ x. Waits r x g.now all g.later) (sym e) (subst (λ x. Waits r cs x all g.later) same g.waits);
+        waits = sooner (g.turns + g.further + 2) (g.turns + 1) (omega arith)
+            (subst (λ x. Waits r x (g.turns + g.further + 2) g.now all g.later) (sym e)
+            (subst (λ x. Waits r cs (g.turns + g.further + 2) x all g.later) same g.waits));
         within = omega (arith, g.within);
       },
     )
@@ -464,16 +502,17 @@ exhausted_back r pt c b none all limit g = (
   omega (arith, some_turns g.runs, g.within),
   record {
     later = g.later;
-    waits =
-        subst (λ x. Waits r b.choices x all g.later) (none b.frames b.marks g.now g.turns g.runs) g.waits;
+    waits = sooner (g.turns + 0) 0 (omega arith)
+        (subst (λ x. Waits r b.choices (g.turns + 0) x all g.later) (none b.frames b.marks g.now g.turns g.runs)
+        g.waits);
     within = omega (arith, some_turns g.runs, g.within);
   },
 )
 
 module _ (r : Run) (pt pt' : Point) (c c' : StringCursor) (on : Continues r pt c pt' c') where
-  pub continues_goes : (b : BoardValue) (all : List Way) (limit : ℕ) → Goes r all limit pt c b
-      → Goes r all limit pt' c' b
-  continues_goes b all limit g =
+  continues_with : (spare : ℕ) (b : BoardValue) (all : List Way) (limit : ℕ) → GoesWith spare r all limit pt c b
+      → GoesWith spare r all limit pt' c' b
+  continues_with spare b all limit g =
       let x = on.runs b.frames b.marks g.now g.turns g.runs in
       record {
         now = g.now;
@@ -482,9 +521,17 @@ module _ (r : Run) (pt pt' : Point) (c c' : StringCursor) (on : Continues r pt c
         stands = on.stands;
         placed = g.placed;
         runs = x.2;
-        waits = g.waits;
+        waits = sooner (g.turns + spare) (x.0 + spare) (omega (arith, x.1)) g.waits;
         within = omega (arith, g.within, x.1);
       }
+
+  pub continues_goes : (b : BoardValue) (all : List Way) (limit : ℕ) → Goes r all limit pt c b
+      → Goes r all limit pt' c' b
+  continues_goes b all limit g = continues_with 0 b all limit g
+
+  pub continues_arrives : (b : BoardValue) (all : List Way) (limit : ℕ) → Arrives r all limit pt c b
+      → Arrives r all limit pt' c' b
+  continues_arrives b all limit g = continues_with 1 b all limit g
 
   pub continues_run : HasRun r pt c → HasRun r pt' c'
   continues_run h =
@@ -508,7 +555,7 @@ pub later_continues : (r : Run) (i j : ℕ) (c c' : StringCursor) (b : BoardValu
     → Continues r (Instruction i) c (Instruction j) c' → (all : List Way) (limit : ℕ)
     → Later r all limit (next.At i c) b → Later r all limit (next.At j c') b
 later_continues r i j c c' b on all limit l =
-    (l.0, continues_goes r (Instruction i) (Instruction j) c c' on b all (limit - 1) l.1)
+    (l.0, continues_arrives r (Instruction i) (Instruction j) c c' on b all (limit - 1) l.1)
 
 -- the second of two points continues at another point, or nothing comes of it
 pub both_continue : (r : Run) (y : Spot) (pt pt' : Point) (c : StringCursor) (b : BoardValue)
@@ -527,7 +574,7 @@ both_continue r y pt pt' c b on all limit g =
       others_placed = g.others_placed;
       runs = g.runs;
       others = x.2;
-      waits = g.waits;
+      waits = sooner (g.turns + g.further + 2) (g.turns + x.0 + 2) (omega (arith, x.1)) g.waits;
       within = omega (arith, g.within, x.1);
     }
 
@@ -552,11 +599,12 @@ turn_enters r pt fs j g c c' b b' h there e em all limit st = go (comes (Enter g
     z = spot (Instruction j) c' b'
 
     go : {os : List Way} {n k : ℕ} → Comes r.words r.subject (spot pt c b) (Enter g y z) os n
-        → Waits r b.choices os all k → n + k ≤ limit → Later r all limit (next.At j c') b'
+        → Waits r b.choices (n + 0) os all k → n + k ≤ limit → Later r all limit (next.At j c') b'
     go {os} {n} {k} (enters {now = now} {n₁ = n₁} {n₂ = n₂} d f) wt l =
-        let behind : Waits r (Keep g fs c b.marks ∷ b.choices) now all (n₂ + k) =
-        kept {pt = pt} st.stands st.placed f wt in
-        let later : Waits r b'.choices now all (n₂ + k) = subst (λ x. Waits r x now all (n₂ + k)) (sym e) behind in (
+        let behind : Waits r (Keep g fs c b.marks ∷ b.choices) (n₁ + 1) now all (n₂ + k) =
+        kept {pt = pt} st.stands st.placed f (sooner (suc (n₁ + n₂) + 0) (n₁ + 1 + n₂) (omega arith) wt) in
+        let later : Waits r b'.choices (n₁ + 1) now all (n₂ + k) =
+        subst (λ x. Waits r x (n₁ + 1) now all (n₂ + k)) (sym e) behind in (
           omega arith,
           record {
             now = now;
@@ -573,12 +621,13 @@ turn_enters r pt fs j g c c' b b' h there e em all limit st = go (comes (Enter g
 -- of a region that has an outcome, the other choices inside it do not matter
 pub cut_waits : (r : Run) (cs rest : List Choice) (g : Region) (fs : List Frame) (c : StringCursor) (m : Marks)
     (w : Way) (ws all : List Way) (k : ℕ)
-    → from_region cs ≡ Keep g fs c m ∷ rest → Waits r cs (w ∷ ws) all k
-    → (us : List Way) × (j : ℕ) × (j ≤ k) × Waits r (Keep g fs c m ∷ rest) (w ∷ us) all j
+    → from_region cs ≡ Keep g fs c m ∷ rest → Waits r cs 0 (w ∷ ws) all k
+    → (us : List Way) × (j : ℕ) × (j ≤ k) × Waits r (Keep g fs c m ∷ rest) 0 (w ∷ us) all j
 cut_waits r [] rest g fs c m w ws all k e wt = absurd (cc)
 cut_waits r (Else pt gs d l ∷ cs) rest g fs c m w ws all k e (otherwise {n = n} {k = k'} {os = os} there placed x wt) =
-    let u = cut_waits r cs rest g fs c m w (ws ++ os) all k' e wt in (u.0, u.1, omega (arith, u.2), u.3)
-cut_waits r (Trying i gs d l ∷ cs) rest g fs c m w ws all k e (tried there placed x same wt) =
+    let u = cut_waits r cs rest g fs c m w (ws ++ os) all k' e (sooner (0 + n + 1) 0 (omega arith) wt) in
+    (u.0, u.1, omega (arith, u.2), u.3)
+cut_waits r (Trying i gs d l ∷ cs) rest g fs c m w ws all k e (tried there placed x most same wt) =
     cut_waits r cs rest g fs c m w ws all k e wt
 cut_waits r (Keep h gs d l ∷ cs) rest g fs c m w ws all k e wt =
-    (ws, k, omega arith, subst (λ x. Waits r x (w ∷ ws) all k) e wt)
+    (ws, k, omega arith, subst (λ x. Waits r x 0 (w ∷ ws) all k) e wt)

@@ -1,8 +1,7 @@
--- The ends of a greedy run without a greatest count: a run that failed at a position tried those of each run that begins
--- later in the same stretch, and where such a run is known to fail, its ends need not be tried again.
--- Nothing calls these laws yet: a run that scans no further than to a start that is known to fail waits for them.
-use Rattle.std.proofs.Common.{◌≡◌, ℕ, zero, suc, ◌+◌, ◌-◌, ◌<◌, ◌≤◌, Bool, true, false, List, [], ◌∷◌, ◌++◌, refl, sym}
-use Rattle.std.proofs.Common.{◌∙◌, ap, subst, arith, nat_lt}
+-- The ends of a greedy run without a greatest count: a run that failed at a position tried those of each run that
+-- begins later in the same stretch, and where such a run is known to fail, its ends need not be tried again.
+use Rattle.std.proofs.Common.{◌≡◌, ℕ, zero, suc, ◌+◌, ◌-◌, ◌<◌, ◌≤◌, Bool, true, false, List, [], ◌∷◌, ◌++◌, length}
+use Rattle.std.proofs.Common.{refl, sym, ◌∙◌, ap, subst, arith, nat_lt}
 use Rattle.std.specs.List.{filter}
 use Rattle.std.proofs.lemmas.List.{append_assoc}
 use Rattle.std.proofs.lemmas.Bool.Decides.{nat_tests}
@@ -10,26 +9,27 @@ use Rattle.sre_chars.specs.declared.constants.SreOpcode.TheVariants as opcode
 use Rattle.sre_chars.specs.declared.string.StringCursor.{StringCursor}
 use Rattle.sre_model.specs.Tree.{Test, GreedyRun}
 use Rattle.sre_model.specs.Marks.{Marks}
-use Rattle.sre_model.specs.Subject.{passes}
+use Rattle.sre_model.specs.Subject.{Subject, passes}
 use Rattle.sre_model.specs.Ways.{Way, unlimited, run_length, longest_run}
-use Rattle.sre_model.specs.Grammar.{Word, Opcode}
+use Rattle.sre_model.specs.Grammar.{Word, word, Opcode, test_opcode}
 use Rattle.sre_model.specs.Roles.{ToRun}
 use Rattle.sre_model.specs.Runs.{Run}
 use Rattle.sre_model.specs.Standing.{HasTest}
+use Rattle.sre_model.proofs.Bounds.{passes-below}
 use Rattle.sre_model.proofs.Longest.{run_passes, run_stopped, run_at_most, run_has}
-use Rattle.sre_model.proofs.Words.{word_of}
-use Rattle.sre_turns.specs.Board.{Choice, from_region, BoardValue}
+use Rattle.sre_model.proofs.Words.{word_of, word_there, opcode_within}
+use Rattle.sre_turns.specs.Board.{Choice, Trying, from_region, BoardValue}
 use Rattle.sre_turns.specs.Fruit.{Fruitless, is_inside}
 use Rattle.sre_turns.specs.Hopeless.{Hopeless, AcceptsByStop}
-use Rattle.sre_turns.specs.Machine.{Moves, Runs, turns, Comes, stops, splits, Waits, Goes}
+use Rattle.sre_turns.specs.Machine.{Moves, Runs, turns, Comes, stops, splits, Waits, Goes, Backs, HasRun}
 use Rattle.sre_turns.specs.Moves.{Spot, spot_at, Stop, Split}
 use Rattle.sre_turns.specs.MovesAtReferences.{HasReference}
+use Rattle.sre_turns.specs.RunEnds.{AllPass}
 use Rattle.sre_turns.specs.declared.Frame.{Frame}
 use Rattle.sre_turns.specs.declared.Point.TheVariants.{Instruction, Shorter}
-use Rattle.sre_turns.proofs.Hopeless.{hopeless_again}
-use Rattle.sre_turns.proofs.Moving.{comes, at_instruction}
+use Rattle.sre_turns.proofs.Moving.{comes, in_role, at_instruction, sooner}
 use Rattle.sre_turns.proofs.Start.{refused_waits}
-use Rattle.sre_turns.proofs.Trying.{alike_itself}
+use Rattle.sre_turns.proofs.Trying.{CameToNothing, came_hopeless, tried_came, alike_itself}
 use Rattle.sre_turns.proofs.StepsInRuns.{shorter_stop, shorter_moves, shorter_within}
 
 -- the shorter counts of a run behind p in two parts: the first j of them, and k that are left behind q
@@ -42,6 +42,9 @@ record Parts (r : Run) (t j k p q : ℕ) (fs : List Frame) (m : Marks) (os : Lis
   near_runs : Runs r.words r.subject (spot_at (Shorter t j) fs p m) near near_turns
   far_runs : Runs r.words r.subject (spot_at (Shorter t k) fs q m) far far_turns
   fewer : far_turns ≤ n
+
+joined : (us vs near far : List Way) → vs ≡ near ++ far → us ++ vs ≡ (us ++ near) ++ far
+joined us vs near far e = ap (λ ws. us ++ ws) e ∙ sym (append_assoc us near far)
 
 parts : (r : Run) (t j k a p q : ℕ) (fs : List Frame) (m : Marks) (os : List Way) (n : ℕ) → a ≡ j + k → q + j ≡ p
     → Runs r.words r.subject (spot_at (Shorter t a) fs p m) os n → Parts r t j k p q fs m os n
@@ -80,7 +83,7 @@ parts r t (suc j) k a p q fs m os n e back d =
         record {
           near = os₁ ++ rest.near;
           far = rest.far;
-          both = ap (λ us. os₁ ++ us) rest.both ∙ sym (append_assoc os₁ rest.near rest.far);
+          both = joined os₁ os₂ rest.near rest.far rest.both;
           near_turns = suc (suc (n₁ + rest.near_turns));
           far_turns = rest.far_turns;
           near_runs =
@@ -91,8 +94,14 @@ parts r t (suc j) k a p q fs m os n e back d =
           fewer = omega (arith, rest.fewer);
         }
 
+-- no outcomes are fruitless
+pub nothing_fruitless : (r : Run) (inside : Bool) → Fruitless r inside []
+nothing_fruitless r true = refl
+nothing_fruitless r false = refl
+
 -- of what is fruitless the first part is
-fruitless_start : (r : Run) (inside : Bool) (us vs : List Way) → Fruitless r inside (us ++ vs) → Fruitless r inside us
+pub fruitless_start : (r : Run) (inside : Bool) (us vs : List Way) → Fruitless r inside (us ++ vs)
+    → Fruitless r inside us
 fruitless_start r true [] vs e = refl
 fruitless_start r true (u ∷ us) vs e = absurd (cc)
 fruitless_start r false [] vs e = refl
@@ -103,21 +112,85 @@ fruitless_start r false (u ∷ us) vs e = by_test (r.accepts u) refl (λ left. f
     by_test true k later = let found : u ∷ filter r.accepts (us ++ vs) ≡ [] = rw k at e in absurd (cc)
     by_test false k later = rw k (later (rw k at e))
 
+-- and so is the last part
+pub fruitless_end : (r : Run) (inside : Bool) (us vs : List Way) → Fruitless r inside (us ++ vs) → Fruitless r inside vs
+fruitless_end r true [] vs e = e
+fruitless_end r true (u ∷ us) vs e = absurd (cc)
+fruitless_end r false [] vs e = e
+fruitless_end r false (u ∷ us) vs e = by_test (r.accepts u) refl (λ left. fruitless_end r false us vs left)
+  where
+    by_test : (b : Bool) → r.accepts u ≡ b → (filter r.accepts (us ++ vs) ≡ [] → filter r.accepts vs ≡ [])
+        → filter r.accepts vs ≡ []
+    by_test true k later = let found : u ∷ filter r.accepts (us ++ vs) ≡ [] = rw k at e in absurd (cc)
+    by_test false k later = later (rw k at e)
+
+-- the characters of a run pass
+pub passed : (s : Subject) (t : Test) (n p q : ℕ) → q ≤ p + run_length s t n p → AllPass s t p q
+passed s t n p q l c from to =
+    let there : p + (c - p) ≡ c = omega (arith, from) in
+    subst (λ z. passes s t z ≡ true) there (run_passes s t n p (c - p) (omega (arith, l, from, to)))
+
+-- one more that passes, at the front or at the end
+pub pass_first : (s : Subject) (t : Test) (p q : ℕ) → passes s t p ≡ true → AllPass s t (p + 1) q → AllPass s t p q
+pass_first s t p q first later c from to = go (nat_lt p c) refl
+  where
+    go : (b : Bool) → nat_lt p c ≡ b → passes s t c ≡ true
+    go true l =
+        let behind : p < c = grind (arith, nat_tests) in later c (omega (arith, behind)) to
+    go false l =
+        let before : c ≤ p = grind (arith, nat_tests) in
+        let same : p ≡ c = omega (arith, before, from) in
+        subst (λ z. passes s t z ≡ true) same first
+
+pub pass_last : (s : Subject) (t : Test) (p q : ℕ) → AllPass s t p q → passes s t q ≡ true → AllPass s t p (q + 1)
+pass_last s t p q earlier last c from to = go (nat_lt c q) refl
+  where
+    go : (b : Bool) → nat_lt c q ≡ b → passes s t c ≡ true
+    go true l =
+        let before : c < q = grind (arith, nat_tests) in earlier c from before
+    go false l =
+        let behind : q ≤ c = grind (arith, nat_tests) in
+        let same : q ≡ c = omega (arith, behind, to) in
+        subst (λ z. passes s t z ≡ true) same last
+
 -- a run from later in the same stretch ends where this one does
 longest_later : (r : Run) (t : Test) (p d count : ℕ) → longest_run r.subject t unlimited p ≡ count → d ≤ count
     → longest_run r.subject t unlimited (p + d) ≡ count - d
 longest_later r t p d count e l =
-    let n : ℕ = r.subject.end - p in
     let most = run_at_most r.subject t (r.subject.end - p) p in
     run_has r.subject t (r.subject.end - (p + d)) (p + d) (count - d) (omega (arith, e, most))
     (λ c before.
-    let there : p + (d + c) ≡ p + d + c = omega arith in
-    subst (λ q. passes r.subject t q ≡ true) there
-    (run_passes r.subject t (r.subject.end - p) p (d + c) (omega (arith, e, before))))
+    passed r.subject t (r.subject.end - p) p (p + count) (omega (arith, e)) (p + d + c) (omega arith)
+    (omega (arith, before)))
     (λ short.
     let there : p + run_length r.subject t (r.subject.end - p) p ≡ p + d + (count - d) = omega (arith, e, l) in
     subst (λ q. passes r.subject t q ≡ false) there
     (run_stopped r.subject t (r.subject.end - p) p (omega (arith, e, short, l))))
+
+-- a run is as long as its characters pass
+pub longest_reaches : (r : Run) (t : Test) (p q : ℕ) → AllPass r.subject t p q
+    → q ≤ p + longest_run r.subject t unlimited p
+longest_reaches r t p q all_pass =
+    go (nat_lt (p + count) q) (nat_lt count (r.subject.end - p)) refl refl
+  where
+    count : ℕ
+    count = run_length r.subject t (r.subject.end - p) p
+
+    go : (a b : Bool) → nat_lt (p + count) q ≡ a → nat_lt count (r.subject.end - p) ≡ b
+        → q ≤ p + longest_run r.subject t unlimited p
+    go false b e f = grind (arith, nat_tests)
+    go true true e f =
+        let short : p + count < q = grind (arith, nat_tests) in
+        let less : count < r.subject.end - p = grind (arith, nat_tests) in
+        let yes_ : passes r.subject t (p + count) ≡ true = all_pass (p + count) (omega arith) short in
+        let no_ : passes r.subject t (p + count) ≡ false = run_stopped r.subject t (r.subject.end - p) p less in
+        absurd (cc)
+    go true false e f =
+        let short : p + count < q = grind (arith, nat_tests) in
+        let full : r.subject.end - p ≤ count = grind (arith, nat_tests) in
+        let inside : p + count < r.subject.end =
+        passes-below r.subject t (p + count) (all_pass (p + count) (omega arith) short) in
+        absurd (omega (arith, inside, full))
 
 -- a greedy run without a greatest count, from a position from which its longest is so long
 module _ (r : Run) (i low v : ℕ) (fs : List Frame) (m : Marks) (w : Opcode r.words i opcode.REPEAT_ONE)
@@ -170,6 +243,16 @@ module _ (r : Run) (i low v : ℕ) (fs : List Frame) (m : Marks) (w : Opcode r.w
     before_runs : Runs r.words r.subject (shorter_at d (p + d + low)) before before_turns
     fewer : before_turns + 1 ≤ n
 
+  run_again : (p count end : ℕ) (us vs : List Way) (n k : ℕ) → longest_run r.subject there.test unlimited p ≡ count
+      → low ≤ count → end ≡ p + count → Runs r.words r.subject (ends_at end) us n
+      → Runs r.words r.subject (shorter_at (count - low) end) vs k
+      → Runs r.words r.subject (starts_at p) (us ++ vs) (suc (suc (n + k)))
+  run_again p count end us vs n k is l e x y =
+      turns (Split (ends_at (p + count)) (shorter_at (count - low) (p + count))) (run_moves p count is l)
+      (splits
+      (subst (λ q. Runs r.words r.subject (ends_at q) us n) e x)
+      (subst (λ q. Runs r.words r.subject (shorter_at (count - low) q) vs k) e y))
+
   run_later : (p count d : ℕ) (os : List Way) (n : ℕ) → longest_run r.subject there.test unlimited p ≡ count
       → d + low ≤ count → Runs r.words r.subject (starts_at p) os n → Later p d os n
   run_later p count d os n is l x =
@@ -182,70 +265,104 @@ module _ (r : Run) (i low v : ℕ) (fs : List Frame) (m : Marks) (w : Opcode r.w
       go (splits {os₁ = os₁} {os₂ = os₂} {n₁ = n₁} {n₂ = n₂} x₁ x₂) =
           let rest = parts r (i + 1 + v) (count - d - low) d (count - low) (p + count) (p + d + low) fs m os₂ n₂
           (omega (arith, l)) (omega (arith, l)) x₂ in
-          let end : p + count ≡ p + d + (count - d) = omega (arith, l) in
-          let moves = run_moves (p + d) (count - d) (longest_later r there.test p d count is (omega (arith, l)))
-          (omega (arith, l)) in
           record {
             again = os₁ ++ rest.near;
             before = rest.far;
-            both = ap (λ us. os₁ ++ us) rest.both ∙ sym (append_assoc os₁ rest.near rest.far);
+            both = joined os₁ os₂ rest.near rest.far rest.both;
             again_turns = suc (suc (n₁ + rest.near_turns));
             before_turns = rest.far_turns;
             again_runs =
-                turns (Split (ends_at (p + d + (count - d))) (shorter_at (count - d - low) (p + d + (count - d)))) moves
-                (splits
-                (subst (λ q. Runs r.words r.subject (ends_at q) os₁ n₁) end x₁)
-                (subst (λ q. Runs r.words r.subject (shorter_at (count - d - low) q) rest.near rest.near_turns) end
-                rest.near_runs));
+                run_again (p + d) (count - d) (p + count) os₁ rest.near n₁ rest.near_turns
+                (longest_later r there.test p d count is (omega (arith, l))) (omega (arith, l)) (omega (arith, l)) x₁
+                rest.near_runs;
             before_runs = rest.far_runs;
             fewer = omega (arith, rest.fewer);
           }
+
+  again_came : (inside : Bool) (p d : ℕ) (os : List Way) (n : ℕ) → Fruitless r inside os → Later p d os n
+      → CameToNothing r inside (starts_at (p + d))
+  again_came inside p d os n e y = record {
+    outcomes = y.again;
+    turns = y.again_turns;
+    runs = y.again_runs;
+    fruitless = fruitless_start r inside y.again y.before (subst (λ us. Fruitless r inside us) y.both e);
+  }
+
+  -- a run that came to nothing: so do those from later in its stretch
+  pub later_came : (inside : Bool) (p count d : ℕ) → longest_run r.subject there.test unlimited p ≡ count → d ≤ count
+      → CameToNothing r inside (starts_at p) → CameToNothing r inside (starts_at (p + d))
+  later_came inside p count d is l x =
+      go (nat_lt (count - d) low) refl (λ enough. run_later p count d x.outcomes x.turns is enough x.runs)
+    where
+      go : (b : Bool) → nat_lt (count - d) low ≡ b → (d + low ≤ count → Later p d x.outcomes x.turns)
+          → CameToNothing r inside (starts_at (p + d))
+      go true short later =
+          let less : count - d < low = grind (arith, nat_tests) in
+          record {
+            outcomes = [];
+            turns = 1;
+            runs =
+                turns Stop (run_stops (p + d) (count - d) (longest_later r there.test p d count is l) less) stops;
+            fruitless = nothing_fruitless r inside;
+          }
+      go false enough later =
+          let most : low ≤ count - d = grind (arith, nat_tests) in
+          again_came inside p d x.outcomes x.turns x.fruitless (later (omega (arith, most, l)))
 
   -- a run that failed: those from later in its stretch fail
   pub later_hopeless : AcceptsByStop r → (HasReference r.words → ⊥) → (inside : Bool) (p count d : ℕ) (os : List Way)
       (n : ℕ) → longest_run r.subject there.test unlimited p ≡ count → d ≤ count
       → Runs r.words r.subject (starts_at p) os n → Fruitless r inside os → Hopeless r inside (starts_at (p + d))
   later_hopeless told none inside p count d os n is l x fruitless =
-      go (nat_lt (count - d) low) refl (λ enough. run_later p count d os n is enough x)
-    where
-      nothing : (inside : Bool) → Fruitless r inside []
-      nothing true = refl
-      nothing false = refl
+      came_hopeless r told none inside (starts_at (p + d)) (later_came inside p count d is l (record {
+        outcomes = os;
+        turns = n;
+        runs = x;
+        fruitless = fruitless;
+      }))
 
-      go : (b : Bool) → nat_lt (count - d) low ≡ b → (d + low ≤ count → Later p d os n)
-          → Hopeless r inside (starts_at (p + d))
-      go true short later =
-          let less : count - d < low = grind (arith, nat_tests) in
-          hopeless_again r told none inside (starts_at (p + d)) [] 1
-          (turns Stop (run_stops (p + d) (count - d) (longest_later r there.test p d count is l) less) stops)
-          (nothing inside)
-      go false enough later =
-          let most : low ≤ count - d = grind (arith, nat_tests) in
-          let y = later (omega (arith, most, l)) in
-          hopeless_again r told none inside (starts_at (p + d)) y.again y.again_turns y.again_runs
-          (fruitless_start r inside y.again y.before (subst (λ us. Fruitless r inside us) y.both fruitless))
+-- a greedy run is come back to: those from later in its stretch fail
+pub tried_later_greedy : (r : Run) → AcceptsByStop r → (HasReference r.words → ⊥) → (i : ℕ)
+    → Opcode r.words i opcode.REPEAT_ONE → (there : HasTest r.words (i + 4)) → Word r.words (i + 3) unlimited
+    → (c : StringCursor) (b b' : BoardValue) → b.choices ≡ Trying i b'.frames c b'.marks ∷ b'.choices
+    → (all : List Way) (limit : ℕ) → Backs r all limit b → (d : ℕ)
+    → AllPass r.subject there.test c.position (c.position + d)
+    → Hopeless r (is_inside b'.choices) (spot_at (Instruction i) b'.frames (c.position + d) b'.marks)
+tried_later_greedy r told none i w there wh c b b' e all limit g d all_pass =
+    let x = tried_came r i c b b' e all limit g in
+    let h = (in_role opcode.REPEAT_ONE (ToRun GreedyRun) refl w x.runs).1 in
+    let within : i + 1 < length r.words =
+    omega (arith, opcode_within r.words (i + 4) (test_opcode there.test) there.stands.code) in
+    let reaches = longest_reaches r there.test c.position (c.position + d) all_pass in
+    came_hopeless r told none (is_inside b'.choices)
+    (spot_at (Instruction i) b'.frames (c.position + d) b'.marks)
+    (later_came r i h.low (word r.words (i + 1)) b'.frames b'.marks w there (word_there r.words (i + 1) within)
+    h.operands.lowest wh (is_inside b'.choices) c.position (longest_run r.subject there.test unlimited c.position) d
+    refl (omega (arith, reaches)) x)
 
 -- what waits needs no fruitless outcomes that come first
-pub outside_waits : (r : Run) (cs : List Choice) (us vs : List Way) {all : List Way} {k : ℕ} → from_region cs ≡ []
-    → filter r.accepts us ≡ [] → Waits r cs (us ++ vs) all k → Waits r cs vs all k
+pub outside_waits : (r : Run) (cs : List Choice) (us vs : List Way) {all : List Way} {before k : ℕ}
+    → from_region cs ≡ []
+    → filter r.accepts us ≡ [] → Waits r cs before (us ++ vs) all k → Waits r cs before vs all k
 outside_waits r cs [] vs outside e wt = wt
-outside_waits r cs (u ∷ us) vs {all} {k} outside e wt =
+outside_waits r cs (u ∷ us) vs {all} {before} {k} outside e wt =
     by_test (r.accepts u) refl (λ left wt'. outside_waits r cs us vs outside left wt')
   where
     by_test : (b : Bool) → r.accepts u ≡ b
-        → (filter r.accepts us ≡ [] → Waits r cs (us ++ vs) all k → Waits r cs vs all k) → Waits r cs vs all k
+        → (filter r.accepts us ≡ [] → Waits r cs before (us ++ vs) all k → Waits r cs before vs all k) → Waits r cs
+        before vs all k
     by_test true y later = let found : u ∷ filter r.accepts us ≡ [] = rw y at e in absurd (cc)
     by_test false y later =
         let left : filter r.accepts us ≡ [] = rw y at e in later left (refused_waits r cs u (us ++ vs) outside y wt)
 
-pub waits_without : (r : Run) (cs : List Choice) (us vs : List Way) {all : List Way} {k : ℕ}
-    → Fruitless r (is_inside cs) us → Waits r cs (us ++ vs) all k → Waits r cs vs all k
-waits_without r cs us vs {all} {k} fruitless wt = go (from_region cs) refl fruitless
+pub waits_without : (r : Run) (cs : List Choice) (us vs : List Way) {all : List Way} {before k : ℕ}
+    → Fruitless r (is_inside cs) us → Waits r cs before (us ++ vs) all k → Waits r cs before vs all k
+waits_without r cs us vs {all} {before} {k} fruitless wt = go (from_region cs) refl fruitless
   where
     go : (waiting : List Choice) → from_region cs ≡ waiting
-        → Fruitless r (elim waiting [ [] ↦ false | (c ∷ rest) ↦ true ]) us → Waits r cs vs all k
+        → Fruitless r (elim waiting [ [] ↦ false | (c ∷ rest) ↦ true ]) us → Waits r cs before vs all k
     go [] outside e = outside_waits r cs us vs outside e wt
-    go (c ∷ rest) inside e = subst (λ os. Waits r cs (os ++ vs) all k) e wt
+    go (c ∷ rest) inside e = subst (λ os. Waits r cs before (os ++ vs) all k) e wt
 
 -- where a run that begins later in the stretch is known to fail, the machine goes on with the counts that end before it
 -- may
@@ -271,8 +388,43 @@ run_before r i low v w there wv wl wh c c' b count d is l moved_on stands hopele
             subst (λ q. Runs r.words r.subject (spot_at (Shorter (i + 1 + v) d) b.frames q b.marks) y.before
             y.before_turns) (sym moved_on) y.before_runs;
         waits =
-            waits_without r b.choices y.again y.before fruitless
-            (subst (λ us. Waits r b.choices us all g.later) y.both g.waits);
+            sooner (g.turns + 0) (y.before_turns + 0) (omega (arith, y.fewer))
+            (waits_without r b.choices y.again y.before fruitless
+            (subst (λ us. Waits r b.choices (g.turns + 0) us all g.later) y.both g.waits));
         within = omega (arith, y.fewer, g.within);
       },
     )
+
+-- the same, where each character up to the last of these counts passes
+pub run_before_passing : (r : Run) (i low v : ℕ) (w : Opcode r.words i opcode.REPEAT_ONE)
+    (there : HasTest r.words (i + 4)) → Word r.words (i + 1) v → Word r.words (i + 2) low
+    → Word r.words (i + 3) unlimited → (c c' : StringCursor) (b : BoardValue) (d : ℕ)
+    → AllPass r.subject there.test c.position (c.position + d + low) → c'.position ≡ c.position + d + low
+    → r.stands c' c'.position → Hopeless r (is_inside b.choices)
+    (spot_at (Instruction i) b.frames (c.position + d) b.marks)
+    → (all : List Way) (limit : ℕ) → Goes r all limit (Instruction i) c b
+    → (1 ≤ limit) × Goes r all (limit - 1) (Shorter (i + 1 + v) d) c' b
+run_before_passing r i low v w there wv wl wh c c' b d all_pass =
+    let reaches = longest_reaches r there.test c.position (c.position + d + low) all_pass in
+    run_before r i low v w there wv wl wh c c' b (longest_run r.subject there.test unlimited c.position) d refl
+    (omega (arith, reaches))
+
+-- the counts that end before it may come to something, perhaps to nothing
+pub before_has : (r : Run) (i low v : ℕ) (w : Opcode r.words i opcode.REPEAT_ONE) (there : HasTest r.words (i + 4))
+    → Word r.words (i + 1) v → Word r.words (i + 2) low → Word r.words (i + 3) unlimited → (c c' : StringCursor)
+    (d : ℕ) → AllPass r.subject there.test c.position (c.position + d + low) → c'.position ≡ c.position + d + low
+    → r.stands c' c'.position → HasRun r (Instruction i) c → HasRun r (Shorter (i + 1 + v) d) c'
+before_has r i low v w there wv wl wh c c' d all_pass moved_on stands h =
+    let reaches = longest_reaches r there.test c.position (c.position + d + low) all_pass in
+    let y = run_later r i low v h.frames h.marks w there wv wl wh c.position
+    (longest_run r.subject there.test unlimited c.position) d h.outcomes h.turns refl (omega (arith, reaches)) h.runs in
+    record {
+      frames = h.frames;
+      marks = h.marks;
+      outcomes = y.before;
+      turns = y.before_turns;
+      stands = stands;
+      runs =
+          subst (λ q. Runs r.words r.subject (spot_at (Shorter (i + 1 + v) d) h.frames q h.marks) y.before
+          y.before_turns) (sym moved_on) y.before_runs;
+    }

@@ -16,7 +16,8 @@ use Rattle.sre_turns.specs.Board.{Choice, Else, Keep, Trying, from_region, Board
 use Rattle.sre_turns.specs.Fruit.{SameFruit, is_inside}
 use Rattle.sre_turns.specs.declared.Point.TheVariants.{Instruction}
 use Rattle.sre_turns.specs.MovesAtReferences.{HasReference}
-use Rattle.sre_turns.specs.Machine.{Waits, outermost, otherwise, tried, Goes, Ends, Stands, Later, SaysAccepted, outcomes}
+use Rattle.sre_turns.specs.Machine.{Waits, outermost, otherwise, tried, Arrives, Ends, Stands, Later}
+use Rattle.sre_turns.specs.Machine.{SaysAccepted, outcomes}
 use Rattle.sre_model.specs.Runs.{Run}
 use Rattle.sre_turns.specs.declared.Next.{Next}
 use Rattle.sre_turns.specs.declared.Next.TheVariants as next
@@ -42,9 +43,9 @@ pub started : (r : Run) (i : ℕ) (t : Tree) (c : StringCursor) (b : BoardValue)
     → (refers t ≡ true → HasReference r.words)
     → Reads r.words i (length r.words - 1) t → Opcode r.words (length r.words - 1) opcode.SUCCESS
     → r.stands c c.position → c.position ≤ r.subject.end → b ≡ bare no_marks
-    → Goes r (outcomes r t c.position) (cost r.subject t ending c.position no_marks) (Instruction i) c b
+    → Arrives r (outcomes r t c.position) (cost r.subject t ending c.position no_marks) (Instruction i) c b
 started r i t c b v has reads ends stands inside fresh =
-    subst (λ x. Goes r (outcomes r t c.position) (cost r.subject t ending c.position no_marks) (Instruction i) c x)
+    subst (λ x. Arrives r (outcomes r t c.position) (cost r.subject t ending c.position no_marks) (Instruction i) c x)
     (sym fresh)
     (record {
       now = ways r.subject t c.position no_marks;
@@ -69,27 +70,27 @@ pub none_inside : (cs : List Choice) → from_region cs ≡ [] → is_inside cs 
 none_inside cs e = ap (λ (rest : List Choice). elim rest [ [] ↦ false | (c ∷ others) ↦ true ]) e
 
 -- outside all regions the first outcome, if it is accepted, is the first of all
-first_waits : (r : Run) (cs : List Choice) (w : Way) (rest : List Way) {all : List Way} {k : ℕ} → from_region cs ≡ []
-    → r.accepts w ≡ true → Waits r cs (w ∷ rest) all k → (others : List Way) × (all ≡ w ∷ others)
+first_waits : (r : Run) (cs : List Choice) (w : Way) (rest : List Way) {all : List Way} {u k : ℕ} → from_region cs ≡ []
+    → r.accepts w ≡ true → Waits r cs u (w ∷ rest) all k → (others : List Way) × (all ≡ w ∷ others)
 first_waits r [] w rest none y outermost = rw y (filter r.accepts rest, refl)
 first_waits r (Else pt fs c m ∷ cs) w rest none y (otherwise {os = os} there placed d wt) =
     first_waits r cs w (rest ++ os) none y wt
-first_waits r (Trying i fs c m ∷ cs) w rest none y (tried there placed d same wt) =
+first_waits r (Trying i fs c m ∷ cs) w rest none y (tried there placed d most same wt) =
     first_waits r cs w rest none y wt
 first_waits r (Keep g fs c m ∷ cs) w rest none y wt = absurd (cc)
 
 -- and else it is passed over
-pub refused_waits : (r : Run) (cs : List Choice) (w : Way) (rest : List Way) {all : List Way} {k : ℕ}
-    → from_region cs ≡ [] → r.accepts w ≡ false → Waits r cs (w ∷ rest) all k → Waits r cs rest all k
+pub refused_waits : (r : Run) (cs : List Choice) (w : Way) (rest : List Way) {all : List Way} {u k : ℕ}
+    → from_region cs ≡ [] → r.accepts w ≡ false → Waits r cs u (w ∷ rest) all k → Waits r cs u rest all k
 refused_waits r [] w rest none n outermost = rw n outermost
 refused_waits r (Else pt fs c m ∷ cs) w rest none n (otherwise {os = os} there placed d wt) =
     otherwise there placed d (refused_waits r cs w (rest ++ os) none n wt)
-refused_waits r (Trying i fs c m ∷ cs) w rest none n (tried {os = os} there placed d same wt) =
+refused_waits r (Trying i fs c m ∷ cs) w rest none n (tried {os = os} there placed d most same wt) =
     let outside : is_inside cs ≡ false = none_inside cs none in
     let was : SameFruit r false os (w ∷ rest) = subst (λ b. SameFruit r b os (w ∷ rest)) outside same in
     let left : SameFruit r (is_inside cs) os rest =
     subst (λ b. SameFruit r b os rest) (sym outside) (refused_fruit r os w rest n was) in
-    tried there placed d left (refused_waits r cs w rest none n wt)
+    tried there placed d most left (refused_waits r cs w rest none n wt)
 refused_waits r (Keep g fs c m ∷ cs) w rest none n wt = absurd (cc)
 
 -- the machine stands at the end of the whole

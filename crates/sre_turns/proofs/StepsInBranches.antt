@@ -16,7 +16,7 @@ use Rattle.sre_model.specs.Roles.{ToBranch}
 use Rattle.sre_turns.specs.declared.Next.TheVariants as next
 use Rattle.sre_model.proofs.Words.{word_within}
 use Rattle.sre_turns.proofs.Moving.{at_instruction, has_run, run_goes, run_splits, turn_stops, turn_goes, turn_splits}
-use Rattle.sre_turns.proofs.Moving.{run_nothing, run_second}
+use Rattle.sre_turns.proofs.Moving.{run_nothing, run_second, arrived}
 
 pub positive : (n : ℕ) → (n ≡ 0 → ⊥) → 0 < n
 positive zero no_ = absurd (no_ refl)
@@ -31,8 +31,9 @@ pub branch_step : (r : Run) (i : ℕ) (c : StringCursor) (b : BoardValue)
     → Opcode r.words i opcode.BRANCH → (all : List Way) (limit : ℕ) → Goes r all limit (Instruction i) c b
     → (1 ≤ limit) × Goes r all (limit - 1) (Alternatives (i + 1)) c b
 branch_step r i c b w all limit g =
-    turn_goes r (Instruction i) c b (Alternatives (i + 1)) c b
-    (branch_moves r.words r.subject i (spot (Instruction i) c b) refl w) g.stands g.placed refl all limit g
+    let s = turn_goes r (Instruction i) c b (Alternatives (i + 1)) c b
+    (branch_moves r.words r.subject i (spot (Instruction i) c b) refl w) g.stands g.placed refl all limit g in
+    (s.0, arrived s.1)
 
 pub branch_run : (r : Run) (i : ℕ) (c : StringCursor) → Opcode r.words i opcode.BRANCH → HasRun r (Instruction i) c
     → HasRun r (Alternatives (i + 1)) c

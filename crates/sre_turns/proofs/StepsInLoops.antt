@@ -20,7 +20,7 @@ use Rattle.sre_model.proofs.Families.{until_role}
 use Rattle.sre_turns.specs.declared.Next.TheVariants as next
 use Rattle.sre_model.proofs.Words.{word_of, word_within}
 use Rattle.sre_turns.proofs.Moving.{in_role, at_instruction, has_run, run_goes, run_splits, turn_goes, turn_splits}
-use Rattle.sre_turns.proofs.Moving.{both_wait, both_first, both_second}
+use Rattle.sre_turns.proofs.Moving.{both_wait, both_first, both_second, arrived}
 
 pub repeat_step : (r : Run) (i v : ℕ) (c : StringCursor) (b b' : BoardValue) → Opcode r.words i opcode.REPEAT
     → Word r.words (i + 1) v → b' ≡ record b { frames = first_frame i ∷ b.frames } → (all : List Way) (limit : ℕ)
@@ -83,7 +83,7 @@ pub repeat_further : (r : Run) (i v : ℕ) (c : StringCursor) (b b' : BoardValue
     → Later r all limit n b'
 repeat_further r i v c b b' n w wv h all limit g =
     let begun = repeat_step r i v c b (with_loop (first_frame i) b) w wv refl all limit g in
-    let later = h all (limit - 1) begun.1 in
+    let later = h all (limit - 1) (arrived begun.1) in
     (begun.0, stands_more r all (limit - 1 - 1) (limit - 1) n b' (omega arith) later.1)
 
 -- the innermost loop, whose body ends at u, and its counts

@@ -1,6 +1,6 @@
 -- Turns at a region: ATOMIC_GROUP, the looks, and the end of a body.
 use Rattle.std.proofs.Common.{◌≡◌, ℕ, ◌+◌, ◌-◌, ◌<◌, ◌≤◌, true, false, nat_lt, List, [], ◌∷◌, length, drop, refl, sym}
-use Rattle.std.proofs.Common.{subst, arith}
+use Rattle.std.proofs.Common.{suc, subst, arith}
 use Rattle.std.proofs.lemmas.Bool.Decides.{nat_tests}
 use Rattle.sre_chars.specs.declared.constants.SreOpcode.TheVariants as opcode
 use Rattle.sre_chars.specs.declared.string.StringCursor.{StringCursor}
@@ -16,14 +16,14 @@ use Rattle.sre_turns.specs.declared.Point.{Point}
 use Rattle.sre_turns.specs.declared.Frame.{Frame}
 use Rattle.sre_turns.specs.Moves.{Spot, spot_at, Stop, Go, Enter, closing_move}
 use Rattle.sre_turns.specs.MovesInRegions.{look}
-use Rattle.sre_turns.specs.Machine.{Moves, Runs, Comes, stops, goes, Waits, kept, Goes, Placed, Ends, Later, spot}
+use Rattle.sre_turns.specs.Machine.{Moves, Runs, Comes, stops, goes, Waits, kept, Goes, Arrives, Placed, Ends}
 use Rattle.sre_model.specs.Runs.{Run}
-use Rattle.sre_turns.specs.Machine.{HasRun, after_outcome, without_outcome, without_loop}
+use Rattle.sre_turns.specs.Machine.{Later, spot, HasRun, after_outcome, without_outcome, without_loop}
 use Rattle.sre_model.specs.Roles.{ToGroupAtomically, ToLook}
 use Rattle.sre_model.proofs.Families.{look_role}
 use Rattle.sre_turns.specs.declared.Next.TheVariants as next
 use Rattle.sre_model.proofs.Words.{word_of, word_within}
-use Rattle.sre_turns.proofs.Moving.{in_role, at_instruction, turn_stops, turn_goes, turn_enters, cut_waits}
+use Rattle.sre_turns.proofs.Moving.{in_role, at_instruction, turn_stops, turn_goes, turn_enters, cut_waits, sooner}
 
 -- ATOMIC_GROUP
 pub atomic_operand : (r : Run) (i : ℕ) (c : StringCursor) → Opcode r.words i opcode.ATOMIC_GROUP
@@ -102,15 +102,17 @@ look_step r sign i v back c c' b b' h l place there eb all limit g =
 module _ (r : Run) (c d : StringCursor) (b b' : BoardValue) where
   -- nothing comes of it
   ends_stop : {x : Spot} {all os : List Way} {limit n k j later : ℕ} → Comes r.words r.subject x Stop os n
-      → Waits r b'.choices os all k → n + k ≤ j → j ≤ later → later + 1 ≤ limit → Later r all limit next.Back b'
-  ends_stop stops wt e l m = (omega arith, record { later = _; waits = wt; within = omega arith })
+      → Waits r b'.choices (0 + n) os all k → n + k ≤ j → j ≤ later → later + 1 ≤ limit
+      → Later r all limit next.Back b'
+  ends_stop stops wt e l m =
+      (omega arith, record { later = _; waits = sooner (0 + 1) 0 (omega arith) wt; within = omega arith })
 
   -- it goes on at a cursor
   ends_go : {x : Spot} {all os : List Way} {limit n k j later : ℕ} (pt : Point) (at : StringCursor)
       → r.stands at at.position → Placed r.subject b.marks → b'.marks ≡ b.marks
       → Comes r.words r.subject x (Go (spot_at pt b'.frames at.position b.marks)) os n
-      → Waits r b'.choices os all k → n + k ≤ j → j ≤ later → later + 1 ≤ limit
-      → (1 ≤ limit) × Goes r all (limit - 1) pt at b'
+      → Waits r b'.choices (0 + n) os all k → n + k ≤ j → j ≤ later → later + 1 ≤ limit
+      → (1 ≤ limit) × Arrives r all (limit - 1) pt at b'
   ends_go {x} {all} {os} {limit} {n} {k} pt at there placed em (goes {n = n'} e) wt same l m =
       let moved : Runs r.words r.subject (spot pt at b') os n' =
       subst (λ ms. Runs r.words r.subject (spot_at pt b'.frames at.position ms) os n') (sym em) e in (
@@ -122,14 +124,14 @@ module _ (r : Run) (c d : StringCursor) (b b' : BoardValue) where
           stands = there;
           placed = subst (λ ms. Placed r.subject ms) (sym em) placed;
           runs = moved;
-          waits = wt;
+          waits = sooner (0 + suc n') (n' + 1) (omega arith) wt;
           within = omega arith;
         },
       )
 
   region_ends : (g : Region) (m : Marks) (us all : List Way) (limit j later : ℕ) → b'.marks ≡ b.marks
       → r.stands c c.position → Placed r.subject b.marks
-      → Waits r (Keep g b'.frames d m ∷ b'.choices) (record { stop = c.position; marks = b.marks } ∷ us) all j
+      → Waits r (Keep g b'.frames d m ∷ b'.choices) 0 (record { stop = c.position; marks = b.marks } ∷ us) all j
       → j ≤ later → later + 1 ≤ limit → Later r all limit (after_outcome g c d) b'
   region_ends (AtomicGroup t) m us all limit j later em there placed (kept at _ f wt) l k =
       ends_go (Instruction t) c there placed em f wt (omega arith) l k
@@ -152,14 +154,16 @@ module _ (r : Run) (c d : StringCursor) (b b' : BoardValue) where
 -- a body has no outcome
 module _ (r : Run) (c : StringCursor) (b' : BoardValue) where
   back_stop : {x : Spot} {all os : List Way} {limit n k : ℕ} → Comes r.words r.subject x Stop os n
-      → Waits r b'.choices os all k → n + k ≤ limit → Later r all limit next.Back b'
-  back_stop stops wt l = (omega arith, record { later = _; waits = wt; within = omega arith })
+      → Waits r b'.choices (0 + n) os all k → n + k ≤ limit → Later r all limit next.Back b'
+  back_stop stops wt l =
+      (omega arith, record { later = _; waits = sooner (0 + 1) 0 (omega arith) wt; within = omega arith })
 
   back_go : {x : Spot} {all os : List Way} {limit n k : ℕ} (t : ℕ) (fs : List Frame) → r.stands c c.position
       → Placed r.subject b'.marks
       → Comes r.words r.subject x (Go (spot_at (Instruction t) fs c.position b'.marks)) os n
-      → Waits r b'.choices os all k → n + k ≤ limit → Later r all limit (next.At t c) (record b' { frames = fs })
-  back_go t fs there placed (goes e) wt l = (
+      → Waits r b'.choices (0 + n) os all k → n + k ≤ limit → Later r all limit (next.At t c)
+      (record b' { frames = fs })
+  back_go t fs there placed (goes {n = n'} e) wt l = (
     omega arith,
     record {
       now = _;
@@ -168,13 +172,13 @@ module _ (r : Run) (c : StringCursor) (b' : BoardValue) where
       stands = there;
       placed = placed;
       runs = e;
-      waits = wt;
+      waits = sooner (0 + suc n') (n' + 1) (omega arith) wt;
       within = omega arith;
     },
   )
 
   pub region_back : (g : Region) (all : List Way) (limit k : ℕ)
-      → Waits r (Keep g b'.frames c b'.marks ∷ b'.choices) [] all k → k ≤ limit
+      → Waits r (Keep g b'.frames c b'.marks ∷ b'.choices) 0 [] all k → k ≤ limit
       → Later r all limit (without_outcome g c) (without_loop g b')
   region_back (AtomicGroup t) all limit k (kept at _ f wt) l = back_stop f wt l
   region_back (Ahead t) all limit k (kept at _ f wt) l = back_stop f wt l

@@ -9,13 +9,14 @@ use Rattle.sre_model.specs.Marks.{Marks}
 use Rattle.sre_model.specs.Subject.{passes, char_at}
 use Rattle.sre_model.specs.Characters.{holds}
 use Rattle.sre_model.specs.Ways.{Way, unlimited, run_length, longest_run}
-use Rattle.sre_model.specs.Grammar.{Word, word, Opcode, skip, test_opcode, run_opcode}
+use Rattle.sre_model.specs.Grammar.{Word, Opcode, test_opcode, run_opcode}
 use Rattle.sre_turns.specs.Board.{BoardValue}
 use Rattle.sre_turns.specs.declared.Frame.{Frame}
 use Rattle.sre_turns.specs.declared.Point.{Point}
 use Rattle.sre_turns.specs.declared.Point.TheVariants.{Instruction, Shorter, Longer}
 use Rattle.sre_turns.specs.Moves.{spot_at, Stop, Split, Go}
 use Rattle.sre_turns.specs.MovesInRuns.{RunOperands}
+use Rattle.sre_turns.specs.OperandsOfRuns.{OperandsOfRun}
 use Rattle.sre_turns.specs.Machine.{Moves, Runs, turns, Goes, GoesBoth, Later, spot, HasRun, Skips, SkipsBoth}
 use Rattle.sre_model.specs.Runs.{Run}
 use Rattle.sre_turns.specs.Machine.{Exhausted, Refuses, Demands, DemandsAny, Excludes}
@@ -23,7 +24,7 @@ use Rattle.sre_model.specs.Standing.{TestStands, HasTest}
 use Rattle.sre_model.specs.Roles.{ToRun}
 use Rattle.sre_model.proofs.Families.{run_role}
 use Rattle.sre_turns.specs.declared.Next.TheVariants as next
-use Rattle.sre_model.proofs.Words.{word_of, word_there, opcode_within}
+use Rattle.sre_model.proofs.Words.{opcode_within}
 use Rattle.sre_model.proofs.Passing.{past_end, read_passes, other_taken}
 use Rattle.sre_model.proofs.Longest.{goes_on, run_passes, run_at_most, run_inside, run_none}
 use Rattle.sre_turns.proofs.Moving.{in_role, at_instruction, has_run, run_splits, turn_stops, turn_splits, both_last}
@@ -103,36 +104,40 @@ shorter_exhausted r t (suc j) p none fs m os n d =
     shorter_exhausted r t j (p - 1) (λ q from to. none q (omega (arith, from, l)) (omega (arith, to))) fs m os rest.0
     rest.2
 
--- a run: the words that stand behind its opcode
-pub record RunWords (ws : List ℕ) (i : ℕ) : Type 0 where
-  pub operands : i + 4 < length ws
-  pub test : HasTest ws (i + 4)
-
+-- a test stands behind the operands of a run
 pub run_there : (r : Run) (kind : RunKind) (i : ℕ) (c : StringCursor) → Opcode r.words i (run_opcode kind)
-    → HasRun r (Instruction i) c → RunWords r.words i
+    → HasRun r (Instruction i) c → HasTest r.words (i + 4)
 run_there r kind i c w x =
     let h = (in_role (run_opcode kind) (ToRun kind) (run_role kind) w x.runs).1 in
-    let test : HasTest r.words (i + 4) = record { end = h.end; test = h.test; stands = h.operands.stands } in
-    record { operands = opcode_within r.words (i + 4) (test_opcode h.test) h.operands.stands.code; test = test }
+    record { end = h.end; test = h.test; stands = h.operands.stands }
+
+-- so the operands themselves are there
+pub operands_within : (ws : List ℕ) (i : ℕ) → HasTest ws (i + 4) → i + 4 < length ws
+operands_within ws i t = opcode_within ws (i + 4) (test_opcode t.test) t.stands.code
+
+-- as a turn at a run has them
+stands_of : (ws : List ℕ) (i tail low high : ℕ) (o : OperandsOfRun ws i tail low high)
+    → RunOperands ws i low high o.test.end o.test.test
+stands_of ws i tail low high o = record { lowest = o.lowest; highest = o.highest; stands = o.test.stands }
 
 -- how long the run is, whatever test stands there
 abbrev pub CountsRun : Run → ℕ → ℕ → ℕ → ℕ → Type 0
 CountsRun r i high p count =
     (j : ℕ) (t : Test) → TestStands r.words (i + 4) j t → count ≡ longest_run r.subject t high p
 
-pub run_short : (r : Run) (i low high count : ℕ) (c : StringCursor) (b : BoardValue)
-    → Opcode r.words i opcode.REPEAT_ONE → HasTest r.words (i + 4) → Word r.words (i + 2) low
-    → Word r.words (i + 3) high → CountsRun r i high c.position count → count < low → (all : List Way) (limit : ℕ)
-    → Goes r all limit (Instruction i) c b → Later r all limit next.Back b
-run_short r i low high count c b w t wl wh k l =
-    let longest : longest_run r.subject t.test high c.position ≡ count = sym (k t.end t.test t.stands) in
+pub run_short : (r : Run) (i tail low high count : ℕ) (c : StringCursor) (b : BoardValue)
+    → Opcode r.words i opcode.REPEAT_ONE → OperandsOfRun r.words i tail low high → CountsRun r i high c.position count
+    → count < low → (all : List Way) (limit : ℕ) → Goes r all limit (Instruction i) c b → Later r all limit next.Back b
+run_short r i tail low high count c b w o k l =
+    let longest : longest_run r.subject o.test.test high c.position ≡ count =
+    sym (k o.test.end o.test.test o.test.stands) in
     let short : nat_lt count low ≡ true = grind (arith, nat_tests) in
     turn_stops r (Instruction i) c b (at_instruction opcode.REPEAT_ONE (ToRun GreedyRun) refl w (record {
       low = low;
       high = high;
-      end = t.end;
-      test = t.test;
-      operands = record { lowest = wl; highest = wh; stands = t.stands };
+      end = o.test.end;
+      test = o.test.test;
+      operands = stands_of r.words i tail low high o;
       is = rw (longest, short) refl;
     }))
 
@@ -157,50 +162,51 @@ run_misses r i low ch c w there wl some inside read says fs m os k d =
       is = rw (none, short) refl;
     })) d
 
-module _ (r : Run) (i v low high count : ℕ) (c after : StringCursor) (w : Opcode r.words i opcode.REPEAT_ONE)
-    (t : HasTest r.words (i + 4)) (wv : Word r.words (i + 1) v) (wl : Word r.words (i + 2) low)
-    (wh : Word r.words (i + 3) high) (k : CountsRun r i high c.position count) (l : low ≤ count)
+module _ (r : Run) (i tail low high count : ℕ) (c after : StringCursor) (w : Opcode r.words i opcode.REPEAT_ONE)
+    (o : OperandsOfRun r.words i tail low high) (k : CountsRun r i high c.position count) (l : low ≤ count)
     (moved_on : after.position ≡ c.position + count) (there : r.stands after after.position) where
   run_moves : (fs : List Frame) (m : Marks)
       → Moves r.words r.subject (spot_at (Instruction i) fs c.position m)
-      (Split (spot_at (Instruction (i + 1 + v)) fs after.position m)
-      (spot_at (Shorter (i + 1 + v) (count - low)) fs after.position m))
+      (Split (spot_at (Instruction tail) fs after.position m)
+      (spot_at (Shorter tail (count - low)) fs after.position m))
   run_moves fs m =
-      let longest : longest_run r.subject t.test high c.position ≡ count = sym (k t.end t.test t.stands) in
+      let longest : longest_run r.subject o.test.test high c.position ≡ count =
+      sym (k o.test.end o.test.test o.test.stands) in
       let enough : nat_lt count low ≡ false = grind (arith, nat_tests) in
       at_instruction opcode.REPEAT_ONE (ToRun GreedyRun) refl w (record {
         low = low;
         high = high;
-        end = t.end;
-        test = t.test;
-        operands = record { lowest = wl; highest = wh; stands = t.stands };
-        is = rw (longest, enough, moved_on, word_of r.words (i + 1) v wv) refl;
+        end = o.test.end;
+        test = o.test.test;
+        operands = stands_of r.words i tail low high o;
+        is = rw (longest, enough, moved_on, o.leads) refl;
       })
 
   pub run_both : (b : BoardValue) (all : List Way) (limit : ℕ) → Goes r all limit (Instruction i) c b
-      → GoesBoth r all limit (spot (Instruction (i + 1 + v)) after b) (spot (Shorter (i + 1 + v) (count - low)) after b)
-      after b.choices
+      → GoesBoth r all limit (spot (Instruction tail) after b) (spot (Shorter tail (count - low)) after b) after
+      b.choices
   run_both b all limit g =
-      turn_splits r (Instruction i) c b (spot (Instruction (i + 1 + v)) after b)
-      (spot (Shorter (i + 1 + v) (count - low)) after b) after (run_moves b.frames b.marks) there refl refl all limit g
+      turn_splits r (Instruction i) c b (spot (Instruction tail) after b) (spot (Shorter tail (count - low)) after b)
+      after (run_moves b.frames b.marks) there refl refl all limit g
 
   pub run_runs : HasRun r (Instruction i) c
-      → HasRun r (Instruction (i + 1 + v)) after × HasRun r (Shorter (i + 1 + v) (count - low)) after
+      → HasRun r (Instruction tail) after × HasRun r (Shorter tail (count - low)) after
   run_runs x =
       let s = run_splits _ _ (run_moves x.frames x.marks) x.runs in (
-        has_run r (Instruction (i + 1 + v)) x.frames x.marks after there s.0,
-        has_run r (Shorter (i + 1 + v) (count - low)) x.frames x.marks after there s.1,
+        has_run r (Instruction tail) x.frames x.marks after there s.0,
+        has_run r (Shorter tail (count - low)) x.frames x.marks after there s.1,
       )
 
   -- where none is left, or the tail asks for a character that the test does not take
   pub run_only : (wanted : Option ℕ) → ((count - low ≡ 0) ⊎ Excludes r.words (i + 4) wanted)
-      → DemandsAny r (i + 1 + v) wanted → Exhausted r (Shorter (i + 1 + v) (count - low)) after.position
+      → DemandsAny r tail wanted → Exhausted r (Shorter tail (count - low)) after.position
   run_only wanted (inl none) demands =
-      shorter_exhausted r (i + 1 + v) (count - low) after.position (λ q from to. absurd (omega (arith, none, from, to)))
+      shorter_exhausted r tail (count - low) after.position (λ q from to. absurd (omega (arith, none, from, to)))
   run_only wanted (inr x) demands =
-      let asks : Demands r (i + 1 + v) x.character = subst (λ o. DemandsAny r (i + 1 + v) o) x.known demands in
+      let t = o.test in
+      let asks : Demands r tail x.character = subst (λ o. DemandsAny r tail o) x.known demands in
       let unlike = x.each r.subject.table t.end t.test t.stands in
-      shorter_exhausted r (i + 1 + v) (count - low) after.position
+      shorter_exhausted r tail (count - low) after.position
       (λ q from to.
       let least : c.position + low ≤ q = omega (arith, from, moved_on, l) in
       let inside : q - c.position < longest_run r.subject t.test high c.position =
@@ -212,14 +218,11 @@ module _ (r : Run) (i v low high count : ℕ) (c after : StringCursor) (w : Opco
       unlike))
 
 -- POSSESSIVE_REPEAT_ONE
-module _ (r : Run) (i low high count : ℕ) (c : StringCursor) (b : BoardValue)
-    (w : Opcode r.words i opcode.POSSESSIVE_REPEAT_ONE) (t : HasTest r.words (i + 4)) (wl : Word r.words (i + 2) low)
-    (wh : Word r.words (i + 3) high) (k : CountsRun r i high c.position count) where
-  longest_is : longest_run r.subject t.test high c.position ≡ count
-  longest_is = sym (k t.end t.test t.stands)
-
-  longest_operands : RunOperands r.words i low high t.end t.test
-  longest_operands = record { lowest = wl; highest = wh; stands = t.stands }
+module _ (r : Run) (i tail low high count : ℕ) (c : StringCursor) (b : BoardValue)
+    (w : Opcode r.words i opcode.POSSESSIVE_REPEAT_ONE) (o : OperandsOfRun r.words i tail low high)
+    (k : CountsRun r i high c.position count) where
+  longest_is : longest_run r.subject o.test.test high c.position ≡ count
+  longest_is = sym (k o.test.end o.test.test o.test.stands)
 
   pub longest_short : count < low → (all : List Way) (limit : ℕ) → Goes r all limit (Instruction i) c b
       → Later r all limit next.Back b
@@ -229,133 +232,111 @@ module _ (r : Run) (i low high count : ℕ) (c : StringCursor) (b : BoardValue)
       (record {
         low = low;
         high = high;
-        end = t.end;
-        test = t.test;
-        operands = longest_operands;
+        end = o.test.end;
+        test = o.test.test;
+        operands = stands_of r.words i tail low high o;
         is = rw (longest_is, short) refl;
       }))
 
-  pub longest_step : (v : ℕ) (after : StringCursor) → Word r.words (i + 1) v → low ≤ count
-      → after.position ≡ c.position + count → r.stands after after.position
-      → (all : List Way) (limit : ℕ) → Goes r all limit (Instruction i) c b
-      → Later r all limit (next.At (i + 1 + v) after) b
-  longest_step v after wv l moved_on there all limit g =
+  pub longest_step : (after : StringCursor) → low ≤ count → after.position ≡ c.position + count
+      → r.stands after after.position → (all : List Way) (limit : ℕ) → Goes r all limit (Instruction i) c b
+      → Later r all limit (next.At tail after) b
+  longest_step after l moved_on there all limit g =
       let enough : nat_lt count low ≡ false = grind (arith, nat_tests) in
-      let move : Moves r.words r.subject (spot (Instruction i) c b) (Go (spot (Instruction (i + 1 + v)) after b)) =
+      let move : Moves r.words r.subject (spot (Instruction i) c b) (Go (spot (Instruction tail) after b)) =
       at_instruction opcode.POSSESSIVE_REPEAT_ONE (ToRun PossessiveRun) refl w (record {
         low = low;
         high = high;
-        end = t.end;
-        test = t.test;
-        operands = longest_operands;
-        is = rw (longest_is, enough, moved_on, word_of r.words (i + 1) v wv) refl;
+        end = o.test.end;
+        test = o.test.test;
+        operands = stands_of r.words i tail low high o;
+        is = rw (longest_is, enough, moved_on, o.leads) refl;
       }) in
-      turn_goes r (Instruction i) c b (Instruction (i + 1 + v)) after b move there g.placed refl all limit g
+      turn_goes r (Instruction i) c b (Instruction tail) after b move there g.placed refl all limit g
 
--- MIN_REPEAT_ONE
-operands_of : (ws : List ℕ) (i low high : ℕ) (t : HasTest ws (i + 4)) → Word ws (i + 2) low → Word ws (i + 3) high
-    → RunOperands ws i low high t.end t.test
-operands_of ws i low high t wl wh = record { lowest = wl; highest = wh; stands = t.stands }
-
--- how many of the first characters pass, whatever test stands there
+-- MIN_REPEAT_ONE: how many of the first characters pass, whatever test stands there
 abbrev pub CountsUpTo : Run → ℕ → ℕ → ℕ → ℕ → Type 0
 CountsUpTo r i most p count =
     (j : ℕ) (t : Test) → TestStands r.words (i + 4) j t → count ≡ run_length r.subject t most p
 
-module _ (r : Run) (i low : ℕ) (c : StringCursor) (w : Opcode r.words i opcode.MIN_REPEAT_ONE) (h : RunWords r.words i)
-    (wl : Word r.words (i + 2) low) where
-  lazy_operands : RunOperands r.words i low (word r.words (i + 3)) h.test.end h.test.test
-  lazy_operands =
-      operands_of r.words i low (word r.words (i + 3)) h.test wl
-      (word_there r.words (i + 3) (omega (arith, h.operands)))
-
-  lazy_stops : (b : BoardValue) → run_length r.subject h.test.test low c.position < low → (all : List Way) (limit : ℕ)
+module _ (r : Run) (i tail low high : ℕ) (c : StringCursor) (w : Opcode r.words i opcode.MIN_REPEAT_ONE)
+    (o : OperandsOfRun r.words i tail low high) where
+  lazy_stops : (b : BoardValue) → run_length r.subject o.test.test low c.position < low → (all : List Way) (limit : ℕ)
       → Goes r all limit (Instruction i) c b → Later r all limit next.Back b
   lazy_stops b l =
-      let short : nat_lt (run_length r.subject h.test.test low c.position) low ≡ true = grind (arith, nat_tests) in
+      let short : nat_lt (run_length r.subject o.test.test low c.position) low ≡ true = grind (arith, nat_tests) in
       turn_stops r (Instruction i) c b (at_instruction opcode.MIN_REPEAT_ONE (ToRun LazyRun) refl w (record {
         low = low;
-        high = word r.words (i + 3);
-        end = h.test.end;
-        test = h.test.test;
-        operands = lazy_operands;
+        high = high;
+        end = o.test.end;
+        test = o.test.test;
+        operands = stands_of r.words i tail low high o;
         is = rw short refl;
       }))
 
   -- the window is too short, or a character does not pass
   pub lazy_cut : (b : BoardValue) → r.subject.end - c.position < low → (all : List Way) (limit : ℕ)
       → Goes r all limit (Instruction i) c b → Later r all limit next.Back b
-  lazy_cut b l = lazy_stops b (omega (arith, run_inside r.subject h.test.test low c.position))
+  lazy_cut b l = lazy_stops b (omega (arith, run_inside r.subject o.test.test low c.position))
 
   pub lazy_short : (b : BoardValue) (count : ℕ) → CountsUpTo r i low c.position count → count < low
       → (all : List Way) (limit : ℕ) → Goes r all limit (Instruction i) c b → Later r all limit next.Back b
-  lazy_short b count k l = lazy_stops b (omega (arith, k h.test.end h.test.test h.test.stands))
+  lazy_short b count k l = lazy_stops b (omega (arith, k o.test.end o.test.test o.test.stands))
 
-  module _ (v count : ℕ) (after : StringCursor) (wv : Word r.words (i + 1) v) (k : CountsUpTo r i low c.position count)
-      (l : low ≤ count) (moved_on : after.position ≡ c.position + count) (there : r.stands after after.position) where
+  module _ (count : ℕ) (after : StringCursor) (k : CountsUpTo r i low c.position count) (l : low ≤ count)
+      (moved_on : after.position ≡ c.position + count) (there : r.stands after after.position) where
     lazy_moves : (fs : List Frame) (m : Marks)
         → Moves r.words r.subject (spot_at (Instruction i) fs c.position m)
-        (Split (spot_at (Instruction (i + 1 + v)) fs after.position m) (spot_at (Longer i low) fs after.position m))
+        (Split (spot_at (Instruction tail) fs after.position m) (spot_at (Longer i low) fs after.position m))
     lazy_moves fs m =
-        let all_ : run_length r.subject h.test.test low c.position ≡ low =
-        omega (arith, k h.test.end h.test.test h.test.stands, run_at_most r.subject h.test.test low c.position) in
+        let is_count = k o.test.end o.test.test o.test.stands in
+        let all_ : run_length r.subject o.test.test low c.position ≡ low =
+        omega (arith, is_count, run_at_most r.subject o.test.test low c.position) in
         let enough : nat_lt low low ≡ false = grind (arith, nat_tests) in
-        let place : after.position ≡ c.position + low = omega (arith, all_, k h.test.end h.test.test h.test.stands) in
+        let place : after.position ≡ c.position + low = omega (arith, all_, is_count) in
         at_instruction opcode.MIN_REPEAT_ONE (ToRun LazyRun) refl w (record {
           low = low;
-          high = word r.words (i + 3);
-          end = h.test.end;
-          test = h.test.test;
-          operands = lazy_operands;
-          is = rw (all_, enough, place, word_of r.words (i + 1) v wv) refl;
+          high = high;
+          end = o.test.end;
+          test = o.test.test;
+          operands = stands_of r.words i tail low high o;
+          is = rw (all_, enough, place, o.leads) refl;
         })
 
     pub lazy_both : (b : BoardValue) (all : List Way) (limit : ℕ) → Goes r all limit (Instruction i) c b
-        → GoesBoth r all limit (spot (Instruction (i + 1 + v)) after b) (spot (Longer i low) after b) after b.choices
+        → GoesBoth r all limit (spot (Instruction tail) after b) (spot (Longer i low) after b) after b.choices
     lazy_both b all limit g =
-        turn_splits r (Instruction i) c b (spot (Instruction (i + 1 + v)) after b) (spot (Longer i low) after b) after
+        turn_splits r (Instruction i) c b (spot (Instruction tail) after b) (spot (Longer i low) after b) after
         (lazy_moves b.frames b.marks) there refl refl all limit g
 
-    pub lazy_runs : HasRun r (Instruction i) c
-        → HasRun r (Instruction (i + 1 + v)) after × HasRun r (Longer i low) after
+    pub lazy_runs : HasRun r (Instruction i) c → HasRun r (Instruction tail) after × HasRun r (Longer i low) after
     lazy_runs x =
         let s = run_splits _ _ (lazy_moves x.frames x.marks) x.runs in (
-          has_run r (Instruction (i + 1 + v)) x.frames x.marks after there s.0,
+          has_run r (Instruction tail) x.frames x.marks after there s.0,
           has_run r (Longer i low) x.frames x.marks after there s.1,
         )
 
 -- longer counts
 longer_within : (r : Run) {i n p k : ℕ} {fs : List Frame} {m : Marks} {os : List Way}
-    → Runs r.words r.subject (spot_at (Longer i n) fs p m) os k → RunWords r.words i × (n ≤ p)
-longer_within r {i = i} (turns mv h d) = (
-  record {
-    operands = opcode_within r.words (i + 4) (test_opcode h.test) h.operands.stands.code;
-    test = record { end = h.end; test = h.test; stands = h.operands.stands };
-  },
-  h.past,
-)
+    → Runs r.words r.subject (spot_at (Longer i n) fs p m) os k → HasTest r.words (i + 4) × (n ≤ p)
+longer_within r (turns mv h d) = (record { end = h.end; test = h.test; stands = h.operands.stands }, h.past)
 
-pub longer_there : (r : Run) (i n : ℕ) (c : StringCursor) → HasRun r (Longer i n) c → RunWords r.words i
+pub longer_there : (r : Run) (i n : ℕ) (c : StringCursor) → HasRun r (Longer i n) c → HasTest r.words (i + 4)
 longer_there r i n c x = (longer_within r x.runs).0
 
 pub longer_past : (r : Run) (i n : ℕ) (c : StringCursor) → HasRun r (Longer i n) c → n ≤ c.position
 longer_past r i n c x = (longer_within r x.runs).1
 
-module _ (r : Run) (i n high : ℕ) (c : StringCursor) (h : RunWords r.words i) (past : n ≤ c.position)
-    (wh : Word r.words (i + 3) high) where
-  longer_operands : RunOperands r.words i (word r.words (i + 2)) high h.test.end h.test.test
-  longer_operands =
-      operands_of r.words i (word r.words (i + 2)) high h.test
-      (word_there r.words (i + 2) (omega (arith, h.operands))) wh
-
-  longer_stops : (b : BoardValue) → goes_on r.subject h.test.test high n c.position ≡ false
+module _ (r : Run) (i tail low high n : ℕ) (c : StringCursor) (o : OperandsOfRun r.words i tail low high)
+    (past : n ≤ c.position) where
+  longer_stops : (b : BoardValue) → goes_on r.subject o.test.test high n c.position ≡ false
       → (all : List Way) (limit : ℕ) → Goes r all limit (Longer i n) c b → Later r all limit next.Back b
   longer_stops b e = turn_stops r (Longer i n) c b (record {
-    low = word r.words (i + 2);
+    low = low;
     high = high;
-    end = h.test.end;
-    test = h.test.test;
-    operands = longer_operands;
+    end = o.test.end;
+    test = o.test.test;
+    operands = stands_of r.words i tail low high o;
     past = past;
     is = rw e refl;
   })
@@ -369,13 +350,13 @@ module _ (r : Run) (i n high : ℕ) (c : StringCursor) (h : RunWords r.words i) 
       → Goes r all limit (Longer i n) c b → Later r all limit next.Back b
   longer_end b l =
       longer_stops b
-      (rw (past_end r.subject h.test.test c.position l) (and_false (nat_eq high unlimited || nat_lt n high)))
+      (rw (past_end r.subject o.test.test c.position l) (and_false (nat_eq high unlimited || nat_lt n high)))
     where
       and_false : (a : Bool) → (a && false) ≡ false
       and_false true = refl
       and_false false = refl
 
-  pub longer_unlike : (b : BoardValue) → passes r.subject h.test.test c.position ≡ false → (all : List Way) (limit : ℕ)
+  pub longer_unlike : (b : BoardValue) → passes r.subject o.test.test c.position ≡ false → (all : List Way) (limit : ℕ)
       → Goes r all limit (Longer i n) c b → Later r all limit next.Back b
   longer_unlike b e = longer_stops b (rw e (and_false (nat_eq high unlimited || nat_lt n high)))
     where
@@ -383,20 +364,20 @@ module _ (r : Run) (i n high : ℕ) (c : StringCursor) (h : RunWords r.words i) 
       and_false true = refl
       and_false false = refl
 
-  module _ (tail : ℕ) (after : StringCursor) (leads : tail ≡ skip r.words (i + 1))
-      (more : (nat_eq high unlimited || nat_lt n high) ≡ true) (taken : passes r.subject h.test.test c.position ≡ true)
-      (moved_on : after.position ≡ c.position + 1) (there : r.stands after after.position) where
+  module _ (after : StringCursor) (more : (nat_eq high unlimited || nat_lt n high) ≡ true)
+      (taken : passes r.subject o.test.test c.position ≡ true) (moved_on : after.position ≡ c.position + 1)
+      (there : r.stands after after.position) where
     longer_moves : (fs : List Frame) (m : Marks)
         → Moves r.words r.subject (spot_at (Longer i n) fs c.position m)
         (Split (spot_at (Instruction tail) fs after.position m) (spot_at (Longer i (n + 1)) fs after.position m))
     longer_moves fs m = record {
-      low = word r.words (i + 2);
+      low = low;
       high = high;
-      end = h.test.end;
-      test = h.test.test;
-      operands = longer_operands;
+      end = o.test.end;
+      test = o.test.test;
+      operands = stands_of r.words i tail low high o;
       past = past;
-      is = rw (more, taken, moved_on, leads) refl;
+      is = rw (more, taken, moved_on, o.leads) refl;
     }
 
     longer_both : (b : BoardValue) (all : List Way) (limit : ℕ) → Goes r all limit (Longer i n) c b
@@ -416,9 +397,9 @@ module _ (r : Run) (i n high : ℕ) (c : StringCursor) (h : RunWords r.words i) 
         }
 
 -- what was read tells whether the test passes
-pub longer_passes : (r : Run) (i ch : ℕ) (takes : Bool) (c : StringCursor) (h : RunWords r.words i)
+pub longer_passes : (r : Run) (i ch : ℕ) (takes : Bool) (c : StringCursor) (t : HasTest r.words (i + 4))
     → c.position < r.subject.end → ch ≡ char_at r.subject c.position
-    → ((j : ℕ) (t : Test) → TestStands r.words (i + 4) j t → takes ≡ holds r.subject.table t ch)
-    → passes r.subject h.test.test c.position ≡ takes
-longer_passes r i ch takes c h l e k =
-    read_passes r.subject h.test.test c.position ch takes l e (k h.test.end h.test.test h.test.stands)
+    → ((j : ℕ) (x : Test) → TestStands r.words (i + 4) j x → takes ≡ holds r.subject.table x ch)
+    → passes r.subject t.test c.position ≡ takes
+longer_passes r i ch takes c t l e k =
+    read_passes r.subject t.test c.position ch takes l e (k t.end t.test t.stands)

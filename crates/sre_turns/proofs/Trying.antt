@@ -1,6 +1,6 @@
 -- An instruction that is tried: a mark waits below all that comes of it, and where that mark is come to again, nothing
 -- came of the instruction, and nothing will.
-use Rattle.std.proofs.Common.{◌≡◌, ℕ, ◌≤◌, Bool, true, false, List, [], ◌∷◌, refl, sym, subst}
+use Rattle.std.proofs.Common.{◌≡◌, ℕ, ◌≤◌, Bool, true, false, List, [], ◌∷◌, refl, sym, subst, arith}
 use Rattle.sre_chars.specs.declared.string.StringCursor.{StringCursor}
 use Rattle.sre_model.specs.Ways.{Way}
 use Rattle.sre_model.specs.Runs.{Run}
@@ -10,8 +10,8 @@ use Rattle.sre_turns.specs.MovesAtReferences.{HasReference}
 use Rattle.sre_turns.specs.declared.Frame.{Frame}
 use Rattle.sre_turns.specs.declared.Point.TheVariants.{Instruction}
 use Rattle.sre_turns.specs.declared.Next.TheVariants as next
-use Rattle.sre_turns.specs.Machine.{Waits, tried, Goes, Backs, Later, spot}
-use Rattle.sre_turns.specs.Fruit.{SameFruit, is_inside}
+use Rattle.sre_turns.specs.Machine.{Runs, Waits, tried, Goes, Backs, Later, spot, IsAt}
+use Rattle.sre_turns.specs.Fruit.{Fruitless, SameFruit, is_inside}
 use Rattle.sre_turns.specs.Alike.{Alike, LoopsAlike, least_from}
 use Rattle.sre_turns.specs.Hopeless.{Hopeless, AcceptsByStop}
 use Rattle.sre_turns.proofs.Hopeless.{hopeless_again, hopeless_back, tried_fruitless}
@@ -34,7 +34,7 @@ trying_goes r i c b b' e all limit g =
       stands = g.stands;
       placed = g.placed;
       runs = g.runs;
-      waits = tried g.stands g.placed g.runs (same_fruit r (is_inside b.choices) g.now) g.waits;
+      waits = tried g.stands g.placed g.runs (omega arith) (same_fruit r (is_inside b.choices) g.now) g.waits;
       within = g.within;
     })
 
@@ -42,22 +42,49 @@ trying_goes r i c b b' e all limit g =
 pub tried_waits : (r : Run) (i : ℕ) (c : StringCursor) (b b' : BoardValue)
     → b.choices ≡ Trying i b'.frames c b'.marks ∷ b'.choices → (all : List Way) (limit : ℕ) → Backs r all limit b
     → Backs r all limit b'
-tried_waits r i c b b' e all limit g = go (subst (λ x. Waits r x [] all g.later) e g.waits) g.within
+tried_waits r i c b b' e all limit g = go (subst (λ x. Waits r x 0 [] all g.later) e g.waits) g.within
   where
-    go : {k : ℕ} → Waits r (Trying i b'.frames c b'.marks ∷ b'.choices) [] all k → k ≤ limit → Backs r all limit b'
-    go (tried {k = k} there placed d same wt) l = record { later = k; waits = wt; within = l }
+    go : {k : ℕ} → Waits r (Trying i b'.frames c b'.marks ∷ b'.choices) 0 [] all k → k ≤ limit → Backs r all limit b'
+    go (tried {k = k} there placed d most same wt) l = record { later = k; waits = wt; within = l }
 
--- and the instruction is hopeless
+-- what comes of a spot, which is nothing
+pub record CameToNothing (r : Run) (inside : Bool) (x : Spot) : Type 0 where
+  pub outcomes : List Way
+  pub turns : ℕ
+  pub runs : Runs r.words r.subject x outcomes turns
+  pub fruitless : Fruitless r inside outcomes
+
+pub came_hopeless : (r : Run) → AcceptsByStop r → (HasReference r.words → ⊥) → (inside : Bool) (x : Spot)
+    → CameToNothing r inside x → Hopeless r inside x
+came_hopeless r told none inside x d = hopeless_again r told none inside x d.outcomes d.turns d.runs d.fruitless
+
+-- the instruction came to nothing
+pub tried_came : (r : Run) (i : ℕ) (c : StringCursor) (b b' : BoardValue)
+    → b.choices ≡ Trying i b'.frames c b'.marks ∷ b'.choices → (all : List Way) (limit : ℕ) → Backs r all limit b
+    → CameToNothing r (is_inside b'.choices) (spot (Instruction i) c b')
+tried_came r i c b b' e all limit g = go (subst (λ x. Waits r x 0 [] all g.later) e g.waits)
+  where
+    go : {k : ℕ} → Waits r (Trying i b'.frames c b'.marks ∷ b'.choices) 0 [] all k
+        → CameToNothing r (is_inside b'.choices) (spot (Instruction i) c b')
+    go (tried {n = n} {os = os} there placed d most same wt) =
+        record { outcomes = os; turns = n; runs = d; fruitless = tried_fruitless r (is_inside b'.choices) os same }
+
+-- the machine may stand at it again
+pub tried_at : (r : Run) (i : ℕ) (c : StringCursor) (b b' : BoardValue)
+    → b.choices ≡ Trying i b'.frames c b'.marks ∷ b'.choices → (all : List Way) (limit : ℕ) → Backs r all limit b
+    → IsAt r (Instruction i) c b'
+tried_at r i c b b' e all limit g = go (subst (λ x. Waits r x 0 [] all g.later) e g.waits)
+  where
+    go : {k : ℕ} → Waits r (Trying i b'.frames c b'.marks ∷ b'.choices) 0 [] all k → IsAt r (Instruction i) c b'
+    go (tried {n = n} {os = os} there placed d most same wt) =
+        record { outcomes = os; turns = n; stands = there; placed = placed; runs = d }
+
+-- so it is hopeless
 pub tried_hopeless : (r : Run) → AcceptsByStop r → (HasReference r.words → ⊥) → (i : ℕ) (c : StringCursor)
     (b b' : BoardValue) → b.choices ≡ Trying i b'.frames c b'.marks ∷ b'.choices → (all : List Way) (limit : ℕ)
     → Backs r all limit b → Hopeless r (is_inside b'.choices) (spot (Instruction i) c b')
-tried_hopeless r told none i c b b' e all limit g = go (subst (λ x. Waits r x [] all g.later) e g.waits)
-  where
-    go : {k : ℕ} → Waits r (Trying i b'.frames c b'.marks ∷ b'.choices) [] all k
-        → Hopeless r (is_inside b'.choices) (spot (Instruction i) c b')
-    go (tried {n = n} {os = os} there placed d same wt) =
-        hopeless_again r told none (is_inside b'.choices) (spot (Instruction i) c b') os n d
-        (tried_fruitless r (is_inside b'.choices) os same)
+tried_hopeless r told none i c b b' e all limit g =
+    came_hopeless r told none (is_inside b'.choices) (spot (Instruction i) c b') (tried_came r i c b b' e all limit g)
 
 -- a spot is alike to itself
 loops_itself : (ws : List ℕ) (p : ℕ) (fs : List Frame) → LoopsAlike ws p fs fs

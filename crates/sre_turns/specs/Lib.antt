@@ -1,10 +1,14 @@
 pub mod Board
 pub mod Moves
 pub mod MovesInRuns
+pub mod OperandsOfRuns
 pub mod MovesInLoops
 pub mod MovesInRegions
 pub mod MovesAtReferences
 pub mod Alike
 pub mod Machine
+pub mod Nested
 pub mod Fruit
 pub mod Hopeless
+pub mod RunEnds
+pub mod OpenMarks

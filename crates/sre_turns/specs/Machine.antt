@@ -86,38 +86,52 @@ mutual
 pub record Placed (s : Subject) (m : Marks) : Type 0 where
   pub at : (n p : ℕ) → mark_at m n ≡ Some p → p ≤ length s.text
 
--- the accepted outcomes of the whole and the turns to come, where the innermost region has the outcomes now
-pub data Waits (r : Run) : List Choice → List Way → List Way → ℕ → Type 0 where
-  outermost : {now : List Way} → Waits r [] now (filter r.accepts now) 0
-  otherwise : {pt : Point} {fs : List Frame} {c : StringCursor} {n k : ℕ} {m : Marks} {os now all : List Way}
+-- the accepted outcomes of the whole and the turns to come, where the innermost region has the outcomes now, and where
+-- so many turns, as those of Runs are counted, may still come before what waits is come to: a mark waits for no more
+-- than the turns of its instruction
+pub data Waits (r : Run) : List Choice → ℕ → List Way → List Way → ℕ → Type 0 where
+  outermost : {u : ℕ} {now : List Way} → Waits r [] u now (filter r.accepts now) 0
+  otherwise : {pt : Point} {fs : List Frame} {c : StringCursor} {u n k : ℕ} {m : Marks} {os now all : List Way}
       {cs : List Choice}
       → r.stands c c.position → Placed r.subject m → Runs r.words r.subject (spot_at pt fs c.position m) os n
-      → Waits r cs (now ++ os) all k
-      → Waits r (Else pt fs c m ∷ cs) now all (suc (n + k))
-  kept : {g : Region} {pt : Point} {fs : List Frame} {c : StringCursor} {n k : ℕ} {m : Marks} {os now all : List Way}
-      {cs : List Choice}
+      → Waits r cs (u + n + 1) (now ++ os) all k
+      → Waits r (Else pt fs c m ∷ cs) u now all (suc (n + k))
+  kept : {g : Region} {pt : Point} {fs : List Frame} {c : StringCursor} {u n k : ℕ} {m : Marks}
+      {os now all : List Way} {cs : List Choice}
       → r.stands c c.position → Placed r.subject m
       → Comes r.words r.subject (spot_at pt fs c.position m) (closing_move g (spot_at pt fs c.position m) now) os n
-      → Waits r cs os all k → Waits r (Keep g fs c m ∷ cs) now all (n + k)
-  tried : {i : ℕ} {fs : List Frame} {c : StringCursor} {n k : ℕ} {m : Marks} {os now all : List Way} {cs : List Choice}
+      → Waits r cs (u + n) os all k → Waits r (Keep g fs c m ∷ cs) u now all (n + k)
+  tried : {i : ℕ} {fs : List Frame} {c : StringCursor} {u n k : ℕ} {m : Marks} {os now all : List Way}
+      {cs : List Choice}
       → r.stands c c.position → Placed r.subject m
-      → Runs r.words r.subject (spot_at (Instruction i) fs c.position m) os n → SameFruit r (is_inside cs) os now
-      → Waits r cs now all k → Waits r (Trying i fs c m ∷ cs) now all k
+      → Runs r.words r.subject (spot_at (Instruction i) fs c.position m) os n → u ≤ n → SameFruit r (is_inside cs) os
+      now
+      → Waits r cs u now all k → Waits r (Trying i fs c m ∷ cs) u now all k
 
 -- where the machine stands at a point and a cursor
 abbrev pub spot : Point → StringCursor → BoardValue → Spot
 spot pt c b = spot_at pt b.frames c.position b.marks
 
--- the machine is at a point and a cursor: all are the accepted outcomes, and at most limit turns are left
-pub record Goes (r : Run) (all : List Way) (limit : ℕ) (pt : Point) (c : StringCursor) (b : BoardValue) : Type 0 where
+-- the machine is at a point and a cursor: all are the accepted outcomes, and at most limit turns are left; and what
+-- waits on the board has at least so many turns to spare beyond those that come of the point
+pub record GoesWith (spare : ℕ) (r : Run) (all : List Way) (limit : ℕ) (pt : Point) (c : StringCursor) (b : BoardValue)
+    : Type 0 where
   pub now : List Way
   pub turns : ℕ
   pub later : ℕ
   pub stands : r.stands c c.position
   pub placed : Placed r.subject b.marks
   pub runs : Runs r.words r.subject (spot pt c b) now turns
-  pub waits : Waits r b.choices now all later
+  pub waits : Waits r b.choices (turns + spare) now all later
   pub within : turns + later ≤ limit
+
+-- its turn is under way: a mark for it may wait already
+abbrev pub Goes : Run → List Way → ℕ → Point → StringCursor → BoardValue → Type 0
+Goes r all limit pt c b = GoesWith 0 r all limit pt c b
+
+-- it is come to: each mark that waits has turns for what came before it
+abbrev pub Arrives : Run → List Way → ℕ → Point → StringCursor → BoardValue → Type 0
+Arrives r all limit pt c b = GoesWith 1 r all limit pt c b
 
 -- the same at two spots, the outcomes of the one before those of the other
 pub record GoesBoth (r : Run) (all : List Way) (limit : ℕ) (first second : Spot) (c : StringCursor)
@@ -132,13 +146,13 @@ pub record GoesBoth (r : Run) (all : List Way) (limit : ℕ) (first second : Spo
   pub others_placed : Placed r.subject second.marks
   pub runs : Runs r.words r.subject first now turns
   pub others : Runs r.words r.subject second next further
-  pub waits : Waits r cs (now ++ next) all later
+  pub waits : Waits r cs (turns + further + 2) (now ++ next) all later
   pub within : turns + further + later + 2 ≤ limit
 
 -- the innermost region has no more outcomes
 pub record Backs (r : Run) (all : List Way) (limit : ℕ) (b : BoardValue) : Type 0 where
   pub later : ℕ
-  pub waits : Waits r b.choices [] all later
+  pub waits : Waits r b.choices 0 [] all later
   pub within : later ≤ limit
 
 -- the innermost region ends at a cursor
@@ -146,12 +160,12 @@ pub record Ends (r : Run) (all : List Way) (limit : ℕ) (c : StringCursor) (b :
   pub later : ℕ
   pub stands : r.stands c c.position
   pub placed : Placed r.subject b.marks
-  pub waits : Waits r b.choices (here c.position b.marks) all later
+  pub waits : Waits r b.choices 0 (here c.position b.marks) all later
   pub within : later + 1 ≤ limit
 
 abbrev pub Stands : Run → List Way → ℕ → Next → BoardValue → Type 0
-Stands r all limit (next.At i c) b = Goes r all limit (Instruction i) c b
-Stands r all limit (next.Again c) b = Goes r all limit Again c b
+Stands r all limit (next.At i c) b = Arrives r all limit (Instruction i) c b
+Stands r all limit (next.Again c) b = Arrives r all limit Again c b
 Stands r all limit next.Back b = Backs r all limit b
 Stands r all limit (next.Done c) b = Ends r all limit c b
 

@@ -1,0 +1,39 @@
+-- No spot is come to that is alike to one whose mark waits in the innermost region: alike spots take as many turns, and
+-- the spot that is come to has fewer to come than the one that is tried. The bound on turns, which is still to be
+-- stated, will rest on this.
+use Rattle.std.proofs.Common.{ℕ, ◌+◌, ◌≤◌, List, [], ◌∷◌, arith}
+use Rattle.sre_chars.specs.declared.string.StringCursor.{StringCursor}
+use Rattle.sre_model.specs.Ways.{Way}
+use Rattle.sre_model.specs.Runs.{Run}
+use Rattle.sre_turns.specs.Board.{Choice, Else, Keep, Trying, BoardValue}
+use Rattle.sre_turns.specs.Moves.{Spot}
+use Rattle.sre_turns.specs.MovesAtReferences.{HasReference}
+use Rattle.sre_turns.specs.declared.Point.TheVariants.{Instruction}
+use Rattle.sre_turns.specs.declared.Point.{Point}
+use Rattle.sre_turns.specs.Machine.{Runs, Waits, outermost, otherwise, kept, tried, Arrives, Stands, spot}
+use Rattle.sre_turns.specs.declared.Next.TheVariants as next
+use Rattle.sre_turns.specs.OpenMarks.{NoneOpen}
+use Rattle.sre_turns.proofs.SameComes.{same_comes}
+
+-- of what waits for more turns than come of a spot, no mark is of one that is alike
+apart : (r : Run) → (HasReference r.words → ⊥) → (x : Spot) (os : List Way) (n : ℕ) → Runs r.words r.subject x os n
+    → (cs : List Choice) {u : ℕ} {now all : List Way} {k : ℕ} → n + 1 ≤ u → Waits r cs u now all k
+    → NoneOpen r.words x cs
+apart r none x os n d [] l wt = tt
+apart r none x os n d (Else pt fs c m ∷ cs) l (otherwise there placed e wt) =
+    apart r none x os n d cs (omega arith) wt
+apart r none x os n d (Trying j fs c m ∷ cs) l (tried there placed e most same wt) = (
+  λ alike. absurd (omega (arith, (same_comes r.words r.subject none alike e d).1, l, most)),
+  apart r none x os n d cs l wt,
+)
+apart r none x os n d (Keep g fs c m ∷ cs) l wt = tt
+
+pub none_open : (r : Run) → (HasReference r.words → ⊥) → (all : List Way) (limit : ℕ) (pt : Point) (c : StringCursor)
+    (b : BoardValue) → Arrives r all limit pt c b → NoneOpen r.words (spot pt c b) b.choices
+none_open r none all limit pt c b g = apart r none (spot pt c b) g.now g.turns g.runs b.choices (omega arith) g.waits
+
+-- so none is alike to an instruction at which the machine stands
+pub none_alike_open : (r : Run) → (HasReference r.words → ⊥) → (all : List Way) (limit i : ℕ) (c : StringCursor)
+    (b : BoardValue) → Stands r all limit (next.At i c) b
+    → NoneOpen r.words (spot (Instruction i) c b) b.choices
+none_alike_open r none all limit i c b g = none_open r none all limit (Instruction i) c b g

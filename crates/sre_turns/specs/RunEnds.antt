@@ -1,0 +1,19 @@
+-- Runs of one test without a greatest count, of which what failed at a position tells what fails later in the stretch.
+-- Words of the machine's contracts; what sre_engine makes public does not rest on it.
+use Rattle.std.specs.Prelude.{ℕ, ◌+◌, ◌≡◌, ◌<◌, ◌≤◌, ◌⊎◌, true, List}
+use Rattle.sre_chars.specs.declared.constants.SreOpcode.TheVariants as opcode
+use Rattle.sre_model.specs.Tree.{Test}
+use Rattle.sre_model.specs.Subject.{Subject, passes}
+use Rattle.sre_model.specs.Ways.{unlimited}
+use Rattle.sre_model.specs.Grammar.{Word, Opcode}
+use Rattle.sre_model.specs.Standing.{HasTest}
+
+-- each character from p up to q passes
+abbrev pub AllPass : Subject → Test → ℕ → ℕ → Type 0
+AllPass s t p q = (c : ℕ) → p ≤ c → c < q → passes s t c ≡ true
+
+-- a greedy or a lazy run without a greatest count is at i
+pub record RunsOn (ws : List ℕ) (i : ℕ) : Type 0 where
+  pub code : Opcode ws i opcode.REPEAT_ONE ⊎ Opcode ws i opcode.MIN_REPEAT_ONE
+  pub greatest : Word ws (i + 3) unlimited
+  pub test : HasTest ws (i + 4)
