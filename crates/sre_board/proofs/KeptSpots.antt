@@ -1,11 +1,11 @@
 -- The spots that are kept as bits: when one more is kept, and when a row is added.
 use Rattle.std.proofs.Common.{◌≡◌, ℕ, zero, suc, ◌+◌, ◌-◌, ◌*◌, ◌/◌, ◌%◌, ◌^◌, ◌<◌, ◌≤◌, ◌⊎◌, inl, inr}
-use Rattle.std.proofs.Common.{Bool, List, [], ◌∷◌, ◌++◌, length, take, replicate, Option, Some, slice_get, slice_index}
+use Rattle.std.proofs.Common.{Bool, List, [], ◌∷◌, ◌++◌, length, replicate, Option, Some, slice_get, slice_index}
 use Rattle.std.proofs.Common.{slice_set, get_or, refl, sym, ap, ◌∙◌, subst, arith, w64, length-append}
 use Rattle.std.specs.Prelude.{bit_or}
 use Rattle.std.specs.Int.{bit_at}
 use Rattle.std.proofs.lemmas.Bool.{cases_order, cases_eq}
-use Rattle.std.proofs.lemmas.List.{get_or-set_same, get_or-set_other, get_or_append_left, get_or-append_right, take_all}
+use Rattle.std.proofs.lemmas.List.{get_or-set_same, get_or-set_other, get_or_append_left, get_or-append_right}
 use Rattle.std.proofs.lemmas.List.{length-replicate, length-set, get_or_read}
 use Rattle.std.proofs.lemmas.Nat.{same_from_place}
 use Rattle.std.proofs.lemmas.Nat.Bits.{bit_at_set_other, bit_at-zero}
@@ -19,7 +19,7 @@ use Rattle.sre_board.specs.declared.failures.Row.{Row}
 use Rattle.sre_board.proofs.ChainLaws.{get_some}
 use Rattle.sre_board.proofs.AlikeBySlot.{one_if, same_pair, slot_length, loops_alike}
 
-same_row : (k : Kept) (m n : ℕ) (r s : Row) (i j at : ℕ) → Laid k → slice_get k.rows m ≡ Some r
+pub same_row : (k : Kept) (m n : ℕ) (r s : Row) (i j at : ℕ) → Laid k → slice_get k.rows m ≡ Some r
     → slice_get k.rows n ≡ Some s → i < r.length → j < s.length → at ≡ r.base + i → at ≡ s.base + j → r ≡ s
 same_row k m n r s i j at laid er es hi hj ei ej = elim (cases_order m n) [
   | inl e ↦ same_some (sym er ∙ ap (λ x. slice_get k.rows x) e ∙ es)
@@ -69,7 +69,7 @@ with_bit k at bit =
     record k { bits = slice_set k.bits at (bit_or (get_or k.bits at 0) ((1 * 2 ^ bit) % 2 ^ 64)) }
 
 -- an entry rests on rows and shapes alone
-entry_below : (old new : Kept) (ws : List ℕ) (inside : Bool) (x : Spot) (at bit : ℕ) → new.rows ≡ old.rows
+pub entry_below : (old new : Kept) (ws : List ℕ) (inside : Bool) (x : Spot) (at bit : ℕ) → new.rows ≡ old.rows
     → new.shapes ≡ old.shapes → Entry new ws inside x at bit → Entry old ws inside x at bit
 entry_below old new ws inside x at bit er es e = record {
   number = e.number;
@@ -126,7 +126,7 @@ kept_more k ws inside x at bit laid small there e = λ other y held.
     ]
 
 -- the word of a longer list, before its end
-get_before : (xs ys : List ℕ) (i : ℕ) → i < length xs → slice_get (xs ++ ys) i ≡ slice_get xs i
+pub get_before : (xs ys : List ℕ) (i : ℕ) → i < length xs → slice_get (xs ++ ys) i ≡ slice_get xs i
 get_before [] ys i h = absurd (omega arith)
 get_before (x ∷ xs) ys zero h = refl
 get_before (x ∷ xs) ys (suc i) h = get_before xs ys i (omega arith)
@@ -190,7 +190,7 @@ laid_bits k n laid = record {
 }
 
 -- past the bits there were, none is set
-bits_after : (bits : List ℕ) (n at bit : ℕ) → length bits ≤ at
+pub bits_after : (bits : List ℕ) (n at bit : ℕ) → length bits ≤ at
     → bit_at (slice_index (bits ++ replicate n 0) at) bit ≡ 1 → ⊥
 bits_after bits n at bit h is_set =
     let moved : slice_index (bits ++ replicate n 0) at ≡ slice_index (replicate n 0) (at - length bits) =
@@ -224,7 +224,7 @@ bits_no_more k n laid = λ ws inside x h.
 abbrev pub with_row : Kept → Row → ℕ → Kept
 with_row k row n = record k { rows = k.rows ++ row ∷ []; bits = k.bits ++ replicate n 0 }
 
-got_row : (rs : List Row) (row : Row) (n : ℕ) (r : Row) → slice_get (rs ++ row ∷ []) n ≡ Some r
+pub got_row : (rs : List Row) (row : Row) (n : ℕ) (r : Row) → slice_get (rs ++ row ∷ []) n ≡ Some r
     → (slice_get rs n ≡ Some r) ⊎ ((n ≡ length rs) × (row ≡ r))
 got_row [] row zero r e = inr (refl, cc)
 got_row [] row (suc n) r e = absurd (cc)
@@ -232,7 +232,7 @@ got_row (x ∷ rs) row zero r e = inl e
 got_row (x ∷ rs) row (suc n) r e = elim (got_row rs row n r e) [ inl l ↦ inl l | inr g ↦ inr (ap suc g.0, g.1) ]
 
 -- what is found is within the list
-got_within : (rs : List Row) (n : ℕ) (r : Row) → slice_get rs n ≡ Some r → n < length rs
+pub got_within : (rs : List Row) (n : ℕ) (r : Row) → slice_get rs n ≡ Some r → n < length rs
 got_within [] n r e = absurd (cc)
 got_within (x ∷ rs) zero r e = omega arith
 got_within (x ∷ rs) (suc n) r e = omega (arith, got_within rs n r e)
@@ -323,63 +323,3 @@ pub row_at : (k : Kept) (rows : List Row) (shapes bits : List ℕ) (n : ℕ) (r 
     → n < length rows → r ≡ get_or rows n r → slice_get k.rows n ≡ Some r
 row_at k rows shapes bits n r is h e =
     ap (λ (y : Kept). slice_get y.rows n) (sym is) ∙ get_some rows n r h ∙ ap (λ (x : Row). Some x) (sym e)
-
--- the shapes of a further row are appended
-module _ (k : Kept) (rows : List Row) (shapes bits new : List ℕ) (is : kept_of rows shapes bits ≡ k)
-    (laid : Laid (kept_of rows shapes bits)) (more : (xs : List ℕ) × (new ≡ shapes ++ xs)) where
-  pub laid_grown : Laid (kept_of rows new bits)
-  laid_grown =
-      subst (λ (ss : List ℕ). Laid (kept_of rows ss bits)) (sym more.1)
-      (laid_shapes (kept_of rows shapes bits) more.0 laid)
-
-  pub grown_no_more : HoldsNoMore k (kept_of rows new bits)
-  grown_no_more =
-      subst (λ (y : Kept). HoldsNoMore y (kept_of rows new bits)) is
-      (subst (λ (ss : List ℕ). HoldsNoMore (kept_of rows shapes bits) (kept_of rows ss bits)) (sym more.1)
-      (shapes_no_more (kept_of rows shapes bits) more.0 laid))
-
--- and then spots of no more
-pub no_more_after : (k l m : Kept) → HoldsNoMore k l → HoldsNoMore l m → HoldsNoMore k m
-no_more_after k l m a b = λ ws inside x h. a ws inside x (b ws inside x h)
-
--- bits that are filled up
-filled : (bits new : List ℕ) (base n taken : ℕ) → base ≡ length bits → taken ≡ length bits
-    → new ≡ take (base + n) bits ++ replicate (base + n - taken) 0 → new ≡ bits ++ replicate n 0
-filled bits new base n taken eb et e =
-    let all : take (base + n) bits ≡ bits = take_all (base + n) bits (omega (arith, eb)) in
-    let left : base + n - taken ≡ n = omega (arith, eb, et) in
-    e ∙ rw (all, left) refl
-
--- the bits of a further row are appended, and then the row
-module _ (k : Kept) (rows : List Row) (shapes bits new : List ℕ) (row : Row) (taken : ℕ)
-    (is : kept_of rows shapes bits ≡ k) (laid : Laid (kept_of rows shapes bits)) (base : row.base ≡ length k.bits)
-    (end : row.end ≤ length k.shapes) (et : taken ≡ length bits)
-    (e : new ≡ take (row.base + row.length) bits ++ replicate (row.base + row.length - taken) 0) where
-  here : row.base ≡ length bits
-  here = base ∙ ap (λ (y : Kept). length y.bits) (sym is)
-
-  long : new ≡ bits ++ replicate row.length 0
-  long = filled bits new row.base row.length taken here et e
-
-  pub laid_filled : Laid (kept_of rows shapes new)
-  laid_filled =
-      subst (λ (bs : List ℕ). Laid (kept_of rows shapes bs)) (sym long)
-      (laid_bits (kept_of rows shapes bits) row.length laid)
-
-  pub filled_no_more : HoldsNoMore k (kept_of rows shapes new)
-  filled_no_more =
-      subst (λ (y : Kept). HoldsNoMore y (kept_of rows shapes new)) is
-      (subst (λ (bs : List ℕ). HoldsNoMore (kept_of rows shapes bits) (kept_of rows shapes bs)) (sym long)
-      (bits_no_more (kept_of rows shapes bits) row.length laid))
-
-  shaped : row.end ≤ length shapes
-  shaped = omega (arith, end, ap (λ (y : Kept). length y.shapes) is)
-
-  pub laid_pushed : (rs : List Row) → rs ≡ rows ++ row ∷ [] → Laid (kept_of rs shapes new)
-  laid_pushed rs er =
-      rw (er, long) (laid_row (kept_of rows shapes bits) row row.length laid here (omega arith) shaped)
-
-  pub pushed_no_more : (rs : List Row) → rs ≡ rows ++ row ∷ [] → HoldsNoMore k (kept_of rs shapes new)
-  pushed_no_more rs er =
-      subst (λ (y : Kept). HoldsNoMore y (kept_of rs shapes new)) is
-      (rw (er, long) (row_no_more (kept_of rows shapes bits) row row.length laid here (omega arith) shaped))

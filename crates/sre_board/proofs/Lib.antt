@@ -3,5 +3,8 @@ pub mod ChainLaws
 pub mod Choosing
 pub mod InnermostRegion
 pub mod AlikeBySlot
+pub mod SlotsThere
 pub mod Remembering
 pub mod KeptSpots
+pub mod CountingBits
+pub mod KeptStill

@@ -1,8 +1,9 @@
 -- The spots of which nothing came, as bits: one row of bits for each place, one bit for each spot that tells a
 -- difference there.
-use Rattle.std.specs.Prelude.{ℕ, ◌+◌, ◌-◌, ◌*◌, ◌/◌, ◌%◌, ◌<◌, ◌≤◌, ◌≡◌, ◌⊎◌, ⊤, Bool, cond, min, List, [], ◌∷◌}
-use Rattle.std.specs.Prelude.{Option, Some, None, slice_get, slice_index, length}
+use Rattle.std.specs.Prelude.{ℕ, zero, suc, ◌+◌, ◌-◌, ◌*◌, ◌/◌, ◌%◌, ◌<◌, ◌≤◌, ◌≡◌, ◌⊎◌, ⊤, Bool, cond, min}
+use Rattle.std.specs.Prelude.{List, [], ◌∷◌, Option, Some, None, slice_get, slice_index, length}
 use Rattle.std.specs.Int.{bit_at}
+use Rattle.std.specs.List.{sum_by}
 use Rattle.sre_model.specs.Grammar.{word}
 use Rattle.sre_model.specs.Runs.{Run}
 use Rattle.sre_turns.specs.Alike.{Alike, counted_to, is_last}
@@ -11,6 +12,8 @@ use Rattle.sre_turns.specs.Moves.{Spot}
 use Rattle.sre_turns.specs.declared.Frame.{Frame}
 use Rattle.sre_turns.specs.declared.Point.TheVariants.{Instruction}
 use Rattle.sre_board.specs.declared.failures.Row.{Row}
+use Rattle.sre_board.specs.declared.failures.Known.{Known}
+use Rattle.sre_board.specs.declared.failures.Known.TheVariants.{Failed, Open, NoBit}
 
 -- the rows, the places of the loops in progress at all of them, and the bits of all of them
 pub record Kept : Type 0 where
@@ -75,6 +78,73 @@ HoldsNone k = (ws : List ℕ) (inside : Bool) (x : Spot) → Holds k ws inside x
 -- no spot is kept that was not kept before
 abbrev pub HoldsNoMore : Kept → Kept → Type 0
 HoldsNoMore old new = (ws : List ℕ) (inside : Bool) (x : Spot) → Holds new ws inside x → Holds old ws inside x
+
+-- each spot that was kept is kept still
+abbrev pub HoldsStill : Kept → Kept → Type 0
+HoldsStill old new = (ws : List ℕ) (inside : Bool) (x : Spot) → Holds old ws inside x → Holds new ws inside x
+
+-- each bit is that of its spot still
+abbrev pub BitsStay : Kept → Kept → Type 0
+BitsStay old new =
+    (ws : List ℕ) (inside : Bool) (x : Spot) (at bit : ℕ) → Entry old ws inside x at bit → Entry new ws inside x at bit
+
+-- how many of a word's lowest bits are set
+unfoldable pub ones_below : ℕ → ℕ → ℕ
+ones_below zero w = 0
+ones_below (suc n) w = ones_below n w + bit_at w n
+
+-- how many bits are set in all words
+abbrev pub ones : Kept → ℕ
+ones k = sum_by (ones_below 64) k.bits
+
+-- rows, shapes and bits behind those there were: what was kept is kept still and no more is
+pub record Grows (old new : Kept) : Type 0 where
+  pub no_more : HoldsNoMore old new
+  pub still : HoldsStill old new
+  pub stay : BitsStay old new
+  pub same : ones new ≡ ones old
+
+-- a spot has a bit
+pub record HasBit (k : Kept) (ws : List ℕ) (inside : Bool) (x : Spot) : Type 0 where
+  pub at : ℕ
+  pub bit : ℕ
+  pub entry : Entry k ws inside x at bit
+
+-- a spot has a bit that is not set
+pub record IsOpen (k : Kept) (ws : List ℕ) (inside : Bool) (x : Spot) : Type 0 where
+  pub at : ℕ
+  pub bit : ℕ
+  pub entry : Entry k ws inside x at bit
+  pub is_clear : bit_at (slice_index k.bits at) bit ≡ 0
+
+-- a spot's bit is set, which is one more where it was not
+pub record Sets (ws : List ℕ) (inside : Bool) (x : Spot) (old new : Kept) : Type 0 where
+  pub at : ℕ
+  pub bit : ℕ
+  pub entry : Entry old ws inside x at bit
+  pub is_set : bit_at (slice_index new.bits at) bit ≡ 1
+  pub count : ones new + bit_at (slice_index old.bits at) bit ≡ ones old + 1
+
+-- what is known of a spot
+abbrev pub Tells : Known → Kept → List ℕ → Bool → Spot → Type 0
+Tells Failed k ws inside x = Holds k ws inside x
+Tells Open k ws inside x = IsOpen k ws inside x
+Tells NoBit k ws inside x = ⊤
+
+-- so many words are enough for the bits of a place, with the positions from first to end
+abbrev pub most_words : ℕ → ℕ → ℕ
+most_words first end = 128 * (end + 1 - first) + 1
+
+-- no more rows than a list has words, and no more bits than these need
+pub record Roomy (ws : List ℕ) (first end : ℕ) (k : Kept) : Type 0 where
+  pub rows : length k.rows ≤ length ws
+  pub bits : length k.bits ≤ length k.rows * most_words first end
+
+-- at most one row more, with so many words
+abbrev pub OneRowMore : ℕ → Kept → Kept → Type 0
+OneRowMore n old new =
+    ((length new.rows ≡ length old.rows) × (length new.bits ≡ length old.bits))
+    ⊎ ((length new.rows ≡ length old.rows + 1) × (length new.bits ≡ length old.bits + n))
 
 -- none but those that are alike to one spot
 abbrev pub HoldsOneMore : List ℕ → Bool → Spot → Kept → Kept → Type 0

@@ -7,14 +7,15 @@
 //! A row is for the loops that were in progress when it was made, so a spot under others has no bit. Nothing is
 //! expected of the words: where one is missing there is no bit either.
 
-ghost use Rattle.std.specs.Prelude.{◌≡◌, ℕ, ◌+◌, ◌*◌, ◌^◌, ◌<◌, ◌≤◌, true, List, [], ◌++◌, length, IfSome, Some, IfOk};
-ghost use Rattle.std.specs.Prelude.{slice_get, slice_index_or};
+ghost use Rattle.std.specs.Prelude.{◌≡◌, ℕ, ◌+◌, ◌-◌, ◌*◌, ◌^◌, ◌<◌, ◌≤◌, true, false, List, []};
+ghost use Rattle.std.specs.Prelude.{◌++◌, length, IfSome, Some, IfOk, slice_get, slice_index_or};
 ghost use Rattle.sre_turns.specs.Alike.{is_last};
 ghost use Rattle.sre_turns.specs.Fruit.{is_inside};
 ghost use Rattle.sre_turns.specs.Moves.{spot_at};
 ghost use Rattle.sre_turns.specs.declared.Point.TheVariants.{Instruction};
 ghost use Rattle.sre_board.specs.Failures.{Entry, Holds, HoldsNone, HoldsNoMore, HoldsOneMore, HasSlot, IsPassed};
-ghost use Rattle.sre_board.specs.Failures.{counted_at, digit, radix};
+ghost use Rattle.sre_board.specs.Failures.{HoldsStill, BitsStay, Grows, Sets, Tells, Roomy, OneRowMore, Laid};
+ghost use Rattle.sre_board.specs.Failures.{counted_at, digit, radix, ones, most_words};
 
 use crate::board::Board;
 use crate::chains::{Chains, frame_of};
@@ -34,6 +35,14 @@ pub(crate) struct Row {
     pub end: usize,
     pub base: usize,
     pub length: usize,
+}
+
+/// What is known of a spot: that nothing came of it, that it has a bit which is not set yet, or that it has none.
+#[derive(Clone, Copy, Debug, PartialEq, Eq)]
+pub enum Known {
+    Failed,
+    Open,
+    NoBit,
 }
 
 /// The spots of which nothing came.
@@ -211,7 +220,8 @@ fn add_shape<A: Allocator>(
 #[inline(always)]
 fn room(slots: usize, first: usize, end: usize, taken: usize) -> (usize, usize)
     requires { (slots ≤ 4096) × (taken ≤ 2 ^ 32) }
-    ensures { taken + result.1 ≤ 2 ^ 32 }
+    ensures all { taken + result.1 ≤ 2 ^ 32 }
+    ensures few { result.1 ≤ most_words first end }
 {
     if slots == 0 || first > end || end - first >= MOST_POSITIONS {
         return (0, 0);
@@ -265,7 +275,11 @@ impl<A: Allocator> Failures<A> {
         first: usize,
         end: usize,
     ) -> Result<(), Refusal>
-        ensures { HoldsNoMore self.old self.new }
+        ensures no_more { HoldsNoMore self.old self.new }
+        ensures still { HoldsStill self.old self.new }
+        ensures stay { BitsStay self.old self.new }
+        ensures ones { ones self.new ≡ ones self.old }
+        ensures roomy { Roomy words.now first end self.old → Roomy words.now first end self.new }
     {
         if self.row(place).is_some() {
             return Ok(());
@@ -283,13 +297,14 @@ impl<A: Allocator> Failures<A> {
         first: usize,
         end: usize,
     ) -> Result<(), Refusal>
-        ensures { HoldsNoMore self.old self.new }
+        ensures grows { Grows self.old self.new }
+        ensures roomy { Roomy words.now first end self.old → Roomy words.now first end self.new }
     {
         let number = self.rows.len();
         let base = self.bits.len();
         if place >= words.len()
             || words.len() > MOST_WORDS
-            || number >= MOST_WORDS
+            || number >= words.len()
             || base > MOST_WORDS
         {
             return Ok(());
@@ -317,10 +332,14 @@ impl<A: Allocator> Failures<A> {
         requires base { row.base ≡ length self.old.bits }
         requires room { row.base + row.length ≤ 2 ^ 32 }
         requires end { row.end ≤ length self.old.shapes }
-        ensures { HoldsNoMore self.old self.new }
+        ensures grows { Grows self.old self.new }
+        ensures size { OneRowMore row.length self.old self.new }
     {
         sre_growth::resize(&mut self.bits, row.base + row.length, 0)?;
-        sre_growth::push(&mut self.rows, row)?;
+        if let Err(refusal) = sre_growth::push(&mut self.rows, row) {
+            self.bits.truncate(row.base);
+            return Err(refusal);
+        }
         Ok(())
     }
 
@@ -369,27 +388,55 @@ impl<A: Allocator> Failures<A> {
         })
     }
 
-    /// Whether the spot at a place and a position is kept, under the loops of a board and inside a region or not as it
+    /// What is known of the spot at a place and a position, under the loops of a board and inside a region or not as it
     /// is.
+    #[inline(always)]
+    pub fn known(&self, words: &[u32], board: &Board<A>, place: usize, position: usize) -> Known
+        ensures told { Tells result self.now words.now (is_inside board.now.choices)
+            (spot_at (Instruction place) board.now.frames position board.now.marks) }
+        ensures laid { Laid self.now }
+    {
+        match self.bit(words, board, place, position) {
+            None => Known::NoBit,
+            Some(bit) => {
+                if (self.bits[bit.word] >> bit.number) & 1 == 1 {
+                    Known::Failed
+                } else {
+                    Known::Open
+                }
+            }
+        }
+    }
+
+    /// Whether a spot is kept.
     #[inline(never)]
     pub fn is_kept(&self, words: &[u32], board: &Board<A>, place: usize, position: usize) -> bool
         ensures { result ≡ true → Holds self.now words.now (is_inside board.now.choices)
             (spot_at (Instruction place) board.now.frames position board.now.marks) }
     {
-        match self.bit(words, board, place, position) {
-            None => false,
-            Some(bit) => (self.bits[bit.word] >> bit.number) & 1 == 1,
+        match self.known(words, board, place, position) {
+            Known::Failed => true,
+            Known::Open | Known::NoBit => false,
         }
     }
 
-    /// Keeps a spot, if there is a bit for it.
+    /// Keeps a spot, if there is a bit for it, and says whether there is one.
     #[inline(never)]
-    pub fn keep(&mut self, words: &[u32], board: &Board<A>, place: usize, position: usize)
-        ensures { HoldsOneMore words.now (is_inside board.now.choices)
+    pub fn keep(&mut self, words: &[u32], board: &Board<A>, place: usize, position: usize) -> bool
+        ensures more { HoldsOneMore words.now (is_inside board.now.choices)
             (spot_at (Instruction place) board.now.frames position board.now.marks) self.old self.new }
+        ensures still { HoldsStill self.old self.new }
+        ensures stay { BitsStay self.old self.new }
+        ensures set { result ≡ true → Sets words.now (is_inside board.now.choices)
+            (spot_at (Instruction place) board.now.frames position board.now.marks) self.old self.new }
+        ensures none { result ≡ false → self.new ≡ self.old }
     {
-        if let Some(bit) = self.bit(words, board, place, position) {
-            self.bits[bit.word] |= 1 << bit.number;
+        match self.bit(words, board, place, position) {
+            None => false,
+            Some(bit) => {
+                self.bits[bit.word] |= 1 << bit.number;
+                true
+            }
         }
     }
 }

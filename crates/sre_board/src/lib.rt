@@ -14,5 +14,5 @@ mod marks;
 mod trail;
 
 pub use board::{Board, Saved};
-pub use failures::Failures;
+pub use failures::{Failures, Known};
 pub use marks::{Change, Marks};

@@ -1,35 +1,50 @@
-use Rattle.std.proofs.Common.{arith, sym, subst, List}
-use Rattle.sre_board.specs.Failures.{kept_of, Laid, HoldsNoMore}
-use Rattle.sre_board.specs.declared.failures.Row.{Row}
-use Rattle.sre_board.proofs.KeptSpots.{laid_filled, filled_no_more, laid_pushed, pushed_no_more}
+use Rattle.std.proofs.Common.{◌∙◌, arith, sym, subst, inl, refl}
+use Rattle.sre_board.specs.Failures.{Kept, Laid, Grows, OneRowMore}
+use Rattle.sre_board.proofs.KeptStill.{laid_pushed, pushed, one_row, taken_off, as_before, grows_not}
 use Rattle.sre_board.proofs.failures.Failures.push_row.Goals as goal
 
-pub invariant_of-self-in_err-push : goal.invariant_of-self-in_err-push
-invariant_of-self-in_err-push g c =
-    subst (λ (rs : List Row). Laid (kept_of rs c.self.inside.shapes.items c.resize.new.list.items))
-    (sym c.in_err-push.ensures.items)
-    (laid_filled c.args.self.now c.self.inside.rows.items c.self.inside.shapes.items c.self.inside.bits.items
+pub invariant_of-self-in-Err : goal.invariant_of-self-in-Err
+invariant_of-self-in-Err g c =
+    subst (λ (k : Kept). Laid k) (sym
+    (as_before c.self.inside.rows.items c.self.inside.shapes.items c.self.inside.bits.items _ _ c.in-Err.ensures.items
+    (c.truncate.ensures.items
+    ∙ taken_off c.args.self.now c.self.inside.rows.items c.self.inside.shapes.items c.self.inside.bits.items
     c.resize.new.list.items c.args.row _ c.self.view_is c.self.invariant c.requires.base c.requires.end
-    (omega (arith, c.self.inside.bits.ok.0)) c.in_ok-resize.ensures.items)
+    (omega (arith, c.self.inside.bits.ok.0)) c.in_ok-resize.ensures.items))) c.self.invariant
 
-pub returns-in_err-push : goal.returns-in_err-push
-returns-in_err-push g c =
-    subst
-    (λ (rs : List Row). HoldsNoMore c.args.self.now
-    (kept_of rs c.self.inside.shapes.items c.resize.new.list.items))
-    (sym c.in_err-push.ensures.items)
-    (filled_no_more c.args.self.now c.self.inside.rows.items c.self.inside.shapes.items c.self.inside.bits.items
+pub returns-in-Err-clause-grows : goal.returns-in-Err-clause-grows
+returns-in-Err-clause-grows g c =
+    subst (λ (k : Kept). Grows c.args.self.now k) (sym
+    (as_before c.self.inside.rows.items c.self.inside.shapes.items c.self.inside.bits.items _ _ c.in-Err.ensures.items
+    (c.truncate.ensures.items
+    ∙ taken_off c.args.self.now c.self.inside.rows.items c.self.inside.shapes.items c.self.inside.bits.items
     c.resize.new.list.items c.args.row _ c.self.view_is c.self.invariant c.requires.base c.requires.end
-    (omega (arith, c.self.inside.bits.ok.0)) c.in_ok-resize.ensures.items)
+    (omega (arith, c.self.inside.bits.ok.0)) c.in_ok-resize.ensures.items) ∙ c.self.view_is))
+    (grows_not c.args.self.now)
 
-pub invariant_of-self-2 : goal.invariant_of-self-2
-invariant_of-self-2 g c =
+pub returns-in-Err-clause-size : goal.returns-in-Err-clause-size
+returns-in-Err-clause-size g c =
+    subst (λ (k : Kept). OneRowMore c.args.row.length c.args.self.now k) (sym
+    (as_before c.self.inside.rows.items c.self.inside.shapes.items c.self.inside.bits.items _ _ c.in-Err.ensures.items
+    (c.truncate.ensures.items
+    ∙ taken_off c.args.self.now c.self.inside.rows.items c.self.inside.shapes.items c.self.inside.bits.items
+    c.resize.new.list.items c.args.row _ c.self.view_is c.self.invariant c.requires.base c.requires.end
+    (omega (arith, c.self.inside.bits.ok.0)) c.in_ok-resize.ensures.items) ∙ c.self.view_is)) (inl (refl, refl))
+
+pub invariant_of-self-in_default : goal.invariant_of-self-in_default
+invariant_of-self-in_default g c =
     laid_pushed c.args.self.now c.self.inside.rows.items c.self.inside.shapes.items c.self.inside.bits.items
     c.resize.new.list.items c.args.row _ c.self.view_is c.self.invariant c.requires.base c.requires.end
-    (omega (arith, c.self.inside.bits.ok.0)) c.in_ok-resize.ensures.items _ c.in_ok-push.ensures.items
+    (omega (arith, c.self.inside.bits.ok.0)) c.in_ok-resize.ensures.items _ c.in_default.ensures.items
 
-pub returns : goal.returns
-returns g c =
-    pushed_no_more c.args.self.now c.self.inside.rows.items c.self.inside.shapes.items c.self.inside.bits.items
+pub returns-clause-grows : goal.returns-clause-grows
+returns-clause-grows g c =
+    pushed c.args.self.now c.self.inside.rows.items c.self.inside.shapes.items c.self.inside.bits.items
     c.resize.new.list.items c.args.row _ c.self.view_is c.self.invariant c.requires.base c.requires.end
-    (omega (arith, c.self.inside.bits.ok.0)) c.in_ok-resize.ensures.items _ c.in_ok-push.ensures.items
+    (omega (arith, c.self.inside.bits.ok.0)) c.in_ok-resize.ensures.items _ c.in_default.ensures.items
+
+pub returns-clause-size : goal.returns-clause-size
+returns-clause-size g c =
+    one_row c.args.self.now c.self.inside.rows.items c.self.inside.shapes.items c.self.inside.bits.items
+    c.resize.new.list.items c.args.row _ c.self.view_is c.self.invariant c.requires.base c.requires.end
+    (omega (arith, c.self.inside.bits.ok.0)) c.in_ok-resize.ensures.items _ c.in_default.ensures.items

@@ -1,0 +1,76 @@
+-- How many bits are set: one more where one is set that was not, and none more where words of noughts follow.
+use Rattle.std.proofs.Common.{◌≡◌, ℕ, zero, suc, ◌+◌, ◌*◌, ◌^◌, ◌%◌, ◌<◌, ◌≤◌, List, [], ◌∷◌, ◌++◌, length, replicate}
+use Rattle.std.proofs.Common.{get_or, slice_set, refl, ap, ◌∙◌, arith, w64, ◌≢◌, inl, inr}
+use Rattle.std.specs.Prelude.{bit_or}
+use Rattle.std.specs.Int.{bit_at}
+use Rattle.std.specs.List.{sum_by}
+use Rattle.std.proofs.lemmas.Bool.{cases_eq}
+use Rattle.std.proofs.lemmas.List.Sums.{sum_by-append, sum_by-set, sum_by-cons}
+use Rattle.std.proofs.lemmas.Nat.Bits.{bit_at_set_same, bit_at_set_other, bit_at-zero, bit_at-lt}
+use Rattle.sre_board.specs.Failures.{Kept, ones, ones_below}
+
+same_below : (n v w : ℕ) → ((i : ℕ) → i < n → bit_at v i ≡ bit_at w i) → ones_below n v ≡ ones_below n w
+unfolding ones_below
+same_below zero v w h = refl
+same_below (suc n) v w h =
+    omega (arith, same_below n v w (λ i l. h i (omega (arith, l))), h n (omega arith))
+
+-- words that differ in one bit
+one_apart : (n b v w : ℕ) → b < n → ((i : ℕ) → i ≢ b → bit_at v i ≡ bit_at w i)
+    → ones_below n v + bit_at w b ≡ ones_below n w + bit_at v b
+unfolding ones_below
+one_apart zero b v w l h = absurd (omega (arith, l))
+one_apart (suc n) b v w l h = elim (cases_eq n b) [
+  | inl e ↦
+      let below = same_below n v w (λ i k. h i (λ s. omega (arith, k, s, e))) in
+      omega (arith, below, ap (λ i. bit_at v i) e, ap (λ i. bit_at w i) e)
+  | inr apart ↦ omega (arith, one_apart n b v w (omega (arith, l, less n b l apart)) h, h n apart)
+]
+  where
+    less : (n b : ℕ) → b < suc n → n ≢ b → b < n
+    less n b l apart = grind (arith, l, apart)
+
+-- a word's bit is set
+pub one_set : (n w bit : ℕ) → n ≤ 64 → bit < n
+    → ones_below n (bit_or w ((1 * 2 ^ bit) % 2 ^ 64)) + bit_at w bit ≡ ones_below n w + 1
+one_set n w bit few small =
+    let in_word : bit < 64 = omega (arith, few, small) in
+    let v : ℕ = bit_or w ((1 * 2 ^ bit) % 2 ^ 64) in
+    one_apart n bit v w small (λ i apart. bit_at_set_other w64 w bit in_word i apart)
+    ∙ ap (λ b. ones_below n w + b) (bit_at_set_same w64 w bit in_word)
+
+-- a word of a list is another
+pub sum_set : (f : ℕ → ℕ) (xs : List ℕ) (i y b : ℕ) → i < length xs → f y + b ≡ f (get_or xs i 0) + 1
+    → sum_by f (slice_set xs i y) + b ≡ sum_by f xs + 1
+sum_set f xs i y b l e = omega (arith, sum_by-set f xs i y 0 l, e)
+
+zero_below : (n : ℕ) → ones_below n 0 ≡ 0
+unfolding ones_below
+zero_below zero = refl
+zero_below (suc n) = omega (arith, zero_below n, bit_at-zero n)
+
+sum_zeros : (f : ℕ → ℕ) (n : ℕ) → f 0 ≡ 0 → sum_by f (replicate n 0) ≡ 0
+sum_zeros f zero e = refl
+sum_zeros f (suc n) e = sum_by-cons f 0 (replicate n 0) ∙ omega (arith, e, sum_zeros f n e)
+
+-- words of noughts behind others
+pub sum_filled : (f : ℕ → ℕ) (xs : List ℕ) (n : ℕ) → f 0 ≡ 0 → sum_by f (xs ++ replicate n 0) ≡ sum_by f xs
+sum_filled f xs n e = omega (arith, sum_by-append f xs (replicate n 0), sum_zeros f n e)
+
+pub none_in_zero : ones_below 64 0 ≡ 0
+none_in_zero = zero_below 64
+
+few_below : (n w : ℕ) → ones_below n w ≤ n
+unfolding ones_below
+few_below zero w = omega arith
+few_below (suc n) w = omega (arith, few_below n w, bit_at-lt w n)
+
+most_sum : (f : ℕ → ℕ) (m : ℕ) (xs : List ℕ) → ((x : ℕ) → f x ≤ m) → sum_by f xs ≤ m * length xs
+most_sum f m [] h = omega arith
+most_sum f m (x ∷ xs) h =
+    let one : m * length (x ∷ xs) ≡ m * length xs + m = grind arith in
+    omega (arith, most_sum f m xs h, h x, sum_by-cons f x xs, one)
+
+-- no more bits are set than there are
+pub ones_most : (k : Kept) → ones k ≤ 64 * length k.bits
+ones_most k = most_sum (ones_below 64) 64 k.bits (few_below 64)
