@@ -29,4 +29,5 @@ pub mod Scans
 pub mod Members
 pub mod Counts
 pub mod Halts
+pub mod Searches
 pub mod Prefixed

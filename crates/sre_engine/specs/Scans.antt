@@ -1,9 +1,13 @@
 -- A scan for the places where the words of a prefix stand.
 -- Words of the search's contracts; what sre_engine makes public does not rest on it.
 use Rattle.std.specs.Prelude.{ℕ, ◌+◌, ◌-◌, ◌*◌, ◌≡◌, ◌≢◌, ◌<◌, ◌≤◌, Bool, true, false, List, length, slice_index}
+use Rattle.sre_chars.specs.declared.string.StrDrive.{Ghosts}
 use Rattle.sre_chars.specs.declared.string.StringCursor.{StringCursor}
 use Rattle.sre_model.specs.Subject.{char_at}
 use Rattle.sre_model.specs.Runs.{Run}
+use Rattle.sre_request.specs.declared.request.Request.{Request}
+use Rattle.sre_request.specs.Requests.{start_of, end_of}
+use Rattle.sre_request.specs.Runs.{run_of}
 
 -- the first k of the first n words are their last k, and k is below n
 pub record Border (p : List ℕ) (n k : ℕ) : Type 0 where
@@ -64,3 +68,15 @@ pub record FirstSame (r : Run) (word : ℕ) (start : StringCursor) (found : Bool
   pub none : found ≡ false
       → (cursor.position ≡ r.subject.end)
       × ((q : ℕ) → start.position ≤ q → q < cursor.position → char_at r.subject q ≢ word)
+
+-- the scan of a request's window for words is at q, behind i matched ones, after c comparisons
+abbrev pub ScanIsAt : {S : Type 0} {text : Ghosts S} → Request S text → List ℕ → ℕ → ℕ → ℕ → Type 0
+ScanIsAt r p q i c = Here (run_of r).subject.text p (start_of r) (end_of r) q i c
+
+-- it goes on from q, where no word is matched: on yes behind j words, and else no place is left
+abbrev pub ScanGoesTo : {S : Type 0} {text : Ghosts S} → Request S text → List ℕ → ℕ → Bool → ℕ → ℕ → ℕ → Type 0
+ScanGoesTo r p q found to j c = GoesTo (run_of r).subject.text p (start_of r) (end_of r) q found to j c
+
+-- the words stand nowhere in its window from a forward to b, which is left out
+abbrev pub NoPlaceBetween : {S : Type 0} {text : Ghosts S} → Request S text → List ℕ → ℕ → ℕ → Type 0
+NoPlaceBetween r p a b = NoPlace (run_of r).subject.text p (end_of r) a b

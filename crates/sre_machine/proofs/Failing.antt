@@ -19,6 +19,7 @@ use Rattle.sre_code.specs.Codes.{words_of, items_of}
 use Rattle.sre_code.specs.declared.code.Code.{Code}
 use Rattle.sre_code.proofs.Checked.{whole_of, whole_items}
 use Rattle.sre_request.specs.declared.request.Request.{Request}
+use Rattle.sre_request.specs.Requests.{code_of}
 use Rattle.sre_request.specs.Runs.{run_of}
 use Rattle.sre_machine.specs.Turns.{Turn, StaysAt}
 
@@ -59,3 +60,10 @@ none_refers code told tells none has =
 pub still_back : (r : Run) (b c : BoardValue)
     → ((all : List Way) (limit : ℕ) → Backs r all limit b → Backs r all limit c) → IsBack r b → IsBack r c
 still_back r b c still x = record { all = x.all; limit = x.limit; backs = still x.all x.limit x.backs }
+
+-- so the words that are matched have none
+pub plain_words : {S : Type 0} {text : Ghosts S} (r : Request S text) (code : Code) (told : Bool)
+    → code ≡ code_of r → ((t : Tree) → Whole (words_of code) t → told ≡ refers t) → told ≡ false
+    → HasReference (run_of r).words → ⊥
+plain_words r code told same tells none =
+    subst (λ c. HasReference (items_of c) → ⊥) same (none_refers code told tells none)

@@ -1,2 +1,4 @@
 pub mod Halting
 pub mod Failing
+pub mod RunEnds
+pub mod Taken

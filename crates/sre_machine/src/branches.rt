@@ -18,7 +18,7 @@ ghost use Rattle.sre_request.specs.Requests.{end_of};
 ghost use Rattle.sre_request.specs.Runs.{run_of, OpcodeAt, TestAt};
 ghost use Rattle.sre_machine.specs.Turns.{At, Turn};
 
-use crate::machine::{choose, opcode, operand, word_at};
+use crate::machine::{choose, opcode};
 use sre_board::Board;
 use sre_chars::constants::SreOpcode;
 use sre_chars::string::{StrDrive, StringCursor};
@@ -26,6 +26,7 @@ use sre_growth::Refusal;
 use sre_reading::one_character;
 use sre_reading::one_character::{takes, test_end};
 use sre_reading::text::read;
+use sre_reading::words::{operand, word};
 use sre_request::Request;
 use sre_turns::{Next, Point};
 use std::alloc::Allocator;
@@ -120,6 +121,13 @@ fn begins_otherwise<S: StrDrive>(
     by_opcode!(LITERAL LITERAL_IGNORE LITERAL_UNI_IGNORE IN IN_UNI_IGNORE)
 }
 
+// Where the machine goes on: at an instruction's place, with a cursor.
+#[derive(Clone, Copy)]
+struct Onward {
+    place: usize,
+    cursor: StringCursor,
+}
+
 // Behind a test of one character, if it takes the one at the cursor.
 #[inline(always)]
 fn behind_test<S: StrDrive>(
@@ -129,16 +137,19 @@ fn behind_test<S: StrDrive>(
     character: u32,
     after: StringCursor,
     cursor: StringCursor,
-) -> Option<(usize, StringCursor)>
+) -> Option<Onward>
     requires opcode { OpcodeAt req.now place opcode }
     requires tests { begins_test opcode ≡ true }
     requires stands { At req.now place cursor }
     requires read { IsRead (run_of req.now) cursor character after }
     ensures { MatchOption result (Refuses (run_of req.now) place cursor.position)
-        (λ x. Continues (run_of req.now) (Instruction place) cursor (Instruction x.0) x.1) }
+        (λ x. Continues (run_of req.now) (Instruction place) cursor (Instruction x.place) x.cursor) }
 {
     if takes(req, place, opcode, character) {
-        Some((test_end(req, place, opcode), after))
+        Some(Onward {
+            place: test_end(req, place, opcode),
+            cursor: after,
+        })
     } else {
         None
     }
@@ -150,7 +161,7 @@ fn behind_jump<S: StrDrive>(req: &Request<'_, S>, place: usize, cursor: StringCu
     requires { At req.now place cursor }
     ensures { Continues (run_of req.now) (Instruction place) cursor (Instruction result) cursor }
 {
-    if word_at(req, place) == SreOpcode::JUMP as u32 {
+    if word(req, place) == SreOpcode::JUMP as u32 {
         let skip = operand(req, place, 1);
         return place + 1 + skip as usize;
     }
@@ -165,17 +176,20 @@ fn behind_set<S: StrDrive>(
     character: u32,
     after: StringCursor,
     cursor: StringCursor,
-) -> Option<(usize, StringCursor)>
+) -> Option<Onward>
     requires opcode { OpcodeAt req.now place SreOpcode.IN }
     requires stands { At req.now place cursor }
     requires read { IsRead (run_of req.now) cursor character after }
     ensures { MatchOption result (Refuses (run_of req.now) place cursor.position)
-        (λ x. Continues (run_of req.now) (Instruction place) cursor (Instruction x.0) x.1) }
+        (λ x. Continues (run_of req.now) (Instruction place) cursor (Instruction x.place) x.cursor) }
 {
     let Some(behind) = behind_test(req, SreOpcode::IN, place, character, after, cursor) else {
         return None;
     };
-    Some((behind_jump(req, behind.0, behind.1), behind.1))
+    Some(Onward {
+        place: behind_jump(req, behind.place, behind.cursor),
+        cursor: behind.cursor,
+    })
 }
 
 // Where the machine goes on from an instruction, if something may come of it: behind a literal or a set that takes the
@@ -187,13 +201,13 @@ fn begin<S: StrDrive>(
     character: u32,
     after: StringCursor,
     cursor: StringCursor,
-) -> Option<(usize, StringCursor)>
+) -> Option<Onward>
     requires stands { At req.now place cursor }
     requires read { IsRead (run_of req.now) cursor character after }
     ensures { MatchOption result (Refuses (run_of req.now) place cursor.position)
-        (λ x. Continues (run_of req.now) (Instruction place) cursor (Instruction x.0) x.1) }
+        (λ x. Continues (run_of req.now) (Instruction place) cursor (Instruction x.place) x.cursor) }
 {
-    if word_at(req, place) == SreOpcode::LITERAL as u32 {
+    if word(req, place) == SreOpcode::LITERAL as u32 {
         return behind_test(req, SreOpcode::LITERAL, place, character, after, cursor);
     }
     match opcode(req, place, cursor) {
@@ -215,7 +229,7 @@ fn begin<S: StrDrive>(
             if begins_otherwise(req, place, character, cursor) {
                 None
             } else {
-                Some((place, cursor))
+                Some(Onward { place, cursor })
             }
         }
     }
@@ -248,15 +262,15 @@ fn first_alternative<S: StrDrive>(
 {
     let mut place = start;
     'alternative: loop {
-        let length = word_at(req, place) as usize;
+        let length = word(req, place) as usize;
         if length == 0 {
             return None;
         }
         if let Some(begun) = begin(req, place + 1, character, after, cursor) {
             return Some(Alternative {
                 length_word: place,
-                place: begun.0,
-                cursor: begun.1,
+                place: begun.place,
+                cursor: begun.cursor,
             });
         }
         place += length;
@@ -274,7 +288,7 @@ fn alternatives_at_end<S: StrDrive, A: Allocator>(
     requires { HasRun (run_of req.now) (Alternatives place) cursor }
     ensures { IfOk result (λ next. Advances (run_of req.now) (Alternatives place) cursor board.old next board.new) }
 {
-    let length = word_at(req, place) as usize;
+    let length = word(req, place) as usize;
     if length == 0 {
         return Ok(Next::Back);
     }
@@ -324,7 +338,7 @@ pub(super) fn alternatives<S: StrDrive, A: Allocator>(
     let Some(first) = first_alternative(req, start, character, after, cursor) else {
         return Ok(Next::Back);
     };
-    let length = word_at(req, first.length_word) as usize;
+    let length = word(req, first.length_word) as usize;
     let following = first.length_word + length;
     let Some(other) = first_alternative(req, following, character, after, cursor) else {
         return Ok(Next::At(first.place, first.cursor));

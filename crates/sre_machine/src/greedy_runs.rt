@@ -7,19 +7,27 @@ ghost use Rattle.sre_turns.specs.declared.Point.TheVariants.{Instruction, Shorte
 ghost use Rattle.sre_request.specs.Runs.{run_of, OpcodeAt, TestAt};
 ghost use Rattle.sre_machine.specs.Turns.{At, Turn};
 
-use crate::machine::{choose, first_literal, lacks, operand, word_at};
+use crate::machine::{choose, first_literal, lacks};
+use crate::run_operands::run_operands;
 use sre_board::Board;
 use sre_chars::constants::SreOpcode;
 use sre_chars::string::{StrDrive, StringCursor};
 use sre_growth::Refusal;
 use sre_reading::runs::longest_run;
 use sre_reading::text::{back_one, read_back};
+use sre_reading::words::{operand, word};
 use sre_request::Request;
 use sre_turns::{Next, Point};
 use std::alloc::Allocator;
 
-// The first of the shorter counts of a run of which something may come, if there is one: how many are left behind it,
-// and the cursor behind its characters.
+// One of the shorter counts of a run: how many are shorter still, and the cursor behind its characters.
+#[derive(Clone, Copy)]
+pub(super) struct ShorterRun {
+    pub(super) left: usize,
+    pub(super) end: StringCursor,
+}
+
+// The first of the shorter counts of a run of which something may come, if there is one.
 #[inline(always)]
 fn first_shorter<S: StrDrive>(
     req: &Request<'_, S>,
@@ -27,18 +35,21 @@ fn first_shorter<S: StrDrive>(
     wanted: Option<u32>,
     count: usize,
     start: StringCursor,
-) -> Option<(usize, StringCursor)>
+) -> Option<ShorterRun>
     requires wanted { DemandsAny (run_of req.now) tail wanted }
     requires stands { HasRun (run_of req.now) (Shorter tail count) start }
     ensures { MatchOption result
         ((b : BoardValue) → Advances (run_of req.now) (Shorter tail count) start b Next.Back b)
-        (λ x. SkipsBoth (run_of req.now) (Shorter tail count) start (Instruction tail) (Shorter tail x.0) x.1) }
+        (λ x. SkipsBoth (run_of req.now) (Shorter tail count) start (Instruction tail) (Shorter tail x.left) x.end) }
 {
     if count == 0 {
         return None;
     }
     let Some(value) = wanted else {
-        return Some((count - 1, back_one(req, start)));
+        return Some(ShorterRun {
+            left: count - 1,
+            end: back_one(req, start),
+        });
     };
     let mut cursor = start;
     let mut left = count;
@@ -50,7 +61,7 @@ fn first_shorter<S: StrDrive>(
         let step = read_back(req, cursor);
         cursor = step.1;
         if step.0 == value {
-            return Some((left, cursor));
+            return Some(ShorterRun { left, end: cursor });
         }
     }
 }
@@ -73,10 +84,16 @@ fn shorter<S: StrDrive, A: Allocator>(
     let Some(found) = first_shorter(req, tail, wanted, count, start) else {
         return Ok(Next::Back);
     };
-    if found.0 == 0 {
-        return Ok(Next::At(tail, found.1));
+    if found.left == 0 {
+        return Ok(Next::At(tail, found.end));
     }
-    Ok(choose(req, board, tail, Point::Shorter(tail, found.0), found.1)?)
+    Ok(choose(
+        req,
+        board,
+        tail,
+        Point::Shorter(tail, found.left),
+        found.end,
+    )?)
 }
 
 /// The shorter counts of a run that were saved.
@@ -118,7 +135,7 @@ fn is_only_count<S: StrDrive>(
     let Some(character) = wanted else {
         return false;
     };
-    word_at(req, test) == SreOpcode::NOT_LITERAL as u32 && operand(req, test, 1) == character
+    word(req, test) == SreOpcode::NOT_LITERAL as u32 && operand(req, test, 1) == character
 }
 
 /// `REPEAT_ONE skip least greatest test SUCCESS`: the longest run of the test, then the shorter ones.
@@ -133,26 +150,24 @@ pub(super) fn repeat_one<S: StrDrive, A: Allocator>(
     requires stands { At req.now place cursor }
     ensures { IfOk result (λ next. Turn req.now place cursor board.old next board.new) }
 {
-    let skip = operand(req, place, 1) as usize;
-    let least = operand(req, place, 2) as usize;
-    let greatest = operand(req, place, 3);
-    let run = longest_run(req, place + 4, greatest, cursor);
-    board.pass(run.0);
-    if run.0 < least {
+    let operands = run_operands(req, place);
+    let run = longest_run(req, place + 4, operands.greatest, cursor);
+    board.pass(run.count);
+    if run.count < operands.least {
         return Ok(Next::Back);
     }
-    let tail = place + 1 + skip;
-    let left = run.0 - least;
-    let wanted = first_literal(req, tail, run.1);
+    let tail = operands.tail;
+    let left = run.count - operands.least;
+    let wanted = first_literal(req, tail, run.end);
     let is_only = is_only_count(req, place + 4, wanted, left);
-    if lacks(req, wanted, run.1) {
+    if lacks(req, wanted, run.end) {
         if is_only {
             return Ok(Next::Back);
         }
-        return Ok(shorter(req, board, tail, wanted, left, run.1)?);
+        return Ok(shorter(req, board, tail, wanted, left, run.end)?);
     }
     if is_only {
-        return Ok(Next::At(tail, run.1));
+        return Ok(Next::At(tail, run.end));
     }
-    Ok(choose(req, board, tail, Point::Shorter(tail, left), run.1)?)
+    Ok(choose(req, board, tail, Point::Shorter(tail, left), run.end)?)
 }

@@ -9,16 +9,18 @@ ghost use Rattle.sre_turns.specs.Board.{BoardValue};
 ghost use Rattle.sre_turns.specs.declared.Point.TheVariants.{Instruction, Longer};
 ghost use Rattle.sre_turns.specs.Machine.{HasRun, Advances, SkipsBoth};
 ghost use Rattle.sre_request.specs.Runs.{run_of, OpcodeAt};
+ghost use Rattle.sre_machine.specs.Runs.{AreOperands};
 ghost use Rattle.sre_machine.specs.Turns.{At, Turn};
 
-use crate::machine::{choose, first_literal, lacks, operand, refuses};
+use crate::machine::{choose, first_literal, lacks, refuses};
+use crate::run_operands::{RunOperands, run_operands};
 use sre_board::Board;
 use sre_chars::constants::{MAXREPEAT, SreOpcode};
 use sre_chars::string::{StrDrive, StringCursor};
 use sre_growth::Refusal;
 use sre_reading::one_character;
 use sre_reading::one_character::takes;
-use sre_reading::runs::run_up_to;
+use sre_reading::runs::{Stretch, run_up_to};
 use sre_reading::text::read;
 use sre_request::Request;
 use sre_turns::{Next, Point};
@@ -34,26 +36,25 @@ fn may_grow(greatest: u32, count: usize) -> bool
 
 // The cursor behind one character more of the run at a place, which has so many of them, if it may be longer.
 #[inline(always)]
-fn one_longer<S: StrDrive>(
+pub(super) fn one_longer<S: StrDrive>(
     req: &Request<'_, S>,
     place: usize,
-    tail: usize,
+    operands: RunOperands,
     opcode: SreOpcode,
     count: usize,
     cursor: StringCursor,
 ) -> Option<StringCursor>
-    requires tail { tail ≡ skip (run_of req.now).words (place + 1) }
+    requires read { AreOperands req.now place operands }
     requires opcode { OpcodeAt req.now (place + 4) opcode }
     requires stands { HasRun (run_of req.now) (Longer place count) cursor }
     ensures longer { MatchOption result
         ((b : BoardValue) → Advances (run_of req.now) (Longer place count) cursor b Next.Back b)
-        (λ after. SkipsBoth (run_of req.now) (Longer place count) cursor (Instruction tail) (Longer place (count + 1))
-        after) }
+        (λ after. SkipsBoth (run_of req.now) (Longer place count) cursor (Instruction operands.tail)
+        (Longer place (count + 1)) after) }
     ensures inside { MatchOption result ⊤
         (λ after. (cursor.position < (run_of req.now).subject.end) × (after.position ≡ cursor.position + 1)) }
 {
-    let greatest = operand(req, place, 3);
-    if !may_grow(greatest, count) {
+    if !may_grow(operands.greatest, count) {
         return None;
     }
     if cursor.position() >= req.end() {
@@ -67,7 +68,7 @@ fn one_longer<S: StrDrive>(
     }
 }
 
-// The first of the longer counts of which something may come, if there is one: that count, and the cursor behind it.
+// The first of the longer counts of which something may come, if there is one: so many characters of the run.
 // How many characters it passed comes beside. It is out of line, so that its loop has the registers to itself.
 #[inline(never)]
 fn first_longer<S: StrDrive>(
@@ -77,16 +78,16 @@ fn first_longer<S: StrDrive>(
     least: usize,
     start: StringCursor,
     passed: &mut usize,
-) -> Option<(usize, StringCursor)>
+) -> Option<Stretch>
     requires tail { tail ≡ skip (run_of req.now).words (place + 1) }
     requires stands { HasRun (run_of req.now) (Longer place least) start }
     ensures { MatchOption result
         ((b : BoardValue) → Advances (run_of req.now) (Longer place least) start b Next.Back b)
-        (λ x. SkipsBoth (run_of req.now) (Longer place least) start (Instruction tail) (Longer place x.0) x.1) }
+        (λ x. SkipsBoth (run_of req.now) (Longer place least) start (Instruction tail) (Longer place x.count) x.end) }
 {
-    let _greatest = operand(req, place, 3);
+    let operands = run_operands(req, place);
     let opcode = one_character::opcode(req, place + 4);
-    let Some(nearest) = one_longer(req, place, tail, opcode, least, start) else {
+    let Some(nearest) = one_longer(req, place, operands, opcode, least, start) else {
         return None;
     };
     let wanted = first_literal(req, tail, nearest);
@@ -95,9 +96,9 @@ fn first_longer<S: StrDrive>(
     'count: loop {
         if !lacks(req, wanted, cursor) {
             *passed = count.saturating_sub(least);
-            return Some((count, cursor));
+            return Some(Stretch { count, end: cursor });
         }
-        let Some(after) = one_longer(req, place, tail, opcode, count, cursor) else {
+        let Some(after) = one_longer(req, place, operands, opcode, count, cursor) else {
             *passed = count.saturating_sub(least);
             return None;
         };
@@ -118,20 +119,26 @@ pub(super) fn longer<S: StrDrive, A: Allocator>(
     requires { HasRun (run_of req.now) (Longer place count) start }
     ensures { IfOk result (λ next. Advances (run_of req.now) (Longer place count) start board.old next board.new) }
 {
-    let skip = operand(req, place, 1) as usize;
-    let tail = place + 1 + skip;
+    let tail = run_operands(req, place).tail;
     let mut passed = 0;
     let found = first_longer(req, place, tail, count, start, &mut passed);
     board.pass(passed);
     let Some(found) = found else {
         return Ok(Next::Back);
     };
-    Ok(choose(req, board, tail, Point::Longer(place, found.0), found.1)?)
+    Ok(choose(
+        req,
+        board,
+        tail,
+        Point::Longer(place, found.count),
+        found.end,
+    )?)
 }
 
-/// The least count, and then the longer ones.
+/// The least count, and then the longer ones. Where the tail refuses behind the least count the longer ones are looked
+/// at in the same turn, but while failures are kept.
 #[inline(always)]
-pub(super) fn min_repeat_one<S: StrDrive, A: Allocator>(
+pub(super) fn min_repeat_one<S: StrDrive, A: Allocator, const LOOKS_ON: bool>(
     req: &Request<'_, S>,
     board: &mut Board<A>,
     place: usize,
@@ -141,19 +148,19 @@ pub(super) fn min_repeat_one<S: StrDrive, A: Allocator>(
     requires stands { At req.now place cursor }
     ensures { IfOk result (λ next. Turn req.now place cursor board.old next board.new) }
 {
-    let skip = operand(req, place, 1) as usize;
-    let least = operand(req, place, 2) as usize;
+    let operands = run_operands(req, place);
+    let tail = operands.tail;
+    let least = operands.least;
     if req.end().saturating_sub(cursor.position()) < least {
         return Ok(Next::Back);
     }
     let run = run_up_to(req, place + 4, least, cursor);
-    board.pass(run.0);
-    if run.0 < least {
+    board.pass(run.count);
+    if run.count < least {
         return Ok(Next::Back);
     }
-    let tail = place + 1 + skip;
-    if refuses(req, tail, run.1) {
-        return Ok(longer(req, board, place, least, run.1)?);
+    if LOOKS_ON && refuses(req, tail, run.end) {
+        return Ok(longer(req, board, place, least, run.end)?);
     }
-    Ok(choose(req, board, tail, Point::Longer(place, least), run.1)?)
+    Ok(choose(req, board, tail, Point::Longer(place, least), run.end)?)
 }

@@ -12,11 +12,12 @@ ghost use Rattle.sre_turns.specs.Machine.{IsAt, with_loop};
 ghost use Rattle.sre_request.specs.Runs.{run_of, OpcodeAt};
 ghost use Rattle.sre_machine.specs.Turns.{Turn};
 
-use crate::machine::{opcode, operand, refuses};
+use crate::machine::{opcode, refuses};
 use sre_board::Board;
 use sre_chars::constants::{MAXREPEAT, SreOpcode};
 use sre_chars::string::{StrDrive, StringCursor};
 use sre_growth::Refusal;
+use sre_reading::words::operand;
 use sre_request::Request;
 use sre_turns::{Frame, Next, Point};
 use std::alloc::Allocator;

@@ -4,9 +4,8 @@
 //! Each opcode's function says that the accepted outcomes of the whole stay what they were, in one turn less. What is
 //! still to be tried waits on the board, and a choice of which nothing can come is not put there.
 
-ghost use Rattle.std.specs.Prelude.{◌≡◌, ℕ, ◌+◌, ◌^◌, ◌<◌, [], List, length, IfOk, MatchOption, true};
+ghost use Rattle.std.specs.Prelude.{◌≡◌, ℕ, ◌+◌, ◌^◌, ◌<◌, [], List, IfOk, MatchOption, true};
 ghost use Rattle.sre_model.specs.Ways.{Way};
-ghost use Rattle.sre_model.specs.Grammar.{Word, word};
 ghost use Rattle.sre_turns.specs.Board.{BoardValue};
 ghost use Rattle.sre_turns.specs.declared.Point.TheVariants.{Instruction};
 ghost use Rattle.sre_turns.specs.declared.Point.{Point};
@@ -19,46 +18,27 @@ ghost use Rattle.sre_machine.specs.Turns.{At, Turn};
 
 use crate::branches::{alternatives, branch};
 use crate::greedy_runs::{repeat_one, shorter_saved};
-use crate::lazy_runs::{longer, min_repeat_one};
+use crate::lazy_runs::min_repeat_one;
 use crate::loops::{max_until, min_until, repeat};
 use crate::memo::Memo;
 use crate::possessive_loops::possessive_repeat;
 use crate::possessive_runs::possessive_repeat_one;
 use crate::references::{condition, reference};
 use crate::regions::{assert, assert_not, atomic_group, without_outcome};
+use crate::run_ends::longer_saved;
 use crate::trying::keep;
 use sre_board::Board;
 use sre_chars::constants::{SreAtCode, SreOpcode};
 use sre_chars::string::{StrDrive, StringCursor};
-use sre_code::operands;
 use sre_growth::Refusal;
 use sre_reading::one_character::{takes, takes_seldom, test_end};
 use sre_reading::position::holds_at;
 use sre_reading::text::read;
+use sre_reading::words::{operand, word};
 use sre_request::Request;
 use sre_turns::{Next, Point};
 use std::alloc::Allocator;
 use std::convert::TryFrom;
-
-// The word at a place.
-#[inline(always)]
-pub(super) fn word_at<S: StrDrive>(req: &Request<'_, S>, place: usize) -> u32
-    requires { place < length (run_of req.now).words }
-    ensures word { Word (run_of req.now).words place result }
-    ensures room { place + 2 ^ 33 < 2 ^ 64 }
-{
-    operands::word(req.pattern_codes().items(), place)
-}
-
-// The word some places on.
-#[inline(always)]
-pub(super) fn operand<S: StrDrive>(req: &Request<'_, S>, place: usize, offset: usize) -> u32
-    requires { place + offset < length (run_of req.now).words }
-    ensures word { Word (run_of req.now).words (place + offset) result }
-    ensures room { place + 2 ^ 33 < 2 ^ 64 }
-{
-    operands::operand(req.pattern_codes().items(), place, offset)
-}
 
 // The opcode at a place that the machine has come to.
 #[inline(always)]
@@ -71,7 +51,7 @@ pub(super) fn opcode<S: StrDrive>(
     ensures code { OpcodeAt req.now place result }
     ensures room { place + 2 ^ 33 < 2 ^ 64 }
 {
-    match SreOpcode::try_from(word_at(req, place)) {
+    match SreOpcode::try_from(word(req, place)) {
         Ok(opcode) => opcode,
         Err(_) => unreachable!(),
     }
@@ -128,7 +108,7 @@ fn seldom_test<S: StrDrive>(
 
 /// `AT code`: goes on where the cursor stands as the code asks.
 #[inline(always)]
-fn at<S: StrDrive>(req: &Request<'_, S>, place: usize, cursor: StringCursor) -> Next
+fn position_code<S: StrDrive>(req: &Request<'_, S>, place: usize, cursor: StringCursor) -> Next
     requires opcode { OpcodeAt req.now place SreOpcode.AT }
     requires stands { At req.now place cursor }
     ensures { (b : BoardValue) → Turn req.now place cursor b result b }
@@ -273,7 +253,9 @@ pub(super) fn back<S: StrDrive, A: Allocator, const KEEPS: bool>(
                 return Ok(Some(shorter_saved(req, board, tail, count, choice.1)?));
             }
             Point::Longer(place, count) => {
-                return Ok(Some(longer(req, board, place, count, choice.1)?));
+                return Ok(Some(longer_saved::<S, A, KEEPS>(
+                    req, board, memo, place, count, choice.1,
+                )?));
             }
             Point::Again => return Ok(Some(Next::Again(choice.1))),
             Point::Inside(region) => return Ok(Some(without_outcome(board, region, choice.1))),
@@ -305,12 +287,14 @@ pub(super) fn instruction<S: StrDrive, A: Allocator>(
             match code {
                 SreOpcode::FAILURE => Ok(Next::Back),
                 SreOpcode::SUCCESS => Ok(Next::Done(cursor)),
-                SreOpcode::AT => Ok(at(req, place, cursor)),
+                SreOpcode::AT => Ok(position_code(req, place, cursor)),
                 SreOpcode::BRANCH => branch(req, board, place, cursor),
                 SreOpcode::JUMP => Ok(jump(req, place, cursor)),
                 SreOpcode::MARK => mark(req, board, place, cursor),
                 SreOpcode::REPEAT_ONE => repeat_one(req, board, place, cursor),
-                SreOpcode::MIN_REPEAT_ONE => min_repeat_one(req, board, place, cursor),
+                SreOpcode::MIN_REPEAT_ONE => {
+                    min_repeat_one::<S, A, true>(req, board, place, cursor)
+                }
                 SreOpcode::POSSESSIVE_REPEAT_ONE => {
                     Ok(possessive_repeat_one(req, board, place, cursor))
                 },

@@ -1,8 +1,8 @@
 //! What a search remembers of its failures, and when it begins to.
 //!
-//! To keep what failed costs time at each instruction, and most searches have little to gain by it. So a search goes its
-//! way without, and counts its steps back and the bodies of loops that it begins: only one that has taken 16 of these
-//! for each character of the window begins to remember.
+//! To keep what failed costs time at each instruction, and most searches have little to gain by it. So a search goes
+//! its way without, and counts its steps back and the bodies of loops that it begins: only one that has taken 16 of
+//! these for each character of the window begins to remember.
 
 ghost use Rattle.std.specs.Prelude.{◌≡◌, true};
 ghost use Rattle.sre_turns.specs.Fruit.{is_inside};
@@ -55,8 +55,8 @@ impl<A: Allocator + Copy> Memo<A> {
 }
 
 impl<A: Allocator> Memo<A> {
-    /// Begins a search: forgets the failures of an earlier one, and the stretches that it passed. What the lists hold of
-    /// memory is kept.
+    /// Begins a search: forgets the failures of an earlier one, and the stretches that it passed. What the lists hold
+    /// of memory is kept.
     #[inline(always)]
     pub fn begin<S: StrDrive>(&mut self, req: &Request<'_, S>, board: &mut Board<A>)
         ensures remembers { Remembers (run_of req.now) self.new }

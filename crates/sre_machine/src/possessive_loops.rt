@@ -10,11 +10,11 @@ ghost use Rattle.sre_request.specs.Runs.{run_of, OpcodeAt};
 ghost use Rattle.sre_machine.specs.Turns.{At, Turn};
 
 use crate::loops::{may_repeat, next_frame};
-use crate::machine::operand;
 use sre_board::Board;
 use sre_chars::constants::SreOpcode;
 use sre_chars::string::{StrDrive, StringCursor};
 use sre_growth::Refusal;
+use sre_reading::words::operand;
 use sre_request::Request;
 use sre_turns::{Frame, Next, Region};
 use std::alloc::Allocator;

@@ -2,7 +2,7 @@
 ghost use Rattle.sre_request.specs.Runs.{OpcodeAt};
 ghost use Rattle.sre_machine.specs.Turns.{At, Turn};
 
-use crate::machine::operand;
+use crate::run_operands::run_operands;
 use sre_board::Board;
 use sre_chars::constants::SreOpcode;
 use sre_chars::string::{StrDrive, StringCursor};
@@ -23,13 +23,11 @@ pub(super) fn possessive_repeat_one<S: StrDrive, A: Allocator>(
     requires stands { At req.now place cursor }
     ensures { Turn req.now place cursor board.old result board.new }
 {
-    let skip = operand(req, place, 1) as usize;
-    let least = operand(req, place, 2) as usize;
-    let greatest = operand(req, place, 3);
-    let run = longest_run(req, place + 4, greatest, cursor);
-    board.pass(run.0);
-    if run.0 < least {
+    let operands = run_operands(req, place);
+    let run = longest_run(req, place + 4, operands.greatest, cursor);
+    board.pass(run.count);
+    if run.count < operands.least {
         return Next::Back;
     }
-    Next::At(place + 1 + skip, run.1)
+    Next::At(operands.tail, run.end)
 }

@@ -8,12 +8,12 @@ ghost use Rattle.sre_turns.specs.Machine.{IsAt};
 ghost use Rattle.sre_request.specs.Runs.{run_of, OpcodeAt};
 ghost use Rattle.sre_machine.specs.Turns.{At, Turn};
 
-use crate::machine::operand;
 use sre_board::Board;
 use sre_chars::constants::SreOpcode;
 use sre_chars::string::{StrDrive, StringCursor};
 use sre_reading::references::is_repeated;
 use sre_reading::text::cursor_at;
+use sre_reading::words::operand;
 use sre_request::Request;
 use sre_turns::Next;
 use std::alloc::Allocator;

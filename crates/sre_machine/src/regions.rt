@@ -9,12 +9,12 @@ ghost use Rattle.sre_turns.specs.Machine.{Closes, after_outcome, without_outcome
 ghost use Rattle.sre_request.specs.Runs.{run_of, OpcodeAt};
 ghost use Rattle.sre_machine.specs.Turns.{At, Turn};
 
-use crate::machine::operand;
 use sre_board::Board;
 use sre_chars::constants::SreOpcode;
 use sre_chars::string::{StrDrive, StringCursor};
 use sre_growth::Refusal;
 use sre_reading::text::back_by;
+use sre_reading::words::operand;
 use sre_request::Request;
 use sre_turns::{Next, Region};
 use std::alloc::Allocator;

@@ -10,9 +10,12 @@ ghost use Rattle.sre_turns.specs.MovesAtReferences.{HasReference};
 ghost use Rattle.sre_board.specs.Failures.{Remembers};
 ghost use Rattle.sre_request.specs.Runs.{run_of};
 ghost use Rattle.sre_machine.specs.Turns.{At, Turn, StaysAt};
+ghost use Rattle.sre_machine.specs.RunEnds.{Failed};
 
+use crate::lazy_runs::min_repeat_one;
 use crate::machine::{instruction, opcode};
 use crate::memo::Memo;
+use crate::run_ends::{keep_later, remembering_repeat_one};
 use sre_board::Board;
 use sre_chars::constants::SreOpcode;
 use sre_chars::string::{StrDrive, StringCursor};
@@ -38,7 +41,7 @@ fn may_branch<S: StrDrive>(req: &Request<'_, S>, place: usize, cursor: StringCur
     )
 }
 
-// Keeps an instruction of which nothing came.
+// Keeps an instruction of which nothing came, and the later ones that fail with it.
 #[inline(never)]
 pub(super) fn keep<S: StrDrive, A: Allocator>(
     req: &Request<'_, S>,
@@ -47,14 +50,15 @@ pub(super) fn keep<S: StrDrive, A: Allocator>(
     place: usize,
     cursor: StringCursor,
 )
-    requires hopeless { (HasReference (run_of req.now).words → ⊥) → Hopeless (run_of req.now) (is_inside board.now.choices)
-        (spot_at (Instruction place) board.now.frames cursor.position board.now.marks) }
+    requires failed { Failed req.now place cursor board.now }
     requires remembers { Remembers (run_of req.now) memo.old }
     ensures { Remembers (run_of req.now) memo.new }
 {
     let code = req.pattern_codes();
-    if !code.refers() {
+    let is_plain = !code.refers();
+    if is_plain {
         memo.keep(code.items(), board, place, cursor.position());
+        keep_later(req, board, memo, place, cursor);
     }
 }
 
@@ -123,6 +127,17 @@ pub(super) fn instruction_or_back<S: StrDrive, A: Allocator>(
 {
     if is_hopeless(req, board, memo, place, cursor) {
         return Ok(Next::Back);
+    }
+    if memo.is_open() {
+        match opcode(req, place, cursor) {
+            SreOpcode::REPEAT_ONE => {
+                return remembering_repeat_one(req, board, memo, place, cursor);
+            }
+            SreOpcode::MIN_REPEAT_ONE => {
+                return min_repeat_one::<S, A, false>(req, board, place, cursor);
+            }
+            _ => {}
+        }
     }
     instruction(req, board, place, cursor)
 }

@@ -5,7 +5,7 @@
 
 ghost use Rattle.std.specs.Prelude.{◌≡◌, ◌+◌, ◌^◌, ◌<◌, ◌≤◌, length, IfSome, MatchOption, None};
 ghost use Rattle.sre_model.specs.Tree.{Tree};
-ghost use Rattle.sre_model.specs.Grammar.{Word, WholeItems};
+ghost use Rattle.sre_model.specs.Grammar.{WholeItems};
 ghost use Rattle.sre_model.specs.Found.{at_start};
 ghost use Rattle.sre_model.specs.LeadingRuns.{RunStands};
 ghost use Rattle.sre_request.specs.Requests.{end_of, asked_of};
@@ -15,10 +15,10 @@ ghost use Rattle.sre_engine.specs.Starts.{NoneUntil};
 use crate::engine::first_characters::is_test;
 use sre_chars::constants::{MAXREPEAT, SreOpcode};
 use sre_chars::string::{StrDrive, StringCursor};
-use sre_code::operands;
 use sre_reading::one_character::{opcode, takes, test_end};
 use sre_reading::runs::longest_run;
 use sre_reading::text::read;
+use sre_reading::words::{operand, word};
 use sre_request::Request;
 use std::convert::TryFrom;
 
@@ -37,17 +37,7 @@ fn opcode_at<S: StrDrive>(req: &Request<'_, S>, place: usize) -> Option<SreOpcod
     ensures opcode { IfSome result (λ opcode. OpcodeAt req.now place opcode) }
     ensures room { place + 2 ^ 33 < 2 ^ 64 }
 {
-    SreOpcode::try_from(operands::word(req.pattern_codes().items(), place)).ok()
-}
-
-// The word some places on.
-#[inline(always)]
-fn operand_at<S: StrDrive>(req: &Request<'_, S>, place: usize, offset: usize) -> u32
-    requires { place + offset < length (run_of req.now).words }
-    ensures word { Word (run_of req.now).words (place + offset) result }
-    ensures room { place + 2 ^ 33 < 2 ^ 64 }
-{
-    operands::operand(req.pattern_codes().items(), place, offset)
+    SreOpcode::try_from(word(req, place)).ok()
 }
 
 /// The run that the words begin with, if they begin with one that has no greatest count, behind at most one test of a
@@ -69,7 +59,7 @@ pub(crate) fn leading_run<S: StrDrive>(req: &Request<'_, S>) -> Option<LeadingRu
             }
             SreOpcode::REPEAT_ONE | SreOpcode::MIN_REPEAT_ONE | SreOpcode::POSSESSIVE_REPEAT_ONE =>
                 {
-                    if operand_at(req, place, 3) as usize != MAXREPEAT {
+                    if operand(req, place, 3) as usize != MAXREPEAT {
                         return None;
                     }
                     let test = place + 4;
@@ -118,7 +108,7 @@ fn behind_run<S: StrDrive>(
 {
     let Some(first) = lead.first else {
         let run = longest_run(req, lead.test, MAXREPEAT as u32, start);
-        return one_on(req, run.1);
+        return one_on(req, run.end);
     };
     if start.position() >= req.end() {
         return None;
@@ -128,7 +118,7 @@ fn behind_run<S: StrDrive>(
         return Some(after);
     }
     let run = longest_run(req, lead.test, MAXREPEAT as u32, after);
-    Some(run.1)
+    Some(run.end)
 }
 
 /// The next start that a match may have, behind one that has none: one character on, or behind the run that leads.

@@ -8,10 +8,10 @@
 ghost use Rattle.std.specs.Prelude.{◌≡◌, ◌↔◌, ◌+◌, ◌-◌, ◌*◌, ◌^◌, ◌<◌, ◌≤◌, length, true, false, IsTrue};
 ghost use Rattle.std.specs.Prelude.{None, IfSome, not, ◌||◌, nat_eq};
 ghost use Rattle.sre_code.specs.Codes.{hints_of};
-ghost use Rattle.sre_request.specs.Requests.{start_of, end_of, code_of, match_all_of};
+ghost use Rattle.sre_request.specs.Requests.{end_of, code_of, match_all_of};
 ghost use Rattle.sre_request.specs.Runs.{run_of, Standing};
 ghost use Rattle.sre_engine.specs.Prefixed.{IsPrefix};
-ghost use Rattle.sre_engine.specs.Scans.{Overlapping, NoPlace, Here, GoesTo, FirstSame};
+ghost use Rattle.sre_engine.specs.Scans.{Overlapping, FirstSame, ScanIsAt, ScanGoesTo, NoPlaceBetween};
 
 use crate::engine::next_start::looked_at;
 use sre_chars::string::{StrDrive, StringCursor};
@@ -125,7 +125,7 @@ pub(crate) fn behind_literals<S: StrDrive>(
     prefix: &Prefix<'_>,
     spot: Spot,
 ) -> StringCursor
-    requires stands { (run_of req.now).stands spot.cursor spot.cursor.position }
+    requires stands { Standing req.now spot.cursor }
     requires past { length prefix.now.words.now ≤ spot.cursor.position }
     requires few { prefix.now.literals ≤ length prefix.now.words.now }
     ensures position { result.position
@@ -180,11 +180,10 @@ fn behind_sought<S: StrDrive>(
 ) -> (bool, Spot)
     requires stands { Standing req.now start }
     requires before { start.position < end_of req.now }
-    requires here { Here (run_of req.now).subject.text prefix.now.words.now (start_of req.now) (end_of req.now)
-        start.position 0 compared.old }
-    ensures stands { (run_of req.now).stands result.1.cursor result.1.cursor.position }
-    ensures goes { GoesTo (run_of req.now).subject.text prefix.now.words.now (start_of req.now) (end_of req.now)
-        start.position result.0 result.1.cursor.position result.1.matched compared.new }
+    requires here { ScanIsAt req.now prefix.now.words.now start.position 0 compared.old }
+    ensures stands { Standing req.now result.1.cursor }
+    ensures goes { ScanGoesTo req.now prefix.now.words.now start.position result.0
+        result.1.cursor.position result.1.matched compared.new }
 {
     if req.end() - start.position() <= prefix.sought {
         return (
@@ -226,11 +225,10 @@ fn behind_none<S: StrDrive>(
 ) -> (bool, Spot)
     requires stands { Standing req.now start }
     requires before { start.position < end_of req.now }
-    requires here { Here (run_of req.now).subject.text prefix.now.words.now (start_of req.now) (end_of req.now)
-        start.position 0 compared.old }
-    ensures stands { (run_of req.now).stands result.1.cursor result.1.cursor.position }
-    ensures goes { GoesTo (run_of req.now).subject.text prefix.now.words.now (start_of req.now) (end_of req.now)
-        start.position result.0 result.1.cursor.position result.1.matched compared.new }
+    requires here { ScanIsAt req.now prefix.now.words.now start.position 0 compared.old }
+    ensures stands { Standing req.now result.1.cursor }
+    ensures goes { ScanGoesTo req.now prefix.now.words.now start.position result.0
+        result.1.cursor.position result.1.matched compared.new }
 {
     if prefix.sought > 0 {
         return behind_sought(req, prefix, start, compared);
@@ -251,16 +249,14 @@ fn pass<S: StrDrive>(
     compared: &mut u64,
     spot: Spot,
 ) -> Spot
-    requires stands { (run_of req.now).stands spot.cursor spot.cursor.position }
+    requires stands { Standing req.now spot.cursor }
     requires before { spot.cursor.position < end_of req.now }
     requires short { spot.matched < length prefix.now.words.now }
-    requires here { Here (run_of req.now).subject.text prefix.now.words.now (start_of req.now) (end_of req.now)
-        spot.cursor.position spot.matched compared.old }
-    ensures stands { (run_of req.now).stands result.cursor result.cursor.position }
+    requires here { ScanIsAt req.now prefix.now.words.now spot.cursor.position spot.matched compared.old }
+    ensures stands { Standing req.now result.cursor }
     ensures at { result.cursor.position ≡ spot.cursor.position + 1 }
-    ensures here { Here (run_of req.now).subject.text prefix.now.words.now (start_of req.now) (end_of req.now)
-        result.cursor.position result.matched compared.new }
-    ensures passed { NoPlace (run_of req.now).subject.text prefix.now.words.now (end_of req.now)
+    ensures here { ScanIsAt req.now prefix.now.words.now result.cursor.position result.matched compared.new }
+    ensures passed { NoPlaceBetween req.now prefix.now.words.now
         (spot.cursor.position - spot.matched) (result.cursor.position - result.matched) }
 {
     let (character, cursor) = read(req, spot.cursor);
@@ -287,16 +283,14 @@ pub(crate) fn find<S: StrDrive>(
     compared: &mut u64,
     spot: &mut Spot,
 ) -> bool
-    requires stands { (run_of req.now).stands spot.old.cursor spot.old.cursor.position }
-    requires here { Here (run_of req.now).subject.text prefix.now.words.now (start_of req.now) (end_of req.now)
-        spot.old.cursor.position spot.old.matched compared.old }
-    ensures stands { (run_of req.now).stands spot.new.cursor spot.new.cursor.position }
-    ensures here { Here (run_of req.now).subject.text prefix.now.words.now (start_of req.now) (end_of req.now)
-        spot.new.cursor.position spot.new.matched compared.new }
+    requires stands { Standing req.now spot.old.cursor }
+    requires here { ScanIsAt req.now prefix.now.words.now spot.old.cursor.position spot.old.matched compared.old }
+    ensures stands { Standing req.now spot.new.cursor }
+    ensures here { ScanIsAt req.now prefix.now.words.now spot.new.cursor.position spot.new.matched compared.new }
     ensures found { result ≡ true → (spot.new.matched ≡ length prefix.now.words.now)
-        × NoPlace (run_of req.now).subject.text prefix.now.words.now (end_of req.now)
+        × NoPlaceBetween req.now prefix.now.words.now
         (spot.old.cursor.position - spot.old.matched) (spot.new.cursor.position - spot.new.matched) }
-    ensures none { result ≡ false → NoPlace (run_of req.now).subject.text prefix.now.words.now (end_of req.now)
+    ensures none { result ≡ false → NoPlaceBetween req.now prefix.now.words.now
         (spot.old.cursor.position - spot.old.matched) (end_of req.now + 1) }
 {
     'spot: while spot.matched < prefix.words.len() {
@@ -326,11 +320,9 @@ pub(crate) fn go_on<S: StrDrive>(
     spot: Spot,
 ) -> Spot
     requires all { spot.matched ≡ length prefix.now.words.now }
-    requires here { Here (run_of req.now).subject.text prefix.now.words.now (start_of req.now) (end_of req.now)
-        spot.cursor.position spot.matched compared.now }
-    ensures here { Here (run_of req.now).subject.text prefix.now.words.now (start_of req.now) (end_of req.now)
-        result.cursor.position result.matched compared.now }
-    ensures passed { NoPlace (run_of req.now).subject.text prefix.now.words.now (end_of req.now)
+    requires here { ScanIsAt req.now prefix.now.words.now spot.cursor.position spot.matched compared.now }
+    ensures here { ScanIsAt req.now prefix.now.words.now result.cursor.position result.matched compared.now }
+    ensures passed { NoPlaceBetween req.now prefix.now.words.now
         (spot.cursor.position - spot.matched + 1) (result.cursor.position - result.matched) }
     ensures further { result.matched < spot.matched }
     ensures at { result.cursor ≡ spot.cursor }

@@ -1,16 +1,13 @@
 //! One step of a walk: the next match, and what is asked after it.
 
-ghost use Rattle.std.specs.Prelude.{◌≡◌, ◌<◌, ℕ, IfOk, IfErr, OnErr, true, false, Some};
-ghost use Rattle.sre_model.specs.Tree.{Tree};
-ghost use Rattle.sre_model.specs.Grammar.{Whole};
+ghost use Rattle.std.specs.Prelude.{◌≡◌, ◌<◌, IfOk, IfErr, OnErr, true, false};
 ghost use Rattle.sre_model.specs.Marks.{no_marks};
-ghost use Rattle.sre_model.specs.Found.{walk};
 ghost use Rattle.sre_model.specs.WalkBounds.{most_matches};
-ghost use Rattle.sre_code.specs.Codes.{words_of, hints_of};
 ghost use Rattle.sre_request.specs.Requests.{start_of, code_of, asked_of, stands_in};
-ghost use Rattle.sre_engine.specs.Walks.{StepsTo, GoesOn};
+ghost use Rattle.sre_engine.specs.Walks.{GoesOn};
 ghost use Rattle.sre_engine.specs.Counts.{SpentUpTo};
 ghost use Rattle.sre_engine.specs.Halts.{Halted};
+ghost use Rattle.sre_engine.specs.Searches.{WalksOn, NoErrorIfLiteral};
 ghost use Rattle.sre_growth.specs.Refusal.{Refused};
 
 use crate::engine::state::{SreError, State};
@@ -33,8 +30,7 @@ pub(crate) fn step_within<S: StrDrive, A: Allocator + Copy>(
     left: &mut u64,
 ) -> Result<bool, Halt>
     requires { stands_in req.old cursor.old (start_of req.old) }
-    ensures ok { (t : Tree) → Whole (words_of (code_of req.old)) t
-        → IfOk result (λ b. StepsTo (walk (asked_of req.old) t) b state.new (walk (asked_of req.new) t)) }
+    ensures ok { IfOk result (λ b. WalksOn req.old b state.new req.new) }
     ensures yes { IfOk result (λ b. b ≡ true → GoesOn req.old state.new req.new) }
     ensures falls { IfOk result (λ b. b ≡ true → most_matches (asked_of req.new) < most_matches (asked_of req.old)) }
     ensures no { IfOk result (λ b. b ≡ false → (req.new ≡ req.old) × (state.new.marks ≡ no_marks)) }
@@ -42,8 +38,7 @@ pub(crate) fn step_within<S: StrDrive, A: Allocator + Copy>(
     ensures err { OnErr result ((req.new ≡ req.old) × (state.new.marks ≡ no_marks)) }
     ensures halted { IfErr result (Halted limited left.new) }
     ensures spent { SpentUpTo (asked_of req.old) (code_of req.old) left.old left.new state.new.started }
-    ensures literal { (l k : ℕ) → (hints_of (code_of req.old)).prefix ≡ Some (l, k)
-        → (hints_of (code_of req.old)).literal ≡ true → OnErr result ⊥ }
+    ensures literal { NoErrorIfLiteral req.old result }
 {
     if !state.search_from(req, *cursor, limited, left)? {
         return Ok(false);
@@ -62,16 +57,14 @@ pub(crate) fn step<S: StrDrive, A: Allocator + Copy>(
     cursor: &mut StringCursor,
 ) -> Result<bool, SreError>
     requires { stands_in req.old cursor.old (start_of req.old) }
-    ensures ok { (t : Tree) → Whole (words_of (code_of req.old)) t
-        → IfOk result (λ b. StepsTo (walk (asked_of req.old) t) b state.new (walk (asked_of req.new) t)) }
+    ensures ok { IfOk result (λ b. WalksOn req.old b state.new req.new) }
     ensures yes { IfOk result (λ b. b ≡ true → GoesOn req.old state.new req.new) }
     ensures falls { IfOk result (λ b. b ≡ true → most_matches (asked_of req.new) < most_matches (asked_of req.old)) }
     ensures no { IfOk result (λ b. b ≡ false → (req.new ≡ req.old) × (state.new.marks ≡ no_marks)) }
     ensures here { stands_in req.new cursor.new (start_of req.new) }
     ensures err { OnErr result ((req.new ≡ req.old) × (state.new.marks ≡ no_marks)) }
     ensures refused { OnErr result Refused }
-    ensures literal { (l k : ℕ) → (hints_of (code_of req.old)).prefix ≡ Some (l, k)
-        → (hints_of (code_of req.old)).literal ≡ true → OnErr result ⊥ }
+    ensures literal { NoErrorIfLiteral req.old result }
 {
     let limited = false;
     match step_within(req, state, cursor, limited, &mut 0) {

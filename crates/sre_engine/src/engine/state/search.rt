@@ -1,19 +1,20 @@
 //! The search, by what its code's hints confirm: along the places of a prefix, the members of a first set, or the
 //! starts that what has to come first leaves.
 
-ghost use Rattle.std.specs.Prelude.{◌≡◌, ◌+◌, ◌≤◌, ℕ, IfOk, IfErr, OnErr, true, false, Some, None};
+ghost use Rattle.std.specs.Prelude.{◌≡◌, ◌≤◌, ℕ, IfOk, IfErr, OnErr, true, false, None};
 ghost use Rattle.sre_model.specs.Tree.{Tree};
 ghost use Rattle.sre_model.specs.Grammar.{Whole};
 ghost use Rattle.sre_model.specs.Marks.{no_marks};
-ghost use Rattle.sre_model.specs.Found.{at_start, found};
+ghost use Rattle.sre_model.specs.Found.{at_start};
 ghost use Rattle.sre_model.specs.Anchors.{is_anchored};
 ghost use Rattle.sre_code.specs.Codes.{words_of, hints_of};
 ghost use Rattle.sre_request.specs.Requests.{start_of, end_of, code_of, asked_of, stands_in};
-ghost use Rattle.sre_engine.specs.Answers.{Answers, Spans};
-ghost use Rattle.sre_engine.specs.Counts.{CountsUpTo, SpentUpTo};
+ghost use Rattle.sre_engine.specs.Counts.{SpentUpTo};
 ghost use Rattle.sre_engine.specs.Prefixed.{IsPrefix, IsLast, FitsAt};
 ghost use Rattle.sre_engine.specs.Starts.{NoneBetween};
 ghost use Rattle.sre_engine.specs.Halts.{Halted};
+ghost use Rattle.sre_engine.specs.Searches.{FindsFirst, LiesInside, CountsInside, CountsToMatch, RunsOnceAnchored};
+ghost use Rattle.sre_engine.specs.Searches.{NoErrorIfLiteral};
 
 use crate::engine::anchors::is_anchored;
 use crate::engine::first_characters::First;
@@ -40,22 +41,16 @@ impl<A: Allocator + Copy> State<A> {
         left: &mut u64,
     ) -> Result<bool, Halt>
         requires { stands_in req.now from (start_of req.now) }
-        ensures ok { (t : Tree) → Whole (words_of (code_of req.now)) t
-            → IfOk result (λ b. Answers (stands_in req.now) (found (asked_of req.now) t) b self.new) }
-        ensures span { IfOk result
-            (λ b. b ≡ true → (start_of req.now ≤ self.new.start) × Spans self.new.start (end_of req.now) self.new) }
+        ensures ok { IfOk result (λ b. FindsFirst req.now b self.new) }
+        ensures span { IfOk result (λ b. LiesInside req.now b self.new) }
         ensures no { IfOk result (λ b. b ≡ false → self.new.marks ≡ no_marks) }
         ensures err { OnErr result (self.new.marks ≡ no_marks) }
         ensures halted { IfErr result (Halted limited left.new) }
         ensures spent { SpentUpTo (asked_of req.now) (code_of req.now) left.old left.new self.new.started }
-        ensures counts { CountsUpTo (asked_of req.now) (code_of req.now) (end_of req.now + 1) (end_of req.now)
-            self.new }
-        ensures up_to_match { IfOk result (λ b. b ≡ true → CountsUpTo (asked_of req.now) (code_of req.now)
-            (self.new.start + 1) self.new.cursor.position self.new) }
-        ensures anchored { (t : Tree) → Whole (words_of (code_of req.now)) t
-            → is_anchored t ≡ true → self.new.started ≤ 1 }
-        ensures literal { (l k : ℕ) → (hints_of (code_of req.now)).prefix ≡ Some (l, k)
-            → (hints_of (code_of req.now)).literal ≡ true → OnErr result ⊥ }
+        ensures counts { CountsInside req.now self.new }
+        ensures up_to_match { IfOk result (λ b. CountsToMatch req.now b self.new) }
+        ensures anchored { RunsOnceAnchored req.now self.new }
+        ensures literal { NoErrorIfLiteral req.now result }
     {
         if let Some(prefix) = prefix_of(req) {
             if prefix.whole {
@@ -82,15 +77,11 @@ impl<A: Allocator + Copy> State<A> {
         requires stands { stands_in req.now from (start_of req.now) }
         requires is { IsPrefix (code_of req.now) prefix.now.words.now prefix.now.literals prefix.now.whole }
         requires all { prefix.now.whole ≡ true }
-        ensures ok { (t : Tree) → Whole (words_of (code_of req.now)) t
-            → Answers (stands_in req.now) (found (asked_of req.now) t) result self.new }
-        ensures span { result ≡ true
-            → (start_of req.now ≤ self.new.start) × Spans self.new.start (end_of req.now) self.new }
+        ensures ok { FindsFirst req.now result self.new }
+        ensures span { LiesInside req.now result self.new }
         ensures no { result ≡ false → self.new.marks ≡ no_marks }
-        ensures counts { CountsUpTo (asked_of req.now) (code_of req.now) (end_of req.now + 1) (end_of req.now)
-            self.new }
-        ensures up_to_match { result ≡ true → CountsUpTo (asked_of req.now) (code_of req.now) (self.new.start + 1)
-            self.new.cursor.position self.new }
+        ensures counts { CountsInside req.now self.new }
+        ensures up_to_match { CountsToMatch req.now result self.new }
     {
         self.board.clear(); // of an earlier search
         (self.compared, self.started) = (0, 0);
@@ -120,18 +111,14 @@ impl<A: Allocator + Copy> State<A> {
         requires stands { stands_in req.now from (start_of req.now) }
         requires is { IsPrefix (code_of req.now) prefix.now.words.now prefix.now.literals prefix.now.whole }
         requires more { prefix.now.whole ≡ false }
-        ensures ok { (t : Tree) → Whole (words_of (code_of req.now)) t
-            → IfOk result (λ b. Answers (stands_in req.now) (found (asked_of req.now) t) b self.new) }
-        ensures span { IfOk result
-            (λ b. b ≡ true → (start_of req.now ≤ self.new.start) × Spans self.new.start (end_of req.now) self.new) }
+        ensures ok { IfOk result (λ b. FindsFirst req.now b self.new) }
+        ensures span { IfOk result (λ b. LiesInside req.now b self.new) }
         ensures no { IfOk result (λ b. b ≡ false → self.new.marks ≡ no_marks) }
         ensures err { OnErr result (self.new.marks ≡ no_marks) }
         ensures halted { IfErr result (Halted limited left.new) }
         ensures spent { SpentUpTo (asked_of req.now) (code_of req.now) left.old left.new self.new.started }
-        ensures counts { CountsUpTo (asked_of req.now) (code_of req.now) (end_of req.now + 1) (end_of req.now)
-            self.new }
-        ensures up_to_match { IfOk result (λ b. b ≡ true → CountsUpTo (asked_of req.now) (code_of req.now)
-            (self.new.start + 1) self.new.cursor.position self.new) }
+        ensures counts { CountsInside req.now self.new }
+        ensures up_to_match { IfOk result (λ b. CountsToMatch req.now b self.new) }
     {
         self.board.clear(); // of an earlier search
         self.memo.begin(req, &mut self.board);
@@ -177,18 +164,14 @@ impl<A: Allocator + Copy> State<A> {
         requires plain { (hints_of (code_of req.now)).prefix ≡ None }
         requires no_set { (hints_of (code_of req.now)).first_set ≡ false }
         requires anchored { (t : Tree) → Whole (words_of (code_of req.now)) t → is_anchored t ≡ true }
-        ensures ok { (t : Tree) → Whole (words_of (code_of req.now)) t
-            → IfOk result (λ b. Answers (stands_in req.now) (found (asked_of req.now) t) b self.new) }
-        ensures span { IfOk result
-            (λ b. b ≡ true → (start_of req.now ≤ self.new.start) × Spans self.new.start (end_of req.now) self.new) }
+        ensures ok { IfOk result (λ b. FindsFirst req.now b self.new) }
+        ensures span { IfOk result (λ b. LiesInside req.now b self.new) }
         ensures no { IfOk result (λ b. b ≡ false → self.new.marks ≡ no_marks) }
         ensures err { OnErr result (self.new.marks ≡ no_marks) }
         ensures halted { IfErr result (Halted limited left.new) }
         ensures spent { SpentUpTo (asked_of req.now) (code_of req.now) left.old left.new self.new.started }
-        ensures counts { CountsUpTo (asked_of req.now) (code_of req.now) (end_of req.now + 1) (end_of req.now)
-            self.new }
-        ensures up_to_match { IfOk result (λ b. b ≡ true → CountsUpTo (asked_of req.now) (code_of req.now)
-            (self.new.start + 1) self.new.cursor.position self.new) }
+        ensures counts { CountsInside req.now self.new }
+        ensures up_to_match { IfOk result (λ b. CountsToMatch req.now b self.new) }
         ensures once { self.new.started ≤ 1 }
     {
         self.board.clear(); // of an earlier search
@@ -224,18 +207,14 @@ impl<A: Allocator + Copy> State<A> {
         requires stands { stands_in req.now from (start_of req.now) }
         requires plain { (hints_of (code_of req.now)).prefix ≡ None }
         requires set { (hints_of (code_of req.now)).first_set ≡ true }
-        ensures ok { (t : Tree) → Whole (words_of (code_of req.now)) t
-            → IfOk result (λ b. Answers (stands_in req.now) (found (asked_of req.now) t) b self.new) }
-        ensures span { IfOk result
-            (λ b. b ≡ true → (start_of req.now ≤ self.new.start) × Spans self.new.start (end_of req.now) self.new) }
+        ensures ok { IfOk result (λ b. FindsFirst req.now b self.new) }
+        ensures span { IfOk result (λ b. LiesInside req.now b self.new) }
         ensures no { IfOk result (λ b. b ≡ false → self.new.marks ≡ no_marks) }
         ensures err { OnErr result (self.new.marks ≡ no_marks) }
         ensures halted { IfErr result (Halted limited left.new) }
         ensures spent { SpentUpTo (asked_of req.now) (code_of req.now) left.old left.new self.new.started }
-        ensures counts { CountsUpTo (asked_of req.now) (code_of req.now) (end_of req.now + 1) (end_of req.now)
-            self.new }
-        ensures up_to_match { IfOk result (λ b. b ≡ true → CountsUpTo (asked_of req.now) (code_of req.now)
-            (self.new.start + 1) self.new.cursor.position self.new) }
+        ensures counts { CountsInside req.now self.new }
+        ensures up_to_match { IfOk result (λ b. CountsToMatch req.now b self.new) }
     {
         self.board.clear(); // of an earlier search
         self.memo.begin(req, &mut self.board);
@@ -280,18 +259,14 @@ impl<A: Allocator + Copy> State<A> {
         requires stands { stands_in req.now from (start_of req.now) }
         requires plain { (hints_of (code_of req.now)).prefix ≡ None }
         requires no_set { (hints_of (code_of req.now)).first_set ≡ false }
-        ensures ok { (t : Tree) → Whole (words_of (code_of req.now)) t
-            → IfOk result (λ b. Answers (stands_in req.now) (found (asked_of req.now) t) b self.new) }
-        ensures span { IfOk result
-            (λ b. b ≡ true → (start_of req.now ≤ self.new.start) × Spans self.new.start (end_of req.now) self.new) }
+        ensures ok { IfOk result (λ b. FindsFirst req.now b self.new) }
+        ensures span { IfOk result (λ b. LiesInside req.now b self.new) }
         ensures no { IfOk result (λ b. b ≡ false → self.new.marks ≡ no_marks) }
         ensures err { OnErr result (self.new.marks ≡ no_marks) }
         ensures halted { IfErr result (Halted limited left.new) }
         ensures spent { SpentUpTo (asked_of req.now) (code_of req.now) left.old left.new self.new.started }
-        ensures counts { CountsUpTo (asked_of req.now) (code_of req.now) (end_of req.now + 1) (end_of req.now)
-            self.new }
-        ensures up_to_match { IfOk result (λ b. b ≡ true → CountsUpTo (asked_of req.now) (code_of req.now)
-            (self.new.start + 1) self.new.cursor.position self.new) }
+        ensures counts { CountsInside req.now self.new }
+        ensures up_to_match { IfOk result (λ b. CountsToMatch req.now b self.new) }
     {
         self.board.clear(); // of an earlier search
         self.memo.begin(req, &mut self.board);
@@ -343,19 +318,15 @@ impl<A: Allocator + Copy> State<A> {
             × (at_start (asked_of req.now) t tried.position ≡ None) }
         requires once { self.old.started ≡ 1 }
         requires uncompared { self.old.compared ≡ 0 }
-        ensures ok { (t : Tree) → Whole (words_of (code_of req.now)) t
-            → IfOk result (λ b. Answers (stands_in req.now) (found (asked_of req.now) t) b self.new) }
-        ensures span { IfOk result
-            (λ b. b ≡ true → (start_of req.now ≤ self.new.start) × Spans self.new.start (end_of req.now) self.new) }
+        ensures ok { IfOk result (λ b. FindsFirst req.now b self.new) }
+        ensures span { IfOk result (λ b. LiesInside req.now b self.new) }
         ensures no { IfOk result (λ b. b ≡ false → self.new.marks ≡ no_marks) }
         ensures err { OnErr result (self.new.marks ≡ no_marks) }
         ensures halted { IfErr result (Halted limited left.new) }
         ensures spent { (given : ℕ) → SpentUpTo (asked_of req.now) (code_of req.now) given left.old 1
             → SpentUpTo (asked_of req.now) (code_of req.now) given left.new self.new.started }
-        ensures counts { CountsUpTo (asked_of req.now) (code_of req.now) (end_of req.now + 1) (end_of req.now)
-            self.new }
-        ensures up_to_match { IfOk result (λ b. b ≡ true → CountsUpTo (asked_of req.now) (code_of req.now)
-            (self.new.start + 1) self.new.cursor.position self.new) }
+        ensures counts { CountsInside req.now self.new }
+        ensures up_to_match { IfOk result (λ b. CountsToMatch req.now b self.new) }
     {
         self.board.clear();
         self.memo.begin(req, &mut self.board);

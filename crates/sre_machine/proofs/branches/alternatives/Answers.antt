@@ -10,9 +10,9 @@ returns-in_default g c = exhausted_back (run_of c.args.req.now) _ c.args.cursor 
 
 pub first_alternative-requires-2-clause-stands : goal.first_alternative-requires-2-clause-stands
 first_alternative-requires-2-clause-stands g c =
-    (alternatives_run (run_of c.args.req.now) c.in-Some.first.length_word c.word_at-length.result c.args.cursor
-    c.word_at-length.ensures.word
-    (subst (λ n. 0 < n) (word_of (run_of c.args.req.now).words _ _ c.word_at-length.ensures.word) c.in-Some.ensures.1)
+    (alternatives_run (run_of c.args.req.now) c.in-Some.first.length_word c.word-length.result c.args.cursor
+    c.word-length.ensures.word
+    (subst (λ n. 0 < n) (word_of (run_of c.args.req.now).words _ _ c.word-length.ensures.word) c.in-Some.ensures.1)
     c.in-Some.ensures.0).1
 
 pub returns-in_default-first_alternative : goal.returns-in_default-first_alternative
@@ -21,8 +21,8 @@ returns-in_default-first_alternative g c = λ all limit x.
     let b = c.args.board.now in
     let here = c.args.cursor in
     let first = c.in-Some.first in
-    let more = subst (λ n. 0 < n) (word_of r.words _ _ c.word_at-length.ensures.word) c.in-Some.ensures.1 in
-    let both = alternatives_both r first.length_word c.word_at-length.result here b c.word_at-length.ensures.word more
+    let more = subst (λ n. 0 < n) (word_of r.words _ _ c.word-length.ensures.word) c.in-Some.ensures.1 in
+    let both = alternatives_both r first.length_word c.word-length.result here b c.word-length.ensures.word more
     all limit (continues_goes r _ _ here here c.in-Some.ensures.2 b all limit x) in
     later_continues r (first.length_word + 1) first.place here first.cursor b c.in-Some.ensures.3 all limit
     (both_exhausted r _ _ here b c.in_default-first_alternative.ensures all limit both)
@@ -33,8 +33,8 @@ returns g c = λ all limit x.
     let b = c.args.board.now in
     let here = c.args.cursor in
     let first = c.in-Some.first in
-    let more = subst (λ n. 0 < n) (word_of r.words _ _ c.word_at-length.ensures.word) c.in-Some.ensures.1 in
-    let both = alternatives_both r first.length_word c.word_at-length.result here b c.word_at-length.ensures.word more
+    let more = subst (λ n. 0 < n) (word_of r.words _ _ c.word-length.ensures.word) c.in-Some.ensures.1 in
+    let both = alternatives_both r first.length_word c.word-length.result here b c.word-length.ensures.word more
     all limit (continues_goes r _ _ here here c.in-Some.ensures.2 b all limit x) in
     c.in_ok-choose_alternative.ensures all limit
     (both_continue r _ _ _ here b c.in-Some-first_alternative.ensures.2 all limit both)

@@ -2,15 +2,15 @@ use Rattle.sre_request.specs.Runs.{run_of}
 use Rattle.sre_turns.proofs.StepsInBranches.{alternatives_there, alternatives_none, alternatives_both, positive}
 use Rattle.sre_machine.proofs.branches.alternatives_at_end.Goals as goal
 
-pub word_at-length-requires : goal.word_at-length-requires
-word_at-length-requires g c = alternatives_there (run_of c.args.req.now) _ _ c.requires
+pub word-length-requires : goal.word-length-requires
+word-length-requires g c = alternatives_there (run_of c.args.req.now) _ _ c.requires
 
 pub returns-then-length-eq0 : goal.returns-then-length-eq0
 returns-then-length-eq0 g c =
-    alternatives_none (run_of c.args.req.now) c.args.place c.args.cursor _ c.word_at-length.ensures.word
+    alternatives_none (run_of c.args.req.now) c.args.place c.args.cursor _ c.word-length.ensures.word
     c.if-length-eq0.true
 
 pub returns : goal.returns
 returns g c = λ all limit x.
-    c.in_ok-choose.ensures all limit (alternatives_both (run_of c.args.req.now) c.args.place c.word_at-length.result
-    c.args.cursor c.args.board.now c.word_at-length.ensures.word (positive _ c.if-length-eq0.false) all limit x)
+    c.in_ok-choose.ensures all limit (alternatives_both (run_of c.args.req.now) c.args.place c.word-length.result
+    c.args.cursor c.args.board.now c.word-length.ensures.word (positive _ c.if-length-eq0.false) all limit x)

@@ -2,5 +2,5 @@ use Rattle.sre_request.specs.Runs.{run_of}
 use Rattle.sre_turns.proofs.Moving.{reached_within}
 use Rattle.sre_machine.proofs.branches.begin.Goals as goal
 
-pub word_at-requires : goal.word_at-requires
-word_at-requires g c = reached_within (run_of c.args.req.now) c.args.place c.args.cursor c.requires.stands
+pub word-requires : goal.word-requires
+word-requires g c = reached_within (run_of c.args.req.now) c.args.place c.args.cursor c.requires.stands

@@ -5,27 +5,27 @@ use Rattle.sre_turns.proofs.StepsInBranches.{alternatives_there, alternatives_ru
 use Rattle.sre_turns.proofs.StepsInBranches.{alternatives_pass, positive}
 use Rattle.sre_machine.proofs.branches.first_alternative.Goals as goal
 
-pub word_at-length-requires : goal.word_at-length-requires
-word_at-length-requires g c = alternatives_there (run_of c.args.req.now) _ _ c.alternative.invariant.at
+pub word-length-requires : goal.word-length-requires
+word-length-requires g c = alternatives_there (run_of c.args.req.now) _ _ c.alternative.invariant.at
 
 pub returns-then-length-eq0 : goal.returns-then-length-eq0
 returns-then-length-eq0 g c =
     continues_exhausted (run_of c.args.req.now) _ _ c.args.cursor c.args.cursor c.alternative.invariant.on
-    (alternatives_exhausted (run_of c.args.req.now) _ _ _ c.word_at-length.ensures.word c.if-length-eq0.true)
+    (alternatives_exhausted (run_of c.args.req.now) _ _ _ c.word-length.ensures.word c.if-length-eq0.true)
 
 pub overflow_add-place : goal.overflow_add-place
-overflow_add-place g c = omega (arith, c.word_at-length.ensures.room)
+overflow_add-place g c = omega (arith, c.word-length.ensures.room)
 
 pub begin-requires-clause-stands : goal.begin-requires-clause-stands
 begin-requires-clause-stands g c =
-    (alternatives_run (run_of c.args.req.now) _ _ c.args.cursor c.word_at-length.ensures.word
+    (alternatives_run (run_of c.args.req.now) _ _ c.args.cursor c.word-length.ensures.word
     (positive _ c.if-length-eq0.false) c.alternative.invariant.at).0
 
 pub alternative-preserved : goal.alternative-preserved
 alternative-preserved g c =
     let r = run_of c.args.req.now in
-    let passed = alternatives_pass r c.alternative.place c.word_at-length.result c.args.cursor
-    c.word_at-length.ensures.word (positive _ c.if-length-eq0.false) c.requires.stands.stands c.in_default.ensures in
+    let passed = alternatives_pass r c.alternative.place c.word-length.result c.args.cursor
+    c.word-length.ensures.word (positive _ c.if-length-eq0.false) c.requires.stands.stands c.in_default.ensures in
     record {
       at = continues_run r _ _ c.args.cursor c.args.cursor passed c.alternative.invariant.at;
       on = continues_then r _ _ c.args.cursor c.args.cursor c.alternative.invariant.on _ c.args.cursor passed;

@@ -4,7 +4,8 @@ use Rattle.sre_machine.proofs.greedy_runs.shorter.Goals as goal
 
 pub returns-then-found-eq0 : goal.returns-then-found-eq0
 returns-then-found-eq0 g c = λ all limit x.
-    shorter_last (run_of c.args.req.now) c.args.tail c.args.tail c.in-Some.found.0 c.in-Some.found.1 c.args.board.now
+    shorter_last (run_of c.args.req.now) c.args.tail c.args.tail c.in-Some.found.left c.in-Some.found.end
+    c.args.board.now
     c.if-found-eq0.true all limit (c.in-Some.ensures.skips c.args.board.now all limit x)
 
 pub returns : goal.returns

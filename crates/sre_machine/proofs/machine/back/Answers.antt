@@ -3,9 +3,11 @@ use Rattle.sre_turns.specs.Board.{choice}
 use Rattle.sre_turns.specs.declared.Point.TheVariants.{Instruction, Alternatives, Shorter, Longer, Again}
 use Rattle.sre_request.specs.Requests.{asked_of}
 use Rattle.sre_request.specs.Runs.{run_of}
-use Rattle.sre_turns.proofs.GoingBack.{back_none, back_at, back_region, later_again}
+use Rattle.sre_turns.proofs.GoingBack.{back_none, back_arrives, back_at, back_region, later_again}
 use Rattle.sre_turns.proofs.Hopeless.{asked_by_stop}
-use Rattle.sre_turns.proofs.Trying.{tried_waits, tried_hopeless}
+use Rattle.sre_turns.proofs.LazyRunEnds.{tried_later_at}
+use Rattle.sre_turns.proofs.Moving.{on_board}
+use Rattle.sre_turns.proofs.Trying.{tried_waits, tried_hopeless, tried_at}
 use Rattle.sre_machine.proofs.Failing.{still_back}
 use Rattle.sre_machine.proofs.machine.back.Goals as goal
 
@@ -15,7 +17,7 @@ returns-in_default-clause-next g c = λ all limit x.
 
 pub returns-in-Instruction-clause-next : goal.returns-in-Instruction-clause-next
 returns-in-Instruction-clause-next g c = λ all limit x.
-    back_at (run_of c.args.req.now) c.choice.board c.back.new.self c.in-Some.choice.0
+    back_arrives (run_of c.args.req.now) c.choice.board c.back.new.self c.in-Some.choice.0
     (Instruction c.in-Instruction.place) c.in-Some.choice.1 c.in-Some.ensures c.in-Instruction.is refl all limit
     (c.choice.invariant.backs all limit x)
 
@@ -39,7 +41,7 @@ returns-in-Longer-clause-next g c = λ all limit x.
     let s = back_at (run_of c.args.req.now) c.choice.board c.back.new.self c.in-Some.choice.0
     (Longer c.in-Longer.place c.in-Longer.count) c.in-Some.choice.1 c.in-Some.ensures c.in-Longer.is refl all limit
     (c.choice.invariant.backs all limit x) in
-    later_again (run_of c.args.req.now) all limit _ _ s.0 (c.in_ok-longer-in-Longer.ensures all (limit - 1) s.1)
+    later_again (run_of c.args.req.now) all limit _ _ s.0 (c.in_ok-longer_saved-in-Longer.ensures all (limit - 1) s.1)
 
 pub returns-in-Inside-clause-next : goal.returns-in-Inside-clause-next
 returns-in-Inside-clause-next g c = λ all limit x.
@@ -50,17 +52,26 @@ returns-in-Inside-clause-next g c = λ all limit x.
 
 pub returns-in-Again-clause-next : goal.returns-in-Again-clause-next
 returns-in-Again-clause-next g c = λ all limit x.
-    back_at (run_of c.args.req.now) c.choice.board c.back.new.self c.in-Some.choice.0 Again c.in-Some.choice.1
+    back_arrives (run_of c.args.req.now) c.choice.board c.back.new.self c.in-Some.choice.0 Again c.in-Some.choice.1
     c.in-Some.ensures c.in-Again.is refl all limit (c.choice.invariant.backs all limit x)
 
 -- a mark is passed over
-pub keep-requires-clause-hopeless : goal.keep-requires-clause-hopeless
-keep-requires-clause-hopeless g c = λ none.
+pub keep-requires-clause-failed : goal.keep-requires-clause-failed
+keep-requires-clause-failed g c =
     let r = run_of c.args.req.now in
     let b = c.back.new.self in
-    tried_hopeless r (asked_by_stop (asked_of c.args.req.now)) none c.in-Tried.place c.in-Some.choice.1 c.choice.board b
-    (c.in-Some.ensures ∙ ap (λ pt. choice pt b.frames c.in-Some.choice.1 b.marks ∷ b.choices) c.in-Tried.is)
-    c.choice.invariant.back.all c.choice.invariant.back.limit c.choice.invariant.back.backs
+    let told = asked_by_stop (asked_of c.args.req.now) in
+    let x = c.choice.invariant.back in
+    let marked = c.in-Some.ensures ∙ ap (λ pt. choice pt b.frames c.in-Some.choice.1 b.marks ∷ b.choices)
+    c.in-Tried.is in
+    let i = c.in-Tried.place in
+    let cursor = c.in-Some.choice.1 in
+    record {
+      at = on_board r (Instruction i) cursor b (tried_at r i cursor c.choice.board b marked x.all x.limit x.backs);
+      here = λ none. tried_hopeless r told none i cursor c.choice.board b marked x.all x.limit x.backs;
+      later = λ none on q from all.
+          tried_later_at r told none i on cursor c.choice.board b marked x.all x.limit x.backs q from all;
+    }
 
 pub choice-preserved-then-this-ne0 : goal.choice-preserved-then-this-ne0
 choice-preserved-then-this-ne0 g c =

@@ -8,7 +8,8 @@ use Rattle.sre_machine.proofs.machine.back.Given as goal
 abbrev pub invariant-choice : goal.invariant-choice
 invariant-choice g l = record {
   back : IsBack (run_of l.req) l.board;
-  backs : (all : List Way) (limit : ℕ) → Backs (run_of l.req) all limit l.fn.board → Backs (run_of l.req) all limit l.board;
+  backs : (all : List Way) (limit : ℕ) → Backs (run_of l.req) all limit l.fn.board → Backs (run_of l.req) all limit
+      l.board;
   remembers : Remembers (run_of l.req) l.memo;
 }
 

@@ -33,7 +33,7 @@ pub returns-in-LITERAL_UNI_IGNORE : goal.returns-in-LITERAL_UNI_IGNORE
 returns-in-LITERAL_UNI_IGNORE g c = c.test-in-LITERAL_UNI_IGNORE.ensures _
 
 pub returns-in-AT : goal.returns-in-AT
-returns-in-AT g c = c.at.ensures _
+returns-in-AT g c = c.position_code.ensures _
 
 pub returns-in-JUMP : goal.returns-in-JUMP
 returns-in-JUMP g c = c.jump.ensures _

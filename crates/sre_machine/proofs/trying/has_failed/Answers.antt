@@ -20,7 +20,8 @@ returns-then-is_kept-clause-left g c = λ _.
     let held = subst (λ p. Holds c.prepare.new.self r.words inside (record x { position = p })) c.position.ensures
     (subst (λ (ws : List ℕ). Holds c.prepare.new.self ws inside (record x { position = c.position.result })) same
     (c.is_kept.ensures c.if-is_kept.true)) in
-    hopeless_left r c.args.place c.args.cursor b (remembers_still r _ _ c.prepare.ensures c.requires.remembers inside x held)
+    hopeless_left r c.args.place c.args.cursor b (remembers_still r _ _ c.prepare.ensures c.requires.remembers inside
+    x held)
 
 pub returns-then-is_kept-clause-remembers : goal.returns-then-is_kept-clause-remembers
 returns-then-is_kept-clause-remembers g c =

@@ -11,3 +11,13 @@ pub returns-clause-turn : goal.returns-clause-turn
 returns-clause-turn g c =
     turn_stays c.args.req.now c.args.place c.args.cursor _ _ _ c.instruction.result
     (c.is_hopeless.ensures.tried c.if-is_hopeless.false) c.instruction.ensures
+
+pub returns-in-REPEAT_ONE-clause-turn : goal.returns-in-REPEAT_ONE-clause-turn
+returns-in-REPEAT_ONE-clause-turn g c =
+    turn_stays c.args.req.now c.args.place c.args.cursor _ _ _ c.remembering_repeat_one.result
+    (c.is_hopeless.ensures.tried c.if-is_hopeless.false) c.remembering_repeat_one.ensures
+
+pub returns-in-MIN_REPEAT_ONE-clause-turn : goal.returns-in-MIN_REPEAT_ONE-clause-turn
+returns-in-MIN_REPEAT_ONE-clause-turn g c =
+    turn_stays c.args.req.now c.args.place c.args.cursor _ _ _ c.min_repeat_one.result
+    (c.is_hopeless.ensures.tried c.if-is_hopeless.false) c.min_repeat_one.ensures

@@ -25,9 +25,10 @@ returns-in_default-clause-none g c = λ t whole none.
     let lead = subst (λ first. RunStands words t first c.args.lead.test) c.in_default.is (c.requires.lead t whole) in
     let p = c.args.start.position in
     let run = c.longest_run-run in
-    none_until asked t p run.result.1.position c.one_on.result
+    none_until asked t p run.result.end.position c.one_on.result
     (subst (λ q. NoneBetween asked t p (q + 1)) (sym run.ensures.position)
-    (none_behind_run asked t words c.args.lead.test p none run.result.0 lead run.ensures.count)) c.one_on.ensures.next
+    (none_behind_run asked t words c.args.lead.test p none run.result.count lead run.ensures.count))
+    c.one_on.ensures.next
 
 pub opcode-requires : goal.opcode-requires
 opcode-requires g c =
@@ -69,10 +70,10 @@ returns-clause-none g c = λ t whole none.
     let p = c.args.start.position in
     let run = c.longest_run-run-2 in
     let inside : p < asked.end = omega arith in
-    let next : run.result.1.position ≡ p + 1 + run.result.0 =
+    let next : run.result.end.position ≡ p + 1 + run.result.count =
     omega (arith, run.ensures.position, c.read-character.ensures.position) in
     let count = λ (j : ℕ) (x : Test) (stands : TestStands words c.args.lead.test j x).
     run.ensures.count j x stands ∙ ap (longest_run (subject_of asked) x unlimited) c.read-character.ensures.position in
     subst (λ q. NoneBetween asked t p q) (sym next)
-    (none_behind_front asked t words c.args.lead.test p none c.in-Some.first c.read-character.result.0 run.result.0
+    (none_behind_front asked t words c.args.lead.test p none c.in-Some.first c.read-character.result.0 run.result.count
     c.takes.result lead inside c.read-character.ensures.character c.takes.ensures c.if-not-takes.false count)

@@ -44,8 +44,8 @@ item-preserved-in-MARK g c =
       ahead = behind;
     }
 
-pub operand_at-requires : goal.operand_at-requires
-operand_at-requires g c =
+pub operand-requires : goal.operand-requires
+operand-requires g c =
     let words = (run_of c.args.req.now).words in
     run_operands words (tree_of words) c.item.place c.item.first c.in_ok-opcode.opcode
     (c.item.invariant.ahead (tree_of words) (whole_of c.args.req.now.pattern_codes)) c.in-REPEAT_ONE.is

@@ -2,7 +2,7 @@ use Rattle.std.proofs.Common.{◌+◌, sym, ◌∙◌, subst}
 use Rattle.sre_model.specs.Grammar.{Word}
 use Rattle.sre_request.specs.Runs.{run_of}
 use Rattle.sre_turns.proofs.StepsAtItems.{at_step, at_refused, at_operand, at_known}
-use Rattle.sre_machine.proofs.machine.at.Goals as goal
+use Rattle.sre_machine.proofs.machine.position_code.Goals as goal
 
 pub operand-requires : goal.operand-requires
 operand-requires g c = at_operand (run_of c.args.req.now) _ _ c.requires.opcode c.requires.stands

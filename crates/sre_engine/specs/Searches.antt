@@ -1,0 +1,44 @@
+-- What a search of a request says of its answer.
+-- Words of the contracts inside this crate; what it makes public does not rest on it.
+use Rattle.std.specs.Prelude.{ℕ, ◌+◌, ◌≡◌, ◌≤◌, Bool, true, Some, Result, OnErr}
+use Rattle.sre_chars.specs.declared.string.StrDrive.{Ghosts}
+use Rattle.sre_model.specs.Tree.{Tree}
+use Rattle.sre_model.specs.Grammar.{Whole}
+use Rattle.sre_model.specs.Found.{found, walk}
+use Rattle.sre_model.specs.Anchors.{is_anchored}
+use Rattle.sre_code.specs.Codes.{words_of, hints_of}
+use Rattle.sre_request.specs.declared.request.Request.{Request}
+use Rattle.sre_request.specs.Requests.{start_of, end_of, code_of, asked_of, stands_in}
+use Rattle.sre_engine.specs.Answers.{Shown, Answers, Spans}
+use Rattle.sre_engine.specs.Counts.{CountsUpTo}
+use Rattle.sre_engine.specs.Walks.{StepsTo}
+
+-- the answer is yes exactly where a start of the window has a match; then the first of the least such start is shown
+abbrev pub FindsFirst : {S : Type 0} {text : Ghosts S} → Request S text → Bool → Shown → Type 0
+FindsFirst r b s = (t : Tree) → Whole (words_of (code_of r)) t → Answers (stands_in r) (found (asked_of r) t) b s
+
+-- a match that is found lies in the window
+abbrev pub LiesInside : {S : Type 0} {text : Ghosts S} → Request S text → Bool → Shown → Type 0
+LiesInside r b s = b ≡ true → (start_of r ≤ s.start) × Spans s.start (end_of r) s
+
+-- what is counted over the whole window
+abbrev pub CountsInside : {S : Type 0} {text : Ghosts S} → Request S text → Shown → Type 0
+CountsInside r s = CountsUpTo (asked_of r) (code_of r) (end_of r + 1) (end_of r) s
+
+-- what is counted up to a match that is found
+abbrev pub CountsToMatch : {S : Type 0} {text : Ghosts S} → Request S text → Bool → Shown → Type 0
+CountsToMatch r b s = b ≡ true → CountsUpTo (asked_of r) (code_of r) (s.start + 1) s.cursor.position s
+
+-- a code that is anchored at the text's start is run once at most
+abbrev pub RunsOnceAnchored : {S : Type 0} {text : Ghosts S} → Request S text → Shown → Type 0
+RunsOnceAnchored r s = (t : Tree) → Whole (words_of (code_of r)) t → is_anchored t ≡ true → s.started ≤ 1
+
+-- where a confirmed prefix is all of the code, there is no error
+abbrev pub NoErrorIfLiteral : {S E : Type 0} {text : Ghosts S} → Request S text → Result Bool E → Type 0
+NoErrorIfLiteral r result =
+    (l k : ℕ) → (hints_of (code_of r)).prefix ≡ Some (l, k) → (hints_of (code_of r)).literal ≡ true → OnErr result ⊥
+
+-- the matches left to a walk are the one that is shown and those left to what is asked next, where there is one
+abbrev pub WalksOn : {S : Type 0} {text : Ghosts S} → Request S text → Bool → Shown → Request S text → Type 0
+WalksOn r b s next =
+    (t : Tree) → Whole (words_of (code_of r)) t → StepsTo (walk (asked_of r) t) b s (walk (asked_of next) t)

@@ -1,0 +1,13 @@
+-- What the machine reads of a run of one test.
+-- Words of the machine's contracts; what sre_engine makes public does not rest on it.
+use Rattle.std.specs.Prelude.{ℕ, ◌+◌, ◌^◌, ◌<◌}
+use Rattle.sre_chars.specs.declared.string.StrDrive.{Ghosts}
+use Rattle.sre_turns.specs.OperandsOfRuns.{OperandsOfRun}
+use Rattle.sre_request.specs.declared.request.Request.{Request}
+use Rattle.sre_request.specs.Runs.{run_of}
+use Rattle.sre_machine.specs.declared.run_operands.RunOperands.{RunOperands}
+
+-- the operands of the run at a place, to which a word can be added
+pub record AreOperands {S : Type 0} {text : Ghosts S} (r : Request S text) (place : ℕ) (o : RunOperands) : Type 0 where
+  pub operands : OperandsOfRun (run_of r).words place o.tail o.least o.greatest
+  pub room : place + 2 ^ 33 < 2 ^ 64
