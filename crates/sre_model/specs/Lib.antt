@@ -15,6 +15,9 @@ pub mod FirstCharacters
 pub mod Anchors
 pub mod Prefixes
 pub mod References
+pub mod Regions
+pub mod Slots
+pub mod Remembered
 pub mod LeadingRuns
 pub mod WalkBounds
 pub mod Shown

@@ -1,0 +1,36 @@
+-- Codes of which a search keeps all that failed, and a number of turns that is enough for them.
+-- Of the meaning: what sre_engine makes public rests on it.
+use Rattle.std.specs.Prelude.{ℕ, ◌+◌, ◌-◌, ◌*◌, ◌^◌, ◌/◌, ◌≡◌, ◌≤◌, false}
+use Rattle.sre_model.specs.Tree.{Tree}
+use Rattle.sre_model.specs.Found.{Asked}
+use Rattle.sre_model.specs.References.{refers}
+use Rattle.sre_model.specs.Regions.{has_region}
+use Rattle.sre_model.specs.Slots.{most_slots}
+use Rattle.sre_model.specs.TurnBounds.{most_each}
+
+-- for so many words of 64 bits there has to be room at each place of the code: two bits for each position and slot
+abbrev pub words_at_place : Asked → ℕ
+words_at_place a = 128 * (a.end + 1 - a.start) + 1
+
+-- the tree has neither regions nor references, its loops have few slots, and there is room for what failed at all of so
+-- many places
+pub record IsRemembered (places : ℕ) (t : Tree) (a : Asked) : Type 0 where
+  pub no_region : has_region t ≡ false
+  pub no_reference : refers t ≡ false
+  pub slots : most_slots t ≤ 4096
+  pub room : places * words_at_place a ≤ 2 ^ 30
+  pub order : a.start ≤ a.end
+
+-- how many turns come at most of an instruction that may branch before another one is gone on with
+abbrev pub turns_between : ℕ → Asked → ℕ
+turns_between places a = 2 * ((places + a.end + 4) * (2 * places + 8))
+
+-- how often one is gone on with at most: once for each step that the memory waits, and once for each bit, in each of
+-- the two parts of a search
+abbrev pub most_branches : ℕ → Asked → ℕ
+most_branches places a = 2 * (32 * (a.end - a.start + 2) + 64 * (places * words_at_place a))
+
+-- so many turns are enough for a search
+abbrev pub enough_turns : ℕ → Asked → ℕ
+enough_turns places a =
+    ((a.end + 1 - a.start) * (2 * places + 4) + most_branches places a * turns_between places a) * most_each a
