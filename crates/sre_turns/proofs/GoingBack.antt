@@ -1,21 +1,24 @@
 -- Turns that take the newest choice.
-use Rattle.std.proofs.Common.{◌≡◌, ℕ, ◌+◌, ◌-◌, ◌≤◌, List, [], ◌∷◌, refl, sym, ap, ◌∙◌, subst, arith}
+use Rattle.std.proofs.Common.{◌≡◌, ℕ, ◌+◌, ◌≤◌, List, [], ◌∷◌, refl, sym, ap, ◌∙◌, subst, arith}
 use Rattle.sre_chars.specs.declared.string.StringCursor.{StringCursor}
 use Rattle.sre_model.specs.Ways.{Way}
-use Rattle.sre_turns.specs.Board.{Else, Keep, choice, BoardValue}
+use Rattle.sre_turns.specs.Board.{Else, Keep, choice, from_region, BoardValue}
 use Rattle.sre_turns.specs.declared.Region.{Region}
-use Rattle.sre_turns.specs.declared.Point.TheVariants.{Inside}
+use Rattle.sre_turns.specs.declared.Point.TheVariants.{Instruction, Again, Inside}
 use Rattle.sre_turns.specs.declared.Point.{Point}
-use Rattle.sre_turns.specs.Machine.{Waits, outermost, otherwise, Goes, Arrives, Backs, Stands, Later, without_outcome}
+use Rattle.sre_turns.specs.Limits.{Limit, earlier, Wider, Fares}
+use Rattle.sre_turns.specs.Machine.{spot, Waits, outermost, otherwise, Goes, Arrives, Backs, Stands, Later}
+use Rattle.sre_turns.specs.Machine.{without_outcome}
 use Rattle.sre_model.specs.Runs.{Run}
 use Rattle.sre_turns.specs.Machine.{without_loop}
 use Rattle.sre_turns.specs.declared.Next.{Next}
 use Rattle.sre_turns.specs.declared.Next.TheVariants as next
 use Rattle.sre_turns.proofs.Moving.{sooner, arrived}
 use Rattle.sre_turns.proofs.StepsInRegions.{region_back}
+use Rattle.sre_turns.proofs.Faring.{FreeOfToll, choice_taken, region_waits, fares_wider, fares_at_wider}
 
 -- a choice is resumed
-pub back_none : (r : Run) (b : BoardValue) → b.choices ≡ [] → (all : List Way) (limit : ℕ)
+pub back_none : (r : Run) (b : BoardValue) → b.choices ≡ [] → (all : List Way) (limit : Limit)
     → Backs r all limit b → all ≡ []
 back_none r b e all limit g = go (subst (λ x. Waits r x 0 [] all g.later) e g.waits)
   where
@@ -23,12 +26,12 @@ back_none r b e all limit g = go (subst (λ x. Waits r x 0 [] all g.later) e g.w
     go outermost = refl
 
 pub back_goes : (r : Run) (b b' : BoardValue) (pt : Point) (c : StringCursor)
-    → b.choices ≡ Else pt b'.frames c b'.marks ∷ b'.choices → (all : List Way) (limit : ℕ) → Backs r all limit b
-    → (1 ≤ limit) × Arrives r all (limit - 1) pt c b'
+    → b.choices ≡ Else pt b'.frames c b'.marks ∷ b'.choices → (all : List Way) (limit : Limit) → Backs r all limit b
+    → (1 ≤ limit.turns) × Arrives r all (earlier limit) pt c b'
 back_goes r b b' pt c e all limit g = go (subst (λ x. Waits r x 0 [] all g.later) e g.waits) g.within
   where
-    go : {xs : List Way} {k : ℕ} → Waits r (Else pt b'.frames c b'.marks ∷ b'.choices) 0 [] xs k → k ≤ limit
-        → (1 ≤ limit) × Arrives r xs (limit - 1) pt c b'
+    go : {xs : List Way} {k : ℕ} → Waits r (Else pt b'.frames c b'.marks ∷ b'.choices) 0 [] xs k → k ≤ limit.turns
+        → (1 ≤ limit.turns) × Arrives r xs (earlier limit) pt c b'
     go (otherwise {n = n} there placed x wt) l = (
       omega arith,
       record {
@@ -40,14 +43,16 @@ back_goes r b b' pt c e all limit g = go (subst (λ x. Waits r x 0 [] all g.late
         runs = x;
         waits = sooner (0 + n + 1) (n + 1) (omega arith) wt;
         within = omega arith;
+        fares = λ pl o w. choice_taken r pl limit pt b'.frames c b'.marks b'.choices
+            (subst (λ x. Fares r pl limit 0 x) e (g.fares pl));
       },
     )
 
 -- the same for a point that is known
 pub back_arrives : (r : Run) (b b' : BoardValue) (pt pt' : Point) (c : StringCursor)
     → b.choices ≡ choice pt b'.frames c b'.marks ∷ b'.choices → pt ≡ pt'
-    → choice pt' b'.frames c b'.marks ≡ Else pt' b'.frames c b'.marks → (all : List Way) (limit : ℕ)
-    → Backs r all limit b → (1 ≤ limit) × Arrives r all (limit - 1) pt' c b'
+    → choice pt' b'.frames c b'.marks ≡ Else pt' b'.frames c b'.marks → (all : List Way) (limit : Limit)
+    → Backs r all limit b → (1 ≤ limit.turns) × Arrives r all (earlier limit) pt' c b'
 back_arrives r b b' pt pt' c e same is all limit g =
     let found : b.choices ≡ choice pt' b'.frames c b'.marks ∷ b'.choices = e ∙ rw same refl in
     back_goes r b b' pt' c (found ∙ ap (λ x. x ∷ b'.choices) is) all limit g
@@ -55,59 +60,73 @@ back_arrives r b b' pt pt' c e same is all limit g =
 -- the same where the turn goes on
 pub back_at : (r : Run) (b b' : BoardValue) (pt pt' : Point) (c : StringCursor)
     → b.choices ≡ choice pt b'.frames c b'.marks ∷ b'.choices → pt ≡ pt'
-    → choice pt' b'.frames c b'.marks ≡ Else pt' b'.frames c b'.marks → (all : List Way) (limit : ℕ)
-    → Backs r all limit b → (1 ≤ limit) × Goes r all (limit - 1) pt' c b'
-back_at r b b' pt pt' c e same is all limit g =
-    let s = back_arrives r b b' pt pt' c e same is all limit g in (s.0, arrived s.1)
+    → choice pt' b'.frames c b'.marks ≡ Else pt' b'.frames c b'.marks → FreeOfToll pt'
+    → (all : List Way) (limit : Limit)
+    → Backs r all limit b → (1 ≤ limit.turns) × Goes r all (earlier limit) pt' c b'
+back_at r b b' pt pt' c e same is free all limit g =
+    let s = back_arrives r b b' pt pt' c e same is all limit g in (s.0, arrived free s.1)
 
 -- a region whose body has no outcome
 pub back_region : (r : Run) (b b' b'' : BoardValue) (pt : Point) (g : Region) (c : StringCursor) (n : Next)
     → b.choices ≡ choice pt b'.frames c b'.marks ∷ b'.choices → pt ≡ Inside g → n ≡ without_outcome g c
-    → b'' ≡ without_loop g b' → (all : List Way) (limit : ℕ) → Backs r all limit b → Later r all limit n b''
+    → b'' ≡ without_loop g b' → (all : List Way) (limit : Limit) → Backs r all limit b → Later r all limit n b''
 back_region r b b' b'' pt g c n e same is left all limit k =
     let found : b.choices ≡ Keep g b'.frames c b'.marks ∷ b'.choices = e ∙ rw same refl in
     let kept : Waits r (Keep g b'.frames c b'.marks ∷ b'.choices) 0 [] all k.later =
     subst (λ x. Waits r x 0 [] all k.later) found k.waits in
     let back : Later r all limit (without_outcome g c) (without_loop g b') =
-    region_back r c b' g all limit k.later kept k.within in
+    region_back r c b' (λ pl. region_waits r pl limit 0 b.choices (ap (λ x. from_region x) found) (k.fares pl)) g all
+    limit k.later kept k.within in
     subst (λ x. Later r all limit x b'') (sym is)
     (subst (λ y. Later r all limit (without_outcome g c) y) (sym left) back)
 
--- a state within a limit is one within a greater limit
-pub stands_wider : (r : Run) (all : List Way) (limit more : ℕ) (n : Next) (b : BoardValue) → limit ≤ more
+-- what is come to within a limit is come to within a wider one
+arrives_wider : (r : Run) (all : List Way) (limit more : Limit) (pt : Point) (c : StringCursor) (b : BoardValue)
+    → Wider limit more → Arrives r all limit pt c b → Arrives r all more pt c b
+arrives_wider r all limit more pt c b l g = record {
+  now = g.now;
+  turns = g.turns;
+  later = g.later;
+  stands = g.stands;
+  placed = g.placed;
+  runs = g.runs;
+  waits = g.waits;
+  within = omega (arith, g.within, l.turns);
+  fares = λ pl o w. fares_at_wider r pl limit more _ (spot pt c b) b.choices l (g.fares pl o w);
+}
+
+-- a state within a limit is one within a wider limit
+pub stands_wider : (r : Run) (all : List Way) (limit more : Limit) (n : Next) (b : BoardValue) → Wider limit more
     → Stands r all limit n b → Stands r all more n b
-stands_wider r all limit more (next.At i c) b l g = record {
-  now = g.now;
-  turns = g.turns;
+stands_wider r all limit more (next.At i c) b l g = arrives_wider r all limit more (Instruction i) c b l g
+stands_wider r all limit more (next.Again c) b l g = arrives_wider r all limit more Again c b l g
+stands_wider r all limit more next.Back b l g = record {
+  later = g.later;
+  waits = g.waits;
+  within = omega (arith, g.within, l.turns);
+  fares = λ pl. fares_wider r pl limit more 0 b.choices l (g.fares pl);
+}
+stands_wider r all limit more (next.Done c) b l g = record {
   later = g.later;
   stands = g.stands;
   placed = g.placed;
-  runs = g.runs;
   waits = g.waits;
-  within = omega (arith, g.within, l);
+  within = omega (arith, g.within, l.turns);
+  fares = λ pl. fares_wider r pl limit more 2 b.choices l (g.fares pl);
 }
-stands_wider r all limit more (next.Again c) b l g = record {
-  now = g.now;
-  turns = g.turns;
-  later = g.later;
-  stands = g.stands;
-  placed = g.placed;
-  runs = g.runs;
-  waits = g.waits;
-  within = omega (arith, g.within, l);
+
+pub earlier_wider : (limit : Limit) → Wider (earlier limit) limit
+earlier_wider limit = record {
+  turns = omega arith;
+  taken = omega arith;
+  granted = omega arith;
+  tolls = refl;
+  trying = refl;
+  start = refl;
 }
-stands_wider r all limit more next.Back b l g =
-    record { later = g.later; waits = g.waits; within = omega (arith, g.within, l) }
-stands_wider r all limit more (next.Done c) b l g =
-    record {
-      later = g.later;
-      stands = g.stands;
-      placed = g.placed;
-      waits = g.waits;
-      within = omega (arith, g.within, l);
-    }
 
 -- two turns are more than one
-pub later_again : (r : Run) (all : List Way) (limit : ℕ) (n : Next) (b : BoardValue) → 1 ≤ limit
-    → Later r all (limit - 1) n b → Later r all limit n b
-later_again r all limit n b l k = (l, stands_wider r all (limit - 1 - 1) (limit - 1) n b (omega arith) k.1)
+pub later_again : (r : Run) (all : List Way) (limit : Limit) (n : Next) (b : BoardValue) → 1 ≤ limit.turns
+    → Later r all (earlier limit) n b → Later r all limit n b
+later_again r all limit n b l k =
+    (l, stands_wider r all (earlier (earlier limit)) (earlier limit) n b (earlier_wider (earlier limit)) k.1)

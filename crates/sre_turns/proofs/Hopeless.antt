@@ -1,6 +1,6 @@
 -- A spot of which nothing came is hopeless, and the machine may go back at once from one that is alike.
 -- The memory of failures, which keeps hopeless spots, rests on these laws.
-use Rattle.std.proofs.Common.{◌≡◌, ℕ, ◌+◌, Bool, true, false, List, [], ◌∷◌, refl, sym, ◌∙◌, subst, arith}
+use Rattle.std.proofs.Common.{◌≡◌, ℕ, Bool, true, false, List, [], ◌∷◌, refl, sym, ◌∙◌, subst}
 use Rattle.std.specs.List.{filter}
 use Rattle.std.proofs.lemmas.Bool.{true≢false}
 use Rattle.sre_model.specs.Tree.{Tree}
@@ -10,16 +10,11 @@ use Rattle.sre_model.specs.Found.{Asked, is_accepted}
 use Rattle.sre_model.specs.Grammar.{WholeItems}
 use Rattle.sre_model.specs.Runs.{Run}
 use Rattle.sre_model.proofs.MarksApart.{SameStops}
-use Rattle.sre_chars.specs.declared.string.StringCursor.{StringCursor}
-use Rattle.sre_turns.specs.Board.{Choice, from_region, BoardValue}
+use Rattle.sre_turns.specs.Board.{Choice, from_region}
 use Rattle.sre_turns.specs.Moves.{Spot}
 use Rattle.sre_turns.specs.MovesAtReferences.{HasReference}
-use Rattle.sre_turns.specs.Machine.{Runs, Waits, Goes, Later, spot}
-use Rattle.sre_turns.specs.declared.Next.TheVariants as next
-use Rattle.sre_turns.specs.declared.Point.{Point}
-use Rattle.sre_turns.specs.Alike.{Alike}
+use Rattle.sre_turns.specs.Machine.{Runs, Waits}
 use Rattle.sre_turns.specs.Hopeless.{Fruitless, SameFruit, Hopeless, AcceptsByStop, is_inside}
-use Rattle.sre_turns.proofs.Moving.{some_turns, sooner}
 use Rattle.sre_turns.proofs.SameComes.{same_comes}
 use Rattle.sre_turns.proofs.Start.{refused_waits}
 
@@ -79,20 +74,6 @@ fruitless_waits r cs now {all} {u} {k} fruitless wt = go (from_region cs) refl f
         → Fruitless r (elim waiting [ [] ↦ false | (c ∷ rest) ↦ true ]) now → Waits r cs u [] all k
     go [] outside e = hopeless_waits r cs now outside e wt
     go (c ∷ rest) inside e = subst (λ os. Waits r cs u os all k) e wt
-
--- the machine goes back at once from where a spot that is alike is hopeless
-pub hopeless_back : (r : Run) (x : Spot) (pt : Point) (c : StringCursor) (b : BoardValue)
-    → Hopeless r (is_inside b.choices) x → Alike r.words x (spot pt c b) → (all : List Way) (limit : ℕ)
-    → Goes r all limit pt c b → Later r all limit next.Back b
-hopeless_back r x pt c b hopeless alike all limit g = (
-  omega (arith, some_turns g.runs, g.within),
-  record {
-    later = g.later;
-    waits = sooner (g.turns + 0) 0 (omega arith)
-        (fruitless_waits r b.choices g.now (hopeless.none (spot pt c b) g.now g.turns alike g.runs) g.waits);
-    within = omega (arith, some_turns g.runs, g.within);
-  },
-)
 
 -- what a spot that was tried came to is what is still to come of it: where that is nothing, it was fruitless
 pub tried_fruitless : (r : Run) (inside : Bool) (os : List Way) → SameFruit r inside os [] → Fruitless r inside os

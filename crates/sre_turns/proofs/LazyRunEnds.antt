@@ -20,6 +20,7 @@ use Rattle.sre_model.proofs.Words.{word_of, word_there, opcode_within}
 use Rattle.sre_turns.specs.Board.{Trying, BoardValue}
 use Rattle.sre_turns.specs.Fruit.{Fruitless, is_inside}
 use Rattle.sre_turns.specs.Hopeless.{Hopeless, AcceptsByStop}
+use Rattle.sre_turns.specs.Limits.{Limit}
 use Rattle.sre_turns.specs.Machine.{Moves, Runs, turns, Comes, stops, splits, Goes, Backs, Later}
 use Rattle.sre_turns.specs.Moves.{Spot, spot_at, Stop, Split}
 use Rattle.sre_turns.specs.MovesAtReferences.{HasReference}
@@ -29,6 +30,7 @@ use Rattle.sre_turns.specs.declared.Frame.{Frame}
 use Rattle.sre_turns.specs.declared.Next.TheVariants as next
 use Rattle.sre_turns.specs.declared.Point.TheVariants.{Instruction, Longer}
 use Rattle.sre_turns.proofs.Hopeless.{fruitless_waits}
+use Rattle.sre_turns.proofs.Faring.{nothing_left}
 use Rattle.sre_turns.proofs.Moving.{comes, in_role, at_instruction, run_nothing, some_turns, sooner}
 use Rattle.sre_turns.proofs.Trying.{CameToNothing, came_hopeless, tried_came, alike_itself}
 use Rattle.sre_turns.proofs.RunEnds.{passed, pass_first, pass_last, nothing_fruitless, fruitless_end}
@@ -243,7 +245,7 @@ module _ (r : Run) (i low v : ℕ) (fs : List Frame) (m : Marks) (w : Opcode r.w
 pub longer_left : (r : Run) (i low v : ℕ) → Opcode r.words i opcode.MIN_REPEAT_ONE → (there : HasTest r.words (i + 4))
     → Word r.words (i + 1) v → Word r.words (i + 2) low → Word r.words (i + 3) unlimited → (n : ℕ) (c : StringCursor)
     (b : BoardValue) (q : ℕ) → q + low ≡ c.position + 1 → AllPass r.subject there.test q c.position
-    → Hopeless r (is_inside b.choices) (spot_at (Instruction i) b.frames q b.marks) → (all : List Way) (limit : ℕ)
+    → Hopeless r (is_inside b.choices) (spot_at (Instruction i) b.frames q b.marks) → (all : List Way) (limit : Limit)
     → Goes r all limit (Longer i n) c b → Later r all limit next.Back b
 longer_left r i low v w there wv wl wh n c b q e all_pass hopeless all limit g = (
   omega (arith, some_turns g.runs, g.within),
@@ -254,6 +256,8 @@ longer_left r i low v w there wv wl wh n c b q e all_pass hopeless all limit g =
         (longer_nothing r i low v b.frames b.marks w there wv wl wh (is_inside b.choices) n c.position q g.now g.turns e
         all_pass hopeless g.runs) g.waits);
     within = omega (arith, some_turns g.runs, g.within);
+    fares = λ pl. nothing_left r pl limit b.choices (spot_at (Longer i n) b.frames c.position b.marks) g.runs
+        (g.fares pl);
   },
 )
 
@@ -261,7 +265,7 @@ longer_left r i low v w there wv wl wh n c b q e all_pass hopeless all limit g =
 pub tried_later_lazy : (r : Run) → AcceptsByStop r → (HasReference r.words → ⊥) → (i : ℕ)
     → Opcode r.words i opcode.MIN_REPEAT_ONE → (there : HasTest r.words (i + 4)) → Word r.words (i + 3) unlimited
     → (c : StringCursor) (b b' : BoardValue) → b.choices ≡ Trying i b'.frames c b'.marks ∷ b'.choices
-    → (all : List Way) (limit : ℕ) → Backs r all limit b → (d : ℕ)
+    → (all : List Way) (limit : Limit) → Backs r all limit b → (d : ℕ)
     → AllPass r.subject there.test c.position (c.position + d)
     → Hopeless r (is_inside b'.choices) (spot_at (Instruction i) b'.frames (c.position + d) b'.marks)
 tried_later_lazy r told none i w there wh c b b' e all limit g d all_pass =
@@ -277,7 +281,7 @@ tried_later_lazy r told none i w there wh c b b' e all limit g d all_pass =
 -- of either kind
 pub tried_later : (r : Run) → AcceptsByStop r → (HasReference r.words → ⊥) → (i : ℕ) (on : RunsOn r.words i)
     (c : StringCursor) (b b' : BoardValue) → b.choices ≡ Trying i b'.frames c b'.marks ∷ b'.choices
-    → (all : List Way) (limit : ℕ) → Backs r all limit b → (d : ℕ)
+    → (all : List Way) (limit : Limit) → Backs r all limit b → (d : ℕ)
     → AllPass r.subject on.test.test c.position (c.position + d)
     → Hopeless r (is_inside b'.choices) (spot_at (Instruction i) b'.frames (c.position + d) b'.marks)
 tried_later r told none i on c b b' e all limit g d all_pass = go on.code
@@ -290,7 +294,7 @@ tried_later r told none i on c b b' e all limit g d all_pass = go on.code
 -- the same, at any position to which all characters pass
 pub tried_later_at : (r : Run) → AcceptsByStop r → (HasReference r.words → ⊥) → (i : ℕ) (on : RunsOn r.words i)
     (c : StringCursor) (b b' : BoardValue) → b.choices ≡ Trying i b'.frames c b'.marks ∷ b'.choices
-    → (all : List Way) (limit : ℕ) → Backs r all limit b → (q : ℕ) → c.position ≤ q
+    → (all : List Way) (limit : Limit) → Backs r all limit b → (q : ℕ) → c.position ≤ q
     → AllPass r.subject on.test.test c.position q
     → Hopeless r (is_inside b'.choices) (spot_at (Instruction i) b'.frames q b'.marks)
 tried_later_at r told none i on c b b' e all limit g q l all_pass =

@@ -1,4 +1,7 @@
 pub mod Moving
+pub mod PotentialMoves
+pub mod SettledMoves
+pub mod Faring
 pub mod Placed
 pub mod StepsAtItems
 pub mod StepsInBranches

@@ -1,5 +1,5 @@
 -- A turn of the machine, whatever the opcode: what it comes to, and that the accepted outcomes stay.
-use Rattle.std.proofs.Common.{◌≡◌, ℕ, suc, ◌+◌, ◌-◌, ◌<◌, ◌≤◌, List, [], ◌∷◌, ◌++◌, length, refl, sym, ap, ◌∙◌, subst}
+use Rattle.std.proofs.Common.{◌≡◌, ℕ, suc, ◌+◌, ◌<◌, ◌≤◌, List, [], ◌∷◌, ◌++◌, length, refl, sym, ap, ◌∙◌, subst}
 use Rattle.std.proofs.Common.{arith, true}
 use Rattle.std.proofs.lemmas.List.{append-nil}
 use Rattle.sre_chars.specs.declared.constants.SreOpcode.{SreOpcode}
@@ -20,8 +20,14 @@ use Rattle.sre_turns.specs.MovesInRuns.{RunOperands, run_turn, RunMove, LongerMo
 use Rattle.sre_turns.specs.MovesInLoops.{UntilMove, AgainMove}
 use Rattle.sre_turns.specs.MovesInRegions.{LookMove}
 use Rattle.sre_turns.specs.MovesAtReferences.{ReferenceMove, ConditionMove}
+use Rattle.sre_turns.specs.Limits.{Limit, earlier, raised, pool, FaresAt}
+use Rattle.sre_turns.specs.Potential.{potential_of, branches}
+use Rattle.sre_turns.specs.Settled.{Regionless}
+use Rattle.sre_turns.proofs.Faring.{FreeOfToll, turn_leaves, fares_less, first_waits, first_alone, second_alone}
+use Rattle.sre_turns.proofs.Faring.{second_goes, nothing_left, run_code, with_tolls}
 use Rattle.sre_turns.specs.Machine.{Placed, InRole, Moves, MovesAt, Runs, turns, Comes, stops, ends, goes, splits}
-use Rattle.sre_turns.specs.Machine.{enters, Waits, outermost, otherwise, kept, tried, GoesWith, Goes, Arrives, GoesBoth, Later}
+use Rattle.sre_turns.specs.Machine.{enters, Waits, outermost, otherwise, kept, tried, Goes, Arrives, GoesBoth}
+use Rattle.sre_turns.specs.Machine.{Later}
 use Rattle.sre_model.specs.Runs.{Run}
 use Rattle.sre_turns.specs.Machine.{spot, HasRun, IsAt}
 use Rattle.sre_turns.specs.Machine.{Refuses, Skips, SkipsBoth, Exhausted, Continues}
@@ -256,10 +262,10 @@ sooner u v l (kept {pt = pt} {n = n} there placed d wt) =
     kept {pt = pt} there placed d (sooner (u + n) (v + n) (omega arith) wt)
 sooner u v l (tried there placed d most same wt) = tried there placed d (omega arith) same (sooner u v l wt)
 
--- what is come to is gone on with
-pub arrived : {r : Run} {all : List Way} {limit : ℕ} {pt : Point} {c : StringCursor} {b : BoardValue}
-    → Arrives r all limit pt c b → Goes r all limit pt c b
-arrived g = record {
+-- what is come to is gone on with, for nothing
+pub arrived : {r : Run} {all : List Way} {limit : Limit} {pt : Point} {c : StringCursor} {b : BoardValue}
+    → FreeOfToll pt → Arrives r all limit pt c b → Goes r all limit pt c b
+arrived {r} {all} {limit} {pt} {c} {b} free g = record {
   now = g.now;
   turns = g.turns;
   later = g.later;
@@ -268,25 +274,61 @@ arrived g = record {
   runs = g.runs;
   waits = sooner (g.turns + 1) (g.turns + 0) (omega arith) g.waits;
   within = g.within;
+  fares = λ pl o w.
+      let f = g.fares pl o w in
+      record {
+        here = f.here;
+        fares =
+            fares_less r pl limit b.choices (pool r.words r.subject.end o pt c.position) _
+            (omega (arith, free.same r.words r.subject.end c.position o)) f.fares;
+      };
+}
+
+-- an instruction is gone on with, for the tolls of its opcode
+pub arrived_at : {r : Run} {all : List Way} {limit : Limit} {i : ℕ} {c : StringCursor} {b : BoardValue} (o : SreOpcode)
+    → Opcode r.words i o → Arrives r all limit (Instruction i) c b
+    → Goes r all (raised (branches (role o)) limit) (Instruction i) c b
+arrived_at {r} {all} {limit} {i} {c} {b} o w g = record {
+  now = g.now;
+  turns = g.turns;
+  later = g.later;
+  stands = g.stands;
+  placed = g.placed;
+  runs = g.runs;
+  waits = sooner (g.turns + 1) (g.turns + 0) (omega arith) g.waits;
+  within = g.within;
+  fares = λ pl o' w'.
+      let x : Spot = spot (Instruction i) c b in
+      subst (λ q. FaresAt r pl (raised (branches (role q)) limit)
+      (pool r.words r.subject.end o' (Instruction i) c.position) x b.choices) (same_opcode r.words i o' o w' w)
+      (with_tolls r pl limit i x b.choices o' refl (g.fares pl o' w'));
 }
 
 -- what one turn keeps
 module _ (r : Run) (pt : Point) (c : StringCursor) (b : BoardValue) where
-  pub turn_stops : Moves r.words r.subject (spot pt c b) Stop → (all : List Way) (limit : ℕ) → Goes r all limit pt c b
+  pub turn_stops : Moves r.words r.subject (spot pt c b) Stop → (all : List Way) (limit : Limit)
+      → Goes r all limit pt c b
       → Later r all limit next.Back b
   turn_stops h all limit g = go (comes Stop h g.runs) g.waits g.within
     where
       go : {os : List Way} {n k : ℕ} → Comes r.words r.subject (spot pt c b) Stop os n
-          → Waits r b.choices (n + 0) os all k → n + k ≤ limit → Later r all limit next.Back b
-      go stops wt l =
-          (omega arith, record { later = _; waits = sooner (1 + 0) 0 (omega arith) wt; within = omega arith })
+          → Waits r b.choices (n + 0) os all k → n + k ≤ limit.turns → Later r all limit next.Back b
+      go stops wt l = (
+        omega arith,
+        record {
+          later = _;
+          waits = sooner (1 + 0) 0 (omega arith) wt;
+          within = omega arith;
+          fares = λ pl. turn_leaves r pl limit b.choices (spot pt c b) Stop h (g.fares pl);
+        },
+      )
 
-  pub turn_ends : Moves r.words r.subject (spot pt c b) End → (all : List Way) (limit : ℕ) → Goes r all limit pt c b
+  pub turn_ends : Moves r.words r.subject (spot pt c b) End → (all : List Way) (limit : Limit) → Goes r all limit pt c b
       → Later r all limit (next.Done c) b
   turn_ends h all limit g = go (comes End h g.runs) g.waits g.within
     where
       go : {os : List Way} {n k : ℕ} → Comes r.words r.subject (spot pt c b) End os n
-          → Waits r b.choices (n + 0) os all k → n + k ≤ limit → Later r all limit (next.Done c) b
+          → Waits r b.choices (n + 0) os all k → n + k ≤ limit.turns → Later r all limit (next.Done c) b
       go ends wt l = (
         omega arith,
         record {
@@ -295,17 +337,20 @@ module _ (r : Run) (pt : Point) (c : StringCursor) (b : BoardValue) where
           placed = g.placed;
           waits = sooner (2 + 0) 0 (omega arith) wt;
           within = omega arith;
+          fares = λ pl. turn_leaves r pl limit b.choices (spot pt c b) End h (g.fares pl);
         },
       )
 
   pub turn_goes : (pt' : Point) (c' : StringCursor) (b' : BoardValue)
       → Moves r.words r.subject (spot pt c b) (Go (spot pt' c' b')) → r.stands c' c'.position
       → Placed r.subject b'.marks → b'.choices ≡ b.choices
-      → (all : List Way) (limit : ℕ) → Goes r all limit pt c b → (1 ≤ limit) × Arrives r all (limit - 1) pt' c' b'
+      → (all : List Way) (limit : Limit) → Goes r all limit pt c b
+      → (1 ≤ limit.turns) × Arrives r all (earlier limit) pt' c' b'
   turn_goes pt' c' b' h there placed e all limit g = go (comes (Go (spot pt' c' b')) h g.runs) g.waits g.within
     where
       go : {os : List Way} {n k : ℕ} → Comes r.words r.subject (spot pt c b) (Go (spot pt' c' b')) os n
-          → Waits r b.choices (n + 0) os all k → n + k ≤ limit → (1 ≤ limit) × Arrives r all (limit - 1) pt' c' b'
+          → Waits r b.choices (n + 0) os all k → n + k ≤ limit.turns
+          → (1 ≤ limit.turns) × Arrives r all (earlier limit) pt' c' b'
       go {os} {n} {k} (goes {n = n'} d) wt l = (
         omega arith,
         record {
@@ -317,17 +362,21 @@ module _ (r : Run) (pt : Point) (c : StringCursor) (b : BoardValue) where
           runs = d;
           waits = subst (λ x. Waits r x (n' + 1) os all k) (sym e) (sooner (suc n' + 0) (n' + 1) (omega arith) wt);
           within = omega arith;
+          fares = λ pl o w.
+              subst (λ x. FaresAt r pl (earlier limit) (potential_of r.words r.subject.end (spot pt' c' b'))
+              (spot pt' c' b') x) (sym e)
+              (turn_leaves r pl limit b.choices (spot pt c b) (Go (spot pt' c' b')) h (g.fares pl));
         },
       )
 
   -- two spots come of it, at another cursor perhaps
   pub turn_splits : (y z : Spot) (c' : StringCursor) → Moves r.words r.subject (spot pt c b) (Split y z)
-      → r.stands c' c'.position → y.marks ≡ b.marks → z.marks ≡ b.marks → (all : List Way) (limit : ℕ)
+      → r.stands c' c'.position → y.marks ≡ b.marks → z.marks ≡ b.marks → (all : List Way) (limit : Limit)
       → Goes r all limit pt c b → GoesBoth r all limit y z c' b.choices
   turn_splits y z c' h there ey ez all limit g = go (comes (Split y z) h g.runs) g.waits g.within
     where
       go : {os : List Way} {n k : ℕ} → Comes r.words r.subject (spot pt c b) (Split y z) os n
-          → Waits r b.choices (n + 0) os all k → n + k ≤ limit → GoesBoth r all limit y z c' b.choices
+          → Waits r b.choices (n + 0) os all k → n + k ≤ limit.turns → GoesBoth r all limit y z c' b.choices
       go (splits {n₁ = n₁} {n₂ = n₂} d e) wt l = record {
         now = _;
         next = _;
@@ -341,13 +390,15 @@ module _ (r : Run) (pt : Point) (c : StringCursor) (b : BoardValue) where
         others = e;
         waits = sooner (suc (suc (n₁ + n₂)) + 0) (n₁ + n₂ + 2) (omega arith) wt;
         within = omega arith;
+        fares = λ pl. turn_leaves r pl limit b.choices (spot pt c b) (Split y z) h (g.fares pl);
       }
 
 -- of two spots, the first comes to nothing
-pub both_pass : (r : Run) (i : ℕ) (second : Point) (c : StringCursor) (b : BoardValue) → Refuses r i c.position
-    → (all : List Way) (limit : ℕ) → GoesBoth r all limit (spot (Instruction i) c b) (spot second c b) c b.choices
+pub both_pass : (r : Run) (i : ℕ) (second : Point) (c : StringCursor) (b : BoardValue) → FreeOfToll second
+    → Refuses r i c.position → (all : List Way) (limit : Limit)
+    → GoesBoth r all limit (spot (Instruction i) c b) (spot second c b) c b.choices
     → Goes r all limit second c b
-both_pass r i second c b no_ all limit g =
+both_pass r i second c b free no_ all limit g =
     record {
       now = g.next;
       turns = g.further;
@@ -359,11 +410,15 @@ both_pass r i second c b no_ all limit g =
           (subst (λ x. Waits r b.choices (g.turns + g.further + 2) (x ++ g.next) all g.later)
           (no_ b.frames b.marks g.now g.turns g.runs) g.waits);
       within = omega (arith, g.within);
+      fares = λ pl o w.
+          second_goes r pl limit (spot (Instruction i) c b) (spot second c b) b.choices (g.fares pl) o free;
     }
 
 pub both_skips : (r : Run) (pt : Point) (start : StringCursor) (i : ℕ) (second : Point) (c : StringCursor)
-    → Refuses r i c.position → SkipsBoth r pt start (Instruction i) second c → Skips r pt start second c
-both_skips r pt start i second c none s b all limit g = both_pass r i second c b none all limit (s.skips b all limit g)
+    → FreeOfToll second → Refuses r i c.position → SkipsBoth r pt start (Instruction i) second c
+    → Skips r pt start second c
+both_skips r pt start i second c free none s b all limit g =
+    both_pass r i second c b free none all limit (s.skips b all limit g)
 
 -- what a point comes to without a turn comes to two
 pub skips_then : (r : Run) (pt pt' first second : Point) (c c' c'' : StringCursor) → Skips r pt c pt' c'
@@ -373,7 +428,7 @@ skips_then r pt pt' first second c c' c'' skips s =
 
 -- the second waits on the board, and the machine goes on at the first
 pub both_wait : (r : Run) (i : ℕ) (z : Spot) (c : StringCursor) (b b' : BoardValue) (cs : List Choice)
-    → z.position ≡ c.position → b'.choices ≡ Else z.point z.frames c z.marks ∷ cs → (all : List Way) (limit : ℕ)
+    → z.position ≡ c.position → b'.choices ≡ Else z.point z.frames c z.marks ∷ cs → (all : List Way) (limit : Limit)
     → GoesBoth r all limit (spot (Instruction i) c b') z c cs → Later r all limit (next.At i c) b'
 both_wait r i z c b b' cs same_place eb all limit g =
     let others : Runs r.words r.subject (spot_at z.point z.frames c.position z.marks) g.next g.further =
@@ -391,11 +446,15 @@ both_wait r i z c b b' cs same_place eb all limit g =
             (otherwise g.stands g.others_placed others
             (sooner (g.turns + g.further + 2) (g.turns + 1 + g.further + 1) (omega arith) g.waits));
         within = omega (arith, g.within);
+        fares = λ pl o w.
+            let x : Spot = spot (Instruction i) c b' in
+            subst (λ xs. FaresAt r pl (earlier limit) (potential_of r.words r.subject.end x) x xs) (sym eb)
+            (first_waits r pl limit x z cs (g.fares pl) c same_place);
       },
     )
 
 both_other : (r : Run) (i : ℕ) (second : Point) (c : StringCursor) (b b' : BoardValue)
-    → b' ≡ record b { choices = Else second b.frames c b.marks ∷ b.choices } → (all : List Way) (limit : ℕ)
+    → b' ≡ record b { choices = Else second b.frames c b.marks ∷ b.choices } → (all : List Way) (limit : Limit)
     → GoesBoth r all limit (spot (Instruction i) c b) (spot second c b) c b.choices → Later r all limit (next.At i c) b'
 both_other r i second c b b' eb all limit g =
     let waiting : BoardValue = record b { choices = Else second b.frames c b.marks ∷ b.choices } in
@@ -404,7 +463,7 @@ both_other r i second c b b' eb all limit g =
 
 -- the second is any point; nobody stands inside a region
 pub both_choose : (r : Run) (i : ℕ) (second : Point) (c : StringCursor) (b b' : BoardValue)
-    → b' ≡ record b { choices = choice second b.frames c b.marks ∷ b.choices } → (all : List Way) (limit : ℕ)
+    → b' ≡ record b { choices = choice second b.frames c b.marks ∷ b.choices } → (all : List Way) (limit : Limit)
     → GoesBoth r all limit (spot (Instruction i) c b) (spot second c b) c b.choices → Later r all limit (next.At i c) b'
 both_choose r i (Inside h) c b b' eb all limit g = absurd (nowhere g.others)
   where
@@ -426,7 +485,7 @@ Barren r x = (os : List Way) (n : ℕ) → Runs r.words r.subject x os n → os 
 
 -- nothing comes of the first of two spots, or of the second: the machine goes on at the other
 pub both_second : (r : Run) (y : Spot) (i : ℕ) (c : StringCursor) (b : BoardValue) (cs : List Choice) → Barren r y
-    → b.choices ≡ cs → (all : List Way) (limit : ℕ) → GoesBoth r all limit y (spot (Instruction i) c b) c cs
+    → b.choices ≡ cs → (all : List Way) (limit : Limit) → GoesBoth r all limit y (spot (Instruction i) c b) c cs
     → Later r all limit (next.At i c) b
 both_second r y i c b cs none e all limit g =
     let same : g.now ++ g.next ≡ g.next = ap (λ x. x ++ g.next) (none g.now g.turns g.runs) in (
@@ -442,11 +501,15 @@ both_second r y i c b cs none e all limit g =
             (subst (λ x. Waits r x (g.turns + g.further + 2) g.next all g.later) (sym e)
             (subst (λ x. Waits r cs (g.turns + g.further + 2) x all g.later) same g.waits));
         within = omega (arith, g.within);
+        fares = λ pl o w.
+            let x : Spot = spot (Instruction i) c b in
+            subst (λ xs. FaresAt r pl (earlier limit) (potential_of r.words r.subject.end x) x xs) (sym e)
+            (second_alone r pl limit y x cs (g.fares pl));
       },
     )
 
 pub both_first : (r : Run) (z : Spot) (i : ℕ) (c : StringCursor) (b : BoardValue) (cs : List Choice) → Barren r z
-    → b.choices ≡ cs → (all : List Way) (limit : ℕ) → GoesBoth r all limit (spot (Instruction i) c b) z c cs
+    → b.choices ≡ cs → (all : List Way) (limit : Limit) → GoesBoth r all limit (spot (Instruction i) c b) z c cs
     → Later r all limit (next.At i c) b
 both_first r z i c b cs none e all limit g =
     let same : g.now ++ g.next ≡ g.now = ap (λ x. g.now ++ x) (none g.next g.further g.others) ∙ append-nil g.now in (
@@ -462,12 +525,16 @@ both_first r z i c b cs none e all limit g =
             (subst (λ x. Waits r x (g.turns + g.further + 2) g.now all g.later) (sym e)
             (subst (λ x. Waits r cs (g.turns + g.further + 2) x all g.later) same g.waits));
         within = omega (arith, g.within);
+        fares = λ pl o w.
+            let x : Spot = spot (Instruction i) c b in
+            subst (λ xs. FaresAt r pl (earlier limit) (potential_of r.words r.subject.end x) x xs) (sym e)
+            (first_alone r pl limit x z cs (g.fares pl));
       },
     )
 
 -- where the second can make no turn but the last
 pub both_last : (r : Run) (i : ℕ) (z : Spot) (c : StringCursor) (b : BoardValue) → Moves r.words r.subject z Stop
-    → (all : List Way) (limit : ℕ) → GoesBoth r all limit (spot (Instruction i) c b) z c b.choices
+    → (all : List Way) (limit : Limit) → GoesBoth r all limit (spot (Instruction i) c b) z c b.choices
     → Later r all limit (next.At i c) b
 both_last r i z c b none = both_first r z i c b b.choices (λ os n x. run_nothing none x) refl
 
@@ -497,7 +564,7 @@ run_second {ws} {s} {x} y z h none d = go (comes (Split y z) h d)
 
 -- nothing comes of a point: the machine goes back
 pub exhausted_back : (r : Run) (pt : Point) (c : StringCursor) (b : BoardValue) → Exhausted r pt c.position
-    → (all : List Way) (limit : ℕ) → Goes r all limit pt c b → Later r all limit next.Back b
+    → (all : List Way) (limit : Limit) → Goes r all limit pt c b → Later r all limit next.Back b
 exhausted_back r pt c b none all limit g = (
   omega (arith, some_turns g.runs, g.within),
   record {
@@ -506,13 +573,21 @@ exhausted_back r pt c b none all limit g = (
         (subst (λ x. Waits r b.choices (g.turns + 0) x all g.later) (none b.frames b.marks g.now g.turns g.runs)
         g.waits);
     within = omega (arith, some_turns g.runs, g.within);
+    fares = λ pl. nothing_left r pl limit b.choices (spot pt c b) g.runs (g.fares pl);
   },
 )
 
 module _ (r : Run) (pt pt' : Point) (c c' : StringCursor) (on : Continues r pt c pt' c') where
-  continues_with : (spare : ℕ) (b : BoardValue) (all : List Way) (limit : ℕ) → GoesWith spare r all limit pt c b
-      → GoesWith spare r all limit pt' c' b
-  continues_with spare b all limit g =
+  continues_fares : (pl : Regionless r) (limit : Limit) (b : BoardValue) (n k : ℕ)
+      → potential_of r.words r.subject.end (spot pt c b) ≤ n → k ≤ potential_of r.words r.subject.end (spot pt' c' b)
+      → FaresAt r pl limit n (spot pt c b) b.choices → FaresAt r pl limit k (spot pt' c' b) b.choices
+  continues_fares pl limit b n k l m f =
+      let x = on.fares pl limit.start b.frames b.marks f.here in
+      record { here = x.0; fares = fares_less r pl limit b.choices k n (omega (arith, l, m, x.1)) f.fares }
+
+  pub continues_goes : FreeOfToll pt → FreeOfToll pt' → (b : BoardValue) (all : List Way) (limit : Limit)
+      → Goes r all limit pt c b → Goes r all limit pt' c' b
+  continues_goes free free' b all limit g =
       let x = on.runs b.frames b.marks g.now g.turns g.runs in
       record {
         now = g.now;
@@ -521,17 +596,31 @@ module _ (r : Run) (pt pt' : Point) (c c' : StringCursor) (on : Continues r pt c
         stands = on.stands;
         placed = g.placed;
         runs = x.2;
-        waits = sooner (g.turns + spare) (x.0 + spare) (omega (arith, x.1)) g.waits;
+        waits = sooner (g.turns + 0) (x.0 + 0) (omega (arith, x.1)) g.waits;
         within = omega (arith, g.within, x.1);
+        fares = λ pl o w.
+            let old = run_code r (spot pt c b) g.runs in
+            continues_fares pl limit b _ _ (omega (arith, free.same r.words r.subject.end c.position old.0))
+            (omega (arith, free'.same r.words r.subject.end c'.position o)) (g.fares pl old.0 old.1);
       }
 
-  pub continues_goes : (b : BoardValue) (all : List Way) (limit : ℕ) → Goes r all limit pt c b
-      → Goes r all limit pt' c' b
-  continues_goes b all limit g = continues_with 0 b all limit g
-
-  pub continues_arrives : (b : BoardValue) (all : List Way) (limit : ℕ) → Arrives r all limit pt c b
+  pub continues_arrives : (b : BoardValue) (all : List Way) (limit : Limit) → Arrives r all limit pt c b
       → Arrives r all limit pt' c' b
-  continues_arrives b all limit g = continues_with 1 b all limit g
+  continues_arrives b all limit g =
+      let x = on.runs b.frames b.marks g.now g.turns g.runs in
+      record {
+        now = g.now;
+        turns = x.0;
+        later = g.later;
+        stands = on.stands;
+        placed = g.placed;
+        runs = x.2;
+        waits = sooner (g.turns + 1) (x.0 + 1) (omega (arith, x.1)) g.waits;
+        within = omega (arith, g.within, x.1);
+        fares = λ pl o w.
+            let old = run_code r (spot pt c b) g.runs in
+            continues_fares pl limit b _ _ (omega arith) (omega arith) (g.fares pl old.0 old.1);
+      }
 
   pub continues_run : HasRun r pt c → HasRun r pt' c'
   continues_run h =
@@ -548,18 +637,21 @@ module _ (r : Run) (pt pt' : Point) (c c' : StringCursor) (on : Continues r pt c
         runs = λ fs m os n d.
             let x = on.runs fs m os n d in
             let y = then.runs fs m os x.0 x.2 in (y.0, omega (arith, x.1, y.1), y.2);
+        fares = λ pl start fs m h.
+            let x = on.fares pl start fs m h in
+            let y = then.fares pl start fs m x.0 in (y.0, omega (arith, x.1, y.1));
       }
 
 -- the machine goes on at an instruction: at where that continues
 pub later_continues : (r : Run) (i j : ℕ) (c c' : StringCursor) (b : BoardValue)
-    → Continues r (Instruction i) c (Instruction j) c' → (all : List Way) (limit : ℕ)
+    → Continues r (Instruction i) c (Instruction j) c' → (all : List Way) (limit : Limit)
     → Later r all limit (next.At i c) b → Later r all limit (next.At j c') b
 later_continues r i j c c' b on all limit l =
-    (l.0, continues_arrives r (Instruction i) (Instruction j) c c' on b all (limit - 1) l.1)
+    (l.0, continues_arrives r (Instruction i) (Instruction j) c c' on b all (earlier limit) l.1)
 
 -- the second of two points continues at another point, or nothing comes of it
 pub both_continue : (r : Run) (y : Spot) (pt pt' : Point) (c : StringCursor) (b : BoardValue)
-    → Continues r pt c pt' c → (all : List Way) (limit : ℕ) → GoesBoth r all limit y (spot pt c b) c b.choices
+    → Continues r pt c pt' c → (all : List Way) (limit : Limit) → GoesBoth r all limit y (spot pt c b) c b.choices
     → GoesBoth r all limit y (spot pt' c b) c b.choices
 both_continue r y pt pt' c b on all limit g =
     let x = on.runs b.frames b.marks g.next g.further g.others in
@@ -576,10 +668,18 @@ both_continue r y pt pt' c b on all limit g =
       others = x.2;
       waits = sooner (g.turns + g.further + 2) (g.turns + x.0 + 2) (omega (arith, x.1)) g.waits;
       within = omega (arith, g.within, x.1);
+      fares = λ pl.
+          let f = g.fares pl in
+          let z = on.fares pl limit.start b.frames b.marks f.second in
+          record {
+            first = f.first;
+            second = z.0;
+            fares = fares_less r pl limit b.choices _ _ (omega (arith, z.1)) f.fares;
+          };
     }
 
 pub both_exhausted : (r : Run) (i : ℕ) (pt : Point) (c : StringCursor) (b : BoardValue) → Exhausted r pt c.position
-    → (all : List Way) (limit : ℕ) → GoesBoth r all limit (spot (Instruction i) c b) (spot pt c b) c b.choices
+    → (all : List Way) (limit : Limit) → GoesBoth r all limit (spot (Instruction i) c b) (spot pt c b) c b.choices
     → Later r all limit (next.At i c) b
 both_exhausted r i pt c b none =
     both_first r (spot pt c b) i c b b.choices (λ os n d. none b.frames b.marks os n d) refl
@@ -589,7 +689,7 @@ pub turn_enters : (r : Run) (pt : Point) (fs : List Frame) (j : ℕ) (g : Region
     (b b' : BoardValue)
     → Moves r.words r.subject (spot pt c b) (Enter g (spot_at pt fs c.position b.marks) (spot (Instruction j) c' b'))
     → r.stands c' c'.position → b'.choices ≡ Keep g fs c b.marks ∷ b.choices → b'.marks ≡ b.marks
-    → (all : List Way) (limit : ℕ) → Goes r all limit pt c b → Later r all limit (next.At j c') b'
+    → (all : List Way) (limit : Limit) → Goes r all limit pt c b → Later r all limit (next.At j c') b'
 turn_enters r pt fs j g c c' b b' h there e em all limit st = go (comes (Enter g y z) h st.runs) st.waits st.within
   where
     y : Spot
@@ -599,7 +699,7 @@ turn_enters r pt fs j g c c' b b' h there e em all limit st = go (comes (Enter g
     z = spot (Instruction j) c' b'
 
     go : {os : List Way} {n k : ℕ} → Comes r.words r.subject (spot pt c b) (Enter g y z) os n
-        → Waits r b.choices (n + 0) os all k → n + k ≤ limit → Later r all limit (next.At j c') b'
+        → Waits r b.choices (n + 0) os all k → n + k ≤ limit.turns → Later r all limit (next.At j c') b'
     go {os} {n} {k} (enters {now = now} {n₁ = n₁} {n₂ = n₂} d f) wt l =
         let behind : Waits r (Keep g fs c b.marks ∷ b.choices) (n₁ + 1) now all (n₂ + k) =
         kept {pt = pt} st.stands st.placed f (sooner (suc (n₁ + n₂) + 0) (n₁ + 1 + n₂) (omega arith) wt) in
@@ -615,6 +715,8 @@ turn_enters r pt fs j g c c' b b' h there e em all limit st = go (comes (Enter g
             runs = d;
             waits = later;
             within = omega arith;
+            fares = λ pl o w.
+                absurd (turn_leaves r pl limit b.choices (spot pt c b) (Enter g y z) h (st.fares pl));
           },
         )
 

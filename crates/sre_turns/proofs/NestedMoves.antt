@@ -1,5 +1,5 @@
 -- Each turn of a spot that lies in the words of a tree leads to spots that lie there.
--- Nothing goes by this yet: the law that a search takes polynomially many turns will.
+-- The law that a search takes few turns (`enough` of sre_engine) rests on this.
 use Rattle.std.proofs.Common.{◌≡◌, ℕ, ◌+◌, ◌-◌, inl, inr, Bool, true, false, cond, ◌&&◌, ◌||◌, nat_lt, nat_eq}
 use Rattle.std.proofs.Common.{nat_le, List, [], ◌∷◌, length, drop, Option, Some, None, refl, sym, ap, ◌∙◌, subst}
 use Rattle.sre_chars.specs.declared.constants.SreOpcode.{SreOpcode}

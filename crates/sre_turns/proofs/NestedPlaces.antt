@@ -1,5 +1,5 @@
 -- At one place of the words of a tree the same loops are in progress, always.
--- Nothing goes by this yet: the law that a search takes polynomially many turns will.
+-- The law that a search takes few turns (`enough` of sre_engine) rests on this.
 use Rattle.std.proofs.Common.{◌≡◌, ℕ, ◌+◌, ◌-◌, ◌<◌, ◌≤◌, inl, inr, List, [], ◌∷◌, length, sym, ◌∙◌, subst, arith}
 use Rattle.sre_model.specs.Tree.{Tree, Empty, Then, Item, Fail, One, At, Mark, Branch, Loop, Run, PossessiveLoop}
 use Rattle.sre_model.specs.Tree.{Atomic, Look, Reference, Exists, ExistsElse, Trees, Only, Or}

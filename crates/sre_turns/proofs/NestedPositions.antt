@@ -1,5 +1,5 @@
 -- Each turn leads to spots that stand no earlier than the last bodies of their loops began.
--- Nothing goes by this yet: the law that a search takes polynomially many turns will.
+-- The law that a search takes few turns (`enough` of sre_engine) rests on this.
 use Rattle.std.proofs.Common.{◌≡◌, ℕ, ◌+◌, ◌-◌, ◌≤◌, ◌&&◌, ◌||◌, Bool, true, false, cond, nat_eq, nat_lt, nat_le}
 use Rattle.std.proofs.Common.{List, [], ◌∷◌, Option, Some, None, drop, refl, sym, subst, arith}
 use Rattle.std.proofs.lemmas.Bool.Decides.{nat_tests}

@@ -1,5 +1,5 @@
 -- A run begins at a spot that lies in the words of its tree, also behind leading literals.
--- Nothing goes by this yet: the law that a search takes polynomially many turns will.
+-- The law that a search takes few turns (`enough` of sre_engine) rests on this.
 use Rattle.std.proofs.Common.{◌≡◌, ℕ, zero, suc, ◌*◌, ◌-◌, ◌≤◌, inr, List, [], length, refl, subst, arith}
 use Rattle.sre_model.specs.Tree.{Tree, Empty, Then}
 use Rattle.sre_model.specs.Marks.{Marks}

@@ -1,5 +1,5 @@
 -- No turn leaves the window.
--- Nothing goes by this yet: the law that a search takes polynomially many turns will.
+-- The law that a search takes few turns (`enough` of sre_engine) rests on this.
 use Rattle.std.proofs.Common.{◌≡◌, ℕ, ◌+◌, ◌-◌, ◌<◌, ◌≤◌, ◌&&◌, ◌||◌, Bool, true, false, cond, nat_eq, nat_lt, nat_le}
 use Rattle.std.proofs.Common.{List, [], ◌∷◌, Option, Some, None, refl, sym, subst, arith}
 use Rattle.std.specs.Bool.{⊤}
@@ -28,9 +28,8 @@ use Rattle.sre_turns.specs.MovesAtReferences.{reference_turn}
 use Rattle.sre_turns.specs.Machine.{InRole, MovesAt, Moves, Runs, turns, Comes, stops, ends, goes, splits, enters}
 use Rattle.sre_turns.specs.Nested.{Onto, Leads, InWindow}
 use Rattle.sre_model.proofs.Each.{each-append}
-use Rattle.sre_model.proofs.Bounds.{longest_run-fits}
 use Rattle.sre_model.proofs.Longest.{run_passes}
-use Rattle.sre_turns.proofs.RanAtItems.{passes-below}
+use Rattle.sre_model.proofs.Bounds.{longest_run-fits, passes-below}
 
 module _ (s : Subject) where
   -- each spot of a turn stands in the window

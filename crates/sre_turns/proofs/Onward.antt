@@ -151,7 +151,7 @@ shorter-onward p t k fs m a h = subst (λ move. Onward (p - k) move) (sym h.is) 
     go false y =
         let some : 1 ≤ k = grind (arith, nat_tests) in (omega arith, omega arith)
 
-point-onward : (ws : List ℕ) (s : Subject) (pt : Point) (fs : List Frame) (p : ℕ) (m : Marks) (a : Move)
+pub point-onward : (ws : List ℕ) (s : Subject) (pt : Point) (fs : List Frame) (p : ℕ) (m : Marks) (a : Move)
     → MovesAt ws s pt (spot_at pt fs p m) a → Onward (least_from pt p) a
 point-onward ws s (Instruction i) fs p m a h = role-onward ws s i p fs m (role h.0) a h.2
 point-onward ws s (Alternatives q) fs p m a h =
@@ -165,7 +165,7 @@ point-onward ws s (Inside g) fs p m a h = absurd h
 point-onward ws s Again fs p m a h = again-onward ws p fs m a h
 point-onward ws s (Tried i) fs p m a h = absurd h
 
-onward-less : (p q : ℕ) (a : Move) → p ≤ q → Onward q a → Onward p a
+pub onward-less : (p q : ℕ) (a : Move) → p ≤ q → Onward q a → Onward p a
 onward-less p q Stop l h = tt
 onward-less p q End l h = tt
 onward-less p q (Go x) l h = omega (arith, l, h)

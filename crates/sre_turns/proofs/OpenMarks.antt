@@ -1,6 +1,6 @@
 -- No spot is come to that is alike to one whose mark waits in the innermost region: alike spots take as many turns, and
--- the spot that is come to has fewer to come than the one that is tried. The bound on turns, which is still to be
--- stated, will rest on this.
+-- the spot that is come to has fewer to come than the one that is tried. The law that a search takes few turns rests on
+-- this.
 use Rattle.std.proofs.Common.{ℕ, ◌+◌, ◌≤◌, List, [], ◌∷◌, arith}
 use Rattle.sre_chars.specs.declared.string.StringCursor.{StringCursor}
 use Rattle.sre_model.specs.Ways.{Way}
@@ -10,8 +10,12 @@ use Rattle.sre_turns.specs.Moves.{Spot}
 use Rattle.sre_turns.specs.MovesAtReferences.{HasReference}
 use Rattle.sre_turns.specs.declared.Point.TheVariants.{Instruction}
 use Rattle.sre_turns.specs.declared.Point.{Point}
-use Rattle.sre_turns.specs.Machine.{Runs, Waits, outermost, otherwise, kept, tried, Arrives, Stands, spot}
+use Rattle.sre_turns.specs.Limits.{Limit}
+use Rattle.sre_turns.specs.Machine.{Runs, Waits, otherwise, tried, Arrives, Stands, spot}
 use Rattle.sre_turns.specs.declared.Next.TheVariants as next
+use Rattle.std.specs.List.{AllByRecursion}
+use Rattle.sre_turns.specs.Alike.{Alike}
+use Rattle.sre_turns.specs.Limits.{EachChoice, tried_spots}
 use Rattle.sre_turns.specs.OpenMarks.{NoneOpen}
 use Rattle.sre_turns.proofs.SameComes.{same_comes}
 
@@ -28,12 +32,22 @@ apart r none x os n d (Trying j fs c m ∷ cs) l (tried there placed e most same
 )
 apart r none x os n d (Keep g fs c m ∷ cs) l wt = tt
 
-pub none_open : (r : Run) → (HasReference r.words → ⊥) → (all : List Way) (limit : ℕ) (pt : Point) (c : StringCursor)
+pub none_open : (r : Run) → (HasReference r.words → ⊥)
+    → (all : List Way) (limit : Limit) (pt : Point) (c : StringCursor)
     (b : BoardValue) → Arrives r all limit pt c b → NoneOpen r.words (spot pt c b) b.choices
 none_open r none all limit pt c b g = apart r none (spot pt c b) g.now g.turns g.runs b.choices (omega arith) g.waits
 
 -- so none is alike to an instruction at which the machine stands
-pub none_alike_open : (r : Run) → (HasReference r.words → ⊥) → (all : List Way) (limit i : ℕ) (c : StringCursor)
+pub none_alike_open : (r : Run) → (HasReference r.words → ⊥)
+    → (all : List Way) (limit : Limit) (i : ℕ) (c : StringCursor)
     (b : BoardValue) → Stands r all limit (next.At i c) b
     → NoneOpen r.words (spot (Instruction i) c b) b.choices
 none_alike_open r none all limit i c b g = none_open r none all limit (Instruction i) c b g
+
+-- so none of the spots that are tried is alike, where no region is in progress
+pub none_tried : (ws : List ℕ) (P : Spot → Type 0) (x : Spot) (cs : List Choice) → EachChoice P cs → NoneOpen ws x cs
+    → AllByRecursion (λ (y : Spot). Alike ws y x → ⊥) (tried_spots cs)
+none_tried ws P x [] h n = tt
+none_tried ws P x (Else pt fs c m ∷ cs) h n = none_tried ws P x cs h.1 n
+none_tried ws P x (Keep g fs c m ∷ cs) h n = absurd h
+none_tried ws P x (Trying i fs c m ∷ cs) h n = (n.0, none_tried ws P x cs h.1 n.1)

@@ -12,6 +12,7 @@ use Rattle.sre_model.specs.Subject.{Subject, passes, holds_at}
 use Rattle.sre_model.specs.Ways.{Way, Body, here, item_ways}
 use Rattle.sre_model.specs.Grammar.{Word, Opcode, skip, JumpsTo}
 use Rattle.sre_model.specs.Grammar.{test_opcode, TestOperands}
+use Rattle.sre_model.proofs.Bounds.{passes-below}
 use Rattle.sre_turns.specs.declared.Frame.{Frame}
 use Rattle.sre_turns.specs.declared.Point.TheVariants.{Instruction, Alternatives}
 use Rattle.sre_model.specs.Standing.{TestStands}
@@ -23,9 +24,6 @@ use Rattle.sre_turns.proofs.Moving.{at_instruction}
 use Rattle.sre_model.proofs.Words.{word_past}
 use Rattle.sre_model.specs.Cost.{Costs, item_cost}
 use Rattle.sre_turns.proofs.Outcomes.{followed, Ran, moved, alone}
-
-pub passes-below : (s : Subject) (t : Test) (p : ℕ) → passes s t p ≡ true → p < s.end
-passes-below s t p h = grind (arith, nat_tests)
 
 pub one-ran : (ws : List ℕ) (s : Subject) (i j : ℕ) (t : Test) → Opcode ws i (test_opcode t) → TestOperands ws i j t
     → Ran ws s (Instruction i) j (λ p m. item_ways s (One t) p m) (λ C p m. item_cost s (One t) C p m)

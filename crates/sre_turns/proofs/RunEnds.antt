@@ -10,17 +10,23 @@ use Rattle.sre_chars.specs.declared.string.StringCursor.{StringCursor}
 use Rattle.sre_model.specs.Tree.{Test, GreedyRun}
 use Rattle.sre_model.specs.Marks.{Marks}
 use Rattle.sre_model.specs.Subject.{Subject, passes}
-use Rattle.sre_model.specs.Ways.{Way, unlimited, run_length, longest_run}
+use Rattle.sre_model.specs.Ways.{Way, unlimited, run_length, longest_run, most_from}
 use Rattle.sre_model.specs.Grammar.{Word, word, Opcode, test_opcode}
 use Rattle.sre_model.specs.Roles.{ToRun}
 use Rattle.sre_model.specs.Runs.{Run}
 use Rattle.sre_model.specs.Standing.{HasTest}
 use Rattle.sre_model.proofs.Bounds.{passes-below}
-use Rattle.sre_model.proofs.Longest.{run_passes, run_stopped, run_at_most, run_has}
+use Rattle.sre_model.proofs.Longest.{run_passes, run_stopped, run_at_most, run_has, run_inside}
 use Rattle.sre_model.proofs.Words.{word_of, word_there, opcode_within}
 use Rattle.sre_turns.specs.Board.{Choice, Trying, from_region, BoardValue}
 use Rattle.sre_turns.specs.Fruit.{Fruitless, is_inside}
 use Rattle.sre_turns.specs.Hopeless.{Hopeless, AcceptsByStop}
+use Rattle.sre_turns.specs.Limits.{Limit, earlier, pool, FaresAt}
+use Rattle.sre_turns.specs.Potential.{potential}
+use Rattle.sre_turns.specs.Settled.{Regionless, SettledIn}
+use Rattle.sre_turns.proofs.Faring.{fares_earlier}
+use Rattle.sre_turns.proofs.PotentialMoves.{toll_pays}
+use Rattle.sre_turns.proofs.SettledMoves.{settled_moves}
 use Rattle.sre_turns.specs.Machine.{Moves, Runs, turns, Comes, stops, splits, Waits, Goes, Backs, HasRun}
 use Rattle.sre_turns.specs.Moves.{Spot, spot_at, Stop, Split}
 use Rattle.sre_turns.specs.MovesAtReferences.{HasReference}
@@ -325,7 +331,7 @@ module _ (r : Run) (i low v : ℕ) (fs : List Frame) (m : Marks) (w : Opcode r.w
 pub tried_later_greedy : (r : Run) → AcceptsByStop r → (HasReference r.words → ⊥) → (i : ℕ)
     → Opcode r.words i opcode.REPEAT_ONE → (there : HasTest r.words (i + 4)) → Word r.words (i + 3) unlimited
     → (c : StringCursor) (b b' : BoardValue) → b.choices ≡ Trying i b'.frames c b'.marks ∷ b'.choices
-    → (all : List Way) (limit : ℕ) → Backs r all limit b → (d : ℕ)
+    → (all : List Way) (limit : Limit) → Backs r all limit b → (d : ℕ)
     → AllPass r.subject there.test c.position (c.position + d)
     → Hopeless r (is_inside b'.choices) (spot_at (Instruction i) b'.frames (c.position + d) b'.marks)
 tried_later_greedy r told none i w there wh c b b' e all limit g d all_pass =
@@ -364,6 +370,62 @@ waits_without r cs us vs {all} {before} {k} fruitless wt = go (from_region cs) r
     go [] outside e = outside_waits r cs us vs outside e wt
     go (c ∷ rest) inside e = subst (λ os. Waits r cs before (os ++ vs) all k) e wt
 
+-- the shorter counts of a run stand in the words where the longer ones do
+settled_shorter : (r : Run) (pl : Regionless r) (start t d n p : ℕ) (fs : List Frame) (m : Marks) → d + n ≤ p
+    → SettledIn r pl start (spot_at (Shorter t (d + n)) fs p m)
+    → SettledIn r pl start (spot_at (Shorter t d) fs (p - n) m)
+settled_shorter r pl start t d zero p fs m l h =
+    let same : d + 0 ≡ d = omega arith in
+    let there : p ≡ p - 0 = omega arith in
+    subst (λ q. SettledIn r pl start (spot_at (Shorter t d) fs q m)) there
+    (subst (λ k. SettledIn r pl start (spot_at (Shorter t k) fs p m)) same h)
+settled_shorter r pl start t d (suc n) p fs m l h =
+    let on = settled_moves r.words r.subject pl.tree pl.whole start pl.no_region
+    (spot_at (Shorter t (d + suc n)) fs p m) (Split (spot_at (Instruction t) fs (p - 1) m)
+    (spot_at (Shorter t (d + n)) fs (p - 1) m)) h
+    (shorter_moves r t (d + suc n) (d + n) p (p - 1) fs m (omega arith) (omega (arith, l)) l) in
+    subst (λ q. SettledIn r pl start (spot_at (Shorter t d) fs q m)) (omega arith)
+    (settled_shorter r pl start t d n (p - 1) fs m (omega (arith, l)) on.1)
+
+-- what is left of the potential of a greedy run that has so many counts left
+run_fares : (r : Run) (pl : Regionless r) (limit : Limit) (i low v p q : ℕ) (fs : List Frame) (m : Marks)
+    (cs : List Choice) (w : Opcode r.words i opcode.REPEAT_ONE) (there : HasTest r.words (i + 4))
+    → Word r.words (i + 1) v → Word r.words (i + 2) low → Word r.words (i + 3) unlimited → (count d : ℕ)
+    → longest_run r.subject there.test unlimited p ≡ count → d + low ≤ count → q ≡ p + d + low
+    → FaresAt r pl limit (pool r.words r.subject.end opcode.REPEAT_ONE (Instruction i) p)
+    (spot_at (Instruction i) fs p m) cs
+    → FaresAt r pl (earlier limit) (potential r.words r.subject.end (Shorter (i + 1 + v) d) q)
+    (spot_at (Shorter (i + 1 + v) d) fs q m) cs
+run_fares r pl limit i low v p q fs m cs w there wv wl wh count d is l e f =
+    let t : ℕ = i + 1 + v in
+    let enough : nat_lt count low ≡ false = grind (arith, nat_tests) in
+    let on = settled_moves r.words r.subject pl.tree pl.whole limit.start pl.no_region (spot_at (Instruction i) fs p m)
+    (Split (spot_at (Instruction t) fs (p + count) m) (spot_at (Shorter t (count - low)) fs (p + count) m)) f.here
+    (at_instruction opcode.REPEAT_ONE (ToRun GreedyRun) refl w (record {
+      low = low;
+      high = unlimited;
+      end = there.end;
+      test = there.test;
+      operands = record { lowest = wl; highest = wh; stands = there.stands };
+      is = rw (is, enough, word_of r.words (i + 1) v wv) refl;
+    })) in
+    let same : count - low ≡ d + (count - low - d) = omega (arith, l) in
+    let back : p + count - (count - low - d) ≡ q = omega (arith, l, e) in
+    let few : count ≤ r.subject.end = omega (
+      arith,
+      is,
+      run_inside r.subject there.test
+          (most_from r.subject unlimited p) p,
+    ) in
+    let pays = toll_pays r.words r.subject.end d (omega (arith, few, l)) in
+    record {
+      here =
+          subst (λ z. SettledIn r pl limit.start (spot_at (Shorter t d) fs z m)) back
+          (settled_shorter r pl limit.start t d (count - low - d) (p + count) fs m (omega (arith, l))
+          (subst (λ k. SettledIn r pl limit.start (spot_at (Shorter t k) fs (p + count) m)) same on.1));
+      fares = fares_earlier r pl limit cs _ _ (omega (arith, pays)) f.fares;
+    }
+
 -- where a run that begins later in the stretch is known to fail, the machine goes on with the counts that end before it
 -- may
 pub run_before : (r : Run) (i low v : ℕ) (w : Opcode r.words i opcode.REPEAT_ONE) (there : HasTest r.words (i + 4))
@@ -371,8 +433,8 @@ pub run_before : (r : Run) (i low v : ℕ) (w : Opcode r.words i opcode.REPEAT_O
     (b : BoardValue) (count d : ℕ) → longest_run r.subject there.test unlimited c.position ≡ count → d + low ≤ count
     → c'.position ≡ c.position + d + low → r.stands c' c'.position
     → Hopeless r (is_inside b.choices) (spot_at (Instruction i) b.frames (c.position + d) b.marks)
-    → (all : List Way) (limit : ℕ) → Goes r all limit (Instruction i) c b
-    → (1 ≤ limit) × Goes r all (limit - 1) (Shorter (i + 1 + v) d) c' b
+    → (all : List Way) (limit : Limit) → Goes r all limit (Instruction i) c b
+    → (1 ≤ limit.turns) × Goes r all (earlier limit) (Shorter (i + 1 + v) d) c' b
 run_before r i low v w there wv wl wh c c' b count d is l moved_on stands hopeless all limit g =
     let y = run_later r i low v b.frames b.marks w there wv wl wh c.position count d g.now g.turns is l g.runs in
     let x = spot_at (Instruction i) b.frames (c.position + d) b.marks in
@@ -392,6 +454,9 @@ run_before r i low v w there wv wl wh c c' b count d is l moved_on stands hopele
             (waits_without r b.choices y.again y.before fruitless
             (subst (λ us. Waits r b.choices (g.turns + 0) us all g.later) y.both g.waits));
         within = omega (arith, y.fewer, g.within);
+        fares = λ pl o x'.
+            run_fares r pl limit i low v c.position c'.position b.frames b.marks b.choices w there wv wl wh count d is l
+            moved_on (g.fares pl opcode.REPEAT_ONE w);
       },
     )
 
@@ -402,8 +467,8 @@ pub run_before_passing : (r : Run) (i low v : ℕ) (w : Opcode r.words i opcode.
     → AllPass r.subject there.test c.position (c.position + d + low) → c'.position ≡ c.position + d + low
     → r.stands c' c'.position → Hopeless r (is_inside b.choices)
     (spot_at (Instruction i) b.frames (c.position + d) b.marks)
-    → (all : List Way) (limit : ℕ) → Goes r all limit (Instruction i) c b
-    → (1 ≤ limit) × Goes r all (limit - 1) (Shorter (i + 1 + v) d) c' b
+    → (all : List Way) (limit : Limit) → Goes r all limit (Instruction i) c b
+    → (1 ≤ limit.turns) × Goes r all (earlier limit) (Shorter (i + 1 + v) d) c' b
 run_before_passing r i low v w there wv wl wh c c' b d all_pass =
     let reaches = longest_reaches r there.test c.position (c.position + d + low) all_pass in
     run_before r i low v w there wv wl wh c c' b (longest_run r.subject there.test unlimited c.position) d refl

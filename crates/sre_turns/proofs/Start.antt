@@ -1,5 +1,5 @@
 -- How a run begins, and how it ends.
-use Rattle.std.proofs.Common.{◌≡◌, ℕ, ◌+◌, ◌-◌, ◌≤◌, ◌++◌, Bool, true, false, List, [], ◌∷◌, refl, sym, ap, ◌∙◌, subst}
+use Rattle.std.proofs.Common.{◌≡◌, ℕ, ◌-◌, ◌≤◌, ◌++◌, Bool, true, false, List, [], ◌∷◌, refl, sym, ap, ◌∙◌, subst}
 use Rattle.std.proofs.Common.{arith, length, zero, suc}
 use Rattle.std.specs.List.{filter}
 use Rattle.std.proofs.lemmas.Bool.{or_right}
@@ -16,6 +16,11 @@ use Rattle.sre_turns.specs.Board.{Choice, Else, Keep, Trying, from_region, Board
 use Rattle.sre_turns.specs.Fruit.{SameFruit, is_inside}
 use Rattle.sre_turns.specs.declared.Point.TheVariants.{Instruction}
 use Rattle.sre_turns.specs.MovesAtReferences.{HasReference}
+use Rattle.sre_turns.specs.Limits.{Limit}
+use Rattle.sre_turns.specs.Moves.{spot_at}
+use Rattle.sre_turns.specs.Potential.{potential}
+use Rattle.sre_turns.specs.Settled.{Regionless, SettledIn}
+use Rattle.sre_turns.proofs.Faring.{fares_earlier}
 use Rattle.sre_turns.specs.Machine.{Waits, outermost, otherwise, tried, Arrives, Ends, Stands, Later}
 use Rattle.sre_turns.specs.Machine.{SaysAccepted, outcomes}
 use Rattle.sre_model.specs.Runs.{Run}
@@ -38,14 +43,26 @@ pub behind_has : (ws : List ℕ) (n : ℕ) (t : Tree) → WholeItems ws t → re
     → HasReference ws
 behind_has ws n t w e = λ u w'. subst (λ x. refers x ≡ true) (items_same ws t u w w') (behind_refers n t e)
 
+-- the limit of a run of a tree from a place and a cursor, in a window from a start on
+abbrev pub first_limit : Run → ℕ → Tree → StringCursor → ℕ → Limit
+first_limit r i t c start = record {
+  turns = cost r.subject t ending c.position no_marks;
+  taken = 0;
+  granted = potential r.words r.subject.end (Instruction i) c.position;
+  tolls = 0;
+  trying = [];
+  start = start;
+}
+
 -- a run from a cursor and a place has the accepted ways of the tree whose words are those from there on
-pub started : (r : Run) (i : ℕ) (t : Tree) (c : StringCursor) (b : BoardValue) → AreWords r.words
+pub started : (r : Run) (i : ℕ) (t : Tree) (c : StringCursor) (b : BoardValue) (start : ℕ) → AreWords r.words
     → (refers t ≡ true → HasReference r.words)
     → Reads r.words i (length r.words - 1) t → Opcode r.words (length r.words - 1) opcode.SUCCESS
     → r.stands c c.position → c.position ≤ r.subject.end → b ≡ bare no_marks
-    → Arrives r (outcomes r t c.position) (cost r.subject t ending c.position no_marks) (Instruction i) c b
-started r i t c b v has reads ends stands inside fresh =
-    subst (λ x. Arrives r (outcomes r t c.position) (cost r.subject t ending c.position no_marks) (Instruction i) c x)
+    → ((pl : Regionless r) → SettledIn r pl start (spot_at (Instruction i) [] c.position no_marks))
+    → Arrives r (outcomes r t c.position) (first_limit r i t c start) (Instruction i) c b
+started r i t c b start v has reads ends stands inside fresh settled =
+    subst (λ x. Arrives r (outcomes r t c.position) (first_limit r i t c start) (Instruction i) c x)
     (sym fresh)
     (record {
       now = ways r.subject t c.position no_marks;
@@ -58,6 +75,10 @@ started r i t c b v has reads ends stands inside fresh =
           (ran r.words r.subject i _ t v has reads) ends [] c.position no_marks inside;
       waits = outermost;
       within = omega arith;
+      fares = λ pl o w. record {
+        here = settled pl;
+        fares = record { settled = tt; trying = refl; left = omega arith };
+      };
     })
 
 -- an outcome that is not accepted changes nothing of what came
@@ -94,7 +115,8 @@ refused_waits r (Trying i fs c m ∷ cs) w rest none n (tried {os = os} there pl
 refused_waits r (Keep g fs c m ∷ cs) w rest none n wt = absurd (cc)
 
 -- the machine stands at the end of the whole
-module _ (r : Run) (all : List Way) (limit p : ℕ) (n : Next) (c : StringCursor) (old b : BoardValue) (accepted : Bool)
+module _ (r : Run) (all : List Way) (limit : Limit) (p : ℕ) (n : Next) (c : StringCursor) (old b : BoardValue)
+    (accepted : Bool)
     (done : n ≡ next.Done c) (at : p ≡ c.position) (says : SaysAccepted r p accepted)
     (outside : (from_region old.choices ≡ []) × (b ≡ old)) (stands : Stands r all limit n old) where
   ends : Ends r all limit c b
@@ -121,12 +143,6 @@ module _ (r : Run) (all : List Way) (limit p : ℕ) (n : Next) (c : StringCursor
       later = ends.later;
       waits = refused_waits r b.choices _ [] none (sym said ∙ left) ends.waits;
       within = omega (arith, ends.within);
+      fares = λ pl. fares_earlier r pl limit b.choices 0 2 (omega arith) (ends.fares pl);
     },
   )
-
--- an instruction or a choice is one turn
-pub one_turn : (r : Run) (all : List Way) (limit turned : ℕ) (n : Next) (b : BoardValue)
-    → Later r all (limit - turned) n b → Stands r all (limit - (turned + 1)) n b
-one_turn r all limit turned n b l =
-    let e : limit - turned - 1 ≡ limit - (turned + 1) = omega arith in
-    subst (λ x. Stands r all x n b) e l.1

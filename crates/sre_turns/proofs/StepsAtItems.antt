@@ -17,12 +17,14 @@ use Rattle.sre_turns.specs.Board.{BoardValue}
 use Rattle.sre_turns.specs.declared.Frame.{Frame}
 use Rattle.sre_turns.specs.declared.Point.TheVariants.{Instruction}
 use Rattle.sre_turns.specs.Moves.{spot_at, Go}
+use Rattle.sre_turns.specs.Limits.{Limit}
 use Rattle.sre_turns.specs.Machine.{Moves, Goes, Later, HasRun, Refuses, Demands, Continues}
 use Rattle.sre_model.specs.Runs.{Run}
 use Rattle.sre_model.specs.Standing.{TestStands, HasTest}
 use Rattle.sre_model.specs.Roles.{ToFail, ToEnd, ToCheckPosition, ToMark, ToJump, begins_test}
 use Rattle.sre_turns.specs.declared.Next.TheVariants as next
 use Rattle.sre_model.proofs.Words.{same_word, at_low, word_of, word_within}
+use Rattle.sre_turns.proofs.Faring.{next_less, test_pool}
 use Rattle.sre_turns.proofs.Moving.{in_role, in_test, at_instruction, at_test, run_nothing, run_goes, run_on}
 use Rattle.sre_turns.proofs.Moving.{nothing_after, has_run}
 use Rattle.sre_turns.proofs.Moving.{turn_stops, turn_ends, turn_goes}
@@ -32,12 +34,12 @@ use Rattle.sre_model.proofs.Families.{is_literal}
 
 -- FAILURE
 pub failure_step : (r : Run) (i : ℕ) (c : StringCursor) (b : BoardValue) → Opcode r.words i opcode.FAILURE
-    → (all : List Way) (limit : ℕ) → Goes r all limit (Instruction i) c b → Later r all limit next.Back b
+    → (all : List Way) (limit : Limit) → Goes r all limit (Instruction i) c b → Later r all limit next.Back b
 failure_step r i c b w = turn_stops r (Instruction i) c b (at_instruction opcode.FAILURE ToFail refl w refl)
 
 -- SUCCESS
 pub success_step : (r : Run) (i : ℕ) (c : StringCursor) (b : BoardValue) → Opcode r.words i opcode.SUCCESS
-    → (all : List Way) (limit : ℕ) → Goes r all limit (Instruction i) c b → Later r all limit (next.Done c) b
+    → (all : List Way) (limit : Limit) → Goes r all limit (Instruction i) c b → Later r all limit (next.Done c) b
 success_step r i c b w = turn_ends r (Instruction i) c b (at_instruction opcode.SUCCESS ToEnd refl w refl)
 
 -- a test of one character stands where its opcode does
@@ -50,14 +52,14 @@ test_there r i c o w f x =
 module _ (r : Run) (i : ℕ) (c : StringCursor) (b : BoardValue) (o : SreOpcode) (w : Opcode r.words i o)
     (f : begins_test o ≡ true) (j : ℕ) (t : Test) (stands : TestStands r.words i j t) where
   test_taken : (after : StringCursor) → passes r.subject t c.position ≡ true → r.stands after after.position
-      → after.position ≡ c.position + 1 → (all : List Way) (limit : ℕ) → Goes r all limit (Instruction i) c b
+      → after.position ≡ c.position + 1 → (all : List Way) (limit : Limit) → Goes r all limit (Instruction i) c b
       → Later r all limit (next.At j after) b
   test_taken after taken there moved_on all limit g =
       turn_goes r (Instruction i) c b (Instruction j) after b
       (at_test o f w (record { end = j; test = t; stands = stands; is = rw (taken, moved_on) refl }))
       there g.placed refl all limit g
 
-  test_refused : passes r.subject t c.position ≡ false → (all : List Way) (limit : ℕ)
+  test_refused : passes r.subject t c.position ≡ false → (all : List Way) (limit : Limit)
       → Goes r all limit (Instruction i) c b → Later r all limit next.Back b
   test_refused left =
       turn_stops r (Instruction i) c b
@@ -68,7 +70,7 @@ pub test_read : (r : Run) (i j ch : ℕ) (o : SreOpcode) (t : Test) (c after : S
     (b : BoardValue) (takes : Bool)
     → Opcode r.words i o → begins_test o ≡ true → TestStands r.words i j t → c.position < r.subject.end
     → ch ≡ char_at r.subject c.position → takes ≡ holds r.subject.table t ch → r.stands after (c.position + 1)
-    → after.position ≡ c.position + 1 → takes ≡ true → (all : List Way) (limit : ℕ)
+    → after.position ≡ c.position + 1 → takes ≡ true → (all : List Way) (limit : Limit)
     → Goes r all limit (Instruction i) c b → Later r all limit (next.At j after) b
 test_read r i j ch o t c after b takes w f st l e h there moved_on y =
     test_taken r i c b o w f j t st after (read_passes r.subject t c.position ch takes l e h ∙ y)
@@ -77,12 +79,12 @@ test_read r i j ch o t c after b takes w f st l e h there moved_on y =
 pub test_unlike : (r : Run) (i j ch : ℕ) (o : SreOpcode) (t : Test) (c : StringCursor) (b : BoardValue) (takes : Bool)
     → Opcode r.words i o → begins_test o ≡ true → TestStands r.words i j t → c.position < r.subject.end
     → ch ≡ char_at r.subject c.position → takes ≡ holds r.subject.table t ch → takes ≡ false
-    → (all : List Way) (limit : ℕ) → Goes r all limit (Instruction i) c b → Later r all limit next.Back b
+    → (all : List Way) (limit : Limit) → Goes r all limit (Instruction i) c b → Later r all limit next.Back b
 test_unlike r i j ch o t c b takes w f st l e h n =
     test_refused r i c b o w f j t st (read_passes r.subject t c.position ch takes l e h ∙ n)
 
 pub test_past : (r : Run) (i : ℕ) (o : SreOpcode) (c : StringCursor) (b : BoardValue) → Opcode r.words i o
-    → begins_test o ≡ true → HasTest r.words i → r.subject.end ≤ c.position → (all : List Way) (limit : ℕ)
+    → begins_test o ≡ true → HasTest r.words i → r.subject.end ≤ c.position → (all : List Way) (limit : Limit)
     → Goes r all limit (Instruction i) c b → Later r all limit next.Back b
 test_past r i o c b w f t l = test_refused r i c b o w f t.end t.test t.stands (past_end r.subject t.test c.position l)
 
@@ -103,7 +105,7 @@ at_known r i v c w x wv l =
     omega (arith, at_low a.0, same_word r.words (i + 1) v (at_number a.0) wv a.1)
 
 pub at_step : (r : Run) (i : ℕ) (a : SreAtCode) (c : StringCursor) (b : BoardValue) → Opcode r.words i opcode.AT
-    → Word r.words (i + 1) (at_number a) → holds_at r.subject a c.position ≡ true → (all : List Way) (limit : ℕ)
+    → Word r.words (i + 1) (at_number a) → holds_at r.subject a c.position ≡ true → (all : List Way) (limit : Limit)
     → Goes r all limit (Instruction i) c b → Later r all limit (next.At (i + 2) c) b
 at_step r i a c b w wa y all limit g =
     turn_goes r (Instruction i) c b (Instruction (i + 2)) c b
@@ -111,7 +113,7 @@ at_step r i a c b w wa y all limit g =
     g.stands g.placed refl all limit g
 
 pub at_refused : (r : Run) (i : ℕ) (a : SreAtCode) (c : StringCursor) (b : BoardValue) → Opcode r.words i opcode.AT
-    → Word r.words (i + 1) (at_number a) → holds_at r.subject a c.position ≡ false → (all : List Way) (limit : ℕ)
+    → Word r.words (i + 1) (at_number a) → holds_at r.subject a c.position ≡ false → (all : List Way) (limit : Limit)
     → Goes r all limit (Instruction i) c b → Later r all limit next.Back b
 at_refused r i a c b w wa n =
     turn_stops r (Instruction i) c b
@@ -127,7 +129,7 @@ mark_operand r i c w x =
 pub mark_step : (r : Run) (i v p : ℕ) (c : StringCursor) (b b' : BoardValue) → Opcode r.words i opcode.MARK
     → Word r.words (i + 1) v → p ≡ c.position → c.position ≤ length r.subject.text
     → b' ≡ record b { marks = set_mark b.marks v p }
-    → (all : List Way) (limit : ℕ) → Goes r all limit (Instruction i) c b → Later r all limit (next.At (i + 2) c) b'
+    → (all : List Way) (limit : Limit) → Goes r all limit (Instruction i) c b → Later r all limit (next.At (i + 2) c) b'
 mark_step r i v p c b b' w wv same_place inside eb all limit g =
     let set : BoardValue = record b { marks = set_mark b.marks v c.position } in
     subst (λ x. Later r all limit (next.At (i + 2) c) x)
@@ -142,7 +144,7 @@ pub jump_operand : (r : Run) (i : ℕ) (c : StringCursor) → Opcode r.words i o
 jump_operand r i c w x = (in_role opcode.JUMP ToJump refl w x.runs).1.there
 
 pub jump_step : (r : Run) (i v : ℕ) (c : StringCursor) (b : BoardValue) → Opcode r.words i opcode.JUMP
-    → Word r.words (i + 1) v → (all : List Way) (limit : ℕ) → Goes r all limit (Instruction i) c b
+    → Word r.words (i + 1) v → (all : List Way) (limit : Limit) → Goes r all limit (Instruction i) c b
     → Later r all limit (next.At (i + 1 + v) c) b
 jump_step r i v c b w wv all limit g =
     turn_goes r (Instruction i) c b (Instruction (i + 1 + v)) c b
@@ -157,6 +159,10 @@ jump_continues r i v c w wv stands = record {
   runs = λ fs m os n d. run_on (spot_at (Instruction (i + 1 + v)) fs c.position m)
       (at_instruction opcode.JUMP ToJump refl w
       (record { there = word_within r.words (i + 1) v wv; is = rw (word_of r.words (i + 1) v wv) refl })) d;
+  fares = λ pl start fs m h. next_less r pl start (spot_at (Instruction i) fs c.position m)
+      (spot_at (Instruction (i + 1 + v)) fs c.position m) opcode.JUMP w (omega arith)
+      (at_instruction opcode.JUMP ToJump refl w
+      (record { there = word_within r.words (i + 1) v wv; is = rw (word_of r.words (i + 1) v wv) refl })) h;
 }
 
 -- a LITERAL that is not the character, or that stands at the window's end
@@ -201,6 +207,14 @@ module _ (r : Run) (i ch : ℕ) (o : SreOpcode) (takes : Bool) (c : StringCursor
           stands = there.stands;
           is = rw (passes_as_read ∙ y, moved_on, ends there.end there.test there.stands) refl;
         })) d;
+    fares = λ pl start fs m h. next_less r pl start (spot_at (Instruction i) fs c.position m)
+        (spot_at (Instruction end) fs after.position m) o w (test_pool r i c.position o f)
+        (at_test o f w (record {
+          end = there.end;
+          test = there.test;
+          stands = there.stands;
+          is = rw (passes_as_read ∙ y, moved_on, ends there.end there.test there.stands) refl;
+        })) h;
   }
 
 -- a literal demands its character, and nothing comes of a mark behind which nothing comes

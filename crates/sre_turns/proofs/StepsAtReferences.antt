@@ -14,6 +14,7 @@ use Rattle.sre_turns.specs.declared.Point.TheVariants.{Instruction}
 use Rattle.sre_turns.specs.Moves.{Move, Stop, Go}
 use Rattle.sre_turns.specs.MovesAtReferences.{reference_turn, condition_place}
 use Rattle.sre_model.specs.Roles.{ToRefer, role, ToCheckGroup}
+use Rattle.sre_turns.specs.Limits.{Limit}
 use Rattle.sre_turns.specs.Machine.{Moves, Goes, Later, spot, HasRun}
 use Rattle.sre_model.specs.Runs.{Run}
 use Rattle.sre_model.proofs.Families.{reference_role}
@@ -39,7 +40,7 @@ reference_there r i c o w e x =
 module _ (r : Run) (fold : Fold) (i g : ℕ) (c : StringCursor) (b : BoardValue)
     (w : Opcode r.words i (reference_opcode fold)) (there : Word r.words (i + 1) g) where
   -- a turn there: that it is at a reference is known of the run that stands there
-  turn_there : (all : List Way) (limit : ℕ) → Goes r all limit (Instruction i) c b → (mv : Move)
+  turn_there : (all : List Way) (limit : Limit) → Goes r all limit (Instruction i) c b → (mv : Move)
       → mv ≡ reference_turn r.subject fold g (i + 2) (spot (Instruction i) c b)
       → Moves r.words r.subject (spot (Instruction i) c b) mv
   turn_there all limit k mv is =
@@ -47,21 +48,22 @@ module _ (r : Run) (fold : Fold) (i g : ℕ) (c : StringCursor) (b : BoardValue)
       at_instruction (reference_opcode fold) ToRefer (reference_role fold) w
       (record { refers = h.refers; fold = fold; number = g; code = w; there = there; is = is })
 
-  pub reference_missing : group b.marks g ≡ None → (all : List Way) (limit : ℕ) → Goes r all limit (Instruction i) c b
+  pub reference_missing : group b.marks g ≡ None → (all : List Way) (limit : Limit)
+      → Goes r all limit (Instruction i) c b
       → Later r all limit next.Back b
   reference_missing known all limit k =
       turn_stops r (Instruction i) c b (turn_there all limit k Stop (rw (known, reference_turn) refl)) all limit k
 
   module _ (x y : ℕ) (known : group b.marks g ≡ Some (x, y)) where
     -- the group is longer than what is left of the window, or the window goes on otherwise
-    pub reference_past : nat_le (c.position + (y - x)) r.subject.end ≡ false → (all : List Way) (limit : ℕ)
+    pub reference_past : nat_le (c.position + (y - x)) r.subject.end ≡ false → (all : List Way) (limit : Limit)
         → Goes r all limit (Instruction i) c b → Later r all limit next.Back b
     reference_past past all limit k =
         turn_stops r (Instruction i) c b (turn_there all limit k Stop (rw (known, past, reference_turn) refl)) all limit
         k
 
     pub reference_unlike : nat_le (c.position + (y - x)) r.subject.end ≡ true
-        → same_folded r.subject fold (y - x) x c.position ≡ false → (all : List Way) (limit : ℕ)
+        → same_folded r.subject fold (y - x) x c.position ≡ false → (all : List Way) (limit : Limit)
         → Goes r all limit (Instruction i) c b → Later r all limit next.Back b
     reference_unlike inside unlike all limit k =
         turn_stops r (Instruction i) c b
@@ -69,7 +71,7 @@ module _ (r : Run) (fold : Fold) (i g : ℕ) (c : StringCursor) (b : BoardValue)
 
     pub reference_step : (after : StringCursor) → nat_le (c.position + (y - x)) r.subject.end ≡ true
         → same_folded r.subject fold (y - x) x c.position ≡ true → after.position ≡ c.position + (y - x)
-        → r.stands after after.position → (all : List Way) (limit : ℕ) → Goes r all limit (Instruction i) c b
+        → r.stands after after.position → (all : List Way) (limit : Limit) → Goes r all limit (Instruction i) c b
         → Later r all limit (next.At (i + 2) after) b
     reference_step after inside alike place stands all limit k =
         turn_goes r (Instruction i) c b (Instruction (i + 2)) after b
@@ -79,7 +81,7 @@ module _ (r : Run) (fold : Fold) (i g : ℕ) (c : StringCursor) (b : BoardValue)
 
 module _ (r : Run) (i g v : ℕ) (c : StringCursor) (b : BoardValue) (w : Opcode r.words i opcode.GROUPREF_EXISTS)
     (there : Word r.words (i + 1) g) (leads : Word r.words (i + 2) v) where
-  pub condition_present : (u : ℕ × ℕ) → group b.marks g ≡ Some u → (all : List Way) (limit : ℕ)
+  pub condition_present : (u : ℕ × ℕ) → group b.marks g ≡ Some u → (all : List Way) (limit : Limit)
       → Goes r all limit (Instruction i) c b → Later r all limit (next.At (i + 3) c) b
   condition_present u known all limit k =
       let h = (in_role opcode.GROUPREF_EXISTS ToCheckGroup refl w k.runs).1 in
@@ -93,7 +95,7 @@ module _ (r : Run) (i g v : ℕ) (c : StringCursor) (b : BoardValue) (w : Opcode
         is = rw (known, condition_place) refl;
       })) k.stands k.placed refl all limit k
 
-  pub condition_absent : group b.marks g ≡ None → (all : List Way) (limit : ℕ)
+  pub condition_absent : group b.marks g ≡ None → (all : List Way) (limit : Limit)
       → Goes r all limit (Instruction i) c b → Later r all limit (next.At (i + 1 + v) c) b
   condition_absent known all limit k =
       let h = (in_role opcode.GROUPREF_EXISTS ToCheckGroup refl w k.runs).1 in

@@ -1,5 +1,5 @@
 -- Turns at a branch and at its alternatives.
-use Rattle.std.proofs.Common.{◌≡◌, ℕ, zero, suc, ◌+◌, ◌-◌, ◌<◌, ◌≤◌, false, nat_eq, List, length, refl, arith}
+use Rattle.std.proofs.Common.{◌≡◌, ℕ, zero, suc, ◌+◌, ◌<◌, ◌≤◌, false, nat_eq, List, length, refl, arith}
 use Rattle.std.proofs.lemmas.Bool.Decides.{nat_tests}
 use Rattle.sre_chars.specs.declared.constants.SreOpcode.TheVariants as opcode
 use Rattle.sre_chars.specs.declared.string.StringCursor.{StringCursor}
@@ -9,12 +9,14 @@ use Rattle.sre_model.specs.Subject.{Subject}
 use Rattle.sre_turns.specs.Board.{BoardValue}
 use Rattle.sre_turns.specs.declared.Point.TheVariants.{Instruction, Alternatives}
 use Rattle.sre_turns.specs.Moves.{Spot, spot_at, Stop, Go, Split, to_point}
+use Rattle.sre_turns.specs.Limits.{Limit, earlier}
 use Rattle.sre_turns.specs.Machine.{Moves, Runs, turns, Goes, GoesBoth, Later, spot, HasRun, Refuses, Exhausted}
 use Rattle.sre_model.specs.Runs.{Run}
 use Rattle.sre_turns.specs.Machine.{Continues}
 use Rattle.sre_model.specs.Roles.{ToBranch}
 use Rattle.sre_turns.specs.declared.Next.TheVariants as next
 use Rattle.sre_model.proofs.Words.{word_within}
+use Rattle.sre_turns.proofs.Faring.{second_less, alternatives_free}
 use Rattle.sre_turns.proofs.Moving.{at_instruction, has_run, run_goes, run_splits, turn_stops, turn_goes, turn_splits}
 use Rattle.sre_turns.proofs.Moving.{run_nothing, run_second, arrived}
 
@@ -28,12 +30,12 @@ branch_moves : (ws : List ℕ) (s : Subject) (i : ℕ) (x : Spot) → x.point �
 branch_moves ws s i x e w = rw e (at_instruction opcode.BRANCH ToBranch refl w refl)
 
 pub branch_step : (r : Run) (i : ℕ) (c : StringCursor) (b : BoardValue)
-    → Opcode r.words i opcode.BRANCH → (all : List Way) (limit : ℕ) → Goes r all limit (Instruction i) c b
-    → (1 ≤ limit) × Goes r all (limit - 1) (Alternatives (i + 1)) c b
+    → Opcode r.words i opcode.BRANCH → (all : List Way) (limit : Limit) → Goes r all limit (Instruction i) c b
+    → (1 ≤ limit.turns) × Goes r all (earlier limit) (Alternatives (i + 1)) c b
 branch_step r i c b w all limit g =
     let s = turn_goes r (Instruction i) c b (Alternatives (i + 1)) c b
     (branch_moves r.words r.subject i (spot (Instruction i) c b) refl w) g.stands g.placed refl all limit g in
-    (s.0, arrived s.1)
+    (s.0, arrived alternatives_free s.1)
 
 pub branch_run : (r : Run) (i : ℕ) (c : StringCursor) → Opcode r.words i opcode.BRANCH → HasRun r (Instruction i) c
     → HasRun r (Alternatives (i + 1)) c
@@ -60,12 +62,12 @@ alternatives_there r q c x = go x.runs
     go (turns mv h d) = word_within r.words q h.value h.there
 
 pub alternatives_none : (r : Run) (q : ℕ) (c : StringCursor) (b : BoardValue) {v : ℕ} → Word r.words q v → v ≡ 0
-    → (all : List Way) (limit : ℕ) → Goes r all limit (Alternatives q) c b → Later r all limit next.Back b
+    → (all : List Way) (limit : Limit) → Goes r all limit (Alternatives q) c b → Later r all limit next.Back b
 alternatives_none r q c b {v} w e =
     turn_stops r (Alternatives q) c b (alternatives_stop r.words r.subject q v (spot (Alternatives q) c b) refl w e)
 
 pub alternatives_both : (r : Run) (q v : ℕ) (c : StringCursor) (b : BoardValue) → Word r.words q v → 0 < v
-    → (all : List Way) (limit : ℕ) → Goes r all limit (Alternatives q) c b
+    → (all : List Way) (limit : Limit) → Goes r all limit (Alternatives q) c b
     → GoesBoth r all limit (spot (Instruction (q + 1)) c b) (spot (Alternatives (q + v)) c b) c b.choices
 alternatives_both r q v c b w l all limit g =
     turn_splits r (Alternatives q) c b (spot (Instruction (q + 1)) c b) (spot (Alternatives (q + v)) c b) c
@@ -93,4 +95,9 @@ alternatives_pass r q v c w l stands none = record {
       run_second (spot_at (Instruction (q + 1)) fs c.position m) (spot_at (Alternatives (q + v)) fs c.position m)
       (alternatives_move r.words r.subject q v (spot_at (Alternatives q) fs c.position m) refl w l)
       (λ os' n' e. none fs m os' n' e) d;
+  fares = λ pl start fs m h.
+      second_less r pl start (spot_at (Alternatives q) fs c.position m)
+      (spot_at (Instruction (q + 1)) fs c.position m) (spot_at (Alternatives (q + v)) fs c.position m)
+      alternatives_free (alternatives_move r.words r.subject q v (spot_at (Alternatives q) fs c.position m) refl w l)
+      h;
 }

@@ -1,5 +1,5 @@
 -- Turns at a loop: its REPEAT, and the MAX_UNTIL or MIN_UNTIL that ends a body.
-use Rattle.std.proofs.Common.{◌≡◌, ℕ, ◌+◌, ◌-◌, ◌<◌, ◌≤◌, true, false, nat_lt, List, ◌∷◌, length, drop, Some, refl}
+use Rattle.std.proofs.Common.{◌≡◌, ℕ, ◌+◌, ◌<◌, ◌≤◌, true, false, nat_lt, List, ◌∷◌, length, drop, Some, refl}
 use Rattle.std.proofs.Common.{sym, ◌∙◌, subst, arith}
 use Rattle.std.proofs.lemmas.Bool.Decides.{nat_tests}
 use Rattle.sre_chars.specs.declared.constants.SreOpcode.TheVariants as opcode
@@ -12,18 +12,22 @@ use Rattle.sre_turns.specs.declared.Frame.{Frame}
 use Rattle.sre_turns.specs.declared.Point.TheVariants.{Instruction}
 use Rattle.sre_turns.specs.Moves.{Spot, Move, Go}
 use Rattle.sre_turns.specs.MovesInLoops.{first_frame, next_frame, at_body, behind, in_order, until_move}
-use Rattle.sre_turns.specs.Machine.{Moves, Goes, Later, Stands, spot, HasRun, IsAt, Refuses, with_loop}
+use Rattle.sre_turns.specs.Limits.{Limit, earlier}
+use Rattle.sre_turns.specs.Machine.{Moves, Goes, Later, spot, HasRun, IsAt, Refuses, with_loop}
 use Rattle.sre_model.specs.Runs.{Run}
 use Rattle.sre_turns.specs.declared.Next.{Next}
-use Rattle.sre_model.specs.Roles.{ToRepeat, ToLoop}
+use Rattle.sre_model.specs.Roles.{ToRepeat, ToLoop, role}
+use Rattle.sre_turns.specs.Potential.{toll}
 use Rattle.sre_model.proofs.Families.{until_role}
 use Rattle.sre_turns.specs.declared.Next.TheVariants as next
-use Rattle.sre_model.proofs.Words.{word_of, word_within}
+use Rattle.sre_model.proofs.Words.{word_of, word_within, opcode_within}
 use Rattle.sre_turns.proofs.Moving.{in_role, at_instruction, has_run, run_goes, run_splits, turn_goes, turn_splits}
-use Rattle.sre_turns.proofs.Moving.{both_wait, both_first, both_second, arrived}
+use Rattle.sre_turns.proofs.Moving.{both_wait, both_first, both_second, sooner}
+use Rattle.sre_turns.proofs.GoingBack.{later_again}
+use Rattle.sre_turns.proofs.Faring.{tolls_most}
 
 pub repeat_step : (r : Run) (i v : ℕ) (c : StringCursor) (b b' : BoardValue) → Opcode r.words i opcode.REPEAT
-    → Word r.words (i + 1) v → b' ≡ record b { frames = first_frame i ∷ b.frames } → (all : List Way) (limit : ℕ)
+    → Word r.words (i + 1) v → b' ≡ record b { frames = first_frame i ∷ b.frames } → (all : List Way) (limit : Limit)
     → Goes r all limit (Instruction i) c b → Later r all limit (next.At (i + 1 + v) c) b'
 repeat_step r i v c b b' w wv eb all limit g =
     let entered : BoardValue = record b { frames = first_frame i ∷ b.frames } in
@@ -42,49 +46,43 @@ repeat_begun r i v c b w wv x =
     (record { there = word_within r.words (i + 1) v wv; is = rw (word_of r.words (i + 1) v wv) refl })) x.runs in
     record { outcomes = y.outcomes; turns = y.turns; stands = x.stands; placed = x.placed; runs = y.runs }
 
--- what stands with fewer turns left stands with more
-pub stands_more : (r : Run) (all : List Way) (k limit : ℕ) (n : Next) (b : BoardValue) → k ≤ limit
-    → Stands r all k n b → Stands r all limit n b
-stands_more r all k limit (next.At i c) b h g = record {
-  now = g.now;
-  turns = g.turns;
-  later = g.later;
-  stands = g.stands;
-  placed = g.placed;
-  runs = g.runs;
-  waits = g.waits;
-  within = omega (arith, g.within);
-}
-stands_more r all k limit (next.Again c) b h g = record {
-  now = g.now;
-  turns = g.turns;
-  later = g.later;
-  stands = g.stands;
-  placed = g.placed;
-  runs = g.runs;
-  waits = g.waits;
-  within = omega (arith, g.within);
-}
-stands_more r all k limit next.Back b h g =
-    record { later = g.later; waits = g.waits; within = omega (arith, g.within) }
-stands_more r all k limit (next.Done c) b h g = record {
-  later = g.later;
-  stands = g.stands;
-  placed = g.placed;
-  waits = g.waits;
-  within = omega (arith, g.within);
-}
-
 -- a turn at the loop's end, taken in the same turn
 pub repeat_further : (r : Run) (i v : ℕ) (c : StringCursor) (b b' : BoardValue) (n : Next)
     → Opcode r.words i opcode.REPEAT → Word r.words (i + 1) v
-    → ((all : List Way) (limit : ℕ) → Goes r all limit (Instruction (i + 1 + v)) c (with_loop (first_frame i) b)
-    → Later r all limit n b') → (all : List Way) (limit : ℕ) → Goes r all limit (Instruction i) c b
+    → ((all : List Way) (limit : Limit) → Goes r all limit (Instruction (i + 1 + v)) c (with_loop (first_frame i) b)
+    → Later r all limit n b') → (all : List Way) (limit : Limit) → Goes r all limit (Instruction i) c b
     → Later r all limit n b'
 repeat_further r i v c b b' n w wv h all limit g =
-    let begun = repeat_step r i v c b (with_loop (first_frame i) b) w wv refl all limit g in
-    let later = h all (limit - 1) (arrived begun.1) in
-    (begun.0, stands_more r all (limit - 1 - 1) (limit - 1) n b' (omega arith) later.1)
+    let ended : BoardValue = with_loop (first_frame i) b in
+    let begun = repeat_step r i v c b ended w wv refl all limit g in
+    let at = begun.1 in
+    let goes : Goes r all (earlier limit) (Instruction (i + 1 + v)) c ended = record {
+      now = at.now;
+      turns = at.turns;
+      later = at.later;
+      stands = at.stands;
+      placed = at.placed;
+      runs = at.runs;
+      waits = sooner (at.turns + 1) (at.turns + 0) (omega arith) at.waits;
+      within = at.within;
+      fares = λ pl o x.
+          let f = at.fares pl o x in
+          record {
+            here = f.here;
+            fares = record {
+              settled = f.fares.settled;
+              trying = f.fares.trying;
+              left =
+                  omega (
+                    arith,
+                    (g.fares pl opcode.REPEAT w).fares.left,
+                    opcode_within r.words i opcode.REPEAT w,
+                    tolls_most (role o) (toll r.words r.subject.end),
+                  );
+            };
+          };
+    } in
+    later_again r all limit n b' begun.0 (h all (earlier limit) goes)
 
 -- the innermost loop, whose body ends at u, and its counts
 pub record InLoop (r : Run) (o : Order) (u low high : ℕ) (b : BoardValue) (f : Frame) : Type 0 where
@@ -135,7 +133,7 @@ until_at r o u low high c b f mv h e = at_instruction (until_opcode o) (ToLoop o
 -- below the least count a further body is tried
 pub until_below : (r : Run) (o : Order) (u low high : ℕ) (c : StringCursor) (b b' : BoardValue) (f : Frame)
     → InLoop r o u low high b f → f.count < low → b' ≡ record b { frames = next_frame f f.last ∷ drop 1 b.frames }
-    → (all : List Way) (limit : ℕ) → Goes r all limit (Instruction u) c b
+    → (all : List Way) (limit : Limit) → Goes r all limit (Instruction u) c b
     → Later r all limit (next.At (f.repeat + 4) c) b'
 until_below r o u low high c b b' f h l eb all limit g =
     let entered : BoardValue = record b { frames = next_frame f f.last ∷ drop 1 b.frames } in
@@ -148,7 +146,8 @@ until_below r o u low high c b b' f h l eb all limit g =
 -- the loop ends where no further one may be tried
 pub until_done : (r : Run) (o : Order) (u low high : ℕ) (c : StringCursor) (b b' : BoardValue) (f : Frame)
     → InLoop r o u low high b f → low ≤ f.count → may_repeat high f.count f.last c.position ≡ false
-    → b' ≡ record b { frames = drop 1 b.frames } → (all : List Way) (limit : ℕ) → Goes r all limit (Instruction u) c b
+    → b' ≡ record b { frames = drop 1 b.frames } → (all : List Way) (limit : Limit)
+    → Goes r all limit (Instruction u) c b
     → Later r all limit (next.At (u + 1) c) b'
 until_done r o u low high c b b' f h l no_ eb all limit g =
     let left : BoardValue = record b { frames = drop 1 b.frames } in
@@ -186,7 +185,8 @@ until_runs r Lazy u low high c b f h l y x =
 -- nothing comes of the body
 pub until_refused : (r : Run) (o : Order) (u low high : ℕ) (c : StringCursor) (b b' : BoardValue) (f : Frame)
     → InLoop r o u low high b f → low ≤ f.count → may_repeat high f.count f.last c.position ≡ true
-    → Refuses r (f.repeat + 4) c.position → b' ≡ record b { frames = drop 1 b.frames } → (all : List Way) (limit : ℕ)
+    → Refuses r (f.repeat + 4) c.position → b' ≡ record b { frames = drop 1 b.frames }
+    → (all : List Way) (limit : Limit)
     → Goes r all limit (Instruction u) c b → Later r all limit (next.At (u + 1) c) b'
 until_refused r Greedy u low high c b b' f h l y no_ eb all limit g =
     subst (λ x. Later r all limit (next.At (u + 1) c) x) (sym eb)
@@ -205,7 +205,7 @@ until_refused r Lazy u low high c b b' f h l y no_ eb all limit g =
 pub until_alone : (r : Run) (o : Order) (u low high : ℕ) (c : StringCursor) (b b' : BoardValue) (f : Frame)
     → InLoop r o u low high b f → low ≤ f.count → may_repeat high f.count f.last c.position ≡ true
     → Refuses r (u + 1) c.position → b' ≡ record b { frames = next_frame f (Some c.position) ∷ drop 1 b.frames }
-    → (all : List Way) (limit : ℕ) → Goes r all limit (Instruction u) c b
+    → (all : List Way) (limit : Limit) → Goes r all limit (Instruction u) c b
     → Later r all limit (next.At (f.repeat + 4) c) b'
 until_alone r Greedy u low high c b b' f h l y no_ eb all limit g =
     subst (λ x. Later r all limit (next.At (f.repeat + 4) c) x) (sym eb)
@@ -228,7 +228,7 @@ pub until_greedy : (r : Run) (u low high : ℕ) (c : StringCursor) (b b' : Board
     → b' ≡ record b {
       frames = next_frame f (Some c.position) ∷ drop 1 b.frames;
       choices = Else (Instruction (u + 1)) (drop 1 b.frames) c b.marks ∷ b.choices;
-    } → (all : List Way) (limit : ℕ) → Goes r all limit (Instruction u) c b
+    } → (all : List Way) (limit : Limit) → Goes r all limit (Instruction u) c b
     → Later r all limit (next.At (f.repeat + 4) c) b'
 until_greedy r u low high c b b' f h l y eb all limit g =
     subst (λ x. Later r all limit (next.At (f.repeat + 4) c) x) (sym eb)
@@ -244,7 +244,8 @@ pub until_lazy : (r : Run) (u low high : ℕ) (c : StringCursor) (b b' : BoardVa
       frames = drop 1 b.frames;
       choices =
           Else (Instruction (f.repeat + 4)) (next_frame f (Some c.position) ∷ drop 1 b.frames) c b.marks ∷ b.choices;
-    } → (all : List Way) (limit : ℕ) → Goes r all limit (Instruction u) c b → Later r all limit (next.At (u + 1) c) b'
+    } → (all : List Way) (limit : Limit) → Goes r all limit (Instruction u) c b
+    → Later r all limit (next.At (u + 1) c) b'
 until_lazy r u low high c b b' f h l y eb all limit g =
     subst (λ x. Later r all limit (next.At (u + 1) c) x) (sym eb)
     (both_wait r (u + 1) (body_spot u c b f) c b (record b {

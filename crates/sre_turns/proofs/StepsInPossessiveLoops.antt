@@ -13,6 +13,7 @@ use Rattle.sre_turns.specs.declared.Region.TheVariants.{Owed, Further}
 use Rattle.sre_turns.specs.declared.Point.TheVariants.{Instruction, Again}
 use Rattle.sre_turns.specs.Moves.{Move, Go}
 use Rattle.sre_turns.specs.MovesInLoops.{first_frame, next_frame, enter_body, again_move}
+use Rattle.sre_turns.specs.Limits.{Limit}
 use Rattle.sre_turns.specs.Machine.{Moves, Runs, turns, Goes, Later, spot, IsAt}
 use Rattle.sre_model.specs.Runs.{Run}
 use Rattle.sre_model.specs.Roles.{ToRepeatPossessively}
@@ -23,7 +24,7 @@ use Rattle.sre_turns.proofs.Moving.{at_instruction, turn_goes, turn_enters}
 -- POSSESSIVE_REPEAT
 pub possessive_step : (r : Run) (i : ℕ) (c : StringCursor) (b b' : BoardValue)
     → Opcode r.words i opcode.POSSESSIVE_REPEAT → b' ≡ record b { frames = first_frame i ∷ b.frames }
-    → (all : List Way) (limit : ℕ) → Goes r all limit (Instruction i) c b → Later r all limit (next.Again c) b'
+    → (all : List Way) (limit : Limit) → Goes r all limit (Instruction i) c b → Later r all limit (next.Again c) b'
 possessive_step r i c b b' w eb all limit g =
     let begun : BoardValue = record b { frames = first_frame i ∷ b.frames } in
     subst (λ x. Later r all limit (next.Again c) x) (sym eb)
@@ -67,7 +68,7 @@ again_at r v low high c b f mv h e =
 -- the loop ends where no further body may be tried
 pub again_done : (r : Run) (v low high : ℕ) (c : StringCursor) (b b' : BoardValue) (f : Frame)
     → InPossessiveLoop r v low high b f → low ≤ f.count → may_repeat high f.count f.last c.position ≡ false
-    → b' ≡ record b { frames = drop 1 b.frames } → (all : List Way) (limit : ℕ) → Goes r all limit Again c b
+    → b' ≡ record b { frames = drop 1 b.frames } → (all : List Way) (limit : Limit) → Goes r all limit Again c b
     → Later r all limit (next.At (f.repeat + 1 + v + 1) c) b'
 again_done r v low high c b b' f h l no_ eb all limit g =
     let left : BoardValue = record b { frames = drop 1 b.frames } in
@@ -87,7 +88,7 @@ begun k f last c b = record b {
 again_enters : (r : Run) (k : Region) (last : Option ℕ) (c : StringCursor) (b b' : BoardValue) (f : Frame)
     → Moves r.words r.subject (spot Again c b) (enter_body k f last (drop 1 b.frames) (spot Again c b))
     → b' ≡ begun k f last c b
-    → (all : List Way) (limit : ℕ) → Goes r all limit Again c b → Later r all limit (next.At (f.repeat + 4) c) b'
+    → (all : List Way) (limit : Limit) → Goes r all limit Again c b → Later r all limit (next.At (f.repeat + 4) c) b'
 again_enters r k last c b b' f h eb all limit g =
     subst (λ x. Later r all limit (next.At (f.repeat + 4) c) x) (sym eb)
     (turn_enters r Again
@@ -97,7 +98,7 @@ again_enters r k last c b b' f h eb all limit g =
 -- below the least count one is owed
 pub again_owed : (r : Run) (v low high : ℕ) (c : StringCursor) (b b' : BoardValue) (f : Frame)
     → InPossessiveLoop r v low high b f → f.count < low → b' ≡ begun Owed f f.last c b
-    → (all : List Way) (limit : ℕ) → Goes r all limit Again c b → Later r all limit (next.At (f.repeat + 4) c) b'
+    → (all : List Way) (limit : Limit) → Goes r all limit Again c b → Later r all limit (next.At (f.repeat + 4) c) b'
 again_owed r v low high c b b' f h l eb =
     let below : nat_lt f.count low ≡ true = grind (arith, nat_tests) in
     again_enters r Owed f.last c b b' f
@@ -107,7 +108,7 @@ again_owed r v low high c b b' f h l eb =
 pub again_further : (r : Run) (v low high : ℕ) (c : StringCursor) (b b' : BoardValue) (f : Frame)
     → InPossessiveLoop r v low high b f → low ≤ f.count → may_repeat high f.count f.last c.position ≡ true
     → b' ≡ begun (Further (f.repeat + 1 + v + 1)) f (Some c.position) c b
-    → (all : List Way) (limit : ℕ) → Goes r all limit Again c b → Later r all limit (next.At (f.repeat + 4) c) b'
+    → (all : List Way) (limit : Limit) → Goes r all limit Again c b → Later r all limit (next.At (f.repeat + 4) c) b'
 again_further r v low high c b b' f h l y eb =
     let k : Region = Further (f.repeat + 1 + v + 1) in
     let beyond : nat_lt f.count low ≡ false = grind (arith, nat_tests) in

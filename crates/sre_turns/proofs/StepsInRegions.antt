@@ -16,6 +16,9 @@ use Rattle.sre_turns.specs.declared.Point.{Point}
 use Rattle.sre_turns.specs.declared.Frame.{Frame}
 use Rattle.sre_turns.specs.Moves.{Spot, spot_at, Stop, Go, Enter, closing_move}
 use Rattle.sre_turns.specs.MovesInRegions.{look}
+use Rattle.sre_turns.specs.Settled.{Regionless}
+use Rattle.sre_turns.proofs.Faring.{region_waits}
+use Rattle.sre_turns.specs.Limits.{Limit, earlier}
 use Rattle.sre_turns.specs.Machine.{Moves, Runs, Comes, stops, goes, Waits, kept, Goes, Arrives, Placed, Ends}
 use Rattle.sre_model.specs.Runs.{Run}
 use Rattle.sre_turns.specs.Machine.{Later, spot, HasRun, after_outcome, without_outcome, without_loop}
@@ -35,7 +38,7 @@ abbrev pub entered : Region → StringCursor → BoardValue → BoardValue
 entered g c b = record b { frames = []; choices = Keep g b.frames c b.marks ∷ b.choices }
 
 pub atomic_step : (r : Run) (i v : ℕ) (c : StringCursor) (b b' : BoardValue) → Opcode r.words i opcode.ATOMIC_GROUP
-    → Word r.words (i + 1) v → b' ≡ entered (AtomicGroup (i + 1 + v)) c b → (all : List Way) (limit : ℕ)
+    → Word r.words (i + 1) v → b' ≡ entered (AtomicGroup (i + 1 + v)) c b → (all : List Way) (limit : Limit)
     → Goes r all limit (Instruction i) c b → Later r all limit (next.At (i + 2) c) b'
 atomic_step r i v c b b' w wv eb all limit g =
     let group : Region = AtomicGroup (i + 1 + v) in
@@ -71,12 +74,12 @@ look_early r sign i v back c b h l =
     (record { back = back; there = h.there; is = rw (word_of r.words (i + 1) v h.leads, early) refl })
 
 pub ahead_early : (r : Run) (i v back : ℕ) (c : StringCursor) (b : BoardValue) → AtLook r Positive i v back
-    → c.position < back → (all : List Way) (limit : ℕ) → Goes r all limit (Instruction i) c b
+    → c.position < back → (all : List Way) (limit : Limit) → Goes r all limit (Instruction i) c b
     → Later r all limit next.Back b
 ahead_early r i v back c b h l = turn_stops r (Instruction i) c b (look_early r Positive i v back c b h l)
 
 pub not_ahead_early : (r : Run) (i v back : ℕ) (c : StringCursor) (b : BoardValue) → AtLook r Negative i v back
-    → c.position < back → (all : List Way) (limit : ℕ) → Goes r all limit (Instruction i) c b
+    → c.position < back → (all : List Way) (limit : Limit) → Goes r all limit (Instruction i) c b
     → Later r all limit (next.At (i + 1 + v) c) b
 not_ahead_early r i v back c b h l all limit g =
     turn_goes r (Instruction i) c b (Instruction (i + 1 + v)) c b
@@ -85,7 +88,7 @@ not_ahead_early r i v back c b h l all limit g =
 -- else its body is tried
 pub look_step : (r : Run) (sign : Sign) (i v back : ℕ) (c c' : StringCursor) (b b' : BoardValue)
     → AtLook r sign i v back → back ≤ c.position → c'.position ≡ c.position - back → r.stands c' c'.position
-    → b' ≡ entered (look sign (i + 1 + v)) c b → (all : List Way) (limit : ℕ) → Goes r all limit (Instruction i) c b
+    → b' ≡ entered (look sign (i + 1 + v)) c b → (all : List Way) (limit : Limit) → Goes r all limit (Instruction i) c b
     → Later r all limit (next.At (i + 3) c') b'
 look_step r sign i v back c c' b b' h l place there eb all limit g =
     let region : Region = look sign (i + 1 + v) in
@@ -101,19 +104,27 @@ look_step r sign i v back c c' b b' h l place there eb all limit g =
 -- a body has an outcome at a cursor: what comes of the region that is cut
 module _ (r : Run) (c d : StringCursor) (b b' : BoardValue) where
   -- nothing comes of it
-  ends_stop : {x : Spot} {all os : List Way} {limit n k j later : ℕ} → Comes r.words r.subject x Stop os n
-      → Waits r b'.choices (0 + n) os all k → n + k ≤ j → j ≤ later → later + 1 ≤ limit
+  ends_stop : (Regionless r → ⊥) → {x : Spot} {all os : List Way} (limit : Limit) {n k j later : ℕ}
+      → Comes r.words r.subject x Stop os n
+      → Waits r b'.choices (0 + n) os all k → n + k ≤ j → j ≤ later → later + 1 ≤ limit.turns
       → Later r all limit next.Back b'
-  ends_stop stops wt e l m =
-      (omega arith, record { later = _; waits = sooner (0 + 1) 0 (omega arith) wt; within = omega arith })
+  ends_stop never limit stops wt e l m = (
+    omega arith,
+    record {
+      later = _;
+      waits = sooner (0 + 1) 0 (omega arith) wt;
+      within = omega arith;
+      fares = λ pl. absurd (never pl);
+    },
+  )
 
   -- it goes on at a cursor
-  ends_go : {x : Spot} {all os : List Way} {limit n k j later : ℕ} (pt : Point) (at : StringCursor)
-      → r.stands at at.position → Placed r.subject b.marks → b'.marks ≡ b.marks
+  ends_go : (Regionless r → ⊥) → {x : Spot} {all os : List Way} (limit : Limit) {n k j later : ℕ} (pt : Point)
+      (at : StringCursor) → r.stands at at.position → Placed r.subject b.marks → b'.marks ≡ b.marks
       → Comes r.words r.subject x (Go (spot_at pt b'.frames at.position b.marks)) os n
-      → Waits r b'.choices (0 + n) os all k → n + k ≤ j → j ≤ later → later + 1 ≤ limit
-      → (1 ≤ limit) × Arrives r all (limit - 1) pt at b'
-  ends_go {x} {all} {os} {limit} {n} {k} pt at there placed em (goes {n = n'} e) wt same l m =
+      → Waits r b'.choices (0 + n) os all k → n + k ≤ j → j ≤ later → later + 1 ≤ limit.turns
+      → (1 ≤ limit.turns) × Arrives r all (earlier limit) pt at b'
+  ends_go never {x} {all} {os} limit {n} {k} pt at there placed em (goes {n = n'} e) wt same l m =
       let moved : Runs r.words r.subject (spot pt at b') os n' =
       subst (λ ms. Runs r.words r.subject (spot_at pt b'.frames at.position ms) os n') (sym em) e in (
         omega arith,
@@ -126,44 +137,56 @@ module _ (r : Run) (c d : StringCursor) (b b' : BoardValue) where
           runs = moved;
           waits = sooner (0 + suc n') (n' + 1) (omega arith) wt;
           within = omega arith;
+          fares = λ pl o w. absurd (never pl);
         },
       )
 
-  region_ends : (g : Region) (m : Marks) (us all : List Way) (limit j later : ℕ) → b'.marks ≡ b.marks
+  region_ends : (Regionless r → ⊥) → (g : Region) (m : Marks) (us all : List Way) (limit : Limit) (j later : ℕ)
+      → b'.marks ≡ b.marks
       → r.stands c c.position → Placed r.subject b.marks
       → Waits r (Keep g b'.frames d m ∷ b'.choices) 0 (record { stop = c.position; marks = b.marks } ∷ us) all j
-      → j ≤ later → later + 1 ≤ limit → Later r all limit (after_outcome g c d) b'
-  region_ends (AtomicGroup t) m us all limit j later em there placed (kept at _ f wt) l k =
-      ends_go (Instruction t) c there placed em f wt (omega arith) l k
-  region_ends (Ahead t) m us all limit j later em there placed (kept at _ f wt) l k =
-      ends_go (Instruction t) d at placed em f wt (omega arith) l k
-  region_ends (NotAhead t) m us all limit j later em there placed (kept at _ f wt) l k =
-      ends_stop f wt (omega arith) l k
-  region_ends Owed m us all limit j later em there placed (kept at _ f wt) l k =
-      ends_go Again c there placed em f wt (omega arith) l k
-  region_ends (Further t) m us all limit j later em there placed (kept at _ f wt) l k =
-      ends_go Again c there placed em f wt (omega arith) l k
+      → j ≤ later → later + 1 ≤ limit.turns → Later r all limit (after_outcome g c d) b'
+  region_ends never (AtomicGroup t) m us all limit j later em there placed (kept at _ f wt) l k =
+      ends_go never limit (Instruction t) c there placed em f wt (omega arith) l k
+  region_ends never (Ahead t) m us all limit j later em there placed (kept at _ f wt) l k =
+      ends_go never limit (Instruction t) d at placed em f wt (omega arith) l k
+  region_ends never (NotAhead t) m us all limit j later em there placed (kept at _ f wt) l k =
+      ends_stop never limit f wt (omega arith) l k
+  region_ends never Owed m us all limit j later em there placed (kept at _ f wt) l k =
+      ends_go never limit Again c there placed em f wt (omega arith) l k
+  region_ends never (Further t) m us all limit j later em there placed (kept at _ f wt) l k =
+      ends_go never limit Again c there placed em f wt (omega arith) l k
 
-  pub region_closes : (g : Region) → Cuts b g d b' → (all : List Way) (limit : ℕ) → Ends r all limit c b
+  pub region_closes : (g : Region) → Cuts b g d b' → (all : List Way) (limit : Limit) → Ends r all limit c b
       → Later r all limit (after_outcome g c d) b'
   region_closes g cut all limit e =
       let u = cut_waits r b.choices b'.choices g b'.frames d cut.entered
       (record { stop = c.position; marks = b.marks }) [] all e.later cut.region e.waits in
-      region_ends g cut.entered u.0 all limit u.1 e.later cut.marks e.stands e.placed u.3 u.2 e.within
+      region_ends (λ pl. region_waits r pl limit 2 b.choices cut.region
+      (e.fares pl)) g cut.entered u.0 all limit u.1 e.later cut.marks e.stands e.placed u.3 u.2 e.within
 
 -- a body has no outcome
 module _ (r : Run) (c : StringCursor) (b' : BoardValue) where
-  back_stop : {x : Spot} {all os : List Way} {limit n k : ℕ} → Comes r.words r.subject x Stop os n
-      → Waits r b'.choices (0 + n) os all k → n + k ≤ limit → Later r all limit next.Back b'
-  back_stop stops wt l =
-      (omega arith, record { later = _; waits = sooner (0 + 1) 0 (omega arith) wt; within = omega arith })
+  back_stop : (Regionless r → ⊥) → {x : Spot} {all os : List Way} (limit : Limit) {n k : ℕ}
+      → Comes r.words r.subject x Stop os n
+      → Waits r b'.choices (0 + n) os all k → n + k ≤ limit.turns → Later r all limit next.Back b'
+  back_stop never limit stops wt l = (
+    omega arith,
+    record {
+      later = _;
+      waits = sooner (0 + 1) 0 (omega arith) wt;
+      within = omega arith;
+      fares = λ pl. absurd (never pl);
+    },
+  )
 
-  back_go : {x : Spot} {all os : List Way} {limit n k : ℕ} (t : ℕ) (fs : List Frame) → r.stands c c.position
+  back_go : (Regionless r → ⊥) → {x : Spot} {all os : List Way} (limit : Limit) {n k : ℕ} (t : ℕ) (fs : List Frame)
+      → r.stands c c.position
       → Placed r.subject b'.marks
       → Comes r.words r.subject x (Go (spot_at (Instruction t) fs c.position b'.marks)) os n
-      → Waits r b'.choices (0 + n) os all k → n + k ≤ limit → Later r all limit (next.At t c)
+      → Waits r b'.choices (0 + n) os all k → n + k ≤ limit.turns → Later r all limit (next.At t c)
       (record b' { frames = fs })
-  back_go t fs there placed (goes {n = n'} e) wt l = (
+  back_go never limit t fs there placed (goes {n = n'} e) wt l = (
     omega arith,
     record {
       now = _;
@@ -174,15 +197,16 @@ module _ (r : Run) (c : StringCursor) (b' : BoardValue) where
       runs = e;
       waits = sooner (0 + suc n') (n' + 1) (omega arith) wt;
       within = omega arith;
+      fares = λ pl o w. absurd (never pl);
     },
   )
 
-  pub region_back : (g : Region) (all : List Way) (limit k : ℕ)
-      → Waits r (Keep g b'.frames c b'.marks ∷ b'.choices) 0 [] all k → k ≤ limit
+  pub region_back : (Regionless r → ⊥) → (g : Region) (all : List Way) (limit : Limit) (k : ℕ)
+      → Waits r (Keep g b'.frames c b'.marks ∷ b'.choices) 0 [] all k → k ≤ limit.turns
       → Later r all limit (without_outcome g c) (without_loop g b')
-  region_back (AtomicGroup t) all limit k (kept at _ f wt) l = back_stop f wt l
-  region_back (Ahead t) all limit k (kept at _ f wt) l = back_stop f wt l
-  region_back (NotAhead t) all limit k (kept at placed f wt) l = back_go t b'.frames at placed f wt l
-  region_back Owed all limit k (kept at _ f wt) l = back_stop f wt l
-  region_back (Further t) all limit k (kept at placed f wt) l =
-      back_go t (drop 1 b'.frames) at placed f wt l
+  region_back never (AtomicGroup t) all limit k (kept at _ f wt) l = back_stop never limit f wt l
+  region_back never (Ahead t) all limit k (kept at _ f wt) l = back_stop never limit f wt l
+  region_back never (NotAhead t) all limit k (kept at placed f wt) l = back_go never limit t b'.frames at placed f wt l
+  region_back never Owed all limit k (kept at _ f wt) l = back_stop never limit f wt l
+  region_back never (Further t) all limit k (kept at placed f wt) l =
+      back_go never limit t (drop 1 b'.frames) at placed f wt l

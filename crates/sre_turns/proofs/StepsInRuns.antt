@@ -17,6 +17,7 @@ use Rattle.sre_turns.specs.declared.Point.TheVariants.{Instruction, Shorter, Lon
 use Rattle.sre_turns.specs.Moves.{spot_at, Stop, Split, Go}
 use Rattle.sre_turns.specs.MovesInRuns.{RunOperands}
 use Rattle.sre_turns.specs.OperandsOfRuns.{OperandsOfRun}
+use Rattle.sre_turns.specs.Limits.{Limit}
 use Rattle.sre_turns.specs.Machine.{Moves, Runs, turns, Goes, GoesBoth, Later, spot, HasRun, Skips, SkipsBoth}
 use Rattle.sre_model.specs.Runs.{Run}
 use Rattle.sre_turns.specs.Machine.{Exhausted, Refuses, Demands, DemandsAny, Excludes}
@@ -49,7 +50,7 @@ pub shorter_within : (r : Run) {t k p n : ℕ} {fs : List Frame} {m : Marks} {os
     → Runs r.words r.subject (spot_at (Shorter t k) fs p m) os n → k ≤ p
 shorter_within r (turns mv h d) = h.past
 
-pub shorter_none : (r : Run) (t k : ℕ) (c : StringCursor) (b : BoardValue) → k ≡ 0 → (all : List Way) (limit : ℕ)
+pub shorter_none : (r : Run) (t k : ℕ) (c : StringCursor) (b : BoardValue) → k ≡ 0 → (all : List Way) (limit : Limit)
     → Goes r all limit (Shorter t k) c b → Later r all limit next.Back b
 shorter_none r t k c b e = turn_stops r (Shorter t k) c b (shorter_stop r t k c.position b.frames b.marks e)
 
@@ -57,7 +58,7 @@ pub shorter_past : (r : Run) (t k : ℕ) (c : StringCursor) → 0 < k → HasRun
 shorter_past r t k c l x = omega (arith, shorter_within r x.runs)
 
 shorter_both : (r : Run) (t k j : ℕ) (c c' : StringCursor) (b : BoardValue) → k ≡ suc j
-    → c.position ≡ c'.position + 1 → r.stands c' c'.position → (all : List Way) (limit : ℕ)
+    → c.position ≡ c'.position + 1 → r.stands c' c'.position → (all : List Way) (limit : Limit)
     → Goes r all limit (Shorter t k) c b
     → GoesBoth r all limit (spot (Instruction t) c' b) (spot (Shorter t j) c' b) c' b.choices
 shorter_both r t k j c c' b e place there all limit g =
@@ -86,7 +87,7 @@ shorter_skips r pt start t k c c' more place there x skips =
           shorter_both r t k (k - 1) c c' b less place there all limit (skips b all limit g);
     }
 
-pub shorter_last : (r : Run) (i t k : ℕ) (c : StringCursor) (b : BoardValue) → k ≡ 0 → (all : List Way) (limit : ℕ)
+pub shorter_last : (r : Run) (i t k : ℕ) (c : StringCursor) (b : BoardValue) → k ≡ 0 → (all : List Way) (limit : Limit)
     → GoesBoth r all limit (spot (Instruction i) c b) (spot (Shorter t k) c b) c b.choices
     → Later r all limit (next.At i c) b
 shorter_last r i t k c b e =
@@ -127,7 +128,8 @@ CountsRun r i high p count =
 
 pub run_short : (r : Run) (i tail low high count : ℕ) (c : StringCursor) (b : BoardValue)
     → Opcode r.words i opcode.REPEAT_ONE → OperandsOfRun r.words i tail low high → CountsRun r i high c.position count
-    → count < low → (all : List Way) (limit : ℕ) → Goes r all limit (Instruction i) c b → Later r all limit next.Back b
+    → count < low → (all : List Way) (limit : Limit) → Goes r all limit (Instruction i) c b
+    → Later r all limit next.Back b
 run_short r i tail low high count c b w o k l =
     let longest : longest_run r.subject o.test.test high c.position ≡ count =
     sym (k o.test.end o.test.test o.test.stands) in
@@ -182,7 +184,7 @@ module _ (r : Run) (i tail low high count : ℕ) (c after : StringCursor) (w : O
         is = rw (longest, enough, moved_on, o.leads) refl;
       })
 
-  pub run_both : (b : BoardValue) (all : List Way) (limit : ℕ) → Goes r all limit (Instruction i) c b
+  pub run_both : (b : BoardValue) (all : List Way) (limit : Limit) → Goes r all limit (Instruction i) c b
       → GoesBoth r all limit (spot (Instruction tail) after b) (spot (Shorter tail (count - low)) after b) after
       b.choices
   run_both b all limit g =
@@ -224,7 +226,7 @@ module _ (r : Run) (i tail low high count : ℕ) (c : StringCursor) (b : BoardVa
   longest_is : longest_run r.subject o.test.test high c.position ≡ count
   longest_is = sym (k o.test.end o.test.test o.test.stands)
 
-  pub longest_short : count < low → (all : List Way) (limit : ℕ) → Goes r all limit (Instruction i) c b
+  pub longest_short : count < low → (all : List Way) (limit : Limit) → Goes r all limit (Instruction i) c b
       → Later r all limit next.Back b
   longest_short l =
       let short : nat_lt count low ≡ true = grind (arith, nat_tests) in
@@ -239,7 +241,7 @@ module _ (r : Run) (i tail low high count : ℕ) (c : StringCursor) (b : BoardVa
       }))
 
   pub longest_step : (after : StringCursor) → low ≤ count → after.position ≡ c.position + count
-      → r.stands after after.position → (all : List Way) (limit : ℕ) → Goes r all limit (Instruction i) c b
+      → r.stands after after.position → (all : List Way) (limit : Limit) → Goes r all limit (Instruction i) c b
       → Later r all limit (next.At tail after) b
   longest_step after l moved_on there all limit g =
       let enough : nat_lt count low ≡ false = grind (arith, nat_tests) in
@@ -261,7 +263,8 @@ CountsUpTo r i most p count =
 
 module _ (r : Run) (i tail low high : ℕ) (c : StringCursor) (w : Opcode r.words i opcode.MIN_REPEAT_ONE)
     (o : OperandsOfRun r.words i tail low high) where
-  lazy_stops : (b : BoardValue) → run_length r.subject o.test.test low c.position < low → (all : List Way) (limit : ℕ)
+  lazy_stops : (b : BoardValue) → run_length r.subject o.test.test low c.position < low
+      → (all : List Way) (limit : Limit)
       → Goes r all limit (Instruction i) c b → Later r all limit next.Back b
   lazy_stops b l =
       let short : nat_lt (run_length r.subject o.test.test low c.position) low ≡ true = grind (arith, nat_tests) in
@@ -275,12 +278,12 @@ module _ (r : Run) (i tail low high : ℕ) (c : StringCursor) (w : Opcode r.word
       }))
 
   -- the window is too short, or a character does not pass
-  pub lazy_cut : (b : BoardValue) → r.subject.end - c.position < low → (all : List Way) (limit : ℕ)
+  pub lazy_cut : (b : BoardValue) → r.subject.end - c.position < low → (all : List Way) (limit : Limit)
       → Goes r all limit (Instruction i) c b → Later r all limit next.Back b
   lazy_cut b l = lazy_stops b (omega (arith, run_inside r.subject o.test.test low c.position))
 
   pub lazy_short : (b : BoardValue) (count : ℕ) → CountsUpTo r i low c.position count → count < low
-      → (all : List Way) (limit : ℕ) → Goes r all limit (Instruction i) c b → Later r all limit next.Back b
+      → (all : List Way) (limit : Limit) → Goes r all limit (Instruction i) c b → Later r all limit next.Back b
   lazy_short b count k l = lazy_stops b (omega (arith, k o.test.end o.test.test o.test.stands))
 
   module _ (count : ℕ) (after : StringCursor) (k : CountsUpTo r i low c.position count) (l : low ≤ count)
@@ -303,7 +306,7 @@ module _ (r : Run) (i tail low high : ℕ) (c : StringCursor) (w : Opcode r.word
           is = rw (all_, enough, place, o.leads) refl;
         })
 
-    pub lazy_both : (b : BoardValue) (all : List Way) (limit : ℕ) → Goes r all limit (Instruction i) c b
+    pub lazy_both : (b : BoardValue) (all : List Way) (limit : Limit) → Goes r all limit (Instruction i) c b
         → GoesBoth r all limit (spot (Instruction tail) after b) (spot (Longer i low) after b) after b.choices
     lazy_both b all limit g =
         turn_splits r (Instruction i) c b (spot (Instruction tail) after b) (spot (Longer i low) after b) after
@@ -330,7 +333,7 @@ longer_past r i n c x = (longer_within r x.runs).1
 module _ (r : Run) (i tail low high n : ℕ) (c : StringCursor) (o : OperandsOfRun r.words i tail low high)
     (past : n ≤ c.position) where
   longer_stops : (b : BoardValue) → goes_on r.subject o.test.test high n c.position ≡ false
-      → (all : List Way) (limit : ℕ) → Goes r all limit (Longer i n) c b → Later r all limit next.Back b
+      → (all : List Way) (limit : Limit) → Goes r all limit (Longer i n) c b → Later r all limit next.Back b
   longer_stops b e = turn_stops r (Longer i n) c b (record {
     low = low;
     high = high;
@@ -342,11 +345,12 @@ module _ (r : Run) (i tail low high n : ℕ) (c : StringCursor) (o : OperandsOfR
   })
 
   -- the greatest count is reached, or the window's end, or a character does not pass
-  pub longer_full : (b : BoardValue) → (nat_eq high unlimited || nat_lt n high) ≡ false → (all : List Way) (limit : ℕ)
+  pub longer_full : (b : BoardValue) → (nat_eq high unlimited || nat_lt n high) ≡ false
+      → (all : List Way) (limit : Limit)
       → Goes r all limit (Longer i n) c b → Later r all limit next.Back b
   longer_full b e = longer_stops b (rw e refl)
 
-  pub longer_end : (b : BoardValue) → r.subject.end ≤ c.position → (all : List Way) (limit : ℕ)
+  pub longer_end : (b : BoardValue) → r.subject.end ≤ c.position → (all : List Way) (limit : Limit)
       → Goes r all limit (Longer i n) c b → Later r all limit next.Back b
   longer_end b l =
       longer_stops b
@@ -356,7 +360,8 @@ module _ (r : Run) (i tail low high n : ℕ) (c : StringCursor) (o : OperandsOfR
       and_false true = refl
       and_false false = refl
 
-  pub longer_unlike : (b : BoardValue) → passes r.subject o.test.test c.position ≡ false → (all : List Way) (limit : ℕ)
+  pub longer_unlike : (b : BoardValue) → passes r.subject o.test.test c.position ≡ false
+      → (all : List Way) (limit : Limit)
       → Goes r all limit (Longer i n) c b → Later r all limit next.Back b
   longer_unlike b e = longer_stops b (rw e (and_false (nat_eq high unlimited || nat_lt n high)))
     where
@@ -380,7 +385,7 @@ module _ (r : Run) (i tail low high n : ℕ) (c : StringCursor) (o : OperandsOfR
       is = rw (more, taken, moved_on, o.leads) refl;
     }
 
-    longer_both : (b : BoardValue) (all : List Way) (limit : ℕ) → Goes r all limit (Longer i n) c b
+    longer_both : (b : BoardValue) (all : List Way) (limit : Limit) → Goes r all limit (Longer i n) c b
         → GoesBoth r all limit (spot (Instruction tail) after b) (spot (Longer i (n + 1)) after b) after b.choices
     longer_both b all limit g =
         turn_splits r (Longer i n) c b (spot (Instruction tail) after b) (spot (Longer i (n + 1)) after b) after

@@ -1,6 +1,6 @@
 -- An instruction that is tried: a mark waits below all that comes of it, and where that mark is come to again, nothing
 -- came of the instruction, and nothing will.
-use Rattle.std.proofs.Common.{◌≡◌, ℕ, ◌≤◌, Bool, true, false, List, [], ◌∷◌, refl, sym, subst, arith}
+use Rattle.std.proofs.Common.{◌≡◌, ℕ, ◌+◌, ◌≤◌, Bool, true, false, List, [], ◌∷◌, drop, ap, refl, sym, subst, arith}
 use Rattle.sre_chars.specs.declared.string.StringCursor.{StringCursor}
 use Rattle.sre_model.specs.Ways.{Way}
 use Rattle.sre_model.specs.Runs.{Run}
@@ -10,11 +10,16 @@ use Rattle.sre_turns.specs.MovesAtReferences.{HasReference}
 use Rattle.sre_turns.specs.declared.Frame.{Frame}
 use Rattle.sre_turns.specs.declared.Point.TheVariants.{Instruction}
 use Rattle.sre_turns.specs.declared.Next.TheVariants as next
-use Rattle.sre_turns.specs.Machine.{Runs, Waits, tried, Goes, Backs, Later, spot, IsAt}
+use Rattle.sre_turns.specs.Limits.{Limit, with_tried, without_tried, Fares}
+use Rattle.sre_turns.specs.Settled.{Regionless}
+use Rattle.sre_turns.specs.Machine.{Runs, Waits, tried, Goes, Arrives, Backs, Later, spot, IsAt}
 use Rattle.sre_turns.specs.Fruit.{Fruitless, SameFruit, is_inside}
 use Rattle.sre_turns.specs.Alike.{Alike, LoopsAlike, least_from}
 use Rattle.sre_turns.specs.Hopeless.{Hopeless, AcceptsByStop}
-use Rattle.sre_turns.proofs.Hopeless.{hopeless_again, hopeless_back, tried_fruitless}
+use Rattle.sre_turns.proofs.Hopeless.{hopeless_again, fruitless_waits, tried_fruitless}
+use Rattle.sre_turns.specs.Potential.{potential_of}
+use Rattle.sre_turns.proofs.Moving.{sooner, some_turns}
+use Rattle.sre_turns.proofs.Faring.{fares_earlier, run_code}
 
 -- the same fruit comes of the same outcomes
 same_fruit : (r : Run) (inside : Bool) (os : List Way) → SameFruit r inside os os
@@ -23,10 +28,11 @@ same_fruit r false os = refl
 
 -- an instruction is tried: its mark waits
 pub trying_goes : (r : Run) (i : ℕ) (c : StringCursor) (b b' : BoardValue)
-    → b' ≡ record b { choices = Trying i b.frames c b.marks ∷ b.choices } → (all : List Way) (limit : ℕ)
-    → Goes r all limit (Instruction i) c b → Goes r all limit (Instruction i) c b'
+    → b' ≡ record b { choices = Trying i b.frames c b.marks ∷ b.choices } → (all : List Way) (limit : Limit)
+    → Goes r all limit (Instruction i) c b
+    → Goes r all (with_tried (spot (Instruction i) c b) limit) (Instruction i) c b'
 trying_goes r i c b b' e all limit g =
-    subst (λ x. Goes r all limit (Instruction i) c x) (sym e)
+    subst (λ x. Goes r all (with_tried (spot (Instruction i) c b) limit) (Instruction i) c x) (sym e)
     (record {
       now = g.now;
       turns = g.turns;
@@ -36,16 +42,36 @@ trying_goes r i c b b' e all limit g =
       runs = g.runs;
       waits = tried g.stands g.placed g.runs (omega arith) (same_fruit r (is_inside b.choices) g.now) g.waits;
       within = g.within;
+      fares = λ pl o w.
+          let f = g.fares pl o w in
+          record {
+            here = f.here;
+            fares = record {
+              settled = (f.here, f.fares.settled);
+              trying = ap (λ xs. spot (Instruction i) c b ∷ xs) f.fares.trying;
+              left = omega (arith, f.fares.left);
+            };
+          };
     })
 
 -- the mark is come to: what waited below it still waits
 pub tried_waits : (r : Run) (i : ℕ) (c : StringCursor) (b b' : BoardValue)
-    → b.choices ≡ Trying i b'.frames c b'.marks ∷ b'.choices → (all : List Way) (limit : ℕ) → Backs r all limit b
-    → Backs r all limit b'
+    → b.choices ≡ Trying i b'.frames c b'.marks ∷ b'.choices → (all : List Way) (limit : Limit) → Backs r all limit b
+    → Backs r all (without_tried limit) b'
 tried_waits r i c b b' e all limit g = go (subst (λ x. Waits r x 0 [] all g.later) e g.waits) g.within
   where
-    go : {k : ℕ} → Waits r (Trying i b'.frames c b'.marks ∷ b'.choices) 0 [] all k → k ≤ limit → Backs r all limit b'
-    go (tried {k = k} there placed d most same wt) l = record { later = k; waits = wt; within = l }
+    left : (pl : Regionless r) → Fares r pl (without_tried limit) 0 b'.choices
+    left pl =
+        let f = subst (λ x. Fares r pl limit 0 x) e (g.fares pl) in
+        record {
+          settled = f.settled.1;
+          trying = ap (λ xs. drop 1 xs) f.trying;
+          left = omega (arith, f.left);
+        }
+
+    go : {k : ℕ} → Waits r (Trying i b'.frames c b'.marks ∷ b'.choices) 0 [] all k → k ≤ limit.turns
+        → Backs r all (without_tried limit) b'
+    go (tried {k = k} there placed d most same wt) l = record { later = k; waits = wt; within = l; fares = left }
 
 -- what comes of a spot, which is nothing
 pub record CameToNothing (r : Run) (inside : Bool) (x : Spot) : Type 0 where
@@ -60,7 +86,7 @@ came_hopeless r told none inside x d = hopeless_again r told none inside x d.out
 
 -- the instruction came to nothing
 pub tried_came : (r : Run) (i : ℕ) (c : StringCursor) (b b' : BoardValue)
-    → b.choices ≡ Trying i b'.frames c b'.marks ∷ b'.choices → (all : List Way) (limit : ℕ) → Backs r all limit b
+    → b.choices ≡ Trying i b'.frames c b'.marks ∷ b'.choices → (all : List Way) (limit : Limit) → Backs r all limit b
     → CameToNothing r (is_inside b'.choices) (spot (Instruction i) c b')
 tried_came r i c b b' e all limit g = go (subst (λ x. Waits r x 0 [] all g.later) e g.waits)
   where
@@ -71,7 +97,7 @@ tried_came r i c b b' e all limit g = go (subst (λ x. Waits r x 0 [] all g.late
 
 -- the machine may stand at it again
 pub tried_at : (r : Run) (i : ℕ) (c : StringCursor) (b b' : BoardValue)
-    → b.choices ≡ Trying i b'.frames c b'.marks ∷ b'.choices → (all : List Way) (limit : ℕ) → Backs r all limit b
+    → b.choices ≡ Trying i b'.frames c b'.marks ∷ b'.choices → (all : List Way) (limit : Limit) → Backs r all limit b
     → IsAt r (Instruction i) c b'
 tried_at r i c b b' e all limit g = go (subst (λ x. Waits r x 0 [] all g.later) e g.waits)
   where
@@ -81,7 +107,7 @@ tried_at r i c b b' e all limit g = go (subst (λ x. Waits r x 0 [] all g.later)
 
 -- so it is hopeless
 pub tried_hopeless : (r : Run) → AcceptsByStop r → (HasReference r.words → ⊥) → (i : ℕ) (c : StringCursor)
-    (b b' : BoardValue) → b.choices ≡ Trying i b'.frames c b'.marks ∷ b'.choices → (all : List Way) (limit : ℕ)
+    (b b' : BoardValue) → b.choices ≡ Trying i b'.frames c b'.marks ∷ b'.choices → (all : List Way) (limit : Limit)
     → Backs r all limit b → Hopeless r (is_inside b'.choices) (spot (Instruction i) c b')
 tried_hopeless r told none i c b b' e all limit g =
     came_hopeless r told none (is_inside b'.choices) (spot (Instruction i) c b') (tried_came r i c b b' e all limit g)
@@ -99,10 +125,21 @@ alike_itself ws x = record {
   loops = loops_itself ws (least_from x.point x.position) x.frames;
 }
 
--- a hopeless instruction is left at once
+-- a hopeless instruction that is come to is left at once
 pub hopeless_left : (r : Run) (i : ℕ) (c : StringCursor) (b : BoardValue)
-    → Hopeless r (is_inside b.choices) (spot (Instruction i) c b) → (all : List Way) (limit : ℕ)
-    → Goes r all limit (Instruction i) c b → Later r all limit next.Back b
+    → Hopeless r (is_inside b.choices) (spot (Instruction i) c b) → (all : List Way) (limit : Limit)
+    → Arrives r all limit (Instruction i) c b → Later r all limit next.Back b
 hopeless_left r i c b hopeless all limit g =
-    hopeless_back r (spot (Instruction i) c b) (Instruction i) c b hopeless
-    (alike_itself r.words (spot (Instruction i) c b)) all limit g
+    let x : Spot = spot (Instruction i) c b in (
+      omega (arith, some_turns g.runs, g.within),
+      record {
+        later = g.later;
+        waits = sooner (g.turns + 1) 0 (omega arith)
+            (fruitless_waits r b.choices g.now (hopeless.none x g.now g.turns (alike_itself r.words x) g.runs) g.waits);
+        within = omega (arith, some_turns g.runs, g.within);
+        fares = λ pl.
+            let code = run_code r x g.runs in
+            fares_earlier r pl limit b.choices 0 (potential_of r.words r.subject.end x) (omega arith)
+            (g.fares pl code.0 code.1).fares;
+      },
+    )

@@ -1,9 +1,9 @@
 -- Alike spots: those between which no turn tells a difference, where the words have no reference.
 -- Words of the machine's contracts: the memory of failures goes by them, since of a spot that is alike to one of which
 -- nothing came nothing will come. What sre_engine makes public does not rest on it.
-use Rattle.std.specs.Prelude.{⊤, ℕ, ◌+◌, ◌-◌, ◌≡◌, ◌≤◌, Bool, false, List, [], ◌∷◌, min, max, cond, nat_eq}
+use Rattle.std.specs.Prelude.{⊤, ℕ, ◌+◌, ◌-◌, ◌≡◌, ◌≤◌, Bool, false, List, [], ◌∷◌, min, nat_eq}
 use Rattle.std.specs.Prelude.{Option, Some, None}
-use Rattle.sre_model.specs.Ways.{unlimited}
+pub use Rattle.sre_model.specs.Slots.{counted_to}
 use Rattle.sre_model.specs.Grammar.{Word}
 use Rattle.sre_turns.specs.declared.Frame.{Frame}
 use Rattle.sre_turns.specs.declared.Point.TheVariants.{Shorter}
@@ -14,10 +14,6 @@ use Rattle.sre_turns.specs.Moves.{Spot}
 abbrev pub is_last : Option ℕ → ℕ → Bool
 is_last None p = false
 is_last (Some last) p = nat_eq last p
-
--- up to which number a loop's bodies make a difference
-abbrev pub counted_to : ℕ → ℕ → ℕ
-counted_to low high = cond (nat_eq high unlimited) low (max low high)
 
 -- two frames of one loop, between which no turn from p on tells a difference
 pub record FramesAlike (ws : List ℕ) (p : ℕ) (f g : Frame) : Type 0 where

@@ -5,9 +5,13 @@ pub mod OperandsOfRuns
 pub mod MovesInLoops
 pub mod MovesInRegions
 pub mod MovesAtReferences
+pub mod Turning
 pub mod Alike
-pub mod Machine
 pub mod Nested
+pub mod Potential
+pub mod Settled
+pub mod Limits
+pub mod Machine
 pub mod Fruit
 pub mod Hopeless
 pub mod RunEnds

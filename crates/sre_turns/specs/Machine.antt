@@ -1,6 +1,6 @@
 -- The machine: what standing at a point of the words means, and what a turn keeps.
 -- Words of the machine's contracts; what sre_engine makes public does not rest on it.
-use Rattle.std.specs.Prelude.{⊤, ℕ, suc, ◌+◌, ◌-◌, ◌≡◌, ◌<◌, ◌≤◌, Bool, false, List, [], ◌∷◌, ◌++◌, drop, length}
+use Rattle.std.specs.Prelude.{⊤, ℕ, suc, ◌+◌, ◌≡◌, ◌<◌, ◌≤◌, Bool, false, List, [], ◌∷◌, ◌++◌, drop, length}
 use Rattle.std.specs.Prelude.{Option, Some, None}
 use Rattle.std.specs.List.{filter}
 use Rattle.sre_chars.specs.declared.constants.SreOpcode.{SreOpcode}
@@ -8,79 +8,25 @@ use Rattle.sre_chars.specs.declared.string.StringCursor.{StringCursor}
 use Rattle.sre_chars.specs.Tables.{Table}
 use Rattle.sre_model.specs.Tree.{Tree, Test, Literal, Plain}
 use Rattle.sre_model.specs.Characters.{holds}
-use Rattle.sre_model.specs.Roles.{Role, ToFail, ToEnd, ToTest, ToCheckPosition, ToMark, ToBranch, ToJump, ToRun}
-use Rattle.sre_model.specs.Roles.{ToRepeat}
-use Rattle.sre_model.specs.Roles.{ToLoop, ToRepeatPossessively, ToGroupAtomically, ToLook, ToRefer, ToCheckGroup}
-use Rattle.sre_model.specs.Roles.{ToNothing, role}
 use Rattle.sre_model.specs.Marks.{Marks, mark_at, no_marks}
 use Rattle.sre_model.specs.Subject.{Subject, char_at, passes}
 use Rattle.sre_model.specs.Ways.{Way, here, ways}
 use Rattle.sre_model.specs.Runs.{Run}
-use Rattle.sre_model.specs.Grammar.{Opcode}
 use Rattle.sre_model.specs.Standing.{TestStands}
 use Rattle.sre_turns.specs.Board.{Choice, Else, Keep, Trying, BoardValue}
 use Rattle.sre_turns.specs.Fruit.{SameFruit, is_inside}
 use Rattle.sre_turns.specs.declared.Frame.{Frame}
 use Rattle.sre_turns.specs.declared.Region.TheVariants.{AtomicGroup, Ahead, NotAhead, Owed, Further}
 use Rattle.sre_turns.specs.declared.Region.{Region}
-use Rattle.sre_turns.specs.declared.Point.TheVariants.{Instruction, Alternatives, Shorter, Longer, Inside, Again, Tried}
+use Rattle.sre_turns.specs.declared.Point.TheVariants.{Instruction, Again}
 use Rattle.sre_turns.specs.declared.Point.{Point}
-use Rattle.sre_turns.specs.Moves.{Spot, spot_at, Move, Stop, End, Go, Split, Enter, closing_move, to_point, TestMove}
-use Rattle.sre_turns.specs.Moves.{AtMove}
-use Rattle.sre_turns.specs.Moves.{MarkMove, JumpMove, AlternativesMove}
-use Rattle.sre_turns.specs.MovesInRuns.{RunMove, ShorterMove, LongerMove}
-use Rattle.sre_turns.specs.MovesInLoops.{first_frame, RepeatMove, UntilMove, AgainMove}
-use Rattle.sre_turns.specs.MovesInRegions.{AtomicMove, LookMove}
-use Rattle.sre_turns.specs.MovesAtReferences.{ReferenceMove, ConditionMove}
+use Rattle.sre_turns.specs.Moves.{Spot, spot_at, closing_move}
+pub use Rattle.sre_turns.specs.Turning.{InRole, MovesAt, Moves, Runs, turns, Comes, stops, ends, goes, splits, enters}
+use Rattle.sre_turns.specs.Potential.{potential_of}
+use Rattle.sre_turns.specs.Settled.{Regionless, SettledIn}
+use Rattle.sre_turns.specs.Limits.{Limit, earlier, share, CodeAt, Fares, FaresAt, FaresBoth}
 use Rattle.sre_turns.specs.declared.Next.{Next}
 use Rattle.sre_turns.specs.declared.Next.TheVariants as next
-
--- what a turn does at an instruction whose opcode has this role
-abbrev pub InRole : List ℕ → Subject → Role → ℕ → Spot → Move → Type 0
-InRole ws s ToFail i x mv = mv ≡ Stop
-InRole ws s ToEnd i x mv = mv ≡ End
-InRole ws s (ToTest kind) i x mv = TestMove ws s i x mv
-InRole ws s ToCheckPosition i x mv = AtMove ws s i x mv
-InRole ws s ToMark i x mv = MarkMove ws i x mv
-InRole ws s ToBranch i x mv = mv ≡ Go (to_point x (Alternatives (i + 1)))
-InRole ws s ToJump i x mv = JumpMove ws i x mv
-InRole ws s (ToRun kind) i x mv = RunMove ws s kind i x mv
-InRole ws s ToRepeat i x mv = RepeatMove ws i x mv
-InRole ws s (ToLoop o) i x mv = UntilMove ws o i x mv
-InRole ws s ToRepeatPossessively i x mv = mv ≡ Go (record x { point = Again; frames = first_frame i ∷ x.frames })
-InRole ws s ToGroupAtomically i x mv = AtomicMove ws i x mv
-InRole ws s (ToLook sign) i x mv = LookMove ws sign i x mv
-InRole ws s ToRefer i x mv = ReferenceMove ws s i x mv
-InRole ws s ToCheckGroup i x mv = ConditionMove ws i x mv
-InRole ws s ToNothing i x mv = ⊥
-
--- what a turn does at a point
-abbrev pub MovesAt : List ℕ → Subject → Point → Spot → Move → Type 0
-MovesAt ws s (Instruction i) x mv = (o : SreOpcode) × Opcode ws i o × InRole ws s (role o) i x mv
-MovesAt ws s (Alternatives q) x mv = AlternativesMove ws q x mv
-MovesAt ws s (Shorter t k) x mv = ShorterMove t k x mv
-MovesAt ws s (Longer i n) x mv = LongerMove ws s i n x mv
-MovesAt ws s (Inside g) x mv = ⊥
-MovesAt ws s Again x mv = AgainMove ws x mv
-MovesAt ws s (Tried i) x mv = ⊥
-
-abbrev pub Moves : List ℕ → Subject → Spot → Move → Type 0
-Moves ws s x mv = MovesAt ws s x.point x mv
-
-mutual
-  -- from a spot, the outcomes up to the end of its region in order, and how many turns they take
-  pub data Runs (ws : List ℕ) (s : Subject) : Spot → List Way → ℕ → Type 0 where
-    turns : {x : Spot} {os : List Way} {n : ℕ} (mv : Move) → Moves ws s x mv → Comes ws s x mv os n → Runs ws s x os n
-
-  -- the same after a turn that is known
-  pub data Comes (ws : List ℕ) (s : Subject) : Spot → Move → List Way → ℕ → Type 0 where
-    stops : {x : Spot} → Comes ws s x Stop [] 1
-    ends : {x : Spot} → Comes ws s x End (here x.position x.marks) 2
-    goes : {x y : Spot} {os : List Way} {n : ℕ} → Runs ws s y os n → Comes ws s x (Go y) os (suc n)
-    splits : {x y z : Spot} {os₁ os₂ : List Way} {n₁ n₂ : ℕ} → Runs ws s y os₁ n₁ → Runs ws s z os₂ n₂
-        → Comes ws s x (Split y z) (os₁ ++ os₂) (suc (suc (n₁ + n₂)))
-    enters : {x y z : Spot} {g : Region} {now os : List Way} {n₁ n₂ : ℕ} → Runs ws s z now n₁
-        → Comes ws s y (closing_move g y now) os n₂ → Comes ws s x (Enter g y z) os (suc (n₁ + n₂))
 
 -- each mark that is set lies in the text
 pub record Placed (s : Subject) (m : Marks) : Type 0 where
@@ -114,7 +60,8 @@ spot pt c b = spot_at pt b.frames c.position b.marks
 
 -- the machine is at a point and a cursor: all are the accepted outcomes, and at most limit turns are left; and what
 -- waits on the board has at least so many turns to spare beyond those that come of the point
-pub record GoesWith (spare : ℕ) (r : Run) (all : List Way) (limit : ℕ) (pt : Point) (c : StringCursor) (b : BoardValue)
+pub record GoesWith (spare : ℕ) (r : Run) (all : List Way) (limit : Limit) (pt : Point) (c : StringCursor)
+    (b : BoardValue)
     : Type 0 where
   pub now : List Way
   pub turns : ℕ
@@ -123,18 +70,20 @@ pub record GoesWith (spare : ℕ) (r : Run) (all : List Way) (limit : ℕ) (pt :
   pub placed : Placed r.subject b.marks
   pub runs : Runs r.words r.subject (spot pt c b) now turns
   pub waits : Waits r b.choices (turns + spare) now all later
-  pub within : turns + later ≤ limit
+  pub within : turns + later ≤ limit.turns
+  pub fares : (pl : Regionless r) (o : SreOpcode) → CodeAt r.words pt o
+      → FaresAt r pl limit (share spare r.words r.subject.end o (spot pt c b)) (spot pt c b) b.choices
 
 -- its turn is under way: a mark for it may wait already
-abbrev pub Goes : Run → List Way → ℕ → Point → StringCursor → BoardValue → Type 0
+abbrev pub Goes : Run → List Way → Limit → Point → StringCursor → BoardValue → Type 0
 Goes r all limit pt c b = GoesWith 0 r all limit pt c b
 
 -- it is come to: each mark that waits has turns for what came before it
-abbrev pub Arrives : Run → List Way → ℕ → Point → StringCursor → BoardValue → Type 0
+abbrev pub Arrives : Run → List Way → Limit → Point → StringCursor → BoardValue → Type 0
 Arrives r all limit pt c b = GoesWith 1 r all limit pt c b
 
 -- the same at two spots, the outcomes of the one before those of the other
-pub record GoesBoth (r : Run) (all : List Way) (limit : ℕ) (first second : Spot) (c : StringCursor)
+pub record GoesBoth (r : Run) (all : List Way) (limit : Limit) (first second : Spot) (c : StringCursor)
     (cs : List Choice) : Type 0 where
   pub now : List Way
   pub next : List Way
@@ -147,49 +96,54 @@ pub record GoesBoth (r : Run) (all : List Way) (limit : ℕ) (first second : Spo
   pub runs : Runs r.words r.subject first now turns
   pub others : Runs r.words r.subject second next further
   pub waits : Waits r cs (turns + further + 2) (now ++ next) all later
-  pub within : turns + further + later + 2 ≤ limit
+  pub within : turns + further + later + 2 ≤ limit.turns
+  pub fares : (pl : Regionless r) → FaresBoth r pl limit first second cs
 
 -- the innermost region has no more outcomes
-pub record Backs (r : Run) (all : List Way) (limit : ℕ) (b : BoardValue) : Type 0 where
+pub record Backs (r : Run) (all : List Way) (limit : Limit) (b : BoardValue) : Type 0 where
   pub later : ℕ
   pub waits : Waits r b.choices 0 [] all later
-  pub within : later ≤ limit
+  pub within : later ≤ limit.turns
+  pub fares : (pl : Regionless r) → Fares r pl limit 0 b.choices
 
 -- the innermost region ends at a cursor
-pub record Ends (r : Run) (all : List Way) (limit : ℕ) (c : StringCursor) (b : BoardValue) : Type 0 where
+pub record Ends (r : Run) (all : List Way) (limit : Limit) (c : StringCursor) (b : BoardValue) : Type 0 where
   pub later : ℕ
   pub stands : r.stands c c.position
   pub placed : Placed r.subject b.marks
   pub waits : Waits r b.choices 0 (here c.position b.marks) all later
-  pub within : later + 1 ≤ limit
+  pub within : later + 1 ≤ limit.turns
+  pub fares : (pl : Regionless r) → Fares r pl limit 2 b.choices
 
-abbrev pub Stands : Run → List Way → ℕ → Next → BoardValue → Type 0
+abbrev pub Stands : Run → List Way → Limit → Next → BoardValue → Type 0
 Stands r all limit (next.At i c) b = Arrives r all limit (Instruction i) c b
 Stands r all limit (next.Again c) b = Arrives r all limit Again c b
 Stands r all limit next.Back b = Backs r all limit b
 Stands r all limit (next.Done c) b = Ends r all limit c b
 
 -- one turn later, the accepted outcomes being the same
-abbrev pub Later : Run → List Way → ℕ → Next → BoardValue → Type 0
-Later r all limit n b = (1 ≤ limit) × Stands r all (limit - 1) n b
+abbrev pub Later : Run → List Way → Limit → Next → BoardValue → Type 0
+Later r all limit n b = (1 ≤ limit.turns) × Stands r all (earlier limit) n b
+
+-- within so many turns, whatever was granted
+pub record StandsWithin (r : Run) (all : List Way) (turns : ℕ) (n : Next) (b : BoardValue) : Type 0 where
+  pub limit : Limit
+  pub turns_left : limit.turns ≡ turns
+  pub stands : Stands r all limit n b
 
 -- a turn at a point
 abbrev pub Advances : Run → Point → StringCursor → BoardValue → Next → BoardValue → Type 0
-Advances r pt c old n new = (all : List Way) (limit : ℕ) → Goes r all limit pt c old → Later r all limit n new
+Advances r pt c old n new = (all : List Way) (limit : Limit) → Goes r all limit pt c old → Later r all limit n new
 
 -- the same at two points
 abbrev pub Chooses : Run → Point → Point → StringCursor → BoardValue → Next → BoardValue → Type 0
 Chooses r first second c old n new =
-    (all : List Way) (limit : ℕ) → GoesBoth r all limit (spot first c old) (spot second c old) c old.choices
+    (all : List Way) (limit : Limit) → GoesBoth r all limit (spot first c old) (spot second c old) c old.choices
     → Later r all limit n new
-
--- the same where the machine goes back
-abbrev pub Retreats : Run → BoardValue → Next → BoardValue → Type 0
-Retreats r old n new = (all : List Way) (limit : ℕ) → Backs r all limit old → Later r all limit n new
 
 -- the same where a region ends
 abbrev pub Closes : Run → StringCursor → BoardValue → Next → BoardValue → Type 0
-Closes r c old n new = (all : List Way) (limit : ℕ) → Ends r all limit c old → Later r all limit n new
+Closes r c old n new = (all : List Way) (limit : Limit) → Ends r all limit c old → Later r all limit n new
 
 -- what comes of a region that was entered at d, where its body has an outcome at c
 abbrev pub after_outcome : Region → StringCursor → StringCursor → Next
@@ -236,19 +190,19 @@ pub record IsAt (r : Run) (pt : Point) (c : StringCursor) (b : BoardValue) : Typ
 -- the machine goes back, whatever the outcomes are
 pub record IsBack (r : Run) (b : BoardValue) : Type 0 where
   pub all : List Way
-  pub limit : ℕ
+  pub limit : Limit
   pub backs : Backs r all limit b
 
 -- what a point comes to without a turn, on any board
 abbrev pub Skips : Run → Point → StringCursor → Point → StringCursor → Type 0
 Skips r pt c pt' c' =
-    (b : BoardValue) (all : List Way) (limit : ℕ) → Goes r all limit pt c b → Goes r all limit pt' c' b
+    (b : BoardValue) (all : List Way) (limit : Limit) → Goes r all limit pt c b → Goes r all limit pt' c' b
 
 -- the same, where two points come of it
 pub record SkipsBoth (r : Run) (pt : Point) (c : StringCursor) (first second : Point) (c' : StringCursor) : Type 0 where
   pub runs : HasRun r first c'
   pub others : HasRun r second c'
-  pub skips : (b : BoardValue) (all : List Way) (limit : ℕ) → Goes r all limit pt c b
+  pub skips : (b : BoardValue) (all : List Way) (limit : Limit) → Goes r all limit pt c b
       → GoesBoth r all limit (spot first c' b) (spot second c' b) c' b.choices
 
 -- nothing comes of standing at a point and a position
@@ -290,12 +244,17 @@ pub record Excludes (ws : List ℕ) (i : ℕ) (wanted : Option ℕ) : Type 0 whe
   pub known : wanted ≡ Some character
   pub each : (table : Table) (j : ℕ) (t : Test) → TestStands ws i j t → holds table t character ≡ false
 
--- what comes of one point and cursor comes of another, in no more turns
+-- what comes of one point and cursor comes of another, in no more turns, and with no more potential
 pub record Continues (r : Run) (pt : Point) (c : StringCursor) (pt' : Point) (c' : StringCursor) : Type 0 where
   pub stands : r.stands c' c'.position
   pub runs : (fs : List Frame) (m : Marks) (os : List Way) (n : ℕ)
       → Runs r.words r.subject (spot_at pt fs c.position m) os n
       → (k : ℕ) × (k ≤ n) × Runs r.words r.subject (spot_at pt' fs c'.position m) os k
+  pub fares : (pl : Regionless r) (start : ℕ) (fs : List Frame) (m : Marks)
+      → SettledIn r pl start (spot_at pt fs c.position m)
+      → SettledIn r pl start (spot_at pt' fs c'.position m)
+      × (potential_of r.words r.subject.end (spot_at pt' fs c'.position m)
+      ≤ potential_of r.words r.subject.end (spot_at pt fs c.position m))
 
 -- the character at a cursor inside the window, and the cursor behind it
 pub record IsRead (r : Run) (c : StringCursor) (ch : ℕ) (after : StringCursor) : Type 0 where

@@ -1,8 +1,8 @@
 -- Where the machine stands in the words of a tree, and under which loops: those that enclose the place.
--- The groundwork of the law that a search takes polynomially many turns: the memory of failures lays out its bits for
+-- Of the law that a search takes few turns: the memory of failures lays out its bits for
 -- the loops in progress at a place, and these are always the same. What sre_engine makes public does not rest on it.
 use Rattle.std.specs.Prelude.{⊤, ℕ, ◌+◌, ◌-◌, ◌≡◌, ◌≤◌, ◌⊎◌, List, [], ◌∷◌, length, map, Option, Some, None}
-use Rattle.std.specs.Prelude.{◌*◌, max}
+use Rattle.std.specs.Prelude.{◌*◌}
 use Rattle.std.specs.List.{AllByRecursion}
 use Rattle.sre_model.specs.Tree.{Tree, Empty, Then, Item, Fail, One, At, Mark, Branch, Loop, Run, PossessiveLoop}
 use Rattle.sre_model.specs.Tree.{Atomic, Look, Reference, Exists, ExistsElse, Trees, Only, Or}
@@ -13,8 +13,9 @@ use Rattle.sre_turns.specs.declared.Frame.{Frame}
 use Rattle.sre_turns.specs.declared.Point.TheVariants.{Instruction, Alternatives, Shorter, Longer, Again}
 use Rattle.sre_turns.specs.declared.Point.{Point}
 use Rattle.sre_turns.specs.Moves.{Spot, Move, Stop, End, Go, Split, Enter, closing_move}
-use Rattle.sre_turns.specs.Machine.{Runs}
-use Rattle.sre_turns.specs.Alike.{least_from, counted_to}
+use Rattle.sre_turns.specs.Turning.{Runs}
+use Rattle.sre_turns.specs.Alike.{least_from}
+pub use Rattle.sre_model.specs.Slots.{loop_slots, most_slots, item_slots, branch_slots}
 
 -- the places of the loops in progress, innermost first
 abbrev pub repeats : List Frame → List ℕ
@@ -98,37 +99,7 @@ Passed x = AllBegunBy (least_from x.point x.position) x.frames
 abbrev pub InWindow : Subject → Spot → Type 0
 InWindow s x = x.position ≤ s.end
 
--- how many states of a loop tell a difference, by its least and its greatest count: its bodies as far as they count,
--- and whether the last one began right here
-abbrev pub loop_slots : ℕ → ℕ → ℕ
-loop_slots low high = (counted_to low high + 1) * 2
-
 -- how many states of the loops at some places do
 abbrev pub slots : List ℕ → List ℕ → ℕ
 slots ws [] = 1
 slots ws (q ∷ qs) = loop_slots (word ws (q + 2)) (word ws (q + 3)) * slots ws qs
-
-abbrev mutual
-  -- how many do at most at a place of a tree's words: the greatest product over loops within each other
-  pub most_slots : Tree → ℕ
-  most_slots Empty = 1
-  most_slots (Then x rest) = max (item_slots x) (most_slots rest)
-
-  pub item_slots : Item → ℕ
-  item_slots Fail = 1
-  item_slots (One t) = 1
-  item_slots (At a) = 1
-  item_slots (Mark n) = 1
-  item_slots (Branch ts) = branch_slots ts
-  item_slots (Loop o low high body) = loop_slots low high * most_slots body
-  item_slots (Run kind low high t) = 1
-  item_slots (PossessiveLoop low high body) = max (loop_slots low high) (most_slots body)
-  item_slots (Atomic body) = most_slots body
-  item_slots (Look sign back body) = most_slots body
-  item_slots (Reference fold g) = 1
-  item_slots (Exists g there) = most_slots there
-  item_slots (ExistsElse g there absent) = max (most_slots there) (most_slots absent)
-
-  pub branch_slots : Trees → ℕ
-  branch_slots (Only t) = most_slots t
-  branch_slots (Or t ts) = max (most_slots t) (branch_slots ts)

@@ -1,0 +1,365 @@
+-- What a turn leaves of the potential, in a search over words without regions.
+use Rattle.std.proofs.Common.{◌≡◌, ℕ, ◌+◌, ◌*◌, ◌≤◌, List, [], ◌∷◌, drop, true, refl, sym, ap, ◌∙◌}
+use Rattle.std.proofs.Common.{subst, arith, add-mul, one-mul}
+use Rattle.sre_chars.specs.declared.constants.SreOpcode.{SreOpcode}
+use Rattle.sre_chars.specs.declared.constants.SreOpcode.TheVariants as opcode
+use Rattle.sre_chars.specs.declared.string.StringCursor.{StringCursor}
+use Rattle.sre_model.specs.Marks.{Marks}
+use Rattle.sre_model.specs.Ways.{Way}
+use Rattle.sre_model.specs.Runs.{Run}
+use Rattle.sre_model.specs.Tree.{GreedyRun, LazyRun, PossessiveRun}
+use Rattle.sre_model.specs.Roles.{Role, ToFail, ToEnd, ToTest, ToCheckPosition, ToMark, ToBranch, ToJump, ToRun}
+use Rattle.sre_model.specs.Roles.{ToRepeat, ToLoop, ToRepeatPossessively, ToGroupAtomically, ToLook, ToRefer}
+use Rattle.sre_model.specs.Roles.{ToCheckGroup, ToNothing, role, begins_test}
+use Rattle.sre_model.proofs.Families.{some_test}
+use Rattle.sre_turns.specs.Board.{Choice, Else, Keep, Trying, from_region}
+use Rattle.sre_turns.specs.declared.Frame.{Frame}
+use Rattle.sre_turns.specs.declared.Region.{Region}
+use Rattle.sre_turns.specs.declared.Point.TheVariants.{Instruction, Alternatives, Shorter, Longer, Inside, Again, Tried}
+use Rattle.sre_turns.specs.declared.Point.{Point}
+use Rattle.sre_turns.specs.Moves.{Spot, spot_at, Move, Stop, End, Go, Split, Enter}
+use Rattle.sre_turns.specs.Nested.{Onto}
+use Rattle.sre_turns.specs.Potential.{potential, potential_of, toll, tolls, branches, Spends}
+use Rattle.sre_turns.specs.Settled.{Regionless, SettledIn}
+use Rattle.sre_turns.specs.Limits.{Limit, earlier, raised, grant, pool, CodeAt, EachChoice, tried_spots}
+use Rattle.sre_turns.specs.Limits.{Fares, FaresAt}
+use Rattle.sre_turns.specs.Limits.{FaresBoth, Wider}
+use Rattle.sre_turns.specs.Turning.{MovesAt, Moves, Runs, turns}
+use Rattle.sre_turns.proofs.PotentialMoves.{NoEntry, instruction_spends, point_spends}
+use Rattle.sre_turns.proofs.SettledMoves.{never_again, no_entry, settled_moves}
+
+-- an instruction has an opcode, and another point needs none
+pub code_at : (r : Run) (x : Spot) (mv : Move) → Moves r.words r.subject x mv
+    → (o : SreOpcode) × CodeAt r.words x.point o
+code_at r x mv h = go x.point h
+  where
+    go : (pt : Point) → MovesAt r.words r.subject pt x mv → (o : SreOpcode) × CodeAt r.words pt o
+    go (Instruction i) h = (h.0, h.1)
+    go (Alternatives q) h = (opcode.FAILURE, tt)
+    go (Shorter t k) h = (opcode.FAILURE, tt)
+    go (Longer i n) h = (opcode.FAILURE, tt)
+    go (Inside g) h = (opcode.FAILURE, tt)
+    go Again h = (opcode.FAILURE, tt)
+    go (Tried i) h = (opcode.FAILURE, tt)
+
+-- what a spot has that is gone on with is enough for its turn
+pub spends : (r : Run) (pt : Point) (fs : List Frame) (p : ℕ) (m : Marks) (mv : Move) (o : SreOpcode)
+    → (pt ≡ Again → ⊥) → NoEntry mv → Moves r.words r.subject (spot_at pt fs p m) mv → CodeAt r.words pt o
+    → Spends r.words r.subject.end (pool r.words r.subject.end o pt p) mv
+spends r (Instruction i) fs p m mv o never apart h w = instruction_spends r.words r.subject i p fs m o mv apart w h
+spends r (Alternatives q) fs p m mv o never apart h w =
+    point_spends r.words r.subject (Alternatives q) fs p m mv (λ i e. absurd (cc)) never h
+spends r (Shorter t k) fs p m mv o never apart h w =
+    point_spends r.words r.subject (Shorter t k) fs p m mv (λ i e. absurd (cc)) never h
+spends r (Longer i n) fs p m mv o never apart h w =
+    point_spends r.words r.subject (Longer i n) fs p m mv (λ i e. absurd (cc)) never h
+spends r (Inside g) fs p m mv o never apart h w = absurd h
+spends r Again fs p m mv o never apart h w = absurd (never refl)
+spends r (Tried i) fs p m mv o never apart h w = absurd h
+
+-- what is left where a turn leads
+abbrev pub Leaving : (r : Run) → Regionless r → Limit → List Choice → Move → Type 0
+Leaving r pl limit cs Stop = Fares r pl (earlier limit) 0 cs
+Leaving r pl limit cs End = Fares r pl (earlier limit) 2 cs
+Leaving r pl limit cs (Go y) = FaresAt r pl (earlier limit) (potential_of r.words r.subject.end y) y cs
+Leaving r pl limit cs (Split y z) = FaresBoth r pl limit y z cs
+Leaving r pl limit cs (Enter g y z) = ⊥
+
+module _ (r : Run) (pl : Regionless r) (limit : Limit) (cs : List Choice) where
+  -- with less left
+  pub fares_less : (n k : ℕ) → n ≤ k → Fares r pl limit k cs → Fares r pl limit n cs
+  fares_less n k l f = record { settled = f.settled; trying = f.trying; left = omega (arith, l, f.left) }
+
+  -- a turn later
+  pub fares_earlier : (n k : ℕ) → n + 1 ≤ k → Fares r pl limit k cs → Fares r pl (earlier limit) n cs
+  fares_earlier n k l f = record { settled = f.settled; trying = f.trying; left = omega (arith, l, f.left) }
+
+  leaving : (n : ℕ) (mv : Move) → Spends r.words r.subject.end n mv → Onto (SettledIn r pl limit.start) mv
+      → Fares r pl limit n cs → Leaving r pl limit cs mv
+  leaving n Stop l on f = fares_earlier 0 n (omega (arith, l)) f
+  leaving n End l on f = fares_earlier 2 n (omega (arith, l)) f
+  leaving n (Go y) l on f = record { here = on; fares = fares_earlier _ n l f }
+  leaving n (Split y z) l on f = record { first = on.0; second = on.1; fares = fares_less _ n l f }
+  leaving n (Enter g y z) l on f = absurd on
+
+  pub turn_leaves : (x : Spot) (mv : Move) → Moves r.words r.subject x mv
+      → ((o : SreOpcode) → CodeAt r.words x.point o
+      → FaresAt r pl limit (pool r.words r.subject.end o x.point x.position) x cs)
+      → Leaving r pl limit cs mv
+  turn_leaves x mv h f =
+      let code = code_at r x mv h in
+      let at = f code.0 code.1 in
+      let on = settled_moves r.words r.subject pl.tree pl.whole limit.start pl.no_region x mv at.here h in
+      leaving (pool r.words r.subject.end code.0 x.point x.position) mv
+      (spends r x.point x.frames x.position x.marks mv code.0
+      (λ e. never_again r.words pl.tree pl.whole pl.no_region x e at.here.lies)
+      (no_entry r.words r.subject pl.tree pl.whole pl.no_region x mv at.here.lies h) h code.1)
+      on at.fares
+
+-- what is come to is gone on with for nothing, but for an instruction
+pub record FreeOfToll (pt : Point) : Type 0 where
+  pub same : (ws : List ℕ) (e p : ℕ) (o : SreOpcode) → pool ws e o pt p ≡ potential ws e pt p
+
+pub alternatives_free : {q : ℕ} → FreeOfToll (Alternatives q)
+alternatives_free = record { same = λ ws e p o. refl }
+
+pub shorter_free : {t k : ℕ} → FreeOfToll (Shorter t k)
+shorter_free = record { same = λ ws e p o. refl }
+
+pub longer_free : {i n : ℕ} → FreeOfToll (Longer i n)
+longer_free = record { same = λ ws e p o. refl }
+
+pub again_free : FreeOfToll Again
+again_free = record { same = λ ws e p o. refl }
+
+-- of two spots, what is left where the first is come to and the second waits, or where one of them is come to alone
+module _ (r : Run) (pl : Regionless r) (limit : Limit) (x y : Spot) (cs : List Choice)
+    (f : FaresBoth r pl limit x y cs) where
+  pub first_waits : (c : StringCursor) → y.position ≡ c.position
+      → FaresAt r pl (earlier limit) (potential_of r.words r.subject.end x) x (Else y.point y.frames c y.marks ∷ cs)
+  first_waits c same = record {
+    here = f.first;
+    fares = record {
+      settled = (
+        subst (λ p. SettledIn r pl limit.start (spot_at y.point y.frames p y.marks)) same f.second,
+        f.fares.settled,
+      );
+      trying = f.fares.trying;
+      left =
+          let there : potential r.words r.subject.end y.point c.position ≡ potential_of r.words r.subject.end y =
+          ap (λ p. potential r.words r.subject.end y.point p) (sym same) in
+          omega (arith, there, f.fares.left);
+    };
+  }
+
+  pub first_alone : FaresAt r pl (earlier limit) (potential_of r.words r.subject.end x) x cs
+  first_alone = record {
+    here = f.first;
+    fares = fares_earlier r pl limit cs (potential_of r.words r.subject.end x) _ (omega arith) f.fares;
+  }
+
+  pub second_alone : FaresAt r pl (earlier limit) (potential_of r.words r.subject.end y) y cs
+  second_alone = record {
+    here = f.second;
+    fares = fares_earlier r pl limit cs (potential_of r.words r.subject.end y) _ (omega arith) f.fares;
+  }
+
+  pub second_goes : (o : SreOpcode) → FreeOfToll y.point
+      → FaresAt r pl limit (pool r.words r.subject.end o y.point y.position) y cs
+  second_goes o free = record {
+    here = f.second;
+    fares =
+        fares_less r pl limit cs (pool r.words r.subject.end o y.point y.position) _
+        (omega (arith, free.same r.words r.subject.end y.position o)) f.fares;
+  }
+
+-- of what comes to something, the opcode
+pub run_code : (r : Run) (x : Spot) {os : List Way} {n : ℕ} → Runs r.words r.subject x os n
+    → (o : SreOpcode) × CodeAt r.words x.point o
+run_code r x (turns mv h d) = code_at r x mv h
+
+-- nothing comes of a spot: what waits is left
+pub nothing_left : (r : Run) (pl : Regionless r) (limit : Limit) (cs : List Choice) (x : Spot) {os : List Way} {n : ℕ}
+    → Runs r.words r.subject x os n
+    → ((o : SreOpcode) → CodeAt r.words x.point o
+    → FaresAt r pl limit (pool r.words r.subject.end o x.point x.position) x cs)
+    → Fares r pl (earlier limit) 0 cs
+nothing_left r pl limit cs x (turns mv h d) f = go mv (turn_leaves r pl limit cs x mv h f)
+  where
+    go : (mv : Move) → Leaving r pl limit cs mv → Fares r pl (earlier limit) 0 cs
+    go Stop l = l
+    go End l = fares_less r pl (earlier limit) cs 0 2 (omega arith) l
+    go (Go y) l = fares_less r pl (earlier limit) cs 0 _ (omega arith) l.fares
+    go (Split y z) l = fares_earlier r pl limit cs 0 _ (omega arith) l.fares
+    go (Enter g y z) l = absurd l
+
+-- no region waits
+pub region_waits : (r : Run) (pl : Regionless r) (limit : Limit) (n : ℕ) (cs : List Choice) {rest : List Choice}
+    {g : Region} {fs : List Frame} {c : StringCursor} {m : Marks} → from_region cs ≡ Keep g fs c m ∷ rest
+    → Fares r pl limit n cs → ⊥
+region_waits r pl limit n cs e f = go cs e f.settled
+  where
+    go : (cs : List Choice) {rest : List Choice} {g : Region} {fs : List Frame} {c : StringCursor} {m : Marks}
+        → from_region cs ≡ Keep g fs c m ∷ rest → EachChoice (SettledIn r pl limit.start) cs → ⊥
+    go [] e h = absurd (cc)
+    go (Else pt fs c m ∷ cs) e h = go cs e h.1
+    go (Keep g fs c m ∷ cs) e h = h
+    go (Trying i fs c m ∷ cs) e h = go cs e h.1
+
+-- what is left within a limit is left within a wider one
+pub fares_wider : (r : Run) (pl : Regionless r) (limit more : Limit) (n : ℕ) (cs : List Choice) → Wider limit more
+    → Fares r pl limit n cs → Fares r pl more n cs
+fares_wider r pl limit more n cs l f = record {
+  settled = subst (λ start. EachChoice (SettledIn r pl start) cs) l.start f.settled;
+  trying = f.trying ∙ l.trying;
+  left =
+      omega (arith, l.taken, l.granted, f.left, ap (λ k. k * grant r.words r.subject.end) l.tolls);
+}
+
+pub fares_at_wider : (r : Run) (pl : Regionless r) (limit more : Limit) (n : ℕ) (x : Spot) (cs : List Choice)
+    → Wider limit more → FaresAt r pl limit n x cs → FaresAt r pl more n x cs
+fares_at_wider r pl limit more n x cs l f = record {
+  here = subst (λ start. SettledIn r pl start x) l.start f.here;
+  fares = fares_wider r pl limit more n cs l f.fares;
+}
+
+-- the newest choice is taken
+pub choice_taken : (r : Run) (pl : Regionless r) (limit : Limit) (pt : Point) (fs : List Frame) (c : StringCursor)
+    (m : Marks) (cs : List Choice) → Fares r pl limit 0 (Else pt fs c m ∷ cs)
+    → FaresAt r pl (earlier limit) (potential r.words r.subject.end pt c.position) (spot_at pt fs c.position m) cs
+choice_taken r pl limit pt fs c m cs f = record {
+  here = f.settled.0;
+  fares = record { settled = f.settled.1; trying = f.trying; left = omega (arith, f.left) };
+}
+
+-- where a turn leads to two spots, the second has no more potential; nor has the one to which a turn goes from an
+-- instruction that brings no toll
+module _ (r : Run) (pl : Regionless r) (start : ℕ) (x : Spot) where
+  abbrev NoMore : Spot → Type 0
+  NoMore y =
+      SettledIn r pl start y × (potential_of r.words r.subject.end y ≤ potential_of r.words r.subject.end x)
+
+  pub second_less : (y z : Spot) → FreeOfToll x.point → Moves r.words r.subject x (Split y z) → SettledIn r pl start x
+      → NoMore z
+  second_less y z free h at =
+      let code = code_at r x (Split y z) h in
+      let on = settled_moves r.words r.subject pl.tree pl.whole start pl.no_region x (Split y z) at h in
+      let l = spends r x.point x.frames x.position x.marks (Split y z) code.0
+      (λ e. never_again r.words pl.tree pl.whole pl.no_region x e at.lies)
+      (no_entry r.words r.subject pl.tree pl.whole pl.no_region x (Split y z) at.lies h) h code.1 in
+      (on.1, omega (arith, l, free.same r.words r.subject.end x.position code.0))
+
+  pub next_less : (y : Spot) (o : SreOpcode) → CodeAt r.words x.point o
+      → pool r.words r.subject.end o x.point x.position ≤ potential_of r.words r.subject.end x
+      → Moves r.words r.subject x (Go y) → SettledIn r pl start x → NoMore y
+  next_less y o w less h at =
+      let on = settled_moves r.words r.subject pl.tree pl.whole start pl.no_region x (Go y) at h in
+      let l = spends r x.point x.frames x.position x.marks (Go y) o
+      (λ e. never_again r.words pl.tree pl.whole pl.no_region x e at.lies)
+      (no_entry r.words r.subject pl.tree pl.whole pl.no_region x (Go y) at.lies h) h w in
+      (on, omega (arith, l, less))
+
+-- a test brings no toll
+pub test_pool : (r : Run) (i p : ℕ) (o : SreOpcode) → begins_test o ≡ true
+    → pool r.words r.subject.end o (Instruction i) p ≤ potential r.words r.subject.end (Instruction i) p
+test_pool r i p o e =
+    let kind = some_test o e in
+    let none : tolls (role o) (toll r.words r.subject.end) ≡ 0 = ap (λ f. tolls f
+    (toll r.words r.subject.end)) kind.1 in
+    omega (arith, none)
+
+-- what is granted for an instruction that may branch is enough for its tolls
+granted_tolls : (f : Role) (n k : ℕ) → k * (n + n) + tolls f n ≤ (k + branches f) * (n + n)
+granted_tolls f n k = go f
+  where
+    one : (k + 1) * (n + n) ≡ k * (n + n) + (n + n)
+    one = add-mul k 1 (n + n) ∙ ap (λ m. k * (n + n) + m) (one-mul (n + n))
+
+    none : k * (n + n) + 0 ≤ (k + 0) * (n + n)
+    none = let same : (k + 0) * (n + n) ≡ k * (n + n) = ap (λ m. m * (n + n)) (omega arith) in omega (arith, same)
+
+    go : (f : Role) → k * (n + n) + tolls f n ≤ (k + branches f) * (n + n)
+    go ToFail = none
+    go ToEnd = none
+    go (ToTest kind) = none
+    go ToCheckPosition = none
+    go ToMark = none
+    go ToBranch = omega (arith, one)
+    go ToJump = none
+    go (ToRun GreedyRun) = omega (arith, one)
+    go (ToRun LazyRun) = omega (arith, one)
+    go (ToRun PossessiveRun) = none
+    go ToRepeat = omega (arith, one)
+    go (ToLoop o) = omega (arith, one)
+    go ToRepeatPossessively = none
+    go ToGroupAtomically = none
+    go (ToLook sign) = none
+    go ToRefer = none
+    go ToCheckGroup = none
+    go ToNothing = none
+
+-- of an instruction at which the machine has come, with the tolls of its opcode
+pub with_tolls : (r : Run) (pl : Regionless r) (limit : Limit) (i : ℕ) (x : Spot) (cs : List Choice) (o : SreOpcode)
+    → x.point ≡ Instruction i → FaresAt r pl limit (potential_of r.words r.subject.end x) x cs
+    → FaresAt r pl (raised (branches (role o)) limit) (pool r.words r.subject.end o x.point x.position) x cs
+with_tolls r pl limit i x cs o e f =
+    let same : pool r.words r.subject.end o x.point x.position
+    ≡ potential_of r.words r.subject.end x + tolls (role o) (toll r.words r.subject.end) =
+    subst (λ pt. pool r.words r.subject.end o pt x.position
+    ≡ potential r.words r.subject.end pt x.position + tolls (role o) (toll r.words r.subject.end)) (sym e) refl in
+    record {
+      here = f.here;
+      fares = record {
+        settled = f.fares.settled;
+        trying = f.fares.trying;
+        left =
+            omega (
+              arith,
+              same,
+              f.fares.left,
+              granted_tolls (role o) (toll r.words r.subject.end) limit.tolls,
+            );
+      };
+    }
+
+-- an opcode brings two tolls at most
+pub tolls_most : (f : Role) (n : ℕ) → tolls f n ≤ n + n
+tolls_most ToFail n = omega arith
+tolls_most ToEnd n = omega arith
+tolls_most (ToTest kind) n = omega arith
+tolls_most ToCheckPosition n = omega arith
+tolls_most ToMark n = omega arith
+tolls_most ToBranch n = omega arith
+tolls_most ToJump n = omega arith
+tolls_most (ToRun GreedyRun) n = omega arith
+tolls_most (ToRun LazyRun) n = omega arith
+tolls_most (ToRun PossessiveRun) n = omega arith
+tolls_most ToRepeat n = omega arith
+tolls_most (ToLoop o) n = omega arith
+tolls_most ToRepeatPossessively n = omega arith
+tolls_most ToGroupAtomically n = omega arith
+tolls_most (ToLook sign) n = omega arith
+tolls_most ToRefer n = omega arith
+tolls_most ToCheckGroup n = omega arith
+tolls_most ToNothing n = omega arith
+
+-- an opcode counts for one instruction that may branch at most
+pub branches_most : (f : Role) → branches f ≤ 1
+branches_most ToFail = omega arith
+branches_most ToEnd = omega arith
+branches_most (ToTest kind) = omega arith
+branches_most ToCheckPosition = omega arith
+branches_most ToMark = omega arith
+branches_most ToBranch = omega arith
+branches_most ToJump = omega arith
+branches_most (ToRun GreedyRun) = omega arith
+branches_most (ToRun LazyRun) = omega arith
+branches_most (ToRun PossessiveRun) = omega arith
+branches_most ToRepeat = omega arith
+branches_most (ToLoop o) = omega arith
+branches_most ToRepeatPossessively = omega arith
+branches_most ToGroupAtomically = omega arith
+branches_most (ToLook sign) = omega arith
+branches_most ToRefer = omega arith
+branches_most ToCheckGroup = omega arith
+branches_most ToNothing = omega arith
+
+-- where no region waits, the machine is inside none
+pub never_inside : (P : Spot → Type 0) (cs : List Choice) → EachChoice P cs → from_region cs ≡ []
+never_inside P [] h = refl
+never_inside P (Else pt fs c m ∷ cs) h = never_inside P cs h.1
+never_inside P (Keep g fs c m ∷ cs) h = absurd h
+never_inside P (Trying i fs c m ∷ cs) h = never_inside P cs h.1
+
+-- nothing waits: nothing is tried, and no more turns were taken than the potential allows
+pub nothing_waits : (r : Run) (pl : Regionless r) (limit : Limit) (cs : List Choice) → cs ≡ [] → Fares r pl limit 0 cs
+    → (limit.trying ≡ []) × (limit.taken ≤ limit.granted + limit.tolls * grant r.words r.subject.end)
+nothing_waits r pl limit cs none f =
+    (sym f.trying ∙ ap (λ xs. tried_spots xs) none, omega (arith, f.left))
+
+-- the newest of the spots that are tried is that of the newest mark
+pub newest_tried : (r : Run) (pl : Regionless r) (limit : Limit) (n : ℕ) (x : Spot) (cs rest : List Choice)
+    → Fares r pl limit n cs → tried_spots cs ≡ x ∷ tried_spots rest → limit.trying ≡ x ∷ drop 1 limit.trying
+newest_tried r pl limit n x cs rest f e =
+    let all : limit.trying ≡ x ∷ tried_spots rest = sym f.trying ∙ e in
+    all ∙ ap (λ xs. x ∷ drop 1 xs) (sym all)

@@ -1,0 +1,293 @@
+-- A turn spends the potential of its spot: what it leads to has so much less of it that the turn is paid for.
+-- The law that a search takes few turns (`enough` of sre_engine) rests on this.
+use Rattle.std.proofs.Common.{◌≡◌, ℕ, ◌+◌, ◌-◌, ◌*◌, ◌<◌, ◌≤◌, ◌&&◌, ◌||◌, Bool, true, false, cond, nat_eq, nat_lt}
+use Rattle.std.proofs.Common.{nat_le, List, [], length, Option, Some, None, refl, sym, ap, subst, arith, mul-le-mul}
+use Rattle.std.proofs.Common.{add-mul, one-mul}
+use Rattle.std.proofs.lemmas.Bool.{and_parts}
+use Rattle.std.proofs.lemmas.Bool.Decides.{nat_tests}
+use Rattle.sre_chars.specs.declared.constants.SreOpcode.{SreOpcode}
+use Rattle.sre_model.specs.Tree.{Test, RunKind, GreedyRun, LazyRun, PossessiveRun, Order, Greedy, Lazy, Sign, Positive}
+use Rattle.sre_model.specs.Tree.{Negative, Fold}
+use Rattle.sre_model.specs.Marks.{Marks, group}
+use Rattle.sre_model.specs.Subject.{Subject, passes, holds_at, same_folded}
+use Rattle.sre_model.specs.Ways.{unlimited, may_repeat, longest_run, run_length, most_from}
+use Rattle.sre_model.specs.Grammar.{word, skip, Opcode}
+use Rattle.sre_model.specs.Roles.{Role, ToFail, ToEnd, ToTest, ToCheckPosition, ToMark, ToBranch, ToJump, ToRun}
+use Rattle.sre_model.specs.Roles.{ToRepeat, ToLoop, ToRepeatPossessively, ToGroupAtomically, ToLook, ToRefer}
+use Rattle.sre_model.specs.Roles.{ToCheckGroup, ToNothing, role}
+use Rattle.sre_model.proofs.Words.{word_within, opcode_within, same_opcode}
+use Rattle.sre_model.proofs.Places.{test_past}
+use Rattle.sre_model.proofs.Longest.{run_inside}
+use Rattle.sre_turns.specs.declared.Frame.{Frame}
+use Rattle.sre_turns.specs.declared.Region.{Region}
+use Rattle.sre_turns.specs.declared.Point.TheVariants.{Instruction, Alternatives, Shorter, Longer, Inside, Again, Tried}
+use Rattle.sre_turns.specs.declared.Point.{Point}
+use Rattle.sre_turns.specs.Moves.{Spot, spot_at, to_place, into_region, Move, Stop, End, Go, Split, Enter, closing_move}
+use Rattle.sre_turns.specs.MovesInRuns.{run_turn}
+use Rattle.sre_turns.specs.MovesInLoops.{at_body, behind, in_order, until_move}
+use Rattle.sre_turns.specs.MovesInRegions.{look}
+use Rattle.sre_turns.specs.MovesAtReferences.{reference_turn, condition_place}
+use Rattle.sre_turns.specs.Machine.{InRole, MovesAt}
+use Rattle.sre_turns.specs.Potential.{path, toll, potential, potential_of, tolls, tolled, Spends}
+use Rattle.sre_model.proofs.Bounds.{passes-below}
+
+-- whether a turn may enter a region
+abbrev pub enters : Role → Bool
+enters ToGroupAtomically = true
+enters (ToLook sign) = true
+enters _ = false
+
+-- the same where a region is entered only if something holds
+abbrev Spent : Type 0 → List ℕ → ℕ → ℕ → Move → Type 0
+Spent E ws e n Stop = 1 ≤ n
+Spent E ws e n End = 3 ≤ n
+Spent E ws e n (Go y) = potential_of ws e y + 1 ≤ n
+Spent E ws e n (Split y z) = potential_of ws e y + potential_of ws e z + 2 ≤ n
+Spent E ws e n (Enter g y z) = E
+
+-- no region is entered
+abbrev pub NoEntry : Move → Type 0
+NoEntry mv = (g : Region) (y z : Spot) → mv ≡ Enter g y z → ⊥
+
+spends : (E : Type 0) (ws : List ℕ) (e n : ℕ) (mv : Move) → NoEntry mv → Spent E ws e n mv → Spends ws e n mv
+spends E ws e n Stop no_ h = h
+spends E ws e n End no_ h = h
+spends E ws e n (Go y) no_ h = h
+spends E ws e n (Split y z) no_ h = h
+spends E ws e n (Enter g y z) no_ h = absurd (no_ g y z refl)
+
+cond_spent : (E : Type 0) (ws : List ℕ) (e n : ℕ) (b : Bool) (x y : Move) → (b ≡ true → Spent E ws e n x)
+    → (b ≡ false → Spent E ws e n y) → Spent E ws e n (cond b x y)
+cond_spent E ws e n true x y h k = h refl
+cond_spent E ws e n false x y h k = k refl
+
+-- the toll pays for so many ways to go on, and for four more
+pub toll_pays : (ws : List ℕ) (e k : ℕ) → k ≤ length ws + e → k * path ws + 4 * (path ws + 2) ≤ toll ws e
+toll_pays ws e k l = go (path ws)
+  where
+    go : (n : ℕ) → k * n + 4 * (n + 2) ≤ (length ws + e + 4) * (n + 2)
+    go n =
+        let less : k * n ≤ (length ws + e) * (n + 2) = mul-le-mul l (omega arith) in
+        omega (arith, less, add-mul (length ws + e) 4 (n + 2))
+
+-- one way fewer costs one path less
+one_less : (n k : ℕ) → 1 ≤ k → (k - 1) * n + n ≤ k * n
+one_less n k l =
+    let same : (k - 1 + 1) * n ≡ k * n = ap (λ a. a * n) (omega arith) in
+    omega (arith, same, add-mul (k - 1) 1 n, one-mul n)
+
+-- a run has no more characters than the window
+run_fits : (s : Subject) (t : Test) (high p : ℕ) → longest_run s t high p ≤ s.end
+run_fits s t high p = omega (arith, run_inside s t (most_from s high p) p)
+
+module _ (ws : List ℕ) (s : Subject) where
+  -- a turn at an instruction, role by role
+  module _ (i p : ℕ) (fs : List Frame) (m : Marks) (there : i < length ws) where
+    abbrev standing : Spot
+    standing = spot_at (Instruction i) fs p m
+
+    -- what an instruction of this role has
+    abbrev owned : Role → ℕ
+    owned f = 2 * (length ws - i) + 3 + tolls f (toll ws s.end)
+
+    abbrev Pays : Role → Move → Type 0
+    Pays f a = Spent (enters f ≡ true) ws s.end (owned f) a
+
+    module _ (f : Role) where
+      -- it pays for an instruction further on
+      forward : (j : ℕ) → i < j → 2 * (length ws - j) + 3 + 1 ≤ owned f
+      forward j l = omega arith
+
+      pays_cond : (b : Bool) (x y : Move) → (b ≡ true → Pays f x) → (b ≡ false → Pays f y) → Pays f (cond b x y)
+      pays_cond b x y h k = cond_spent (enters f ≡ true) ws s.end (owned f) b x y h k
+
+      stopped : Pays f Stop
+      stopped = omega arith
+
+    -- that of one that may branch pays for an instruction, and for two of them
+    by_toll : (j : ℕ) → 2 * (length ws - j) + 3 + 1 ≤ 2 * (length ws - i) + 3 + toll ws s.end
+    by_toll j = omega (arith, toll_pays ws s.end 0 (omega arith))
+
+    both_by_toll : (j k : ℕ)
+        → 2 * (length ws - j) + 3 + (2 * (length ws - k) + 3) + 2 ≤ 2 * (length ws - i) + 3 + toll ws s.end
+    both_by_toll j k = omega (arith, toll_pays ws s.end 0 (omega arith))
+
+    -- and for an instruction, and so many other ways to go on
+    ways_by_toll : (j k : ℕ) → k ≤ length ws + s.end
+        → 2 * (length ws - j) + 3 + (k * path ws + 2) + 2 ≤ 2 * (length ws - i) + 3 + toll ws s.end
+    ways_by_toll j k l = omega (arith, toll_pays ws s.end k l)
+
+    run_pays : (kind : RunKind) (t low high : ℕ) (test : Test) → i < t
+        → Pays (ToRun kind) (run_turn kind s i t low high test standing)
+    run_pays GreedyRun t low high test l =
+        pays_cond (ToRun GreedyRun) (nat_lt (longest_run s test high p) low) _ _ (λ e. stopped (ToRun GreedyRun))
+        (λ e. ways_by_toll t (longest_run s test high p - low) (omega (arith, run_fits s test high p)))
+    run_pays LazyRun t low high test l =
+        pays_cond (ToRun LazyRun) (nat_lt (run_length s test low p) low) _ _ (λ e. stopped (ToRun LazyRun))
+        (λ e. ways_by_toll t (s.end - (p + low)) (omega arith))
+    run_pays PossessiveRun t low high test l =
+        pays_cond (ToRun PossessiveRun) (nat_lt (longest_run s test high p) low) _ _
+        (λ e. stopped (ToRun PossessiveRun)) (λ e. forward (ToRun PossessiveRun) t l)
+
+    reference_pays : (fold : Fold) (n : ℕ) → Pays ToRefer (reference_turn s fold n (i + 2) standing)
+    reference_pays fold n = go (group m n)
+      where
+        go : (o : Option (ℕ × ℕ)) → Pays ToRefer (elim o [
+          | None ↦ Stop
+          | (Some span) ↦
+              cond (nat_le (p + (span.1 - span.0)) s.end && same_folded s fold (span.1 - span.0) span.0 p)
+              (Go (to_place standing (Instruction (i + 2)) (p + (span.1 - span.0)))) Stop
+        ])
+        go None = stopped ToRefer
+        go (Some span) =
+            pays_cond ToRefer (nat_le (p + (span.1 - span.0)) s.end
+            && same_folded s fold (span.1 - span.0) span.0 p) _ _
+            (λ e. forward ToRefer (i + 2) (omega arith)) (λ e. stopped ToRefer)
+
+    look_pays : (sign : Sign) (t back : ℕ) → i < t
+        → Pays (ToLook sign) (cond (nat_lt p back) (closing_move (look sign t) standing [])
+        (Enter (look sign t) standing (into_region standing (i + 3) (p - back))))
+    look_pays Positive t back l =
+        pays_cond (ToLook Positive) (nat_lt p back) _ _ (λ e. stopped (ToLook Positive)) (λ e. refl)
+    look_pays Negative t back l =
+        pays_cond (ToLook Negative) (nat_lt p back) _ _ (λ e. forward (ToLook Negative) t l) (λ e. refl)
+
+    order_pays : (o : Order) (f : Frame) (last : Option ℕ) (outer : List Frame)
+        → Pays (ToLoop o) (in_order o (at_body f last outer standing) (behind i outer standing))
+    order_pays Greedy f last outer = both_by_toll (f.repeat + 4) (i + 1)
+    order_pays Lazy f last outer = both_by_toll (i + 1) (f.repeat + 4)
+
+    until_pays : (o : Order) (low high : ℕ) (f : Frame) (outer : List Frame)
+        → Pays (ToLoop o) (until_move o low high i f outer standing)
+    until_pays o low high f outer =
+        pays_cond (ToLoop o) (nat_lt f.count low) _ _ (λ e. by_toll (f.repeat + 4))
+        (λ e. pays_cond (ToLoop o) (may_repeat high f.count f.last p) _ _
+        (λ e. order_pays o f (Some p) outer) (λ e. by_toll (i + 1)))
+
+    condition_pays : (n : ℕ) → 2 * (length ws - condition_place ws i n m) + 3 + 1 ≤ owned ToCheckGroup
+    condition_pays n = go (group m n)
+      where
+        go : (o : Option (ℕ × ℕ))
+            → 2 * (length ws - elim o [ None ↦ i + 1 + word ws (i + 2) | (Some _) ↦ i + 3 ]) + 3 + 1
+            ≤ owned ToCheckGroup
+        go None = forward ToCheckGroup (i + 1 + word ws (i + 2)) (omega arith)
+        go (Some span) = forward ToCheckGroup (i + 3) (omega arith)
+
+    role_pays : (f : Role) (a : Move) → InRole ws s f i standing a → Pays f a
+    role_pays ToFail a h = subst (λ move. Pays ToFail move) (sym h) (stopped ToFail)
+    role_pays ToEnd a h = subst (λ move. Pays ToEnd move) (sym h) (omega arith)
+    role_pays (ToTest kind) a h =
+        subst (λ move. Pays (ToTest kind) move) (sym h.is)
+        (pays_cond (ToTest kind) (passes s h.test p) _ _
+        (λ e. forward (ToTest kind) h.end (test_past h.test ws i h.end h.stands.operands))
+        (λ e. stopped (ToTest kind)))
+    role_pays ToCheckPosition a h =
+        subst (λ move. Pays ToCheckPosition move) (sym h.is)
+        (pays_cond ToCheckPosition (holds_at s h.code p) _ _ (λ e. forward ToCheckPosition (i + 2) (omega arith))
+        (λ e. stopped ToCheckPosition))
+    role_pays ToMark a h =
+        subst (λ move. Pays ToMark move) (sym h.is) (forward ToMark (i + 2) (omega arith))
+    role_pays ToBranch a h =
+        subst (λ move. Pays ToBranch move) (sym h)
+        (omega (arith, toll_pays ws s.end (length ws - (i + 1)) (omega arith)))
+    role_pays ToJump a h =
+        subst (λ move. Pays ToJump move) (sym h.is) (forward ToJump (skip ws (i + 1)) (omega arith))
+    role_pays (ToRun kind) a h =
+        subst (λ move. Pays (ToRun kind) move) (sym h.is)
+        (run_pays kind (skip ws (i + 1)) h.low h.high h.test (omega arith))
+    role_pays ToRepeat a h = subst (λ move. Pays ToRepeat move) (sym h.is) (omega (arith, by_toll (skip ws (i + 1))))
+    role_pays (ToLoop o) a h =
+        subst (λ move. Pays (ToLoop o) move) (sym h.is) (until_pays o h.low h.high h.frame h.outer)
+    role_pays ToRepeatPossessively a h = subst (λ move. Pays ToRepeatPossessively move) (sym h) (omega arith)
+    role_pays ToGroupAtomically a h = subst (λ move. Pays ToGroupAtomically move) (sym h.is) refl
+    role_pays (ToLook sign) a h =
+        subst (λ move. Pays (ToLook sign) move) (sym h.is) (look_pays sign (skip ws (i + 1)) h.back (omega arith))
+    role_pays ToRefer a h = subst (λ move. Pays ToRefer move) (sym h.is) (reference_pays h.fold h.number)
+    role_pays ToCheckGroup a h = subst (λ move. Pays ToCheckGroup move) (sym h.is) (condition_pays h.number)
+    role_pays ToNothing a h = absurd h
+
+-- at an instruction, of which the opcode may bring a toll
+instruction_spent : (ws : List ℕ) (s : Subject) (i p : ℕ) (fs : List Frame) (m : Marks) (o : SreOpcode) (mv : Move)
+    → Opcode ws i o → MovesAt ws s (Instruction i) (spot_at (Instruction i) fs p m) mv
+    → Spent (enters (role o) ≡ true) ws s.end (tolled ws s.end o (potential ws s.end (Instruction i) p)) mv
+instruction_spent ws s i p fs m o mv w h =
+    let P : SreOpcode → Type 0 =
+    λ c. Spent (enters (role c) ≡ true) ws s.end (tolled ws s.end c (potential ws s.end (Instruction i) p)) mv in
+    subst P (same_opcode ws i h.0 o h.1 w)
+    (role_pays ws s i p fs m (opcode_within ws i o w) (role h.0) mv h.2)
+
+-- at any other point, but for a possessive loop
+point_spent : (ws : List ℕ) (s : Subject) (pt : Point) (fs : List Frame) (p : ℕ) (m : Marks) (a : Move)
+    → ((i : ℕ) → pt ≡ Instruction i → ⊥) → (pt ≡ Again → ⊥) → MovesAt ws s pt (spot_at pt fs p m) a
+    → Spent ⊥ ws s.end (potential ws s.end pt p) a
+point_spent ws s (Instruction i) fs p m a n k h = absurd (n i refl)
+point_spent ws s (Alternatives q) fs p m a n k h =
+    subst (λ move. Spent ⊥ ws s.end (potential ws s.end (Alternatives q) p) move) (sym h.is)
+    (cond_spent ⊥ ws s.end (potential ws s.end (Alternatives q) p) (nat_eq h.value 0) _ _ (λ e. omega arith) more)
+  where
+    there : q < length ws
+    there = word_within ws q h.value h.there
+
+    more : nat_eq h.value 0 ≡ false
+        → 2 * (length ws - (q + 1)) + 3 + ((length ws - (q + h.value)) * path ws + 2) + 2
+        ≤ (length ws - q) * path ws + 2
+    more e =
+        let some : 1 ≤ h.value = grind (arith, nat_tests) in
+        let less : (length ws - (q + h.value)) * path ws ≤ (length ws - q - 1) * path ws =
+        mul-le-mul (omega arith) (omega arith) in
+        omega (arith, less, one_less (path ws) (length ws - q) (omega (arith, there)))
+point_spent ws s (Shorter t k) fs p m a n j h =
+    subst (λ move. Spent ⊥ ws s.end (potential ws s.end (Shorter t k) p) move) (sym h.is)
+    (cond_spent ⊥ ws s.end (potential ws s.end (Shorter t k) p) (nat_eq k 0) _ _ (λ e. omega arith) more)
+  where
+    more : nat_eq k 0 ≡ false
+        → 2 * (length ws - t) + 3 + ((k - 1) * path ws + 2) + 2 ≤ k * path ws + 2
+    more e =
+        let some : 1 ≤ k = grind (arith, nat_tests) in
+        omega (arith, one_less (path ws) k some)
+point_spent ws s (Longer i c) fs p m a n k h =
+    subst (λ move. Spent ⊥ ws s.end (potential ws s.end (Longer i c) p) move) (sym h.is)
+    (cond_spent ⊥ ws s.end (potential ws s.end (Longer i c) p)
+    ((nat_eq h.high unlimited || nat_lt c h.high) && passes s h.test p) _ _ more (λ e. omega arith))
+  where
+    more : ((nat_eq h.high unlimited || nat_lt c h.high) && passes s h.test p) ≡ true
+        → 2 * (length ws - skip ws (i + 1)) + 3 + ((s.end - (p + 1)) * path ws + 2) + 2
+        ≤ (s.end - p) * path ws + 2
+    more e =
+        let inside : p < s.end =
+        passes-below s h.test p (and_parts (nat_eq h.high unlimited || nat_lt c h.high) (passes s h.test p) e).1 in
+        let same : (s.end - (p + 1)) * path ws ≡ (s.end - p - 1) * path ws =
+        ap (λ d. d * path ws) (omega arith) in
+        omega (arith, same, one_less (path ws) (s.end - p) (omega arith))
+point_spent ws s (Inside g) fs p m a n k h = absurd h
+point_spent ws s Again fs p m a n k h = absurd (k refl)
+point_spent ws s (Tried i) fs p m a n k h = absurd h
+
+pub instruction_spends : (ws : List ℕ) (s : Subject) (i p : ℕ) (fs : List Frame) (m : Marks) (o : SreOpcode)
+    (mv : Move)
+    → NoEntry mv → Opcode ws i o → MovesAt ws s (Instruction i) (spot_at (Instruction i) fs p m) mv
+    → Spends ws s.end (tolled ws s.end o (potential ws s.end (Instruction i) p)) mv
+instruction_spends ws s i p fs m o mv no_ w h =
+    spends (enters (role o) ≡ true) ws s.end (tolled ws s.end o (potential ws s.end (Instruction i) p)) mv no_
+    (instruction_spent ws s i p fs m o mv w h)
+
+-- which roles enter a region
+pub entry_role : (ws : List ℕ) (s : Subject) (i p : ℕ) (fs : List Frame) (m : Marks) (o : SreOpcode) (g : Region)
+    (y z : Spot)
+    → Opcode ws i o → MovesAt ws s (Instruction i) (spot_at (Instruction i) fs p m) (Enter g y z)
+    → enters (role o) ≡ true
+entry_role ws s i p fs m o g y z w h = instruction_spent ws s i p fs m o (Enter g y z) w h
+
+-- and that no other point does, but for a possessive loop
+pub entry_point : (ws : List ℕ) (s : Subject) (pt : Point) (fs : List Frame) (p : ℕ) (m : Marks) (g : Region)
+    (y z : Spot)
+    → ((i : ℕ) → pt ≡ Instruction i → ⊥) → (pt ≡ Again → ⊥) → MovesAt ws s pt (spot_at pt fs p m) (Enter g y z) → ⊥
+entry_point ws s pt fs p m g y z n k h = point_spent ws s pt fs p m (Enter g y z) n k h
+
+pub point_spends : (ws : List ℕ) (s : Subject) (pt : Point) (fs : List Frame) (p : ℕ) (m : Marks) (mv : Move)
+    → ((i : ℕ) → pt ≡ Instruction i → ⊥) → (pt ≡ Again → ⊥) → MovesAt ws s pt (spot_at pt fs p m) mv
+    → Spends ws s.end (potential ws s.end pt p) mv
+point_spends ws s pt fs p m mv n k h =
+    let no_ : NoEntry mv =
+    λ g y z e. entry_point ws s pt fs p m g y z n k (subst (λ a. MovesAt ws s pt (spot_at pt fs p m) a) e h) in
+    spends ⊥ ws s.end (potential ws s.end pt p) mv no_ (point_spent ws s pt fs p m mv n k h)

@@ -1,0 +1,118 @@
+-- What a run may still take: turns, and in a search over words without regions a potential, which goes down with each
+-- turn, and up by a toll where an instruction that may branch is gone on with.
+-- Words of the machine's contracts; what sre_engine makes public does not rest on it.
+use Rattle.std.specs.Prelude.{⊤, ℕ, zero, suc, ◌+◌, ◌-◌, ◌*◌, ◌≤◌, ◌≡◌, List, [], ◌∷◌, drop}
+use Rattle.sre_chars.specs.declared.constants.SreOpcode.{SreOpcode}
+use Rattle.sre_model.specs.Grammar.{Opcode}
+use Rattle.sre_model.specs.Runs.{Run}
+use Rattle.sre_turns.specs.Board.{Choice, Else, Keep, Trying}
+use Rattle.sre_turns.specs.declared.Point.TheVariants.{Instruction, Alternatives, Shorter, Longer, Inside, Again, Tried}
+use Rattle.sre_turns.specs.declared.Point.{Point}
+use Rattle.sre_turns.specs.Moves.{Spot, spot_at}
+use Rattle.sre_turns.specs.Potential.{potential, potential_of, toll, tolled}
+use Rattle.sre_turns.specs.Settled.{Regionless, SettledIn}
+
+-- how many turns are left; how many were taken, with how much potential at first, and how often a toll was granted;
+-- the instructions that are tried, newest first; and where the window begins
+pub record Limit : Type 0 where
+  pub turns : ℕ
+  pub taken : ℕ
+  pub granted : ℕ
+  pub tolls : ℕ
+  pub trying : List Spot
+  pub start : ℕ
+
+-- the same a turn later
+abbrev pub earlier : Limit → Limit
+earlier l = record l { turns = l.turns - 1; taken = l.taken + 1 }
+
+-- what is granted for an instruction that may branch: enough for a REPEAT, too
+abbrev pub grant : List ℕ → ℕ → ℕ
+grant ws e = toll ws e + toll ws e
+
+-- the same with so many tolls more
+abbrev pub raised : ℕ → Limit → Limit
+raised n l = record l { tolls = l.tolls + n }
+
+-- the same where a spot is tried
+abbrev pub with_tried : Spot → Limit → Limit
+with_tried x l = record l { trying = x ∷ l.trying }
+
+-- the same where the newest of the spots that are tried is not tried any more
+abbrev pub without_tried : Limit → Limit
+without_tried l = record l { trying = drop 1 l.trying }
+
+-- a limit to which more was granted, perhaps, in the same turn
+pub record Grants (limit more : Limit) : Type 0 where
+  pub turns : limit.turns ≡ more.turns
+  pub taken : limit.taken ≡ more.taken
+  pub granted : limit.granted ≡ more.granted
+  pub start : limit.start ≡ more.start
+
+-- a limit that leaves no less
+pub record Wider (limit more : Limit) : Type 0 where
+  pub turns : limit.turns ≤ more.turns
+  pub taken : more.taken ≤ limit.taken
+  pub granted : limit.granted ≤ more.granted
+  pub tolls : limit.tolls ≡ more.tolls
+  pub trying : limit.trying ≡ more.trying
+  pub start : limit.start ≡ more.start
+
+-- the spots that are tried, whose marks wait
+abbrev pub tried_spots : List Choice → List Spot
+tried_spots [] = []
+tried_spots (Else pt fs c m ∷ cs) = tried_spots cs
+tried_spots (Keep g fs c m ∷ cs) = tried_spots cs
+tried_spots (Trying i fs c m ∷ cs) = spot_at (Instruction i) fs c.position m ∷ tried_spots cs
+
+-- the potential of what waits: each choice takes a turn more
+abbrev pub waiting : List ℕ → ℕ → List Choice → ℕ
+waiting ws e [] = 0
+waiting ws e (Else pt fs c m ∷ cs) = potential ws e pt c.position + 1 + waiting ws e cs
+waiting ws e (Keep g fs c m ∷ cs) = waiting ws e cs
+waiting ws e (Trying i fs c m ∷ cs) = waiting ws e cs
+
+-- each choice is of a spot of some kind, and no region is in progress
+abbrev pub EachChoice : (Spot → Type 0) → List Choice → Type 0
+EachChoice P [] = ⊤
+EachChoice P (Else pt fs c m ∷ cs) = P (spot_at pt fs c.position m) × EachChoice P cs
+EachChoice P (Keep g fs c m ∷ cs) = ⊥
+EachChoice P (Trying i fs c m ∷ cs) = P (spot_at (Instruction i) fs c.position m) × EachChoice P cs
+
+-- so much potential is left beside that of what waits
+pub record Fares (r : Run) (pl : Regionless r) (limit : Limit) (n : ℕ) (cs : List Choice) : Type 0 where
+  pub settled : EachChoice (SettledIn r pl limit.start) cs
+  pub trying : tried_spots cs ≡ limit.trying
+  pub left : n + waiting r.words r.subject.end cs + limit.taken
+      ≤ limit.granted + limit.tolls * grant r.words r.subject.end
+
+-- and the machine stands at a spot
+pub record FaresAt (r : Run) (pl : Regionless r) (limit : Limit) (n : ℕ) (x : Spot) (cs : List Choice) : Type 0 where
+  pub here : SettledIn r pl limit.start x
+  pub fares : Fares r pl limit n cs
+
+-- or at one of two, of which the second waits
+pub record FaresBoth (r : Run) (pl : Regionless r) (limit : Limit) (x y : Spot) (cs : List Choice) : Type 0 where
+  pub first : SettledIn r pl limit.start x
+  pub second : SettledIn r pl limit.start y
+  pub fares : Fares r pl limit (potential_of r.words r.subject.end x + potential_of r.words r.subject.end y + 2) cs
+
+-- the opcode of an instruction
+abbrev pub CodeAt : List ℕ → Point → SreOpcode → Type 0
+CodeAt ws (Instruction i) o = Opcode ws i o
+CodeAt ws pt o = ⊤
+
+-- a potential, with the toll where an instruction is gone on with
+abbrev pub pool : List ℕ → ℕ → SreOpcode → Point → ℕ → ℕ
+pool ws e o (Instruction i) p = tolled ws e o (potential ws e (Instruction i) p)
+pool ws e o (Alternatives q) p = potential ws e (Alternatives q) p
+pool ws e o (Shorter t k) p = potential ws e (Shorter t k) p
+pool ws e o (Longer i n) p = potential ws e (Longer i n) p
+pool ws e o (Inside g) p = potential ws e (Inside g) p
+pool ws e o Again p = potential ws e Again p
+pool ws e o (Tried i) p = potential ws e (Tried i) p
+
+-- what a spot has that is gone on with, or that is come to
+abbrev pub share : ℕ → List ℕ → ℕ → SreOpcode → Spot → ℕ
+share zero ws e o x = pool ws e o x.point x.position
+share (suc n) ws e o x = potential_of ws e x
