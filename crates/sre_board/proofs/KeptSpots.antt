@@ -15,6 +15,7 @@ use Rattle.sre_turns.specs.declared.Frame.{Frame}
 use Rattle.sre_turns.specs.declared.Point.{Point}
 use Rattle.sre_turns.specs.declared.Point.TheVariants.{Instruction}
 use Rattle.sre_board.specs.Failures.{Kept, kept_of, Entry, HoldsNoMore, HoldsOneMore, HasSlot, Laid, radix, digit}
+use Rattle.sre_board.specs.Failures.{HasNoRow}
 use Rattle.sre_board.specs.declared.failures.Row.{Row}
 use Rattle.sre_board.proofs.ChainLaws.{get_some}
 use Rattle.sre_board.proofs.AlikeBySlot.{one_if, same_pair, slot_length, loops_alike}
@@ -78,6 +79,8 @@ entry_below old new ws inside x at bit er es e = record {
   index = e.index;
   there = ap (λ (rs : List Row). slice_get rs e.number) (sym er) ∙ e.there;
   point = e.point;
+  read = e.read;
+  few = e.few;
   loops = subst (λ (ss : List ℕ). HasSlot ws x.position ss e.row.end e.row.shape 0 x.frames e.slot) es e.loops;
   from = e.from;
   to = e.to;
@@ -151,6 +154,8 @@ pub laid_shapes : (k : Kept) (more : List ℕ) → Laid k → Laid (with_shapes 
 laid_shapes k more laid = record {
   within = λ n r e. ((laid.within n r e).0, omega (arith, length-append k.shapes more, (laid.within n r e).1));
   apart = laid.apart;
+  alone = laid.alone;
+  few = laid.few;
 }
 
 pub shapes_no_more : (k : Kept) (more : List ℕ) → Laid k → HoldsNoMore k (with_shapes k more)
@@ -167,6 +172,8 @@ shapes_no_more k more laid = λ ws inside x h.
         index = e.index;
         there = e.there;
         point = e.point;
+        read = e.read;
+        few = e.few;
         loops =
             slot_before ws x.position k.shapes more e.row.end e.row.shape 0 x.frames e.slot
             (laid.within e.number e.row e.there).1 e.loops;
@@ -183,10 +190,12 @@ shapes_no_more k more laid = λ ws inside x h.
 abbrev pub with_bits : Kept → ℕ → Kept
 with_bits k n = record k { bits = k.bits ++ replicate n 0 }
 
-pub laid_bits : (k : Kept) (n : ℕ) → Laid k → Laid (with_bits k n)
-laid_bits k n laid = record {
+pub laid_bits : (k : Kept) (n : ℕ) → Laid k → length k.bits + n ≤ 2 ^ 32 → Laid (with_bits k n)
+laid_bits k n laid few = record {
   within = λ m r e. (omega (arith, length-append k.bits (replicate n 0), (laid.within m r e).0), (laid.within m r e).1);
   apart = laid.apart;
+  alone = laid.alone;
+  few = omega (arith, few, length-append k.bits (replicate n 0), length-replicate {A = ℕ} n 0);
 }
 
 -- past the bits there were, none is set
@@ -239,8 +248,8 @@ got_within (x ∷ rs) (suc n) r e = omega (arith, got_within rs n r e)
 
 module _ (k : Kept) (row : Row) (n : ℕ) (laid : Laid k) (base : row.base ≡ length k.bits) (room : row.length ≤ n)
     (shape : row.end ≤ length k.shapes) where
-  pub laid_row : Laid (with_row k row n)
-  laid_row = record {
+  pub laid_row : HasNoRow k row.place → length k.bits + n ≤ 2 ^ 32 → Laid (with_row k row n)
+  laid_row none few = record {
     within = λ m r e. elim (got_row k.rows row m r e) [
       | inl l ↦ (
         omega (arith, length-append k.bits (replicate n 0), (laid.within m r l).0),
@@ -260,6 +269,17 @@ module _ (k : Kept) (row : Row) (n : ℕ) (laid : Laid k) (base : row.base ≡ l
         | inr g ↦ absurd (omega (arith, g.0, h.0))
       ]
     ];
+    alone = λ i j r s er es e. elim (got_row k.rows row j s es) [
+      | inl l ↦ elim (got_row k.rows row i r er) [
+        | inl m ↦ laid.alone i j r s m l e
+        | inr g ↦ absurd (none j s l (sym e ∙ ap (λ (x : Row). x.place) (sym g.1)))
+      ]
+      | inr h ↦ elim (got_row k.rows row i r er) [
+        | inl m ↦ absurd (none i r m (e ∙ ap (λ (x : Row). x.place) (sym h.1)))
+        | inr g ↦ g.0 ∙ sym h.0
+      ]
+    ];
+    few = omega (arith, few, length-append k.bits (replicate n 0), length-replicate {A = ℕ} n 0);
   }
 
   pub row_no_more : HoldsNoMore k (with_row k row n)
@@ -279,6 +299,8 @@ module _ (k : Kept) (row : Row) (n : ℕ) (laid : Laid k) (base : row.base ≡ l
                 index = e.index;
                 there = l;
                 point = e.point;
+                read = e.read;
+                few = e.few;
                 loops = e.loops;
                 from = e.from;
                 to = e.to;
@@ -316,6 +338,8 @@ laid_written rows shapes bits at v laid =
     record {
       within = λ n r e. (omega (arith, same, (laid.within n r e).0), (laid.within n r e).1);
       apart = laid.apart;
+      alone = laid.alone;
+      few = omega (arith, same, laid.few);
     }
 
 -- the row of a number

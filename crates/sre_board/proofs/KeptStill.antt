@@ -8,22 +8,30 @@ use Rattle.std.proofs.lemmas.Bool.{cases_eq}
 use Rattle.std.proofs.lemmas.List.{get_or-set_same, get_or-set_other, get_or_append_left}
 use Rattle.std.proofs.lemmas.List.{take_all, take-append-le, append-nil}
 use Rattle.std.proofs.lemmas.List.{get_or_read, length-replicate}
-use Rattle.std.proofs.lemmas.Nat.Bits.{bit_at_set_same, bit_at_set_other}
+use Rattle.std.proofs.lemmas.Nat.Bits.{bit_at_set_same, bit_at_set_other, bit_at-zero}
 use Rattle.sre_turns.specs.Moves.{Spot}
 use Rattle.sre_turns.specs.declared.Frame.{Frame}
-use Rattle.sre_board.specs.Failures.{Kept, kept_of, Entry, HoldsNoMore, HoldsStill, BitsStay}
+use Rattle.sre_board.specs.Failures.{Kept, kept_of, Entry, HoldsNoMore, HoldsStill, BitsStay, BitsKept}
 use Rattle.sre_board.specs.Failures.{Grows, Sets, OneRowMore, HasSlot, Laid, ones_below}
-use Rattle.sre_board.specs.Failures.{radix, digit}
+use Rattle.sre_board.specs.Failures.{radix, digit, HasNoRow}
 use Rattle.sre_board.specs.declared.failures.Row.{Row}
 use Rattle.sre_board.proofs.CountingBits.{one_set, sum_set, sum_filled, none_in_zero}
 use Rattle.sre_board.proofs.KeptSpots.{entry_below, with_bit, with_shapes, with_row, laid_shapes, laid_row}
 use Rattle.sre_board.proofs.KeptSpots.{shapes_no_more, row_no_more}
 
 -- what stands in a list stands there in a longer one
-got_still : {X : Type 0} (xs ys : List X) (i : ℕ) (v : X) → slice_get xs i ≡ Some v → slice_get (xs ++ ys) i ≡ Some v
+pub got_still : {X : Type 0} (xs ys : List X) (i : ℕ) (v : X) → slice_get xs i ≡ Some v
+    → slice_get (xs ++ ys) i ≡ Some v
 got_still [] ys i v e = absurd (cc)
 got_still (x ∷ xs) ys zero v e = e
 got_still (x ∷ xs) ys (suc i) v e = got_still xs ys i v e
+
+-- a bit that is set is set in a longer list
+bits_longer : (bs cs : List ℕ) (at bit : ℕ) → bit_at (slice_index bs at) bit ≡ 1
+    → bit_at (slice_index (bs ++ cs) at) bit ≡ 1
+bits_longer [] cs at bit h = absurd (omega (arith, h, bit_at-zero bit))
+bits_longer (b ∷ bs) cs zero bit h = h
+bits_longer (b ∷ bs) cs (suc at) bit h = bits_longer bs cs at bit h
 
 slot_still : (ws : List ℕ) (p : ℕ) (shapes more : List ℕ) (j i a : ℕ) (fs : List Frame) (s : ℕ)
     → HasSlot ws p shapes j i a fs s → HasSlot ws p (shapes ++ more) j i a fs s
@@ -45,6 +53,8 @@ module _ (k : Kept) (rs : List Row) (ss : List ℕ) (n : ℕ) (laid : Laid k) wh
     index = e.index;
     there = got_still k.rows rs e.number e.row e.there;
     point = e.point;
+    read = e.read;
+    few = e.few;
     loops = slot_still ws x.position k.shapes ss e.row.end e.row.shape 0 x.frames e.slot e.loops;
     from = e.from;
     to = e.to;
@@ -73,6 +83,7 @@ module _ (k : Kept) (rs : List Row) (ss : List ℕ) (n : ℕ) (laid : Laid k) wh
     no_more = no_more;
     still = holds_still;
     stay = entry_still;
+    bits = λ at bit set. bits_longer k.bits (replicate n 0) at bit set;
     same = sum_filled (ones_below 64) k.bits n none_in_zero;
   }
 
@@ -81,6 +92,7 @@ grows_not k = record {
   no_more = λ ws inside x h. h;
   still = λ ws inside x h. h;
   stay = λ ws inside x at bit e. e;
+  bits = λ at bit set. set;
   same = refl;
 }
 
@@ -89,6 +101,7 @@ grows_after k l m a b = record {
   no_more = λ ws inside x h. a.no_more ws inside x (b.no_more ws inside x h);
   still = λ ws inside x h. b.still ws inside x (a.still ws inside x h);
   stay = λ ws inside x at bit e. b.stay ws inside x at bit (a.stay ws inside x at bit e);
+  bits = λ at bit set. b.bits at bit (a.bits at bit set);
   same = b.same ∙ a.same;
 }
 
@@ -150,9 +163,14 @@ module _ (k : Kept) (rows : List Row) (shapes bits new : List ℕ) (row : Row) (
   shaped : row.end ≤ length shapes
   shaped = omega (arith, end, ap (λ (y : Kept). length y.shapes) is)
 
-  pub laid_pushed : (rs : List Row) → rs ≡ rows ++ row ∷ [] → Laid (kept_of rs shapes new)
-  laid_pushed rs er =
-      rw (er, long) (laid_row (kept_of rows shapes bits) row row.length laid here (omega arith) shaped)
+  pub laid_pushed : HasNoRow k row.place → row.base + row.length ≤ 2 ^ 32 → (rs : List Row)
+      → rs ≡ rows ++ row ∷ [] → Laid (kept_of rs shapes new)
+  laid_pushed none few rs er =
+      let free : HasNoRow (kept_of rows shapes bits) row.place =
+      subst (λ (y : Kept). HasNoRow y row.place) (sym is) none in
+      rw (er, long)
+      (laid_row (kept_of rows shapes bits) row row.length laid here (omega arith) shaped free
+      (omega (arith, few, here)))
 
   pub pushed : (rs : List Row) → rs ≡ rows ++ row ∷ [] → Grows k (kept_of rs shapes new)
   pushed rs er =
@@ -181,32 +199,31 @@ module _ (k : Kept) (ws : List ℕ) (inside : Bool) (x : Spot) (at bit : ℕ) (s
   pub stays_at_bit : BitsStay k (with_bit k at bit)
   stays_at_bit wt other y m b d = entry_below (with_bit k at bit) k wt other y m b refl refl d
 
+  pub kept_at_bit : BitsKept k (with_bit k at bit)
+  kept_at_bit m b was = elim (cases_eq m at) [
+    | inr apart ↦
+        ap (λ w. bit_at w b)
+        (get_or-set_other k.bits at m (bit_or (get_or k.bits at 0) ((1 * 2 ^ bit) % 2 ^ 64)) 0 apart) ∙ was
+    | inl one ↦
+        let v : ℕ = bit_or (get_or k.bits at 0) ((1 * 2 ^ bit) % 2 ^ 64) in
+        let read : get_or (slice_set k.bits at v) m 0 ≡ v =
+        ap (λ i. get_or (slice_set k.bits at v) i 0) one ∙ get_or-set_same k.bits at v 0 there in
+        ap (λ w. bit_at w b) read
+        ∙ elim (cases_eq b bit) [
+          | inl same ↦ ap (λ i. bit_at v i) same ∙ bit_at_set_same w64 (get_or k.bits at 0) bit small
+          | inr other_bit ↦
+              bit_at_set_other w64 (get_or k.bits at 0) bit small b other_bit
+              ∙ ap (λ i. bit_at (get_or k.bits i 0) b) (sym one) ∙ was
+        ]
+  ]
+
   pub still_at_bit : HoldsStill k (with_bit k at bit)
   still_at_bit wt other y h = record {
     at = h.at;
     bit = h.bit;
     entry = stays_at_bit wt other y h.at h.bit h.entry;
-    is_set = set_still h.at h.bit h.is_set;
+    is_set = kept_at_bit h.at h.bit h.is_set;
   }
-    where
-      set_still : (m b : ℕ) → bit_at (slice_index k.bits m) b ≡ 1
-          → bit_at (slice_index (slice_set k.bits at (bit_or (get_or k.bits at 0) ((1 * 2 ^ bit) % 2 ^ 64))) m) b ≡ 1
-      set_still m b was = elim (cases_eq m at) [
-        | inr apart ↦
-            ap (λ w. bit_at w b)
-            (get_or-set_other k.bits at m (bit_or (get_or k.bits at 0) ((1 * 2 ^ bit) % 2 ^ 64)) 0 apart) ∙ was
-        | inl one ↦
-            let v : ℕ = bit_or (get_or k.bits at 0) ((1 * 2 ^ bit) % 2 ^ 64) in
-            let read : get_or (slice_set k.bits at v) m 0 ≡ v =
-            ap (λ i. get_or (slice_set k.bits at v) i 0) one ∙ get_or-set_same k.bits at v 0 there in
-            ap (λ w. bit_at w b) read
-            ∙ elim (cases_eq b bit) [
-              | inl same ↦ ap (λ i. bit_at v i) same ∙ bit_at_set_same w64 (get_or k.bits at 0) bit small
-              | inr other_bit ↦
-                  bit_at_set_other w64 (get_or k.bits at 0) bit small b other_bit
-                  ∙ ap (λ i. bit_at (get_or k.bits i 0) b) (sym one) ∙ was
-            ]
-      ]
 
   pub sets_bit : Sets ws inside x k (with_bit k at bit)
   sets_bit =
@@ -227,6 +244,7 @@ module _ (k : Kept) (ws : List ℕ) (inside : Bool) (x : Spot) (at bit : ℕ) (s
 pub record Written (ws : List ℕ) (inside : Bool) (x : Spot) (old new : Kept) : Type 0 where
   pub still : HoldsStill old new
   pub stay : BitsStay old new
+  pub bits : BitsKept old new
   pub sets : Sets ws inside x old new
 
 pub still_written : (k : Kept) (rows : List Row) (shapes bits : List ℕ) (ws : List ℕ) (inside : Bool) (x : Spot)
@@ -241,6 +259,7 @@ still_written k rows shapes bits ws inside x at bit v is small there e ev =
     let all : Written ws inside x (kept_of rows shapes bits) (with_bit (kept_of rows shapes bits) at bit) =
     record {
       still = still_at_bit (kept_of rows shapes bits) ws inside x at bit small room entry;
+      bits = kept_at_bit (kept_of rows shapes bits) ws inside x at bit small room entry;
       stay = stays_at_bit (kept_of rows shapes bits) ws inside x at bit small room entry;
       sets = sets_bit (kept_of rows shapes bits) ws inside x at bit small room entry;
     } in

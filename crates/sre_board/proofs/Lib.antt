@@ -8,3 +8,15 @@ pub mod Remembering
 pub mod KeptSpots
 pub mod CountingBits
 pub mod KeptStill
+pub mod RowNumbers
+pub mod OneEntry
+pub mod NoSlot
+pub mod NoBit
+pub mod Apart
+pub mod RowsThere
+pub mod ShapesAdded
+pub mod RowsAdded
+pub mod FewRows
+pub mod LoopsRead
+pub mod AccountLaws
+pub mod Prepared

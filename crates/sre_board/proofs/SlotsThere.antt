@@ -1,5 +1,5 @@
 -- Loops at the places of a shape that were passed have a slot of it, below the number of its slots.
--- Nothing goes by this yet: the law that a search takes polynomially many turns will.
+-- The law that a search takes few turns (`enough` of sre_engine) rests on this.
 use Rattle.std.proofs.Common.{◌≡◌, ℕ, ◌+◌, ◌*◌, ◌<◌, ◌≤◌, List, [], ◌∷◌, Option, Some, None, sym, ap, ◌∙◌, subst, refl}
 use Rattle.std.proofs.Common.{slice_get, arith}
 use Rattle.std.proofs.Math.Nat.{mul_assoc, mul-le-mul_right}
@@ -15,12 +15,12 @@ use Rattle.sre_turns.proofs.NestedSlots.{slots_within}
 use Rattle.sre_board.specs.Failures.{digit, radix, IsPassed, HasSlot}
 use Rattle.sre_board.proofs.AlikeBySlot.{digit_below}
 
-is_passed : (l : Option ℕ) (p : ℕ) → BegunBy l p → IsPassed l p
+pub is_passed : (l : Option ℕ) (p : ℕ) → BegunBy l p → IsPassed l p
 is_passed None p h = tt
 is_passed (Some last) p h = h
 
 -- a digit below its radix
-placed_below : (a r d s n : ℕ) → d < r → n < (a * r + d + 1) * s → n < (a + 1) * (r * s)
+pub placed_below : (a r d s n : ℕ) → d < r → n < (a * r + d + 1) * s → n < (a + 1) * (r * s)
 placed_below a r d s n l h =
     let most : (a * r + d + 1) * s ≤ (a + 1) * r * s =
     mul-le-mul_right s (one_more a r d l) in

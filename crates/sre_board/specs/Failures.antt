@@ -1,6 +1,6 @@
 -- The spots of which nothing came, as bits: one row of bits for each place, one bit for each spot that tells a
 -- difference there.
-use Rattle.std.specs.Prelude.{ℕ, zero, suc, ◌+◌, ◌-◌, ◌*◌, ◌/◌, ◌%◌, ◌<◌, ◌≤◌, ◌≡◌, ◌⊎◌, ⊤, Bool, cond, min}
+use Rattle.std.specs.Prelude.{ℕ, zero, suc, ◌+◌, ◌-◌, ◌*◌, ◌/◌, ◌%◌, ◌^◌, ◌<◌, ◌≤◌, ◌≡◌, ◌⊎◌, ⊤, Bool, cond, min}
 use Rattle.std.specs.Prelude.{List, [], ◌∷◌, Option, Some, None, slice_get, slice_index, length}
 use Rattle.std.specs.Int.{bit_at}
 use Rattle.std.specs.List.{sum_by}
@@ -9,6 +9,7 @@ use Rattle.sre_model.specs.Runs.{Run}
 use Rattle.sre_turns.specs.Alike.{Alike, counted_to, is_last}
 use Rattle.sre_turns.specs.Hopeless.{Hopeless}
 use Rattle.sre_turns.specs.Moves.{Spot}
+use Rattle.sre_turns.specs.Nested.{slots}
 use Rattle.sre_turns.specs.declared.Frame.{Frame}
 use Rattle.sre_turns.specs.declared.Point.TheVariants.{Instruction}
 use Rattle.sre_board.specs.declared.failures.Row.{Row}
@@ -48,6 +49,11 @@ HasSlot ws p shapes j i before (f ∷ fs) slot =
     (slice_get shapes i ≡ Some f.repeat) × IsPassed f.last p
     × HasSlot ws p shapes j (i + 1) (before * radix ws f.repeat + digit ws p f) fs slot
 
+-- the words of the loops in progress are there
+abbrev pub AreRead : List ℕ → List Frame → Type 0
+AreRead ws [] = ⊤
+AreRead ws (f ∷ fs) = (f.repeat + 3 < length ws) × AreRead ws fs
+
 -- where the bit of a spot stands: in a row of its place, for its loops and its position
 pub record Entry (k : Kept) (ws : List ℕ) (inside : Bool) (x : Spot) (at bit : ℕ) : Type 0 where
   pub number : ℕ
@@ -56,7 +62,9 @@ pub record Entry (k : Kept) (ws : List ℕ) (inside : Bool) (x : Spot) (at bit :
   pub index : ℕ
   pub there : slice_get k.rows number ≡ Some row
   pub point : x.point ≡ Instruction row.place
+  pub read : AreRead ws x.frames
   pub loops : HasSlot ws x.position k.shapes row.end row.shape 0 x.frames slot
+  pub few : slot < 4096
   pub from : row.first ≤ x.position
   pub to : x.position - row.first < row.positions
   pub index_is : index ≡ (slot * 2 + cond inside 1 0) * row.positions + (x.position - row.first)
@@ -88,6 +96,10 @@ abbrev pub BitsStay : Kept → Kept → Type 0
 BitsStay old new =
     (ws : List ℕ) (inside : Bool) (x : Spot) (at bit : ℕ) → Entry old ws inside x at bit → Entry new ws inside x at bit
 
+-- each bit that was set is set still
+abbrev pub BitsKept : Kept → Kept → Type 0
+BitsKept old new = (at bit : ℕ) → bit_at (slice_index old.bits at) bit ≡ 1 → bit_at (slice_index new.bits at) bit ≡ 1
+
 -- how many of a word's lowest bits are set
 unfoldable pub ones_below : ℕ → ℕ → ℕ
 ones_below zero w = 0
@@ -102,6 +114,7 @@ pub record Grows (old new : Kept) : Type 0 where
   pub no_more : HoldsNoMore old new
   pub still : HoldsStill old new
   pub stay : BitsStay old new
+  pub bits : BitsKept old new
   pub same : ones new ≡ ones old
 
 -- a spot has a bit
@@ -129,11 +142,61 @@ pub record Sets (ws : List ℕ) (inside : Bool) (x : Spot) (old new : Kept) : Ty
 abbrev pub Tells : Known → Kept → List ℕ → Bool → Spot → Type 0
 Tells Failed k ws inside x = Holds k ws inside x
 Tells Open k ws inside x = IsOpen k ws inside x
-Tells NoBit k ws inside x = ⊤
+Tells NoBit k ws inside x = HasBit k ws inside x → ⊥
+
+-- the places from i to j of the shapes are these
+abbrev pub HasShape : List ℕ → ℕ → ℕ → List ℕ → Type 0
+HasShape shapes j i [] = i ≡ j
+HasShape shapes j i (q ∷ qs) = (slice_get shapes i ≡ Some q) × HasShape shapes j (i + 1) qs
+
+-- the words of the loops at these places are there
+abbrev pub WordsThere : List ℕ → List ℕ → Type 0
+WordsThere ws [] = ⊤
+WordsThere ws (q ∷ qs) = (q + 3 < length ws) × WordsThere ws qs
+
+-- a row is for the positions from first to end and for the loops at these places, with a bit for each of their states
+pub record RowFor (k : Kept) (ws : List ℕ) (first end : ℕ) (js : List ℕ) (row : Row) : Type 0 where
+  pub first_is : row.first ≡ first
+  pub positions : row.positions ≡ end + 1 - first
+  pub shape : HasShape k.shapes row.end row.shape js
+  pub enough : slots ws js * 2 * row.positions ≤ 64 * row.length
+  pub few : slots ws js ≤ 4096
 
 -- so many words are enough for the bits of a place, with the positions from first to end
 abbrev pub most_words : ℕ → ℕ → ℕ
 most_words first end = 128 * (end + 1 - first) + 1
+
+-- a further row has room: one for a place, for the positions from first to end and for the loops at these places
+pub record Capacity (ws : List ℕ) (first end place : ℕ) (js : List ℕ) (k : Kept) : Type 0 where
+  pub is_place : place < length ws
+  pub few_places : length ws ≤ 2 ^ 32
+  pub few_rows : length k.rows < length ws
+  pub few_words : length k.bits + most_words first end ≤ 2 ^ 32
+  pub few_in_row : most_words first end ≤ 2 ^ 30
+  pub order : first ≤ end
+  pub few_slots : slots ws js ≤ 4096
+  pub words : WordsThere ws js
+
+-- a place has a row
+pub record HasRow (k : Kept) (place : ℕ) : Type 0 where
+  pub number : ℕ
+  pub row : Row
+  pub there : slice_get k.rows number ≡ Some row
+  pub place_is : row.place ≡ place
+
+-- each row is there still, and for what it was for
+pub record RowsStay (old new : Kept) : Type 0 where
+  pub there : (n : ℕ) (row : Row) → slice_get old.rows n ≡ Some row → slice_get new.rows n ≡ Some row
+  pub still : (ws : List ℕ) (first end : ℕ) (js : List ℕ) (row : Row) → RowFor old ws first end js row
+      → RowFor new ws first end js row
+
+-- at most one row is new, the last one: it is that of a place and, where it had room, for these positions and loops
+pub record NewRow (ws : List ℕ) (first end place : ℕ) (js : List ℕ) (old new : Kept) : Type 0 where
+  pub stay : RowsStay old new
+  pub rows : (n : ℕ) (row : Row) → slice_get new.rows n ≡ Some row
+      → (slice_get old.rows n ≡ Some row)
+      ⊎ ((n ≡ length old.rows) × (row.place ≡ place)
+      × (Capacity ws first end place js old → RowFor new ws first end js row))
 
 -- no more rows than a list has words, and no more bits than these need
 pub record Roomy (ws : List ℕ) (first end : ℕ) (k : Kept) : Type 0 where
@@ -155,9 +218,33 @@ HoldsOneMore ws inside x old new =
 abbrev pub Remembers : Run → Kept → Type 0
 Remembers r k = (inside : Bool) (x : Spot) → Holds k r.words inside x → Hopeless r inside x
 
--- the rows lie one behind the other within the bits, and their shapes within the shapes
+-- a place has no row
+abbrev pub HasNoRow : Kept → ℕ → Type 0
+HasNoRow k place = (n : ℕ) (r : Row) → slice_get k.rows n ≡ Some r → r.place ≡ place → ⊥
+
+-- each row's number stands at its place
+abbrev pub Numbered : List Row → List ℕ → Type 0
+Numbered rs ns = (n : ℕ) (r : Row) → slice_get rs n ≡ Some r → slice_get ns r.place ≡ Some n
+
+-- the rows lie one behind the other within the bits, of which there are few, and their shapes within the shapes; each
+-- is the row of a place of its own
 pub record Laid (k : Kept) : Type 0 where
   pub within : (n : ℕ) (r : Row) → slice_get k.rows n ≡ Some r
       → (r.base + r.length ≤ length k.bits) × (r.end ≤ length k.shapes)
   pub apart : (m n : ℕ) (r s : Row) → m < n → slice_get k.rows m ≡ Some r → slice_get k.rows n ≡ Some s
       → r.base + r.length ≤ s.base
+  pub alone : (m n : ℕ) (r s : Row) → slice_get k.rows m ≡ Some r → slice_get k.rows n ≡ Some s → r.place ≡ s.place
+      → m ≡ n
+  pub few : length k.bits ≤ 2 ^ 32
+
+-- a spot was kept, if it has a bit, and all else is as it was
+pub record KeepsSpot (ws : List ℕ) (inside : Bool) (x : Spot) (old new : Kept) : Type 0 where
+  pub more : HoldsOneMore ws inside x old new
+  pub still : HoldsStill old new
+  pub stay : BitsStay old new
+  pub set : HasBit old ws inside x → Sets ws inside x old new
+  pub rows : new.rows ≡ old.rows
+  pub shapes : new.shapes ≡ old.shapes
+  pub words : length new.bits ≡ length old.bits
+  pub laid : Laid new
+  pub bits : BitsKept old new

@@ -2,3 +2,5 @@ pub mod Chains
 pub mod Trail
 pub mod Choices
 pub mod Failures
+pub mod Apart
+pub mod Accounts

@@ -6,6 +6,7 @@
 ghost use Rattle.std.specs.Prelude.{◌≡◌, ℕ, ◌<◌, [], ◌∷◌, drop, length, reverse, IfOk, MatchOption, slice_index_or};
 ghost use Rattle.std.specs.Prelude.{true, false};
 ghost use Rattle.sre_model.specs.Marks.{no_marks, set_mark, group};
+ghost use Rattle.sre_growth.specs.Refusal.{Refused};
 ghost use Rattle.sre_turns.specs.Board.{Keep, Trying, choice, from_region, Cuts, bare};
 ghost use Rattle.sre_turns.specs.Fruit.{is_inside};
 ghost use Rattle.sre_turns.specs.declared.Point.TheVariants.{Inside};
@@ -208,6 +209,7 @@ impl<A: Allocator> Board<A> {
           choices = Trying place self.old.frames cursor self.old.marks ∷ self.old.choices;
         } }
         ensures left { result ≡ false → self.new ≡ self.old }
+        ensures refused { result ≡ false → Refused }
     {
         let saved = Saved {
             point: Point::Tried(place),
@@ -218,7 +220,7 @@ impl<A: Allocator> Board<A> {
         };
         match sre_growth::push(&mut self.choices, saved) {
             Ok(()) => true,
-            Err(_) => false,
+            Err(_refusal) => false,
         }
     }
 

@@ -8,14 +8,17 @@
 //! expected of the words: where one is missing there is no bit either.
 
 ghost use Rattle.std.specs.Prelude.{◌≡◌, ℕ, ◌+◌, ◌-◌, ◌*◌, ◌^◌, ◌<◌, ◌≤◌, true, false, List, []};
-ghost use Rattle.std.specs.Prelude.{◌++◌, length, IfSome, Some, IfOk, slice_get, slice_index_or};
+ghost use Rattle.std.specs.Prelude.{◌∷◌, if◌then◌else◌, is_ok};
+ghost use Rattle.std.specs.Prelude.{◌++◌, ◌≢◌, length, IfSome, MatchOption, Some, IfOk, slice_get, slice_index_or};
 ghost use Rattle.sre_turns.specs.Alike.{is_last};
 ghost use Rattle.sre_turns.specs.Fruit.{is_inside};
 ghost use Rattle.sre_turns.specs.Moves.{spot_at};
+ghost use Rattle.sre_turns.specs.Nested.{repeats, slots};
 ghost use Rattle.sre_turns.specs.declared.Point.TheVariants.{Instruction};
 ghost use Rattle.sre_board.specs.Failures.{Entry, Holds, HoldsNone, HoldsNoMore, HoldsOneMore, HasSlot, IsPassed};
-ghost use Rattle.sre_board.specs.Failures.{HoldsStill, BitsStay, Grows, Sets, Tells, Roomy, OneRowMore, Laid};
-ghost use Rattle.sre_board.specs.Failures.{counted_at, digit, radix, ones, most_words};
+ghost use Rattle.sre_board.specs.Failures.{HoldsStill, BitsStay, BitsKept, Grows, Sets, Tells, Roomy, OneRowMore, Laid};
+ghost use Rattle.sre_board.specs.Failures.{counted_at, digit, radix, ones, most_words, HasNoRow, HasBit, AreRead};
+ghost use Rattle.sre_board.specs.Failures.{IsOpen, HasShape, WordsThere, Capacity, HasRow, NewRow, kept_of};
 
 use crate::board::Board;
 use crate::chains::{Chains, frame_of};
@@ -56,13 +59,14 @@ pub struct Failures<A: Allocator> {
 }
 
 impl<A: Allocator> Model for Failures<A> {
-    ghost use Rattle.sre_board.specs.Failures.{Kept, kept_of, Laid};
+    ghost use Rattle.sre_board.specs.Failures.{Kept, kept_of, Laid, Numbered};
 
     ghost Value = { Kept };
 
     ghost view = { λ f. kept_of f.rows.items f.shapes.items f.bits.items };
 
-    ghost invariant = { λ f. Laid (kept_of f.rows.items f.shapes.items f.bits.items) };
+    ghost invariant = { λ f.
+        Laid (kept_of f.rows.items f.shapes.items f.bits.items) × Numbered f.rows.items f.numbers.items };
 }
 
 // Where a bit stands: the word, and its number within the word.
@@ -87,7 +91,8 @@ const MOST_WORDS: usize = 4294967296;
 // Up to which number the bodies of the loop at a place are counted, if its words are there.
 #[inline(always)]
 fn counted_at(words: &[u32], repeat: usize) -> Option<usize>
-    ensures { IfSome result (λ n. (n ≡ counted_at words.now repeat) × (n < 2 ^ 32)) }
+    ensures { MatchOption result (length words.now ≤ repeat + 3)
+        (λ n. (n ≡ counted_at words.now repeat) × (n < 2 ^ 32) × (repeat + 3 < length words.now)) }
 {
     if words.len() < 4 || repeat > words.len() - 4 {
         return None;
@@ -103,7 +108,8 @@ fn counted_at(words: &[u32], repeat: usize) -> Option<usize>
 // Whether a loop's last body began at a position; none where it began behind it.
 #[inline(always)]
 fn is_here(last: Option<usize>, position: usize) -> Option<bool>
-    ensures { IfSome result (λ here. IsPassed last position × (here ≡ is_last last position)) }
+    ensures { MatchOption result (IsPassed last position → ⊥)
+        (λ here. IsPassed last position × (here ≡ is_last last position)) }
 {
     match last {
         None => Some(false),
@@ -116,7 +122,10 @@ fn is_here(last: Option<usize>, position: usize) -> Option<bool>
 #[inline(always)]
 fn with_loop(words: &[u32], frame: Frame, position: usize, slot: usize) -> Option<usize>
     requires { slot < 4096 }
-    ensures { IfSome result (λ n. (n < 4096) × IsPassed frame.last position
+    ensures { MatchOption result
+        (frame.repeat + 3 < length words.now → IsPassed frame.last position
+        → 4096 ≤ slot * radix words.now frame.repeat + digit words.now position frame)
+        (λ n. (n < 4096) × IsPassed frame.last position × (frame.repeat + 3 < length words.now)
         × (n ≡ slot * radix words.now frame.repeat + digit words.now position frame)) }
 {
     let counted = counted_at(words, frame.repeat)?;
@@ -141,8 +150,11 @@ fn slot_of<A: Allocator>(
     position: usize,
 ) -> Option<usize>
     requires { innermost < length chains.now }
-    ensures { IfSome result (λ slot. (slot < 4096) × HasSlot words.now position shapes.now row.end row.shape 0
-        (slice_index_or chains.now innermost []) slot) }
+    ensures { let frames = slice_index_or chains.now innermost [] in MatchOption result
+        ((slot : ℕ) → slot < 4096 → AreRead words.now frames
+        → HasSlot words.now position shapes.now row.end row.shape 0 frames slot → ⊥)
+        (λ slot. (slot < 4096) × AreRead words.now frames
+        × HasSlot words.now position shapes.now row.end row.shape 0 frames slot) }
 {
     let mut id = innermost;
     let mut at = row.shape;
@@ -171,7 +183,9 @@ fn set_number<A: Allocator>(
     number: u32,
 ) -> Result<(), Refusal>
     requires { (place < places) × (places ≤ 2 ^ 32) }
-    ensures { IfOk result (λ _. slice_get numbers.new.items place ≡ Some number) }
+    ensures set { IfOk result (λ _. slice_get numbers.new.items place ≡ Some number) }
+    ensures others { (i n : ℕ) → i ≢ place → slice_get numbers.old.items i ≡ Some n
+        → slice_get numbers.new.items i ≡ Some n }
 {
     if place >= numbers.len() {
         sre_growth::resize(numbers, places, 0)?;
@@ -183,7 +197,9 @@ fn set_number<A: Allocator>(
 // How many slots there are with one loop more: none where they are too many, or its words are not there.
 #[inline(always)]
 fn more_slots(words: &[u32], repeat: usize, slots: usize) -> usize
-    ensures { result ≤ 4096 }
+    ensures few { result ≤ 4096 }
+    ensures all { repeat + 3 < length words.now → slots * radix words.now repeat ≤ 4096
+        → result ≡ slots * radix words.now repeat }
 {
     let Some(counted) = counted_at(words, repeat) else {
         return 0;
@@ -202,7 +218,12 @@ fn add_shape<A: Allocator>(
 ) -> Result<usize, Refusal>
     requires { innermost < length chains.now }
     ensures more { (more : List ℕ) × (shapes.new.items ≡ shapes.old.items ++ more) }
-    ensures few { IfOk result (λ slots. slots ≤ 4096) }
+    ensures few { IfOk result (λ n. n ≤ 4096) }
+    ensures shape { IfOk result (λ _. HasShape shapes.new.items (length shapes.new.items) (length shapes.old.items)
+        (repeats (slice_index_or chains.now innermost []))) }
+    ensures slots { IfOk result (λ n. WordsThere words.now (repeats (slice_index_or chains.now innermost []))
+        → slots words.now (repeats (slice_index_or chains.now innermost [])) ≤ 4096
+        → n ≡ slots words.now (repeats (slice_index_or chains.now innermost []))) }
 {
     let mut id = innermost;
     let mut slots = 1;
@@ -222,6 +243,8 @@ fn room(slots: usize, first: usize, end: usize, taken: usize) -> (usize, usize)
     requires { (slots ≤ 4096) × (taken ≤ 2 ^ 32) }
     ensures all { taken + result.1 ≤ 2 ^ 32 }
     ensures few { result.1 ≤ most_words first end }
+    ensures enough { 1 ≤ slots → first ≤ end → most_words first end ≤ 2 ^ 30 → taken + most_words first end ≤ 2 ^ 32
+        → (result.0 ≡ end + 1 - first) × (slots * 2 * result.0 ≤ 64 * result.1) }
 {
     if slots == 0 || first > end || end - first >= MOST_POSITIONS {
         return (0, 0);
@@ -238,7 +261,8 @@ impl<A: Allocator + Copy> Failures<A> {
     /// No spots. It takes no memory.
     #[inline(always)]
     pub fn new(alloc: A) -> Failures<A>
-        ensures { HoldsNone result }
+        ensures none { HoldsNone result }
+        ensures empty { result ≡ kept_of [] [] [] }
     {
         Failures {
             numbers: Vec::new(alloc),
@@ -253,7 +277,8 @@ impl<A: Allocator> Failures<A> {
     /// Takes all spots away; the memory is kept.
     #[inline(always)]
     pub fn forget(&mut self)
-        ensures { HoldsNone self.new }
+        ensures none { HoldsNone self.new }
+        ensures empty { self.new ≡ kept_of [] [] [] }
     {
         self.rows.clear();
         self.shapes.clear();
@@ -279,7 +304,12 @@ impl<A: Allocator> Failures<A> {
         ensures still { HoldsStill self.old self.new }
         ensures stay { BitsStay self.old self.new }
         ensures ones { ones self.new ≡ ones self.old }
+        ensures laid { Laid self.new }
+        ensures bits { BitsKept self.old self.new }
         ensures roomy { Roomy words.now first end self.old → Roomy words.now first end self.new }
+        ensures rows { NewRow words.now first end place (repeats board.now.frames) self.old self.new }
+        ensures there { IfOk result (λ _. Capacity words.now first end place (repeats board.now.frames) self.old
+            → HasRow self.new place) }
     {
         if self.row(place).is_some() {
             return Ok(());
@@ -297,8 +327,13 @@ impl<A: Allocator> Failures<A> {
         first: usize,
         end: usize,
     ) -> Result<(), Refusal>
+        requires { HasNoRow self.old place }
         ensures grows { Grows self.old self.new }
+        ensures laid { Laid self.new }
         ensures roomy { Roomy words.now first end self.old → Roomy words.now first end self.new }
+        ensures rows { NewRow words.now first end place (repeats board.now.frames) self.old self.new }
+        ensures there { IfOk result (λ _. Capacity words.now first end place (repeats board.now.frames) self.old
+            → HasRow self.new place) }
     {
         let number = self.rows.len();
         let base = self.bits.len();
@@ -309,7 +344,6 @@ impl<A: Allocator> Failures<A> {
         {
             return Ok(());
         }
-        set_number(&mut self.numbers, words.len(), place, number as u32)?;
         let shape = self.shapes.len();
         let (chains, innermost) = board.loops();
         let slots = add_shape(&mut self.shapes, words, chains, innermost)?;
@@ -323,18 +357,25 @@ impl<A: Allocator> Failures<A> {
             base,
             length,
         };
-        self.push_row(row)
+        self.push_row(row, words.len())
     }
 
-    // Appends a row, with bits of its own.
+    // Appends the row of a place that has none, one of so many places, with bits of its own.
     #[inline(always)]
-    fn push_row(&mut self, row: Row) -> Result<(), Refusal>
+    fn push_row(&mut self, row: Row, places: usize) -> Result<(), Refusal>
         requires base { row.base ≡ length self.old.bits }
         requires room { row.base + row.length ≤ 2 ^ 32 }
         requires end { row.end ≤ length self.old.shapes }
+        requires place { (row.place < places) × (length self.old.rows < places) × (places ≤ 2 ^ 32) }
+        requires none { HasNoRow self.old row.place }
         ensures grows { Grows self.old self.new }
+        ensures laid { Laid self.new }
         ensures size { OneRowMore row.length self.old self.new }
+        ensures rows { self.new.rows ≡ (if is_ok result then self.old.rows ++ row ∷ [] else self.old.rows) }
+        ensures shapes { self.new.shapes ≡ self.old.shapes }
     {
+        let number = self.rows.len();
+        set_number(&mut self.numbers, places, row.place, number as u32)?;
         sre_growth::resize(&mut self.bits, row.base + row.length, 0)?;
         if let Err(refusal) = sre_growth::push(&mut self.rows, row) {
             self.bits.truncate(row.base);
@@ -346,7 +387,9 @@ impl<A: Allocator> Failures<A> {
     // The row of a place, if it has one.
     #[inline(always)]
     fn row(&self, place: usize) -> Option<Row>
-        ensures { IfSome result (λ r. (r.place ≡ place) × (n : ℕ) × (slice_get self.now.rows n ≡ Some r)) }
+        ensures laid { Laid self.now }
+        ensures found { MatchOption result (HasNoRow self.now place)
+            (λ r. (r.place ≡ place) × (n : ℕ) × (slice_get self.now.rows n ≡ Some r)) }
     {
         if place >= self.numbers.len() {
             return None;
@@ -365,9 +408,10 @@ impl<A: Allocator> Failures<A> {
     // Where the bit of a spot stands, if there is one for it.
     #[inline(always)]
     fn bit(&self, words: &[u32], board: &Board<A>, place: usize, position: usize) -> Option<Bit>
-        ensures { IfSome result (λ b. (b.word < length self.now.bits) × (b.number < 64)
-            × Entry self.now words.now (is_inside board.now.choices)
-            (spot_at (Instruction place) board.now.frames position board.now.marks) b.word b.number) }
+        ensures { let spot = spot_at (Instruction place) board.now.frames position board.now.marks in
+            MatchOption result (HasBit self.now words.now (is_inside board.now.choices) spot → ⊥)
+            (λ b. (b.word < length self.now.bits) × (b.number < 64)
+            × Entry self.now words.now (is_inside board.now.choices) spot b.word b.number) }
     {
         let row = self.row(place)?;
         if position < row.first || position - row.first >= row.positions {
@@ -411,7 +455,11 @@ impl<A: Allocator> Failures<A> {
     /// Whether a spot is kept.
     #[inline(never)]
     pub fn is_kept(&self, words: &[u32], board: &Board<A>, place: usize, position: usize) -> bool
-        ensures { result ≡ true → Holds self.now words.now (is_inside board.now.choices)
+        ensures kept { result ≡ true → Holds self.now words.now (is_inside board.now.choices)
+            (spot_at (Instruction place) board.now.frames position board.now.marks) }
+        ensures opened { result ≡ false → HasBit self.now words.now (is_inside board.now.choices)
+            (spot_at (Instruction place) board.now.frames position board.now.marks)
+            → IsOpen self.now words.now (is_inside board.now.choices)
             (spot_at (Instruction place) board.now.frames position board.now.marks) }
     {
         match self.known(words, board, place, position) {
@@ -427,9 +475,16 @@ impl<A: Allocator> Failures<A> {
             (spot_at (Instruction place) board.now.frames position board.now.marks) self.old self.new }
         ensures still { HoldsStill self.old self.new }
         ensures stay { BitsStay self.old self.new }
+        ensures rows { self.new.rows ≡ self.old.rows }
+        ensures shapes { self.new.shapes ≡ self.old.shapes }
+        ensures words { length self.new.bits ≡ length self.old.bits }
+        ensures laid { Laid self.new }
+        ensures bits { BitsKept self.old self.new }
         ensures set { result ≡ true → Sets words.now (is_inside board.now.choices)
             (spot_at (Instruction place) board.now.frames position board.now.marks) self.old self.new }
         ensures none { result ≡ false → self.new ≡ self.old }
+        ensures no_bit { result ≡ false → HasBit self.old words.now (is_inside board.now.choices)
+            (spot_at (Instruction place) board.now.frames position board.now.marks) → ⊥ }
     {
         match self.bit(words, board, place, position) {
             None => false,

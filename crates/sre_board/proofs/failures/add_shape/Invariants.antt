@@ -1,4 +1,6 @@
-use Rattle.std.proofs.Common.{◌≡◌, ℕ, ◌<◌, ◌≤◌, List, ◌++◌, length}
+use Rattle.std.proofs.Common.{◌≡◌, ℕ, ◌<◌, ◌≤◌, ◌*◌, List, [], ◌++◌, length, slice_index_or}
+use Rattle.sre_turns.specs.Nested.{repeats, slots}
+use Rattle.sre_board.specs.Failures.{WordsThere}
 use Rattle.sre_board.proofs.failures.add_shape.Given as goal
 
 abbrev pub invariant-walk : goal.invariant-walk
@@ -6,6 +8,13 @@ invariant-walk g l = record {
   there : l.id < length l.chains;
   few : l.slots ≤ 4096;
   more : (more : List ℕ) × (l.shapes.items ≡ l.initial.shapes.items ++ more);
+  rest : l.shapes.items ++ repeats (slice_index_or l.chains l.id [])
+      ≡ l.initial.shapes.items ++ repeats (slice_index_or l.chains l.innermost []);
+  all : WordsThere l.words (repeats (slice_index_or l.chains l.innermost []))
+      → slots l.words (repeats (slice_index_or l.chains l.innermost [])) ≤ 4096
+      → WordsThere l.words (repeats (slice_index_or l.chains l.id []))
+      × (l.slots * slots l.words (repeats (slice_index_or l.chains l.id []))
+      ≡ slots l.words (repeats (slice_index_or l.chains l.innermost [])));
 }
 
 abbrev pub decreases-walk : goal.decreases-walk

@@ -1,5 +1,5 @@
 use Rattle.std.proofs.Common.{ℕ, ◌<◌, [], length, slice_index_or}
-use Rattle.sre_board.specs.Failures.{HasSlot}
+use Rattle.sre_board.specs.Failures.{HasSlot, AreRead}
 use Rattle.sre_board.proofs.failures.slot_of.Given as goal
 
 abbrev pub invariant-walk : goal.invariant-walk
@@ -10,6 +10,12 @@ invariant-walk g l = record {
       → HasSlot l.words l.position l.shapes l.row.end l.at l.slot (slice_index_or l.chains l.id []) s
       → HasSlot l.words l.position l.shapes l.row.end l.row.shape 0
       (slice_index_or l.chains l.innermost []) s;
+  back : (s : ℕ)
+      → HasSlot l.words l.position l.shapes l.row.end l.row.shape 0 (slice_index_or l.chains l.innermost []) s
+      → HasSlot l.words l.position l.shapes l.row.end l.at l.slot (slice_index_or l.chains l.id []) s;
+  read : AreRead l.words (slice_index_or l.chains l.id []) → AreRead l.words (slice_index_or l.chains l.innermost []);
+  read_back : AreRead l.words (slice_index_or l.chains l.innermost [])
+      → AreRead l.words (slice_index_or l.chains l.id []);
 }
 
 abbrev pub decreases-walk : goal.decreases-walk

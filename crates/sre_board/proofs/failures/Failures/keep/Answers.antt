@@ -5,8 +5,8 @@ use Rattle.sre_board.proofs.failures.Failures.keep.Goals as goal
 pub returns-in-Some-clause-more : goal.returns-in-Some-clause-more
 returns-in-Some-clause-more g c =
     kept_written c.args.self.now c.self.inside.rows.items c.self.inside.shapes.items c.self.inside.bits.items
-    c.args.words.now _ _ c.in-Some.bit.word c.in-Some.bit.number c.index_mut.result.now c.self.view_is c.self.invariant
-    c.in-Some.ensures.1 c.in-Some.ensures.0 c.in-Some.ensures.2 c.index_mut.ensures.value
+    c.args.words.now _ _ c.in-Some.bit.word c.in-Some.bit.number c.index_mut.result.now c.self.view_is
+    c.self.invariant.0 c.in-Some.ensures.1 c.in-Some.ensures.0 c.in-Some.ensures.2 c.index_mut.ensures.value
 
 pub returns-in-Some-clause-still : goal.returns-in-Some-clause-still
 returns-in-Some-clause-still g c =
@@ -25,3 +25,9 @@ returns-in-Some-clause-set g c = λ _.
     (still_written c.args.self.now c.self.inside.rows.items c.self.inside.shapes.items c.self.inside.bits.items
     c.args.words.now _ _ c.in-Some.bit.word c.in-Some.bit.number c.index_mut.result.now c.self.view_is
     c.in-Some.ensures.1 c.in-Some.ensures.0 c.in-Some.ensures.2 c.index_mut.ensures.value).sets
+
+pub returns-in-Some-clause-bits : goal.returns-in-Some-clause-bits
+returns-in-Some-clause-bits g c =
+    (still_written c.args.self.now c.self.inside.rows.items c.self.inside.shapes.items c.self.inside.bits.items
+    c.args.words.now _ _ c.in-Some.bit.word c.in-Some.bit.number c.index_mut.result.now c.self.view_is
+    c.in-Some.ensures.1 c.in-Some.ensures.0 c.in-Some.ensures.2 c.index_mut.ensures.value).bits

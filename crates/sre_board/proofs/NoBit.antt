@@ -1,0 +1,80 @@
+-- A spot has no bit where its place's row has none for it.
+use Rattle.std.proofs.Common.{◌≡◌, ℕ, ◌+◌, ◌-◌, ◌*◌, ◌/◌, ◌^◌, ◌<◌, ◌≤◌, Bool, cond, Some, slice_get}
+use Rattle.std.proofs.Common.{List, sym, ap, ◌∙◌, subst, arith}
+use Rattle.sre_turns.specs.Moves.{Spot}
+use Rattle.sre_turns.specs.declared.Frame.{Frame}
+use Rattle.sre_turns.specs.declared.Point.{Point}
+use Rattle.sre_turns.specs.declared.Point.TheVariants.{Instruction}
+use Rattle.sre_board.specs.Failures.{Kept, HasBit, HasSlot, Laid, AreRead}
+use Rattle.sre_board.specs.declared.failures.Row.{Row}
+use Rattle.sre_board.proofs.OneEntry.{one_row_of, one_slot}
+
+-- a bit of a row
+record InRow (k : Kept) (ws : List ℕ) (inside : Bool) (x : Spot) (r : Row) : Type 0 where
+  slot : ℕ
+  few : slot < 4096
+  read : AreRead ws x.frames
+  loops : HasSlot ws x.position k.shapes r.end r.shape 0 x.frames slot
+  from : r.first ≤ x.position
+  to : x.position - r.first < r.positions
+  within : ((slot * 2 + cond inside 1 0) * r.positions + (x.position - r.first)) / 64 < r.length
+
+-- the row of a spot's place
+module _ (k : Kept) (ws : List ℕ) (inside : Bool) (x : Spot) (n : ℕ) (r : Row) (laid : Laid k)
+    (point : x.point ≡ Instruction r.place) (there : slice_get k.rows n ≡ Some r) where
+  in_row : HasBit k ws inside x → InRow k ws inside x r
+  in_row h =
+      let e = h.entry in
+      let row : e.row ≡ r =
+      one_row_of k e.number n e.row r laid e.there there
+      (same_place e.row.place r.place (sym e.point ∙ point)) in
+      subst (λ (s : Row). InRow k ws inside x s) row
+      (record {
+        slot = e.slot;
+        few = e.few;
+        read = e.read;
+        loops = e.loops;
+        from = e.from;
+        to = e.to;
+        within = subst (λ i. i / 64 < e.row.length) e.index_is e.within;
+      })
+    where
+      same_place : (i j : ℕ) → ◌≡◌ {A = Point} (Instruction i) (Instruction j) → i ≡ j
+      same_place i j e = cc
+
+  -- the loops have no slot
+  pub no_slot : (shapes : List ℕ) (frames : List Frame) → shapes ≡ k.shapes → frames ≡ x.frames
+      → ((s : ℕ) → s < 4096 → AreRead ws frames → HasSlot ws x.position shapes r.end r.shape 0 frames s → ⊥)
+      → HasBit k ws inside x → ⊥
+  no_slot shapes frames es ef none b =
+      let i = in_row b in
+      let moved = subst (λ (fs : List Frame). HasSlot ws x.position k.shapes r.end r.shape 0 fs i.slot) (sym ef)
+      i.loops in
+      none i.slot i.few (subst (λ (fs : List Frame). AreRead ws fs) (sym ef) i.read)
+      (subst (λ (ss : List ℕ). HasSlot ws x.position ss r.end r.shape 0 frames i.slot) (sym es) moved)
+
+  -- the loops have a slot, and so there is an index
+  module _ (shapes : List ℕ) (frames : List Frame) (s tail product index : ℕ) (es : shapes ≡ k.shapes)
+      (ef : frames ≡ x.frames) (slot : HasSlot ws x.position shapes r.end r.shape 0 frames s)
+      (et : tail ≡ cond inside 1 0) (ep : product ≡ (s * 2 + tail) * r.positions)
+      (ei : index ≡ product + (x.position - r.first)) where
+    pub no_index : r.length ≤ index / 64 → HasBit k ws inside x → ⊥
+    no_index far b =
+        let i = in_row b in
+        let moved = subst (λ (ss : List ℕ). HasSlot ws x.position ss r.end r.shape 0 frames s) es slot in
+        let there = subst (λ (fs : List Frame). HasSlot ws x.position k.shapes r.end r.shape 0 fs s) ef moved in
+        let same : s ≡ i.slot = one_slot ws x.position k.shapes r.end r.shape 0 x.frames s i.slot there i.loops in
+        let index_is : index ≡ (i.slot * 2 + cond inside 1 0) * r.positions + (x.position - r.first) =
+        ei
+        ∙ ap (λ n. n + (x.position - r.first))
+        (ep
+        ∙ ap (λ t. (s * 2 + t) * r.positions) et
+        ∙ ap (λ n. (n * 2 + cond inside 1 0) * r.positions) same) in
+        let within : index / 64 < r.length = subst (λ n. n / 64 < r.length) (sym index_is) i.within in
+        omega (arith, far, within)
+
+    pub too_far : 2 ^ 64 ≤ index → HasBit k ws inside x → ⊥
+    too_far far = no_index (past index r.length far (omega (arith, (laid.within n r there).0, laid.few)))
+      where
+        past : (i l : ℕ) → 2 ^ 64 ≤ i → l ≤ 2 ^ 32 → l ≤ i / 64
+        past i l a b = omega (arith, a, b)

@@ -1,0 +1,143 @@
+-- What the memory of failures has taken in stays so when a row is prepared for a spot, and the spot has a bit then.
+use Rattle.std.proofs.Common.{◌≡◌, ℕ, zero, suc, ◌+◌, ◌*◌, ◌^◌, ◌<◌, ◌≤◌, ◌⊎◌, inl, inr, false, List, [], ◌∷◌}
+use Rattle.std.proofs.Common.{length, Some, slice_get, refl, sym, ap, ◌∙◌, subst, arith}
+use Rattle.std.proofs.lemmas.Bool.{cases_eq}
+use Rattle.std.proofs.Math.Nat.{mul-le-mul_left, mul-le-mul_right}
+use Rattle.sre_model.specs.Runs.{Run}
+use Rattle.sre_turns.specs.Alike.{least_from}
+use Rattle.sre_turns.specs.Moves.{Spot}
+use Rattle.sre_turns.specs.Nested.{repeats}
+use Rattle.sre_turns.specs.Settled.{Regionless, SettledIn}
+use Rattle.sre_turns.specs.declared.Point.{Point}
+use Rattle.sre_turns.specs.declared.Point.TheVariants.{Instruction}
+use Rattle.sre_turns.proofs.NestedPlaces.{same_loops}
+use Rattle.sre_turns.proofs.NestedSlots.{slots_within}
+use Rattle.sre_board.specs.Accounts.{Account, RowLies, Room}
+use Rattle.sre_board.specs.Failures.{Kept, HasRow, HasNoRow, NewRow, Capacity, BitsStay, BitsKept, Laid, Roomy, HasBit}
+use Rattle.sre_board.specs.Failures.{most_words}
+use Rattle.sre_board.specs.declared.failures.Row.{Row}
+use Rattle.sre_board.proofs.AccountLaws.{account_grows}
+use Rattle.sre_board.proofs.FewRows.{fewer_rows}
+use Rattle.sre_board.proofs.KeptSpots.{got_within}
+use Rattle.sre_board.proofs.LoopsRead.{lies_words}
+use Rattle.sre_board.proofs.RowsThere.{bit_there}
+
+abbrev NoneIn : List Row → ℕ → Type 0
+NoneIn rs place = (n : ℕ) (r : Row) → slice_get rs n ≡ Some r → r.place ≡ place → ⊥
+
+row_in : (rs : List Row) (place : ℕ)
+    → ((n : ℕ) × (r : Row) × (slice_get rs n ≡ Some r) × (r.place ≡ place)) ⊎ NoneIn rs place
+row_in [] place = inr (λ n r e p. absurd (cc e))
+row_in (row ∷ rs) place = elim (cases_eq row.place place) [
+  | inl same ↦ inl (0, row, refl, same)
+  | inr apart ↦ elim (row_in rs place) [
+    | inl h ↦ inl (suc h.0, h.1, h.2, h.3)
+    | inr none ↦ inr (none_more apart none)
+  ]
+]
+  where
+    none_more : (row.place ≡ place → ⊥) → NoneIn rs place → NoneIn (row ∷ rs) place
+    none_more apart none zero r e p = let is : row ≡ r = cc in apart (ap (λ (s : Row). s.place) is ∙ p)
+    none_more apart none (suc n) r e p = none n r e p
+
+pub has_row : (k : Kept) (place : ℕ) → HasRow k place ⊎ HasNoRow k place
+has_row k place = elim (row_in k.rows place) [
+  | inl h ↦ inl (record { number = h.0; row = h.1; there = h.2; place_is = h.3 })
+  | inr none ↦ inr none
+]
+
+-- one row more has room, where fewer have it than there are words
+room_for_one : (rows words most bits : ℕ) → rows < words → bits ≤ rows * most → words * most ≤ 2 ^ 30
+    → bits + most ≤ 2 ^ 30
+room_for_one rows words most bits l few all =
+    let next : (rows + 1) * most ≡ rows * most + most = grind arith in
+    omega (arith, next, few, all, mul-le-mul_right most (more l))
+  where
+    more : rows < words → rows + 1 ≤ words
+    more l = omega arith
+
+module _ (r : Run) (pl : Regionless r) (first : ℕ) (old new : Kept) (x : Spot) (place : ℕ) (xs : List Spot) (n : ℕ)
+    (room : Room r pl first) (settled : SettledIn r pl first x) (point : x.point ≡ Instruction place)
+    (is_place : place < length r.words)
+    (rows : NewRow r.words first r.subject.end place (repeats x.frames) old new) (stay : BitsStay old new)
+    (kept : BitsKept old new) (laid : Laid new)
+    (roomy : Roomy r.words first r.subject.end old → Roomy r.words first r.subject.end new)
+    (account : Account r pl first old xs n) where
+  begins : first ≤ x.position
+  begins = subst (λ (pt : Point). first ≤ least_from pt x.position) point settled.from
+
+  capacity : HasNoRow old place → Capacity r.words first r.subject.end place (repeats x.frames) old
+  capacity none =
+      let few : length old.rows < length r.words =
+      fewer_rows old (length r.words) account.laid (λ i row e. (account.rows i row e).place) place is_place none in
+      let more : length old.bits + most_words first r.subject.end ≤ 2 ^ 30 =
+      room_for_one (length old.rows) (length r.words) (most_words first r.subject.end) (length old.bits) few
+      account.roomy.bits room.words in
+      let words : length r.words * 1 ≤ length r.words * most_words first r.subject.end =
+      mul-le-mul_left (length r.words) (omega arith) in
+      record {
+        is_place = is_place;
+        few_places = omega (arith, words, room.words);
+        few_rows = few;
+        few_words = omega (arith, more);
+        few_in_row = omega (arith, more);
+        order = omega (arith, begins, settled.inside);
+        few_slots = omega (arith, slots_within r.words pl.tree pl.whole x settled.lies, room.slots);
+        words = lies_words r.words pl.tree pl.whole x settled.lies;
+      }
+
+  -- a place whose row is new had none
+  had_none : (i : ℕ) (row : Row) → slice_get new.rows i ≡ Some row → i ≡ length old.rows → row.place ≡ place
+      → HasNoRow old place
+  had_none i row e ei ep = elim (has_row old place) [
+    | inr none ↦ none
+    | inl h ↦
+        let one : h.number ≡ i =
+        laid.alone h.number i h.row row (rows.stay.there h.number h.row h.there) e (h.place_is ∙ sym ep) in
+        absurd (omega (arith, one, ei, got_within old.rows h.number h.row h.there))
+  ]
+
+  row_lies : (i : ℕ) (row : Row) → slice_get new.rows i ≡ Some row → RowLies r pl first new row
+  row_lies i row e = elim (rows.rows i row e) [
+    | inl l ↦
+        let was = account.rows i row l in
+        record {
+          spot = was.spot;
+          point = was.point;
+          lies = was.lies;
+          place = was.place;
+          is_for = rows.stay.still r.words first r.subject.end (repeats was.spot.frames) row was.is_for;
+        }
+    | inr g ↦ record {
+      spot = x;
+      point = point ∙ ap (λ i. Instruction i) (sym g.1);
+      lies = settled.lies;
+      place = omega (arith, is_place, g.1);
+      is_for = g.2 (capacity (had_none i row e g.0 g.1));
+    }
+  ]
+
+  pub account_prepared : Account r pl first new xs n
+  account_prepared = account_grows r pl first old new xs n stay kept row_lies laid (roomy account.roomy) account
+
+  has_it : (Capacity r.words first r.subject.end place (repeats x.frames) old → HasRow new place) → HasRow new place
+  has_it there = elim (has_row old place) [
+    | inl h ↦ record {
+      number = h.number;
+      row = h.row;
+      there = rows.stay.there h.number h.row h.there;
+      place_is = h.place_is;
+    }
+    | inr none ↦ there (capacity none)
+  ]
+
+  pub bit_prepared : (Capacity r.words first r.subject.end place (repeats x.frames) old → HasRow new place)
+      → HasBit new r.words false x
+  bit_prepared there =
+      let h = has_it there in
+      let l = row_lies h.number h.row h.there in
+      let at : x.point ≡ Instruction h.row.place = point ∙ ap (λ i. Instruction i) (sym h.place_is) in
+      let loops : repeats x.frames ≡ repeats l.spot.frames =
+      same_loops r.words pl.tree pl.whole h.row.place x l.spot at l.point settled.lies l.lies in
+      bit_there new r.words first r.subject.end (repeats l.spot.frames) false x h.number h.row at loops settled.passed
+      begins settled.inside (lies_words r.words pl.tree pl.whole l.spot l.lies) h.there l.is_for

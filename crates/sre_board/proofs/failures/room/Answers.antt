@@ -1,0 +1,19 @@
+use Rattle.std.proofs.Common.{ℕ, ◌+◌, ◌-◌, ◌*◌, ◌≤◌, arith}
+use Rattle.std.proofs.Math.Nat.{mul-le-mul_right}
+use Rattle.sre_board.proofs.failures.room.Goals as goal
+use Rattle.sre_board.proofs.failures.room.Goals.{
+  then-length-gt-MOST_WORDS_IN_ROW-via-then-length-gt-MOST_WORDS_IN_ROW,
+  then-length-gt-MOST_WORDS_IN_ROW-via-else-length-gt-MOST_WORDS_IN_ROW+then-length-taken,
+}
+
+pub returns-then-length-gt-MOST_WORDS_IN_ROW-clause-enough :
+    goal.returns-then-length-gt-MOST_WORDS_IN_ROW-clause-enough
+returns-then-length-gt-MOST_WORDS_IN_ROW-clause-enough c = λ some order most fits.
+    let p : ℕ = c.args.end - c.args.first + 1 in
+    let lines : c.args.slots * 2 * p ≤ 8192 * p = mul-le-mul_right p (omega arith) in
+    let s = c.saturating_mul.ensures in
+    absurd
+    (elim c.then-length-gt-MOST_WORDS_IN_ROW.branch [
+      | then-length-gt-MOST_WORDS_IN_ROW-via-then-length-gt-MOST_WORDS_IN_ROW w ↦ omega arith
+      | then-length-gt-MOST_WORDS_IN_ROW-via-else-length-gt-MOST_WORDS_IN_ROW+then-length-taken w ↦ omega arith
+    ])

@@ -1,0 +1,65 @@
+-- What the memory of failures has taken in for the tolls of instructions that may branch: a bit for each. The bit of a
+-- spot that is tried is not set yet, and none is taken in twice.
+use Rattle.std.specs.Prelude.{⊤, ℕ, ◌+◌, ◌*◌, ◌^◌, ◌<◌, ◌≤◌, ◌≡◌, false, List, [], ◌∷◌, ◌++◌, length, Some, slice_get}
+use Rattle.std.specs.Prelude.{slice_index}
+use Rattle.std.specs.Int.{bit_at}
+use Rattle.std.specs.List.{AllByRecursion}
+use Rattle.sre_model.specs.Runs.{Run}
+use Rattle.sre_turns.specs.Moves.{Spot}
+use Rattle.sre_turns.specs.Nested.{Lies, repeats, most_slots}
+use Rattle.sre_turns.specs.Settled.{Regionless}
+use Rattle.sre_turns.specs.declared.Point.TheVariants.{Instruction}
+use Rattle.sre_board.specs.Apart.{Apart}
+use Rattle.sre_board.specs.Failures.{Kept, Entry, RowFor, Roomy, Laid, most_words}
+use Rattle.sre_board.specs.declared.failures.Row.{Row}
+
+-- the number of a spot's bit, outside all regions
+pub record BitOf (k : Kept) (ws : List ℕ) (x : Spot) (b : ℕ) : Type 0 where
+  pub at : ℕ
+  pub bit : ℕ
+  pub entry : Entry k ws false x at bit
+  pub is : b ≡ at * 64 + bit
+
+-- a bit is set
+pub record IsSet (k : Kept) (b : ℕ) : Type 0 where
+  pub at : ℕ
+  pub bit : ℕ
+  pub small : bit < 64
+  pub is : b ≡ at * 64 + bit
+  pub set : bit_at (slice_index k.bits at) bit ≡ 1
+
+-- the bits of some spots, in their order
+abbrev pub BitsOf : Kept → List ℕ → List Spot → List ℕ → Type 0
+BitsOf k ws [] [] = ⊤
+BitsOf k ws [] (b ∷ bs) = ⊥
+BitsOf k ws (x ∷ xs) [] = ⊥
+BitsOf k ws (x ∷ xs) (b ∷ bs) = BitOf k ws x b × BitsOf k ws xs bs
+
+-- each row is for the loops of a place in the words, and for the positions from first to end
+pub record RowLies (r : Run) (pl : Regionless r) (first : ℕ) (k : Kept) (row : Row) : Type 0 where
+  pub spot : Spot
+  pub point : spot.point ≡ Instruction row.place
+  pub lies : Lies r.words pl.tree pl.whole spot
+  pub place : row.place < length r.words
+  pub is_for : RowFor k r.words first r.subject.end (repeats spot.frames) row
+
+-- the memory has taken in n bits; of these some are those of the spots that are tried, the others are set
+pub record Account (r : Run) (pl : Regionless r) (first : ℕ) (k : Kept) (xs : List Spot) (n : ℕ) : Type 0 where
+  pub trying : List ℕ
+  pub failed : List ℕ
+  pub bits : BitsOf k r.words xs trying
+  pub set : AllByRecursion (λ (b : ℕ). IsSet k b) failed
+  pub apart : Apart (trying ++ failed)
+  pub count : length (trying ++ failed) ≡ n
+  pub rows : (i : ℕ) (row : Row) → slice_get k.rows i ≡ Some row → RowLies r pl first k row
+  pub roomy : Roomy r.words first r.subject.end k
+  pub laid : Laid k
+
+-- all places of the words have room for their bits in a window from first on
+pub record Room (r : Run) (pl : Regionless r) (first : ℕ) : Type 0 where
+  pub words : length r.words * most_words first r.subject.end ≤ 2 ^ 30
+  pub slots : most_slots pl.tree ≤ 4096
+
+-- so many bits are taken in at most
+abbrev pub most_bits : Run → ℕ → ℕ
+most_bits r first = 64 * (length r.words * most_words first r.subject.end)
