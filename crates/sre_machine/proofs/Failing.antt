@@ -1,5 +1,6 @@
 -- Instructions that are known to fail, and those that are tried.
-use Rattle.std.proofs.Common.{◌≡◌, ℕ, Bool, true, false, List, ◌∷◌, Result, Ok, Err, IfOk, refl, subst, sym, ◌∙◌}
+use Rattle.std.proofs.Common.{◌≡◌, ℕ, Bool, true, false, List, ◌∷◌, Result, Ok, Err, IfOk, refl, subst, sym}
+use Rattle.std.proofs.Common.{◌∙◌}
 use Rattle.std.proofs.lemmas.Bool.{true≢false}
 use Rattle.sre_chars.specs.declared.string.StrDrive.{Ghosts}
 use Rattle.sre_chars.specs.declared.string.StringCursor.{StringCursor}
@@ -7,9 +8,10 @@ use Rattle.sre_model.specs.Runs.{Run}
 use Rattle.sre_model.specs.Ways.{Way}
 use Rattle.sre_turns.specs.Board.{BoardValue, Trying}
 use Rattle.sre_turns.specs.Machine.{IsAt, IsBack, Backs}
+use Rattle.sre_turns.specs.Limits.{Limit, without_tried}
+use Rattle.sre_turns.specs.declared.Next.TheVariants as next
 use Rattle.sre_turns.specs.declared.Next.{Next}
 use Rattle.sre_turns.specs.declared.Point.TheVariants.{Instruction}
-use Rattle.sre_turns.proofs.Trying.{trying_goes}
 use Rattle.sre_model.specs.Tree.{Tree}
 use Rattle.sre_model.specs.Grammar.{Whole}
 use Rattle.sre_model.specs.References.{refers}
@@ -21,32 +23,33 @@ use Rattle.sre_code.proofs.Checked.{whole_of, whole_items}
 use Rattle.sre_request.specs.declared.request.Request.{Request}
 use Rattle.sre_request.specs.Requests.{code_of}
 use Rattle.sre_request.specs.Runs.{run_of}
-use Rattle.sre_machine.specs.Turns.{Turn, StaysAt}
+use Rattle.sre_machine.specs.Turns.{Turn, Takes, GivesUp, GoesOn}
+use Rattle.sre_machine.specs.Memos.{MemoValue}
+use Rattle.sre_machine.proofs.Paying.{grants_nothing}
 
--- nothing has changed
-pub stays_same : {S : Type 0} {text : Ghosts S} (r : Request S text) (place : ℕ) (cursor : StringCursor)
-    (b : BoardValue) → StaysAt r place cursor b b
-stays_same r place cursor b = record { here = λ x. x; goes = λ all limit x. x }
-
--- a mark was made, or none
-pub stays_tried : {S : Type 0} {text : Ghosts S} (r : Request S text) (place : ℕ) (cursor : StringCursor)
-    (b c : BoardValue) (made : Bool)
+-- a mark was made, or none: the machine may stand there still
+pub stays_tried : (r : Run) (place : ℕ) (cursor : StringCursor) (b c : BoardValue) (made : Bool)
     → (made ≡ true → c ≡ record b { choices = Trying place b.frames cursor b.marks ∷ b.choices })
-    → (made ≡ false → c ≡ b) → StaysAt r place cursor b c
-stays_tried r place cursor b c true marked left = record {
-  here = λ x. subst (λ d. IsAt (run_of r) (Instruction place) cursor d) (sym (marked refl))
-      (record { outcomes = x.outcomes; turns = x.turns; stands = x.stands; placed = x.placed; runs = x.runs });
-  goes = trying_goes (run_of r) place cursor b c (marked refl);
-}
-stays_tried r place cursor b c false marked left =
-    subst (λ d. StaysAt r place cursor b d) (sym (left refl)) (stays_same r place cursor b)
+    → (made ≡ false → c ≡ b) → IsAt r (Instruction place) cursor b → IsAt r (Instruction place) cursor c
+stays_tried r place cursor b c true marked left x =
+    subst (λ d. IsAt r (Instruction place) cursor d) (sym (marked refl))
+    (record { outcomes = x.outcomes; turns = x.turns; stands = x.stands; placed = x.placed; runs = x.runs })
+stays_tried r place cursor b c false marked left x =
+    subst (λ d. IsAt r (Instruction place) cursor d) (sym (left refl)) x
 
--- so the instruction's turn is one from before, too
-pub turn_stays : {S : Type 0} {text : Ghosts S} {E : Type 0} (r : Request S text) (place : ℕ) (cursor : StringCursor)
-    (b c d : BoardValue) (result : Result Next E) → StaysAt r place cursor b c
-    → IfOk result (λ after. Turn r place cursor c after d) → IfOk result (λ after. Turn r place cursor b after d)
-turn_stays r place cursor b c d (Ok after) stays turn = λ all limit x. turn all limit (stays.goes all limit x)
-turn_stays r place cursor b c d (Err e) stays turn = turn
+-- an instruction that is gone on with takes its turn
+pub turn_goes_on : {S : Type 0} {text : Ghosts S} {E : Type 0} (r : Request S text) (place : ℕ) (cursor : StringCursor)
+    (b c d : BoardValue) (m m' : MemoValue) (result : Result Next E) → GoesOn r place cursor b m c m'
+    → IfOk result (λ after. Turn r place cursor c after d) → IfOk result (λ after. Takes r place cursor b m after d m')
+turn_goes_on r place cursor b c d m m' (Ok after) goes turn = λ all limit x.
+    let g = goes all limit x in (g.0, g.1, turn all g.0 g.2, g.3)
+turn_goes_on r place cursor b c d m m' (Err e) goes turn = turn
+
+-- where it is left, nothing is granted
+pub turn_left : {S : Type 0} {text : Ghosts S} (r : Request S text) (place : ℕ) (cursor : StringCursor)
+    (b c : BoardValue) (m m' : MemoValue) → GivesUp r place cursor b m c m' → Takes r place cursor b m next.Back c m'
+turn_left r place cursor b c m m' left all limit x =
+    let g = left all limit x in (limit, grants_nothing limit, g.0, g.1)
 
 -- a code that says so has no reference
 pub none_refers : (code : Code) (told : Bool) → ((t : Tree) → Whole (words_of code) t → told ≡ refers t) → told ≡ false
@@ -58,8 +61,9 @@ none_refers code told tells none has =
 
 -- the machine goes back still
 pub still_back : (r : Run) (b c : BoardValue)
-    → ((all : List Way) (limit : ℕ) → Backs r all limit b → Backs r all limit c) → IsBack r b → IsBack r c
-still_back r b c still x = record { all = x.all; limit = x.limit; backs = still x.all x.limit x.backs }
+    → ((all : List Way) (limit : Limit) → Backs r all limit b → Backs r all (without_tried limit) c) → IsBack r b
+    → IsBack r c
+still_back r b c still x = record { all = x.all; limit = without_tried x.limit; backs = still x.all x.limit x.backs }
 
 -- so the words that are matched have none
 pub plain_words : {S : Type 0} {text : Ghosts S} (r : Request S text) (code : Code) (told : Bool)
@@ -67,3 +71,10 @@ pub plain_words : {S : Type 0} {text : Ghosts S} (r : Request S text) (code : Co
     → HasReference (run_of r).words → ⊥
 plain_words r code told same tells none =
     subst (λ c. HasReference (items_of c) → ⊥) same (none_refers code told tells none)
+
+-- a code that says that it has a reference has one, and so have the words that are matched
+pub referring_words : {S : Type 0} {text : Ghosts S} (r : Request S text) (code : Code) (told : Bool)
+    → code ≡ code_of r → ((t : Tree) → Whole (words_of code) t → told ≡ refers t) → told ≡ true
+    → HasReference (run_of r).words
+referring_words r code told same tells told_so =
+    subst (λ c. HasReference (items_of c)) same (λ t w. sym (tells t (whole_items code t w)) ∙ told_so)

@@ -1,4 +1,9 @@
+pub mod Paying
 pub mod Halting
 pub mod Failing
 pub mod RunEnds
 pub mod Taken
+pub mod Opening
+pub mod Keeping
+pub mod Following
+pub mod Memos

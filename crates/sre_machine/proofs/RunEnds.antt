@@ -15,7 +15,10 @@ use Rattle.sre_model.proofs.Longest.{run_at_most}
 use Rattle.sre_model.proofs.Words.{word_there}
 use Rattle.sre_turns.specs.Board.{BoardValue}
 use Rattle.sre_turns.specs.Fruit.{is_inside}
-use Rattle.sre_turns.specs.Machine.{Goes, Later}
+use Rattle.sre_turns.specs.Limits.{Limit, earlier}
+use Rattle.sre_turns.proofs.Faring.{fares_at_wider}
+use Rattle.sre_turns.proofs.GoingBack.{earlier_wider}
+use Rattle.sre_turns.specs.Machine.{Goes, Later, spot}
 use Rattle.sre_turns.specs.Moves.{spot_at}
 use Rattle.sre_turns.specs.RunEnds.{AllPass}
 use Rattle.sre_turns.specs.declared.Next.TheVariants as next
@@ -74,8 +77,8 @@ pass_both s t p q z first second c from to = go (nat_lt c q) refl
     go false l =
         let behind : q ≤ c = grind (arith, nat_tests) in second c behind to
 
-goes_more : (r : Run) (all : List Way) (limit : ℕ) (pt : Point) (c : StringCursor) (b : BoardValue)
-    → Goes r all (limit - 1) pt c b → Goes r all limit pt c b
+goes_more : (r : Run) (all : List Way) (limit : Limit) (pt : Point) (c : StringCursor) (b : BoardValue)
+    → Goes r all (earlier limit) pt c b → Goes r all limit pt c b
 goes_more r all limit pt c b g = record {
   now = g.now;
   turns = g.turns;
@@ -85,6 +88,8 @@ goes_more r all limit pt c b g = record {
   runs = g.runs;
   waits = g.waits;
   within = omega (arith, g.within);
+  fares = λ pl o w.
+      fares_at_wider r pl (earlier limit) limit _ (spot pt c b) b.choices (earlier_wider limit) (g.fares pl o w);
 }
 
 -- where a greedy run from later in the stretch fails, the counts that end before its first end are left
@@ -140,7 +145,7 @@ leaves r place tail low high owed left c found end b w o endless at from taken f
 -- where a lazy run from later in the stretch fails, its longer counts are left
 pub left_before : {S : Type 0} {text : Ghosts S} (r : Request S text) (place n : ℕ) (o : RunOperands)
     (c after : StringCursor) (b : BoardValue) → AreOperands r place o → after.position ≡ c.position + 1
-    → FailsBefore r place o after b → (all : List Way) (limit : ℕ) → Goes (run_of r) all limit (Longer place n) c b
+    → FailsBefore r place o after b → (all : List Way) (limit : Limit) → Goes (run_of r) all limit (Longer place n) c b
     → Later (run_of r) all limit next.Back b
 left_before r place n o c after b read e told all limit g =
     longer_left (run_of r) place o.least (word (run_of r).words (place + 1)) told.code read.operands.test

@@ -1,26 +1,63 @@
 -- A turn that was taken, as the machine's loop counts it.
-use Rattle.std.proofs.Common.{◌≡◌, ℕ, ◌+◌, ◌-◌, ◌≤◌, List, sym, subst}
+use Rattle.std.proofs.Common.{◌≡◌, ℕ, ◌+◌, ◌-◌, ◌≤◌, List, subst, arith}
 use Rattle.sre_chars.specs.declared.string.StringCursor.{StringCursor}
+use Rattle.sre_model.specs.Roles.{role}
 use Rattle.sre_model.specs.Runs.{Run}
 use Rattle.sre_model.specs.Ways.{Way}
 use Rattle.sre_turns.specs.Board.{BoardValue}
-use Rattle.sre_turns.specs.Machine.{Arrives, Ends, Stands, Later, Advances, Closes}
+use Rattle.sre_turns.specs.Limits.{Limit, raised}
+use Rattle.sre_turns.specs.Machine.{spot, Stands, Later, StandsWithin, Advances, Closes}
+use Rattle.sre_turns.specs.Potential.{branches}
 use Rattle.sre_turns.specs.declared.Next.{Next}
-use Rattle.sre_turns.specs.declared.Point.{Point}
-use Rattle.sre_turns.proofs.Moving.{arrived}
-use Rattle.sre_turns.proofs.Start.{one_turn}
+use Rattle.sre_turns.specs.declared.Next.TheVariants as next
+use Rattle.sre_turns.specs.declared.Point.TheVariants.{Instruction, Again}
+use Rattle.sre_machine.specs.Turns.{Proceeds}
+use Rattle.sre_turns.proofs.Faring.{run_code, again_free}
+use Rattle.sre_turns.proofs.Moving.{arrived, arrived_at}
 
-module _ (r : Run) (all : List Way) (limit turned counted : ℕ) (c : StringCursor) (old new : BoardValue) (n : Next)
+-- the same where the machine is known to stand
+pub stands_at : (r : Run) (all : List Way) (turns : ℕ) (n m : Next) (b : BoardValue) → n ≡ m
+    → StandsWithin r all turns n b → StandsWithin r all turns m b
+stands_at r all turns n m b e x = subst (λ z. StandsWithin r all turns z b) e x
+
+module _ (r : Run) (all : List Way) (limit turned counted : ℕ) (old new : BoardValue) (n : Next)
     (one : counted ≡ turned + 1) where
-  counts : Later r all (limit - turned) n new → (1 ≤ limit - turned) × Stands r all (limit - counted) n new
-  counts l = (l.0, subst (λ k. Stands r all (limit - k) n new) (sym one) (one_turn r all limit turned n new l))
+  -- so many are left after it
+  abbrev pub Counted : Type 0
+  Counted = (1 ≤ limit - turned) × StandsWithin r all (limit - counted) n new
 
-  -- at a point that was come to
-  pub turn_taken : (pt : Point) → Advances r pt c old n new → Arrives r all (limit - turned) pt c old
-      → (1 ≤ limit - turned) × Stands r all (limit - counted) n new
-  turn_taken pt turn g = counts (turn all (limit - turned) (arrived g))
+  counts : (l : Limit) → l.turns ≡ limit - turned → Later r all l n new → Counted
+  counts l e x =
+      (omega (arith, e, x.0), record { limit = _; turns_left = omega (arith, e, one); stands = x.1 })
+
+  -- at an instruction that was come to
+  pub instruction_taken : (i : ℕ) (c : StringCursor) → Advances r (Instruction i) c old n new
+      → StandsWithin r all (limit - turned) (next.At i c) old → Counted
+  instruction_taken i c turn x =
+      let code = run_code r (spot (Instruction i) c old) x.stands.runs in
+      let more : Limit = raised (branches (role code.0)) x.limit in
+      counts more x.turns_left (turn all more (arrived_at code.0 code.1 x.stands))
+
+  -- at a possessive loop
+  pub again_taken : (c : StringCursor) → Advances r Again c old n new
+      → StandsWithin r all (limit - turned) (next.Again c) old → Counted
+  again_taken c turn x =
+      counts x.limit x.turns_left (turn all x.limit (arrived again_free x.stands))
 
   -- where a region ends
-  pub end_taken : Closes r c old n new → Ends r all (limit - turned) c old
-      → (1 ≤ limit - turned) × Stands r all (limit - counted) n new
-  end_taken turn g = counts (turn all (limit - turned) g)
+  pub end_taken : (c : StringCursor) → Closes r c old n new → StandsWithin r all (limit - turned) (next.Done c) old
+      → Counted
+  end_taken c turn x = counts x.limit x.turns_left (turn all x.limit x.stands)
+
+  -- where more may be granted before it, and is paid in some way
+  pub proceeds_taken : (m : Next) (P : Limit → Limit → Type 0)
+      → ((l : Limit) → Stands r all l m old → Proceeds r all l n new (λ more. P l more))
+      → StandsWithin r all (limit - turned) m old → Counted
+  proceeds_taken m P turn x =
+      let y = turn x.limit x.stands in
+      counts y.0 (omega (arith, y.1.turns, x.turns_left)) y.2
+
+  -- where nothing is granted
+  pub later_taken : (m : Next) → ((l : Limit) → Stands r all l m old → Later r all l n new)
+      → StandsWithin r all (limit - turned) m old → Counted
+  later_taken m turn x = counts x.limit x.turns_left (turn x.limit x.stands)

@@ -1,3 +1,5 @@
+pub mod Memos
+pub mod Paying
 pub mod Turns
 pub mod Runs
 pub mod RunEnds

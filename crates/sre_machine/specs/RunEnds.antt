@@ -1,6 +1,6 @@
 -- Runs without a greatest count, while failures are kept: where nothing comes of one, and what that tells of others.
 -- Words of the machine's contracts; what sre_engine makes public does not rest on it.
-use Rattle.std.specs.Prelude.{ℕ, ◌+◌, ◌-◌, ◌≡◌, ◌≤◌, true, List}
+use Rattle.std.specs.Prelude.{ℕ, ◌-◌, ◌≡◌, ◌≤◌, true, List}
 use Rattle.sre_chars.specs.declared.constants.SreOpcode.TheVariants as opcode
 use Rattle.sre_chars.specs.declared.string.StrDrive.{Ghosts}
 use Rattle.sre_chars.specs.declared.string.StringCursor.{StringCursor}
@@ -11,6 +11,7 @@ use Rattle.sre_model.specs.Standing.{TestStands}
 use Rattle.sre_turns.specs.Board.{BoardValue}
 use Rattle.sre_turns.specs.Fruit.{is_inside}
 use Rattle.sre_turns.specs.Hopeless.{Hopeless}
+use Rattle.sre_turns.specs.Limits.{Limit}
 use Rattle.sre_turns.specs.Machine.{HasRun, Goes}
 use Rattle.sre_turns.specs.Moves.{spot_at}
 use Rattle.sre_turns.specs.MovesAtReferences.{HasReference}
@@ -46,7 +47,7 @@ pub record Failed {S : Type 0} {text : Ghosts S} (r : Request S text) (place : �
 pub record Leaves {S : Type 0} {text : Ghosts S} (r : Request S text) (place tail : ℕ) (cursor : StringCursor)
     (b : BoardValue) (left : ℕ) (end : StringCursor) : Type 0 where
   pub run : HasRun (run_of r) (Shorter tail left) end
-  pub goes : (all : List Way) (limit : ℕ) → Goes (run_of r) all limit (Instruction place) cursor b
+  pub goes : (all : List Way) (limit : Limit) → Goes (run_of r) all limit (Instruction place) cursor b
       → Goes (run_of r) all limit (Shorter tail left) end b
 
 -- a lazy run without a greatest count owes at most one character, and from so many before an end it fails

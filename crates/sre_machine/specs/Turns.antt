@@ -1,14 +1,20 @@
 -- Where the machine stands, and what an instruction's turn keeps, in the words of its functions' contracts.
 -- Words of the machine's contracts; what sre_engine makes public does not rest on it.
-use Rattle.std.specs.Prelude.{ℕ, List}
+use Rattle.std.specs.Prelude.{ℕ, ◌≡◌, Bool, true, List, []}
 use Rattle.sre_chars.specs.declared.string.StrDrive.{Ghosts}
 use Rattle.sre_chars.specs.declared.string.StringCursor.{StringCursor}
+use Rattle.sre_model.specs.Runs.{Run}
 use Rattle.sre_turns.specs.Board.{BoardValue}
+use Rattle.sre_turns.specs.Settled.{Regionless}
 use Rattle.sre_model.specs.Ways.{Way}
-use Rattle.sre_turns.specs.Machine.{HasRun, IsAt, Goes, Advances}
+use Rattle.sre_turns.specs.Machine.{HasRun, IsAt, Goes, Arrives, Backs, Advances, Later}
+use Rattle.sre_turns.specs.Limits.{Limit, Grants}
+use Rattle.sre_turns.specs.declared.Next.TheVariants as next
 use Rattle.sre_turns.specs.declared.Next.{Next}
 use Rattle.sre_turns.specs.declared.Point.TheVariants.{Instruction}
 use Rattle.sre_request.specs.declared.request.Request.{Request}
+use Rattle.sre_machine.specs.Memos.{MemoValue}
+use Rattle.sre_machine.specs.Paying.{Pays, Within}
 use Rattle.sre_request.specs.Runs.{run_of}
 
 -- the machine is at an instruction, with a cursor at its position
@@ -20,9 +26,49 @@ abbrev pub Turn : {S : Type 0} {text : Ghosts S} → Request S text → ℕ → 
     → Type 0
 Turn r place cursor b next c = Advances (run_of r) (Instruction place) cursor b next c
 
--- the machine stands at the instruction as it did, whatever else waits to be tried, and all accepted outcomes are kept
-pub record StaysAt {S : Type 0} {text : Ghosts S} (r : Request S text) (place : ℕ) (cursor : StringCursor)
-    (b c : BoardValue) : Type 0 where
-  pub here : IsAt (run_of r) (Instruction place) cursor b → IsAt (run_of r) (Instruction place) cursor c
-  pub goes : (all : List Way) (limit : ℕ) → Goes (run_of r) all limit (Instruction place) cursor b
-      → Goes (run_of r) all limit (Instruction place) cursor c
+-- a turn later, where more may have been granted meanwhile, which is paid in some way
+abbrev pub Proceeds : Run → List Way → Limit → Next → BoardValue → (Limit → Type 0) → Type 0
+Proceeds r all limit next c Paid = (more : Limit) × Grants limit more × Later r all more next c × Paid more
+
+-- the turn of an instruction that was just come to
+abbrev pub Takes : {S : Type 0} {text : Ghosts S} → Request S text → ℕ → StringCursor → BoardValue → MemoValue → Next
+    → BoardValue → MemoValue → Type 0
+Takes r place cursor b m next c m' =
+    (all : List Way) (limit : Limit) → Arrives (run_of r) all limit (Instruction place) cursor b
+    → Proceeds (run_of r) all limit next c (λ more. Pays r m limit m' more)
+
+-- the same where the machine goes back, and keeps what failed or does not
+abbrev pub Retreats : {S : Type 0} {text : Ghosts S} → Request S text → Bool → BoardValue → MemoValue → Next
+    → BoardValue → MemoValue → Type 0
+Retreats r keeps b m next c m' =
+    (all : List Way) (limit : Limit) → Backs (run_of r) all limit b
+    → Proceeds (run_of r) all limit next c (λ more. keeps ≡ true → Pays r m limit m' more)
+
+-- nothing waits any more: there is no outcome, and nothing is tried
+abbrev pub Finishes : {S : Type 0} {text : Ghosts S} → Request S text → Bool → BoardValue → MemoValue → MemoValue
+    → Type 0
+Finishes r keeps b m m' =
+    (all : List Way) (limit : Limit) → Backs (run_of r) all limit b
+    → (all ≡ []) × ((more : Limit) × Grants limit more × (keeps ≡ true → Pays r m limit m' more)
+    × (Regionless (run_of r) → (more.trying ≡ []) × Within (run_of r) more))
+
+-- the instruction is left at once
+abbrev pub GivesUp : {S : Type 0} {text : Ghosts S} → Request S text → ℕ → StringCursor → BoardValue → MemoValue
+    → BoardValue → MemoValue → Type 0
+GivesUp r place cursor b m c m' =
+    (all : List Way) (limit : Limit) → Arrives (run_of r) all limit (Instruction place) cursor b
+    → Later (run_of r) all limit next.Back c × Pays r m limit m' limit
+
+-- it is gone on with
+abbrev pub GoesOn : {S : Type 0} {text : Ghosts S} → Request S text → ℕ → StringCursor → BoardValue → MemoValue
+    → BoardValue → MemoValue → Type 0
+GoesOn r place cursor b m c m' =
+    (all : List Way) (limit : Limit) → Arrives (run_of r) all limit (Instruction place) cursor b
+    → (more : Limit) × Grants limit more × Goes (run_of r) all more (Instruction place) cursor c
+    × Pays r m limit m' more
+
+-- the machine may stand there still, whatever else waits
+abbrev pub StaysAt : {S : Type 0} {text : Ghosts S} → Request S text → ℕ → StringCursor → BoardValue → BoardValue
+    → Type 0
+StaysAt r place cursor b c =
+    IsAt (run_of r) (Instruction place) cursor b → IsAt (run_of r) (Instruction place) cursor c

@@ -9,12 +9,11 @@ ghost use Rattle.sre_model.specs.Ways.{Way};
 ghost use Rattle.sre_turns.specs.Board.{BoardValue};
 ghost use Rattle.sre_turns.specs.declared.Point.TheVariants.{Instruction};
 ghost use Rattle.sre_turns.specs.declared.Point.{Point};
-ghost use Rattle.sre_turns.specs.Machine.{IsAt, IsBack, Chooses, Retreats, Refuses, DemandsAny};
-ghost use Rattle.sre_turns.specs.Machine.{Stands};
+ghost use Rattle.sre_turns.specs.Machine.{IsAt, IsBack, Chooses, Refuses, DemandsAny};
 ghost use Rattle.sre_model.specs.Roles.{begins_test};
 ghost use Rattle.sre_request.specs.Runs.{run_of, OpcodeAt, Standing};
 ghost use Rattle.sre_board.specs.Failures.{Remembers};
-ghost use Rattle.sre_machine.specs.Turns.{At, Turn};
+ghost use Rattle.sre_machine.specs.Turns.{At, Turn, Retreats, Finishes};
 
 use crate::branches::{alternatives, branch};
 use crate::greedy_runs::{repeat_one, shorter_saved};
@@ -234,11 +233,11 @@ pub(super) fn back<S: StrDrive, A: Allocator, const KEEPS: bool>(
     memo: &mut Memo<A>,
 ) -> Result<Option<Next>, Refusal>
     requires stands { IsBack (run_of req.now) board.old }
-    requires remembers { Remembers (run_of req.now) memo.old }
+    requires remembers { Remembers (run_of req.now) memo.old.kept }
     ensures next { IfOk result (λ found. MatchOption found
-        ((all : List Way) (limit : ℕ) → Stands (run_of req.now) all limit Next.Back board.old → all ≡ [])
-        (λ next. Retreats (run_of req.now) board.old next board.new)) }
-    ensures remembers { Remembers (run_of req.now) memo.new }
+        (Finishes req.now KEEPS board.old memo.old memo.new)
+        (λ next. Retreats req.now KEEPS board.old memo.old next board.new memo.new)) }
+    ensures remembers { Remembers (run_of req.now) memo.new.kept }
 {
     'choice: loop {
         let Some(choice) = board.back() else {

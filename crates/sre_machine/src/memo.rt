@@ -4,15 +4,23 @@
 //! its way without, and counts its steps back and the bodies of loops that it begins: only one that has taken 16 of
 //! these for each character of the window begins to remember.
 
-ghost use Rattle.std.specs.Prelude.{◌≡◌, true};
+ghost use Rattle.std.specs.Prelude.{[], ◌≡◌, ◌+◌, ◌-◌, ◌*◌, ◌^◌, ◌<◌, ◌≤◌, true, false};
 ghost use Rattle.sre_turns.specs.Fruit.{is_inside};
+ghost use Rattle.sre_turns.specs.MovesAtReferences.{HasReference};
 ghost use Rattle.sre_turns.specs.Moves.{spot_at};
 ghost use Rattle.sre_turns.specs.declared.Point.TheVariants.{Instruction};
+ghost use Rattle.sre_growth.specs.Refusal.{Refused};
 ghost use Rattle.sre_board.specs.Failures.{Holds, HoldsNone, HoldsNoMore, HoldsOneMore, Remembers};
+ghost use Rattle.sre_board.specs.Failures.{HoldsStill, BitsStay, BitsKept, Roomy, Laid, ones, HasBit, IsOpen};
+ghost use Rattle.sre_board.specs.Failures.{Capacity, HasRow, NewRow, KeepsSpot, kept_of};
+ghost use Rattle.sre_turns.specs.Nested.{repeats};
+ghost use Rattle.sre_request.specs.Requests.{start_of, end_of};
 ghost use Rattle.sre_request.specs.Runs.{run_of};
+ghost use Rattle.sre_machine.specs.Memos.{steps_left, WaitsOn};
 
 use sre_board::{Board, Failures};
 use sre_chars::string::StrDrive;
+use sre_growth::Refusal;
 use sre_request::Request;
 use std::alloc::Allocator;
 use std::marker::Model;
@@ -30,26 +38,33 @@ pub struct Memo<A: Allocator> {
     waited: usize,
     // whether failures are kept by now
     is_open: bool,
+    // why they are not any more: memory was refused
+    refused: Option<Refusal>,
 }
 
 impl<A: Allocator> Model for Memo<A> {
-    ghost use Rattle.sre_board.specs.Failures.{Kept};
+    ghost use Rattle.sre_machine.specs.Memos.{MemoValue, memo_of, IsMemo};
 
-    ghost Value = { Kept };
+    ghost Value = { MemoValue };
 
-    ghost view = { λ m. m.failures };
+    ghost view = { λ m. memo_of m.failures m.patience m.waited m.is_open m.refused };
+
+    ghost invariant = { λ m. IsMemo m.is_open m.patience };
 }
 
 impl<A: Allocator + Copy> Memo<A> {
     /// No failures. It takes no memory.
     pub fn new(alloc: A) -> Memo<A>
-        ensures { HoldsNone result }
+        ensures none { HoldsNone result.kept }
+        ensures opened { result.is_open ≡ false }
+        ensures stopped { result.stopped ≡ false }
     {
         Memo {
             failures: Failures::new(alloc),
             patience: STRIDE,
             waited: STRIDE,
             is_open: false,
+            refused: None,
         }
     }
 }
@@ -59,7 +74,13 @@ impl<A: Allocator> Memo<A> {
     /// of memory is kept.
     #[inline(always)]
     pub fn begin<S: StrDrive>(&mut self, req: &Request<'_, S>, board: &mut Board<A>)
-        ensures remembers { Remembers (run_of req.now) self.new }
+        ensures remembers { Remembers (run_of req.now) self.new.kept }
+        ensures none { HoldsNone self.new.kept }
+        ensures empty { self.new.kept ≡ kept_of [] [] [] }
+        ensures opened { self.new.is_open ≡ false }
+        ensures stopped { self.new.stopped ≡ false }
+        ensures steps { steps_left (end_of req.now - start_of req.now) self.new
+            ≡ 32 * (end_of req.now - start_of req.now + 2) }
         ensures board { board.new ≡ board.old }
     {
         let _counted = (board.take_passed(), board.take_entered());
@@ -67,18 +88,22 @@ impl<A: Allocator> Memo<A> {
         self.patience = STRIDE;
         self.waited = STRIDE;
         self.is_open = false;
+        self.refused = None;
     }
 
     // Whether failures are kept by now.
     #[inline(always)]
-    pub(crate) fn is_open(&self) -> bool {
+    pub(crate) fn is_open(&self) -> bool
+        ensures opened { result ≡ self.now.is_open }
+        ensures refused { self.now.stopped ≡ true → Refused }
+    {
         self.is_open
     }
 
     // Notes that so many steps more were taken.
     #[inline(always)]
     pub(crate) fn wait(&mut self, steps: usize)
-        ensures { self.new ≡ self.old }
+        ensures { WaitsOn self.old self.new }
     {
         self.waited = self.waited.saturating_add(steps);
     }
@@ -86,7 +111,13 @@ impl<A: Allocator> Memo<A> {
     // Notes a step, and says whether failures are kept from now on.
     #[inline(always)]
     pub(crate) fn opens<S: StrDrive>(&mut self, req: &Request<'_, S>, board: &mut Board<A>) -> bool
-        ensures memo { self.new ≡ self.old }
+        ensures kept { self.new.kept ≡ self.old.kept }
+        ensures stopped { self.new.stopped ≡ self.old.stopped }
+        ensures opened { self.new.is_open ≡ result }
+        ensures steps { result ≡ false → (HasReference (run_of req.now).words → ⊥)
+            → end_of req.now - start_of req.now + 1 < 2 ^ 58
+            → steps_left (end_of req.now - start_of req.now) self.new + 1
+            ≤ steps_left (end_of req.now - start_of req.now) self.old }
         ensures board { board.new ≡ board.old }
     {
         if self.patience > 0 {
@@ -101,7 +132,14 @@ impl<A: Allocator> Memo<A> {
     // kept: then marks tell what comes of a spot.
     #[inline(never)]
     fn looks<S: StrDrive>(&mut self, req: &Request<'_, S>, board: &mut Board<A>) -> bool
-        ensures memo { self.new ≡ self.old }
+        requires { self.old.patience ≡ 0 }
+        ensures kept { self.new.kept ≡ self.old.kept }
+        ensures stopped { self.new.stopped ≡ self.old.stopped }
+        ensures opened { self.new.is_open ≡ result }
+        ensures steps { result ≡ false → (HasReference (run_of req.now).words → ⊥)
+            → end_of req.now - start_of req.now + 1 < 2 ^ 58
+            → steps_left (end_of req.now - start_of req.now) self.new + 1
+            ≤ steps_left (end_of req.now - start_of req.now) self.old }
         ensures board { board.new ≡ board.old }
     {
         if self.is_open {
@@ -133,15 +171,25 @@ impl<A: Allocator> Memo<A> {
         first: usize,
         end: usize,
     )
-        ensures { HoldsNoMore self.old self.new }
+        ensures no_more { HoldsNoMore self.old.kept self.new.kept }
+        ensures still { HoldsStill self.old.kept self.new.kept }
+        ensures stay { BitsStay self.old.kept self.new.kept }
+        ensures ones { ones self.new.kept ≡ ones self.old.kept }
+        ensures roomy { Roomy words.now first end self.old.kept → Roomy words.now first end self.new.kept }
+        ensures rows { NewRow words.now first end place (repeats board.now.frames) self.old.kept self.new.kept }
+        ensures there { self.new.stopped ≡ false
+            → Capacity words.now first end place (repeats board.now.frames) self.old.kept
+            → HasRow self.new.kept place }
+        ensures laid { Laid self.new.kept }
+        ensures bits { BitsKept self.old.kept self.new.kept }
+        ensures same { self.new.stopped ≡ false → self.new ≡ record self.old { kept = self.new.kept } }
+        ensures stopped { self.old.stopped ≡ true → self.new.stopped ≡ true }
+        ensures refused { self.new.stopped ≡ true → Refused }
     {
-        if self
-            .failures
-            .prepare(words, board, place, first, end)
-            .is_err()
-        {
+        if let Err(refusal) = self.failures.prepare(words, board, place, first, end) {
             self.patience = usize::MAX;
             self.is_open = false;
+            self.refused = Some(refusal);
         }
     }
 
@@ -154,7 +202,11 @@ impl<A: Allocator> Memo<A> {
         place: usize,
         position: usize,
     ) -> bool
-        ensures { result ≡ true → Holds self.now words.now (is_inside board.now.choices)
+        ensures kept { result ≡ true → Holds self.now.kept words.now (is_inside board.now.choices)
+            (spot_at (Instruction place) board.now.frames position board.now.marks) }
+        ensures opened { result ≡ false → HasBit self.now.kept words.now (is_inside board.now.choices)
+            (spot_at (Instruction place) board.now.frames position board.now.marks)
+            → IsOpen self.now.kept words.now (is_inside board.now.choices)
             (spot_at (Instruction place) board.now.frames position board.now.marks) }
     {
         self.failures.is_kept(words, board, place, position)
@@ -163,8 +215,9 @@ impl<A: Allocator> Memo<A> {
     // Keeps that an instruction fails at a position, as the board is.
     #[inline(always)]
     pub(crate) fn keep(&mut self, words: &[u32], board: &Board<A>, place: usize, position: usize)
-        ensures { HoldsOneMore words.now (is_inside board.now.choices)
-            (spot_at (Instruction place) board.now.frames position board.now.marks) self.old self.new }
+        ensures kept { KeepsSpot words.now (is_inside board.now.choices)
+            (spot_at (Instruction place) board.now.frames position board.now.marks) self.old.kept self.new.kept }
+        ensures same { self.new ≡ record self.old { kept = self.new.kept } }
     {
         self.failures.keep(words, board, place, position);
     }

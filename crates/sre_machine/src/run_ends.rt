@@ -13,6 +13,7 @@ ghost use Rattle.sre_turns.specs.RunEnds.{RunsOn};
 ghost use Rattle.sre_request.specs.Requests.{end_of};
 ghost use Rattle.sre_request.specs.Runs.{run_of, OpcodeAt, Standing, TestAt};
 ghost use Rattle.sre_machine.specs.Turns.{At, Turn};
+ghost use Rattle.sre_machine.specs.Paying.{HoldsOn};
 ghost use Rattle.sre_machine.specs.Runs.{AreOperands};
 ghost use Rattle.sre_machine.specs.RunEnds.{TakenAt, AllTaken, Fails, Failed, Leaves, FailsBefore};
 
@@ -86,7 +87,7 @@ fn up_to_failed<S: StrDrive, A: Allocator>(
     requires test { TestAt req.now (place + 4) }
     requires room { place + 2 ^ 33 < 2 ^ 64 }
     requires stands { Standing req.now start }
-    requires remembers { Remembers (run_of req.now) memo.now }
+    requires remembers { Remembers (run_of req.now) memo.now.kept }
     ensures from { start.position ≤ result.0.position }
     ensures stands { Standing req.now result.0 }
     ensures taken { AllTaken req.now (place + 4) start.position result.0.position }
@@ -118,7 +119,7 @@ fn ends_left<S: StrDrive, A: Allocator>(
     requires read { AreOperands req.now place operands }
     requires opcode { OpcodeAt req.now place SreOpcode.REPEAT_ONE }
     requires stands { At req.now place cursor }
-    requires remembers { Remembers (run_of req.now) memo.now }
+    requires remembers { Remembers (run_of req.now) memo.now.kept }
     ensures left { MatchOption result ⊤ (λ x. Leaves req.now place operands.tail cursor board.old x.left x.end) }
     ensures board { board.new ≡ board.old }
 {
@@ -152,7 +153,7 @@ pub(super) fn remembering_repeat_one<S: StrDrive, A: Allocator>(
 ) -> Result<Next, Refusal>
     requires opcode { OpcodeAt req.now place SreOpcode.REPEAT_ONE }
     requires stands { At req.now place cursor }
-    requires remembers { Remembers (run_of req.now) memo.now }
+    requires remembers { Remembers (run_of req.now) memo.now.kept }
     ensures { IfOk result (λ next. Turn req.now place cursor board.old next board.new) }
 {
     let operands = run_operands(req, place);
@@ -176,7 +177,7 @@ fn fails_before<S: StrDrive, A: Allocator>(
 ) -> bool
     requires read { AreOperands req.now place operands }
     requires past { 1 ≤ end.position }
-    requires remembers { Remembers (run_of req.now) memo.now }
+    requires remembers { Remembers (run_of req.now) memo.now.kept }
     ensures { result ≡ true → FailsBefore req.now place operands end board.now }
 {
     if word(req, place) != SreOpcode::MIN_REPEAT_ONE as u32 {
@@ -200,7 +201,7 @@ fn remembering_longer<S: StrDrive, A: Allocator>(
     start: StringCursor,
 ) -> Result<Next, Refusal>
     requires stands { HasRun (run_of req.now) (Longer place least) start }
-    requires remembers { Remembers (run_of req.now) memo.now }
+    requires remembers { Remembers (run_of req.now) memo.now.kept }
     ensures { IfOk result (λ next. Advances (run_of req.now) (Longer place least) start board.old next board.new) }
 {
     let operands = run_operands(req, place);
@@ -242,7 +243,7 @@ pub(super) fn longer_saved<S: StrDrive, A: Allocator, const KEEPS: bool>(
     start: StringCursor,
 ) -> Result<Next, Refusal>
     requires stands { HasRun (run_of req.now) (Longer place count) start }
-    requires remembers { Remembers (run_of req.now) memo.now }
+    requires remembers { Remembers (run_of req.now) memo.now.kept }
     ensures { IfOk result (λ next. Advances (run_of req.now) (Longer place count) start board.old next board.new) }
 {
     if KEEPS {
@@ -263,8 +264,10 @@ pub(super) fn keep_later<S: StrDrive, A: Allocator>(
 )
     requires plain { HasReference (run_of req.now).words → ⊥ }
     requires failed { Failed req.now place start board.now }
-    requires remembers { Remembers (run_of req.now) memo.old }
-    ensures { Remembers (run_of req.now) memo.new }
+    requires remembers { Remembers (run_of req.now) memo.old.kept }
+    ensures remembers { Remembers (run_of req.now) memo.new.kept }
+    ensures same { memo.new ≡ record memo.old { kept = memo.new.kept } }
+    ensures account { HoldsOn req.now memo.old.kept memo.new.kept }
 {
     if !is_endless_run(req, place, start) {
         return;

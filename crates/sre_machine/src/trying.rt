@@ -1,15 +1,19 @@
 //! Instructions that are tried: what failed is kept, and where it comes again the machine goes back at once.
 
 ghost use Rattle.std.specs.Prelude.{◌≡◌, IfOk, true, false};
+ghost use Rattle.sre_chars.specs.declared.constants.SreOpcode.{SreOpcode};
+ghost use Rattle.sre_model.specs.Roles.{role};
+ghost use Rattle.sre_turns.specs.Potential.{branches};
+ghost use Rattle.sre_machine.specs.Paying.{HoldsTried};
 ghost use Rattle.sre_turns.specs.declared.Point.TheVariants.{Instruction};
 ghost use Rattle.sre_turns.specs.Fruit.{is_inside};
 ghost use Rattle.sre_turns.specs.Moves.{spot_at};
 ghost use Rattle.sre_turns.specs.Hopeless.{Hopeless};
-ghost use Rattle.sre_turns.specs.Machine.{IsAt};
+ghost use Rattle.sre_turns.specs.Machine.{IsAt, spot};
 ghost use Rattle.sre_turns.specs.MovesAtReferences.{HasReference};
 ghost use Rattle.sre_board.specs.Failures.{Remembers};
-ghost use Rattle.sre_request.specs.Runs.{run_of};
-ghost use Rattle.sre_machine.specs.Turns.{At, Turn, StaysAt};
+ghost use Rattle.sre_request.specs.Runs.{run_of, OpcodeAt};
+ghost use Rattle.sre_machine.specs.Turns.{At, Takes, GivesUp, GoesOn, StaysAt};
 ghost use Rattle.sre_machine.specs.RunEnds.{Failed};
 
 use crate::lazy_runs::min_repeat_one;
@@ -29,6 +33,7 @@ use std::alloc::Allocator;
 #[inline(always)]
 fn may_branch<S: StrDrive>(req: &Request<'_, S>, place: usize, cursor: StringCursor) -> bool
     requires { At req.now place cursor }
+    ensures { result ≡ false → (o : SreOpcode) → OpcodeAt req.now place o → branches (role o) ≡ 0 }
 {
     matches!(
         opcode(req, place, cursor),
@@ -51,8 +56,11 @@ pub(super) fn keep<S: StrDrive, A: Allocator>(
     cursor: StringCursor,
 )
     requires failed { Failed req.now place cursor board.now }
-    requires remembers { Remembers (run_of req.now) memo.old }
-    ensures { Remembers (run_of req.now) memo.new }
+    requires remembers { Remembers (run_of req.now) memo.old.kept }
+    ensures remembers { Remembers (run_of req.now) memo.new.kept }
+    ensures same { memo.new ≡ record memo.old { kept = memo.new.kept } }
+    ensures account { is_inside board.now.choices ≡ false
+        → HoldsTried req.now (spot (Instruction place) cursor board.now) memo.old.kept memo.new.kept }
 {
     let code = req.pattern_codes();
     let is_plain = !code.refers();
@@ -71,10 +79,12 @@ fn has_failed<S: StrDrive, A: Allocator>(
     place: usize,
     cursor: StringCursor,
 ) -> bool
-    requires remembers { Remembers (run_of req.now) memo.old }
-    ensures remembers { Remembers (run_of req.now) memo.new }
-    ensures left { result ≡ true → Turn req.now place cursor board.old Next.Back board.new }
-    ensures tried { result ≡ false → StaysAt req.now place cursor board.old board.new }
+    requires remembers { Remembers (run_of req.now) memo.old.kept }
+    requires opened { memo.old.is_open ≡ true }
+    ensures remembers { Remembers (run_of req.now) memo.new.kept }
+    ensures left { result ≡ true → GivesUp req.now place cursor board.old memo.old board.new memo.new }
+    ensures stays { result ≡ false → StaysAt req.now place cursor board.old board.new }
+    ensures goes { result ≡ false → GoesOn req.now place cursor board.old memo.old board.new memo.new }
 {
     let words = req.pattern_codes().items();
     memo.prepare(words, board, place, req.start(), req.end());
@@ -96,10 +106,11 @@ fn is_hopeless<S: StrDrive, A: Allocator>(
     cursor: StringCursor,
 ) -> bool
     requires stands { At req.now place cursor }
-    requires remembers { Remembers (run_of req.now) memo.old }
-    ensures remembers { Remembers (run_of req.now) memo.new }
-    ensures left { result ≡ true → Turn req.now place cursor board.old Next.Back board.new }
-    ensures tried { result ≡ false → StaysAt req.now place cursor board.old board.new }
+    requires remembers { Remembers (run_of req.now) memo.old.kept }
+    ensures remembers { Remembers (run_of req.now) memo.new.kept }
+    ensures left { result ≡ true → GivesUp req.now place cursor board.old memo.old board.new memo.new }
+    ensures stays { result ≡ false → StaysAt req.now place cursor board.old board.new }
+    ensures goes { result ≡ false → GoesOn req.now place cursor board.old memo.old board.new memo.new }
 {
     if !may_branch(req, place, cursor) {
         return false;
@@ -121,9 +132,9 @@ pub(super) fn instruction_or_back<S: StrDrive, A: Allocator>(
     cursor: StringCursor,
 ) -> Result<Next, Refusal>
     requires stands { IsAt (run_of req.now) (Instruction place) cursor board.old }
-    requires remembers { Remembers (run_of req.now) memo.old }
-    ensures turn { IfOk result (λ next. Turn req.now place cursor board.old next board.new) }
-    ensures remembers { Remembers (run_of req.now) memo.new }
+    requires remembers { Remembers (run_of req.now) memo.old.kept }
+    ensures turn { IfOk result (λ next. Takes req.now place cursor board.old memo.old next board.new memo.new) }
+    ensures remembers { Remembers (run_of req.now) memo.new.kept }
 {
     if is_hopeless(req, board, memo, place, cursor) {
         return Ok(Next::Back);

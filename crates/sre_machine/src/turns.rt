@@ -1,6 +1,6 @@
 //! The machine's loop: turns until the whole is decided.
 
-ghost use Rattle.std.specs.Prelude.{◌≡◌, ℕ, ◌+◌, ◌-◌, ◌*◌, ◌^◌, ◌<◌, ◌≤◌, [], List, IfOk, IfErr, true, false};
+ghost use Rattle.std.specs.Prelude.{None, ◌≡◌, ℕ, ◌+◌, ◌-◌, ◌*◌, ◌^◌, ◌<◌, ◌≤◌, [], List, IfOk, IfErr, true, false};
 ghost use Rattle.sre_model.specs.Marks.{no_marks};
 ghost use Rattle.sre_model.specs.Tree.{Tree};
 ghost use Rattle.sre_model.specs.Ways.{Way};
@@ -8,10 +8,12 @@ ghost use Rattle.sre_model.specs.Grammar.{WholeItems};
 ghost use Rattle.sre_model.specs.Prefixes.{behind_items, ReadsBehind};
 ghost use Rattle.sre_model.specs.TurnBounds.{turns_of, most_each};
 ghost use Rattle.sre_turns.specs.Board.{bare};
-ghost use Rattle.sre_turns.specs.Machine.{Stands, SaysAccepted, Decides, outcomes};
+ghost use Rattle.sre_turns.specs.Machine.{StandsWithin, SaysAccepted, Decides, outcomes};
+ghost use Rattle.sre_machine.specs.Paying.{GivenUp, Settles, RunGivenUp, RunSettles};
 ghost use Rattle.sre_board.specs.Failures.{Remembers};
 ghost use Rattle.sre_request.specs.Requests.{end_of, asked_of};
 ghost use Rattle.sre_request.specs.Runs.{run_of, Standing};
+ghost use Rattle.sre_machine.specs.Memos.{WaitsOn};
 
 use crate::machine::{back, instruction};
 use crate::memo::Memo;
@@ -107,7 +109,7 @@ fn takes_turn<S: StrDrive, A: Allocator>(
     left: &mut u64,
 ) -> bool
     ensures board { board.new ≡ board.old }
-    ensures memo { memo.new ≡ memo.old }
+    ensures memo { WaitsOn memo.old memo.new }
     ensures spent { left.old ≤ left.new + most_each (asked_of req.now) }
     ensures used { result ≡ false → (limited ≡ true) × (left.new ≡ 0) }
 {
@@ -138,12 +140,16 @@ fn remembering_turns<L: Ledger, K: Plan, S: StrDrive, A: Allocator>(
     left: &mut u64,
 ) -> Result<Option<StringCursor>, Halt>
     requires within { turned.old ≤ K.limit }
-    requires stands { Stands (run_of req.now) K.all (K.limit - turned.old) first board.old }
-    requires remembers { Remembers (run_of req.now) memo.old }
+    requires stands { StandsWithin (run_of req.now) K.all (K.limit - turned.old) first board.old }
+    requires remembers { Remembers (run_of req.now) memo.old.kept }
     ensures decides { IfOk result (λ found. Decides (run_of req.now) K.all found board.new.marks) }
-    ensures remembers { Remembers (run_of req.now) memo.new }
+    ensures remembers { Remembers (run_of req.now) memo.new.kept }
     ensures spent { left.old ≤ left.new + (K.limit + 1) * most_each (asked_of req.now) }
     ensures used { IfErr result (λ halt. halt ≡ Halt.UsedUp → (limited ≡ true) × (left.new ≡ 0)) }
+    ensures given_up { IfErr result (λ halt. halt ≡ Halt.UsedUp
+        → GivenUp req.now K.all first board.old memo.old turned.old left.old left.new) }
+    ensures settles { IfOk result (λ found. found ≡ None
+        → Settles req.now K.all first board.old memo.old memo.new turned.old left.old left.new) }
 {
     let mut next = first;
     'turn: loop {
@@ -185,10 +191,10 @@ fn turns<L: Ledger, K: Plan, S: StrDrive, A: Allocator>(
     turned: &mut Turned<L>,
 ) -> Result<Option<StringCursor>, Halt>
     requires new { turned.old ≡ 0 }
-    requires stands { Stands (run_of req.now) K.all K.limit (Next.At place start) board.old }
-    requires remembers { Remembers (run_of req.now) memo.old }
+    requires stands { StandsWithin (run_of req.now) K.all K.limit (Next.At place start) board.old }
+    requires remembers { Remembers (run_of req.now) memo.old.kept }
     ensures decides { IfOk result (λ found. Decides (run_of req.now) K.all found board.new.marks) }
-    ensures remembers { Remembers (run_of req.now) memo.new }
+    ensures remembers { Remembers (run_of req.now) memo.new.kept }
     ensures used { IfErr result (λ halt. halt ≡ Halt.UsedUp → ⊥) }
 {
     let mut next = Next::At(place, start);
@@ -253,12 +259,16 @@ fn turns_from<L: Ledger, K: Plan, S: StrDrive, A: Allocator>(
     requires parts { blank.parts ≡ L.parts }
     requires some { 0 < blank.parts }
     requires room { 2 * literals < 2 ^ 64 }
-    requires stands { Stands (run_of req.now) K.all K.limit (Next.At (2 * literals) start) board.old }
-    requires remembers { Remembers (run_of req.now) memo.old }
-    ensures remembers { Remembers (run_of req.now) memo.new }
+    requires stands { StandsWithin (run_of req.now) K.all K.limit (Next.At (2 * literals) start) board.old }
+    requires remembers { Remembers (run_of req.now) memo.old.kept }
+    ensures remembers { Remembers (run_of req.now) memo.new.kept }
     ensures decides { IfOk result (λ found. Decides (run_of req.now) K.all found board.new.marks) }
     ensures spent { left.old ≤ left.new + (K.limit + 1) * most_each (asked_of req.now) }
     ensures used { IfErr result (λ halt. halt ≡ Halt.UsedUp → (limited ≡ true) × (left.new ≡ 0)) }
+    ensures given_up { IfErr result (λ halt. halt ≡ Halt.UsedUp
+        → GivenUp req.now K.all (Next.At (2 * literals) start) board.old memo.old 0 left.old left.new) }
+    ensures settles { limited ≡ true → IfOk result (λ found. found ≡ None
+        → Settles req.now K.all (Next.At (2 * literals) start) board.old memo.old memo.new 0 left.old left.new) }
 {
     let (book, share) = blank.open::<L>();
     let mut turned = Turned { book, share };
@@ -288,8 +298,8 @@ pub fn run_behind<S: StrDrive, A: Allocator>(
     requires fresh { board.old ≡ bare no_marks }
     requires behind { (t : Tree) → WholeItems (run_of req.now).words t → ReadsBehind (run_of req.now).words literals t }
     requires room { 2 * literals < 2 ^ 64 }
-    requires remembers { Remembers (run_of req.now) memo.old }
-    ensures remembers { Remembers (run_of req.now) memo.new }
+    requires remembers { Remembers (run_of req.now) memo.old.kept }
+    ensures remembers { Remembers (run_of req.now) memo.new.kept }
     ensures decides { (t : Tree) → WholeItems (run_of req.now).words t
         → IfOk result
         (λ found. Decides (run_of req.now)
@@ -298,6 +308,10 @@ pub fn run_behind<S: StrDrive, A: Allocator>(
         → left.old ≤ left.new + turns_of (run_of req.now).subject (behind_items literals t) start.position
         * most_each (asked_of req.now) }
     ensures used { IfErr result (λ halt. halt ≡ Halt.UsedUp → (limited ≡ true) × (left.new ≡ 0)) }
+    ensures given_up { IfErr result (λ halt. halt ≡ Halt.UsedUp
+        → RunGivenUp req.now start memo.old left.old left.new) }
+    ensures settles { limited ≡ true → IfOk result (λ found. found ≡ None
+        → RunSettles req.now start memo.old memo.new left.old left.new) }
 {
     know_words(req.pattern_codes().items());
     turns_from::<Brand, Brand, S, A>(

@@ -1,6 +1,7 @@
 use Rattle.std.proofs.Common.{◌<◌, ◌+◌, subst}
 use Rattle.sre_model.proofs.Words.{word_of}
 use Rattle.sre_request.specs.Runs.{run_of}
+use Rattle.sre_turns.proofs.Faring.{alternatives_free}
 use Rattle.sre_turns.proofs.Moving.{exhausted_back, continues_goes, later_continues, both_exhausted, both_continue}
 use Rattle.sre_turns.proofs.StepsInBranches.{alternatives_run, alternatives_both}
 use Rattle.sre_machine.proofs.branches.alternatives.Goals as goal
@@ -23,7 +24,8 @@ returns-in_default-first_alternative g c = λ all limit x.
     let first = c.in-Some.first in
     let more = subst (λ n. 0 < n) (word_of r.words _ _ c.word-length.ensures.word) c.in-Some.ensures.1 in
     let both = alternatives_both r first.length_word c.word-length.result here b c.word-length.ensures.word more
-    all limit (continues_goes r _ _ here here c.in-Some.ensures.2 b all limit x) in
+    all limit (continues_goes r _ _ here here c.in-Some.ensures.2 alternatives_free
+    alternatives_free b all limit x) in
     later_continues r (first.length_word + 1) first.place here first.cursor b c.in-Some.ensures.3 all limit
     (both_exhausted r _ _ here b c.in_default-first_alternative.ensures all limit both)
 
@@ -35,6 +37,7 @@ returns g c = λ all limit x.
     let first = c.in-Some.first in
     let more = subst (λ n. 0 < n) (word_of r.words _ _ c.word-length.ensures.word) c.in-Some.ensures.1 in
     let both = alternatives_both r first.length_word c.word-length.result here b c.word-length.ensures.word more
-    all limit (continues_goes r _ _ here here c.in-Some.ensures.2 b all limit x) in
+    all limit (continues_goes r _ _ here here c.in-Some.ensures.2 alternatives_free
+    alternatives_free b all limit x) in
     c.in_ok-choose_alternative.ensures all limit
     (both_continue r _ _ _ here b c.in-Some-first_alternative.ensures.2 all limit both)

@@ -2,6 +2,7 @@ use Rattle.std.proofs.Common.{◌-◌, subst}
 use Rattle.sre_turns.specs.declared.Point.TheVariants.{Instruction, Shorter}
 use Rattle.sre_turns.specs.Machine.{SkipsBoth, Demands, DemandsAny}
 use Rattle.sre_request.specs.Runs.{run_of}
+use Rattle.sre_turns.proofs.Faring.{shorter_free}
 use Rattle.sre_turns.proofs.StepsInRuns.{shorter_none, shorter_past, shorter_skips}
 use Rattle.sre_turns.proofs.StepsInBranches.{positive}
 use Rattle.sre_turns.proofs.StepsAtItems.{other_character}
@@ -48,4 +49,4 @@ count-preserved g c =
     subst (λ w. DemandsAny r c.args.tail w) c.in-Some.is c.requires.wanted in
     let none = demands before.position (other_character r.subject c.in-Some.value c.read_back-step.result.0
     before.position c.read_back-step.ensures.character c.if-step-value.false) in
-    record { at = s.others; same = both_skips r _ c.args.start _ _ before none s }
+    record { at = s.others; same = both_skips r _ c.args.start _ _ before shorter_free none s }

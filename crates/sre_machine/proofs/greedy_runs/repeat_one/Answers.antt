@@ -1,5 +1,6 @@
 use Rattle.sre_model.specs.Tree.{GreedyRun}
 use Rattle.sre_request.specs.Runs.{run_of}
+use Rattle.sre_turns.proofs.Faring.{shorter_free}
 use Rattle.sre_turns.proofs.StepsInRuns.{run_there, run_short, run_both, run_runs, run_only}
 use Rattle.sre_turns.proofs.Moving.{both_pass, both_exhausted, exhausted_back}
 use Rattle.sre_machine.proofs.greedy_runs.repeat_one.Goals as goal
@@ -41,7 +42,7 @@ returns-then-lacks g c = λ all limit x.
     c.longest_run-run.ensures.position c.longest_run-run.ensures.stands c.args.board.now all limit x in
     c.in_ok-shorter.ensures all limit
     (rw c.pass.ensures (both_pass r _ _ c.longest_run-run.result.end c.args.board.now
-    (c.lacks.ensures c.if-lacks.true _ c.first_literal-wanted.ensures) all limit both))
+    shorter_free (c.lacks.ensures c.if-lacks.true _ c.first_literal-wanted.ensures) all limit both))
 
 pub returns-then-is_only : goal.returns-then-is_only
 returns-then-is_only g c = λ all limit x.
@@ -57,7 +58,7 @@ returns-then-is_only g c = λ all limit x.
     (c.is_only_count-is_only.ensures c.if-is_only.true) c.first_literal-wanted.ensures in
     rw c.pass.ensures (exhausted_back r _ c.longest_run-run.result.end c.args.board.now none all limit
     (both_pass r _ _ c.longest_run-run.result.end c.args.board.now
-    (c.lacks.ensures c.if-lacks.true _ c.first_literal-wanted.ensures) all limit both))
+    shorter_free (c.lacks.ensures c.if-lacks.true _ c.first_literal-wanted.ensures) all limit both))
 
 pub returns-then-is_only-2 : goal.returns-then-is_only-2
 returns-then-is_only-2 g c = λ all limit x.

@@ -2,6 +2,7 @@ use Rattle.std.proofs.Common.{◌≡◌, ◌+◌, ◌∙◌, sym, subst}
 use Rattle.sre_turns.specs.declared.Point.TheVariants.{Instruction, Longer}
 use Rattle.sre_turns.specs.Machine.{HasRun, SkipsBoth}
 use Rattle.sre_request.specs.Runs.{run_of}
+use Rattle.sre_turns.proofs.Faring.{longer_free}
 use Rattle.sre_turns.proofs.Moving.{both_skips, skips_then}
 use Rattle.sre_turns.proofs.StepsInRuns.{longer_there}
 use Rattle.sre_machine.proofs.lazy_runs.first_longer.Goals as goal
@@ -34,7 +35,7 @@ count-init g c =
 pub returns-in_default-one_longer : goal.returns-in_default-one_longer
 returns-in_default-one_longer g c = λ b all limit x.
     let passed = both_skips (run_of c.args.req.now) _ c.args.start _ _ c.count.cursor
-    (c.lacks.ensures c.if-not-lacks.false _ c.first_literal-wanted.ensures) c.count.invariant.both in
+    longer_free (c.lacks.ensures c.if-not-lacks.false _ c.first_literal-wanted.ensures) c.count.invariant.both in
     c.in_default-one_longer.ensures.longer b all limit (passed b all limit x)
 
 pub count-preserved : goal.count-preserved
@@ -42,7 +43,7 @@ count-preserved g c =
     let same : c.run_operands-operands.result.tail ≡ c.args.tail =
     c.run_operands-operands.ensures.operands.leads ∙ sym c.requires.tail in
     let passed = both_skips (run_of c.args.req.now) _ c.args.start _ _ c.count.cursor
-    (c.lacks.ensures c.if-not-lacks.false _ c.first_literal-wanted.ensures) c.count.invariant.both in
+    longer_free (c.lacks.ensures c.if-not-lacks.false _ c.first_literal-wanted.ensures) c.count.invariant.both in
     record {
       both =
           skips_then (run_of c.args.req.now) _ _ _ _ c.args.start c.count.cursor c.in-Some-one_longer.after passed

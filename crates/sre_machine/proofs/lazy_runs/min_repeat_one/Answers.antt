@@ -1,6 +1,7 @@
 use Rattle.std.proofs.Common.{◌<◌, ◌-◌, arith}
 use Rattle.sre_model.specs.Tree.{LazyRun}
 use Rattle.sre_request.specs.Runs.{run_of}
+use Rattle.sre_turns.proofs.Faring.{longer_free}
 use Rattle.sre_turns.proofs.Moving.{both_pass}
 use Rattle.sre_turns.proofs.StepsInRuns.{run_there, lazy_cut, lazy_short, lazy_both, lazy_runs}
 use Rattle.sre_machine.proofs.lazy_runs.min_repeat_one.Goals as goal
@@ -42,7 +43,7 @@ pub returns-then-refuses : goal.returns-then-refuses
 returns-then-refuses g c = λ all limit x.
     c.in_ok-longer.ensures all limit
     (rw c.pass.ensures (both_pass (run_of c.args.req.now) _ _ c.run_up_to-run.result.end c.args.board.now
-    (c.refuses.ensures c.if-refuses.true) all limit
+    longer_free (c.refuses.ensures c.if-refuses.true) all limit
     (lazy_both (run_of c.args.req.now) _ _ _ _ c.args.cursor c.requires.opcode
     c.run_operands-operands.ensures.operands c.run_up_to-run.result.count c.run_up_to-run.result.end
     c.run_up_to-run.ensures.count c.if-run-least.false c.run_up_to-run.ensures.position

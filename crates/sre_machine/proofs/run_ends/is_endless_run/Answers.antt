@@ -1,4 +1,4 @@
-use Rattle.std.proofs.Common.{◌≡◌, ◌+◌, inl, inr, subst, arith}
+use Rattle.std.proofs.Common.{◌≡◌, ◌+◌, inl, subst, arith}
 use Rattle.std.proofs.lemmas.Bool.Decides.{nat_tests}
 use Rattle.sre_model.specs.Grammar.{Word}
 use Rattle.sre_model.specs.Tree.{GreedyRun, LazyRun}

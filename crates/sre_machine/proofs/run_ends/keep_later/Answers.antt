@@ -1,7 +1,7 @@
 use Rattle.std.proofs.Common.{◌+◌, ◌≤◌, ◌∙◌, ap, arith}
 use Rattle.sre_code.specs.Codes.{items_of}
-use Rattle.sre_request.specs.Runs.{run_of}
 use Rattle.sre_machine.proofs.RunEnds.{all_taken_more, fails_kept}
+use Rattle.sre_machine.proofs.Keeping.{holds_on, same_twice}
 use Rattle.sre_machine.proofs.run_ends.keep_later.Goals as goal
 
 pub character-preserved : goal.character-preserved
@@ -20,8 +20,14 @@ character-preserved g c =
       stands = c.in-Some.ensures.2;
       taken = taken;
       remembers =
-          fails_kept r c.character.memo c.keep.new.self c.items-words.result.now c.args.place
+          fails_kept r c.character.memo.kept c.keep.new.self.kept c.items-words.result.now c.args.place
           c.position-in-Some.result after.position c.args.board.now
           (c.items-words.ensures.same ∙ ap items_of c.pattern_codes.ensures) c.position-in-Some.ensures
-          c.keep.ensures fails c.character.invariant.remembers;
+          c.keep.ensures.kept.more fails c.character.invariant.remembers;
+      same = same_twice c.args.memo.now c.character.memo c.keep.new.self c.character.invariant.same c.keep.ensures.same;
+      account = λ pl xs n a.
+          holds_on r c.args.place c.position-in-Some.result after.position c.args.board.now c.character.memo.kept
+          c.keep.new.self.kept c.items-words.result.now
+          (c.items-words.ensures.same ∙ ap items_of c.pattern_codes.ensures) c.position-in-Some.ensures
+          c.keep.ensures.kept pl xs n (c.character.invariant.account pl xs n a);
     }

@@ -1,5 +1,6 @@
-use Rattle.std.proofs.Common.{◌+◌, subst, arith}
+use Rattle.std.proofs.Common.{subst, arith}
 use Rattle.sre_request.specs.Runs.{run_of}
+use Rattle.sre_turns.proofs.Faring.{longer_free}
 use Rattle.sre_turns.proofs.StepsInRuns.{longer_there}
 use Rattle.sre_turns.proofs.Moving.{both_skips, skips_then}
 use Rattle.sre_machine.specs.RunEnds.{FailsBefore}
@@ -43,7 +44,7 @@ count-preserved g c =
       at = both.others;
       same =
           both_skips (run_of c.args.req.now) _ c.args.start _ _ c.in-Some.after
-          (c.refuses.ensures c.if-not-refuses.false) both;
+          longer_free (c.refuses.ensures c.if-not-refuses.false) both;
       more = omega (arith, c.count.invariant.more);
       kept = c.count.invariant.kept;
     }

@@ -1,17 +1,19 @@
 use Rattle.std.proofs.Common.{◌+◌, ◌-◌, ◌*◌, ◌≤◌}
 use Rattle.sre_model.specs.TurnBounds.{most_each}
-use Rattle.sre_turns.specs.Machine.{Stands}
+use Rattle.sre_turns.specs.Machine.{StandsWithin}
 use Rattle.sre_board.specs.Failures.{Remembers}
 use Rattle.sre_request.specs.Requests.{asked_of}
 use Rattle.sre_request.specs.Runs.{run_of}
+use Rattle.sre_machine.specs.Paying.{Follows}
 use Rattle.sre_machine.proofs.turns.remembering_turns.Given as goal
 
 abbrev pub invariant-turn : goal.invariant-turn
 invariant-turn g l = record {
-  stands : Stands (run_of l.req) g.K.Plan.all (g.K.Plan.limit - l.turned) l.next l.board;
+  stands : StandsWithin (run_of l.req) g.K.Plan.all (g.K.Plan.limit - l.turned) l.next l.board;
+  follows : Follows l.req g.K.Plan.all l.fn.first l.next l.fn.board l.board l.fn.memo l.memo l.fn.turned l.turned;
   within : l.turned ≤ g.K.Plan.limit;
   spent : l.fn.left ≤ l.left + l.turned * most_each (asked_of l.req);
-  remembers : Remembers (run_of l.req) l.memo;
+  remembers : Remembers (run_of l.req) l.memo.kept;
 }
 
 abbrev pub decreases-turn : goal.decreases-turn

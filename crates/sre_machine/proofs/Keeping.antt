@@ -1,0 +1,88 @@
+-- A spot that failed is kept: the bit that was taken in for it is set.
+use Rattle.std.proofs.Common.{◌≡◌, ℕ, inr, false, List, [], ◌∷◌, drop, length, sym, ap, ◌∙◌, subst}
+use Rattle.std.proofs.Common.{arith}
+use Rattle.std.proofs.lemmas.List.{append-nil}
+use Rattle.sre_chars.specs.declared.string.StrDrive.{Ghosts}
+use Rattle.sre_chars.specs.declared.string.StringCursor.{StringCursor}
+use Rattle.sre_model.specs.Ways.{Way}
+use Rattle.sre_turns.specs.Board.{BoardValue, Trying}
+use Rattle.sre_turns.specs.Limits.{Limit, EachChoice, tried_spots, without_tried}
+use Rattle.sre_turns.specs.Machine.{Backs, spot}
+use Rattle.sre_turns.specs.Settled.{SettledIn}
+use Rattle.sre_turns.proofs.Faring.{never_inside, newest_tried}
+use Rattle.sre_turns.proofs.Start.{none_inside}
+use Rattle.sre_turns.specs.Fruit.{is_inside}
+use Rattle.sre_turns.specs.Moves.{Spot, spot_at}
+use Rattle.sre_turns.specs.declared.Point.TheVariants.{Instruction}
+use Rattle.sre_board.specs.Accounts.{Account, BitsOf}
+use Rattle.sre_board.specs.Failures.{Kept, HasBit, KeepsSpot, Roomy, RowsStay}
+use Rattle.sre_board.proofs.AccountLaws.{account_closes, account_still, no_new_row}
+use Rattle.sre_board.proofs.RowsAdded.{rows_stay}
+use Rattle.sre_board.specs.declared.failures.Row.{Row}
+use Rattle.sre_request.specs.declared.request.Request.{Request}
+use Rattle.sre_request.specs.Requests.{start_of, end_of}
+use Rattle.sre_request.specs.Runs.{run_of}
+use Rattle.sre_machine.specs.Memos.{MemoValue}
+use Rattle.sre_machine.specs.Paying.{HoldsOn, HoldsTried, Pays, window_of}
+use Rattle.sre_machine.proofs.Memos.{steps_same}
+
+-- the first of some spots has a bit
+first_bit : (k : Kept) (ws : List ℕ) (x : Spot) (xs : List Spot) (bs : List ℕ) → BitsOf k ws (x ∷ xs) bs
+    → HasBit k ws false x
+first_bit k ws x xs [] h = absurd h
+first_bit k ws x xs (b ∷ bs) h = record { at = h.0.at; bit = h.0.bit; entry = h.0.entry }
+
+-- no row and no word is new
+stay_rows : (old new : Kept) → new.rows ≡ old.rows → new.shapes ≡ old.shapes → RowsStay old new
+stay_rows old new rows shapes =
+    rows_stay old new [] [] (rows ∙ sym (append-nil old.rows)) (shapes ∙ sym (append-nil old.shapes))
+
+stay_roomy : (ws : List ℕ) (first end : ℕ) (old new : Kept) → new.rows ≡ old.rows
+    → length new.bits ≡ length old.bits → Roomy ws first end old → Roomy ws first end new
+stay_roomy ws first end old new rows words h =
+    let same : length new.rows ≡ length old.rows = ap (λ (rs : List Row). length rs) rows in
+    record { rows = omega (arith, same, h.rows); bits = rw (same, words) h.bits }
+
+module _ {S : Type 0} {text : Ghosts S} (r : Request S text) (place : ℕ) (p q : ℕ) (b : BoardValue) (k k' : Kept)
+    (ws : List ℕ) (same : ws ≡ (run_of r).words) (there : p ≡ q)
+    (keeps : KeepsSpot ws (is_inside b.choices) (spot_at (Instruction place) b.frames p b.marks) k k') where
+  -- whatever the spot is, what was taken in is held still
+  pub holds_on : HoldsOn r k k'
+  holds_on pl xs n a =
+      account_still (run_of r) pl.plain (start_of r) k k' xs n keeps.stay keeps.bits
+      (stay_rows k k' keeps.rows keeps.shapes) (no_new_row k k' keeps.rows) keeps.laid
+      (stay_roomy (run_of r).words (start_of r) (end_of r) k k' keeps.rows keeps.words a.roomy) a
+
+  -- and where it was tried outside all regions, it is tried no more
+  pub holds_tried : is_inside b.choices ≡ false → HoldsTried r (spot_at (Instruction place) b.frames q b.marks) k k'
+  holds_tried outside pl xs n a =
+      let x = spot_at (Instruction place) b.frames q b.marks in
+      let here : KeepsSpot (run_of r).words false x k k' = rw (same, outside, there) at keeps in
+      account_closes (run_of r) pl.plain (start_of r) k k' x xs n
+      (here.set (first_bit k (run_of r).words x xs a.trying a.bits)) keeps.stay keeps.bits
+      (stay_rows k k' keeps.rows keeps.shapes) (no_new_row k k' keeps.rows) keeps.laid
+      (stay_roomy (run_of r).words (start_of r) (end_of r) k k' keeps.rows keeps.words a.roomy) a
+
+-- a memo of which only the failures change, twice
+pub same_twice : (m m' m'' : MemoValue) → m' ≡ record m { kept = m'.kept } → m'' ≡ record m' { kept = m''.kept }
+    → m'' ≡ record m { kept = m''.kept }
+same_twice m m' m'' first second = second ∙ ap (λ (z : MemoValue). record z { kept = m''.kept }) first
+
+-- the mark of an instruction is passed over, which is kept: nothing is granted
+pub pays_kept : {S : Type 0} {text : Ghosts S} (r : Request S text) (place : ℕ) (cursor : StringCursor)
+    (b b' : BoardValue) (m m' : MemoValue) → b.choices ≡ Trying place b'.frames cursor b'.marks ∷ b'.choices
+    → m' ≡ record m { kept = m'.kept }
+    → (is_inside b'.choices ≡ false → HoldsTried r (spot (Instruction place) cursor b') m.kept m'.kept)
+    → (all : List Way) (limit : Limit) → Backs (run_of r) all limit b → Pays r m limit m' (without_tried limit)
+pays_kept r place cursor b b' m m' marked same keeps all limit x = record {
+  paid = λ pl at n h.
+      let f = x.fares pl.plain in
+      let here : Spot = spot (Instruction place) cursor b' in
+      let trying = newest_tried (run_of r) pl.plain limit 0 here b.choices b'.choices f
+      (ap (λ cs. tried_spots cs) marked) in
+      let settled = subst (λ cs. EachChoice (SettledIn (run_of r) pl.plain limit.start) cs) marked f.settled in
+      let outside = none_inside b'.choices
+      (never_inside (SettledIn (run_of r) pl.plain limit.start) b'.choices settled.1) in
+      let was = subst (λ xs. Account (run_of r) pl.plain (start_of r) m.kept xs n) trying h in
+      inr (n, keeps outside pl (drop 1 limit.trying) n was, omega (arith, steps_same (window_of r) m m' same));
+}

@@ -1,0 +1,110 @@
+-- How the tolls are paid that are granted for instructions which may branch: each by a step that the memo waits, or by
+-- a bit that it takes in.
+-- Words of the machine's contracts; what sre_engine makes public does not rest on it.
+use Rattle.std.specs.Prelude.{ℕ, ◌+◌, ◌-◌, ◌*◌, ◌≤◌, ◌≡◌, ◌⊎◌, List, [], ◌∷◌, length}
+use Rattle.sre_chars.specs.declared.string.StrDrive.{Ghosts}
+use Rattle.sre_chars.specs.declared.string.StringCursor.{StringCursor}
+use Rattle.sre_growth.specs.Refusal.{Refused}
+use Rattle.sre_model.specs.Runs.{Run}
+use Rattle.sre_turns.specs.Limits.{Limit, grant}
+use Rattle.sre_turns.specs.Settled.{Regionless}
+use Rattle.sre_model.specs.Ways.{Way}
+use Rattle.sre_model.specs.TurnBounds.{most_each}
+use Rattle.sre_turns.specs.Board.{BoardValue}
+use Rattle.sre_turns.specs.Machine.{Stands}
+use Rattle.sre_turns.specs.Moves.{Spot}
+use Rattle.sre_turns.specs.declared.Next.{Next}
+use Rattle.sre_board.specs.Accounts.{Account, Room, most_bits}
+use Rattle.sre_board.specs.Failures.{Kept}
+use Rattle.sre_request.specs.declared.request.Request.{Request}
+use Rattle.sre_request.specs.Requests.{start_of, end_of, asked_of}
+use Rattle.sre_request.specs.Runs.{run_of}
+use Rattle.sre_machine.specs.Memos.{MemoValue, steps_left}
+
+-- how many characters the window has
+abbrev pub window_of : {S : Type 0} {text : Ghosts S} → Request S text → ℕ
+window_of r = end_of r - start_of r
+
+-- the words have neither regions nor references, and there is room for the bits of all their places
+pub record Remembering {S : Type 0} {text : Ghosts S} (r : Request S text) : Type 0 where
+  pub plain : Regionless (run_of r)
+  pub room : Room (run_of r) plain (start_of r)
+  pub order : start_of r ≤ end_of r
+
+-- what the memory has taken in, under a limit
+abbrev pub Holding : {S : Type 0} {text : Ghosts S} (r : Request S text) → Remembering r → MemoValue → Limit → ℕ
+    → Type 0
+Holding r pl m l n = Account (run_of r) pl.plain (start_of r) m.kept l.trying n
+
+-- from one memo and limit to another each toll is paid, if no memory was refused meanwhile
+pub record Pays {S : Type 0} {text : Ghosts S} (r : Request S text) (m : MemoValue) (l : Limit) (m' : MemoValue)
+    (l' : Limit) : Type 0 where
+  pub paid : (pl : Remembering r) → l.start ≡ start_of r → (n : ℕ) → Holding r pl m l n
+      → Refused ⊎ ((n' : ℕ) × Holding r pl m' l' n'
+      × (l'.tolls + steps_left (window_of r) m' + n ≤ l.tolls + steps_left (window_of r) m + n'))
+
+-- no more turns were taken than the potential allows
+abbrev pub Within : Run → Limit → Type 0
+Within r l = l.taken ≤ l.granted + l.tolls * grant r.words r.subject.end
+
+-- what was taken in is held still, whatever is tried
+abbrev pub HoldsOn : {S : Type 0} {text : Ghosts S} → Request S text → Kept → Kept → Type 0
+HoldsOn r k k' =
+    (pl : Remembering r) (xs : List Spot) (n : ℕ) → Account (run_of r) pl.plain (start_of r) k xs n
+    → Account (run_of r) pl.plain (start_of r) k' xs n
+
+-- and the newest spot that was tried is tried no more
+abbrev pub HoldsTried : {S : Type 0} {text : Ghosts S} → Request S text → Spot → Kept → Kept → Type 0
+HoldsTried r x k k' =
+    (pl : Remembering r) (xs : List Spot) (n : ℕ) → Account (run_of r) pl.plain (start_of r) k (x ∷ xs) n
+    → Account (run_of r) pl.plain (start_of r) k' xs n
+
+-- from where some turns began the machine has come here, by so many more of them, and each toll is paid
+pub record Follows {S : Type 0} {text : Ghosts S} (r : Request S text) (all : List Way) (first next : Next)
+    (b b' : BoardValue) (m m' : MemoValue) (before turned : ℕ) : Type 0 where
+  pub each : (limit : Limit) → Stands (run_of r) all limit first b
+      → (more : Limit) × Stands (run_of r) all more next b' × (limit.granted ≡ more.granted)
+      × (limit.start ≡ more.start) × (more.taken + before ≡ limit.taken + turned) × Pays r m limit m' more
+
+-- turns that were used up: how many there were at most, where no memory was refused
+pub record GivenUp {S : Type 0} {text : Ghosts S} (r : Request S text) (all : List Way) (first : Next) (b : BoardValue)
+    (m : MemoValue) (before left left' : ℕ) : Type 0 where
+  pub cost : (pl : Remembering r) (limit : Limit) → Stands (run_of r) all limit first b → limit.start ≡ start_of r
+      → limit.taken ≡ before → (n : ℕ) → Holding r pl m limit n
+      → Refused ⊎ ((tolls : ℕ)
+      × (tolls + n ≤ limit.tolls + steps_left (window_of r) m + most_bits (run_of r) (start_of r))
+      × (left ≤ left' + (limit.granted + tolls * grant (run_of r).words (end_of r) + 1) * most_each (asked_of r)))
+
+-- turns by which the whole was decided, with no outcome: how many there were at most, and what the memory holds then
+pub record Settles {S : Type 0} {text : Ghosts S} (r : Request S text) (all : List Way) (first : Next) (b : BoardValue)
+    (m m' : MemoValue) (before left left' : ℕ) : Type 0 where
+  pub cost : (pl : Remembering r) (limit : Limit) → Stands (run_of r) all limit first b → limit.start ≡ start_of r
+      → limit.taken ≡ before → (n : ℕ) → Holding r pl m limit n
+      → Refused ⊎ ((tolls n' : ℕ)
+      × (tolls + steps_left (window_of r) m' + n ≤ limit.tolls + steps_left (window_of r) m + n')
+      × Account (run_of r) pl.plain (start_of r) m'.kept [] n'
+      × (left ≤ left' + (limit.granted + tolls * grant (run_of r).words (end_of r) + 1) * most_each (asked_of r)))
+
+-- what a run counts for at most, by the tolls that are granted to it
+abbrev pub run_cost : {S : Type 0} {text : Ghosts S} → Request S text → ℕ → ℕ
+run_cost r tolls =
+    (2 * length (run_of r).words + 4 + tolls * grant (run_of r).words (end_of r)) * most_each (asked_of r)
+
+-- the memory has taken in so many bits, and nothing is tried
+abbrev pub HoldsBits : {S : Type 0} {text : Ghosts S} (r : Request S text) → Remembering r → MemoValue → ℕ → Type 0
+HoldsBits r pl m n = Account (run_of r) pl.plain (start_of r) m.kept [] n
+
+-- a run from a cursor that was given up: how many turns it took at most, where no memory was refused
+pub record RunGivenUp {S : Type 0} {text : Ghosts S} (r : Request S text) (start : StringCursor) (m : MemoValue)
+    (left left' : ℕ) : Type 0 where
+  pub cost : (pl : Remembering r) → start_of r ≤ start.position → (n : ℕ) → HoldsBits r pl m n
+      → Refused ⊎ ((tolls : ℕ) × (tolls + n ≤ steps_left (window_of r) m + most_bits (run_of r) (start_of r))
+      × (left ≤ left' + run_cost r tolls))
+
+-- a run with no outcome: the same, and what the memory holds then
+pub record RunSettles {S : Type 0} {text : Ghosts S} (r : Request S text) (start : StringCursor) (m m' : MemoValue)
+    (left left' : ℕ) : Type 0 where
+  pub cost : (pl : Remembering r) → start_of r ≤ start.position → (n : ℕ) → HoldsBits r pl m n
+      → Refused ⊎ ((tolls n' : ℕ)
+      × (tolls + steps_left (window_of r) m' + n ≤ steps_left (window_of r) m + n') × HoldsBits r pl m' n'
+      × (left ≤ left' + run_cost r tolls))
