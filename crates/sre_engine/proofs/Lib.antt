@@ -14,3 +14,5 @@ pub mod FirstMembers
 pub mod AmongMembers
 pub mod Hinting
 pub mod Spending
+pub mod Enough
+pub mod Costing

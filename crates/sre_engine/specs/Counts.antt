@@ -1,12 +1,13 @@
 -- What a search counts at most.
 -- Public clauses rest on it.
-use Rattle.std.specs.Prelude.{ℕ, ◌+◌, ◌-◌, ◌*◌, ◌≡◌, ◌≤◌, List, true, Some, None}
+use Rattle.std.specs.Prelude.{ℕ, ◌+◌, ◌-◌, ◌*◌, ◌≡◌, ◌<◌, ◌≤◌, List, length, true, Some, None}
 use Rattle.sre_model.specs.Tree.{Tree, SetItem}
 use Rattle.sre_model.specs.Grammar.{Whole}
 use Rattle.sre_model.specs.TurnBounds.{RunsWithin}
 use Rattle.sre_model.specs.Found.{Asked, subject_of}
 use Rattle.sre_model.specs.Prefixes.{stands_at, how_many}
-use Rattle.sre_code.specs.Codes.{words_of, hints_of}
+use Rattle.sre_model.specs.Remembered.{IsRemembered, enough_turns}
+use Rattle.sre_code.specs.Codes.{words_of, items_of, hints_of}
 use Rattle.sre_model.specs.Prefixes.{prefix_of}
 use Rattle.sre_code.specs.declared.code.Code.{Code}
 use Rattle.sre_engine.specs.Answers.{Shown}
@@ -30,3 +31,11 @@ pub record CountsUpTo (a : Asked) (code : Code) (to seen : ℕ) (s : Shown) : Ty
 -- of turns that were given, those that are left are no fewer than those that so many runs of the machine leave
 pub record SpentUpTo (a : Asked) (code : Code) (given left started : ℕ) : Type 0 where
   pub each : (t : Tree) → Whole (words_of code) t → (most : ℕ) → RunsWithin a t most → given ≤ left + started * most
+
+-- so many turns are enough to know an answer, unless memory is refused: the code is one of which all that failed is
+-- remembered, and these are more than the number that is written for it
+pub record AreEnough (a : Asked) (code : Code) (turns : ℕ) : Type 0 where
+  pub tree : Tree
+  pub whole : Whole (words_of code) tree
+  pub remembered : IsRemembered (length (items_of code)) tree a
+  pub more : enough_turns (length (items_of code)) a < turns

@@ -7,6 +7,9 @@ pub use Rattle.sre_model.specs.Ways
 pub use Rattle.sre_model.specs.Loops
 pub use Rattle.sre_model.specs.Grammar
 pub use Rattle.sre_model.specs.References
+pub use Rattle.sre_model.specs.Regions
+pub use Rattle.sre_model.specs.Slots
+pub use Rattle.sre_model.specs.Remembered
 pub use Rattle.sre_model.specs.Width
 pub use Rattle.sre_model.specs.Claims
 pub use Rattle.sre_model.specs.Found
@@ -28,6 +31,7 @@ pub mod Starts
 pub mod Scans
 pub mod Members
 pub mod Counts
+pub mod Costs
 pub mod Halts
 pub mod Searches
 pub mod Prefixed

@@ -15,8 +15,10 @@ ghost use Rattle.sre_code.specs.Codes.{words_of, hints_of};
 ghost use Rattle.sre_request.specs.Requests.{string_of, start_of, end_of, code_of, asked_of, stands_in};
 ghost use Rattle.sre_request.specs.Runs.{run_of, Standing};
 ghost use Rattle.sre_engine.specs.Answers.{Answers, AnswersAlike, Spans};
-ghost use Rattle.sre_engine.specs.Counts.{CountsUpTo, SpentUpTo};
+ghost use Rattle.sre_engine.specs.Counts.{CountsUpTo, SpentUpTo, AreEnough};
 ghost use Rattle.sre_engine.specs.Halts.{Halted};
+ghost use Rattle.sre_engine.specs.Costs.{SearchGivenUp};
+ghost use Rattle.sre_machine.specs.Paying.{RunGivenUp, RunSettles};
 ghost use Rattle.sre_growth.specs.Refusal.{Refused};
 
 use sre_board::{Board, Marks};
@@ -102,8 +104,8 @@ fn attempt<S: StrDrive, A: Allocator>(
     requires behind { (t : Tree) → WholeItems (run_of req.now).words t → ReadsBehind (run_of req.now).words literals t }
     requires few { 2 * literals < 2 ^ 64 }
     requires room { started.old + 1 < 2 ^ 64 }
-    requires remembers { Remembers (run_of req.now) memo.old }
-    ensures remembers { Remembers (run_of req.now) memo.new }
+    requires remembers { Remembers (run_of req.now) memo.old.kept }
+    ensures remembers { Remembers (run_of req.now) memo.new.kept }
     ensures counted { started.new ≡ started.old + 1 }
     ensures found { (t : Tree) → Whole (words_of (code_of req.now)) t
         → IfOk result
@@ -113,6 +115,10 @@ fn attempt<S: StrDrive, A: Allocator>(
     ensures err { OnErr result (board.new ≡ bare no_marks) }
     ensures halted { IfErr result (Halted limited left.new) }
     ensures spent { SpentUpTo (asked_of req.now) (code_of req.now) left.old left.new 1 }
+    ensures given_up { IfErr result (λ halt. halt ≡ Halt.UsedUp
+        → RunGivenUp req.now start memo.old left.old left.new) }
+    ensures settles { limited ≡ true → IfOk result (λ found. found ≡ None
+        → RunSettles req.now start memo.old memo.new left.old left.new) }
 {
     *started += 1;
     match run_behind(req, literals, start, board, memo, limited, left) {
@@ -234,6 +240,9 @@ impl<A: Allocator + Copy> State<A> {
     /// a stretch of 64 characters or more that a run, a reference or a look goes over counts for one more for each
     /// eight of them, on the way back to the group or the look's start, too. So the code alone bounds the time of a
     /// turn, but for one in which room for failures is made, and a number of turns bounds that of a call.
+    ///
+    /// By a code that has neither references nor regions, and whose loops count no further than the memory of failures
+    /// goes (`IsRemembered`), more turns than `enough_turns` are not used up, unless memory is refused.
     pub fn match_within<S: StrDrive>(
         &mut self,
         req: &Request<'_, S>,
@@ -247,6 +256,8 @@ impl<A: Allocator + Copy> State<A> {
         ensures no { IfOk result (λ told. told ≢ Some true → self.new.marks ≡ no_marks) }
         ensures used { IfOk result (λ told. told ≡ None → turns.new ≡ 0) }
         ensures spent { SpentUpTo (asked_of req.now) (code_of req.now) turns.old turns.new 1 }
+        ensures enough { AreEnough (asked_of req.now) (code_of req.now) turns.old
+            → IfOk result (λ told. told ≡ None → Refused) }
         ensures err { OnErr result (self.new.marks ≡ no_marks) }
         ensures refused { OnErr result Refused }
         ensures compared { self.new.compared ≡ self.old.compared }
@@ -277,6 +288,7 @@ impl<A: Allocator + Copy> State<A> {
         ensures err { OnErr result (self.new.marks ≡ no_marks) }
         ensures halted { IfErr result (Halted limited left.new) }
         ensures spent { SpentUpTo (asked_of req.now) (code_of req.now) left.old left.new 1 }
+        ensures given_up { IfErr result (λ halt. halt ≡ Halt.UsedUp → SearchGivenUp req.now left.old left.new 1) }
         ensures compared { self.new.compared ≡ self.old.compared }
         ensures started { self.new.started ≡ self.old.started }
     {
@@ -346,8 +358,9 @@ impl<A: Allocator + Copy> State<A> {
     /// Searches the window as `search` does, within a number of turns of the machine over all its starts: `None` where
     /// they were used up before the answer was known, and then there are no marks. `match_within` says what a turn is.
     ///
-    /// What is left of the turns comes back, so one number can bound several searches. Beside its turns a search looks
-    /// for the starts that it tries; the code alone bounds the time that this takes for each character of the window.
+    /// What is left of the turns comes back, so one number can bound several searches. How many are enough is said
+    /// there, too. Beside its turns a search looks for the starts that it tries; the code alone bounds the time that
+    /// this takes for each character of the window.
     pub fn search_within<S: StrDrive>(
         &mut self,
         req: Request<'_, S>,
@@ -362,6 +375,8 @@ impl<A: Allocator + Copy> State<A> {
         ensures no { IfOk result (λ told. told ≢ Some true → self.new.marks ≡ no_marks) }
         ensures used { IfOk result (λ told. told ≡ None → turns.new ≡ 0) }
         ensures spent { SpentUpTo (asked_of req.entry) (code_of req.entry) turns.old turns.new self.new.started }
+        ensures enough { AreEnough (asked_of req.entry) (code_of req.entry) turns.old
+            → IfOk result (λ told. told ≡ None → Refused) }
         ensures err { OnErr result (self.new.marks ≡ no_marks) }
         ensures refused { OnErr result Refused }
         ensures counts { CountsUpTo (asked_of req.entry) (code_of req.entry) (end_of req.entry + 1) (end_of req.entry)

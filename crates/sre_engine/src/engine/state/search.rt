@@ -13,6 +13,7 @@ ghost use Rattle.sre_engine.specs.Counts.{SpentUpTo};
 ghost use Rattle.sre_engine.specs.Prefixed.{IsPrefix, IsLast, FitsAt};
 ghost use Rattle.sre_engine.specs.Starts.{NoneBetween};
 ghost use Rattle.sre_engine.specs.Halts.{Halted};
+ghost use Rattle.sre_engine.specs.Costs.{SearchCosts, SearchGivenUp, most_tolls};
 ghost use Rattle.sre_engine.specs.Searches.{FindsFirst, LiesInside, CountsInside, CountsToMatch, RunsOnceAnchored};
 ghost use Rattle.sre_engine.specs.Searches.{NoErrorIfLiteral};
 
@@ -47,6 +48,8 @@ impl<A: Allocator + Copy> State<A> {
         ensures err { OnErr result (self.new.marks ≡ no_marks) }
         ensures halted { IfErr result (Halted limited left.new) }
         ensures spent { SpentUpTo (asked_of req.now) (code_of req.now) left.old left.new self.new.started }
+        ensures given_up { IfErr result (λ halt. halt ≡ Halt.UsedUp
+            → SearchGivenUp req.now left.old left.new self.new.started) }
         ensures counts { CountsInside req.now self.new }
         ensures up_to_match { IfOk result (λ b. CountsToMatch req.now b self.new) }
         ensures anchored { RunsOnceAnchored req.now self.new }
@@ -117,6 +120,8 @@ impl<A: Allocator + Copy> State<A> {
         ensures err { OnErr result (self.new.marks ≡ no_marks) }
         ensures halted { IfErr result (Halted limited left.new) }
         ensures spent { SpentUpTo (asked_of req.now) (code_of req.now) left.old left.new self.new.started }
+        ensures given_up { IfErr result (λ halt. halt ≡ Halt.UsedUp
+            → SearchGivenUp req.now left.old left.new self.new.started) }
         ensures counts { CountsInside req.now self.new }
         ensures up_to_match { IfOk result (λ b. CountsToMatch req.now b self.new) }
     {
@@ -170,6 +175,8 @@ impl<A: Allocator + Copy> State<A> {
         ensures err { OnErr result (self.new.marks ≡ no_marks) }
         ensures halted { IfErr result (Halted limited left.new) }
         ensures spent { SpentUpTo (asked_of req.now) (code_of req.now) left.old left.new self.new.started }
+        ensures given_up { IfErr result (λ halt. halt ≡ Halt.UsedUp
+            → SearchGivenUp req.now left.old left.new self.new.started) }
         ensures counts { CountsInside req.now self.new }
         ensures up_to_match { IfOk result (λ b. CountsToMatch req.now b self.new) }
         ensures once { self.new.started ≤ 1 }
@@ -213,6 +220,8 @@ impl<A: Allocator + Copy> State<A> {
         ensures err { OnErr result (self.new.marks ≡ no_marks) }
         ensures halted { IfErr result (Halted limited left.new) }
         ensures spent { SpentUpTo (asked_of req.now) (code_of req.now) left.old left.new self.new.started }
+        ensures given_up { IfErr result (λ halt. halt ≡ Halt.UsedUp
+            → SearchGivenUp req.now left.old left.new self.new.started) }
         ensures counts { CountsInside req.now self.new }
         ensures up_to_match { IfOk result (λ b. CountsToMatch req.now b self.new) }
     {
@@ -265,6 +274,8 @@ impl<A: Allocator + Copy> State<A> {
         ensures err { OnErr result (self.new.marks ≡ no_marks) }
         ensures halted { IfErr result (Halted limited left.new) }
         ensures spent { SpentUpTo (asked_of req.now) (code_of req.now) left.old left.new self.new.started }
+        ensures given_up { IfErr result (λ halt. halt ≡ Halt.UsedUp
+            → SearchGivenUp req.now left.old left.new self.new.started) }
         ensures counts { CountsInside req.now self.new }
         ensures up_to_match { IfOk result (λ b. CountsToMatch req.now b self.new) }
     {
@@ -325,6 +336,9 @@ impl<A: Allocator + Copy> State<A> {
         ensures halted { IfErr result (Halted limited left.new) }
         ensures spent { (given : ℕ) → SpentUpTo (asked_of req.now) (code_of req.now) given left.old 1
             → SpentUpTo (asked_of req.now) (code_of req.now) given left.new self.new.started }
+        ensures given_up { IfErr result (λ halt. halt ≡ Halt.UsedUp
+            → (given : ℕ) → SearchCosts req.now given left.old 1 (most_tolls req.now)
+            → SearchGivenUp req.now given left.new self.new.started) }
         ensures counts { CountsInside req.now self.new }
         ensures up_to_match { IfOk result (λ b. CountsToMatch req.now b self.new) }
     {

@@ -4,6 +4,7 @@ use Rattle.sre_code.specs.Codes.{words_of, hints_of}
 use Rattle.sre_request.specs.Requests.{start_of, end_of, code_of, asked_of, stands_in}
 use Rattle.sre_engine.proofs.Answering.{answers_yes, answers_no, none_at, some_at, span_at}
 use Rattle.sre_code.proofs.Checked.{code_tree}
+use Rattle.sre_engine.proofs.Costing.{since_begin, since_given_up, passed_on}
 use Rattle.sre_engine.proofs.engine.state.State.match_from.Goals as goal
 
 pub returns-in-Some-clause-ok : goal.returns-in-Some-clause-ok
@@ -34,3 +35,12 @@ returns-in-None-clause-ok g c = λ t whole.
     (subst (λ q. at_start (asked_of asked) t q ≡ None) at
     (none_at (stands_in asked) (asked_of asked) t _ c.in_ok-end.field-0 c.attempt.new.board.marks
     (c.in_ok-end.ensures.found t whole) c.in-None.is))
+
+pub returns-in_err-end-clause-given_up : goal.returns-in_err-end-clause-given_up
+returns-in_err-end-clause-given_up g c =
+    passed_on c.from_residual.result c.in_err-end.field-0.0 _ c.from_residual.ensures.1 (λ e.
+    let asked = c.args.req.now in
+    let at : c.args.from.position ≡ start_of asked = search rules in
+    since_given_up asked _ c.args.from _ _ _ 0 1
+    (since_begin asked c.begin.new.self _ c.begin.ensures.empty c.begin.ensures.steps)
+    (c.in_err-end.ensures.given_up e) (omega (arith, at)) refl)

@@ -6,6 +6,7 @@ use Rattle.sre_engine.specs.Prefixed.{FitsAt}
 use Rattle.sre_engine.proofs.Anchored.{anchored_nowhere}
 use Rattle.sre_engine.proofs.Answering.{answers_yes, answers_no, none_at, some_at, span_at, found_first, none_yet}
 use Rattle.sre_engine.proofs.Hinting.{past_none}
+use Rattle.sre_engine.proofs.Costing.{since_begin, since_given_up, passed_on}
 use Rattle.sre_engine.proofs.engine.state.State.search_anchored.Goals as goal
 
 pub returns-then-is_past-clause-ok : goal.returns-then-is_past-clause-ok
@@ -48,3 +49,12 @@ returns-clause-ok g c = λ t whole.
     (none_yet (asked_of asked) t _ at)
     (none_at (stands_in asked) (asked_of asked) t _ c.in_ok-end.field-0 c.attempt.new.board.marks
     (c.in_ok-end.ensures.found t whole) c.in_default.is))
+
+pub returns-in_err-end-clause-given_up : goal.returns-in_err-end-clause-given_up
+returns-in_err-end-clause-given_up g c =
+    passed_on c.from_residual.result c.in_err-end.field-0.0 _ c.from_residual.ensures.1 (λ e.
+    let asked = c.args.req.now in
+    let at : c.args.from.position ≡ start_of asked = search rules in
+    since_given_up asked _ c.args.from _ _ _ 0 _
+    (since_begin asked c.begin.new.self _ c.begin.ensures.empty c.begin.ensures.steps)
+    (c.in_err-end.ensures.given_up e) (omega (arith, at)) c.attempt.ensures.counted)

@@ -1,4 +1,4 @@
-use Rattle.std.proofs.Common.{refl, subst, arith, rules}
+use Rattle.std.proofs.Common.{◌≡◌, refl, subst, arith, rules}
 use Rattle.sre_code.specs.Codes.{words_of, hints_of}
 use Rattle.sre_request.specs.Requests.{code_of, asked_of, stands_in}
 use Rattle.sre_request.specs.Runs.{run_of}
@@ -10,6 +10,7 @@ use Rattle.sre_engine.proofs.Hinting.{past_none, counts_tried}
 use Rattle.sre_engine.proofs.Starting.{passed_none, found_nowhere}
 use Rattle.sre_code.proofs.Checked.{code_tree, items_whole}
 use Rattle.sre_engine.proofs.Spending.{run_spent}
+use Rattle.sre_engine.proofs.Costing.{behind_begin, behind_run, behind_given_up, gives_up_limited, passed_on}
 use Rattle.sre_engine.proofs.engine.state.State.search_behind.Goals as goal
 
 pub returns-in_default-clause-ok : goal.returns-in_default-clause-ok
@@ -81,6 +82,10 @@ start-preserved g c =
       spent = λ given one.
           run_spent (asked_of asked) (code_of asked) given _ _ _ _ (c.start.invariant.spent given one)
           c.attempt.ensures.spent c.attempt.ensures.counted;
+      costs = λ limited.
+          behind_run asked _ _ c.in-Some-next_start.next _ _ _ _ _ (c.start.invariant.costs limited)
+          (c.in_ok-end.ensures.settles limited c.in_default-2.is)
+          (omega (arith, c.start.invariant.from, c.in-Some.ensures.next.0, next.after)) c.attempt.ensures.counted;
       bars = c.start.invariant.bars;
       none = λ t whole.
           let items = items_whole asked.pattern_codes t whole in
@@ -164,3 +169,32 @@ returns-then-is_past-clause-ok g c = λ t whole.
     subst (λ p. ¬ (FitsAt c.args.last p)) c.position.ensures (c.is_past.ensures.past c.if-is_past.true) in
     answers_no (stands_in asked) _ _
     (past_none (asked_of asked) (code_of asked) c.args.last t _ c.requires.last whole past before)
+
+pub returns-in_err-end-clause-given_up : goal.returns-in_err-end-clause-given_up
+returns-in_err-end-clause-given_up g c =
+    passed_on c.from_residual.result c.in_err-end.field-0.0 _ c.from_residual.ensures.1 (λ e given first.
+    let asked = c.args.req.now in
+    let inv = c.start.invariant in
+    let next = c.in-Some-next_start.ensures in
+    let limited = gives_up_limited _ _ c.in_err-end.field-0.0 c.in_err-end.ensures.halted e in
+    behind_given_up asked _ c.in-Some-next_start.next given _ _ _ _ _ (inv.costs limited)
+    (c.in_err-end.ensures.given_up e) (omega (arith, inv.from, c.in-Some.ensures.next.0, next.after))
+    c.attempt.ensures.counted first)
+
+pub start-init : goal.start-init
+start-init g c = record {
+  stands = search rules;
+  from = search rules;
+  inside = search rules;
+  fresh = search rules;
+  remembers = search rules;
+  fits = search rules;
+  once = search rules;
+  uncompared = search rules;
+  spent = search rules;
+  costs = λ limited.
+      let one : c.self.inside.started ≡ 1 = search rules in
+      behind_begin c.args.req.now c.begin.new.self _ _ c.begin.ensures.empty c.begin.ensures.steps one;
+  bars = search rules;
+  none = search rules;
+}

@@ -1,4 +1,4 @@
-use Rattle.std.proofs.Common.{◌+◌, ◌-◌, ◌≤◌, ◌≡◌, None, ℕ}
+use Rattle.std.proofs.Common.{◌+◌, ◌-◌, ◌≤◌, ◌≡◌, None, ℕ, true}
 use Rattle.sre_model.specs.Tree.{Tree}
 use Rattle.sre_model.specs.Found.{at_start}
 use Rattle.sre_model.specs.Marks.{no_marks}
@@ -12,6 +12,7 @@ use Rattle.sre_engine.specs.Prefixed.{FitsAt}
 use Rattle.sre_engine.specs.Starts.{Bars}
 use Rattle.sre_engine.specs.Counts.{SpentUpTo}
 use Rattle.sre_engine.proofs.Answering.{NoneBefore}
+use Rattle.sre_engine.proofs.Costing.{CostsBehind}
 use Rattle.sre_engine.proofs.engine.state.State.search_behind.Given as goal
 
 abbrev pub invariant-start : goal.invariant-start
@@ -20,12 +21,13 @@ invariant-start g l = record {
   from : start_of l.req ≤ l.start.position;
   inside : l.start.position ≤ end_of l.req;
   fresh : l.self-inside.board ≡ bare no_marks;
-  remembers : Remembers (run_of l.req) l.self-inside.memo;
+  remembers : Remembers (run_of l.req) l.self-inside.memo.kept;
   fits : FitsAt l.last l.start.position;
   once : l.self-inside.started ≤ l.start.position - start_of l.req + 1;
   uncompared : l.self-inside.compared ≡ 0;
   spent : (given : ℕ) → SpentUpTo (asked_of l.req) (code_of l.req) given l.fn.left 1
       → SpentUpTo (asked_of l.req) (code_of l.req) given l.left l.self-inside.started;
+  costs : l.limited ≡ true → CostsBehind l.req l.self-inside.memo l.fn.left l.left l.self-inside.started;
   bars : Bars (run_of l.req).words l.first;
   none : (t : Tree) → Whole (words_of (code_of l.req)) t
       → NoneBefore (asked_of l.req) t l.start.position × (at_start (asked_of l.req) t l.start.position ≡ None);

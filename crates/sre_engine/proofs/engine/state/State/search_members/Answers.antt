@@ -10,6 +10,7 @@ use Rattle.sre_engine.proofs.LeadingStarts.{none_joined, found_none_behind}
 use Rattle.sre_engine.proofs.AmongMembers.{none_left, none_to_member, counts_members, counts_next, tried_more}
 use Rattle.sre_engine.proofs.AmongMembers.{fit_more, members_later}
 use Rattle.sre_engine.proofs.Spending.{run_spent}
+use Rattle.sre_engine.proofs.Costing.{since_begin, since_run, since_given_up, gives_up_limited, passed_on}
 use Rattle.sre_engine.proofs.engine.state.State.search_members.Goals as goal
 
 pub returns-in_default-clause-ok : goal.returns-in_default-clause-ok
@@ -157,4 +158,34 @@ start-preserved g c =
       spent =
           run_spent (asked_of asked) (code_of asked) _ _ _ _ _ inv.spent c.attempt.ensures.spent
           c.attempt.ensures.counted;
+      costs = λ limited.
+          since_run asked _ _ c.in-Some.next _ _ _ _ _ (inv.costs limited)
+          (c.in_ok-end.ensures.settles limited c.in_default-2.is) (omega (arith, inv.from, next.from))
+          c.attempt.ensures.counted;
     }
+
+pub returns-in_err-end-clause-given_up : goal.returns-in_err-end-clause-given_up
+returns-in_err-end-clause-given_up g c =
+    passed_on c.from_residual.result c.in_err-end.field-0.0 _ c.from_residual.ensures.1 (λ e.
+    let asked = c.args.req.now in
+    let inv = c.start.invariant in
+    let limited = gives_up_limited _ _ c.in_err-end.field-0.0 c.in_err-end.ensures.halted e in
+    since_given_up asked _ c.in-Some.next _ _ _ _ _ (inv.costs limited) (c.in_err-end.ensures.given_up e)
+    (omega (arith, inv.from, c.in-Some.ensures.next.from)) c.attempt.ensures.counted)
+
+pub start-init : goal.start-init
+start-init g c = record {
+  stands = search rules;
+  from = search rules;
+  inside = search rules;
+  fresh = search rules;
+  remembers = search rules;
+  none = search rules;
+  tried = search rules;
+  few = search rules;
+  fit = search rules;
+  uncompared = search rules;
+  spent = search rules;
+  costs = λ limited.
+      since_begin c.args.req.now c.begin.new.self _ c.begin.ensures.empty c.begin.ensures.steps;
+}

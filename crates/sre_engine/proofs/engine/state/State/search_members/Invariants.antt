@@ -1,4 +1,4 @@
-use Rattle.std.proofs.Common.{◌≡◌, ◌≤◌, ◌+◌, ◌-◌, ℕ, Some}
+use Rattle.std.proofs.Common.{◌≡◌, ◌≤◌, ◌+◌, ◌-◌, ℕ, Some, true}
 use Rattle.sre_model.specs.Tree.{Tree}
 use Rattle.sre_model.specs.Marks.{no_marks}
 use Rattle.sre_model.specs.Grammar.{Whole}
@@ -10,6 +10,7 @@ use Rattle.sre_request.specs.Runs.{run_of}
 use Rattle.sre_engine.specs.Counts.{SpentUpTo}
 use Rattle.sre_engine.proofs.Answering.{NoneBefore}
 use Rattle.sre_engine.proofs.AmongMembers.{TriedAtMembers}
+use Rattle.sre_engine.proofs.Costing.{CostsSince}
 use Rattle.sre_engine.proofs.engine.state.State.search_members.Given as goal
 
 abbrev pub invariant-start : goal.invariant-start
@@ -18,7 +19,7 @@ invariant-start g l = record {
   from : start_of l.req ≤ l.start.position;
   inside : l.start.position ≤ end_of l.req;
   fresh : l.self-inside.board ≡ bare no_marks;
-  remembers : Remembers (run_of l.req) l.self-inside.memo;
+  remembers : Remembers (run_of l.req) l.self-inside.memo.kept;
   none : (t : Tree) → Whole (words_of (code_of l.req)) t → NoneBefore (asked_of l.req) t l.start.position;
   tried : TriedAtMembers (asked_of l.req) (words_of (code_of l.req)) l.self-inside.started l.start.position;
   few : l.self-inside.started ≤ l.start.position - start_of l.req;
@@ -26,6 +27,7 @@ invariant-start g l = record {
       → l.self-inside.started ≤ end_of l.req + 1 - (start_of l.req + w);
   uncompared : l.self-inside.compared ≡ 0;
   spent : SpentUpTo (asked_of l.req) (code_of l.req) l.fn.left l.left l.self-inside.started;
+  costs : l.limited ≡ true → CostsSince l.req l.self-inside.memo l.fn.left l.left l.self-inside.started;
 }
 
 abbrev pub decreases-start : goal.decreases-start

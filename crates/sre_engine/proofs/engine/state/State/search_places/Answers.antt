@@ -17,6 +17,7 @@ use Rattle.sre_engine.proofs.Searching.{none_further, none_in_window, none_unpla
 use Rattle.sre_engine.proofs.Searching.{places_more, places_later, counts_at, few_counted}
 use Rattle.sre_code.proofs.Checked.{code_tree, whole_items}
 use Rattle.sre_engine.proofs.Spending.{run_spent}
+use Rattle.sre_engine.proofs.Costing.{since_begin, since_run, since_given_up, gives_up_limited, passed_on}
 use Rattle.sre_engine.proofs.engine.state.State.search_places.Goals as goal
 
 pub attempt-requires-clause-behind : goal.attempt-requires-clause-behind
@@ -319,4 +320,40 @@ place-preserved g c =
       fit = fit;
       spent =
           run_spent a (code_of asked) _ _ _ _ _ inv.spent c.attempt.ensures.spent c.attempt.ensures.counted;
+      costs = λ limited.
+          let behind : a.start ≤ c.behind_literals-behind.result.position =
+          omega (arith, from, c.behind_literals-behind.ensures.position, c.start_of-start.ensures) in
+          since_run asked _ _ c.behind_literals-behind.result _ _ _ _ _ (inv.costs limited)
+          (c.in_ok-end.ensures.settles limited c.in_default.is) behind c.attempt.ensures.counted;
     }
+
+pub returns-in_err-end-clause-given_up : goal.returns-in_err-end-clause-given_up
+returns-in_err-end-clause-given_up g c =
+    passed_on c.from_residual.result c.in_err-end.field-0.0 _ c.from_residual.ensures.1 (λ e.
+    let asked = c.args.req.now in
+    let a = asked_of asked in
+    let inv = c.place.invariant in
+    let here = c.find.ensures.here in
+    let there = c.find.ensures.found c.place-test.true in
+    let at : c.find.new.spot.cursor.position - c.find.new.spot.matched ≡ c.start_of-start.result =
+    omega (arith, there.0, c.start_of-start.ensures) in
+    let from : a.start ≤ c.start_of-start.result = omega (arith, at, here.front.from, there.0) in
+    let behind : a.start ≤ c.behind_literals-behind.result.position =
+    omega (arith, from, c.behind_literals-behind.ensures.position, c.start_of-start.ensures) in
+    let limited = gives_up_limited _ _ c.in_err-end.field-0.0 c.in_err-end.ensures.halted e in
+    since_given_up asked _ c.behind_literals-behind.result _ _ _ _ _ (inv.costs limited)
+    (c.in_err-end.ensures.given_up e) behind c.attempt.ensures.counted)
+
+pub place-init : goal.place-init
+place-init g c = record {
+  stands = search rules;
+  here = search rules;
+  fresh = search rules;
+  remembers = search rules;
+  none = search rules;
+  few = search rules;
+  fit = search rules;
+  spent = search rules;
+  costs = λ limited.
+      since_begin c.args.req.now c.begin.new.self _ c.begin.ensures.empty c.begin.ensures.steps;
+}

@@ -1,4 +1,4 @@
-use Rattle.std.proofs.Common.{◌≡◌, ◌≤◌, ◌+◌, ◌-◌, ℕ, Some}
+use Rattle.std.proofs.Common.{◌≡◌, ◌≤◌, ◌+◌, ◌-◌, ℕ, Some, true}
 use Rattle.sre_model.specs.Tree.{Tree}
 use Rattle.sre_model.specs.Marks.{no_marks}
 use Rattle.sre_model.specs.Grammar.{Whole}
@@ -12,6 +12,7 @@ use Rattle.sre_request.specs.Runs.{run_of}
 use Rattle.sre_engine.specs.Scans.{Here}
 use Rattle.sre_engine.specs.Counts.{SpentUpTo}
 use Rattle.sre_engine.proofs.Answering.{NoneBefore}
+use Rattle.sre_engine.proofs.Costing.{CostsSince}
 use Rattle.sre_engine.proofs.engine.state.State.search_places.Given as goal
 
 abbrev pub invariant-place : goal.invariant-place
@@ -20,7 +21,7 @@ invariant-place g l = record {
   here : Here (run_of l.req).subject.text l.prefix.words.now (start_of l.req) (end_of l.req) l.spot.cursor.position
       l.spot.matched l.self-inside.compared;
   fresh : l.self-inside.board ≡ bare no_marks;
-  remembers : Remembers (run_of l.req) l.self-inside.memo;
+  remembers : Remembers (run_of l.req) l.self-inside.memo.kept;
   none : (t : Tree) → Whole (words_of (code_of l.req)) t
       → NoneBefore (asked_of l.req) t (l.spot.cursor.position - l.spot.matched);
   few : l.self-inside.started
@@ -29,6 +30,7 @@ invariant-place g l = record {
   fit : (w : ℕ) → (hints_of (code_of l.req)).width ≡ Some w
       → l.self-inside.started ≤ end_of l.req + 1 - (start_of l.req + w);
   spent : SpentUpTo (asked_of l.req) (code_of l.req) l.fn.left l.left l.self-inside.started;
+  costs : l.limited ≡ true → CostsSince l.req l.self-inside.memo l.fn.left l.left l.self-inside.started;
 }
 
 abbrev pub decreases-place : goal.decreases-place

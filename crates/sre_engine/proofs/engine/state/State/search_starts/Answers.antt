@@ -10,6 +10,7 @@ use Rattle.sre_engine.proofs.Answering.{none_yet}
 use Rattle.sre_engine.proofs.Hinting.{past_none}
 use Rattle.sre_engine.proofs.Starting.{passed_none, found_nowhere}
 use Rattle.sre_code.proofs.Checked.{code_tree, items_whole}
+use Rattle.sre_engine.proofs.Costing.{since_begin, since_given_up, costs_first, whole_given_up, passed_on}
 use Rattle.sre_engine.proofs.engine.state.State.search_starts.Goals as goal
 
 pub returns-in_default-clause-ok : goal.returns-in_default-clause-ok
@@ -76,3 +77,21 @@ search_behind-requires-clause-none g c = λ t whole.
       none_at (stands_in asked) (asked_of asked) t _ c.in_ok-end.field-0 c.attempt.new.board.marks
           (c.in_ok-end.ensures.found t whole) c.in_default-2.is,
     )
+
+pub returns-in_err-end-clause-given_up : goal.returns-in_err-end-clause-given_up
+returns-in_err-end-clause-given_up g c =
+    passed_on c.from_residual.result c.in_err-end.field-0.0 _ c.from_residual.ensures.1 (λ e.
+    let asked = c.args.req.now in
+    let at : c.args.from.position ≡ start_of asked = search rules in
+    since_given_up asked _ c.in-Some.start _ _ _ 0 _
+    (since_begin asked c.begin.new.self _ c.begin.ensures.empty c.begin.ensures.steps)
+    (c.in_err-end.ensures.given_up e) (omega (arith, at, c.in-Some.ensures.after)) c.attempt.ensures.counted)
+
+pub returns-clause-given_up : goal.returns-clause-given_up
+returns-clause-given_up g c =
+    let asked = c.args.req.now in
+    let at : c.args.from.position ≡ start_of asked = search rules in
+    whole_given_up asked _ c.args.limited _ _ _ _ c.search_behind.ensures.halted
+    (λ limited. costs_first asked c.begin.new.self _ c.in-Some.start _ _ c.begin.ensures.empty c.begin.ensures.steps
+    (c.in_ok-end.ensures.settles limited c.in_default-2.is) (omega (arith, at, c.in-Some.ensures.after)))
+    c.search_behind.ensures.given_up
