@@ -17,7 +17,7 @@ mod possessive_loops;
 mod possessive_runs;
 mod references;
 mod regions;
-mod run_ends;
+mod endless_runs;
 mod run_operands;
 mod trying;
 pub mod turns;

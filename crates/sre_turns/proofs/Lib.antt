@@ -34,4 +34,5 @@ pub mod Hopeless
 pub mod Trying
 pub mod RunEnds
 pub mod LazyRunEnds
+pub mod NextRuns
 pub mod OpenMarks
