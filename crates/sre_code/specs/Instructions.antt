@@ -1,9 +1,10 @@
--- Instructions: where the next one stands, bodies included.
+-- Instructions: where the next one stands, bodies included, and how far a run counts.
 -- Words of the check's contracts; what sre_engine makes public does not rest on it.
 use Rattle.std.specs.Prelude.{ℕ, ◌+◌, ◌≡◌, ◌<◌, ◌⊎◌, List, Option, Some, None}
 use Rattle.sre_chars.specs.declared.constants.SreOpcode.{SreOpcode}
 use Rattle.sre_model.specs.Tree.{Test}
-use Rattle.sre_model.specs.Grammar.{Opcode}
+use Rattle.sre_model.specs.Grammar.{Opcode, word}
+use Rattle.sre_model.specs.RunCounts.{run_count}
 use Rattle.sre_model.specs.Roles.{Role, ToFail, ToEnd, ToCheckPosition, ToMark, ToBranch, ToJump, ToRun, ToRepeat}
 use Rattle.sre_model.specs.Roles.{ToLoop}
 use Rattle.sre_model.specs.Roles.{ToRepeatPossessively, ToGroupAtomically, ToLook, role}
@@ -26,17 +27,27 @@ own_words ToRepeat = Some 4
 own_words ToRepeatPossessively = Some 4
 own_words _ = None
 
--- at i stands an instruction that is neither a reference nor a condition, and the next one at k
-pub record Behind (ws : List ℕ) (i k : ℕ) : Type 0 where
+-- up to which number the characters of a run with these counts make a difference; 0 where no run is
+abbrev pub count_by : Role → ℕ → ℕ → ℕ
+count_by (ToRun kind) low high = run_count kind low high
+count_by _ low high = 0
+
+-- the same of the instruction at i, which has this opcode
+abbrev pub count_at : SreOpcode → List ℕ → ℕ → ℕ
+count_at o ws i = count_by (role o) (word ws (i + 2)) (word ws (i + 3))
+
+-- at i stands an instruction that is neither a reference nor a condition, and the next one at k; it counts c
+pub record Behind (ws : List ℕ) (i k c : ℕ) : Type 0 where
   pub one :
-      ((t : Test) × ReadsTest ws i k t)
-      ⊎ ((o : SreOpcode) × (n : ℕ) × Opcode ws i o × (own_words (role o) ≡ Some n) × (k ≡ i + n))
+      ((t : Test) × ReadsTest ws i k t × (c ≡ 0))
+      ⊎ ((o : SreOpcode) × (n : ℕ) × Opcode ws i o × (own_words (role o) ≡ Some n) × (k ≡ i + n)
+      × (c ≡ count_at o ws i))
 
 -- no such instruction stands at i
 pub record NoneBehind (ws : List ℕ) (i : ℕ) : Type 0 where
-  pub none : (k : ℕ) → Behind ws i k → ⊥
+  pub none : (k c : ℕ) → Behind ws i k c → ⊥
 
--- where the next instruction stands, or that none such is at i
-abbrev pub NextAt : List ℕ → ℕ → Option ℕ → Type 0
-NextAt ws i (Some k) = (i < k) × Behind ws i k
+-- where the next instruction stands, and what the one at i counts, or that none such is at i
+abbrev pub NextAt : List ℕ → ℕ → Option (ℕ × ℕ) → Type 0
+NextAt ws i (Some p) = (i < p.0) × Behind ws i p.0 p.1
 NextAt ws i None = NoneBehind ws i

@@ -4,13 +4,14 @@
 //! exactly one, together with a table of characters. An information block at the front is passed over: the grammar asks
 //! nothing of it but its skip. [`Code::check`] reads the words behind it once from left to right, with a stack of its
 //! own for the parts that are open, and on the way adds up the least number of characters that a match passes. A scan
-//! of words that are a code then tells, with no stack, whether they ask for groups; and what the block claims is
-//! compared with the first items, which confirm it or not.
+//! of words that are a code then tells, with no stack, whether they ask for groups, and how far the characters of their
+//! runs count; and what the block claims is compared with the first items, which confirm it or not.
 
-ghost use Rattle.std.specs.Prelude.{◌≡◌, ◌≢◌, ◌≤◌, length, IfOk, IfErr, OnOk};
+ghost use Rattle.std.specs.Prelude.{◌≡◌, ◌≢◌, ◌≤◌, false, length, IfOk, IfErr, OnOk};
 ghost use Rattle.sre_model.specs.Tree.{Tree};
 ghost use Rattle.sre_model.specs.Grammar.{Whole};
 ghost use Rattle.sre_model.specs.References.{refers};
+ghost use Rattle.sre_model.specs.RunCounts.{most_counts};
 ghost use Rattle.sre_code.specs.Hinted.{Confirmed};
 ghost use Rattle.sre_model.specs.Grammar.{AreItems, IsCode, HasOneTree, behind_block};
 ghost use Rattle.sre_code.specs.Refusals.{place_of};
@@ -62,8 +63,10 @@ pub struct Code<'a> {
     uni: &'a UniTable,
     hints: Hints,
     has_reference: bool,
+    longest: u32,
     ghost behind: { items.now ≡ behind_block words.now },
     ghost scanned: { (tree : Tree) → Whole words.now tree → has_reference ≡ refers tree },
+    ghost counted: { (tree : Tree) → Whole words.now tree → refers tree ≡ false → longest ≡ most_counts tree },
     pub ghost checked: { ∥ ((tree : Tree) × Whole words.now tree × Confirmed words.now uni.now tree hints) ∥₁ },
 }
 
@@ -131,5 +134,15 @@ impl<'a> Code<'a> {
         ensures { (tree : Tree) → Whole (words_of self.now) tree → result ≡ refers tree }
     {
         self.has_reference
+    }
+
+    /// Up to which number the characters of a run of one test make a difference to what comes of it: the greatest count
+    /// of the code's runs, or the least one of a run without a greatest; 4294967295 where a possessive run has no
+    /// greatest. It tells nothing where the code refers to groups.
+    #[inline(always)]
+    pub fn most_counts(&self) -> u32
+        ensures { (tree : Tree) → Whole (words_of self.now) tree → refers tree ≡ false → result ≡ most_counts tree }
+    {
+        self.longest
     }
 }

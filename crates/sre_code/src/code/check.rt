@@ -32,11 +32,13 @@ pub fn check_in<'a, A: Allocator + Copy>(
         Ok(least) => least,
         Err(error) => return Err(error.moved(length)),
     };
+    let counts = references::most_counts(items);
     Ok(Code {
         words,
         items,
         uni,
         hints: claims::confirmed(words, length, uni, items, least),
-        has_reference: references::has_reference(items),
+        has_reference: counts.is_none(),
+        longest: counts.unwrap_or(0),
     })
 }

@@ -1,14 +1,17 @@
-//! Whether a reference or a condition stands among the items: a scan from one instruction to the next, into each body.
+//! Whether a reference or a condition stands among the items, and how far the characters of their runs count: a scan
+//! from one instruction to the next, into each body.
 //!
 //! It needs no stack, since what ends a body is passed like any other instruction. A JUMP ends an alternative, and the
 //! next one, or the branch's tail, is behind the length word that follows it; the JUMP of a condition is not reached.
 
-ghost use Rattle.std.specs.Prelude.{◌≡◌, Option};
+ghost use Rattle.std.specs.Prelude.{◌≡◌, ◌<◌, length, Option, MatchOption, true, false};
 ghost use Rattle.sre_model.specs.Tree.{Tree};
-ghost use Rattle.sre_model.specs.Grammar.{WholeItems};
+ghost use Rattle.sre_model.specs.Grammar.{WholeItems, word};
 ghost use Rattle.sre_model.specs.References.{refers};
+ghost use Rattle.sre_model.specs.RunCounts.{most_counts};
 ghost use Rattle.sre_model.specs.Roles.{role};
-ghost use Rattle.sre_code.specs.Instructions.{own_words, NextAt};
+ghost use Rattle.sre_model.specs.Slots.{counted_to};
+ghost use Rattle.sre_code.specs.Instructions.{own_words, count_at, NextAt};
 
 use crate::code::{character, words};
 use sre_chars::constants::SreOpcode;
@@ -33,31 +36,79 @@ fn own_words(code: SreOpcode) -> Option<usize>
     }
 }
 
-/// Where the instruction behind the one at this place stands; none where that one is a reference or a condition.
-fn next(words: &[u32], place: usize) -> Option<usize>
+/// The word at a place, or 0 past the end.
+fn word_or_zero(words: &[u32], place: usize) -> u32
+    ensures { result ≡ word words.now place }
+{
+    match words.get(place) {
+        Some(word) => *word,
+        None => 0,
+    }
+}
+
+/// Up to which number the characters of a greedy or a lazy run make a difference, by its least and its greatest count.
+fn counted_to(low: u32, high: u32) -> u32
+    ensures { result ≡ counted_to low high }
+{
+    if high == u32::MAX {
+        return low;
+    }
+    low.max(high)
+}
+
+/// Up to which number the characters make a difference of the run at this place, which has this opcode; 0 where another
+/// instruction is.
+fn count_at(words: &[u32], place: usize, code: SreOpcode) -> u32
+    requires { place < length words.now }
+    ensures { result ≡ count_at code words.now place }
+{
+    match code {
+        SreOpcode::REPEAT_ONE | SreOpcode::MIN_REPEAT_ONE => {
+            counted_to(
+                word_or_zero(words, place + 2),
+                word_or_zero(words, place + 3),
+            )
+        }
+        SreOpcode::POSSESSIVE_REPEAT_ONE => {
+            word_or_zero(words, place + 2).max(word_or_zero(words, place + 3))
+        }
+        _ => 0,
+    }
+}
+
+/// Where the instruction behind the one at this place stands, and how far the run at this place counts; none where a
+/// reference or a condition is there.
+fn next(words: &[u32], place: usize) -> Option<(usize, u32)>
     ensures { NextAt words.now place result }
 {
     let Ok(code) = words::opcode(words, place) else {
         return None;
     };
     match own_words(code) {
-        Some(count) => Some(place + count),
-        None => character::test(words, place, code).ok(),
+        Some(count) => Some((place + count, count_at(words, place, code))),
+        None => match character::test(words, place, code) {
+            Ok(behind) => Some((behind, 0)),
+            Err(_) => None,
+        },
     }
 }
 
-/// Whether a reference or a condition is among the items, which have SUCCESS as the last word.
+/// Up to which number the characters of the items' runs make a difference; none where a reference or a condition is
+/// among the items, which have SUCCESS as the last word.
 #[tactic(auto, using(crate::proofs::Scanning::scan_laws))]
-pub fn has_reference(words: &[u32]) -> bool
-    ensures { (tree : Tree) → WholeItems words.now tree → result ≡ refers tree }
+pub fn most_counts(words: &[u32]) -> Option<u32>
+    ensures { (tree : Tree) → WholeItems words.now tree → MatchOption result (refers tree ≡ true)
+        (λ most. (refers tree ≡ false) × (most ≡ most_counts tree)) }
 {
     let last = words.len().saturating_sub(1);
     let mut place = 0;
+    let mut most = 0;
     'instruction: while place < last {
-        let Some(behind) = next(words, place) else {
-            return true;
+        let Some((behind, count)) = next(words, place) else {
+            return None;
         };
+        most = most.max(count);
         place = behind;
     }
-    false
+    Some(most)
 }

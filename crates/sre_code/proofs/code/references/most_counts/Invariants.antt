@@ -1,9 +1,9 @@
 use Rattle.std.proofs.Common.{length, ◌-◌}
 use Rattle.sre_code.proofs.Scanning.{Onto}
-use Rattle.sre_code.proofs.code.references.has_reference.Given as goal
+use Rattle.sre_code.proofs.code.references.most_counts.Given as goal
 
 abbrev pub invariant-instruction : goal.invariant-instruction
-invariant-instruction l = Onto l.words l.place
+invariant-instruction l = Onto l.words l.place l.most
 
 abbrev pub decreases-instruction : goal.decreases-instruction
 decreases-instruction l = length l.words - l.place
