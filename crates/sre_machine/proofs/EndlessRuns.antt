@@ -1,5 +1,5 @@
 -- Runs without a greatest count, while failures are kept.
-use Rattle.std.proofs.Common.{◌≡◌, ◌⊎◌, inl, inr, ℕ, ◌+◌, ◌-◌, ◌<◌, ◌≤◌, true, false, List, ◌∷◌, Option, Some, None, MatchOption}
+use Rattle.std.proofs.Common.{◌≡◌, ◌⊎◌, inl, inr, ℕ, ◌+◌, ◌-◌, ◌<◌, ◌≤◌, true, false, List, ◌∷◌, Some, None}
 use Rattle.std.proofs.Common.{refl, sym, subst, arith}
 use Rattle.sre_chars.specs.declared.constants.SreOpcode.TheVariants as opcode
 use Rattle.sre_chars.specs.declared.string.StrDrive.{Ghosts}
@@ -8,13 +8,13 @@ use Rattle.sre_model.specs.Grammar.{Word, Opcode, word}
 use Rattle.sre_model.specs.Standing.{HasTest, TestStands}
 use Rattle.sre_model.specs.Subject.{passes}
 use Rattle.sre_model.specs.Tree.{Test}
-use Rattle.sre_model.specs.Ways.{Way, unlimited, run_length}
+use Rattle.sre_model.specs.Ways.{Way, run_length}
 use Rattle.sre_model.proofs.Longest.{run_inside, run_at_most}
 use Rattle.sre_model.proofs.Words.{word_there}
 use Rattle.sre_turns.specs.Board.{BoardValue, Else}
 use Rattle.sre_turns.specs.Limits.{Limit}
 use Rattle.sre_turns.specs.Machine.{Goes, GoesBoth, HasRun, Later, Refuses, spot}
-use Rattle.sre_turns.specs.Moves.{Spot, spot_at}
+use Rattle.sre_turns.specs.Moves.{spot_at}
 use Rattle.sre_turns.specs.RunEnds.{RunsOn}
 use Rattle.sre_turns.specs.declared.Next.TheVariants as next
 use Rattle.sre_turns.specs.declared.Point.TheVariants.{Instruction}

@@ -114,7 +114,10 @@ fn first_end<S: StrDrive, A: Allocator>(
         return Some(FirstEnd { end, later: None });
     }
     let (_character, after) = read(req, start);
-    Some(FirstEnd { end, later: Some(after) })
+    Some(FirstEnd {
+        end,
+        later: Some(after),
+    })
 }
 
 /// A run without a greatest count, while failures are kept: its first end, and the same run from one character later.

@@ -17,6 +17,7 @@ pub mod Prefixes
 pub mod References
 pub mod Regions
 pub mod Slots
+pub mod RunCounts
 pub mod Remembered
 pub mod LeadingRuns
 pub mod WalkBounds

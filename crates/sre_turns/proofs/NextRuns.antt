@@ -1,7 +1,7 @@
 -- A run without a greatest count, turn by turn: what comes of it is what comes of the run that begins one character
 -- later, and of its own first end. While failures are kept the machine goes by that, so that each end is tried once,
 -- from wherever the run is come to.
-use Rattle.std.proofs.Common.{◌≡◌, ℕ, suc, ◌+◌, ◌-◌, ◌*◌, ◌<◌, ◌≤◌, false, List, ◌∷◌, length, refl, sym, subst, arith}
+use Rattle.std.proofs.Common.{◌≡◌, ℕ, suc, ◌+◌, ◌-◌, ◌<◌, ◌≤◌, false, List, ◌∷◌, refl, sym, subst, arith}
 use Rattle.sre_chars.specs.declared.constants.SreOpcode.TheVariants as opcode
 use Rattle.sre_chars.specs.declared.string.StringCursor.{StringCursor}
 use Rattle.sre_model.specs.Marks.{Marks}
@@ -14,7 +14,7 @@ use Rattle.sre_model.proofs.Bounds.{passes-below}
 use Rattle.sre_turns.specs.Board.{Choice, Else, BoardValue}
 use Rattle.sre_turns.specs.Limits.{Limit, earlier, Fares, FaresAt, FaresBoth, pool}
 use Rattle.sre_turns.specs.Machine.{Moves, Runs, Goes, GoesBoth, Later, Waits, otherwise, spot}
-use Rattle.sre_turns.specs.Moves.{Spot, spot_at, Split, Stop}
+use Rattle.sre_turns.specs.Moves.{Spot, spot_at, Split}
 use Rattle.sre_turns.specs.Nested.{Lies}
 use Rattle.sre_turns.specs.Potential.{potential_of}
 use Rattle.sre_turns.specs.RunEnds.{AllPass}

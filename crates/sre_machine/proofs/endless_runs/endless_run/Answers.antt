@@ -1,4 +1,4 @@
-use Rattle.std.proofs.Common.{◌≡◌, Option, subst}
+use Rattle.std.proofs.Common.{Option, subst}
 use Rattle.sre_chars.specs.declared.string.StringCursor.{StringCursor}
 use Rattle.sre_machine.specs.EndlessRuns.{EndsFirst}
 use Rattle.sre_machine.proofs.EndlessRuns.{run_short, run_only, tail_has, run_refused, greedy_saves, lazy_saves}

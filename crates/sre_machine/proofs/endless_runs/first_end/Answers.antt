@@ -1,4 +1,4 @@
-use Rattle.std.proofs.Common.{◌≡◌, ◌+◌, ◌-◌, ◌<◌, ◌≤◌, subst, sym, arith}
+use Rattle.std.proofs.Common.{◌-◌, ◌<◌, arith}
 use Rattle.sre_machine.proofs.EndlessRuns.{lacks_cut, lacks_run, ends_only, ends_more}
 use Rattle.sre_machine.proofs.endless_runs.first_end.Goals as goal
 
