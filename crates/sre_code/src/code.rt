@@ -138,7 +138,8 @@ impl<'a> Code<'a> {
 
     /// Up to which number the characters of a run of one test make a difference to what comes of it: the greatest count
     /// of the code's runs, or the least one of a run without a greatest; 4294967295 where a possessive run has no
-    /// greatest. It tells nothing where the code refers to groups.
+    /// greatest. It tells nothing where the code refers to groups. No search asks for it yet: it waits for a number of
+    /// enough turns that grows with the text's length alone.
     #[inline(always)]
     pub fn most_counts(&self) -> u32
         ensures { (tree : Tree) → Whole (words_of self.now) tree → refers tree ≡ false → result ≡ most_counts tree }

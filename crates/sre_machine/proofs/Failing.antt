@@ -23,11 +23,7 @@ use Rattle.sre_code.proofs.Checked.{whole_of, whole_items}
 use Rattle.sre_request.specs.declared.request.Request.{Request}
 use Rattle.sre_request.specs.Requests.{code_of}
 use Rattle.sre_request.specs.Runs.{run_of}
-use Rattle.sre_machine.specs.Turns.{Turn, Takes, GivesUp, GoesOn, Fails}
-use Rattle.sre_turns.specs.Fruit.{is_inside}
-use Rattle.sre_turns.specs.Moves.{spot_at}
-use Rattle.sre_board.specs.Failures.{Kept, HoldsOneMore, Remembers}
-use Rattle.sre_board.proofs.Remembering.{remembers_more}
+use Rattle.sre_machine.specs.Turns.{Turn, Takes, GivesUp, GoesOn}
 use Rattle.sre_machine.specs.Memos.{MemoValue}
 use Rattle.sre_machine.proofs.Paying.{grants_nothing}
 
@@ -82,16 +78,3 @@ pub referring_words : {S : Type 0} {text : Ghosts S} (r : Request S text) (code 
     → HasReference (run_of r).words
 referring_words r code told same tells told_so =
     subst (λ c. HasReference (items_of c)) same (λ t w. sym (tells t (whole_items code t w)) ∙ told_so)
-
--- one that fails may be kept
-pub fails_kept : {S : Type 0} {text : Ghosts S} (r : Request S text) (old new : Kept) (ws : List ℕ) (place p q : ℕ)
-    (b : BoardValue) → ws ≡ (run_of r).words → p ≡ q
-    → HoldsOneMore ws (is_inside b.choices) (spot_at (Instruction place) b.frames p b.marks) old new
-    → Fails r place q b → Remembers (run_of r) old → Remembers (run_of r) new
-fails_kept r old new ws place p q b same there more fails remembers =
-    remembers_more (run_of r) (is_inside b.choices) (spot_at (Instruction place) b.frames q b.marks) old new
-    (subst (λ z. HoldsOneMore (run_of r).words (is_inside b.choices) (spot_at (Instruction place) b.frames z b.marks)
-    old new) there
-    (subst (λ (us : List ℕ). HoldsOneMore us (is_inside b.choices) (spot_at (Instruction place) b.frames p b.marks)
-    old new) same more))
-    fails remembers

@@ -1,7 +1,7 @@
 pub mod Paying
 pub mod Halting
 pub mod Failing
-pub mod EndlessRuns
+pub mod RunEnds
 pub mod Taken
 pub mod Opening
 pub mod Keeping

@@ -5,9 +5,6 @@ use Rattle.sre_chars.specs.declared.string.StrDrive.{Ghosts}
 use Rattle.sre_chars.specs.declared.string.StringCursor.{StringCursor}
 use Rattle.sre_model.specs.Runs.{Run}
 use Rattle.sre_turns.specs.Board.{BoardValue}
-use Rattle.sre_turns.specs.Fruit.{is_inside}
-use Rattle.sre_turns.specs.Hopeless.{Hopeless}
-use Rattle.sre_turns.specs.Moves.{spot_at}
 use Rattle.sre_turns.specs.Settled.{Regionless}
 use Rattle.sre_model.specs.Ways.{Way}
 use Rattle.sre_turns.specs.Machine.{HasRun, IsAt, Goes, Arrives, Backs, Advances, Later}
@@ -23,10 +20,6 @@ use Rattle.sre_request.specs.Runs.{run_of}
 -- the machine is at an instruction, with a cursor at its position
 abbrev pub At : {S : Type 0} {text : Ghosts S} → Request S text → ℕ → StringCursor → Type 0
 At r place cursor = HasRun (run_of r) (Instruction place) cursor
-
--- nothing comes of the instruction at a place and a position, under the loops of a board
-abbrev pub Fails : {S : Type 0} {text : Ghosts S} → Request S text → ℕ → ℕ → BoardValue → Type 0
-Fails r place p b = Hopeless (run_of r) (is_inside b.choices) (spot_at (Instruction place) b.frames p b.marks)
 
 -- the instruction's turn makes of a board what comes next and another board, and keeps all accepted outcomes
 abbrev pub Turn : {S : Type 0} {text : Ghosts S} → Request S text → ℕ → StringCursor → BoardValue → Next → BoardValue

@@ -8,7 +8,6 @@
 #![tactic(auto)]
 
 mod branches;
-mod endless_runs;
 mod greedy_runs;
 mod lazy_runs;
 mod loops;
@@ -18,6 +17,7 @@ mod possessive_loops;
 mod possessive_runs;
 mod references;
 mod regions;
+mod run_ends;
 mod run_operands;
 mod trying;
 pub mod turns;

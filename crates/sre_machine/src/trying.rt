@@ -13,11 +13,13 @@ ghost use Rattle.sre_turns.specs.Machine.{IsAt, spot};
 ghost use Rattle.sre_turns.specs.MovesAtReferences.{HasReference};
 ghost use Rattle.sre_board.specs.Failures.{Remembers};
 ghost use Rattle.sre_request.specs.Runs.{run_of, OpcodeAt};
-ghost use Rattle.sre_machine.specs.Turns.{At, Fails, Takes, GivesUp, GoesOn, StaysAt};
+ghost use Rattle.sre_machine.specs.Turns.{At, Takes, GivesUp, GoesOn, StaysAt};
+ghost use Rattle.sre_machine.specs.RunEnds.{Failed};
 
-use crate::endless_runs::{endless_run, is_endless_run};
+use crate::lazy_runs::min_repeat_one;
 use crate::machine::{instruction, opcode};
 use crate::memo::Memo;
+use crate::run_ends::{keep_later, remembering_repeat_one};
 use sre_board::Board;
 use sre_chars::constants::SreOpcode;
 use sre_chars::string::{StrDrive, StringCursor};
@@ -44,7 +46,7 @@ fn may_branch<S: StrDrive>(req: &Request<'_, S>, place: usize, cursor: StringCur
     )
 }
 
-// Keeps an instruction of which nothing came.
+// Keeps an instruction of which nothing came, and the later ones that fail with it.
 #[inline(never)]
 pub(super) fn keep<S: StrDrive, A: Allocator>(
     req: &Request<'_, S>,
@@ -53,7 +55,7 @@ pub(super) fn keep<S: StrDrive, A: Allocator>(
     place: usize,
     cursor: StringCursor,
 )
-    requires failed { (HasReference (run_of req.now).words → ⊥) → Fails req.now place cursor.position board.now }
+    requires failed { Failed req.now place cursor board.now }
     requires remembers { Remembers (run_of req.now) memo.old.kept }
     ensures remembers { Remembers (run_of req.now) memo.new.kept }
     ensures same { memo.new ≡ record memo.old { kept = memo.new.kept } }
@@ -64,6 +66,7 @@ pub(super) fn keep<S: StrDrive, A: Allocator>(
     let is_plain = !code.refers();
     if is_plain {
         memo.keep(code.items(), board, place, cursor.position());
+        keep_later(req, board, memo, place, cursor);
     }
 }
 
@@ -136,8 +139,16 @@ pub(super) fn instruction_or_back<S: StrDrive, A: Allocator>(
     if is_hopeless(req, board, memo, place, cursor) {
         return Ok(Next::Back);
     }
-    if memo.is_open() && is_endless_run(req, place, cursor) {
-        return endless_run(req, board, place, cursor);
+    if memo.is_open() {
+        match opcode(req, place, cursor) {
+            SreOpcode::REPEAT_ONE => {
+                return remembering_repeat_one(req, board, memo, place, cursor);
+            }
+            SreOpcode::MIN_REPEAT_ONE => {
+                return min_repeat_one::<S, A, false>(req, board, place, cursor);
+            }
+            _ => {}
+        }
     }
     instruction(req, board, place, cursor)
 }

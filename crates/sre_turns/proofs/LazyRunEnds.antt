@@ -1,7 +1,7 @@
 -- The ends of a lazy run without a greatest count: as of a greedy one, a run that failed at a position tried those of
 -- each run that begins later in the same stretch. Its longer counts are what comes of a run that begins later, so they
 -- are left at once where that run is known to fail.
-use Rattle.std.proofs.Common.{◌≡◌, ◌⊎◌, inl, inr, ℕ, zero, suc, ◌+◌, ◌-◌, ◌<◌, ◌≤◌, Bool, true, false, List, [], ◌∷◌, ◌++◌}
+use Rattle.std.proofs.Common.{◌≡◌, ◌⊎◌, inl, inr, ℕ, zero, suc, ◌+◌, ◌-◌, ◌<◌, ◌≤◌, Bool, true, false, List, [], ◌∷◌}
 use Rattle.std.proofs.Common.{length, refl, sym, subst, arith, nat_lt}
 use Rattle.std.proofs.lemmas.Bool.Decides.{nat_tests}
 use Rattle.sre_chars.specs.declared.constants.SreOpcode.TheVariants as opcode
@@ -58,7 +58,7 @@ module _ (r : Run) (i low v : ℕ) (fs : List Frame) (m : Marks) (w : Opcode r.w
   operands : RunOperands r.words i low unlimited there.end there.test
   operands = record { lowest = wl; highest = wh; stands = there.stands }
 
-  pub lazy_stops : (p : ℕ) → run_length r.subject there.test low p < low → Moves r.words r.subject (starts_at p) Stop
+  lazy_stops : (p : ℕ) → run_length r.subject there.test low p < low → Moves r.words r.subject (starts_at p) Stop
   lazy_stops p l =
       let short : nat_lt (run_length r.subject there.test low p) low ≡ true = grind (arith, nat_tests) in
       at_instruction opcode.MIN_REPEAT_ONE (ToRun LazyRun) refl w (record {
@@ -83,7 +83,7 @@ module _ (r : Run) (i low v : ℕ) (fs : List Frame) (m : Marks) (w : Opcode r.w
         is = rw (e, enough, word_of r.words (i + 1) v wv) refl;
       })
 
-  pub longer_stops : (n p : ℕ) → n ≤ p → passes r.subject there.test p ≡ false
+  longer_stops : (n p : ℕ) → n ≤ p → passes r.subject there.test p ≡ false
       → Moves r.words r.subject (longer_at n p) Stop
   longer_stops n p past e = record {
     low = low;
@@ -163,46 +163,6 @@ module _ (r : Run) (i low v : ℕ) (fs : List Frame) (m : Marks) (w : Opcode r.w
           (subst (λ z. Runs r.words r.subject (ends_at z) os₁ n₁) (sym e) x₁)
           (subst (λ z. Runs r.words r.subject (longer_at low z) os₂ n₂) (sym e)
           (longer_same (r.subject.end - (p + 1)) (n + 1) low (p + 1) os₂ n₂ (omega arith) (omega (arith, e)) x₂)))
-
-  -- what comes of the run: what comes of its own first end, and then of the one that begins one character later
-  pub record LazyNext (p : ℕ) (os : List Way) (n : ℕ) : Type 0 where
-    pub own : List Way
-    pub again : List Way
-    pub both : os ≡ own ++ again
-    pub own_turns : ℕ
-    pub again_turns : ℕ
-    pub own_runs : Runs r.words r.subject (ends_at (p + low)) own own_turns
-    pub again_runs : Runs r.words r.subject (starts_at (p + 1)) again again_turns
-    pub sum : own_turns + again_turns + 2 ≡ n
-
-  pub lazy_next : (p : ℕ) (os : List Way) (n : ℕ) → AllPass r.subject there.test p (p + low + 1)
-      → Runs r.words r.subject (starts_at p) os n → LazyNext p os n
-  lazy_next p os n all_pass x =
-      go (comes (Split (ends_at (p + low)) (longer_at low (p + low))) (lazy_moves p full) x)
-    where
-      full : run_length r.subject there.test low p ≡ low
-      full = least_passed r.subject there.test low p (λ c from to. all_pass c from (omega (arith, to)))
-
-      go : {os : List Way} {n : ℕ}
-          → Comes r.words r.subject (starts_at p) (Split (ends_at (p + low)) (longer_at low (p + low))) os n
-          → LazyNext p os n
-      go (splits {os₁ = os₁} {os₂ = os₂} {n₁ = n₁} {n₂ = n₂} x₁ x₂) = record {
-        own = os₁;
-        again = os₂;
-        both = refl;
-        own_turns = n₁;
-        again_turns = n₂;
-        own_runs = x₁;
-        again_runs =
-            longer_run low (p + low) (p + 1) os₂ n₂ (omega arith)
-            (λ c from to. all_pass c (omega (arith, from)) to) (all_pass (p + low) (omega arith) (omega arith)) x₂;
-        sum = omega arith;
-      }
-
-  -- where all characters of the least count pass the run has its first end, and perhaps longer ones
-  pub lazy_full_moves : (p : ℕ) → AllPass r.subject there.test p (p + low)
-      → Moves r.words r.subject (starts_at p) (Split (ends_at (p + low)) (longer_at low (p + low)))
-  lazy_full_moves p all_pass = lazy_moves p (least_passed r.subject there.test low p all_pass)
 
   -- a run that came to nothing: so does the one from the next character on, where that has its least count
   next_full : (inside : Bool) (p : ℕ) → AllPass r.subject there.test p (p + low + 1)

@@ -34,5 +34,4 @@ pub mod Hopeless
 pub mod Trying
 pub mod RunEnds
 pub mod LazyRunEnds
-pub mod NextRuns
 pub mod OpenMarks

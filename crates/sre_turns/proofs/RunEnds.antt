@@ -4,7 +4,6 @@ use Rattle.std.proofs.Common.{◌≡◌, ℕ, zero, suc, ◌+◌, ◌-◌, ◌<�
 use Rattle.std.proofs.Common.{refl, sym, ◌∙◌, ap, subst, arith, nat_lt}
 use Rattle.std.specs.List.{filter}
 use Rattle.std.proofs.lemmas.List.{append_assoc}
-use Rattle.std.proofs.Common.{append-nil}
 use Rattle.std.proofs.lemmas.Bool.Decides.{nat_tests}
 use Rattle.sre_chars.specs.declared.constants.SreOpcode.TheVariants as opcode
 use Rattle.sre_chars.specs.declared.string.StringCursor.{StringCursor}
@@ -49,7 +48,6 @@ record Parts (r : Run) (t j k p q : ℕ) (fs : List Frame) (m : Marks) (os : Lis
   near_runs : Runs r.words r.subject (spot_at (Shorter t j) fs p m) near near_turns
   far_runs : Runs r.words r.subject (spot_at (Shorter t k) fs q m) far far_turns
   fewer : far_turns ≤ n
-  sum : near_turns + far_turns ≡ n + 1
 
 joined : (us vs near far : List Way) → vs ≡ near ++ far → us ++ vs ≡ (us ++ near) ++ far
 joined us vs near far e = ap (λ ws. us ++ ws) e ∙ sym (append_assoc us near far)
@@ -65,7 +63,6 @@ parts r t zero k a p q fs m os n e back d = record {
   near_runs = turns Stop (shorter_stop r t 0 p fs m refl) stops;
   far_runs = rw (same, there) at d;
   fewer = omega arith;
-  sum = omega arith;
 }
   where
     same : a ≡ k
@@ -101,7 +98,6 @@ parts r t (suc j) k a p q fs m os n e back d =
               (splits d₁ rest.near_runs);
           far_runs = rest.far_runs;
           fewer = omega (arith, rest.fewer);
-          sum = omega (arith, rest.sum);
         }
 
 -- no outcomes are fruitless
@@ -228,7 +224,7 @@ module _ (r : Run) (i low v : ℕ) (fs : List Frame) (m : Marks) (w : Opcode r.w
         is = rw (is, short) refl;
       })
 
-  pub run_moves : (p count : ℕ) → longest_run r.subject there.test unlimited p ≡ count → low ≤ count
+  run_moves : (p count : ℕ) → longest_run r.subject there.test unlimited p ≡ count → low ≤ count
       → Moves r.words r.subject (starts_at p) (Split (ends_at (p + count)) (shorter_at (count - low) (p + count)))
   run_moves p count is l =
       let enough : nat_lt count low ≡ false = grind (arith, nat_tests) in
@@ -252,7 +248,6 @@ module _ (r : Run) (i low v : ℕ) (fs : List Frame) (m : Marks) (w : Opcode r.w
     again_runs : Runs r.words r.subject (starts_at (p + d)) again again_turns
     before_runs : Runs r.words r.subject (shorter_at d (p + d + low)) before before_turns
     fewer : before_turns + 1 ≤ n
-    sum : again_turns + before_turns ≡ n + 1
 
   run_again : (p count end : ℕ) (us vs : List Way) (n k : ℕ) → longest_run r.subject there.test unlimited p ≡ count
       → low ≤ count → end ≡ p + count → Runs r.words r.subject (ends_at end) us n
@@ -288,92 +283,7 @@ module _ (r : Run) (i low v : ℕ) (fs : List Frame) (m : Marks) (w : Opcode r.w
                 rest.near_runs;
             before_runs = rest.far_runs;
             fewer = omega (arith, rest.fewer);
-            sum = omega (arith, rest.sum);
           }
-
-  -- what comes of the run: what comes of the one that begins one character later, and then of its own first end
-  pub record Next (p : ℕ) (os : List Way) (n : ℕ) : Type 0 where
-    pub again : List Way
-    pub own : List Way
-    pub both : os ≡ again ++ own
-    pub again_turns : ℕ
-    pub own_turns : ℕ
-    pub again_runs : Runs r.words r.subject (starts_at (p + 1)) again again_turns
-    pub own_runs : Runs r.words r.subject (ends_at (p + low)) own own_turns
-    pub sum : again_turns + own_turns + 2 ≡ n
-
-  pub run_next : (p : ℕ) (os : List Way) (n : ℕ) → AllPass r.subject there.test p (p + low + 1)
-      → Runs r.words r.subject (starts_at p) os n → Next p os n
-  run_next p os n all_pass x =
-      go (comes (Split (ends_at (p + low)) (shorter_at 0 (p + low)))
-      (shorter_moves r (i + 1 + v) 1 0 (p + 1 + low) (p + low) fs m (omega arith) (omega arith) (omega arith))
-      y.before_runs)
-      y.both y.sum
-    where
-      reaches : p + low + 1 ≤ p + longest_run r.subject there.test unlimited p
-      reaches = longest_reaches r there.test p (p + low + 1) all_pass
-
-      y : Later p 1 os n
-      y = run_later p (longest_run r.subject there.test unlimited p) 1 os n refl (omega (arith, reaches)) x
-
-      none : {us : List Way} {k : ℕ} → Comes r.words r.subject (shorter_at 0 (p + low)) Stop us k
-          → (us ≡ []) × (k ≡ 1)
-      none stops = (refl, refl)
-
-      go : {us : List Way} {k : ℕ}
-          → Comes r.words r.subject (shorter_at 1 (p + 1 + low))
-          (Split (ends_at (p + low)) (shorter_at 0 (p + low))) us k
-          → os ≡ y.again ++ us → y.again_turns + k ≡ n + 1 → Next p os n
-      go (splits {os₁ = os₁} {os₂ = os₂} {n₁ = n₁} {n₂ = n₂} x₁ x₂) e sum =
-          let last = none (comes Stop (shorter_stop r (i + 1 + v) 0 (p + low) fs m refl) x₂) in
-          record {
-            again = y.again;
-            own = os₁;
-            both = e ∙ ap (λ us. y.again ++ us) (ap (λ us. os₁ ++ us) last.0 ∙ append-nil os₁);
-            again_turns = y.again_turns;
-            own_turns = n₁;
-            again_runs = y.again_runs;
-            own_runs = x₁;
-            sum = omega (arith, sum, last.1);
-          }
-
-  -- where the next character behind the least count does not pass the run is no longer
-  pub run_only_moves : (p : ℕ) → AllPass r.subject there.test p (p + low) → passes r.subject there.test (p + low) ≡ false
-      → Moves r.words r.subject (starts_at p) (Split (ends_at (p + low)) (shorter_at (low - low) (p + low)))
-  run_only_moves p all_pass stopped = run_moves p low (only (nat_lt low count) refl) (omega arith)
-    where
-      count : ℕ
-      count = longest_run r.subject there.test unlimited p
-
-      only : (b : Bool) → nat_lt low count ≡ b → count ≡ low
-      only true l =
-          let more : low < count = grind (arith, nat_tests) in
-          let taken = passed r.subject there.test (r.subject.end - p) p (p + count) (omega arith) (p + low)
-          (omega arith) (omega (arith, more)) in
-          absurd (cc)
-      only false l =
-          let most : count ≤ low = grind (arith, nat_tests) in
-          let reaches = longest_reaches r there.test p (p + low) all_pass in
-          omega (arith, most, reaches)
-
-  -- where its least count is not there it comes to nothing
-  pub run_short_moves : (p : ℕ) → run_length r.subject there.test low p < low
-      → Moves r.words r.subject (starts_at p) Stop
-  run_short_moves p short = run_stops p count refl (few (nat_lt count low) refl)
-    where
-      count : ℕ
-      count = longest_run r.subject there.test unlimited p
-
-      few : (b : Bool) → nat_lt count low ≡ b → count < low
-      few true l = grind (arith, nat_tests)
-      few false l =
-          let enough : low ≤ count = grind (arith, nat_tests) in
-          let full = run_has r.subject there.test low p low (omega arith)
-          (λ c less.
-          passed r.subject there.test (r.subject.end - p) p (p + count) (omega arith) (p + c) (omega arith)
-          (omega (arith, less, enough)))
-          (λ less. absurd (omega (arith, less))) in
-          absurd (omega (arith, full, short))
 
   again_came : (inside : Bool) (p d : ℕ) (os : List Way) (n : ℕ) → Fruitless r inside os → Later p d os n
       → CameToNothing r inside (starts_at (p + d))

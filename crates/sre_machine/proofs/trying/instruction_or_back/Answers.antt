@@ -14,7 +14,12 @@ returns-clause-turn g c =
     turn_goes_on c.args.req.now c.args.place c.args.cursor _ _ _ _ _ c.instruction.result
     (c.is_hopeless.ensures.goes c.if-is_hopeless.false) c.instruction.ensures
 
-pub returns-then-is_endless_run-clause-turn : goal.returns-then-is_endless_run-clause-turn
-returns-then-is_endless_run-clause-turn g c =
-    turn_goes_on c.args.req.now c.args.place c.args.cursor _ _ _ _ _ c.endless_run.result
-    (c.is_hopeless.ensures.goes c.if-is_hopeless.false) c.endless_run.ensures
+pub returns-in-REPEAT_ONE-clause-turn : goal.returns-in-REPEAT_ONE-clause-turn
+returns-in-REPEAT_ONE-clause-turn g c =
+    turn_goes_on c.args.req.now c.args.place c.args.cursor _ _ _ _ _ c.remembering_repeat_one.result
+    (c.is_hopeless.ensures.goes c.if-is_hopeless.false) c.remembering_repeat_one.ensures
+
+pub returns-in-MIN_REPEAT_ONE-clause-turn : goal.returns-in-MIN_REPEAT_ONE-clause-turn
+returns-in-MIN_REPEAT_ONE-clause-turn g c =
+    turn_goes_on c.args.req.now c.args.place c.args.cursor _ _ _ _ _ c.min_repeat_one.result
+    (c.is_hopeless.ensures.goes c.if-is_hopeless.false) c.min_repeat_one.ensures

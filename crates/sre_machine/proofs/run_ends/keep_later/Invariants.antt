@@ -1,0 +1,20 @@
+use Rattle.std.proofs.Common.{◌≡◌, ◌+◌, ◌-◌, ◌≤◌}
+use Rattle.sre_board.specs.Failures.{Remembers}
+use Rattle.sre_request.specs.Requests.{end_of}
+use Rattle.sre_request.specs.Runs.{run_of, Standing}
+use Rattle.sre_machine.specs.Paying.{HoldsOn}
+use Rattle.sre_machine.specs.RunEnds.{AllTaken}
+use Rattle.sre_machine.proofs.run_ends.keep_later.Given as goal
+
+abbrev pub invariant-character : goal.invariant-character
+invariant-character g l = record {
+  from : l.fn.start.position ≤ l.cursor.position;
+  stands : Standing l.req l.cursor;
+  taken : AllTaken l.req (l.place + 4) l.fn.start.position l.cursor.position;
+  remembers : Remembers (run_of l.req) l.memo.kept;
+  same : l.memo ≡ record l.fn.memo { kept = l.memo.kept };
+  account : HoldsOn l.req l.fn.memo.kept l.memo.kept;
+}
+
+abbrev pub decreases-character : goal.decreases-character
+decreases-character g l = end_of l.req - l.cursor.position
