@@ -155,3 +155,31 @@ fn references_are_reported(rt: HostRuntime) -> Result<(), Fail> {
     }
     Ok(())
 }
+
+// Codes, and up to which number the characters of their runs make a difference.
+static COUNTED: [(&[u32], u32); 8] = [
+    (&[16, 97, 1], 0),
+    // .*
+    (&[24, 5, 0, NO_LIMIT, 3, 1, 1], 0),
+    // x{3,}?
+    (&[26, 6, 3, NO_LIMIT, 16, 120, 1, 1], 3),
+    // x{2,5}
+    (&[24, 6, 2, 5, 16, 120, 1, 1], 5),
+    // .*+ and x{1,7}+
+    (&[29, 5, 0, NO_LIMIT, 3, 1, 1], NO_LIMIT),
+    (&[29, 6, 1, 7, 16, 120, 1, 1], 7),
+    // a{2,9}b{1,4}
+    (&[24, 6, 2, 9, 16, 97, 1, 24, 6, 1, 4, 16, 98, 1, 1], 9),
+    // (?:x{1,3}){4,8}
+    (&[23, 10, 4, 8, 24, 6, 1, 3, 16, 120, 1, 18, 1], 3),
+];
+
+#[test]
+fn counts_of_runs_are_reported(rt: HostRuntime) -> Result<(), Fail> {
+    let uni = UniTable::new(rt.alloc(), &[], &[], &[])?;
+    for &(words, counts) in &COUNTED {
+        let code = Code::check(rt.alloc(), words, &uni)?;
+        assert!(rt; code.most_counts() == counts, "{words:?}");
+    }
+    Ok(())
+}
