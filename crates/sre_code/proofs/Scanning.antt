@@ -1,5 +1,5 @@
 -- A scan from one instruction to the next tells whether a reference or a condition is among the items, and how far
--- the characters of their runs count.
+-- the characters of their runs count and their looks go back.
 use Rattle.std.proofs.Common.{ℕ, zero, suc, ◌+◌, ◌-◌, ◌≡◌, ◌<◌, ◌≤◌, ◌⊎◌, inl, inr, ⊎_elim, Bool, true, false, ◌||◌}
 use Rattle.std.proofs.lemmas.Bool.{true≢false}
 use Rattle.std.proofs.Common.{List, Option, Some, None, length, max, refl, sym, ap, ◌∙◌, subst, arith}
@@ -66,9 +66,9 @@ until_counts : (o : Order) (low high : ℕ) → count_by (role (until_opcode o))
 until_counts Greedy low high = refl
 until_counts Lazy low high = refl
 
-look_counts : (sign : Sign) (low high : ℕ) → count_by (role (look_opcode sign)) low high ≡ 0
-look_counts Positive low high = refl
-look_counts Negative low high = refl
+look_counts : (sign : Sign) (back next : ℕ) → count_by (role (look_opcode sign)) back next ≡ back
+look_counts Positive back next = refl
+look_counts Negative back next = refl
 
 -- counts are told in any order
 max_assoc : (a b c : ℕ) → max (max a b) c ≡ max a (max b c)
@@ -176,6 +176,15 @@ module _ (ws : List ℕ) where
         subst (λ c. Scan ws e (i + 4) (max m c) r) same
         (pass_counted i (i + 4) 4 m (run_opcode kind) lt w (run_has_four kind) refl s)
 
+    -- a look's opcode, and how far it goes back
+    pass_look : (i m back : ℕ) (sign : Sign) → i < e → Opcode ws i (look_opcode sign) → Word ws (i + 2) back
+        → Scan ws e i m r → Scan ws e (i + 3) (max m back) r
+    pass_look i m back sign lt w b s =
+        let same : count_at (look_opcode sign) ws i ≡ back =
+        look_counts sign (word ws (i + 2)) (word ws (i + 3)) ∙ word_of ws (i + 2) back b in
+        subst (λ c. Scan ws e (i + 3) (max m c) r) same
+        (pass_counted i (i + 3) 3 m (look_opcode sign) lt w (look_has_three sign) refl s)
+
     -- and stops at a reference or a condition
     stop : (i m : ℕ) → i < e → NoneBehind ws i → Scan ws e i m r → r ≡ None
     stop i m lt none s = go s.count s.says
@@ -261,12 +270,12 @@ module _ (ws : List ℕ) where
           (λ k. pass_own (j - 1) j 1 most opcode.SUCCESS (omega arith) w.1.2 refl refl (omega arith) k)
       item_told (Look sign back body) i j m w l s =
           let far : i + 3 ≤ j - 1 = reads_within body ws (i + 3) (j - 1) w.1.2 in
-          let most : ℕ = max m (most_counts body) in
-          ends (refers body) (most_counts body) (j - 1) j m
-          (tree_told body (i + 3) (j - 1) m w.1.2 (omega arith)
-          (pass_own i (i + 3) 3 m (look_opcode sign) (omega arith) w.0 (look_has_three sign)
-          (look_counts sign (word ws (i + 2)) (word ws (i + 3))) refl s))
-          (λ k. pass_own (j - 1) j 1 most opcode.SUCCESS (omega arith) w.1.3 refl refl (omega arith) k)
+          let most : ℕ = max (max m back) (most_counts body) in
+          both false (refers body) back (most_counts body) (i + 3) j m
+          (inr (refl, pass_look i m back sign (omega arith) w.0 w.1.1 s))
+          (λ h. ends (refers body) (most_counts body) (j - 1) j (max m back)
+          (tree_told body (i + 3) (j - 1) (max m back) w.1.2 (omega arith) h)
+          (λ k. pass_own (j - 1) j 1 most opcode.SUCCESS (omega arith) w.1.3 refl refl (omega arith) k))
       item_told (Reference f g) i j m w l s =
           let none : NoneBehind ws i =
           none_behind i (reference_opcode f) w.0 (ap own_words (reference_role f))

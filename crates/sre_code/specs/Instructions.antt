@@ -27,9 +27,11 @@ own_words ToRepeat = Some 4
 own_words ToRepeatPossessively = Some 4
 own_words _ = None
 
--- up to which number the characters of a run with these counts make a difference; 0 where no run is
+-- up to which number the characters of a run with these counts make a difference, or how many a look goes back, by the
+-- words behind the first two; 0 where neither is
 abbrev pub count_by : Role → ℕ → ℕ → ℕ
 count_by (ToRun kind) low high = run_count kind low high
+count_by (ToLook sign) back next = back
 count_by _ low high = 0
 
 -- the same of the instruction at i, which has this opcode

@@ -136,10 +136,9 @@ impl<'a> Code<'a> {
         self.has_reference
     }
 
-    /// Up to which number the characters of a run of one test make a difference to what comes of it: the greatest count
-    /// of the code's runs, or the least one of a run without a greatest; 4294967295 where a possessive run has no
-    /// greatest. It tells nothing where the code refers to groups. No search asks for it yet: it waits for a number of
-    /// enough turns that grows with the text's length alone.
+    /// Up to which number the characters that one instruction goes over make a difference: the greatest count of the
+    /// code's runs of one test, or the least one of a run without a greatest; 4294967295 where a possessive run has no
+    /// greatest; and how far a look goes back, if that is more. It tells nothing where the code refers to groups.
     #[inline(always)]
     pub fn most_counts(&self) -> u32
         ensures { (tree : Tree) → Whole (words_of self.now) tree → refers tree ≡ false → result ≡ most_counts tree }

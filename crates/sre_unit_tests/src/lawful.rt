@@ -156,8 +156,8 @@ fn references_are_reported(rt: HostRuntime) -> Result<(), Fail> {
     Ok(())
 }
 
-// Codes, and up to which number the characters of their runs make a difference.
-static COUNTED: [(&[u32], u32); 8] = [
+// Codes, and up to which number the characters of their runs make a difference, or their looks go back.
+static COUNTED: [(&[u32], u32); 10] = [
     (&[16, 97, 1], 0),
     // .*
     (&[24, 5, 0, NO_LIMIT, 3, 1, 1], 0),
@@ -172,6 +172,9 @@ static COUNTED: [(&[u32], u32); 8] = [
     (&[24, 6, 2, 9, 16, 97, 1, 24, 6, 1, 4, 16, 98, 1, 1], 9),
     // (?:x{1,3}){4,8}
     (&[23, 10, 4, 8, 24, 6, 1, 3, 16, 120, 1, 18, 1], 3),
+    // (?<=abc)x and (?<!a)x{2,5}
+    (&[4, 9, 3, 16, 97, 16, 98, 16, 99, 1, 16, 120, 1], 3),
+    (&[5, 5, 1, 16, 97, 1, 24, 6, 2, 5, 16, 120, 1, 1], 5),
 ];
 
 #[test]

@@ -1,5 +1,5 @@
-//! Whether a reference or a condition stands among the items, and how far the characters of their runs count: a scan
-//! from one instruction to the next, into each body.
+//! Whether a reference or a condition stands among the items, and how far the characters of their runs count and their
+//! looks go back: a scan from one instruction to the next, into each body.
 //!
 //! It needs no stack, since what ends a body is passed like any other instruction. A JUMP ends an alternative, and the
 //! next one, or the branch's tail, is behind the length word that follows it; the JUMP of a condition is not reached.
@@ -56,8 +56,8 @@ fn counted_to(low: u32, high: u32) -> u32
     low.max(high)
 }
 
-/// Up to which number the characters make a difference of the run at this place, which has this opcode; 0 where another
-/// instruction is.
+/// Up to which number the characters make a difference of the run at this place, which has this opcode, or how many the
+/// look there goes back; 0 where another instruction is.
 fn count_at(words: &[u32], place: usize, code: SreOpcode) -> u32
     requires { place < length words.now }
     ensures { result ≡ count_at code words.now place }
@@ -72,12 +72,13 @@ fn count_at(words: &[u32], place: usize, code: SreOpcode) -> u32
         SreOpcode::POSSESSIVE_REPEAT_ONE => {
             word_or_zero(words, place + 2).max(word_or_zero(words, place + 3))
         }
+        SreOpcode::ASSERT | SreOpcode::ASSERT_NOT => word_or_zero(words, place + 2),
         _ => 0,
     }
 }
 
-/// Where the instruction behind the one at this place stands, and how far the run at this place counts; none where a
-/// reference or a condition is there.
+/// Where the instruction behind the one at this place stands, and how far the run at this place counts, or the look
+/// goes back; none where a reference or a condition is there.
 fn next(words: &[u32], place: usize) -> Option<(usize, u32)>
     ensures { NextAt words.now place result }
 {
@@ -93,8 +94,8 @@ fn next(words: &[u32], place: usize) -> Option<(usize, u32)>
     }
 }
 
-/// Up to which number the characters of the items' runs make a difference; none where a reference or a condition is
-/// among the items, which have SUCCESS as the last word.
+/// Up to which number the characters of the items' runs make a difference, or their looks go back; none where a
+/// reference or a condition is among the items, which have SUCCESS as the last word.
 #[tactic(auto, using(crate::proofs::Scanning::scan_laws))]
 pub fn most_counts(words: &[u32]) -> Option<u32>
     ensures { (tree : Tree) → WholeItems words.now tree → MatchOption result (refers tree ≡ true)
