@@ -1,20 +1,45 @@
 -- Turns that are enough for a search, where all that failed is remembered, are not used up unless memory was refused.
 use Rattle.std.proofs.Common.{◌≡◌, ℕ, ◌+◌, ◌-◌, ◌*◌, ◌≤◌, inl, inr, length, ap, arith, mul-le-mul}
+use Rattle.std.proofs.Math.Nat.{mul_assoc, mul-le-mul_right}
 use Rattle.sre_chars.specs.declared.string.StrDrive.{Ghosts}
 use Rattle.sre_growth.specs.Refusal.{Refused}
 use Rattle.sre_model.specs.Remembered.{enough_turns, turns_between, most_branches}
-use Rattle.sre_turns.specs.Limits.{grant}
+use Rattle.sre_board.specs.Accounts.{most_bits}
 use Rattle.sre_request.specs.declared.request.Request.{Request}
 use Rattle.sre_request.specs.Requests.{start_of, end_of, asked_of, code_of}
 use Rattle.sre_request.specs.Runs.{run_of}
-use Rattle.sre_machine.specs.Paying.{Remembering}
 use Rattle.sre_code.proofs.Checked.{items_whole}
 use Rattle.sre_engine.specs.Counts.{AreEnough}
-use Rattle.sre_engine.specs.Costs.{SearchGivenUp, search_cost, most_tolls}
+use Rattle.sre_engine.specs.Costs.{SearchGivenUp, search_cost, most_tolls, most_waits}
+use Rattle.sre_turns.specs.Limits.{grant}
+use Rattle.sre_machine.specs.Paying.{Remembering, weight, each_of}
+
+-- runs from as many starts as there are, from where two memos begin, cost no more
+few : {S : Type 0} {text : Ghosts S} (r : Request S text) (pl : Remembering r) (runs : ℕ)
+    → runs ≤ end_of r + 1 - start_of r
+    → 2 * most_waits r + search_cost r pl runs (2 * most_tolls r pl)
+    ≤ enough_turns (length (run_of r).words) pl.plain.tree (asked_of r)
+few r pl runs l =
+    let places : ℕ = length (run_of r).words in
+    let own : runs * (2 * places + 4) ≤ (end_of r + 1 - start_of r) * (2 * places + 4) =
+    mul-le-mul l (omega arith) in
+    let bits : 2 * most_tolls r pl ≤ most_branches places pl.plain.tree (asked_of r) =
+    omega (arith, mul_assoc 2 (most_bits (run_of r) (start_of r)) (weight r pl)) in
+    let same : (places + 4) * (2 * places + 6 + 2) ≡ (places + 4) * (2 * places + 8) =
+    ap (λ n. (places + 4) * n) (omega arith) in
+    let tolls : 2 * most_tolls r pl * grant (run_of r).words
+    ≤ most_branches places pl.plain.tree (asked_of r) * turns_between places =
+    mul-le-mul bits (omega (arith, same)) in
+    let all : runs * (2 * places + 4) + 2 * most_tolls r pl * grant (run_of r).words
+    ≤ (end_of r + 1 - start_of r) * (2 * places + 4)
+    + most_branches places pl.plain.tree (asked_of r) * turns_between places =
+    omega (arith, own, tolls) in
+    omega (arith, mul-le-mul_right (each_of r pl) all)
 
 module _ {S : Type 0} {text : Ghosts S} (r : Request S text) (given : ℕ)
     (enough : AreEnough (asked_of r) (code_of r) given) where
-  remembering : Remembering r
+  -- all that failed is remembered
+  abbrev remembering : Remembering r
   remembering = record {
     plain = record {
       tree = enough.tree;
@@ -26,29 +51,10 @@ module _ {S : Type 0} {text : Ghosts S} (r : Request S text) (given : ℕ)
     order = enough.remembered.order;
   }
 
-  -- what is granted is what is written
-  granted : grant (run_of r).words (end_of r) ≡ turns_between (length (run_of r).words) (asked_of r)
-  granted =
-      let places : ℕ = length (run_of r).words in
-      let same : (places + end_of r + 4) * (2 * places + 6 + 2) ≡ (places + end_of r + 4) * (2 * places + 8) =
-      ap (λ n. (places + end_of r + 4) * n) (omega arith) in
-      omega (arith, same)
-
-  few : (runs : ℕ) → runs ≤ end_of r + 1 - start_of r
-      → search_cost r runs (2 * most_tolls r) ≤ enough_turns (length (run_of r).words) (asked_of r)
-  few runs l =
-      let places : ℕ = length (run_of r).words in
-      let own : runs * (2 * places + 4) ≤ (end_of r + 1 - start_of r) * (2 * places + 4) =
-      mul-le-mul l (omega arith) in
-      let tolls : 2 * most_tolls r * grant (run_of r).words (end_of r)
-      ≤ most_branches places (asked_of r) * turns_between places (asked_of r) =
-      mul-le-mul (omega arith) (omega (arith, granted)) in
-      mul-le-mul (omega (arith, own, tolls)) (omega arith)
-
   -- so they are not used up
   pub never_given_up : (left runs : ℕ) → SearchGivenUp r given left runs → left ≡ 0 → runs ≤ end_of r + 1 - start_of r
       → Refused
   never_given_up left runs g none l = elim (g.cost remembering) [
     | inl refused ↦ refused
-    | inr cost ↦ absurd (omega (arith, cost, none, few runs l, enough.more))
+    | inr cost ↦ absurd (omega (arith, cost, none, few r remembering runs l, enough.more))
   ]

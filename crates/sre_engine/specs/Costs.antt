@@ -1,39 +1,44 @@
 -- What a search that is limited costs at most, where no memory is refused to it.
 -- Words of the contracts inside this crate; what it makes public does not rest on it.
-use Rattle.std.specs.Prelude.{ℕ, ◌+◌, ◌*◌, ◌≤◌, ◌⊎◌, length}
+use Rattle.std.specs.Prelude.{ℕ, ◌+◌, ◌*◌, ◌≤◌, ◌≡◌, ◌⊎◌, true, false, length}
 use Rattle.sre_chars.specs.declared.string.StrDrive.{Ghosts}
 use Rattle.sre_growth.specs.Refusal.{Refused}
-use Rattle.sre_model.specs.TurnBounds.{most_each}
-use Rattle.sre_turns.specs.Limits.{grant}
 use Rattle.sre_board.specs.Accounts.{most_bits}
 use Rattle.sre_request.specs.declared.request.Request.{Request}
-use Rattle.sre_request.specs.Requests.{start_of, end_of, asked_of}
+use Rattle.sre_request.specs.Requests.{start_of}
 use Rattle.sre_request.specs.Runs.{run_of}
-use Rattle.sre_machine.specs.Memos.{MemoValue, steps_left}
-use Rattle.sre_machine.specs.Paying.{Remembering, HoldsBits, window_of}
+use Rattle.sre_turns.specs.Limits.{grant}
+use Rattle.sre_machine.specs.Memos.{MemoValue}
+use Rattle.sre_machine.specs.Paying.{Remembering, HoldsBits, weight, each_of, window_of}
 
 -- what so many runs count for at most, by the tolls that are granted to them
-abbrev pub search_cost : {S : Type 0} {text : Ghosts S} → Request S text → ℕ → ℕ → ℕ
-search_cost r runs tolls =
-    (runs * (2 * length (run_of r).words + 4) + tolls * grant (run_of r).words (end_of r)) * most_each (asked_of r)
+abbrev pub search_cost : {S : Type 0} {text : Ghosts S} (r : Request S text) → Remembering r → ℕ → ℕ → ℕ
+search_cost r pl runs tolls =
+    (runs * (2 * length (run_of r).words + 4) + tolls * grant (run_of r).words) * each_of r pl
 
 -- how many tolls are granted at most from where a memo begins
-abbrev pub most_tolls : {S : Type 0} {text : Ghosts S} → Request S text → ℕ
-most_tolls r = 32 * (window_of r + 2) + most_bits (run_of r) (start_of r)
+abbrev pub most_tolls : {S : Type 0} {text : Ghosts S} (r : Request S text) → Remembering r → ℕ
+most_tolls r pl = most_bits (run_of r) (start_of r) * weight r pl
+
+-- how many turns a memo waits at most before failures are kept
+abbrev pub most_waits : {S : Type 0} {text : Ghosts S} → Request S text → ℕ
+most_waits r = 32 * (window_of r + 1)
 
 -- runs with no outcome, from a memo that began to one that is there now: what they cost of the turns that were given,
--- and what the memory holds now
+-- and, where failures are kept by now, what the memory holds
 pub record CostsUpTo {S : Type 0} {text : Ghosts S} (r : Request S text) (begun now : MemoValue)
     (given left runs : ℕ) : Type 0 where
   pub cost : (pl : Remembering r)
-      → Refused ⊎ ((tolls n : ℕ)
-      × (tolls + steps_left (window_of r) now ≤ steps_left (window_of r) begun + n) × HoldsBits r pl now n
-      × (given ≤ left + search_cost r runs tolls))
+      → Refused ⊎ (((now.is_open ≡ false) × (given + now.waits ≤ left + begun.waits))
+      ⊎ ((tolls n : ℕ) × (tolls ≤ n * weight r pl) × HoldsBits r pl now n × (now.is_open ≡ true)
+      × (given ≤ left + begun.waits + search_cost r pl runs tolls)))
 
--- runs that cost no more than by so many tolls
-pub record SearchCosts {S : Type 0} {text : Ghosts S} (r : Request S text) (given left runs tolls : ℕ) : Type 0 where
-  pub cost : Remembering r → Refused ⊎ (given ≤ left + search_cost r runs tolls)
+-- runs from where one memo begins: they cost no more than what it waits, and the tolls that it pays
+pub record SearchCosts {S : Type 0} {text : Ghosts S} (r : Request S text) (given left runs : ℕ) : Type 0 where
+  pub cost : (pl : Remembering r)
+      → Refused ⊎ (given ≤ left + most_waits r + search_cost r pl runs (most_tolls r pl))
 
 -- a search that was given up: how many turns it took at most, where no memory was refused. It begins two memos at most
 pub record SearchGivenUp {S : Type 0} {text : Ghosts S} (r : Request S text) (given left runs : ℕ) : Type 0 where
-  pub cost : Remembering r → Refused ⊎ (given ≤ left + search_cost r runs (2 * most_tolls r))
+  pub cost : (pl : Remembering r)
+      → Refused ⊎ (given ≤ left + 2 * most_waits r + search_cost r pl runs (2 * most_tolls r pl))

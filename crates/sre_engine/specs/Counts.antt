@@ -38,4 +38,4 @@ pub record AreEnough (a : Asked) (code : Code) (turns : ℕ) : Type 0 where
   pub tree : Tree
   pub whole : Whole (words_of code) tree
   pub remembered : IsRemembered (length (items_of code)) tree a
-  pub more : enough_turns (length (items_of code)) a < turns
+  pub more : enough_turns (length (items_of code)) tree a < turns

@@ -23,9 +23,15 @@ use Rattle.sre_code.proofs.Checked.{whole_of, whole_items}
 use Rattle.sre_request.specs.declared.request.Request.{Request}
 use Rattle.sre_request.specs.Requests.{code_of}
 use Rattle.sre_request.specs.Runs.{run_of}
-use Rattle.sre_machine.specs.Turns.{Turn, Takes, GivesUp, GoesOn}
+use Rattle.sre_machine.specs.Turns.{Turn, TurnOnce, Takes, GivesUp, GoesOn, TriesOn, Fails}
+use Rattle.sre_machine.specs.Paying.{Pays}
+use Rattle.sre_turns.specs.RunEnds.{RunsOn}
+use Rattle.sre_turns.specs.Fruit.{is_inside}
+use Rattle.sre_turns.specs.Moves.{spot_at}
+use Rattle.sre_board.specs.Failures.{Kept, HoldsOneMore, Remembers}
+use Rattle.sre_board.proofs.Remembering.{remembers_more}
 use Rattle.sre_machine.specs.Memos.{MemoValue}
-use Rattle.sre_machine.proofs.Paying.{grants_nothing}
+use Rattle.sre_machine.proofs.Paying.{grants_nothing, pays_closed}
 
 -- a mark was made, or none: the machine may stand there still
 pub stays_tried : (r : Run) (place : ℕ) (cursor : StringCursor) (b c : BoardValue) (made : Bool)
@@ -40,10 +46,27 @@ stays_tried r place cursor b c false marked left x =
 -- an instruction that is gone on with takes its turn
 pub turn_goes_on : {S : Type 0} {text : Ghosts S} {E : Type 0} (r : Request S text) (place : ℕ) (cursor : StringCursor)
     (b c d : BoardValue) (m m' : MemoValue) (result : Result Next E) → GoesOn r place cursor b m c m'
+    → ((l l' : Limit) → ((RunsOn (run_of r).words place → ⊥) → Pays r m l m' l') → Pays r m l m' l')
     → IfOk result (λ after. Turn r place cursor c after d) → IfOk result (λ after. Takes r place cursor b m after d m')
-turn_goes_on r place cursor b c d m m' (Ok after) goes turn = λ all limit x.
+turn_goes_on r place cursor b c d m m' (Ok after) goes paid turn = λ all limit x.
+    let g = goes all limit x in (g.0, g.1, turn all g.0 g.2, paid limit g.0 g.3)
+turn_goes_on r place cursor b c d m m' (Err e) goes paid turn = turn
+
+-- it is paid, where failures are not kept, or where it is no run without a greatest count
+pub paid_so : {S : Type 0} {text : Ghosts S} (r : Request S text) (place : ℕ) (m m' : MemoValue) (keeps : Bool)
+    → m.is_open ≡ keeps → (keeps ≡ true → RunsOn (run_of r).words place → ⊥) → (l l' : Limit)
+    → ((RunsOn (run_of r).words place → ⊥) → Pays r m l m' l') → Pays r m l m' l'
+paid_so r place m m' true e off l l' paid = paid (off refl)
+paid_so r place m m' false e off l l' paid = pays_closed r m m' l l' e
+
+-- the same with one toll
+pub turn_tried : {S : Type 0} {text : Ghosts S} {E : Type 0} (r : Request S text) (place : ℕ) (cursor : StringCursor)
+    (b c d : BoardValue) (m m' : MemoValue) (result : Result Next E) → TriesOn r place cursor b m c m'
+    → IfOk result (λ after. TurnOnce r place cursor c after d)
+    → IfOk result (λ after. Takes r place cursor b m after d m')
+turn_tried r place cursor b c d m m' (Ok after) goes turn = λ all limit x.
     let g = goes all limit x in (g.0, g.1, turn all g.0 g.2, g.3)
-turn_goes_on r place cursor b c d m m' (Err e) goes turn = turn
+turn_tried r place cursor b c d m m' (Err e) goes turn = turn
 
 -- where it is left, nothing is granted
 pub turn_left : {S : Type 0} {text : Ghosts S} (r : Request S text) (place : ℕ) (cursor : StringCursor)
@@ -78,3 +101,16 @@ pub referring_words : {S : Type 0} {text : Ghosts S} (r : Request S text) (code 
     → HasReference (run_of r).words
 referring_words r code told same tells told_so =
     subst (λ c. HasReference (items_of c)) same (λ t w. sym (tells t (whole_items code t w)) ∙ told_so)
+
+-- one that fails may be kept
+pub fails_kept : {S : Type 0} {text : Ghosts S} (r : Request S text) (old new : Kept) (ws : List ℕ) (place p q : ℕ)
+    (b : BoardValue) → ws ≡ (run_of r).words → p ≡ q
+    → HoldsOneMore ws (is_inside b.choices) (spot_at (Instruction place) b.frames p b.marks) old new
+    → Fails r place q b → Remembers (run_of r) old → Remembers (run_of r) new
+fails_kept r old new ws place p q b same there more fails remembers =
+    remembers_more (run_of r) (is_inside b.choices) (spot_at (Instruction place) b.frames q b.marks) old new
+    (subst (λ z. HoldsOneMore (run_of r).words (is_inside b.choices) (spot_at (Instruction place) b.frames z b.marks)
+    old new) there
+    (subst (λ (us : List ℕ). HoldsOneMore us (is_inside b.choices) (spot_at (Instruction place) b.frames p b.marks)
+    old new) same more))
+    fails remembers

@@ -1,13 +1,15 @@
 -- Turns one after the other: what they cost at most, where each toll that is granted is paid.
-use Rattle.std.proofs.Common.{◌≡◌, ℕ, ◌+◌, ◌-◌, ◌*◌, ◌≤◌, inl, inr, List, [], length, Result, Ok, Err, IfOk, IfErr}
+use Rattle.std.proofs.Common.{Bool, not, min, Option, ◌≢◌, ◌/◌, ◌≡◌, ℕ, ◌+◌, ◌-◌, ◌*◌, ◌≤◌, ◌⊎◌, inl, inr, true}
+use Rattle.std.proofs.Common.{false, List, [], length, Result, Ok, Err, IfOk, IfErr}
 use Rattle.std.proofs.Common.{refl, sym, ap, ◌∙◌, subst, arith}
-use Rattle.std.proofs.Common.{mul-le-mul}
+use Rattle.std.proofs.Common.{mul-le-mul, add-mul, one-mul}
+use Rattle.std.proofs.lemmas.Bool.{true≢false}
+use Rattle.sre_growth.specs.Refusal.{Refused}
 use Rattle.sre_chars.specs.declared.string.StrDrive.{Ghosts}
 use Rattle.sre_chars.specs.declared.string.StringCursor.{StringCursor}
 use Rattle.sre_model.specs.Tree.{Tree}
 use Rattle.sre_model.specs.Ways.{Way}
 use Rattle.sre_model.specs.Runs.{Run}
-use Rattle.sre_model.specs.TurnBounds.{most_each}
 use Rattle.sre_turns.specs.Board.{BoardValue, bare}
 use Rattle.sre_turns.specs.Limits.{Limit, Grants, earlier, grant}
 use Rattle.sre_turns.specs.Machine.{Stands, Later, spot, outcomes}
@@ -16,14 +18,26 @@ use Rattle.sre_turns.specs.declared.Next.{Next}
 use Rattle.sre_turns.specs.declared.Next.TheVariants as next
 use Rattle.sre_turns.specs.declared.Point.TheVariants.{Instruction, Again}
 use Rattle.sre_turns.proofs.Faring.{run_code}
-use Rattle.sre_board.proofs.AccountLaws.{account_few}
+use Rattle.sre_board.specs.Accounts.{most_bits}
+use Rattle.sre_board.specs.Failures.{kept_of}
+use Rattle.sre_board.proofs.AccountLaws.{account_few, account_none}
 use Rattle.sre_request.specs.declared.request.Request.{Request}
-use Rattle.sre_request.specs.Requests.{start_of, end_of, asked_of}
+use Rattle.sre_request.specs.Requests.{start_of, end_of, code_of}
+use Rattle.std.specs.Result.{IsErrAnd}
+use Rattle.sre_code.specs.Codes.{words_of}
+use Rattle.sre_code.specs.declared.code.Code.{Code}
+use Rattle.sre_code.proofs.Checked.{whole_items}
+use Rattle.sre_model.specs.Grammar.{Whole}
+use Rattle.sre_model.specs.References.{refers}
+use Rattle.sre_model.specs.RunCounts.{most_counts}
+use Rattle.sre_turns.proofs.Hopeless.{no_reference}
+use Rattle.sre_machine.proofs.Failing.{referring_words}
+use Rattle.sre_machine.specs.declared.turns.Decision.{Decision}
+use Rattle.sre_machine.specs.declared.turns.Decision.TheVariants.{Decided, Opened}
 use Rattle.sre_request.specs.Runs.{run_of}
-use Rattle.sre_machine.specs.Memos.{MemoValue, WaitsOn}
-use Rattle.sre_machine.specs.Paying.{Pays, Remembering, Within, Follows, GivenUp, Settles, RunGivenUp}
-use Rattle.sre_machine.specs.Paying.{RunSettles}
-use Rattle.sre_machine.specs.Paying.{run_cost, window_of}
+use Rattle.sre_machine.specs.Memos.{MemoValue}
+use Rattle.sre_machine.specs.Paying.{Pays, Remembering, Within, Follows, Counts, GivenUp, Settles, Waited}
+use Rattle.sre_machine.specs.Paying.{run_cost, weight, each_of, RunGivenUp, RunSettles}
 use Rattle.sre_turns.proofs.Start.{first_limit, started, behind_has}
 use Rattle.sre_turns.proofs.SettledMoves.{settled_behind}
 use Rattle.sre_model.specs.Marks.{no_marks}
@@ -32,7 +46,6 @@ use Rattle.sre_model.specs.Grammar.{WholeItems}
 use Rattle.sre_model.specs.Standing.{AreWords}
 use Rattle.sre_model.proofs.TreeOf.{tree_of}
 use Rattle.sre_machine.specs.Turns.{Proceeds}
-use Rattle.sre_machine.proofs.Memos.{steps_waited}
 use Rattle.sre_machine.proofs.Paying.{pays_nothing, pays_then, grants_nothing, held}
 
 -- wherever the machine stands, no more turns were taken than the potential allows
@@ -57,28 +70,32 @@ module _ {S : Type 0} {text : Ghosts S} (r : Request S text) (all : List Way) (f
   -- at first
   pub follows_first : Follows r all first first b b m m before before
   follows_first = record {
-    each = λ limit x.
-        (limit, x, refl, refl, refl, pays_nothing r m m limit limit refl (omega arith) refl refl);
+    each = λ limit x. (limit, x, refl, refl, refl, pays_nothing r m m limit limit refl (λ h. h) refl refl);
   }
+
+  -- a memo that waits less keeps what it kept
+  pays_waited : (m' m₁ : MemoValue) (l : Limit) → m₁ ≡ record m' { waits = m₁.waits } → Pays r m' l m₁ l
+  pays_waited m' m₁ l same =
+      pays_nothing r m' m₁ l l (ap (λ (k : MemoValue). k.kept) same)
+      (λ h. ap (λ (k : MemoValue). k.is_open) same ∙ h) refl refl
 
   -- a turn more
   pub follows_on : (n n' : Next) (b' b'' : BoardValue) (m' m₁ m'' : MemoValue) (turned counted : ℕ)
-      → counted ≡ turned + 1 → WaitsOn m' m₁
+      → counted ≡ turned + 1 → m₁ ≡ record m' { waits = m₁.waits }
       → ((l : Limit) → Stands (run_of r) all l n b' → Proceeds (run_of r) all l n' b'' (λ more. Pays r m₁ l m'' more))
       → Follows r all first n b b' m m' before turned → Follows r all first n' b b'' m m'' before counted
   follows_on n n' b' b'' m' m₁ m'' turned counted one waits turn f = record {
     each = λ limit x.
         let y = f.each limit x in
-        let z = turn y.0 y.1 in
-        let waited = pays_nothing r m' m₁ y.0 y.0 (ap (λ (k : MemoValue). k.kept) waits.same)
-        (steps_waited (window_of r) m' m₁ waits) refl refl in (
+        let z = turn y.0 y.1 in (
           earlier z.0,
           z.2.1,
           y.2 ∙ z.1.granted,
           y.3 ∙ z.1.start,
           omega (arith, y.4, z.1.taken, one),
           pays_then r m m' m'' limit y.0 (earlier z.0) y.3 y.5
-              (pays_then r m' m₁ m'' y.0 y.0 (earlier z.0) refl waited (record { paid = z.3.paid })),
+              (pays_then r m' m₁ m'' y.0 y.0 (earlier z.0) refl (pays_waited m' m₁ y.0 waits)
+              (record { paid = z.3.paid })),
         );
   }
 
@@ -86,95 +103,184 @@ module _ {S : Type 0} {text : Ghosts S} (r : Request S text) (all : List Way) (f
   pub nothing_granted : (n' : Next) (b'' : BoardValue) (m' : MemoValue) (l : Limit) → Later (run_of r) all l n' b''
       → Proceeds (run_of r) all l n' b'' (λ more. Pays r m' l m' more)
   nothing_granted n' b'' m' l x =
-      (l, grants_nothing l, x, pays_nothing r m' m' l l refl (omega arith) refl refl)
+      (l, grants_nothing l, x, pays_nothing r m' m' l l refl (λ h. h) refl refl)
 
   -- so many turns cost no more than the potential and the tolls
   cost_of : (pl : Remembering r) (limit more : Limit) (turned left left' : ℕ) → limit.granted ≡ more.granted
       → limit.taken ≡ before → more.taken + before ≡ limit.taken + turned → Within (run_of r) more
-      → left ≤ left' + (turned + 1) * most_each (asked_of r)
-      → left ≤ left' + (limit.granted + more.tolls * grant (run_of r).words (end_of r) + 1) * most_each (asked_of r)
+      → left ≤ left' + (turned + 1) * each_of r pl
+      → left ≤ left' + (limit.granted + more.tolls * grant (run_of r).words + 1) * each_of r pl
   cost_of pl limit more turned left left' granted none same within spent =
-      let l : (turned + 1) * most_each (asked_of r)
-      ≤ (limit.granted + more.tolls * grant (run_of r).words (end_of r) + 1) * most_each (asked_of r) =
+      let l : (turned + 1) * each_of r pl
+      ≤ (limit.granted + more.tolls * grant (run_of r).words + 1) * each_of r pl =
       mul-le-mul (omega (arith, granted, none, same, within)) (omega arith) in
       omega (arith, l, spent)
 
-  pub given_up : (n : Next) (b' : BoardValue) (m' : MemoValue) (turned left left' : ℕ)
-      → Follows r all first n b b' m m' before turned → left ≤ left' + (turned + 1) * most_each (asked_of r)
-      → GivenUp r all first b m before left left'
-  given_up n b' m' turned left left' f spent = record {
-    cost = λ pl limit x start none k h.
-        let y = f.each limit x in
-        elim (y.5.paid pl start k h) [
-          | inl refused ↦ inl refused
-          | inr z ↦ inr (
-            y.0.tolls,
-            omega (arith, z.2, account_few (run_of r) pl.plain (start_of r) m'.kept y.0.trying z.0 z.1),
-            cost_of pl limit y.0 turned left left' y.2 none y.4
-                (stands_within (run_of r) all y.0 n b' pl.plain y.1) spent,
-          )
-        ];
-  }
+  module _ (m' : MemoValue) (turned given left left' due : ℕ) (counts : Counts r m m' given left turned)
+      (few : m'.is_open ≡ true → (pl : Remembering r) → due ≤ each_of r pl) (spent : left ≤ left' + due) where
+    -- what one turn more costs
+    spent_more : (pl : Remembering r) → m.is_open ≡ true → Refused ⊎ (given ≤ left' + (turned + 1) * each_of r pl)
+    spent_more pl keeps = elim (counts.spent keeps) [
+      | inl refused ↦ inl refused
+      | inr x ↦
+          let one : (turned + 1) * each_of r pl ≡ turned * each_of r pl + each_of r pl =
+          add-mul turned 1 (each_of r pl) ∙ ap (λ n. turned * each_of r pl + n) (one-mul (each_of r pl)) in
+          inr (omega (arith, x.1 pl, few x.0 pl, spent, one))
+    ]
 
-  -- the whole is decided, with no outcome
-  pub settles : (n : Next) (b' : BoardValue) (m' m₁ m'' : MemoValue) (turned left left' : ℕ)
-      → Follows r all first n b b' m m' before turned → WaitsOn m' m₁
-      → ((l : Limit) → Stands (run_of r) all l n b' → (more : Limit) × Grants l more × Pays r m₁ l m'' more
-      × (Regionless (run_of r) → (more.trying ≡ []) × Within (run_of r) more))
-      → left ≤ left' + (turned + 1) * most_each (asked_of r) → Settles r all first b m m'' before left left'
-  settles n b' m' m₁ m'' turned left left' f waits last spent = record {
-    cost = λ pl limit x start none k h.
-        let y = f.each limit x in
-        let w = last y.0 y.1 in
-        let waited = pays_nothing r m' m₁ y.0 y.0 (ap (λ (v : MemoValue). v.kept) waits.same)
-        (steps_waited (window_of r) m' m₁ waits) refl refl in
-        let all_ = pays_then r m m' m'' limit y.0 w.0 y.3 y.5 (pays_then r m' m₁ m'' y.0 y.0 w.0 refl waited w.2) in
-        let ends = w.3 pl.plain in
-        elim (all_.paid pl start k h) [
-          | inl refused ↦ inl refused
-          | inr z ↦ inr (
-            w.0.tolls,
-            z.0,
-            z.2,
-            held r pl m''.kept m''.kept w.0.trying [] z.0 refl (sym ends.0) z.1,
-            cost_of pl limit w.0 turned left left' (y.2 ∙ w.1.granted) none
-                (omega (arith, y.4, w.1.taken)) ends.1 spent,
+    -- a turn is counted
+    pub counts_on : (m'' : MemoValue) (counted : ℕ) → counted ≡ turned + 1
+        → (m'.is_open ≡ true → (m''.is_open ≡ true) ⊎ Refused) → Counts r m m'' given left' counted
+    counts_on m'' counted one keeps_on = record {
+      spent = λ keeps. elim (counts.spent keeps) [
+        | inl refused ↦ inl refused
+        | inr x ↦ elim (keeps_on x.0) [
+          | inl still ↦ inr (
+            still,
+            λ pl.
+                let more : (turned + 1) * each_of r pl ≡ turned * each_of r pl + each_of r pl =
+                add-mul turned 1 (each_of r pl) ∙ ap (λ n. turned * each_of r pl + n) (one-mul (each_of r pl)) in
+                let same : counted * each_of r pl ≡ (turned + 1) * each_of r pl = ap (λ n. n * each_of r pl) one in
+                omega (arith, x.1 pl, few x.0 pl, spent, more, same),
           )
-        ];
-  }
+          | inr refused ↦ inl refused
+        ]
+      ];
+    }
+
+    -- the turns are used up
+    pub given_up : (n : Next) (b' : BoardValue) → Follows r all first n b b' m m' before turned
+        → GivenUp r all first b m before given left'
+    given_up n b' f = record {
+      cost = λ pl keeps limit x start none k h.
+          let y = f.each limit x in
+          elim (y.5.paid pl keeps start k h) [
+            | inl refused ↦ inl refused
+            | inr z ↦ elim (spent_more pl keeps) [
+              | inl refused ↦ inl refused
+              | inr more ↦
+                  let few_bits : z.0 * weight r pl ≤ most_bits (run_of r) (start_of r) * weight r pl =
+                  mul-le-mul (account_few (run_of r) pl.plain (start_of r) m'.kept y.0.trying z.0 z.1) (omega arith) in
+                  inr (
+                    y.0.tolls,
+                    omega (arith, z.3, few_bits),
+                    cost_of pl limit y.0 turned given left' y.2 none y.4
+                        (stands_within (run_of r) all y.0 n b' pl.plain y.1) more,
+                  )
+            ]
+          ];
+    }
+
+    -- the whole is decided, with no outcome
+    pub settles : (n : Next) (b' : BoardValue) (m₁ m'' : MemoValue) → Follows r all first n b b' m m' before turned
+        → m₁ ≡ record m' { waits = m₁.waits }
+        → ((l : Limit) → Stands (run_of r) all l n b' → (more : Limit) × Grants l more × Pays r m₁ l m'' more
+        × (Regionless (run_of r) → (more.trying ≡ []) × Within (run_of r) more))
+        → Settles r all first b m m'' before given left'
+    settles n b' m₁ m'' f waits last = record {
+      cost = λ pl keeps limit x start none k h.
+          let y = f.each limit x in
+          let w = last y.0 y.1 in
+          let all_ = pays_then r m m' m'' limit y.0 w.0 y.3 y.5
+          (pays_then r m' m₁ m'' y.0 y.0 w.0 refl (pays_waited m' m₁ y.0 waits) w.2) in
+          let ends = w.3 pl.plain in
+          elim (all_.paid pl keeps start k h) [
+            | inl refused ↦ inl refused
+            | inr z ↦ elim (spent_more pl keeps) [
+              | inl refused ↦ inl refused
+              | inr more ↦ inr (
+                w.0.tolls,
+                z.0,
+                z.3,
+                held r pl m''.kept m''.kept w.0.trying [] z.0 refl (sym ends.0) z.1,
+                z.2,
+                cost_of pl limit w.0 turned given left' (y.2 ∙ w.1.granted) none
+                    (omega (arith, y.4, w.1.taken)) ends.1 more,
+              )
+            ]
+          ];
+    }
+
+-- a turn that was waited for
+pub waited_on : (m m' m₁ m'' : MemoValue) (given left left' due : ℕ) → Waited m m' given left
+    → m₁ ≡ record m' { waits = m₁.waits } → m₁.waits + due ≤ m'.waits → left ≤ left' + due
+    → (m₁.is_open ≡ false → (m''.is_open ≡ m₁.is_open) × (m''.waits ≡ m₁.waits)) → Waited m m'' given left'
+waited_on m m' m₁ m'' given left left' due x same fewer spent still =
+    let closed : m₁.is_open ≡ false = ap (λ (k : MemoValue). k.is_open) same ∙ x.closed in
+    let y = still closed in
+    record { closed = y.0 ∙ closed; turns = omega (arith, x.turns, y.1, fewer, spent) }
+
+-- a memo that is the same, or keeps more, waits as long
+pub same_memo : (m m' : MemoValue) → m' ≡ m → (m'.is_open ≡ m.is_open) × (m'.waits ≡ m.waits)
+same_memo m m' e = (ap (λ (k : MemoValue). k.is_open) e, ap (λ (k : MemoValue). k.waits) e)
+
+pub kept_memo : (m m' : MemoValue) → m' ≡ record m { kept = m'.kept }
+    → (m'.is_open ≡ m.is_open) × (m'.waits ≡ m.waits)
+kept_memo m m' e = (ap (λ (k : MemoValue). k.is_open) e, ap (λ (k : MemoValue). k.waits) e)
+
+-- before any turn
+pub counts_first : {S : Type 0} {text : Ghosts S} (r : Request S text) (m : MemoValue) (left turned : ℕ)
+    → Counts r m m left left turned
+counts_first r m left turned = record { spent = λ keeps. inr (keeps, λ pl. omega arith) }
 
 -- a run from its first instruction on
 module _ {S : Type 0} {text : Ghosts S} (r : Request S text) (all : List Way) (i : ℕ) (t : Tree) (start : StringCursor)
     (b : BoardValue) (m : MemoValue) (left left' : ℕ)
     (stands : (first : ℕ) → first ≤ start.position
     → Stands (run_of r) all (first_limit (run_of r) i t start first) (next.At i start) b) where
-  few_first : (tolls : ℕ)
-      → left ≤ left' + (2 * (length (run_of r).words - i) + 3 + tolls * grant (run_of r).words (end_of r) + 1)
-      * most_each (asked_of r)
-      → left ≤ left' + run_cost r tolls
-  few_first tolls spent =
-      let l : (2 * (length (run_of r).words - i) + 3 + tolls * grant (run_of r).words (end_of r) + 1)
-      * most_each (asked_of r) ≤ run_cost r tolls = mul-le-mul (omega arith) (omega arith) in
+  few_first : (pl : Remembering r) (tolls : ℕ)
+      → left ≤ left' + (2 * (length (run_of r).words - i) + 3 + tolls * grant (run_of r).words + 1) * each_of r pl
+      → left ≤ left' + run_cost r pl tolls
+  few_first pl tolls spent =
+      let l : (2 * (length (run_of r).words - i) + 3 + tolls * grant (run_of r).words + 1)
+      * each_of r pl ≤ run_cost r pl tolls = mul-le-mul (omega arith) (omega arith) in
       omega (arith, l, spent)
 
-  pub run_given_up : GivenUp r all (next.At i start) b m 0 left left' → RunGivenUp r start m left left'
-  run_given_up g = record {
-    cost = λ pl from n h.
+  pub run_given_up : GivenUp r all (next.At i start) b m 0 left left'
+      → ((pl : Remembering r) → m.is_open ≡ false → left ≤ left' + m.waits) → RunGivenUp r start m left left'
+  run_given_up g waited = record {
+    keeping = λ pl from keeps n h.
         let limit = first_limit (run_of r) i t start (start_of r) in
-        elim (g.cost pl limit (stands (start_of r) from) refl refl n h) [
+        elim (g.cost pl keeps limit (stands (start_of r) from) refl refl n h) [
           | inl refused ↦ inl refused
-          | inr z ↦ inr (z.0, omega (arith, z.1), few_first z.0 z.2)
+          | inr z ↦ inr (z.0, omega (arith, z.1), few_first pl z.0 z.2)
         ];
+    closed = λ pl from closed. inr (0, omega arith, omega (arith, waited pl closed));
   }
 
   pub run_settles : (m' : MemoValue) → Settles r all (next.At i start) b m m' 0 left left'
-      → RunSettles r start m m' left left'
-  run_settles m' g = record {
-    cost = λ pl from n h.
+      → ((pl : Remembering r) → m.is_open ≡ false → Waited m m' left left') → RunSettles r start m m' left left'
+  run_settles m' g waited = record {
+    keeping = λ pl from keeps n h.
         let limit = first_limit (run_of r) i t start (start_of r) in
-        elim (g.cost pl limit (stands (start_of r) from) refl refl n h) [
+        elim (g.cost pl keeps limit (stands (start_of r) from) refl refl n h) [
           | inl refused ↦ inl refused
-          | inr z ↦ inr (z.0, z.1, omega (arith, z.2), z.3, few_first z.0 z.4)
+          | inr z ↦ inr (z.0, z.1, omega (arith, z.2), z.3, z.4, few_first pl z.0 z.5)
+        ];
+    closed = λ pl from closed. let w = waited pl closed in inr (inl (w.closed, w.turns));
+  }
+
+-- a run that begins again with failures kept, of which there are none yet
+module _ {S : Type 0} {text : Ghosts S} (r : Request S text) (start : StringCursor) (m m₁ : MemoValue)
+    (left left' : ℕ) (keeps : m₁.is_open ≡ true) (empty : m₁.kept ≡ kept_of [] [] []) (closed : m.is_open ≡ false) where
+  pub again_given_up : RunGivenUp r start m₁ left left' → RunGivenUp r start m left left'
+  again_given_up g = record {
+    keeping = λ pl from kept n h. absurd (true≢false (sym kept ∙ closed));
+    closed = λ pl from c. elim (g.keeping pl from keeps 0 (account_none (run_of r) pl.plain (start_of r) m₁.kept
+        empty)) [
+          | inl refused ↦ inl refused
+          | inr z ↦ inr (z.0, omega (arith, z.1), omega (arith, z.2))
+        ];
+  }
+
+  pub again_settles : (m' : MemoValue) (stood : ℕ) → (Remembering r → left ≤ stood + m.waits)
+      → RunSettles r start m₁ m' left left' → RunSettles r start m m' left (min stood left')
+  again_settles m' stood waited g = record {
+    keeping = λ pl from kept n h. absurd (true≢false (sym kept ∙ closed));
+    closed = λ pl from c. elim (g.keeping pl from keeps 0 (account_none (run_of r) pl.plain (start_of r) m₁.kept
+        empty)) [
+          | inl refused ↦ inl refused
+          | inr z ↦ inr (inr (z.0, z.1, omega (arith, z.2), z.3, z.4, omega (arith, waited pl, z.5)))
         ];
   }
 
@@ -193,10 +299,52 @@ begins_run r literals start b v whole behind stands inside fresh first from =
     (behind pl.tree pl.whole) from inside)
 
 -- what follows where a result is an error, or is none
-pub if_err : {T E : Type 0} {A B : E → Type 0} (x : Result T E) → ((e : E) → A e → B e) → IfErr x A → IfErr x B
+pub if_err : {T E : Type 0} {A B : E → Type 0} (x : Result T E) → ((e : E) → x ≡ Err e → A e → B e) → IfErr x A
+    → IfErr x B
 if_err (Ok t) f h = h
-if_err (Err e) f h = f e h
+if_err (Err e) f h = f e refl h
 
-pub if_ok : {T E : Type 0} {A B : T → Type 0} (x : Result T E) → ((t : T) → A t → B t) → IfOk x A → IfOk x B
-if_ok (Ok t) f h = f t h
+pub if_ok : {T E : Type 0} {A B : T → Type 0} (x : Result T E) → ((t : T) → x ≡ Ok t → A t → B t) → IfOk x A
+    → IfOk x B
+if_ok (Ok t) f h = f t refl h
 if_ok (Err e) f h = h
+
+pub err_at : {T E : Type 0} (A : E → Type 0) (x : Result T E) (e : E) → x ≡ Err e → IfErr x A → A e
+err_at {T} {E} A x e is h = subst (λ (y : Result T E). IfErr y A) is h
+
+pub ok_at : {T E : Type 0} (A : T → Type 0) (x : Result T E) (t : T) → x ≡ Ok t → IfOk x A → A t
+ok_at {T} {E} A x t is h = subst (λ (y : Result T E). IfOk y A) is h
+
+-- what is decided is not to begin again
+pub not_opened : {found : Option StringCursor} (told : Decision) → told ≡ Decided found → told ≢ Opened
+not_opened told e o = let both = sym e ∙ o in absurd (cc)
+
+-- what is not so is not
+pub not_so : (b : Bool) → (b ≡ true → ⊥) → b ≡ false
+not_so true h = absurd (h refl)
+not_so false h = refl
+
+-- an error that is passed on
+pub passed_up : {T E : Type 0} (result : Result T E) (e : E) (P : E → Type 0) → IsErrAnd result (λ y. y ≡ e) → P e
+    → IfErr result P
+passed_up (Ok t) e P h p = absurd h
+passed_up (Err y) e P h p = subst P (sym h) p
+
+-- words of which there is room for failures have no reference
+pub plain_told : {S : Type 0} {text : Ghosts S} (r : Request S text) (code : Code) (told : Bool) → code ≡ code_of r
+    → ((t : Tree) → Whole (words_of code) t → told ≡ refers t) → Remembering r → not told ≡ true
+plain_told r code true same tells pl =
+    absurd (no_reference (run_of r).words pl.plain.tree pl.plain.whole pl.plain.no_reference
+    (referring_words r code true same tells refl))
+plain_told r code false same tells pl = refl
+
+-- what a turn goes over while failures are kept counts for so much
+pub each_most : {S : Type 0} {text : Ghosts S} (r : Request S text) (code : Code) (most counted window passed : ℕ)
+    → code ≡ code_of r → ((t : Tree) → Whole (words_of code) t → refers t ≡ false → most ≡ most_counts t)
+    → window ≤ end_of r → passed ≤ window → counted ≤ passed → counted ≤ most → (pl : Remembering r)
+    → 1 + counted / 8 ≤ each_of r pl
+each_most r code most counted window passed same tells inside short few less pl =
+    let w : Whole (words_of (code_of r)) pl.plain.tree = whole_items (code_of r) pl.plain.tree pl.plain.whole in
+    let is : most ≡ most_counts pl.plain.tree =
+    tells pl.plain.tree (subst (λ k. Whole (words_of k) pl.plain.tree) (sym same) w) pl.plain.no_reference in
+    omega (arith, is, inside, short, few, less)

@@ -16,15 +16,14 @@ use Rattle.sre_turns.specs.Moves.{Spot, spot_at}
 use Rattle.sre_turns.specs.declared.Point.TheVariants.{Instruction}
 use Rattle.sre_board.specs.Accounts.{Account, BitsOf}
 use Rattle.sre_board.specs.Failures.{Kept, HasBit, KeepsSpot, Roomy, RowsStay}
-use Rattle.sre_board.proofs.AccountLaws.{account_closes, account_still, no_new_row}
+use Rattle.sre_board.proofs.AccountLaws.{account_closes, no_new_row}
 use Rattle.sre_board.proofs.RowsAdded.{rows_stay}
 use Rattle.sre_board.specs.declared.failures.Row.{Row}
 use Rattle.sre_request.specs.declared.request.Request.{Request}
 use Rattle.sre_request.specs.Requests.{start_of, end_of}
 use Rattle.sre_request.specs.Runs.{run_of}
 use Rattle.sre_machine.specs.Memos.{MemoValue}
-use Rattle.sre_machine.specs.Paying.{HoldsOn, HoldsTried, Pays, window_of}
-use Rattle.sre_machine.proofs.Memos.{steps_same}
+use Rattle.sre_machine.specs.Paying.{HoldsTried, Pays}
 
 -- the first of some spots has a bit
 first_bit : (k : Kept) (ws : List ℕ) (x : Spot) (xs : List Spot) (bs : List ℕ) → BitsOf k ws (x ∷ xs) bs
@@ -46,14 +45,7 @@ stay_roomy ws first end old new rows words h =
 module _ {S : Type 0} {text : Ghosts S} (r : Request S text) (place : ℕ) (p q : ℕ) (b : BoardValue) (k k' : Kept)
     (ws : List ℕ) (same : ws ≡ (run_of r).words) (there : p ≡ q)
     (keeps : KeepsSpot ws (is_inside b.choices) (spot_at (Instruction place) b.frames p b.marks) k k') where
-  -- whatever the spot is, what was taken in is held still
-  pub holds_on : HoldsOn r k k'
-  holds_on pl xs n a =
-      account_still (run_of r) pl.plain (start_of r) k k' xs n keeps.stay keeps.bits
-      (stay_rows k k' keeps.rows keeps.shapes) (no_new_row k k' keeps.rows) keeps.laid
-      (stay_roomy (run_of r).words (start_of r) (end_of r) k k' keeps.rows keeps.words a.roomy) a
-
-  -- and where it was tried outside all regions, it is tried no more
+  -- what was tried outside all regions is tried no more
   pub holds_tried : is_inside b.choices ≡ false → HoldsTried r (spot_at (Instruction place) b.frames q b.marks) k k'
   holds_tried outside pl xs n a =
       let x = spot_at (Instruction place) b.frames q b.marks in
@@ -63,11 +55,6 @@ module _ {S : Type 0} {text : Ghosts S} (r : Request S text) (place : ℕ) (p q 
       (stay_rows k k' keeps.rows keeps.shapes) (no_new_row k k' keeps.rows) keeps.laid
       (stay_roomy (run_of r).words (start_of r) (end_of r) k k' keeps.rows keeps.words a.roomy) a
 
--- a memo of which only the failures change, twice
-pub same_twice : (m m' m'' : MemoValue) → m' ≡ record m { kept = m'.kept } → m'' ≡ record m' { kept = m''.kept }
-    → m'' ≡ record m { kept = m''.kept }
-same_twice m m' m'' first second = second ∙ ap (λ (z : MemoValue). record z { kept = m''.kept }) first
-
 -- the mark of an instruction is passed over, which is kept: nothing is granted
 pub pays_kept : {S : Type 0} {text : Ghosts S} (r : Request S text) (place : ℕ) (cursor : StringCursor)
     (b b' : BoardValue) (m m' : MemoValue) → b.choices ≡ Trying place b'.frames cursor b'.marks ∷ b'.choices
@@ -75,7 +62,7 @@ pub pays_kept : {S : Type 0} {text : Ghosts S} (r : Request S text) (place : ℕ
     → (is_inside b'.choices ≡ false → HoldsTried r (spot (Instruction place) cursor b') m.kept m'.kept)
     → (all : List Way) (limit : Limit) → Backs (run_of r) all limit b → Pays r m limit m' (without_tried limit)
 pays_kept r place cursor b b' m m' marked same keeps all limit x = record {
-  paid = λ pl at n h.
+  paid = λ pl keeps_them at n h.
       let f = x.fares pl.plain in
       let here : Spot = spot (Instruction place) cursor b' in
       let trying = newest_tried (run_of r) pl.plain limit 0 here b.choices b'.choices f
@@ -84,5 +71,10 @@ pays_kept r place cursor b b' m m' marked same keeps all limit x = record {
       let outside = none_inside b'.choices
       (never_inside (SettledIn (run_of r) pl.plain limit.start) b'.choices settled.1) in
       let was = subst (λ xs. Account (run_of r) pl.plain (start_of r) m.kept xs n) trying h in
-      inr (n, keeps outside pl (drop 1 limit.trying) n was, omega (arith, steps_same (window_of r) m m' same));
+      inr (
+        n,
+        keeps outside pl (drop 1 limit.trying) n was,
+        ap (λ (k : MemoValue). k.is_open) same ∙ keeps_them,
+        omega arith,
+      );
 }

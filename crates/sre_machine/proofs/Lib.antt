@@ -1,9 +1,8 @@
 pub mod Paying
 pub mod Halting
 pub mod Failing
-pub mod RunEnds
+pub mod EndlessRuns
 pub mod Taken
 pub mod Opening
 pub mod Keeping
 pub mod Following
-pub mod Memos

@@ -1,5 +1,6 @@
 -- Tolls that are paid one after the other.
-use Rattle.std.proofs.Common.{◌≡◌, ℕ, ◌+◌, ◌≤◌, inl, inr, List, refl, sym, ◌∙◌, subst, arith}
+use Rattle.std.proofs.Common.{◌≡◌, ℕ, inl, inr, true, false, List, refl, sym, ◌∙◌, subst, arith}
+use Rattle.std.proofs.lemmas.Bool.{true≢false}
 use Rattle.sre_chars.specs.declared.string.StrDrive.{Ghosts}
 use Rattle.sre_growth.specs.Refusal.{Refused}
 use Rattle.sre_turns.specs.Limits.{Limit, Grants}
@@ -9,8 +10,8 @@ use Rattle.sre_board.specs.Failures.{Kept}
 use Rattle.sre_request.specs.declared.request.Request.{Request}
 use Rattle.sre_request.specs.Requests.{start_of}
 use Rattle.sre_request.specs.Runs.{run_of}
-use Rattle.sre_machine.specs.Memos.{MemoValue, steps_left}
-use Rattle.sre_machine.specs.Paying.{Pays, Remembering, window_of}
+use Rattle.sre_machine.specs.Memos.{MemoValue}
+use Rattle.sre_machine.specs.Paying.{Pays, Remembering}
 
 module _ {S : Type 0} {text : Ghosts S} (r : Request S text) where
   -- what was taken in is held by the same memory still
@@ -20,41 +21,37 @@ module _ {S : Type 0} {text : Ghosts S} (r : Request S text) where
       subst (λ ys. Account (run_of r) pl.plain (start_of r) k' ys n) (sym trying)
       (subst (λ m. Account (run_of r) pl.plain (start_of r) m xs n) (sym same) h)
 
-  -- so many tolls are granted where the memo waits so many steps less
-  pub pays_steps : (m m' : MemoValue) (l l' : Limit) (k : ℕ) → m'.kept ≡ m.kept → l'.trying ≡ l.trying
-      → l'.tolls ≡ l.tolls + k → steps_left (window_of r) m' + k ≤ steps_left (window_of r) m → Pays r m l m' l'
-  pays_steps m m' l l' k same trying tolls less = record {
-    paid = λ pl start n h. inr (
+  -- none is granted
+  pub pays_nothing : (m m' : MemoValue) (l l' : Limit) → m'.kept ≡ m.kept → (m.is_open ≡ true → m'.is_open ≡ true)
+      → l'.trying ≡ l.trying → l'.tolls ≡ l.tolls → Pays r m l m' l'
+  pays_nothing m m' l l' same stays trying tolls = record {
+    paid = λ pl keeps start n h. inr (
       n,
       held pl m.kept m'.kept l.trying l'.trying n same trying h,
-      omega
-          (arith, less, tolls),
+      stays keeps,
+      omega (arith, tolls),
     );
   }
-
-  -- none is granted
-  pub pays_nothing : (m m' : MemoValue) (l l' : Limit) → m'.kept ≡ m.kept
-      → steps_left (window_of r) m' ≤ steps_left (window_of r) m → l'.trying ≡ l.trying → l'.tolls ≡ l.tolls
-      → Pays r m l m' l'
-  pays_nothing m m' l l' same less trying tolls =
-      pays_steps m m' l l' 0 same trying (omega (arith, tolls)) (omega (arith, less))
 
   -- one after the other
   pub pays_then : (m m' m'' : MemoValue) (l l' l'' : Limit) → l.start ≡ l'.start → Pays r m l m' l'
       → Pays r m' l' m'' l'' → Pays r m l m'' l''
   pays_then m m' m'' l l' l'' start first second = record {
-    paid = λ pl at n h. elim (first.paid pl at n h) [
+    paid = λ pl keeps at n h. elim (first.paid pl keeps at n h) [
       | inl refused ↦ inl refused
-      | inr x ↦ elim (second.paid pl (sym start ∙ at) x.0 x.1) [
+      | inr x ↦ elim (second.paid pl x.2 (sym start ∙ at) x.0 x.1) [
         | inl refused ↦ inl refused
-        | inr y ↦ inr (y.0, y.1, omega (arith, x.2, y.2))
+        | inr y ↦ inr (y.0, y.1, y.2, omega (arith, x.3, y.3))
       ]
     ];
   }
 
-  -- where memory was refused nothing is owed
+  -- where memory was refused nothing is owed, nor where failures are not kept
   pub pays_refused : (m m' : MemoValue) (l l' : Limit) → Refused → Pays r m l m' l'
-  pays_refused m m' l l' refused = record { paid = λ pl start n h. inl refused }
+  pays_refused m m' l l' refused = record { paid = λ pl keeps start n h. inl refused }
+
+  pub pays_closed : (m m' : MemoValue) (l l' : Limit) → m.is_open ≡ false → Pays r m l m' l'
+  pays_closed m m' l l' closed = record { paid = λ pl keeps start n h. absurd (true≢false (sym keeps ∙ closed)) }
 
 pub grants_then : (l l' l'' : Limit) → Grants l l' → Grants l' l'' → Grants l l''
 grants_then l l' l'' g h =

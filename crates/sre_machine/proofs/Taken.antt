@@ -7,7 +7,7 @@ use Rattle.sre_model.specs.Ways.{Way}
 use Rattle.sre_turns.specs.Board.{BoardValue}
 use Rattle.sre_turns.specs.Limits.{Limit, raised}
 use Rattle.sre_turns.specs.Machine.{spot, Stands, Later, StandsWithin, Advances, Closes}
-use Rattle.sre_turns.specs.Potential.{branches}
+use Rattle.sre_turns.specs.Potential.{units}
 use Rattle.sre_turns.specs.declared.Next.{Next}
 use Rattle.sre_turns.specs.declared.Next.TheVariants as next
 use Rattle.sre_turns.specs.declared.Point.TheVariants.{Instruction, Again}
@@ -35,7 +35,7 @@ module _ (r : Run) (all : List Way) (limit turned counted : ℕ) (old new : Boar
       → StandsWithin r all (limit - turned) (next.At i c) old → Counted
   instruction_taken i c turn x =
       let code = run_code r (spot (Instruction i) c old) x.stands.runs in
-      let more : Limit = raised (branches (role code.0)) x.limit in
+      let more : Limit = raised (units r.words r.subject.end i (role code.0)) x.limit in
       counts more x.turns_left (turn all more (arrived_at code.0 code.1 x.stands))
 
   -- at a possessive loop

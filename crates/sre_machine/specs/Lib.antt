@@ -2,4 +2,4 @@ pub mod Memos
 pub mod Paying
 pub mod Turns
 pub mod Runs
-pub mod RunEnds
+pub mod EndlessRuns

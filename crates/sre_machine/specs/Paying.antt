@@ -1,7 +1,9 @@
--- How the tolls are paid that are granted for instructions which may branch: each by a step that the memo waits, or by
--- a bit that it takes in.
+-- How the tolls are paid that are granted for instructions which may branch, while failures are kept: by bits that the
+-- memory takes in, each of which pays for all ends of a run with a greatest count. And what turns cost before that:
+-- each is one of those that the memo waits.
 -- Words of the machine's contracts; what sre_engine makes public does not rest on it.
-use Rattle.std.specs.Prelude.{ℕ, ◌+◌, ◌-◌, ◌*◌, ◌≤◌, ◌≡◌, ◌⊎◌, List, [], ◌∷◌, length}
+use Rattle.std.specs.Prelude.{ℕ, ◌+◌, ◌-◌, ◌*◌, ◌/◌, ◌≤◌, ◌≡◌, ◌⊎◌, ⊤, List, [], ◌∷◌, length, min, true, false}
+use Rattle.std.specs.Prelude.{Option}
 use Rattle.sre_chars.specs.declared.string.StrDrive.{Ghosts}
 use Rattle.sre_chars.specs.declared.string.StringCursor.{StringCursor}
 use Rattle.sre_growth.specs.Refusal.{Refused}
@@ -9,7 +11,7 @@ use Rattle.sre_model.specs.Runs.{Run}
 use Rattle.sre_turns.specs.Limits.{Limit, grant}
 use Rattle.sre_turns.specs.Settled.{Regionless}
 use Rattle.sre_model.specs.Ways.{Way}
-use Rattle.sre_model.specs.TurnBounds.{most_each}
+use Rattle.sre_model.specs.RunCounts.{most_counts}
 use Rattle.sre_turns.specs.Board.{BoardValue}
 use Rattle.sre_turns.specs.Machine.{Stands}
 use Rattle.sre_turns.specs.Moves.{Spot}
@@ -17,9 +19,11 @@ use Rattle.sre_turns.specs.declared.Next.{Next}
 use Rattle.sre_board.specs.Accounts.{Account, Room, most_bits}
 use Rattle.sre_board.specs.Failures.{Kept}
 use Rattle.sre_request.specs.declared.request.Request.{Request}
-use Rattle.sre_request.specs.Requests.{start_of, end_of, asked_of}
+use Rattle.sre_request.specs.Requests.{start_of, end_of}
 use Rattle.sre_request.specs.Runs.{run_of}
-use Rattle.sre_machine.specs.Memos.{MemoValue, steps_left}
+use Rattle.sre_machine.specs.Memos.{MemoValue}
+use Rattle.sre_machine.specs.declared.turns.Decision.{Decision}
+use Rattle.sre_machine.specs.declared.turns.Decision.TheVariants.{Decided, Opened}
 
 -- how many characters the window has
 abbrev pub window_of : {S : Type 0} {text : Ghosts S} → Request S text → ℕ
@@ -36,24 +40,26 @@ abbrev pub Holding : {S : Type 0} {text : Ghosts S} (r : Request S text) → Rem
     → Type 0
 Holding r pl m l n = Account (run_of r) pl.plain (start_of r) m.kept l.trying n
 
--- from one memo and limit to another each toll is paid, if no memory was refused meanwhile
+-- how many tolls an instruction that may branch brings at most while failures are kept: one for each end of a run
+abbrev pub weight : {S : Type 0} {text : Ghosts S} (r : Request S text) → Remembering r → ℕ
+weight r pl = 1 + min (most_counts pl.plain.tree) (end_of r)
+
+-- for how many a turn counts at most while failures are kept
+abbrev pub each_of : {S : Type 0} {text : Ghosts S} (r : Request S text) → Remembering r → ℕ
+each_of r pl = 1 + min (most_counts pl.plain.tree) (end_of r) / 8
+
+-- from one memo and limit to another the tolls are paid, if failures were kept and no memory was refused meanwhile
 pub record Pays {S : Type 0} {text : Ghosts S} (r : Request S text) (m : MemoValue) (l : Limit) (m' : MemoValue)
     (l' : Limit) : Type 0 where
-  pub paid : (pl : Remembering r) → l.start ≡ start_of r → (n : ℕ) → Holding r pl m l n
-      → Refused ⊎ ((n' : ℕ) × Holding r pl m' l' n'
-      × (l'.tolls + steps_left (window_of r) m' + n ≤ l.tolls + steps_left (window_of r) m + n'))
+  pub paid : (pl : Remembering r) → m.is_open ≡ true → l.start ≡ start_of r → (n : ℕ) → Holding r pl m l n
+      → Refused ⊎ ((n' : ℕ) × Holding r pl m' l' n' × (m'.is_open ≡ true)
+      × (l'.tolls + n * weight r pl ≤ l.tolls + n' * weight r pl))
 
 -- no more turns were taken than the potential allows
 abbrev pub Within : Run → Limit → Type 0
-Within r l = l.taken ≤ l.granted + l.tolls * grant r.words r.subject.end
+Within r l = l.taken ≤ l.granted + l.tolls * grant r.words
 
--- what was taken in is held still, whatever is tried
-abbrev pub HoldsOn : {S : Type 0} {text : Ghosts S} → Request S text → Kept → Kept → Type 0
-HoldsOn r k k' =
-    (pl : Remembering r) (xs : List Spot) (n : ℕ) → Account (run_of r) pl.plain (start_of r) k xs n
-    → Account (run_of r) pl.plain (start_of r) k' xs n
-
--- and the newest spot that was tried is tried no more
+-- what was taken in is held still, and the newest spot that was tried is tried no more
 abbrev pub HoldsTried : {S : Type 0} {text : Ghosts S} → Request S text → Spot → Kept → Kept → Type 0
 HoldsTried r x k k' =
     (pl : Remembering r) (xs : List Spot) (n : ℕ) → Account (run_of r) pl.plain (start_of r) k (x ∷ xs) n
@@ -66,29 +72,39 @@ pub record Follows {S : Type 0} {text : Ghosts S} (r : Request S text) (all : Li
       → (more : Limit) × Stands (run_of r) all more next b' × (limit.granted ≡ more.granted)
       × (limit.start ≡ more.start) × (more.taken + before ≡ limit.taken + turned) × Pays r m limit m' more
 
--- turns that were used up: how many there were at most, where no memory was refused
+-- while failures are kept each turn counts for so much; if they are not any more, memory was refused
+pub record Counts {S : Type 0} {text : Ghosts S} (r : Request S text) (m m' : MemoValue) (left left' turned : ℕ) :
+    Type 0 where
+  pub spent : m.is_open ≡ true
+      → Refused ⊎ ((m'.is_open ≡ true) × ((pl : Remembering r) → left ≤ left' + turned * each_of r pl))
+
+-- turns that were used up while failures were kept: how many there were at most, where no memory was refused
 pub record GivenUp {S : Type 0} {text : Ghosts S} (r : Request S text) (all : List Way) (first : Next) (b : BoardValue)
     (m : MemoValue) (before left left' : ℕ) : Type 0 where
-  pub cost : (pl : Remembering r) (limit : Limit) → Stands (run_of r) all limit first b → limit.start ≡ start_of r
-      → limit.taken ≡ before → (n : ℕ) → Holding r pl m limit n
+  pub cost : (pl : Remembering r) → m.is_open ≡ true → (limit : Limit) → Stands (run_of r) all limit first b
+      → limit.start ≡ start_of r → limit.taken ≡ before → (n : ℕ) → Holding r pl m limit n
       → Refused ⊎ ((tolls : ℕ)
-      × (tolls + n ≤ limit.tolls + steps_left (window_of r) m + most_bits (run_of r) (start_of r))
-      × (left ≤ left' + (limit.granted + tolls * grant (run_of r).words (end_of r) + 1) * most_each (asked_of r)))
+      × (tolls + n * weight r pl ≤ limit.tolls + most_bits (run_of r) (start_of r) * weight r pl)
+      × (left ≤ left' + (limit.granted + tolls * grant (run_of r).words + 1) * each_of r pl))
 
 -- turns by which the whole was decided, with no outcome: how many there were at most, and what the memory holds then
 pub record Settles {S : Type 0} {text : Ghosts S} (r : Request S text) (all : List Way) (first : Next) (b : BoardValue)
     (m m' : MemoValue) (before left left' : ℕ) : Type 0 where
-  pub cost : (pl : Remembering r) (limit : Limit) → Stands (run_of r) all limit first b → limit.start ≡ start_of r
-      → limit.taken ≡ before → (n : ℕ) → Holding r pl m limit n
+  pub cost : (pl : Remembering r) → m.is_open ≡ true → (limit : Limit) → Stands (run_of r) all limit first b
+      → limit.start ≡ start_of r → limit.taken ≡ before → (n : ℕ) → Holding r pl m limit n
       → Refused ⊎ ((tolls n' : ℕ)
-      × (tolls + steps_left (window_of r) m' + n ≤ limit.tolls + steps_left (window_of r) m + n')
-      × Account (run_of r) pl.plain (start_of r) m'.kept [] n'
-      × (left ≤ left' + (limit.granted + tolls * grant (run_of r).words (end_of r) + 1) * most_each (asked_of r)))
+      × (tolls + n * weight r pl ≤ limit.tolls + n' * weight r pl)
+      × Account (run_of r) pl.plain (start_of r) m'.kept [] n' × (m'.is_open ≡ true)
+      × (left ≤ left' + (limit.granted + tolls * grant (run_of r).words + 1) * each_of r pl))
+
+-- failures were not kept, and each turn that was taken was waited for
+pub record Waited (m m' : MemoValue) (left left' : ℕ) : Type 0 where
+  pub closed : m'.is_open ≡ false
+  pub turns : left + m'.waits ≤ left' + m.waits
 
 -- what a run counts for at most, by the tolls that are granted to it
-abbrev pub run_cost : {S : Type 0} {text : Ghosts S} → Request S text → ℕ → ℕ
-run_cost r tolls =
-    (2 * length (run_of r).words + 4 + tolls * grant (run_of r).words (end_of r)) * most_each (asked_of r)
+abbrev pub run_cost : {S : Type 0} {text : Ghosts S} (r : Request S text) → Remembering r → ℕ → ℕ
+run_cost r pl tolls = (2 * length (run_of r).words + 4 + tolls * grant (run_of r).words) * each_of r pl
 
 -- the memory has taken in so many bits, and nothing is tried
 abbrev pub HoldsBits : {S : Type 0} {text : Ghosts S} (r : Request S text) → Remembering r → MemoValue → ℕ → Type 0
@@ -97,14 +113,25 @@ HoldsBits r pl m n = Account (run_of r) pl.plain (start_of r) m.kept [] n
 -- a run from a cursor that was given up: how many turns it took at most, where no memory was refused
 pub record RunGivenUp {S : Type 0} {text : Ghosts S} (r : Request S text) (start : StringCursor) (m : MemoValue)
     (left left' : ℕ) : Type 0 where
-  pub cost : (pl : Remembering r) → start_of r ≤ start.position → (n : ℕ) → HoldsBits r pl m n
-      → Refused ⊎ ((tolls : ℕ) × (tolls + n ≤ steps_left (window_of r) m + most_bits (run_of r) (start_of r))
-      × (left ≤ left' + run_cost r tolls))
+  pub keeping : (pl : Remembering r) → start_of r ≤ start.position → m.is_open ≡ true → (n : ℕ) → HoldsBits r pl m n
+      → Refused ⊎ ((tolls : ℕ) × (tolls + n * weight r pl ≤ most_bits (run_of r) (start_of r) * weight r pl)
+      × (left ≤ left' + run_cost r pl tolls))
+  pub closed : (pl : Remembering r) → start_of r ≤ start.position → m.is_open ≡ false
+      → Refused ⊎ ((tolls : ℕ) × (tolls ≤ most_bits (run_of r) (start_of r) * weight r pl)
+      × (left ≤ left' + m.waits + run_cost r pl tolls))
 
--- a run with no outcome: the same, and what the memory holds then
+-- a run with no outcome: the same, and what the memory holds then; or failures were not kept in it
 pub record RunSettles {S : Type 0} {text : Ghosts S} (r : Request S text) (start : StringCursor) (m m' : MemoValue)
     (left left' : ℕ) : Type 0 where
-  pub cost : (pl : Remembering r) → start_of r ≤ start.position → (n : ℕ) → HoldsBits r pl m n
-      → Refused ⊎ ((tolls n' : ℕ)
-      × (tolls + steps_left (window_of r) m' + n ≤ steps_left (window_of r) m + n') × HoldsBits r pl m' n'
-      × (left ≤ left' + run_cost r tolls))
+  pub keeping : (pl : Remembering r) → start_of r ≤ start.position → m.is_open ≡ true → (n : ℕ) → HoldsBits r pl m n
+      → Refused ⊎ ((tolls n' : ℕ) × (tolls + n * weight r pl ≤ n' * weight r pl) × HoldsBits r pl m' n'
+      × (m'.is_open ≡ true) × (left ≤ left' + run_cost r pl tolls))
+  pub closed : (pl : Remembering r) → start_of r ≤ start.position → m.is_open ≡ false
+      → Refused ⊎ (((m'.is_open ≡ false) × (left + m'.waits ≤ left' + m.waits))
+      ⊎ ((tolls n' : ℕ) × (tolls ≤ n' * weight r pl) × HoldsBits r pl m' n' × (m'.is_open ≡ true)
+      × (left ≤ left' + m.waits + run_cost r pl tolls)))
+
+-- what holds of what was decided
+abbrev pub IfDecided : Decision → (Option StringCursor → Type 0) → Type 0
+IfDecided (Decided found) P = P found
+IfDecided Opened P = ⊤

@@ -5,9 +5,13 @@ use Rattle.sre_chars.specs.declared.string.StrDrive.{Ghosts}
 use Rattle.sre_chars.specs.declared.string.StringCursor.{StringCursor}
 use Rattle.sre_model.specs.Runs.{Run}
 use Rattle.sre_turns.specs.Board.{BoardValue}
+use Rattle.sre_turns.specs.Fruit.{is_inside}
+use Rattle.sre_turns.specs.Hopeless.{Hopeless}
+use Rattle.sre_turns.specs.Moves.{spot_at}
 use Rattle.sre_turns.specs.Settled.{Regionless}
 use Rattle.sre_model.specs.Ways.{Way}
-use Rattle.sre_turns.specs.Machine.{HasRun, IsAt, Goes, Arrives, Backs, Advances, Later}
+use Rattle.sre_turns.specs.Machine.{HasRun, IsAt, Goes, Tries, Arrives, Backs, Advances, Later}
+use Rattle.sre_turns.specs.RunEnds.{RunsOn}
 use Rattle.sre_turns.specs.Limits.{Limit, Grants}
 use Rattle.sre_turns.specs.declared.Next.TheVariants as next
 use Rattle.sre_turns.specs.declared.Next.{Next}
@@ -20,6 +24,10 @@ use Rattle.sre_request.specs.Runs.{run_of}
 -- the machine is at an instruction, with a cursor at its position
 abbrev pub At : {S : Type 0} {text : Ghosts S} → Request S text → ℕ → StringCursor → Type 0
 At r place cursor = HasRun (run_of r) (Instruction place) cursor
+
+-- nothing comes of the instruction at a place and a position, under the loops of a board
+abbrev pub Fails : {S : Type 0} {text : Ghosts S} → Request S text → ℕ → ℕ → BoardValue → Type 0
+Fails r place p b = Hopeless (run_of r) (is_inside b.choices) (spot_at (Instruction place) b.frames p b.marks)
 
 -- the instruction's turn makes of a board what comes next and another board, and keeps all accepted outcomes
 abbrev pub Turn : {S : Type 0} {text : Ghosts S} → Request S text → ℕ → StringCursor → BoardValue → Next → BoardValue
@@ -59,13 +67,28 @@ GivesUp r place cursor b m c m' =
     (all : List Way) (limit : Limit) → Arrives (run_of r) all limit (Instruction place) cursor b
     → Later (run_of r) all limit next.Back c × Pays r m limit m' limit
 
--- it is gone on with
+-- it is gone on with, which is paid where it is no run without a greatest count
 abbrev pub GoesOn : {S : Type 0} {text : Ghosts S} → Request S text → ℕ → StringCursor → BoardValue → MemoValue
     → BoardValue → MemoValue → Type 0
 GoesOn r place cursor b m c m' =
     (all : List Way) (limit : Limit) → Arrives (run_of r) all limit (Instruction place) cursor b
     → (more : Limit) × Grants limit more × Goes (run_of r) all more (Instruction place) cursor c
+    × ((RunsOn (run_of r).words place → ⊥) → Pays r m limit m' more)
+
+-- one toll is granted for it
+abbrev pub TriesOn : {S : Type 0} {text : Ghosts S} → Request S text → ℕ → StringCursor → BoardValue → MemoValue
+    → BoardValue → MemoValue → Type 0
+TriesOn r place cursor b m c m' =
+    (all : List Way) (limit : Limit) → Arrives (run_of r) all limit (Instruction place) cursor b
+    → (more : Limit) × Grants limit more × Tries (run_of r) all more (Instruction place) cursor c
     × Pays r m limit m' more
+
+-- the turn of an instruction for which one toll was granted
+abbrev pub TurnOnce : {S : Type 0} {text : Ghosts S} → Request S text → ℕ → StringCursor → BoardValue → Next
+    → BoardValue → Type 0
+TurnOnce r place cursor b next c =
+    (all : List Way) (limit : Limit) → Tries (run_of r) all limit (Instruction place) cursor b
+    → Later (run_of r) all limit next c
 
 -- the machine may stand there still, whatever else waits
 abbrev pub StaysAt : {S : Type 0} {text : Ghosts S} → Request S text → ℕ → StringCursor → BoardValue → BoardValue

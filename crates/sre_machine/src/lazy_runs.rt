@@ -136,9 +136,9 @@ pub(super) fn longer<S: StrDrive, A: Allocator>(
 }
 
 /// The least count, and then the longer ones. Where the tail refuses behind the least count the longer ones are looked
-/// at in the same turn, but while failures are kept.
+/// at in the same turn.
 #[inline(always)]
-pub(super) fn min_repeat_one<S: StrDrive, A: Allocator, const LOOKS_ON: bool>(
+pub(super) fn min_repeat_one<S: StrDrive, A: Allocator>(
     req: &Request<'_, S>,
     board: &mut Board<A>,
     place: usize,
@@ -159,7 +159,7 @@ pub(super) fn min_repeat_one<S: StrDrive, A: Allocator, const LOOKS_ON: bool>(
     if run.count < least {
         return Ok(Next::Back);
     }
-    if LOOKS_ON && refuses(req, tail, run.end) {
+    if refuses(req, tail, run.end) {
         return Ok(longer(req, board, place, least, run.end)?);
     }
     Ok(choose(req, board, tail, Point::Longer(place, least), run.end)?)

@@ -8,6 +8,7 @@
 #![tactic(auto)]
 
 mod branches;
+mod endless_runs;
 mod greedy_runs;
 mod lazy_runs;
 mod loops;
@@ -17,7 +18,6 @@ mod possessive_loops;
 mod possessive_runs;
 mod references;
 mod regions;
-mod run_ends;
 mod run_operands;
 mod trying;
 pub mod turns;

@@ -17,14 +17,13 @@ ghost use Rattle.sre_machine.specs.Turns.{At, Turn, Retreats, Finishes};
 
 use crate::branches::{alternatives, branch};
 use crate::greedy_runs::{repeat_one, shorter_saved};
-use crate::lazy_runs::min_repeat_one;
+use crate::lazy_runs::{longer, min_repeat_one};
 use crate::loops::{max_until, min_until, repeat};
 use crate::memo::Memo;
 use crate::possessive_loops::possessive_repeat;
 use crate::possessive_runs::possessive_repeat_one;
 use crate::references::{condition, reference};
 use crate::regions::{assert, assert_not, atomic_group, without_outcome};
-use crate::run_ends::longer_saved;
 use crate::trying::keep;
 use sre_board::Board;
 use sre_chars::constants::{SreAtCode, SreOpcode};
@@ -238,6 +237,7 @@ pub(super) fn back<S: StrDrive, A: Allocator, const KEEPS: bool>(
         (Finishes req.now KEEPS board.old memo.old memo.new)
         (λ next. Retreats req.now KEEPS board.old memo.old next board.new memo.new)) }
     ensures remembers { Remembers (run_of req.now) memo.new.kept }
+    ensures same { IfOk result (λ _. memo.new ≡ record memo.old { kept = memo.new.kept }) }
 {
     'choice: loop {
         let Some(choice) = board.back() else {
@@ -252,9 +252,7 @@ pub(super) fn back<S: StrDrive, A: Allocator, const KEEPS: bool>(
                 return Ok(Some(shorter_saved(req, board, tail, count, choice.1)?));
             }
             Point::Longer(place, count) => {
-                return Ok(Some(longer_saved::<S, A, KEEPS>(
-                    req, board, memo, place, count, choice.1,
-                )?));
+                return Ok(Some(longer(req, board, place, count, choice.1)?));
             }
             Point::Again => return Ok(Some(Next::Again(choice.1))),
             Point::Inside(region) => return Ok(Some(without_outcome(board, region, choice.1))),
@@ -291,9 +289,7 @@ pub(super) fn instruction<S: StrDrive, A: Allocator>(
                 SreOpcode::JUMP => Ok(jump(req, place, cursor)),
                 SreOpcode::MARK => mark(req, board, place, cursor),
                 SreOpcode::REPEAT_ONE => repeat_one(req, board, place, cursor),
-                SreOpcode::MIN_REPEAT_ONE => {
-                    min_repeat_one::<S, A, true>(req, board, place, cursor)
-                }
+                SreOpcode::MIN_REPEAT_ONE => min_repeat_one(req, board, place, cursor),
                 SreOpcode::POSSESSIVE_REPEAT_ONE => {
                     Ok(possessive_repeat_one(req, board, place, cursor))
                 },

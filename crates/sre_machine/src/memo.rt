@@ -2,11 +2,11 @@
 //!
 //! To keep what failed costs time at each instruction, and most searches have little to gain by it. So a search goes
 //! its way without, and counts its steps back and the bodies of loops that it begins: only one that has taken 16 of
-//! these for each character of the window begins to remember.
+//! these for each character of the window begins to remember. A search within turns counts these in place of its steps,
+//! twice as many for each character. In either case the run that is under way is begun again then.
 
 ghost use Rattle.std.specs.Prelude.{[], ◌≡◌, ◌+◌, ◌-◌, ◌*◌, ◌^◌, ◌<◌, ◌≤◌, true, false};
 ghost use Rattle.sre_turns.specs.Fruit.{is_inside};
-ghost use Rattle.sre_turns.specs.MovesAtReferences.{HasReference};
 ghost use Rattle.sre_turns.specs.Moves.{spot_at};
 ghost use Rattle.sre_turns.specs.declared.Point.TheVariants.{Instruction};
 ghost use Rattle.sre_growth.specs.Refusal.{Refused};
@@ -16,7 +16,6 @@ ghost use Rattle.sre_board.specs.Failures.{Capacity, HasRow, NewRow, KeepsSpot, 
 ghost use Rattle.sre_turns.specs.Nested.{repeats};
 ghost use Rattle.sre_request.specs.Requests.{start_of, end_of};
 ghost use Rattle.sre_request.specs.Runs.{run_of};
-ghost use Rattle.sre_machine.specs.Memos.{steps_left, WaitsOn};
 
 use sre_board::{Board, Failures};
 use sre_chars::string::StrDrive;
@@ -28,6 +27,9 @@ use std::marker::Model;
 // How many steps are taken before the next look at how many there were.
 const STRIDE: usize = 32;
 
+// How many turns a search within turns takes for each character before it keeps failures.
+const TURNS_EACH: usize = 32;
+
 /// The failures of a search, and how many steps it goes on without them.
 #[derive(Drop)]
 pub struct Memo<A: Allocator> {
@@ -36,6 +38,8 @@ pub struct Memo<A: Allocator> {
     patience: usize,
     // how many were taken up to that look
     waited: usize,
+    // how many turns a search within turns goes on without failures
+    waits: usize,
     // whether failures are kept by now
     is_open: bool,
     // why they are not any more: memory was refused
@@ -47,7 +51,7 @@ impl<A: Allocator> Model for Memo<A> {
 
     ghost Value = { MemoValue };
 
-    ghost view = { λ m. memo_of m.failures m.patience m.waited m.is_open m.refused };
+    ghost view = { λ m. memo_of m.failures m.patience m.waited m.waits m.is_open m.refused };
 
     ghost invariant = { λ m. IsMemo m.is_open m.patience };
 }
@@ -63,6 +67,7 @@ impl<A: Allocator + Copy> Memo<A> {
             failures: Failures::new(alloc),
             patience: STRIDE,
             waited: STRIDE,
+            waits: 0,
             is_open: false,
             refused: None,
         }
@@ -79,16 +84,29 @@ impl<A: Allocator> Memo<A> {
         ensures empty { self.new.kept ≡ kept_of [] [] [] }
         ensures opened { self.new.is_open ≡ false }
         ensures stopped { self.new.stopped ≡ false }
-        ensures steps { steps_left (end_of req.now - start_of req.now) self.new
-            ≡ 32 * (end_of req.now - start_of req.now + 2) }
+        ensures waits { self.new.waits ≤ 32 * (end_of req.now - start_of req.now + 1) }
         ensures board { board.new ≡ board.old }
     {
         let _counted = (board.take_passed(), board.take_entered());
         self.failures.forget();
         self.patience = STRIDE;
         self.waited = STRIDE;
+        let window = req.end().saturating_sub(req.start());
+        self.waits = window.saturating_add(1).saturating_mul(TURNS_EACH);
         self.is_open = false;
         self.refused = None;
+    }
+
+    /// Failures are kept from now on, of which there are none yet.
+    #[inline(never)]
+    pub(crate) fn open(&mut self)
+        ensures opened { self.new.is_open ≡ true }
+        ensures empty { self.new.kept ≡ kept_of [] [] [] }
+        ensures none { HoldsNone self.new.kept }
+    {
+        self.failures.forget();
+        self.patience = 0;
+        self.is_open = true;
     }
 
     // Whether failures are kept by now.
@@ -100,12 +118,17 @@ impl<A: Allocator> Memo<A> {
         self.is_open
     }
 
-    // Notes that so many steps more were taken.
+    // Takes so many turns off those that are waited without failures, if there are as many.
     #[inline(always)]
-    pub(crate) fn wait(&mut self, steps: usize)
-        ensures { WaitsOn self.old self.new }
+    pub(crate) fn waits_for(&mut self, turns: u64) -> bool
+        ensures same { self.new ≡ record self.old { waits = self.new.waits } }
+        ensures waits { result ≡ true → self.new.waits + turns ≤ self.old.waits }
     {
-        self.waited = self.waited.saturating_add(steps);
+        if turns > self.waits as u64 {
+            return false;
+        }
+        self.waits -= turns as usize;
+        true
     }
 
     // Notes a step, and says whether failures are kept from now on.
@@ -114,10 +137,6 @@ impl<A: Allocator> Memo<A> {
         ensures kept { self.new.kept ≡ self.old.kept }
         ensures stopped { self.new.stopped ≡ self.old.stopped }
         ensures opened { self.new.is_open ≡ result }
-        ensures steps { result ≡ false → (HasReference (run_of req.now).words → ⊥)
-            → end_of req.now - start_of req.now + 1 < 2 ^ 58
-            → steps_left (end_of req.now - start_of req.now) self.new + 1
-            ≤ steps_left (end_of req.now - start_of req.now) self.old }
         ensures board { board.new ≡ board.old }
     {
         if self.patience > 0 {
@@ -136,10 +155,6 @@ impl<A: Allocator> Memo<A> {
         ensures kept { self.new.kept ≡ self.old.kept }
         ensures stopped { self.new.stopped ≡ self.old.stopped }
         ensures opened { self.new.is_open ≡ result }
-        ensures steps { result ≡ false → (HasReference (run_of req.now).words → ⊥)
-            → end_of req.now - start_of req.now + 1 < 2 ^ 58
-            → steps_left (end_of req.now - start_of req.now) self.new + 1
-            ≤ steps_left (end_of req.now - start_of req.now) self.old }
         ensures board { board.new ≡ board.old }
     {
         if self.is_open {
@@ -188,6 +203,7 @@ impl<A: Allocator> Memo<A> {
     {
         if let Err(refusal) = self.failures.prepare(words, board, place, first, end) {
             self.patience = usize::MAX;
+            self.waits = usize::MAX;
             self.is_open = false;
             self.refused = Some(refusal);
         }

@@ -1,9 +1,9 @@
 //! Instructions that are tried: what failed is kept, and where it comes again the machine goes back at once.
 
-ghost use Rattle.std.specs.Prelude.{◌≡◌, IfOk, true, false};
+ghost use Rattle.std.specs.Prelude.{◌≡◌, ◌⊎◌, IfOk, true, false};
 ghost use Rattle.sre_chars.specs.declared.constants.SreOpcode.{SreOpcode};
 ghost use Rattle.sre_model.specs.Roles.{role};
-ghost use Rattle.sre_turns.specs.Potential.{branches};
+ghost use Rattle.sre_turns.specs.Potential.{units};
 ghost use Rattle.sre_machine.specs.Paying.{HoldsTried};
 ghost use Rattle.sre_turns.specs.declared.Point.TheVariants.{Instruction};
 ghost use Rattle.sre_turns.specs.Fruit.{is_inside};
@@ -13,13 +13,13 @@ ghost use Rattle.sre_turns.specs.Machine.{IsAt, spot};
 ghost use Rattle.sre_turns.specs.MovesAtReferences.{HasReference};
 ghost use Rattle.sre_board.specs.Failures.{Remembers};
 ghost use Rattle.sre_request.specs.Runs.{run_of, OpcodeAt};
-ghost use Rattle.sre_machine.specs.Turns.{At, Takes, GivesUp, GoesOn, StaysAt};
-ghost use Rattle.sre_machine.specs.RunEnds.{Failed};
+ghost use Rattle.sre_machine.specs.Turns.{At, Fails, Takes, GivesUp, GoesOn, TriesOn, StaysAt};
+ghost use Rattle.sre_turns.specs.RunEnds.{RunsOn};
+ghost use Rattle.sre_growth.specs.Refusal.{Refused};
 
-use crate::lazy_runs::min_repeat_one;
+use crate::endless_runs::{endless_run, is_endless_run};
 use crate::machine::{instruction, opcode};
 use crate::memo::Memo;
-use crate::run_ends::{keep_later, remembering_repeat_one};
 use sre_board::Board;
 use sre_chars::constants::SreOpcode;
 use sre_chars::string::{StrDrive, StringCursor};
@@ -33,7 +33,8 @@ use std::alloc::Allocator;
 #[inline(always)]
 fn may_branch<S: StrDrive>(req: &Request<'_, S>, place: usize, cursor: StringCursor) -> bool
     requires { At req.now place cursor }
-    ensures { result ≡ false → (o : SreOpcode) → OpcodeAt req.now place o → branches (role o) ≡ 0 }
+    ensures { result ≡ false → (o : SreOpcode) → OpcodeAt req.now place o
+        → units (run_of req.now).words (run_of req.now).subject.end place (role o) ≡ 0 }
 {
     matches!(
         opcode(req, place, cursor),
@@ -46,7 +47,7 @@ fn may_branch<S: StrDrive>(req: &Request<'_, S>, place: usize, cursor: StringCur
     )
 }
 
-// Keeps an instruction of which nothing came, and the later ones that fail with it.
+// Keeps an instruction of which nothing came.
 #[inline(never)]
 pub(super) fn keep<S: StrDrive, A: Allocator>(
     req: &Request<'_, S>,
@@ -55,7 +56,7 @@ pub(super) fn keep<S: StrDrive, A: Allocator>(
     place: usize,
     cursor: StringCursor,
 )
-    requires failed { Failed req.now place cursor board.now }
+    requires failed { (HasReference (run_of req.now).words → ⊥) → Fails req.now place cursor.position board.now }
     requires remembers { Remembers (run_of req.now) memo.old.kept }
     ensures remembers { Remembers (run_of req.now) memo.new.kept }
     ensures same { memo.new ≡ record memo.old { kept = memo.new.kept } }
@@ -66,7 +67,6 @@ pub(super) fn keep<S: StrDrive, A: Allocator>(
     let is_plain = !code.refers();
     if is_plain {
         memo.keep(code.items(), board, place, cursor.position());
-        keep_later(req, board, memo, place, cursor);
     }
 }
 
@@ -85,6 +85,8 @@ fn has_failed<S: StrDrive, A: Allocator>(
     ensures left { result ≡ true → GivesUp req.now place cursor board.old memo.old board.new memo.new }
     ensures stays { result ≡ false → StaysAt req.now place cursor board.old board.new }
     ensures goes { result ≡ false → GoesOn req.now place cursor board.old memo.old board.new memo.new }
+    ensures tries { result ≡ false → TriesOn req.now place cursor board.old memo.old board.new memo.new }
+    ensures still { memo.new.is_open ≡ true ⊎ Refused }
 {
     let words = req.pattern_codes().items();
     memo.prepare(words, board, place, req.start(), req.end());
@@ -111,14 +113,34 @@ fn is_hopeless<S: StrDrive, A: Allocator>(
     ensures left { result ≡ true → GivesUp req.now place cursor board.old memo.old board.new memo.new }
     ensures stays { result ≡ false → StaysAt req.now place cursor board.old board.new }
     ensures goes { result ≡ false → GoesOn req.now place cursor board.old memo.old board.new memo.new }
+    ensures tries { result ≡ false → memo.old.is_open ≡ true → RunsOn (run_of req.now).words place
+        → TriesOn req.now place cursor board.old memo.old board.new memo.new }
+    ensures closed { memo.old.is_open ≡ false → memo.new ≡ memo.old }
+    ensures still { memo.old.is_open ≡ true → memo.new.is_open ≡ true ⊎ Refused }
 {
+    if !memo.is_open() {
+        return false;
+    }
     if !may_branch(req, place, cursor) {
         return false;
     }
-    if !memo.opens(req, board) {
-        return false;
-    }
     has_failed(req, board, memo, place, cursor)
+}
+
+// Whether failures are kept and a run without a greatest count is at a place.
+#[inline(always)]
+fn goes_on_endlessly<S: StrDrive>(
+    req: &Request<'_, S>,
+    keeps: bool,
+    place: usize,
+    cursor: StringCursor,
+) -> bool
+    requires { At req.now place cursor }
+    ensures keeps { result ≡ true → keeps ≡ true }
+    ensures on { result ≡ true → RunsOn (run_of req.now).words place }
+    ensures off { result ≡ false → keeps ≡ true → RunsOn (run_of req.now).words place → ⊥ }
+{
+    keeps && is_endless_run(req, place, cursor)
 }
 
 /// One instruction, which is left at once where it is known to fail.
@@ -135,20 +157,15 @@ pub(super) fn instruction_or_back<S: StrDrive, A: Allocator>(
     requires remembers { Remembers (run_of req.now) memo.old.kept }
     ensures turn { IfOk result (λ next. Takes req.now place cursor board.old memo.old next board.new memo.new) }
     ensures remembers { Remembers (run_of req.now) memo.new.kept }
+    ensures closed { memo.old.is_open ≡ false → memo.new ≡ memo.old }
+    ensures still { memo.old.is_open ≡ true → memo.new.is_open ≡ true ⊎ Refused }
 {
+    let keeps = memo.is_open();
     if is_hopeless(req, board, memo, place, cursor) {
         return Ok(Next::Back);
     }
-    if memo.is_open() {
-        match opcode(req, place, cursor) {
-            SreOpcode::REPEAT_ONE => {
-                return remembering_repeat_one(req, board, memo, place, cursor);
-            }
-            SreOpcode::MIN_REPEAT_ONE => {
-                return min_repeat_one::<S, A, false>(req, board, place, cursor);
-            }
-            _ => {}
-        }
+    if goes_on_endlessly(req, keeps, place, cursor) {
+        return endless_run(req, board, place, cursor);
     }
     instruction(req, board, place, cursor)
 }

@@ -1,6 +1,7 @@
 //! The machine's loop: turns until the whole is decided.
 
-ghost use Rattle.std.specs.Prelude.{None, ◌≡◌, ℕ, ◌+◌, ◌-◌, ◌*◌, ◌^◌, ◌<◌, ◌≤◌, [], List, IfOk, IfErr, true, false};
+ghost use Rattle.std.specs.Prelude.{None, ◌≡◌, ◌≢◌, ℕ, ◌+◌, ◌-◌, ◌*◌, ◌^◌, ◌<◌, ◌≤◌, [], List, IfOk, IfErr};
+ghost use Rattle.std.specs.Prelude.{true, false};
 ghost use Rattle.sre_model.specs.Marks.{no_marks};
 ghost use Rattle.sre_model.specs.Tree.{Tree};
 ghost use Rattle.sre_model.specs.Ways.{Way};
@@ -9,11 +10,11 @@ ghost use Rattle.sre_model.specs.Prefixes.{behind_items, ReadsBehind};
 ghost use Rattle.sre_model.specs.TurnBounds.{turns_of, most_each};
 ghost use Rattle.sre_turns.specs.Board.{bare};
 ghost use Rattle.sre_turns.specs.Machine.{StandsWithin, SaysAccepted, Decides, outcomes};
-ghost use Rattle.sre_machine.specs.Paying.{GivenUp, Settles, RunGivenUp, RunSettles};
+ghost use Rattle.sre_machine.specs.Paying.{Remembering, each_of, GivenUp, Settles, Waited, IfDecided};
+ghost use Rattle.sre_machine.specs.Paying.{RunGivenUp, RunSettles};
 ghost use Rattle.sre_board.specs.Failures.{Remembers};
 ghost use Rattle.sre_request.specs.Requests.{end_of, asked_of};
 ghost use Rattle.sre_request.specs.Runs.{run_of, Standing};
-ghost use Rattle.sre_machine.specs.Memos.{WaitsOn};
 
 use crate::machine::{back, instruction};
 use crate::memo::Memo;
@@ -97,38 +98,86 @@ impl From<Refusal> for Halt {
     }
 }
 
-// Takes a turn off those that are left, and one for each eight characters of the long stretches that the turn before
-// went over: whether one was left. They count for no more than the window. Nothing is taken where the turns
-// are not limited.
+// How turns end.
+#[derive(Clone, Copy, Debug)]
+pub(crate) enum Decision {
+    // The whole is decided: the cursor at the first accepted outcome's end, where there is one.
+    Decided(Option<StringCursor>),
+    // Failures are to be kept from now on, so the run is to begin again.
+    Opened,
+}
+
+// For how many the next turn counts: one, and one for each eight characters of the long stretches that the turn before
+// went over. These count for no more than the window. While failures are kept they count for no more than the code's
+// runs count and its looks go back, which is all that a turn goes over then. Turns that are not limited count for none.
 #[inline(always)]
-fn takes_turn<S: StrDrive, A: Allocator>(
+fn turns_due<S: StrDrive, A: Allocator>(
     req: &Request<'_, S>,
     board: &mut Board<A>,
-    memo: &mut Memo<A>,
+    memo: &Memo<A>,
     limited: bool,
-    left: &mut u64,
-) -> bool
+) -> u64
     ensures board { board.new ≡ board.old }
-    ensures memo { WaitsOn memo.old memo.new }
-    ensures spent { left.old ≤ left.new + most_each (asked_of req.now) }
+    ensures least { limited ≡ true → 1 ≤ result }
+    ensures most { result ≤ most_each (asked_of req.now) }
+    ensures each { memo.now.is_open ≡ true → (pl : Remembering req.now) → result ≤ each_of req.now pl }
+{
+    if !limited {
+        return 0;
+    }
+    let window = req.end().saturating_sub(req.start());
+    let passed = board.take_passed().min(window);
+    if memo.is_open() {
+        let counted = passed.min(req.pattern_codes().most_counts() as usize);
+        return 1 + counted as u64 / 8;
+    }
+    1 + passed as u64 / 8
+}
+
+// Takes so many turns off those that are left, and says whether there were as many. Where turns are not limited nothing
+// is taken.
+#[inline(always)]
+fn takes_turns(limited: bool, turns: u64, left: &mut u64) -> bool
+    ensures spent { left.old ≤ left.new + turns }
+    ensures taken { result ≡ true → limited ≡ true → left.old ≡ left.new + turns }
     ensures used { result ≡ false → (limited ≡ true) × (left.new ≡ 0) }
 {
     if !limited {
         return true;
     }
-    let window = req.end().saturating_sub(req.start());
-    let passed = board.take_passed().min(window) / 8;
-    memo.wait(passed);
-    *left = left.saturating_sub(passed as u64);
-    if *left == 0 {
+    if *left < turns {
+        *left = 0;
         return false;
     }
-    *left -= 1;
+    *left -= turns;
     true
 }
 
-// Turns until the whole is decided, of which some may have been taken: the cursor at the first accepted outcome's end,
-// where there is one. What fails is kept once the memo is open. They are limited or not.
+// Whether turns wait before failures are kept: they are limited, and none are kept yet. Where the words have references
+// none ever are, since then marks tell what comes of a spot.
+#[inline(always)]
+fn may_wait<S: StrDrive, A: Allocator>(req: &Request<'_, S>, memo: &Memo<A>, limited: bool) -> bool
+    ensures closed { result ≡ true → memo.now.is_open ≡ false }
+    ensures waits { limited ≡ true → memo.now.is_open ≡ false → Remembering req.now → result ≡ true }
+{
+    limited && !memo.is_open() && !req.pattern_codes().refers()
+}
+
+// Whether turns may be taken with no failure kept.
+#[inline(always)]
+fn waits_on<A: Allocator>(memo: &mut Memo<A>, waits: bool, turns: u64) -> bool
+    ensures same { memo.new ≡ record memo.old { waits = memo.new.waits } }
+    ensures waited { result ≡ true → waits ≡ true → memo.new.waits + turns ≤ memo.old.waits }
+    ensures kept { waits ≡ false → (result ≡ true) × (memo.new ≡ memo.old) }
+{
+    if !waits {
+        return true;
+    }
+    memo.waits_for(turns)
+}
+
+// Turns until the whole is decided, of which some may have been taken. What fails is kept if the memo is open at first.
+// If it is not, limited turns end where it is to open.
 #[inline(never)]
 fn remembering_turns<L: Ledger, K: Plan, S: StrDrive, A: Allocator>(
     req: &Request<'_, S>,
@@ -138,22 +187,35 @@ fn remembering_turns<L: Ledger, K: Plan, S: StrDrive, A: Allocator>(
     turned: &mut Turned<L>,
     limited: bool,
     left: &mut u64,
-) -> Result<Option<StringCursor>, Halt>
+) -> Result<Decision, Halt>
     requires within { turned.old ≤ K.limit }
     requires stands { StandsWithin (run_of req.now) K.all (K.limit - turned.old) first board.old }
     requires remembers { Remembers (run_of req.now) memo.old.kept }
-    ensures decides { IfOk result (λ found. Decides (run_of req.now) K.all found board.new.marks) }
+    ensures decides { IfOk result
+        (λ told. IfDecided told (λ found. Decides (run_of req.now) K.all found board.new.marks)) }
+    ensures opened { memo.old.is_open ≡ true → IfOk result (λ told. told ≢ Decision.Opened) }
     ensures remembers { Remembers (run_of req.now) memo.new.kept }
     ensures spent { left.old ≤ left.new + (K.limit + 1) * most_each (asked_of req.now) }
     ensures used { IfErr result (λ halt. halt ≡ Halt.UsedUp → (limited ≡ true) × (left.new ≡ 0)) }
     ensures given_up { IfErr result (λ halt. halt ≡ Halt.UsedUp
         → GivenUp req.now K.all first board.old memo.old turned.old left.old left.new) }
-    ensures settles { IfOk result (λ found. found ≡ None
+    ensures settles { IfOk result (λ told. told ≡ Decision.Decided None
         → Settles req.now K.all first board.old memo.old memo.new turned.old left.old left.new) }
+    ensures waited { limited ≡ true → memo.old.is_open ≡ false → Remembering req.now → IfOk result (λ told.
+        told ≢ Decision.Opened → Waited memo.old memo.new left.old left.new) }
+    ensures waited_out { limited ≡ true → memo.old.is_open ≡ false → Remembering req.now → IfOk result (λ told.
+        told ≡ Decision.Opened → left.old ≤ left.new + memo.old.waits) }
+    ensures waited_up { limited ≡ true → memo.old.is_open ≡ false → Remembering req.now
+        → IfErr result (λ halt. halt ≡ Halt.UsedUp → left.old ≤ left.new + memo.old.waits) }
 {
+    let waits = may_wait(req, memo, limited);
     let mut next = first;
     'turn: loop {
-        if !takes_turn(req, board, memo, limited, left) {
+        let turns = turns_due(req, board, memo, limited);
+        if !waits_on(memo, waits, turns) {
+            return Ok(Decision::Opened);
+        }
+        if !takes_turns(limited, turns, left) {
             return Err(Halt::UsedUp);
         }
         turned.tick();
@@ -164,13 +226,13 @@ fn remembering_turns<L: Ledger, K: Plan, S: StrDrive, A: Allocator>(
             Next::Again(cursor) => next = again(req, board, cursor)?,
             Next::Back => match back::<S, A, true>(req, board, memo)? {
                 Some(after) => next = after,
-                None => return Ok(None),
+                None => return Ok(Decision::Decided(None)),
             },
             Next::Done(cursor) => match end(req, board, cursor) {
                 Some(after) => next = after,
                 None => {
                     if is_accepted(req, cursor.position()) {
-                        return Ok(Some(cursor));
+                        return Ok(Decision::Decided(Some(cursor)));
                     }
                     next = Next::Back;
                 }
@@ -179,8 +241,8 @@ fn remembering_turns<L: Ledger, K: Plan, S: StrDrive, A: Allocator>(
     }
 }
 
-// The same with no limit, and with no failure kept: where the memo opens, the turns above go on. It is one function out
-// of line, whatever its size, so that `run_behind` is inlined where a search tries its starts.
+// The same with no limit, and with no failure kept, until the memo opens. It is one function out of line, whatever its
+// size, so that `run_behind` is inlined where a search tries its starts.
 #[inline(never)]
 fn turns<L: Ledger, K: Plan, S: StrDrive, A: Allocator>(
     req: &Request<'_, S>,
@@ -189,11 +251,12 @@ fn turns<L: Ledger, K: Plan, S: StrDrive, A: Allocator>(
     place: usize,
     start: StringCursor,
     turned: &mut Turned<L>,
-) -> Result<Option<StringCursor>, Halt>
+) -> Result<Decision, Halt>
     requires new { turned.old ≡ 0 }
     requires stands { StandsWithin (run_of req.now) K.all K.limit (Next.At place start) board.old }
     requires remembers { Remembers (run_of req.now) memo.old.kept }
-    ensures decides { IfOk result (λ found. Decides (run_of req.now) K.all found board.new.marks) }
+    ensures decides { IfOk result
+        (λ told. IfDecided told (λ found. Decides (run_of req.now) K.all found board.new.marks)) }
     ensures remembers { Remembers (run_of req.now) memo.new.kept }
     ensures used { IfErr result (λ halt. halt ≡ Halt.UsedUp → ⊥) }
 {
@@ -210,21 +273,12 @@ fn turns<L: Ledger, K: Plan, S: StrDrive, A: Allocator>(
             }
             Next::Back => {
                 if memo.opens(req, board) {
-                    let limited = false;
-                    return remembering_turns::<L, K, S, A>(
-                        req,
-                        board,
-                        memo,
-                        Next::Back,
-                        turned,
-                        limited,
-                        &mut 0,
-                    );
+                    return Ok(Decision::Opened);
                 }
                 turned.tick();
                 match back::<S, A, false>(req, board, memo)? {
                     Some(after) => next = after,
-                    None => return Ok(None),
+                    None => return Ok(Decision::Decided(None)),
                 }
             }
             Next::Done(cursor) => {
@@ -233,7 +287,7 @@ fn turns<L: Ledger, K: Plan, S: StrDrive, A: Allocator>(
                     Some(after) => next = after,
                     None => {
                         if is_accepted(req, cursor.position()) {
-                            return Ok(Some(cursor));
+                            return Ok(Decision::Decided(Some(cursor)));
                         }
                         next = Next::Back;
                     }
@@ -254,7 +308,7 @@ fn turns_from<L: Ledger, K: Plan, S: StrDrive, A: Allocator>(
     blank: Blank,
     limited: bool,
     left: &mut u64,
-) -> Result<Option<StringCursor>, Halt>
+) -> Result<Decision, Halt>
     requires name { blank.name ≡ L.name }
     requires parts { blank.parts ≡ L.parts }
     requires some { 0 < blank.parts }
@@ -262,13 +316,21 @@ fn turns_from<L: Ledger, K: Plan, S: StrDrive, A: Allocator>(
     requires stands { StandsWithin (run_of req.now) K.all K.limit (Next.At (2 * literals) start) board.old }
     requires remembers { Remembers (run_of req.now) memo.old.kept }
     ensures remembers { Remembers (run_of req.now) memo.new.kept }
-    ensures decides { IfOk result (λ found. Decides (run_of req.now) K.all found board.new.marks) }
+    ensures decides { IfOk result
+        (λ told. IfDecided told (λ found. Decides (run_of req.now) K.all found board.new.marks)) }
+    ensures opened { memo.old.is_open ≡ true → IfOk result (λ told. told ≢ Decision.Opened) }
     ensures spent { left.old ≤ left.new + (K.limit + 1) * most_each (asked_of req.now) }
     ensures used { IfErr result (λ halt. halt ≡ Halt.UsedUp → (limited ≡ true) × (left.new ≡ 0)) }
     ensures given_up { IfErr result (λ halt. halt ≡ Halt.UsedUp
         → GivenUp req.now K.all (Next.At (2 * literals) start) board.old memo.old 0 left.old left.new) }
-    ensures settles { limited ≡ true → IfOk result (λ found. found ≡ None
+    ensures settles { limited ≡ true → IfOk result (λ told. told ≡ Decision.Decided None
         → Settles req.now K.all (Next.At (2 * literals) start) board.old memo.old memo.new 0 left.old left.new) }
+    ensures waited { limited ≡ true → memo.old.is_open ≡ false → Remembering req.now → IfOk result (λ told.
+        told ≢ Decision.Opened → Waited memo.old memo.new left.old left.new) }
+    ensures waited_out { limited ≡ true → memo.old.is_open ≡ false → Remembering req.now → IfOk result (λ told.
+        told ≡ Decision.Opened → left.old ≤ left.new + memo.old.waits) }
+    ensures waited_up { limited ≡ true → memo.old.is_open ≡ false → Remembering req.now
+        → IfErr result (λ halt. halt ≡ Halt.UsedUp → left.old ≤ left.new + memo.old.waits) }
 {
     let (book, share) = blank.open::<L>();
     let mut turned = Turned { book, share };
@@ -280,9 +342,58 @@ fn turns_from<L: Ledger, K: Plan, S: StrDrive, A: Allocator>(
     }
 }
 
+// A run on an empty board, until it is decided or failures are to be kept.
+#[inline(always)]
+fn run_once<S: StrDrive, A: Allocator>(
+    req: &Request<'_, S>,
+    literals: usize,
+    start: StringCursor,
+    board: &mut Board<A>,
+    memo: &mut Memo<A>,
+    limited: bool,
+    left: &mut u64,
+) -> Result<Decision, Halt>
+    requires stands { Standing req.now start }
+    requires inside { start.position ≤ end_of req.now }
+    requires fresh { board.old ≡ bare no_marks }
+    requires behind { (t : Tree) → WholeItems (run_of req.now).words t → ReadsBehind (run_of req.now).words literals t }
+    requires room { 2 * literals < 2 ^ 64 }
+    requires remembers { Remembers (run_of req.now) memo.old.kept }
+    ensures remembers { Remembers (run_of req.now) memo.new.kept }
+    ensures decides { (t : Tree) → WholeItems (run_of req.now).words t
+        → IfOk result (λ told. IfDecided told
+        (λ found. Decides (run_of req.now)
+        (outcomes (run_of req.now) (behind_items literals t) start.position) found board.new.marks)) }
+    ensures opened { memo.old.is_open ≡ true → IfOk result (λ told. told ≢ Decision.Opened) }
+    ensures spent { (t : Tree) → WholeItems (run_of req.now).words t
+        → left.old ≤ left.new + turns_of (run_of req.now).subject (behind_items literals t) start.position
+        * most_each (asked_of req.now) }
+    ensures used { IfErr result (λ halt. halt ≡ Halt.UsedUp → (limited ≡ true) × (left.new ≡ 0)) }
+    ensures given_up { IfErr result (λ halt. halt ≡ Halt.UsedUp
+        → RunGivenUp req.now start memo.old left.old left.new) }
+    ensures settles { limited ≡ true → IfOk result (λ told. told ≡ Decision.Decided None
+        → RunSettles req.now start memo.old memo.new left.old left.new) }
+    ensures waited_out { limited ≡ true → memo.old.is_open ≡ false → Remembering req.now → IfOk result (λ told.
+        told ≡ Decision.Opened → left.old ≤ left.new + memo.old.waits) }
+{
+    know_words(req.pattern_codes().items());
+    turns_from::<Brand, Brand, S, A>(
+        req,
+        board,
+        literals,
+        start,
+        memo,
+        Blank::new(1),
+        limited,
+        left,
+    )
+}
+
 /// Runs the machine from a cursor behind some literals that the words begin with, on an empty board: the cursor at the
 /// end of the first accepted way of what follows these literals, whose marks are then on the board, or `None` where no
 /// way is accepted. Where it is limited it takes its turns off those that are left, and is given up where none is.
+/// Where failures come to be kept in its course it begins again, and of the turns before and after that the more are
+/// taken.
 #[inline(always)]
 pub fn run_behind<S: StrDrive, A: Allocator>(
     req: &Request<'_, S>,
@@ -313,15 +424,20 @@ pub fn run_behind<S: StrDrive, A: Allocator>(
     ensures settles { limited ≡ true → IfOk result (λ found. found ≡ None
         → RunSettles req.now start memo.old memo.new left.old left.new) }
 {
-    know_words(req.pattern_codes().items());
-    turns_from::<Brand, Brand, S, A>(
-        req,
-        board,
-        literals,
-        start,
-        memo,
-        Blank::new(1),
-        limited,
-        left,
-    )
+    let given = *left;
+    match run_once(req, literals, start, board, memo, limited, left)? {
+        Decision::Decided(found) => Ok(found),
+        Decision::Opened => {
+            let stood = *left;
+            board.clear();
+            memo.open();
+            *left = given;
+            let told = run_once(req, literals, start, board, memo, limited, left)?;
+            *left = stood.min(*left);
+            match told {
+                Decision::Decided(found) => Ok(found),
+                Decision::Opened => unreachable!(),
+            }
+        }
+    }
 }

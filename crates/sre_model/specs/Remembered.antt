@@ -1,12 +1,12 @@
 -- Codes of which a search keeps all that failed, and a number of turns that is enough for them.
 -- Of the meaning: what sre_engine makes public rests on it.
-use Rattle.std.specs.Prelude.{ℕ, ◌+◌, ◌-◌, ◌*◌, ◌^◌, ◌/◌, ◌≡◌, ◌≤◌, false}
+use Rattle.std.specs.Prelude.{ℕ, ◌+◌, ◌-◌, ◌*◌, ◌^◌, ◌/◌, ◌≡◌, ◌≤◌, false, min}
 use Rattle.sre_model.specs.Tree.{Tree}
 use Rattle.sre_model.specs.Found.{Asked}
 use Rattle.sre_model.specs.References.{refers}
 use Rattle.sre_model.specs.Regions.{has_region}
 use Rattle.sre_model.specs.Slots.{most_slots}
-use Rattle.sre_model.specs.TurnBounds.{most_each}
+use Rattle.sre_model.specs.RunCounts.{most_counts}
 
 -- for so many words of 64 bits there has to be room at each place of the code: two bits for each position and slot
 abbrev pub words_at_place : Asked → ℕ
@@ -21,16 +21,24 @@ pub record IsRemembered (places : ℕ) (t : Tree) (a : Asked) : Type 0 where
   pub room : places * words_at_place a ≤ 2 ^ 30
   pub order : a.start ≤ a.end
 
+-- up to which number the characters of a run make a difference, in a text of this length
+abbrev pub counts_at_most : Tree → Asked → ℕ
+counts_at_most t a = min (most_counts t) a.end
+
 -- how many turns come at most of an instruction that may branch before another one is gone on with
-abbrev pub turns_between : ℕ → Asked → ℕ
-turns_between places a = 2 * ((places + a.end + 4) * (2 * places + 8))
+abbrev pub turns_between : ℕ → ℕ
+turns_between places = 2 * ((places + 4) * (2 * places + 8))
 
--- how often one is gone on with at most: once for each step that the memory waits, and once for each bit, in each of
--- the two parts of a search
-abbrev pub most_branches : ℕ → Asked → ℕ
-most_branches places a = 2 * (32 * (a.end - a.start + 2) + 64 * (places * words_at_place a))
+-- how often one is gone on with at most, once failures are kept: for each bit once, and once for each character that
+-- makes a difference to a run, in each of the two parts of a search
+abbrev pub most_branches : ℕ → Tree → Asked → ℕ
+most_branches places t a = 2 * (64 * (places * words_at_place a)) * (1 + counts_at_most t a)
 
--- so many turns are enough for a search
-abbrev pub enough_turns : ℕ → Asked → ℕ
-enough_turns places a =
-    ((a.end + 1 - a.start) * (2 * places + 4) + most_branches places a * turns_between places a) * most_each a
+-- so many turns are enough for a search: those that each of its two parts goes on without failures, and those that come
+-- of each start and of each instruction that may branch. Of the latter one counts for more where it passes a long
+-- stretch of characters: for one more for each eight of those that make a difference
+abbrev pub enough_turns : ℕ → Tree → Asked → ℕ
+enough_turns places t a =
+    2 * (32 * (a.end - a.start + 1))
+    + ((a.end + 1 - a.start) * (2 * places + 4) + most_branches places t a * turns_between places)
+    * (1 + counts_at_most t a / 8)

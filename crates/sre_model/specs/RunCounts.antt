@@ -1,4 +1,4 @@
--- How far the counts of a tree's runs of one test make a difference.
+-- How far the counts of a tree's runs of one test make a difference, and how far its looks go back.
 -- Of the meaning: what sre_engine makes public rests on it.
 use Rattle.std.specs.Prelude.{ℕ, max}
 use Rattle.sre_model.specs.Tree.{Tree, Empty, Then, Item, Fail, One, At, Mark, Branch, Loop, Run, PossessiveLoop}
@@ -14,7 +14,7 @@ run_count LazyRun low high = counted_to low high
 run_count PossessiveRun low high = max low high
 
 abbrev mutual
-  -- the greatest of these numbers in a tree
+  -- the greatest of these numbers in a tree, and of the numbers of characters that its looks go back
   pub most_counts : Tree → ℕ
   most_counts Empty = 0
   most_counts (Then x rest) = max (item_counts x) (most_counts rest)
@@ -29,7 +29,7 @@ abbrev mutual
   item_counts (Run kind low high t) = run_count kind low high
   item_counts (PossessiveLoop low high body) = most_counts body
   item_counts (Atomic body) = most_counts body
-  item_counts (Look sign back body) = most_counts body
+  item_counts (Look sign back body) = max back (most_counts body)
   item_counts (Reference fold g) = 0
   item_counts (Exists g there) = most_counts there
   item_counts (ExistsElse g there absent) = max (most_counts there) (most_counts absent)

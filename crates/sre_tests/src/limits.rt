@@ -30,6 +30,15 @@ const POSSESSIVE: &[u32] = &[29, 5, 0, NO_LIMIT, 3, 1, 16, 98, 1];
 // 256 characters, the same again, and a b
 const OF_A_GROUP: &[u32] = &[17, 0, 24, 5, 256, 256, 3, 1, 17, 1, 11, 0, 16, 98, 1];
 
+// (?:x|x)(?:x|x)(?:x|x)(?:x|x)(?:x|x)(?:x|x)(?:x|x)(?:x|x)(?:x|x)(?:x|x)y
+const BRANCHES: &[u32] = &[
+    7, 5, 16, 120, 15, 7, 5, 16, 120, 15, 2, 0, 7, 5, 16, 120, 15, 7, 5, 16, 120, 15, 2, 0, 7, 5,
+    16, 120, 15, 7, 5, 16, 120, 15, 2, 0, 7, 5, 16, 120, 15, 7, 5, 16, 120, 15, 2, 0, 7, 5, 16,
+    120, 15, 7, 5, 16, 120, 15, 2, 0, 7, 5, 16, 120, 15, 7, 5, 16, 120, 15, 2, 0, 7, 5, 16, 120,
+    15, 7, 5, 16, 120, 15, 2, 0, 7, 5, 16, 120, 15, 7, 5, 16, 120, 15, 2, 0, 7, 5, 16, 120, 15, 7,
+    5, 16, 120, 15, 2, 0, 7, 5, 16, 120, 15, 7, 5, 16, 120, 15, 2, 0, 16, 121, 1,
+];
+
 // What a call answers within so many turns, and how many are left.
 fn within(
     req: Request<'_, &[u8]>,
@@ -76,7 +85,7 @@ fn fewest(
 }
 
 // Words, a text, whether it is a search, whether there is a match, and how many turns that takes.
-static ROWS: [(&[u32], &str, bool, bool, u64); 8] = [
+static ROWS: [(&[u32], &str, bool, bool, u64); 9] = [
     // a letter, SUCCESS, and the end of it; or what is behind a letter that is not there
     (&[16, 97, 1], "a", false, true, 3),
     (&[16, 97, 1], "b", false, false, 2),
@@ -94,6 +103,8 @@ static ROWS: [(&[u32], &str, bool, bool, u64); 8] = [
     (&[1], "", false, true, 2),
     (GROUPS, "abcd", false, true, 15),
     (GROUPS, "xxabc", true, true, 24),
+    // 32 for each of ten characters, and for one more, are waited; the run that begins again then takes fewer
+    (BRANCHES, "xxxxxxxxxx", false, false, 352),
 ];
 
 #[test]

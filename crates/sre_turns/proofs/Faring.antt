@@ -7,10 +7,7 @@ use Rattle.sre_chars.specs.declared.string.StringCursor.{StringCursor}
 use Rattle.sre_model.specs.Marks.{Marks}
 use Rattle.sre_model.specs.Ways.{Way}
 use Rattle.sre_model.specs.Runs.{Run}
-use Rattle.sre_model.specs.Tree.{GreedyRun, LazyRun, PossessiveRun}
-use Rattle.sre_model.specs.Roles.{Role, ToFail, ToEnd, ToTest, ToCheckPosition, ToMark, ToBranch, ToJump, ToRun}
-use Rattle.sre_model.specs.Roles.{ToRepeat, ToLoop, ToRepeatPossessively, ToGroupAtomically, ToLook, ToRefer}
-use Rattle.sre_model.specs.Roles.{ToCheckGroup, ToNothing, role, begins_test}
+use Rattle.sre_model.specs.Roles.{role, begins_test}
 use Rattle.sre_model.proofs.Families.{some_test}
 use Rattle.sre_turns.specs.Board.{Choice, Else, Keep, Trying, from_region}
 use Rattle.sre_turns.specs.declared.Frame.{Frame}
@@ -19,7 +16,7 @@ use Rattle.sre_turns.specs.declared.Point.TheVariants.{Instruction, Alternatives
 use Rattle.sre_turns.specs.declared.Point.{Point}
 use Rattle.sre_turns.specs.Moves.{Spot, spot_at, Move, Stop, End, Go, Split, Enter}
 use Rattle.sre_turns.specs.Nested.{Onto}
-use Rattle.sre_turns.specs.Potential.{potential, potential_of, toll, tolls, branches, Spends}
+use Rattle.sre_turns.specs.Potential.{potential, potential_of, units, Spends}
 use Rattle.sre_turns.specs.Settled.{Regionless, SettledIn}
 use Rattle.sre_turns.specs.Limits.{Limit, earlier, raised, grant, pool, CodeAt, EachChoice, tried_spots}
 use Rattle.sre_turns.specs.Limits.{Fares, FaresAt}
@@ -193,7 +190,7 @@ fares_wider r pl limit more n cs l f = record {
   settled = subst (λ start. EachChoice (SettledIn r pl start) cs) l.start f.settled;
   trying = f.trying ∙ l.trying;
   left =
-      omega (arith, l.taken, l.granted, f.left, ap (λ k. k * grant r.words r.subject.end) l.tolls);
+      omega (arith, l.taken, l.granted, f.left, ap (λ k. k * grant r.words) l.tolls);
 }
 
 pub fares_at_wider : (r : Run) (pl : Regionless r) (limit more : Limit) (n : ℕ) (x : Spot) (cs : List Choice)
@@ -244,105 +241,43 @@ pub test_pool : (r : Run) (i p : ℕ) (o : SreOpcode) → begins_test o ≡ true
     → pool r.words r.subject.end o (Instruction i) p ≤ potential r.words r.subject.end (Instruction i) p
 test_pool r i p o e =
     let kind = some_test o e in
-    let none : tolls (role o) (toll r.words r.subject.end) ≡ 0 = ap (λ f. tolls f
-    (toll r.words r.subject.end)) kind.1 in
-    omega (arith, none)
-
--- what is granted for an instruction that may branch is enough for its tolls
-granted_tolls : (f : Role) (n k : ℕ) → k * (n + n) + tolls f n ≤ (k + branches f) * (n + n)
-granted_tolls f n k = go f
-  where
-    one : (k + 1) * (n + n) ≡ k * (n + n) + (n + n)
-    one = add-mul k 1 (n + n) ∙ ap (λ m. k * (n + n) + m) (one-mul (n + n))
-
-    none : k * (n + n) + 0 ≤ (k + 0) * (n + n)
-    none = let same : (k + 0) * (n + n) ≡ k * (n + n) = ap (λ m. m * (n + n)) (omega arith) in omega (arith, same)
-
-    go : (f : Role) → k * (n + n) + tolls f n ≤ (k + branches f) * (n + n)
-    go ToFail = none
-    go ToEnd = none
-    go (ToTest kind) = none
-    go ToCheckPosition = none
-    go ToMark = none
-    go ToBranch = omega (arith, one)
-    go ToJump = none
-    go (ToRun GreedyRun) = omega (arith, one)
-    go (ToRun LazyRun) = omega (arith, one)
-    go (ToRun PossessiveRun) = none
-    go ToRepeat = omega (arith, one)
-    go (ToLoop o) = omega (arith, one)
-    go ToRepeatPossessively = none
-    go ToGroupAtomically = none
-    go (ToLook sign) = none
-    go ToRefer = none
-    go ToCheckGroup = none
-    go ToNothing = none
+    let none : units r.words r.subject.end i (role o) ≡ 0 = ap (λ f. units r.words r.subject.end i f) kind.1 in
+    let free : units r.words r.subject.end i (role o) * grant r.words ≡ 0 * grant r.words =
+    ap (λ n. n * grant r.words) none in
+    omega (arith, free)
 
 -- of an instruction at which the machine has come, with the tolls of its opcode
 pub with_tolls : (r : Run) (pl : Regionless r) (limit : Limit) (i : ℕ) (x : Spot) (cs : List Choice) (o : SreOpcode)
     → x.point ≡ Instruction i → FaresAt r pl limit (potential_of r.words r.subject.end x) x cs
-    → FaresAt r pl (raised (branches (role o)) limit) (pool r.words r.subject.end o x.point x.position) x cs
+    → FaresAt r pl (raised (units r.words r.subject.end i (role o)) limit)
+    (pool r.words r.subject.end o x.point x.position) x cs
 with_tolls r pl limit i x cs o e f =
+    let n : ℕ = units r.words r.subject.end i (role o) in
     let same : pool r.words r.subject.end o x.point x.position
-    ≡ potential_of r.words r.subject.end x + tolls (role o) (toll r.words r.subject.end) =
+    ≡ potential_of r.words r.subject.end x + n * grant r.words =
     subst (λ pt. pool r.words r.subject.end o pt x.position
-    ≡ potential r.words r.subject.end pt x.position + tolls (role o) (toll r.words r.subject.end)) (sym e) refl in
+    ≡ potential r.words r.subject.end pt x.position + n * grant r.words) (sym e) refl in
     record {
       here = f.here;
       fares = record {
         settled = f.fares.settled;
         trying = f.fares.trying;
-        left =
-            omega (
-              arith,
-              same,
-              f.fares.left,
-              granted_tolls (role o) (toll r.words r.subject.end) limit.tolls,
-            );
+        left = omega (arith, same, f.fares.left, add-mul limit.tolls n (grant r.words));
       };
     }
 
--- an opcode brings two tolls at most
-pub tolls_most : (f : Role) (n : ℕ) → tolls f n ≤ n + n
-tolls_most ToFail n = omega arith
-tolls_most ToEnd n = omega arith
-tolls_most (ToTest kind) n = omega arith
-tolls_most ToCheckPosition n = omega arith
-tolls_most ToMark n = omega arith
-tolls_most ToBranch n = omega arith
-tolls_most ToJump n = omega arith
-tolls_most (ToRun GreedyRun) n = omega arith
-tolls_most (ToRun LazyRun) n = omega arith
-tolls_most (ToRun PossessiveRun) n = omega arith
-tolls_most ToRepeat n = omega arith
-tolls_most (ToLoop o) n = omega arith
-tolls_most ToRepeatPossessively n = omega arith
-tolls_most ToGroupAtomically n = omega arith
-tolls_most (ToLook sign) n = omega arith
-tolls_most ToRefer n = omega arith
-tolls_most ToCheckGroup n = omega arith
-tolls_most ToNothing n = omega arith
-
--- an opcode counts for one instruction that may branch at most
-pub branches_most : (f : Role) → branches f ≤ 1
-branches_most ToFail = omega arith
-branches_most ToEnd = omega arith
-branches_most (ToTest kind) = omega arith
-branches_most ToCheckPosition = omega arith
-branches_most ToMark = omega arith
-branches_most ToBranch = omega arith
-branches_most ToJump = omega arith
-branches_most (ToRun GreedyRun) = omega arith
-branches_most (ToRun LazyRun) = omega arith
-branches_most (ToRun PossessiveRun) = omega arith
-branches_most ToRepeat = omega arith
-branches_most (ToLoop o) = omega arith
-branches_most ToRepeatPossessively = omega arith
-branches_most ToGroupAtomically = omega arith
-branches_most (ToLook sign) = omega arith
-branches_most ToRefer = omega arith
-branches_most ToCheckGroup = omega arith
-branches_most ToNothing = omega arith
+-- or with one toll alone
+pub with_toll : (r : Run) (pl : Regionless r) (limit : Limit) (x : Spot) (cs : List Choice)
+    → FaresAt r pl limit (potential_of r.words r.subject.end x) x cs
+    → FaresAt r pl (raised 1 limit) (potential_of r.words r.subject.end x + grant r.words) x cs
+with_toll r pl limit x cs f = record {
+  here = f.here;
+  fares = record {
+    settled = f.fares.settled;
+    trying = f.fares.trying;
+    left = omega (arith, f.fares.left, add-mul limit.tolls 1 (grant r.words), one-mul (grant r.words));
+  };
+}
 
 -- where no region waits, the machine is inside none
 pub never_inside : (P : Spot → Type 0) (cs : List Choice) → EachChoice P cs → from_region cs ≡ []
@@ -353,7 +288,7 @@ never_inside P (Trying i fs c m ∷ cs) h = never_inside P cs h.1
 
 -- nothing waits: nothing is tried, and no more turns were taken than the potential allows
 pub nothing_waits : (r : Run) (pl : Regionless r) (limit : Limit) (cs : List Choice) → cs ≡ [] → Fares r pl limit 0 cs
-    → (limit.trying ≡ []) × (limit.taken ≤ limit.granted + limit.tolls * grant r.words r.subject.end)
+    → (limit.trying ≡ []) × (limit.taken ≤ limit.granted + limit.tolls * grant r.words)
 nothing_waits r pl limit cs none f =
     (sym f.trying ∙ ap (λ xs. tried_spots xs) none, omega (arith, f.left))
 

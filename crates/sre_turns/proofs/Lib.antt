@@ -26,6 +26,7 @@ pub mod NestedStarts
 pub mod NestedPlaces
 pub mod NestedPositions
 pub mod NestedSlots
+pub mod NestedCounts
 pub mod NestedWindow
 pub mod AlikeLoops
 pub mod AlikeTurns
@@ -34,4 +35,5 @@ pub mod Hopeless
 pub mod Trying
 pub mod RunEnds
 pub mod LazyRunEnds
+pub mod NextRuns
 pub mod OpenMarks

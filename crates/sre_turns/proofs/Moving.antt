@@ -21,12 +21,13 @@ use Rattle.sre_turns.specs.MovesInLoops.{UntilMove, AgainMove}
 use Rattle.sre_turns.specs.MovesInRegions.{LookMove}
 use Rattle.sre_turns.specs.MovesAtReferences.{ReferenceMove, ConditionMove}
 use Rattle.sre_turns.specs.Limits.{Limit, earlier, raised, pool, FaresAt}
-use Rattle.sre_turns.specs.Potential.{potential_of, branches}
+use Rattle.sre_turns.specs.Potential.{potential_of, units}
 use Rattle.sre_turns.specs.Settled.{Regionless}
 use Rattle.sre_turns.proofs.Faring.{FreeOfToll, turn_leaves, fares_less, first_waits, first_alone, second_alone}
-use Rattle.sre_turns.proofs.Faring.{second_goes, nothing_left, run_code, with_tolls}
+use Rattle.sre_turns.proofs.Faring.{second_goes, nothing_left, run_code, with_tolls, with_toll}
 use Rattle.sre_turns.specs.Machine.{Placed, InRole, Moves, MovesAt, Runs, turns, Comes, stops, ends, goes, splits}
-use Rattle.sre_turns.specs.Machine.{enters, Waits, outermost, otherwise, kept, tried, Goes, Arrives, GoesBoth}
+use Rattle.sre_turns.specs.Machine.{enters, Waits, outermost, otherwise, kept, tried, Goes, Arrives, Tries}
+use Rattle.sre_turns.specs.Machine.{GoesBoth}
 use Rattle.sre_turns.specs.Machine.{Later}
 use Rattle.sre_model.specs.Runs.{Run}
 use Rattle.sre_turns.specs.Machine.{spot, HasRun, IsAt}
@@ -287,7 +288,7 @@ arrived {r} {all} {limit} {pt} {c} {b} free g = record {
 -- an instruction is gone on with, for the tolls of its opcode
 pub arrived_at : {r : Run} {all : List Way} {limit : Limit} {i : ℕ} {c : StringCursor} {b : BoardValue} (o : SreOpcode)
     → Opcode r.words i o → Arrives r all limit (Instruction i) c b
-    → Goes r all (raised (branches (role o)) limit) (Instruction i) c b
+    → Goes r all (raised (units r.words r.subject.end i (role o)) limit) (Instruction i) c b
 arrived_at {r} {all} {limit} {i} {c} {b} o w g = record {
   now = g.now;
   turns = g.turns;
@@ -299,9 +300,24 @@ arrived_at {r} {all} {limit} {i} {c} {b} o w g = record {
   within = g.within;
   fares = λ pl o' w'.
       let x : Spot = spot (Instruction i) c b in
-      subst (λ q. FaresAt r pl (raised (branches (role q)) limit)
+      subst (λ q. FaresAt r pl (raised (units r.words r.subject.end i (role q)) limit)
       (pool r.words r.subject.end o' (Instruction i) c.position) x b.choices) (same_opcode r.words i o' o w' w)
       (with_tolls r pl limit i x b.choices o' refl (g.fares pl o' w'));
+}
+
+-- or for one toll alone
+pub arrived_once : {r : Run} {all : List Way} {limit : Limit} {i : ℕ} {c : StringCursor} {b : BoardValue}
+    → Arrives r all limit (Instruction i) c b → Tries r all (raised 1 limit) (Instruction i) c b
+arrived_once {r} {all} {limit} {i} {c} {b} g = record {
+  now = g.now;
+  turns = g.turns;
+  later = g.later;
+  stands = g.stands;
+  placed = g.placed;
+  runs = g.runs;
+  waits = sooner (g.turns + 1) (g.turns + 0) (omega arith) g.waits;
+  within = g.within;
+  fares = λ pl o w. with_toll r pl limit (spot (Instruction i) c b) b.choices (g.fares pl o w);
 }
 
 -- what one turn keeps

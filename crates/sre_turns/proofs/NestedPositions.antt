@@ -32,7 +32,7 @@ begun_later : (p q : ℕ) (last : Option ℕ) → p ≤ q → BegunBy last p →
 begun_later p q None l h = tt
 begun_later p q (Some last) l h = omega (arith, h)
 
-all_later : (p q : ℕ) (fs : List Frame) → p ≤ q → AllBegunBy p fs → AllBegunBy q fs
+pub all_later : (p q : ℕ) (fs : List Frame) → p ≤ q → AllBegunBy p fs → AllBegunBy q fs
 all_later p q fs l h =
     each-weaken (λ (f : Frame). BegunBy f.last p) (λ (f : Frame). BegunBy f.last q)
     (λ (f : Frame) k. begun_later p q f.last l k) fs h

@@ -2,7 +2,7 @@
 -- The law that a search takes few turns (`enough` of sre_engine) rests on this.
 use Rattle.std.proofs.Common.{◌≡◌, ℕ, ◌+◌, ◌-◌, ◌*◌, ◌<◌, ◌≤◌, ◌&&◌, ◌||◌, Bool, true, false, cond, nat_eq, nat_lt}
 use Rattle.std.proofs.Common.{nat_le, List, [], length, Option, Some, None, refl, sym, ap, subst, arith, mul-le-mul}
-use Rattle.std.proofs.Common.{add-mul, one-mul}
+use Rattle.std.proofs.Common.{add-mul, one-mul, min}
 use Rattle.std.proofs.lemmas.Bool.{and_parts}
 use Rattle.std.proofs.lemmas.Bool.Decides.{nat_tests}
 use Rattle.sre_chars.specs.declared.constants.SreOpcode.{SreOpcode}
@@ -15,9 +15,9 @@ use Rattle.sre_model.specs.Grammar.{word, skip, Opcode}
 use Rattle.sre_model.specs.Roles.{Role, ToFail, ToEnd, ToTest, ToCheckPosition, ToMark, ToBranch, ToJump, ToRun}
 use Rattle.sre_model.specs.Roles.{ToRepeat, ToLoop, ToRepeatPossessively, ToGroupAtomically, ToLook, ToRefer}
 use Rattle.sre_model.specs.Roles.{ToCheckGroup, ToNothing, role}
-use Rattle.sre_model.proofs.Words.{word_within, opcode_within, same_opcode}
+use Rattle.sre_model.proofs.Words.{word_of, word_within, opcode_within, same_opcode}
 use Rattle.sre_model.proofs.Places.{test_past}
-use Rattle.sre_model.proofs.Longest.{run_inside}
+use Rattle.sre_model.proofs.Longest.{run_at_most, run_inside}
 use Rattle.sre_turns.specs.declared.Frame.{Frame}
 use Rattle.sre_turns.specs.declared.Region.{Region}
 use Rattle.sre_turns.specs.declared.Point.TheVariants.{Instruction, Alternatives, Shorter, Longer, Inside, Again, Tried}
@@ -28,7 +28,8 @@ use Rattle.sre_turns.specs.MovesInLoops.{at_body, behind, in_order, until_move}
 use Rattle.sre_turns.specs.MovesInRegions.{look}
 use Rattle.sre_turns.specs.MovesAtReferences.{reference_turn, condition_place}
 use Rattle.sre_turns.specs.Machine.{InRole, MovesAt}
-use Rattle.sre_turns.specs.Potential.{path, toll, potential, potential_of, tolls, tolled, Spends}
+use Rattle.sre_turns.specs.Potential.{path, toll, most_ends, more_ends, potential, potential_of, units, Spends}
+use Rattle.sre_turns.specs.Limits.{grant, pool}
 use Rattle.sre_model.proofs.Bounds.{passes-below}
 
 -- whether a turn may enter a region
@@ -61,14 +62,21 @@ cond_spent : (E : Type 0) (ws : List ℕ) (e n : ℕ) (b : Bool) (x y : Move) �
 cond_spent E ws e n true x y h k = h refl
 cond_spent E ws e n false x y h k = k refl
 
--- the toll pays for so many ways to go on, and for four more
-pub toll_pays : (ws : List ℕ) (e k : ℕ) → k ≤ length ws + e → k * path ws + 4 * (path ws + 2) ≤ toll ws e
-toll_pays ws e k l = go (path ws)
+-- the toll pays for as many ways to go on as there are words, and for four more
+pub toll_pays : (ws : List ℕ) (k : ℕ) → k ≤ length ws → k * path ws + 4 * (path ws + 2) ≤ toll ws
+toll_pays ws k l = go (path ws)
   where
-    go : (n : ℕ) → k * n + 4 * (n + 2) ≤ (length ws + e + 4) * (n + 2)
+    go : (n : ℕ) → k * n + 4 * (n + 2) ≤ (length ws + 4) * (n + 2)
     go n =
-        let less : k * n ≤ (length ws + e) * (n + 2) = mul-le-mul l (omega arith) in
-        omega (arith, less, add-mul (length ws + e) 4 (n + 2))
+        let less : k * n ≤ length ws * (n + 2) = mul-le-mul l (omega arith) in
+        omega (arith, less, add-mul (length ws) 4 (n + 2))
+
+-- a toll for each of so many ways to go on, and one more, pay for them and for four more
+pub units_pay : (ws : List ℕ) (k n : ℕ) → k ≤ n → k * path ws + 4 * (path ws + 2) ≤ (1 + n) * grant ws
+units_pay ws k n l =
+    let one = toll_pays ws 0 (omega arith) in
+    let each : k * path ws ≤ n * grant ws = mul-le-mul l (omega (arith, one)) in
+    omega (arith, one, each, add-mul 1 n (grant ws), one-mul (grant ws))
 
 -- one way fewer costs one path less
 one_less : (n k : ℕ) → 1 ≤ k → (k - 1) * n + n ≤ k * n
@@ -76,9 +84,45 @@ one_less n k l =
     let same : (k - 1 + 1) * n ≡ k * n = ap (λ a. a * n) (omega arith) in
     omega (arith, same, add-mul (k - 1) 1 n, one-mul n)
 
--- a run has no more characters than the window
-run_fits : (s : Subject) (t : Test) (high p : ℕ) → longest_run s t high p ≤ s.end
-run_fits s t high p = omega (arith, run_inside s t (most_from s high p) p)
+-- a run has no more characters than the window, and no more than its greatest count
+run_fits : (s : Subject) (t : Test) (high p : ℕ)
+    → longest_run s t high p ≤ cond (nat_eq high unlimited) s.end (min high s.end)
+run_fits s t high p = go (nat_eq high unlimited) refl
+  where
+    inside : longest_run s t high p ≤ s.end
+    inside = omega (arith, run_inside s t (most_from s high p) p)
+
+    short : (b : Bool) → nat_lt (s.end - p) high ≡ b → cond b (s.end - p) high ≤ high
+    short true e = grind (arith, nat_tests)
+    short false e = omega arith
+
+    go : (b : Bool) → nat_eq high unlimited ≡ b → longest_run s t high p ≤ cond b s.end (min high s.end)
+    go true e = inside
+    go false e =
+        let most : most_from s high p ≤ high = rw e (short (nat_lt (s.end - p) high) refl) in
+        omega (arith, inside, most, run_at_most s t (most_from s high p) p)
+
+-- behind so many characters it has no more ends than at all
+ends_fit : (ws : List ℕ) (e i n p : ℕ) → more_ends ws e i n p ≤ most_ends ws e i
+ends_fit ws e i n p = go (nat_eq (word ws (i + 3)) unlimited)
+  where
+    go : (b : Bool) → cond b (e - p) (min (word ws (i + 3)) e - n) ≤ cond b e (min (word ws (i + 3)) e)
+    go true = omega arith
+    go false = omega arith
+
+-- and a character more leaves one end fewer
+one_end_less : (ws : List ℕ) (e i n p : ℕ) → n ≤ p → p < e
+    → (nat_eq (word ws (i + 3)) unlimited || nat_lt n (word ws (i + 3))) ≡ true
+    → (more_ends ws e i (n + 1) (p + 1) ≡ more_ends ws e i n p - 1) × (1 ≤ more_ends ws e i n p)
+one_end_less ws e i n p past inside more = go (nat_eq (word ws (i + 3)) unlimited) refl more
+  where
+    go : (b : Bool) → nat_eq (word ws (i + 3)) unlimited ≡ b → (b || nat_lt n (word ws (i + 3))) ≡ true
+        → (cond b (e - (p + 1)) (min (word ws (i + 3)) e - (n + 1)) ≡ cond b (e - p) (min (word ws (i + 3)) e - n) - 1)
+        × (1 ≤ cond b (e - p) (min (word ws (i + 3)) e - n))
+    go true is l = (omega arith, omega arith)
+    go false is l =
+        let below : n < word ws (i + 3) = grind (arith, nat_tests) in
+        (omega (arith, below), omega (arith, below))
 
 module _ (ws : List ℕ) (s : Subject) where
   -- a turn at an instruction, role by role
@@ -88,7 +132,7 @@ module _ (ws : List ℕ) (s : Subject) where
 
     -- what an instruction of this role has
     abbrev owned : Role → ℕ
-    owned f = 2 * (length ws - i) + 3 + tolls f (toll ws s.end)
+    owned f = 2 * (length ws - i) + 3 + units ws s.end i f * grant ws
 
     abbrev Pays : Role → Move → Type 0
     Pays f a = Spent (enters f ≡ true) ws s.end (owned f) a
@@ -105,27 +149,34 @@ module _ (ws : List ℕ) (s : Subject) where
       stopped = omega arith
 
     -- that of one that may branch pays for an instruction, and for two of them
-    by_toll : (j : ℕ) → 2 * (length ws - j) + 3 + 1 ≤ 2 * (length ws - i) + 3 + toll ws s.end
-    by_toll j = omega (arith, toll_pays ws s.end 0 (omega arith))
+    by_toll : (j : ℕ) → 2 * (length ws - j) + 3 + 1 ≤ 2 * (length ws - i) + 3 + 1 * grant ws
+    by_toll j = omega (arith, units_pay ws 0 0 (omega arith))
 
     both_by_toll : (j k : ℕ)
-        → 2 * (length ws - j) + 3 + (2 * (length ws - k) + 3) + 2 ≤ 2 * (length ws - i) + 3 + toll ws s.end
-    both_by_toll j k = omega (arith, toll_pays ws s.end 0 (omega arith))
+        → 2 * (length ws - j) + 3 + (2 * (length ws - k) + 3) + 2 ≤ 2 * (length ws - i) + 3 + 1 * grant ws
+    both_by_toll j k = omega (arith, units_pay ws 0 0 (omega arith))
 
-    -- and for an instruction, and so many other ways to go on
-    ways_by_toll : (j k : ℕ) → k ≤ length ws + s.end
-        → 2 * (length ws - j) + 3 + (k * path ws + 2) + 2 ≤ 2 * (length ws - i) + 3 + toll ws s.end
-    ways_by_toll j k l = omega (arith, toll_pays ws s.end k l)
+    -- and that of a run for an instruction, and each of its ends
+    ends_by_toll : (j k : ℕ) → k ≤ most_ends ws s.end i
+        → 2 * (length ws - j) + 3 + (k * path ws + 2) + 2
+        ≤ 2 * (length ws - i) + 3 + (1 + most_ends ws s.end i) * grant ws
+    ends_by_toll j k l = omega (arith, units_pay ws k (most_ends ws s.end i) l)
 
-    run_pays : (kind : RunKind) (t low high : ℕ) (test : Test) → i < t
+    run_pays : (kind : RunKind) (t low high : ℕ) (test : Test) → i < t → word ws (i + 3) ≡ high
         → Pays (ToRun kind) (run_turn kind s i t low high test standing)
-    run_pays GreedyRun t low high test l =
+    run_pays GreedyRun t low high test l is =
         pays_cond (ToRun GreedyRun) (nat_lt (longest_run s test high p) low) _ _ (λ e. stopped (ToRun GreedyRun))
-        (λ e. ways_by_toll t (longest_run s test high p - low) (omega (arith, run_fits s test high p)))
-    run_pays LazyRun t low high test l =
+        (λ e.
+        ends_by_toll t (longest_run s test high p - low)
+        (omega (
+          arith,
+          subst (λ n. longest_run s test high p ≤ cond (nat_eq n unlimited) s.end (min n s.end)) (sym is)
+              (run_fits s test high p),
+        )))
+    run_pays LazyRun t low high test l is =
         pays_cond (ToRun LazyRun) (nat_lt (run_length s test low p) low) _ _ (λ e. stopped (ToRun LazyRun))
-        (λ e. ways_by_toll t (s.end - (p + low)) (omega arith))
-    run_pays PossessiveRun t low high test l =
+        (λ e. ends_by_toll t (more_ends ws s.end i low (p + low)) (ends_fit ws s.end i low (p + low)))
+    run_pays PossessiveRun t low high test l is =
         pays_cond (ToRun PossessiveRun) (nat_lt (longest_run s test high p) low) _ _
         (λ e. stopped (ToRun PossessiveRun)) (λ e. forward (ToRun PossessiveRun) t l)
 
@@ -189,12 +240,13 @@ module _ (ws : List ℕ) (s : Subject) where
         subst (λ move. Pays ToMark move) (sym h.is) (forward ToMark (i + 2) (omega arith))
     role_pays ToBranch a h =
         subst (λ move. Pays ToBranch move) (sym h)
-        (omega (arith, toll_pays ws s.end (length ws - (i + 1)) (omega arith)))
+        (omega (arith, toll_pays ws (length ws - (i + 1)) (omega arith)))
     role_pays ToJump a h =
         subst (λ move. Pays ToJump move) (sym h.is) (forward ToJump (skip ws (i + 1)) (omega arith))
     role_pays (ToRun kind) a h =
         subst (λ move. Pays (ToRun kind) move) (sym h.is)
-        (run_pays kind (skip ws (i + 1)) h.low h.high h.test (omega arith))
+        (run_pays kind (skip ws (i + 1)) h.low h.high h.test (omega arith)
+        (word_of ws (i + 3) h.high h.operands.highest))
     role_pays ToRepeat a h = subst (λ move. Pays ToRepeat move) (sym h.is) (omega (arith, by_toll (skip ws (i + 1))))
     role_pays (ToLoop o) a h =
         subst (λ move. Pays (ToLoop o) move) (sym h.is) (until_pays o h.low h.high h.frame h.outer)
@@ -209,10 +261,10 @@ module _ (ws : List ℕ) (s : Subject) where
 -- at an instruction, of which the opcode may bring a toll
 instruction_spent : (ws : List ℕ) (s : Subject) (i p : ℕ) (fs : List Frame) (m : Marks) (o : SreOpcode) (mv : Move)
     → Opcode ws i o → MovesAt ws s (Instruction i) (spot_at (Instruction i) fs p m) mv
-    → Spent (enters (role o) ≡ true) ws s.end (tolled ws s.end o (potential ws s.end (Instruction i) p)) mv
+    → Spent (enters (role o) ≡ true) ws s.end (pool ws s.end o (Instruction i) p) mv
 instruction_spent ws s i p fs m o mv w h =
     let P : SreOpcode → Type 0 =
-    λ c. Spent (enters (role c) ≡ true) ws s.end (tolled ws s.end c (potential ws s.end (Instruction i) p)) mv in
+    λ c. Spent (enters (role c) ≡ true) ws s.end (pool ws s.end c (Instruction i) p) mv in
     subst P (same_opcode ws i h.0 o h.1 w)
     (role_pays ws s i p fs m (opcode_within ws i o w) (role h.0) mv h.2)
 
@@ -251,14 +303,15 @@ point_spent ws s (Longer i c) fs p m a n k h =
     ((nat_eq h.high unlimited || nat_lt c h.high) && passes s h.test p) _ _ more (λ e. omega arith))
   where
     more : ((nat_eq h.high unlimited || nat_lt c h.high) && passes s h.test p) ≡ true
-        → 2 * (length ws - skip ws (i + 1)) + 3 + ((s.end - (p + 1)) * path ws + 2) + 2
-        ≤ (s.end - p) * path ws + 2
+        → 2 * (length ws - skip ws (i + 1)) + 3 + (more_ends ws s.end i (c + 1) (p + 1) * path ws + 2) + 2
+        ≤ more_ends ws s.end i c p * path ws + 2
     more e =
-        let inside : p < s.end =
-        passes-below s h.test p (and_parts (nat_eq h.high unlimited || nat_lt c h.high) (passes s h.test p) e).1 in
-        let same : (s.end - (p + 1)) * path ws ≡ (s.end - p - 1) * path ws =
-        ap (λ d. d * path ws) (omega arith) in
-        omega (arith, same, one_less (path ws) (s.end - p) (omega arith))
+        let parts = and_parts (nat_eq h.high unlimited || nat_lt c h.high) (passes s h.test p) e in
+        let goes_on = subst (λ n. (nat_eq n unlimited || nat_lt c n) ≡ true)
+        (sym (word_of ws (i + 3) h.high h.operands.highest)) parts.0 in
+        let left = one_end_less ws s.end i c p h.past (passes-below s h.test p parts.1) goes_on in
+        let same = ap (λ d. d * path ws) left.0 in
+        omega (arith, same, one_less (path ws) (more_ends ws s.end i c p) left.1)
 point_spent ws s (Inside g) fs p m a n k h = absurd h
 point_spent ws s Again fs p m a n k h = absurd (k refl)
 point_spent ws s (Tried i) fs p m a n k h = absurd h
@@ -266,9 +319,9 @@ point_spent ws s (Tried i) fs p m a n k h = absurd h
 pub instruction_spends : (ws : List ℕ) (s : Subject) (i p : ℕ) (fs : List Frame) (m : Marks) (o : SreOpcode)
     (mv : Move)
     → NoEntry mv → Opcode ws i o → MovesAt ws s (Instruction i) (spot_at (Instruction i) fs p m) mv
-    → Spends ws s.end (tolled ws s.end o (potential ws s.end (Instruction i) p)) mv
+    → Spends ws s.end (pool ws s.end o (Instruction i) p) mv
 instruction_spends ws s i p fs m o mv no_ w h =
-    spends (enters (role o) ≡ true) ws s.end (tolled ws s.end o (potential ws s.end (Instruction i) p)) mv no_
+    spends (enters (role o) ≡ true) ws s.end (pool ws s.end o (Instruction i) p) mv no_
     (instruction_spent ws s i p fs m o mv w h)
 
 -- which roles enter a region

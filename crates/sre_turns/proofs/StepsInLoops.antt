@@ -1,6 +1,6 @@
 -- Turns at a loop: its REPEAT, and the MAX_UNTIL or MIN_UNTIL that ends a body.
-use Rattle.std.proofs.Common.{◌≡◌, ℕ, ◌+◌, ◌<◌, ◌≤◌, true, false, nat_lt, List, ◌∷◌, length, drop, Some, refl}
-use Rattle.std.proofs.Common.{sym, ◌∙◌, subst, arith}
+use Rattle.std.proofs.Common.{◌≡◌, ℕ, ◌+◌, ◌*◌, ◌<◌, ◌≤◌, true, false, nat_lt, List, ◌∷◌, length, drop, Some, refl}
+use Rattle.std.proofs.Common.{sym, ap, ◌∙◌, subst, arith}
 use Rattle.std.proofs.lemmas.Bool.Decides.{nat_tests}
 use Rattle.sre_chars.specs.declared.constants.SreOpcode.TheVariants as opcode
 use Rattle.sre_chars.specs.declared.string.StringCursor.{StringCursor}
@@ -12,19 +12,18 @@ use Rattle.sre_turns.specs.declared.Frame.{Frame}
 use Rattle.sre_turns.specs.declared.Point.TheVariants.{Instruction}
 use Rattle.sre_turns.specs.Moves.{Spot, Move, Go}
 use Rattle.sre_turns.specs.MovesInLoops.{first_frame, next_frame, at_body, behind, in_order, until_move}
-use Rattle.sre_turns.specs.Limits.{Limit, earlier}
+use Rattle.sre_turns.specs.Limits.{Limit, earlier, grant}
 use Rattle.sre_turns.specs.Machine.{Moves, Goes, Later, spot, HasRun, IsAt, Refuses, with_loop}
 use Rattle.sre_model.specs.Runs.{Run}
 use Rattle.sre_turns.specs.declared.Next.{Next}
 use Rattle.sre_model.specs.Roles.{ToRepeat, ToLoop, role}
-use Rattle.sre_turns.specs.Potential.{toll}
+use Rattle.sre_turns.specs.Potential.{units}
 use Rattle.sre_model.proofs.Families.{until_role}
 use Rattle.sre_turns.specs.declared.Next.TheVariants as next
-use Rattle.sre_model.proofs.Words.{word_of, word_within, opcode_within}
+use Rattle.sre_model.proofs.Words.{same_opcode, word_of, word_within, opcode_within}
 use Rattle.sre_turns.proofs.Moving.{in_role, at_instruction, has_run, run_goes, run_splits, turn_goes, turn_splits}
 use Rattle.sre_turns.proofs.Moving.{both_wait, both_first, both_second, sooner}
 use Rattle.sre_turns.proofs.GoingBack.{later_again}
-use Rattle.sre_turns.proofs.Faring.{tolls_most}
 
 pub repeat_step : (r : Run) (i v : ℕ) (c : StringCursor) (b b' : BoardValue) → Opcode r.words i opcode.REPEAT
     → Word r.words (i + 1) v → b' ≡ record b { frames = first_frame i ∷ b.frames } → (all : List Way) (limit : Limit)
@@ -46,13 +45,13 @@ repeat_begun r i v c b w wv x =
     (record { there = word_within r.words (i + 1) v wv; is = rw (word_of r.words (i + 1) v wv) refl })) x.runs in
     record { outcomes = y.outcomes; turns = y.turns; stands = x.stands; placed = x.placed; runs = y.runs }
 
--- a turn at the loop's end, taken in the same turn
+-- a turn at the end of a greedy loop, taken in the same turn
 pub repeat_further : (r : Run) (i v : ℕ) (c : StringCursor) (b b' : BoardValue) (n : Next)
-    → Opcode r.words i opcode.REPEAT → Word r.words (i + 1) v
+    → Opcode r.words i opcode.REPEAT → Word r.words (i + 1) v → Opcode r.words (i + 1 + v) opcode.MAX_UNTIL
     → ((all : List Way) (limit : Limit) → Goes r all limit (Instruction (i + 1 + v)) c (with_loop (first_frame i) b)
     → Later r all limit n b') → (all : List Way) (limit : Limit) → Goes r all limit (Instruction i) c b
     → Later r all limit n b'
-repeat_further r i v c b b' n w wv h all limit g =
+repeat_further r i v c b b' n w wv we h all limit g =
     let ended : BoardValue = with_loop (first_frame i) b in
     let begun = repeat_step r i v c b ended w wv refl all limit g in
     let at = begun.1 in
@@ -67,6 +66,8 @@ repeat_further r i v c b b' n w wv h all limit g =
       within = at.within;
       fares = λ pl o x.
           let f = at.fares pl o x in
+          let one = ap (λ q. units r.words r.subject.end (i + 1 + v) (role q) * grant r.words)
+          (same_opcode r.words (i + 1 + v) o opcode.MAX_UNTIL x we) in
           record {
             here = f.here;
             fares = record {
@@ -77,7 +78,7 @@ repeat_further r i v c b b' n w wv h all limit g =
                     arith,
                     (g.fares pl opcode.REPEAT w).fares.left,
                     opcode_within r.words i opcode.REPEAT w,
-                    tolls_most (role o) (toll r.words r.subject.end),
+                    one,
                   );
             };
           };

@@ -10,9 +10,10 @@ use Rattle.sre_turns.specs.MovesAtReferences.{HasReference}
 use Rattle.sre_turns.specs.declared.Frame.{Frame}
 use Rattle.sre_turns.specs.declared.Point.TheVariants.{Instruction}
 use Rattle.sre_turns.specs.declared.Next.TheVariants as next
-use Rattle.sre_turns.specs.Limits.{Limit, with_tried, without_tried, Fares}
+use Rattle.sre_turns.specs.Limits.{Limit, with_tried, without_tried, Stage, Going, Splitting, spare, Fares}
 use Rattle.sre_turns.specs.Settled.{Regionless}
-use Rattle.sre_turns.specs.Machine.{Runs, Waits, tried, Goes, Arrives, Backs, Later, spot, IsAt}
+use Rattle.sre_turns.specs.Machine.{Runs, Waits, tried, GoesWith, Goes, Arrives, Tries, Backs, Later, spot}
+use Rattle.sre_turns.specs.Machine.{IsAt}
 use Rattle.sre_turns.specs.Fruit.{Fruitless, SameFruit, is_inside}
 use Rattle.sre_turns.specs.Alike.{Alike, LoopsAlike, least_from}
 use Rattle.sre_turns.specs.Hopeless.{Hopeless, AcceptsByStop}
@@ -27,12 +28,12 @@ same_fruit r true os = refl
 same_fruit r false os = refl
 
 -- an instruction is tried: its mark waits
-pub trying_goes : (r : Run) (i : ℕ) (c : StringCursor) (b b' : BoardValue)
+tried_with : (stage : Stage) → spare stage ≡ 0 → (r : Run) (i : ℕ) (c : StringCursor) (b b' : BoardValue)
     → b' ≡ record b { choices = Trying i b.frames c b.marks ∷ b.choices } → (all : List Way) (limit : Limit)
-    → Goes r all limit (Instruction i) c b
-    → Goes r all (with_tried (spot (Instruction i) c b) limit) (Instruction i) c b'
-trying_goes r i c b b' e all limit g =
-    subst (λ x. Goes r all (with_tried (spot (Instruction i) c b) limit) (Instruction i) c x) (sym e)
+    → GoesWith stage r all limit (Instruction i) c b
+    → GoesWith stage r all (with_tried (spot (Instruction i) c b) limit) (Instruction i) c b'
+tried_with stage none r i c b b' e all limit g =
+    subst (λ x. GoesWith stage r all (with_tried (spot (Instruction i) c b) limit) (Instruction i) c x) (sym e)
     (record {
       now = g.now;
       turns = g.turns;
@@ -40,7 +41,7 @@ trying_goes r i c b b' e all limit g =
       stands = g.stands;
       placed = g.placed;
       runs = g.runs;
-      waits = tried g.stands g.placed g.runs (omega arith) (same_fruit r (is_inside b.choices) g.now) g.waits;
+      waits = tried g.stands g.placed g.runs (omega (arith, none)) (same_fruit r (is_inside b.choices) g.now) g.waits;
       within = g.within;
       fares = λ pl o w.
           let f = g.fares pl o w in
@@ -53,6 +54,20 @@ trying_goes r i c b b' e all limit g =
             };
           };
     })
+
+-- so it is where its turn is under way
+pub trying_goes : (r : Run) (i : ℕ) (c : StringCursor) (b b' : BoardValue)
+    → b' ≡ record b { choices = Trying i b.frames c b.marks ∷ b.choices } → (all : List Way) (limit : Limit)
+    → Goes r all limit (Instruction i) c b
+    → Goes r all (with_tried (spot (Instruction i) c b) limit) (Instruction i) c b'
+trying_goes r i c b b' e all limit g = tried_with Going refl r i c b b' e all limit g
+
+-- and where one toll alone was granted
+pub trying_tries : (r : Run) (i : ℕ) (c : StringCursor) (b b' : BoardValue)
+    → b' ≡ record b { choices = Trying i b.frames c b.marks ∷ b.choices } → (all : List Way) (limit : Limit)
+    → Tries r all limit (Instruction i) c b
+    → Tries r all (with_tried (spot (Instruction i) c b) limit) (Instruction i) c b'
+trying_tries r i c b b' e all limit g = tried_with Splitting refl r i c b b' e all limit g
 
 -- the mark is come to: what waited below it still waits
 pub tried_waits : (r : Run) (i : ℕ) (c : StringCursor) (b b' : BoardValue)

@@ -1,15 +1,16 @@
 -- What a run may still take: turns, and in a search over words without regions a potential, which goes down with each
--- turn, and up by a toll where an instruction that may branch is gone on with.
+-- turn, and up by tolls where an instruction that may branch is gone on with.
 -- Words of the machine's contracts; what sre_engine makes public does not rest on it.
-use Rattle.std.specs.Prelude.{⊤, ℕ, zero, suc, ◌+◌, ◌-◌, ◌*◌, ◌≤◌, ◌≡◌, List, [], ◌∷◌, drop}
+use Rattle.std.specs.Prelude.{⊤, ℕ, ◌+◌, ◌-◌, ◌*◌, ◌≤◌, ◌≡◌, List, [], ◌∷◌, drop}
 use Rattle.sre_chars.specs.declared.constants.SreOpcode.{SreOpcode}
 use Rattle.sre_model.specs.Grammar.{Opcode}
+use Rattle.sre_model.specs.Roles.{role}
 use Rattle.sre_model.specs.Runs.{Run}
 use Rattle.sre_turns.specs.Board.{Choice, Else, Keep, Trying}
 use Rattle.sre_turns.specs.declared.Point.TheVariants.{Instruction, Alternatives, Shorter, Longer, Inside, Again, Tried}
 use Rattle.sre_turns.specs.declared.Point.{Point}
 use Rattle.sre_turns.specs.Moves.{Spot, spot_at}
-use Rattle.sre_turns.specs.Potential.{potential, potential_of, toll, tolled}
+use Rattle.sre_turns.specs.Potential.{potential, potential_of, toll, units}
 use Rattle.sre_turns.specs.Settled.{Regionless, SettledIn}
 
 -- how many turns are left; how many were taken, with how much potential at first, and how often a toll was granted;
@@ -26,9 +27,9 @@ pub record Limit : Type 0 where
 abbrev pub earlier : Limit → Limit
 earlier l = record l { turns = l.turns - 1; taken = l.taken + 1 }
 
--- what is granted for an instruction that may branch: enough for a REPEAT, too
-abbrev pub grant : List ℕ → ℕ → ℕ
-grant ws e = toll ws e + toll ws e
+-- what a toll that is granted is worth: it does not depend on the text
+abbrev pub grant : List ℕ → ℕ
+grant ws = toll ws + toll ws
 
 -- the same with so many tolls more
 abbrev pub raised : ℕ → Limit → Limit
@@ -84,7 +85,7 @@ pub record Fares (r : Run) (pl : Regionless r) (limit : Limit) (n : ℕ) (cs : L
   pub settled : EachChoice (SettledIn r pl limit.start) cs
   pub trying : tried_spots cs ≡ limit.trying
   pub left : n + waiting r.words r.subject.end cs + limit.taken
-      ≤ limit.granted + limit.tolls * grant r.words r.subject.end
+      ≤ limit.granted + limit.tolls * grant r.words
 
 -- and the machine stands at a spot
 pub record FaresAt (r : Run) (pl : Regionless r) (limit : Limit) (n : ℕ) (x : Spot) (cs : List Choice) : Type 0 where
@@ -102,9 +103,9 @@ abbrev pub CodeAt : List ℕ → Point → SreOpcode → Type 0
 CodeAt ws (Instruction i) o = Opcode ws i o
 CodeAt ws pt o = ⊤
 
--- a potential, with the toll where an instruction is gone on with
+-- a potential, with the tolls where an instruction is gone on with
 abbrev pub pool : List ℕ → ℕ → SreOpcode → Point → ℕ → ℕ
-pool ws e o (Instruction i) p = tolled ws e o (potential ws e (Instruction i) p)
+pool ws e o (Instruction i) p = potential ws e (Instruction i) p + units ws e i (role o) * grant ws
 pool ws e o (Alternatives q) p = potential ws e (Alternatives q) p
 pool ws e o (Shorter t k) p = potential ws e (Shorter t k) p
 pool ws e o (Longer i n) p = potential ws e (Longer i n) p
@@ -112,7 +113,20 @@ pool ws e o (Inside g) p = potential ws e (Inside g) p
 pool ws e o Again p = potential ws e Again p
 pool ws e o (Tried i) p = potential ws e (Tried i) p
 
--- what a spot has that is gone on with, or that is come to
-abbrev pub share : ℕ → List ℕ → ℕ → SreOpcode → Spot → ℕ
-share zero ws e o x = pool ws e o x.point x.position
-share (suc n) ws e o x = potential_of ws e x
+-- a spot is come to, or gone on with: with the tolls of its opcode, or with one alone
+pub data Stage : Type 0 where
+  Coming : Stage
+  Going : Stage
+  Splitting : Stage
+
+-- how many turns what waits has to spare beyond those that come of the spot
+abbrev pub spare : Stage → ℕ
+spare Coming = 1
+spare Going = 0
+spare Splitting = 0
+
+-- what the spot has
+abbrev pub share : Stage → List ℕ → ℕ → SreOpcode → Spot → ℕ
+share Coming ws e o x = potential_of ws e x
+share Going ws e o x = pool ws e o x.point x.position
+share Splitting ws e o x = potential_of ws e x + grant ws

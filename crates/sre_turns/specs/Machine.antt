@@ -24,7 +24,8 @@ use Rattle.sre_turns.specs.Moves.{Spot, spot_at, closing_move}
 pub use Rattle.sre_turns.specs.Turning.{InRole, MovesAt, Moves, Runs, turns, Comes, stops, ends, goes, splits, enters}
 use Rattle.sre_turns.specs.Potential.{potential_of}
 use Rattle.sre_turns.specs.Settled.{Regionless, SettledIn}
-use Rattle.sre_turns.specs.Limits.{Limit, earlier, share, CodeAt, Fares, FaresAt, FaresBoth}
+use Rattle.sre_turns.specs.Limits.{Limit, earlier, Stage, Coming, Going, Splitting, spare, share, CodeAt, Fares}
+use Rattle.sre_turns.specs.Limits.{FaresAt, FaresBoth}
 use Rattle.sre_turns.specs.declared.Next.{Next}
 use Rattle.sre_turns.specs.declared.Next.TheVariants as next
 
@@ -60,7 +61,7 @@ spot pt c b = spot_at pt b.frames c.position b.marks
 
 -- the machine is at a point and a cursor: all are the accepted outcomes, and at most limit turns are left; and what
 -- waits on the board has at least so many turns to spare beyond those that come of the point
-pub record GoesWith (spare : ℕ) (r : Run) (all : List Way) (limit : Limit) (pt : Point) (c : StringCursor)
+pub record GoesWith (stage : Stage) (r : Run) (all : List Way) (limit : Limit) (pt : Point) (c : StringCursor)
     (b : BoardValue)
     : Type 0 where
   pub now : List Way
@@ -69,18 +70,22 @@ pub record GoesWith (spare : ℕ) (r : Run) (all : List Way) (limit : Limit) (pt
   pub stands : r.stands c c.position
   pub placed : Placed r.subject b.marks
   pub runs : Runs r.words r.subject (spot pt c b) now turns
-  pub waits : Waits r b.choices (turns + spare) now all later
+  pub waits : Waits r b.choices (turns + spare stage) now all later
   pub within : turns + later ≤ limit.turns
   pub fares : (pl : Regionless r) (o : SreOpcode) → CodeAt r.words pt o
-      → FaresAt r pl limit (share spare r.words r.subject.end o (spot pt c b)) (spot pt c b) b.choices
+      → FaresAt r pl limit (share stage r.words r.subject.end o (spot pt c b)) (spot pt c b) b.choices
 
 -- its turn is under way: a mark for it may wait already
 abbrev pub Goes : Run → List Way → Limit → Point → StringCursor → BoardValue → Type 0
-Goes r all limit pt c b = GoesWith 0 r all limit pt c b
+Goes r all limit pt c b = GoesWith Going r all limit pt c b
 
 -- it is come to: each mark that waits has turns for what came before it
 abbrev pub Arrives : Run → List Way → Limit → Point → StringCursor → BoardValue → Type 0
-Arrives r all limit pt c b = GoesWith 1 r all limit pt c b
+Arrives r all limit pt c b = GoesWith Coming r all limit pt c b
+
+-- its turn is under way, for one toll alone, whatever the opcode is
+abbrev pub Tries : Run → List Way → Limit → Point → StringCursor → BoardValue → Type 0
+Tries r all limit pt c b = GoesWith Splitting r all limit pt c b
 
 -- the same at two spots, the outcomes of the one before those of the other
 pub record GoesBoth (r : Run) (all : List Way) (limit : Limit) (first second : Spot) (c : StringCursor)

@@ -1,4 +1,4 @@
--- Runs of one test without a greatest count, of which what failed at a position tells what fails later in the stretch.
+-- Runs of one test without a greatest count, of whose ends all but the first are those of the run one character later.
 -- Words of the machine's contracts; what sre_engine makes public does not rest on it.
 use Rattle.std.specs.Prelude.{ℕ, ◌+◌, ◌≡◌, ◌<◌, ◌≤◌, ◌⊎◌, true, List}
 use Rattle.sre_chars.specs.declared.constants.SreOpcode.TheVariants as opcode

@@ -13,7 +13,7 @@ ghost use Rattle.sre_engine.specs.Counts.{SpentUpTo};
 ghost use Rattle.sre_engine.specs.Prefixed.{IsPrefix, IsLast, FitsAt};
 ghost use Rattle.sre_engine.specs.Starts.{NoneBetween};
 ghost use Rattle.sre_engine.specs.Halts.{Halted};
-ghost use Rattle.sre_engine.specs.Costs.{SearchCosts, SearchGivenUp, most_tolls};
+ghost use Rattle.sre_engine.specs.Costs.{SearchCosts, SearchGivenUp};
 ghost use Rattle.sre_engine.specs.Searches.{FindsFirst, LiesInside, CountsInside, CountsToMatch, RunsOnceAnchored};
 ghost use Rattle.sre_engine.specs.Searches.{NoErrorIfLiteral};
 
@@ -337,7 +337,7 @@ impl<A: Allocator + Copy> State<A> {
         ensures spent { (given : ℕ) → SpentUpTo (asked_of req.now) (code_of req.now) given left.old 1
             → SpentUpTo (asked_of req.now) (code_of req.now) given left.new self.new.started }
         ensures given_up { IfErr result (λ halt. halt ≡ Halt.UsedUp
-            → (given : ℕ) → SearchCosts req.now given left.old 1 (most_tolls req.now)
+            → (given : ℕ) → SearchCosts req.now given left.old 1
             → SearchGivenUp req.now given left.new self.new.started) }
         ensures counts { CountsInside req.now self.new }
         ensures up_to_match { IfOk result (λ b. CountsToMatch req.now b self.new) }

@@ -17,7 +17,7 @@ further-requires-clause-stands g c =
 pub returns-in_ok-further-in-MAX_UNTIL : goal.returns-in_ok-further-in-MAX_UNTIL
 returns-in_ok-further-in-MAX_UNTIL g c =
     repeat_further (run_of c.args.req.now) _ _ c.args.cursor _ _ _ c.requires.opcode c.operand-skip.ensures.word
-    c.in_ok-further-in-MAX_UNTIL.ensures
+    c.in-MAX_UNTIL.ensures.code c.in_ok-further-in-MAX_UNTIL.ensures
 
 pub returns-in_ok-enter-in_default : goal.returns-in_ok-enter-in_default
 returns-in_ok-enter-in_default g c =

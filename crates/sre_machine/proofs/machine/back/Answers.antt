@@ -8,12 +8,11 @@ use Rattle.sre_turns.specs.Limits.{earlier, without_tried}
 use Rattle.sre_turns.proofs.Faring.{alternatives_free, shorter_free, longer_free}
 use Rattle.sre_turns.proofs.GoingBack.{back_none, back_arrives, back_at, back_region, later_again}
 use Rattle.sre_turns.proofs.Hopeless.{asked_by_stop}
-use Rattle.sre_turns.proofs.LazyRunEnds.{tried_later_at}
-use Rattle.sre_turns.proofs.Moving.{on_board}
-use Rattle.sre_turns.proofs.Trying.{tried_waits, tried_hopeless, tried_at}
+use Rattle.sre_turns.proofs.Trying.{tried_waits, tried_hopeless}
 use Rattle.sre_turns.proofs.Faring.{nothing_waits}
 use Rattle.sre_machine.proofs.Failing.{still_back}
 use Rattle.sre_machine.proofs.Keeping.{pays_kept}
+use Rattle.sre_machine.specs.Memos.{MemoValue}
 use Rattle.sre_machine.proofs.Paying.{pays_then, grants_then}
 use Rattle.sre_machine.proofs.machine.back.Goals as goal
 
@@ -76,7 +75,7 @@ returns-in-Longer-clause-next g c = λ all limit x.
     all y.0 y.2 in (
       y.0,
       y.1,
-      later_again (run_of c.args.req.now) all y.0 _ _ s.0 (c.in_ok-longer_saved-in-Longer.ensures all
+      later_again (run_of c.args.req.now) all y.0 _ _ s.0 (c.in_ok-longer-in-Longer.ensures all
           (earlier y.0) s.1),
       λ keeps. y.3 (λ none. true≢false (sym (rw none at keeps))),
     )
@@ -105,21 +104,13 @@ returns-in-Again-clause-next g c = λ all limit x.
 
 -- a mark is passed over
 pub keep-requires-clause-failed : goal.keep-requires-clause-failed
-keep-requires-clause-failed g c =
-    let r = run_of c.args.req.now in
+keep-requires-clause-failed g c = λ none.
     let b = c.back.new.self in
-    let told = asked_by_stop (asked_of c.args.req.now) in
     let x = c.choice.invariant.back in
     let marked = c.in-Some.ensures ∙ ap (λ pt. choice pt b.frames c.in-Some.choice.1 b.marks ∷ b.choices)
     c.in-Tried.is in
-    let i = c.in-Tried.place in
-    let cursor = c.in-Some.choice.1 in
-    record {
-      at = on_board r (Instruction i) cursor b (tried_at r i cursor c.choice.board b marked x.all x.limit x.backs);
-      here = λ none. tried_hopeless r told none i cursor c.choice.board b marked x.all x.limit x.backs;
-      later = λ none on q from all.
-          tried_later_at r told none i on cursor c.choice.board b marked x.all x.limit x.backs q from all;
-    }
+    tried_hopeless (run_of c.args.req.now) (asked_by_stop (asked_of c.args.req.now)) none c.in-Tried.place
+    c.in-Some.choice.1 c.choice.board b marked x.all x.limit x.backs
 
 pub choice-preserved-then-this-ne0 : goal.choice-preserved-then-this-ne0
 choice-preserved-then-this-ne0 g c =
@@ -142,6 +133,9 @@ choice-preserved-then-this-ne0 g c =
                 c.keep.ensures.same c.keep.ensures.account all y.0 y.2),
           );
       remembers = c.keep.ensures.remembers;
+      same =
+          c.keep.ensures.same ∙ ap (λ (m : MemoValue). record m { kept = c.keep.new.memo.kept })
+          c.choice.invariant.same;
     }
 
 pub choice-preserved : goal.choice-preserved
@@ -161,4 +155,5 @@ choice-preserved g c =
             λ keeps. absurd (keeps c.if-this-ne0.false),
           );
       remembers = c.choice.invariant.remembers;
+      same = c.choice.invariant.same;
     }

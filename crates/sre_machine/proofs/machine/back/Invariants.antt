@@ -14,6 +14,7 @@ invariant-choice g l = record {
       → (more : Limit) × Grants limit more × Backs (run_of l.req) all more l.board
       × ((g.row.KEEPS ≡ 0 → ⊥) → Pays l.req l.fn.memo limit l.memo more);
   remembers : Remembers (run_of l.req) l.memo.kept;
+  same : l.memo ≡ record l.fn.memo { kept = l.memo.kept };
 }
 
 abbrev pub decreases-choice : goal.decreases-choice

@@ -8,7 +8,7 @@ use Rattle.sre_request.specs.Runs.{run_of}
 use Rattle.sre_board.specs.Failures.{HasBit, Holds, IsOpen}
 use Rattle.sre_board.proofs.Remembering.{remembers_still}
 use Rattle.sre_machine.proofs.Failing.{stays_tried}
-use Rattle.sre_machine.proofs.Opening.{pays_prepared, goes_tried, prepared_at}
+use Rattle.sre_machine.proofs.Opening.{pays_prepared, goes_tried, tries_tried, prepared_at, open_or_refused}
 use Rattle.sre_machine.proofs.trying.has_failed.Goals as goal
 
 pub returns-then-is_kept-clause-left : goal.returns-then-is_kept-clause-left
@@ -65,3 +65,35 @@ returns-clause-goes g c = λ _ all limit arrives.
     goes_tried c.args.req.now c.args.place c.args.cursor b c.args.memo.now m p all limit arrives
     c.begin_trying-made.new.self c.begin_trying-made.result c.begin_trying-made.ensures.marked
     c.begin_trying-made.ensures.left c.begin_trying-made.ensures.refused opened
+
+pub returns-clause-tries : goal.returns-clause-tries
+returns-clause-tries g c = λ _ all limit arrives.
+    let r = run_of c.args.req.now in
+    let b = c.args.board.now in
+    let inside = is_inside b.choices in
+    let x = spot (Instruction c.args.place) c.args.cursor b in
+    let m = c.prepare.new.self in
+    let same : c.items-words.result.now ≡ r.words = c.items-words.ensures.same ∙ ap items_of c.pattern_codes.ensures in
+    let p = prepared_at c.args.req.now c.args.place b c.args.memo.now m c.items-words.result.now
+    c.start.result c.end.result same c.start.ensures.value c.end.ensures.value c.prepare.ensures.same
+    c.prepare.ensures.refused
+    c.prepare.ensures.stay c.prepare.ensures.bits c.prepare.ensures.laid c.prepare.ensures.roomy c.prepare.ensures.rows
+    c.prepare.ensures.there in
+    let opened = subst (λ p. HasBit m.kept r.words inside (record x { position = p })
+    → IsOpen m.kept r.words inside (record x { position = p })) c.position.ensures
+    (subst (λ (ws : List ℕ). HasBit m.kept ws inside (record x { position = c.position.result })
+    → IsOpen m.kept ws inside (record x { position = c.position.result })) same
+    (c.is_kept.ensures.opened c.if-is_kept.false)) in
+    tries_tried c.args.req.now c.args.place c.args.cursor b c.args.memo.now m p all limit arrives
+    c.begin_trying-made.new.self c.begin_trying-made.result c.begin_trying-made.ensures.marked
+    c.begin_trying-made.ensures.left c.begin_trying-made.ensures.refused opened
+
+pub returns-then-is_kept-clause-still : goal.returns-then-is_kept-clause-still
+returns-then-is_kept-clause-still g c =
+    open_or_refused c.args.memo.now c.prepare.new.self c.requires.opened c.prepare.ensures.same
+    c.prepare.ensures.refused
+
+pub returns-clause-still : goal.returns-clause-still
+returns-clause-still g c =
+    open_or_refused c.args.memo.now c.prepare.new.self c.requires.opened c.prepare.ensures.same
+    c.prepare.ensures.refused

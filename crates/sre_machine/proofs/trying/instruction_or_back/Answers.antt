@@ -1,4 +1,5 @@
-use Rattle.sre_machine.proofs.Failing.{turn_goes_on, turn_left}
+use Rattle.sre_machine.proofs.Failing.{turn_goes_on, turn_tried, turn_left, paid_so}
+use Rattle.std.proofs.Common.{sym, ◌∙◌}
 use Rattle.sre_machine.proofs.trying.instruction_or_back.Goals as goal
 
 pub instruction-requires : goal.instruction-requires
@@ -12,14 +13,14 @@ returns-then-is_hopeless-clause-turn g c =
 pub returns-clause-turn : goal.returns-clause-turn
 returns-clause-turn g c =
     turn_goes_on c.args.req.now c.args.place c.args.cursor _ _ _ _ _ c.instruction.result
-    (c.is_hopeless.ensures.goes c.if-is_hopeless.false) c.instruction.ensures
+    (c.is_hopeless.ensures.goes c.if-is_hopeless.false)
+    (paid_so c.args.req.now c.args.place c.args.memo.now c.is_hopeless.new.memo c.is_open-keeps.result
+    (sym c.is_open-keeps.ensures.opened) (c.goes_on_endlessly.ensures.off c.if-goes_on_endlessly.false))
+    c.instruction.ensures
 
-pub returns-in-REPEAT_ONE-clause-turn : goal.returns-in-REPEAT_ONE-clause-turn
-returns-in-REPEAT_ONE-clause-turn g c =
-    turn_goes_on c.args.req.now c.args.place c.args.cursor _ _ _ _ _ c.remembering_repeat_one.result
-    (c.is_hopeless.ensures.goes c.if-is_hopeless.false) c.remembering_repeat_one.ensures
-
-pub returns-in-MIN_REPEAT_ONE-clause-turn : goal.returns-in-MIN_REPEAT_ONE-clause-turn
-returns-in-MIN_REPEAT_ONE-clause-turn g c =
-    turn_goes_on c.args.req.now c.args.place c.args.cursor _ _ _ _ _ c.min_repeat_one.result
-    (c.is_hopeless.ensures.goes c.if-is_hopeless.false) c.min_repeat_one.ensures
+pub returns-then-goes_on_endlessly-clause-turn : goal.returns-then-goes_on_endlessly-clause-turn
+returns-then-goes_on_endlessly-clause-turn g c =
+    turn_tried c.args.req.now c.args.place c.args.cursor _ _ _ _ _ c.endless_run.result
+    (c.is_hopeless.ensures.tries c.if-is_hopeless.false (sym c.is_open-keeps.ensures.opened
+    ∙ c.goes_on_endlessly.ensures.keeps c.if-goes_on_endlessly.true) (c.goes_on_endlessly.ensures.on
+    c.if-goes_on_endlessly.true)) c.endless_run.ensures

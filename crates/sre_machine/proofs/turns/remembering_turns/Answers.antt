@@ -1,4 +1,4 @@
-use Rattle.std.proofs.Common.{◌≡◌, ◌-◌, true, refl, arith, ap}
+use Rattle.std.proofs.Common.{◌≡◌, ◌-◌, ◌∙◌, inl, true, refl, arith, ap}
 use Rattle.sre_turns.specs.Machine.{StandsWithin}
 use Rattle.sre_turns.specs.declared.Next.TheVariants as next
 use Rattle.sre_model.proofs.TurnBounds.{turn_spent, last_spent}
@@ -8,68 +8,107 @@ use Rattle.sre_machine.specs.Memos.{MemoValue}
 use Rattle.sre_machine.proofs.Taken.{stands_at, proceeds_taken, later_taken, again_taken, end_taken}
 use Rattle.sre_machine.specs.Paying.{Pays}
 use Rattle.sre_machine.proofs.Following.{follows_on, given_up, settles, nothing_granted, stands_there}
+use Rattle.sre_machine.proofs.Following.{counts_on, waited_on, same_memo, kept_memo}
 use Rattle.sre_turns.proofs.Faring.{again_free}
 use Rattle.sre_turns.proofs.Moving.{arrived}
 use Rattle.sre_machine.proofs.Halting.{never_used}
 use Rattle.sre_machine.proofs.turns.remembering_turns.Goals as goal
 
-pub returns-then-not-takes_turn-clause-spent : goal.returns-then-not-takes_turn-clause-spent
-returns-then-not-takes_turn-clause-spent g c =
-    last_spent _ _ _ _ _ _ c.turn.invariant.spent c.takes_turn.ensures.spent c.turn.invariant.within
+pub returns-then-not-takes_turns-clause-spent : goal.returns-then-not-takes_turns-clause-spent
+returns-then-not-takes_turns-clause-spent g c =
+    last_spent _ _ _ _ _ _ c.turn.invariant.spent (omega (
+      arith,
+      c.takes_turns.ensures.spent,
+      c.turns_due-turns.ensures.most,
+    )) c.turn.invariant.within
 
 pub returns-in_err-next-in-At-clause-spent : goal.returns-in_err-next-in-At-clause-spent
 returns-in_err-next-in-At-clause-spent g c =
-    last_spent _ _ _ _ _ _ c.turn.invariant.spent c.takes_turn.ensures.spent c.turn.invariant.within
+    last_spent _ _ _ _ _ _ c.turn.invariant.spent (omega (
+      arith,
+      c.takes_turns.ensures.spent,
+      c.turns_due-turns.ensures.most,
+    )) c.turn.invariant.within
 
 pub returns-in_err-next-in-Again-clause-spent : goal.returns-in_err-next-in-Again-clause-spent
 returns-in_err-next-in-Again-clause-spent g c =
-    last_spent _ _ _ _ _ _ c.turn.invariant.spent c.takes_turn.ensures.spent c.turn.invariant.within
+    last_spent _ _ _ _ _ _ c.turn.invariant.spent (omega (
+      arith,
+      c.takes_turns.ensures.spent,
+      c.turns_due-turns.ensures.most,
+    )) c.turn.invariant.within
 
 pub returns-in_err-after-in-Back-clause-spent : goal.returns-in_err-after-in-Back-clause-spent
 returns-in_err-after-in-Back-clause-spent g c =
-    last_spent _ _ _ _ _ _ c.turn.invariant.spent c.takes_turn.ensures.spent c.turn.invariant.within
+    last_spent _ _ _ _ _ _ c.turn.invariant.spent (omega (
+      arith,
+      c.takes_turns.ensures.spent,
+      c.turns_due-turns.ensures.most,
+    )) c.turn.invariant.within
 
 pub returns-in-None-clause-spent : goal.returns-in-None-clause-spent
 returns-in-None-clause-spent g c =
-    last_spent _ _ _ _ _ _ c.turn.invariant.spent c.takes_turn.ensures.spent c.turn.invariant.within
+    last_spent _ _ _ _ _ _ c.turn.invariant.spent (omega (
+      arith,
+      c.takes_turns.ensures.spent,
+      c.turns_due-turns.ensures.most,
+    )) c.turn.invariant.within
 
 pub returns-then-is_accepted-clause-spent : goal.returns-then-is_accepted-clause-spent
 returns-then-is_accepted-clause-spent g c =
-    last_spent _ _ _ _ _ _ c.turn.invariant.spent c.takes_turn.ensures.spent c.turn.invariant.within
+    last_spent _ _ _ _ _ _ c.turn.invariant.spent (omega (
+      arith,
+      c.takes_turns.ensures.spent,
+      c.turns_due-turns.ensures.most,
+    )) c.turn.invariant.within
 
 pub returns-then-is_accepted-clause-decides : goal.returns-then-is_accepted-clause-decides
 returns-then-is_accepted-clause-decides g c =
     let stands : StandsWithin (run_of c.args.req.now) g.K.Plan.all (g.K.Plan.limit - c.turn.turned) c.turn.next
-    c.takes_turn.new.board = rw c.takes_turn.ensures.board c.turn.invariant.stands in
+    c.turns_due-turns.new.board = rw c.turns_due-turns.ensures.board c.turn.invariant.stands in
     accepted_first (run_of c.args.req.now) _ stands.limit c.position.result c.turn.next c.in-Done.cursor
-    c.takes_turn.new.board c.end.new.board _ c.in-Done.is c.position.ensures c.is_accepted.ensures
+    c.turns_due-turns.new.board c.end.new.board _ c.in-Done.is c.position.ensures c.is_accepted.ensures
     c.in-None-end.ensures stands.stands c.if-is_accepted.true
 
 pub turn-preserved : goal.turn-preserved
 turn-preserved g c =
     let r = run_of c.args.req.now in
-    let stands : StandsWithin r g.K.Plan.all (g.K.Plan.limit - c.turn.turned) c.turn.next c.takes_turn.new.board =
-    rw c.takes_turn.ensures.board c.turn.invariant.stands in
-    let t = later_taken r g.K.Plan.all g.K.Plan.limit c.turn.turned c.tick.new.self c.takes_turn.new.board
+    let stands : StandsWithin r g.K.Plan.all (g.K.Plan.limit - c.turn.turned) c.turn.next c.turns_due-turns.new.board =
+    rw c.turns_due-turns.ensures.board c.turn.invariant.stands in
+    let t = later_taken r g.K.Plan.all g.K.Plan.limit c.turn.turned c.tick.new.self c.turns_due-turns.new.board
     c.end.new.board next.Back c.tick.ensures c.turn.next
-    (λ l x. refused_over r _ l c.position.result c.turn.next c.in-Done.cursor c.takes_turn.new.board c.end.new.board _
+    (λ l x. refused_over r _ l c.position.result c.turn.next c.in-Done.cursor c.turns_due-turns.new.board
+    c.end.new.board _
     c.in-Done.is c.position.ensures c.is_accepted.ensures c.in-None-end.ensures x c.if-is_accepted.false) stands in
     record {
       follows =
           follows_on c.args.req.now g.K.Plan.all c.args.first c.args.board.now c.args.memo.now c.args.turned.now
           c.turn.next
-          next.Back c.turn.board c.end.new.board c.turn.memo c.takes_turn.new.memo c.takes_turn.new.memo
-          c.turn.turned c.tick.new.self c.tick.ensures c.takes_turn.ensures.memo
+          next.Back c.turn.board c.end.new.board c.turn.memo c.waits_on.new.memo c.waits_on.new.memo
+          c.turn.turned c.tick.new.self c.tick.ensures c.waits_on.ensures.same
           (λ l x. nothing_granted c.args.req.now g.K.Plan.all c.args.first c.args.board.now c.args.memo.now
-          c.args.turned.now next.Back c.end.new.board c.takes_turn.new.memo l
-          (refused_over r _ l c.position.result c.turn.next c.in-Done.cursor c.takes_turn.new.board c.end.new.board _
+          c.args.turned.now next.Back c.end.new.board c.waits_on.new.memo l
+          (refused_over r _ l c.position.result c.turn.next c.in-Done.cursor c.turns_due-turns.new.board
+          c.end.new.board _
           c.in-Done.is c.position.ensures c.is_accepted.ensures c.in-None-end.ensures
-          (stands_there r _ l c.turn.next c.turn.next c.turn.board c.takes_turn.new.board refl
-          c.takes_turn.ensures.board x) c.if-is_accepted.false)) c.turn.invariant.follows;
+          (stands_there r _ l c.turn.next c.turn.next c.turn.board c.turns_due-turns.new.board refl
+          c.turns_due-turns.ensures.board x) c.if-is_accepted.false)) c.turn.invariant.follows;
       stands = t.1;
       within = omega (arith, c.tick.ensures, t.0);
-      remembers = rw (ap (λ (m : MemoValue). m.kept) c.takes_turn.ensures.memo.same) c.turn.invariant.remembers;
-      spent = rw c.tick.ensures (turn_spent _ _ _ _ _ c.turn.invariant.spent c.takes_turn.ensures.spent);
+      remembers = rw (ap (λ (m : MemoValue). m.kept) c.waits_on.ensures.same) c.turn.invariant.remembers;
+      counts =
+          counts_on c.args.req.now g.K.Plan.all c.args.first c.args.board.now c.args.memo.now
+          c.args.turned.now c.turn.memo c.turn.turned c.args.left.now c.turn.left c.takes_turns.new.left
+          c.turns_due-turns.result c.turn.invariant.counts c.turns_due-turns.ensures.each c.takes_turns.ensures.spent
+          c.waits_on.new.memo c.tick.new.self c.tick.ensures
+          (λ h. inl (ap (λ (k : MemoValue). k.is_open) c.waits_on.ensures.same ∙ h));
+      waited = λ w.
+          waited_on c.args.memo.now c.turn.memo c.waits_on.new.memo c.waits_on.new.memo c.args.left.now c.turn.left
+          c.takes_turns.new.left c.turns_due-turns.result (c.turn.invariant.waited w) c.waits_on.ensures.same
+          (c.waits_on.ensures.waited c.if-not-waits_on.false w) c.takes_turns.ensures.spent
+          (λ h. (refl, refl));
+      spent = rw c.tick.ensures (turn_spent _ _ _ _ _ c.turn.invariant.spent
+          (omega (arith, c.takes_turns.ensures.spent, c.turns_due-turns.ensures.most)));
     }
 
 pub returns-in_err-next-in-At-clause-used : goal.returns-in_err-next-in-At-clause-used
@@ -84,44 +123,58 @@ returns-in_err-after-in-Back-clause-used g c = never_used _ _ c.from_residual-in
 pub turn-smaller-in-At : goal.turn-smaller-in-At
 turn-smaller-in-At g c =
     let r = run_of c.args.req.now in
-    let stands : StandsWithin r g.K.Plan.all (g.K.Plan.limit - c.turn.turned) c.turn.next c.takes_turn.new.board =
-    rw c.takes_turn.ensures.board c.turn.invariant.stands in
-    let t = proceeds_taken r g.K.Plan.all g.K.Plan.limit c.turn.turned c.tick.new.self c.takes_turn.new.board
+    let stands : StandsWithin r g.K.Plan.all (g.K.Plan.limit - c.turn.turned) c.turn.next c.turns_due-turns.new.board =
+    rw c.turns_due-turns.ensures.board c.turn.invariant.stands in
+    let t = proceeds_taken r g.K.Plan.all g.K.Plan.limit c.turn.turned c.tick.new.self c.turns_due-turns.new.board
     c.instruction_or_back.new.board c.in_ok-next-in-At.next c.tick.ensures (next.At c.in-At.place c.in-At.cursor)
-    (λ l more. Pays c.args.req.now c.takes_turn.new.memo l c.instruction_or_back.new.memo more)
+    (λ l more. Pays c.args.req.now c.waits_on.new.memo l c.instruction_or_back.new.memo more)
     (λ l x. c.in_ok-next-in-At.ensures.turn g.K.Plan.all l x) (stands_at r _ _ _ _ _ c.in-At.is stands) in
     omega (arith, c.tick.ensures, t.0)
 
 pub turn-preserved-in-At : goal.turn-preserved-in-At
 turn-preserved-in-At g c =
     let r = run_of c.args.req.now in
-    let stands : StandsWithin r g.K.Plan.all (g.K.Plan.limit - c.turn.turned) c.turn.next c.takes_turn.new.board =
-    rw c.takes_turn.ensures.board c.turn.invariant.stands in
-    let t = proceeds_taken r g.K.Plan.all g.K.Plan.limit c.turn.turned c.tick.new.self c.takes_turn.new.board
+    let stands : StandsWithin r g.K.Plan.all (g.K.Plan.limit - c.turn.turned) c.turn.next c.turns_due-turns.new.board =
+    rw c.turns_due-turns.ensures.board c.turn.invariant.stands in
+    let t = proceeds_taken r g.K.Plan.all g.K.Plan.limit c.turn.turned c.tick.new.self c.turns_due-turns.new.board
     c.instruction_or_back.new.board c.in_ok-next-in-At.next c.tick.ensures (next.At c.in-At.place c.in-At.cursor)
-    (λ l more. Pays c.args.req.now c.takes_turn.new.memo l c.instruction_or_back.new.memo more)
+    (λ l more. Pays c.args.req.now c.waits_on.new.memo l c.instruction_or_back.new.memo more)
     (λ l x. c.in_ok-next-in-At.ensures.turn g.K.Plan.all l x) (stands_at r _ _ _ _ _ c.in-At.is stands) in
     record {
       follows =
           follows_on c.args.req.now g.K.Plan.all c.args.first c.args.board.now c.args.memo.now c.args.turned.now
           c.turn.next
-          c.in_ok-next-in-At.next c.turn.board c.instruction_or_back.new.board c.turn.memo c.takes_turn.new.memo
-          c.instruction_or_back.new.memo c.turn.turned c.tick.new.self c.tick.ensures c.takes_turn.ensures.memo
+          c.in_ok-next-in-At.next c.turn.board c.instruction_or_back.new.board c.turn.memo c.waits_on.new.memo
+          c.instruction_or_back.new.memo c.turn.turned c.tick.new.self c.tick.ensures c.waits_on.ensures.same
           (λ l x. c.in_ok-next-in-At.ensures.turn g.K.Plan.all l
-          (stands_there r _ l c.turn.next (next.At c.in-At.place c.in-At.cursor) c.turn.board c.takes_turn.new.board
-          c.in-At.is c.takes_turn.ensures.board x)) c.turn.invariant.follows;
+          (stands_there r _ l c.turn.next (next.At c.in-At.place c.in-At.cursor) c.turn.board
+          c.turns_due-turns.new.board
+          c.in-At.is c.turns_due-turns.ensures.board x)) c.turn.invariant.follows;
       stands = t.1;
       within = omega (arith, c.tick.ensures, t.0);
       remembers = c.instruction_or_back.ensures.remembers;
-      spent = rw c.tick.ensures (turn_spent _ _ _ _ _ c.turn.invariant.spent c.takes_turn.ensures.spent);
+      counts =
+          counts_on c.args.req.now g.K.Plan.all c.args.first c.args.board.now c.args.memo.now
+          c.args.turned.now c.turn.memo c.turn.turned c.args.left.now c.turn.left c.takes_turns.new.left
+          c.turns_due-turns.result c.turn.invariant.counts c.turns_due-turns.ensures.each c.takes_turns.ensures.spent
+          c.instruction_or_back.new.memo c.tick.new.self c.tick.ensures
+          (λ h. c.in_ok-next-in-At.ensures.still (ap (λ (k : MemoValue). k.is_open) c.waits_on.ensures.same ∙ h));
+      waited = λ w.
+          waited_on c.args.memo.now c.turn.memo c.waits_on.new.memo c.instruction_or_back.new.memo c.args.left.now
+          c.turn.left
+          c.takes_turns.new.left c.turns_due-turns.result (c.turn.invariant.waited w) c.waits_on.ensures.same
+          (c.waits_on.ensures.waited c.if-not-waits_on.false w) c.takes_turns.ensures.spent
+          (λ h. same_memo c.waits_on.new.memo c.instruction_or_back.new.memo (c.in_ok-next-in-At.ensures.closed h));
+      spent = rw c.tick.ensures (turn_spent _ _ _ _ _ c.turn.invariant.spent
+          (omega (arith, c.takes_turns.ensures.spent, c.turns_due-turns.ensures.most)));
     }
 
 pub turn-smaller-in-Again : goal.turn-smaller-in-Again
 turn-smaller-in-Again g c =
     let r = run_of c.args.req.now in
-    let stands : StandsWithin r g.K.Plan.all (g.K.Plan.limit - c.turn.turned) c.turn.next c.takes_turn.new.board =
-    rw c.takes_turn.ensures.board c.turn.invariant.stands in
-    let t = again_taken r g.K.Plan.all g.K.Plan.limit c.turn.turned c.tick.new.self c.takes_turn.new.board
+    let stands : StandsWithin r g.K.Plan.all (g.K.Plan.limit - c.turn.turned) c.turn.next c.turns_due-turns.new.board =
+    rw c.turns_due-turns.ensures.board c.turn.invariant.stands in
+    let t = again_taken r g.K.Plan.all g.K.Plan.limit c.turn.turned c.tick.new.self c.turns_due-turns.new.board
     c.again.new.board c.in_ok-next-in-Again.next c.tick.ensures c.in-Again.cursor c.in_ok-next-in-Again.ensures
     (stands_at r _ _ _ _ _ c.in-Again.is stands) in
     omega (arith, c.tick.ensures, t.0)
@@ -129,92 +182,153 @@ turn-smaller-in-Again g c =
 pub turn-preserved-in-Again : goal.turn-preserved-in-Again
 turn-preserved-in-Again g c =
     let r = run_of c.args.req.now in
-    let stands : StandsWithin r g.K.Plan.all (g.K.Plan.limit - c.turn.turned) c.turn.next c.takes_turn.new.board =
-    rw c.takes_turn.ensures.board c.turn.invariant.stands in
-    let t = again_taken r g.K.Plan.all g.K.Plan.limit c.turn.turned c.tick.new.self c.takes_turn.new.board
+    let stands : StandsWithin r g.K.Plan.all (g.K.Plan.limit - c.turn.turned) c.turn.next c.turns_due-turns.new.board =
+    rw c.turns_due-turns.ensures.board c.turn.invariant.stands in
+    let t = again_taken r g.K.Plan.all g.K.Plan.limit c.turn.turned c.tick.new.self c.turns_due-turns.new.board
     c.again.new.board c.in_ok-next-in-Again.next c.tick.ensures c.in-Again.cursor c.in_ok-next-in-Again.ensures
     (stands_at r _ _ _ _ _ c.in-Again.is stands) in
     record {
       follows =
           follows_on c.args.req.now g.K.Plan.all c.args.first c.args.board.now c.args.memo.now c.args.turned.now
           c.turn.next
-          c.in_ok-next-in-Again.next c.turn.board c.again.new.board c.turn.memo c.takes_turn.new.memo
-          c.takes_turn.new.memo c.turn.turned c.tick.new.self c.tick.ensures c.takes_turn.ensures.memo
+          c.in_ok-next-in-Again.next c.turn.board c.again.new.board c.turn.memo c.waits_on.new.memo
+          c.waits_on.new.memo c.turn.turned c.tick.new.self c.tick.ensures c.waits_on.ensures.same
           (λ l x. nothing_granted c.args.req.now g.K.Plan.all c.args.first c.args.board.now c.args.memo.now
-          c.args.turned.now c.in_ok-next-in-Again.next c.again.new.board c.takes_turn.new.memo l
+          c.args.turned.now c.in_ok-next-in-Again.next c.again.new.board c.waits_on.new.memo l
           (c.in_ok-next-in-Again.ensures g.K.Plan.all l (arrived again_free
-          (stands_there r _ l c.turn.next (next.Again c.in-Again.cursor) c.turn.board c.takes_turn.new.board
-          c.in-Again.is c.takes_turn.ensures.board x)))) c.turn.invariant.follows;
+          (stands_there r _ l c.turn.next (next.Again c.in-Again.cursor) c.turn.board c.turns_due-turns.new.board
+          c.in-Again.is c.turns_due-turns.ensures.board x)))) c.turn.invariant.follows;
       stands = t.1;
       within = omega (arith, c.tick.ensures, t.0);
-      remembers = rw (ap (λ (m : MemoValue). m.kept) c.takes_turn.ensures.memo.same) c.turn.invariant.remembers;
-      spent = rw c.tick.ensures (turn_spent _ _ _ _ _ c.turn.invariant.spent c.takes_turn.ensures.spent);
+      remembers = rw (ap (λ (m : MemoValue). m.kept) c.waits_on.ensures.same) c.turn.invariant.remembers;
+      counts =
+          counts_on c.args.req.now g.K.Plan.all c.args.first c.args.board.now c.args.memo.now
+          c.args.turned.now c.turn.memo c.turn.turned c.args.left.now c.turn.left c.takes_turns.new.left
+          c.turns_due-turns.result c.turn.invariant.counts c.turns_due-turns.ensures.each c.takes_turns.ensures.spent
+          c.waits_on.new.memo c.tick.new.self c.tick.ensures
+          (λ h. inl (ap (λ (k : MemoValue). k.is_open) c.waits_on.ensures.same ∙ h));
+      waited = λ w.
+          waited_on c.args.memo.now c.turn.memo c.waits_on.new.memo c.waits_on.new.memo c.args.left.now c.turn.left
+          c.takes_turns.new.left c.turns_due-turns.result (c.turn.invariant.waited w) c.waits_on.ensures.same
+          (c.waits_on.ensures.waited c.if-not-waits_on.false w) c.takes_turns.ensures.spent
+          (λ h. (refl, refl));
+      spent = rw c.tick.ensures (turn_spent _ _ _ _ _ c.turn.invariant.spent
+          (omega (arith, c.takes_turns.ensures.spent, c.turns_due-turns.ensures.most)));
     }
 
 pub turn-preserved-in-Some-end : goal.turn-preserved-in-Some-end
 turn-preserved-in-Some-end g c =
     let r = run_of c.args.req.now in
-    let stands : StandsWithin r g.K.Plan.all (g.K.Plan.limit - c.turn.turned) c.turn.next c.takes_turn.new.board =
-    rw c.takes_turn.ensures.board c.turn.invariant.stands in
-    let t = end_taken r g.K.Plan.all g.K.Plan.limit c.turn.turned c.tick.new.self c.takes_turn.new.board
+    let stands : StandsWithin r g.K.Plan.all (g.K.Plan.limit - c.turn.turned) c.turn.next c.turns_due-turns.new.board =
+    rw c.turns_due-turns.ensures.board c.turn.invariant.stands in
+    let t = end_taken r g.K.Plan.all g.K.Plan.limit c.turn.turned c.tick.new.self c.turns_due-turns.new.board
     c.end.new.board c.in-Some-end.after c.tick.ensures c.in-Done.cursor c.in-Some-end.ensures
     (stands_at r _ _ _ _ _ c.in-Done.is stands) in
     record {
       follows =
           follows_on c.args.req.now g.K.Plan.all c.args.first c.args.board.now c.args.memo.now c.args.turned.now
           c.turn.next
-          c.in-Some-end.after c.turn.board c.end.new.board c.turn.memo c.takes_turn.new.memo
-          c.takes_turn.new.memo c.turn.turned c.tick.new.self c.tick.ensures c.takes_turn.ensures.memo
+          c.in-Some-end.after c.turn.board c.end.new.board c.turn.memo c.waits_on.new.memo
+          c.waits_on.new.memo c.turn.turned c.tick.new.self c.tick.ensures c.waits_on.ensures.same
           (λ l x. nothing_granted c.args.req.now g.K.Plan.all c.args.first c.args.board.now c.args.memo.now
-          c.args.turned.now c.in-Some-end.after c.end.new.board c.takes_turn.new.memo l
+          c.args.turned.now c.in-Some-end.after c.end.new.board c.waits_on.new.memo l
           (c.in-Some-end.ensures g.K.Plan.all l
-          (stands_there r _ l c.turn.next (next.Done c.in-Done.cursor) c.turn.board c.takes_turn.new.board
-          c.in-Done.is c.takes_turn.ensures.board x))) c.turn.invariant.follows;
+          (stands_there r _ l c.turn.next (next.Done c.in-Done.cursor) c.turn.board c.turns_due-turns.new.board
+          c.in-Done.is c.turns_due-turns.ensures.board x))) c.turn.invariant.follows;
       stands = t.1;
       within = omega (arith, c.tick.ensures, t.0);
-      remembers = rw (ap (λ (m : MemoValue). m.kept) c.takes_turn.ensures.memo.same) c.turn.invariant.remembers;
-      spent = rw c.tick.ensures (turn_spent _ _ _ _ _ c.turn.invariant.spent c.takes_turn.ensures.spent);
+      remembers = rw (ap (λ (m : MemoValue). m.kept) c.waits_on.ensures.same) c.turn.invariant.remembers;
+      counts =
+          counts_on c.args.req.now g.K.Plan.all c.args.first c.args.board.now c.args.memo.now
+          c.args.turned.now c.turn.memo c.turn.turned c.args.left.now c.turn.left c.takes_turns.new.left
+          c.turns_due-turns.result c.turn.invariant.counts c.turns_due-turns.ensures.each c.takes_turns.ensures.spent
+          c.waits_on.new.memo c.tick.new.self c.tick.ensures
+          (λ h. inl (ap (λ (k : MemoValue). k.is_open) c.waits_on.ensures.same ∙ h));
+      waited = λ w.
+          waited_on c.args.memo.now c.turn.memo c.waits_on.new.memo c.waits_on.new.memo c.args.left.now c.turn.left
+          c.takes_turns.new.left c.turns_due-turns.result (c.turn.invariant.waited w) c.waits_on.ensures.same
+          (c.waits_on.ensures.waited c.if-not-waits_on.false w) c.takes_turns.ensures.spent
+          (λ h. (refl, refl));
+      spent = rw c.tick.ensures (turn_spent _ _ _ _ _ c.turn.invariant.spent
+          (omega (arith, c.takes_turns.ensures.spent, c.turns_due-turns.ensures.most)));
     }
 
-pub returns-then-not-takes_turn-clause-given_up : goal.returns-then-not-takes_turn-clause-given_up
-returns-then-not-takes_turn-clause-given_up g c = λ _.
-    given_up c.args.req.now g.K.Plan.all c.args.first c.args.board.now c.args.memo.now c.args.turned.now c.turn.next
-    c.turn.board c.turn.memo c.turn.turned c.args.left.now c.takes_turn.new.left c.turn.invariant.follows
-    (turn_spent _ _ _ _ _ c.turn.invariant.spent c.takes_turn.ensures.spent)
+pub returns-then-not-takes_turns-clause-given_up : goal.returns-then-not-takes_turns-clause-given_up
+returns-then-not-takes_turns-clause-given_up g c = λ _.
+    given_up c.args.req.now g.K.Plan.all c.args.first c.args.board.now c.args.memo.now
+    c.args.turned.now c.turn.memo c.turn.turned c.args.left.now c.turn.left c.takes_turns.new.left
+    c.turns_due-turns.result c.turn.invariant.counts c.turns_due-turns.ensures.each c.takes_turns.ensures.spent
+    c.turn.next c.turn.board
+    c.turn.invariant.follows
 
 pub turn-preserved-in-Some : goal.turn-preserved-in-Some
 turn-preserved-in-Some g c =
     let r = run_of c.args.req.now in
-    let stands : StandsWithin r g.K.Plan.all (g.K.Plan.limit - c.turn.turned) c.turn.next c.takes_turn.new.board =
-    rw c.takes_turn.ensures.board c.turn.invariant.stands in
+    let stands : StandsWithin r g.K.Plan.all (g.K.Plan.limit - c.turn.turned) c.turn.next c.turns_due-turns.new.board =
+    rw c.turns_due-turns.ensures.board c.turn.invariant.stands in
     let retreats = rw c.in-Some.is at c.in_ok-after-in-Back.ensures.next in
-    let t = proceeds_taken r g.K.Plan.all g.K.Plan.limit c.turn.turned c.tick.new.self c.takes_turn.new.board
+    let t = proceeds_taken r g.K.Plan.all g.K.Plan.limit c.turn.turned c.tick.new.self c.turns_due-turns.new.board
     c.back.new.board c.in-Some.after c.tick.ensures next.Back
-    (λ l more. true ≡ true → Pays c.args.req.now c.takes_turn.new.memo l c.back.new.memo more)
+    (λ l more. true ≡ true → Pays c.args.req.now c.waits_on.new.memo l c.back.new.memo more)
     (λ l x. retreats g.K.Plan.all l x) (stands_at r _ _ _ _ _ c.in-Back.is stands) in
     record {
       follows =
           follows_on c.args.req.now g.K.Plan.all c.args.first c.args.board.now c.args.memo.now c.args.turned.now
-          c.turn.next c.in-Some.after c.turn.board c.back.new.board c.turn.memo c.takes_turn.new.memo c.back.new.memo
-          c.turn.turned c.tick.new.self c.tick.ensures c.takes_turn.ensures.memo
+          c.turn.next c.in-Some.after c.turn.board c.back.new.board c.turn.memo c.waits_on.new.memo c.back.new.memo
+          c.turn.turned c.tick.new.self c.tick.ensures c.waits_on.ensures.same
           (λ l x.
           let y = retreats g.K.Plan.all l (stands_there r _ l c.turn.next next.Back c.turn.board
-          c.takes_turn.new.board c.in-Back.is c.takes_turn.ensures.board x) in
+          c.turns_due-turns.new.board c.in-Back.is c.turns_due-turns.ensures.board x) in
           (y.0, y.1, y.2, y.3 refl)) c.turn.invariant.follows;
       stands = t.1;
       within = omega (arith, c.tick.ensures, t.0);
       remembers = c.in_ok-after-in-Back.ensures.remembers;
-      spent = rw c.tick.ensures (turn_spent _ _ _ _ _ c.turn.invariant.spent c.takes_turn.ensures.spent);
+      counts =
+          counts_on c.args.req.now g.K.Plan.all c.args.first c.args.board.now c.args.memo.now
+          c.args.turned.now c.turn.memo c.turn.turned c.args.left.now c.turn.left c.takes_turns.new.left
+          c.turns_due-turns.result c.turn.invariant.counts c.turns_due-turns.ensures.each c.takes_turns.ensures.spent
+          c.back.new.memo c.tick.new.self c.tick.ensures
+          (λ h. inl (ap (λ (k : MemoValue). k.is_open) c.in_ok-after-in-Back.ensures.same ∙
+          (ap (λ (k : MemoValue). k.is_open) c.waits_on.ensures.same ∙ h)));
+      waited = λ w.
+          waited_on c.args.memo.now c.turn.memo c.waits_on.new.memo c.back.new.memo c.args.left.now c.turn.left
+          c.takes_turns.new.left c.turns_due-turns.result (c.turn.invariant.waited w) c.waits_on.ensures.same
+          (c.waits_on.ensures.waited c.if-not-waits_on.false w) c.takes_turns.ensures.spent
+          (λ h. kept_memo c.waits_on.new.memo c.back.new.memo c.in_ok-after-in-Back.ensures.same);
+      spent = rw c.tick.ensures (turn_spent _ _ _ _ _ c.turn.invariant.spent
+          (omega (arith, c.takes_turns.ensures.spent, c.turns_due-turns.ensures.most)));
     }
 
 pub returns-in-None-clause-settles : goal.returns-in-None-clause-settles
 returns-in-None-clause-settles g c = λ _.
     let r = run_of c.args.req.now in
     let finishes = rw c.in-None.is at c.in_ok-after-in-Back.ensures.next in
-    settles c.args.req.now g.K.Plan.all c.args.first c.args.board.now c.args.memo.now c.args.turned.now c.turn.next
-    c.turn.board c.turn.memo c.takes_turn.new.memo c.back.new.memo c.turn.turned c.args.left.now c.takes_turn.new.left
-    c.turn.invariant.follows c.takes_turn.ensures.memo
+    settles c.args.req.now g.K.Plan.all c.args.first c.args.board.now c.args.memo.now
+    c.args.turned.now c.turn.memo c.turn.turned c.args.left.now c.turn.left c.takes_turns.new.left
+    c.turns_due-turns.result c.turn.invariant.counts c.turns_due-turns.ensures.each c.takes_turns.ensures.spent
+    c.turn.next c.turn.board
+    c.waits_on.new.memo c.back.new.memo c.turn.invariant.follows c.waits_on.ensures.same
     (λ l x.
-    let y = (finishes g.K.Plan.all l (stands_there r _ l c.turn.next next.Back c.turn.board c.takes_turn.new.board
-    c.in-Back.is c.takes_turn.ensures.board x)).1 in (y.0, y.1, y.2 refl, y.3))
-    (turn_spent _ _ _ _ _ c.turn.invariant.spent c.takes_turn.ensures.spent)
+    let y = (finishes g.K.Plan.all l (stands_there r _ l c.turn.next next.Back c.turn.board c.turns_due-turns.new.board
+    c.in-Back.is c.turns_due-turns.ensures.board x)).1 in (y.0, y.1, y.2 refl, y.3))
+
+pub returns-then-not-takes_turns-clause-waited_up : goal.returns-then-not-takes_turns-clause-waited_up
+returns-then-not-takes_turns-clause-waited_up g c = λ limited closed pl _.
+    let w = c.may_wait-waits.ensures.waits limited closed pl in
+    let x = c.turn.invariant.waited w in
+    omega (arith, x.turns, c.takes_turns.ensures.spent, c.waits_on.ensures.waited c.if-not-waits_on.false w)
+
+pub returns-in-None-clause-waited : goal.returns-in-None-clause-waited
+returns-in-None-clause-waited g c = λ limited closed pl _.
+    let w = c.may_wait-waits.ensures.waits limited closed pl in
+    waited_on c.args.memo.now c.turn.memo c.waits_on.new.memo c.back.new.memo c.args.left.now c.turn.left
+    c.takes_turns.new.left c.turns_due-turns.result (c.turn.invariant.waited w) c.waits_on.ensures.same
+    (c.waits_on.ensures.waited c.if-not-waits_on.false w) c.takes_turns.ensures.spent
+    (λ h. kept_memo c.waits_on.new.memo c.back.new.memo c.in_ok-after-in-Back.ensures.same)
+
+pub returns-then-is_accepted-clause-waited : goal.returns-then-is_accepted-clause-waited
+returns-then-is_accepted-clause-waited g c = λ limited closed pl _.
+    let w = c.may_wait-waits.ensures.waits limited closed pl in
+    waited_on c.args.memo.now c.turn.memo c.waits_on.new.memo c.waits_on.new.memo c.args.left.now c.turn.left
+    c.takes_turns.new.left c.turns_due-turns.result (c.turn.invariant.waited w) c.waits_on.ensures.same
+    (c.waits_on.ensures.waited c.if-not-waits_on.false w) c.takes_turns.ensures.spent (λ h. (refl, refl))

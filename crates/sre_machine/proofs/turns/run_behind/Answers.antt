@@ -1,54 +1,24 @@
-use Rattle.std.proofs.Common.{◌≡◌, ◌∙◌, ◌*◌, refl, ap, subst, ℕ, List, arith}
-use Rattle.sre_code.specs.Codes.{items_of}
-use Rattle.sre_model.specs.Standing.{AreWords}
-use Rattle.sre_model.specs.Prefixes.{behind_items}
-use Rattle.sre_request.specs.Runs.{run_of}
-use Rattle.sre_turns.proofs.Start.{first_limit}
-use Rattle.sre_machine.proofs.Following.{begins_run, run_given_up, run_settles, if_err, if_ok}
-use Rattle.sre_code.proofs.Checked.{whole_of}
-use Rattle.sre_model.proofs.TreeOf.{tree_of, whole-read}
+use Rattle.std.proofs.Common.{◌≡◌, ◌∙◌, ap, false}
+use Rattle.sre_machine.specs.declared.turns.Decision.TheVariants.{Decided}
+use Rattle.sre_machine.proofs.Following.{again_given_up, again_settles, not_so, passed_up}
 use Rattle.sre_machine.proofs.turns.run_behind.Goals as goal
 
-pub turns_from-requires-clause-stands : goal.turns_from-requires-clause-stands
-turns_from-requires-clause-stands g c =
-    let r = run_of c.args.req.now in
-    let same : c.items.result.now ≡ r.words = c.items.ensures.same ∙ ap items_of c.pattern_codes.ensures in
-    record {
-      limit = first_limit r (2 * c.args.literals) (behind_items c.args.literals (tree_of r.words)) c.args.start 0;
-      turns_left = refl;
-      stands = begins_run r c.args.literals c.args.start c.args.board.now
-          (subst (λ (ws : List ℕ). AreWords ws) same c.know_words.ensures) (whole_of c.args.req.now.pattern_codes)
-          c.requires.behind c.requires.stands c.requires.inside c.requires.fresh 0 (omega arith);
-    }
+pub returns-in_err-told-in-Opened-clause-given_up : goal.returns-in_err-told-in-Opened-clause-given_up
+returns-in_err-told-in-Opened-clause-given_up g c =
+    passed_up c.from_residual-in_err-told-in-Opened.result c.in_err-told-in-Opened.field-0.0 _
+    c.from_residual-in_err-told-in-Opened.ensures.1
+    (λ used. again_given_up c.args.req.now c.args.start c.args.memo.now c.open.new.self c.args.left.now
+    c.run_once-in-Opened.new.left c.open.ensures.opened c.open.ensures.empty
+    (not_so c.args.memo.now.is_open (λ keeps. c.in_ok-found.ensures.opened keeps c.in-Opened.is))
+    (c.in_err-told-in-Opened.ensures.given_up used))
 
-pub returns-clause-given_up : goal.returns-clause-given_up
-returns-clause-given_up g c =
-    let r = run_of c.args.req.now in
-    let same : c.items.result.now ≡ r.words = c.items.ensures.same ∙ ap items_of c.pattern_codes.ensures in
-    let begins = begins_run r c.args.literals c.args.start c.args.board.now
-    (subst (λ (ws : List ℕ). AreWords ws) same c.know_words.ensures) (whole_of c.args.req.now.pattern_codes)
-    c.requires.behind c.requires.stands c.requires.inside c.requires.fresh in
-    if_err c.turns_from.result
-    (λ halt gives used. run_given_up c.args.req.now _ (2 * c.args.literals)
-    (behind_items c.args.literals (tree_of r.words)) c.args.start c.args.board.now
-    c.args.memo.now c.args.left.now c.turns_from.new.left begins (gives used))
-    c.turns_from.ensures.given_up
-
-pub returns-clause-settles : goal.returns-clause-settles
-returns-clause-settles g c = λ limited.
-    let r = run_of c.args.req.now in
-    let same : c.items.result.now ≡ r.words = c.items.ensures.same ∙ ap items_of c.pattern_codes.ensures in
-    let begins = begins_run r c.args.literals c.args.start c.args.board.now
-    (subst (λ (ws : List ℕ). AreWords ws) same c.know_words.ensures) (whole_of c.args.req.now.pattern_codes)
-    c.requires.behind c.requires.stands c.requires.inside c.requires.fresh in
-    if_ok c.turns_from.result
-    (λ found settles none. run_settles c.args.req.now _ (2 * c.args.literals)
-    (behind_items c.args.literals (tree_of r.words)) c.args.start c.args.board.now
-    c.args.memo.now c.args.left.now c.turns_from.new.left begins c.turns_from.new.memo (settles none))
-    (c.turns_from.ensures.settles limited)
-
-pub returns-clause-decides : goal.returns-clause-decides
-returns-clause-decides g c = λ t w. rw (← whole-read _ t w) c.turns_from.ensures.decides
-
-pub returns-clause-spent : goal.returns-clause-spent
-returns-clause-spent g c = λ t w. rw (← whole-read _ t w) c.turns_from.ensures.spent
+pub returns-in-Decided-told-clause-settles : goal.returns-in-Decided-told-clause-settles
+returns-in-Decided-told-clause-settles g c = λ limited none.
+    let closed : c.args.memo.now.is_open ≡ false =
+    not_so c.args.memo.now.is_open (λ keeps. c.in_ok-found.ensures.opened keeps c.in-Opened.is) in
+    rw c.min.ensures
+    (again_settles c.args.req.now c.args.start c.args.memo.now c.open.new.self c.args.left.now
+    c.run_once-in-Opened.new.left c.open.ensures.opened c.open.ensures.empty closed
+    c.run_once-in-Opened.new.memo c.run_once.new.left
+    (λ pl. c.in_ok-found.ensures.waited_out limited closed pl c.in-Opened.is)
+    (c.in_ok-told-in-Opened.ensures.settles limited (c.in-Decided-told.is ∙ ap Decided none)))

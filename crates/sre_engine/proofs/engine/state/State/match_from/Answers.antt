@@ -42,5 +42,5 @@ returns-in_err-end-clause-given_up g c =
     let asked = c.args.req.now in
     let at : c.args.from.position ≡ start_of asked = search rules in
     since_given_up asked _ c.args.from _ _ _ 0 1
-    (since_begin asked c.begin.new.self _ c.begin.ensures.empty c.begin.ensures.steps)
+    (since_begin asked c.begin.new.self _ c.begin.ensures.waits c.begin.ensures.opened)
     (c.in_err-end.ensures.given_up e) (omega (arith, at)) refl)

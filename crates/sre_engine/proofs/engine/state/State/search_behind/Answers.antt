@@ -194,7 +194,7 @@ start-init g c = record {
   spent = search rules;
   costs = λ limited.
       let one : c.self.inside.started ≡ 1 = search rules in
-      behind_begin c.args.req.now c.begin.new.self _ _ c.begin.ensures.empty c.begin.ensures.steps one;
+      behind_begin c.args.req.now c.begin.new.self _ _ c.begin.ensures.waits c.begin.ensures.opened one;
   bars = search rules;
   none = search rules;
 }

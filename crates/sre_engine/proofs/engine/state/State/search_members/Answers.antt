@@ -187,5 +187,5 @@ start-init g c = record {
   uncompared = search rules;
   spent = search rules;
   costs = λ limited.
-      since_begin c.args.req.now c.begin.new.self _ c.begin.ensures.empty c.begin.ensures.steps;
+      since_begin c.args.req.now c.begin.new.self _ c.begin.ensures.waits c.begin.ensures.opened;
 }

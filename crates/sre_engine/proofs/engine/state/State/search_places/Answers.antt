@@ -355,5 +355,5 @@ place-init g c = record {
   fit = search rules;
   spent = search rules;
   costs = λ limited.
-      since_begin c.args.req.now c.begin.new.self _ c.begin.ensures.empty c.begin.ensures.steps;
+      since_begin c.args.req.now c.begin.new.self _ c.begin.ensures.waits c.begin.ensures.opened;
 }

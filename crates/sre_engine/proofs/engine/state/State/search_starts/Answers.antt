@@ -84,7 +84,7 @@ returns-in_err-end-clause-given_up g c =
     let asked = c.args.req.now in
     let at : c.args.from.position ≡ start_of asked = search rules in
     since_given_up asked _ c.in-Some.start _ _ _ 0 _
-    (since_begin asked c.begin.new.self _ c.begin.ensures.empty c.begin.ensures.steps)
+    (since_begin asked c.begin.new.self _ c.begin.ensures.waits c.begin.ensures.opened)
     (c.in_err-end.ensures.given_up e) (omega (arith, at, c.in-Some.ensures.after)) c.attempt.ensures.counted)
 
 pub returns-clause-given_up : goal.returns-clause-given_up
@@ -92,6 +92,6 @@ returns-clause-given_up g c =
     let asked = c.args.req.now in
     let at : c.args.from.position ≡ start_of asked = search rules in
     whole_given_up asked _ c.args.limited _ _ _ _ c.search_behind.ensures.halted
-    (λ limited. costs_first asked c.begin.new.self _ c.in-Some.start _ _ c.begin.ensures.empty c.begin.ensures.steps
+    (λ limited. costs_first asked c.begin.new.self _ c.in-Some.start _ _ c.begin.ensures.waits c.begin.ensures.opened
     (c.in_ok-end.ensures.settles limited c.in_default-2.is) (omega (arith, at, c.in-Some.ensures.after)))
     c.search_behind.ensures.given_up

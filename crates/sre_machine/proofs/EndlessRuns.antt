@@ -1,0 +1,219 @@
+-- Runs without a greatest count, while failures are kept.
+use Rattle.std.proofs.Common.{◌≡◌, ◌⊎◌, inl, inr, ℕ, ◌+◌, ◌-◌, ◌<◌, ◌≤◌, true, false, List, ◌∷◌, Some, None}
+use Rattle.std.proofs.Common.{refl, sym, subst, arith}
+use Rattle.sre_chars.specs.declared.constants.SreOpcode.TheVariants as opcode
+use Rattle.sre_chars.specs.declared.string.StrDrive.{Ghosts}
+use Rattle.sre_chars.specs.declared.string.StringCursor.{StringCursor}
+use Rattle.sre_model.specs.Grammar.{Word, Opcode, word}
+use Rattle.sre_model.specs.Standing.{HasTest, TestStands}
+use Rattle.sre_model.specs.Subject.{passes}
+use Rattle.sre_model.specs.Tree.{Test}
+use Rattle.sre_model.specs.Ways.{Way, run_length}
+use Rattle.sre_model.proofs.Longest.{run_inside, run_at_most}
+use Rattle.sre_model.proofs.Words.{word_there}
+use Rattle.sre_turns.specs.Board.{BoardValue, Else}
+use Rattle.sre_turns.specs.Limits.{Limit}
+use Rattle.sre_turns.specs.Machine.{Tries, GoesBoth, HasRun, Later, Refuses, spot}
+use Rattle.sre_turns.specs.Moves.{spot_at}
+use Rattle.sre_turns.specs.RunEnds.{RunsOn}
+use Rattle.sre_turns.specs.declared.Next.TheVariants as next
+use Rattle.sre_turns.specs.declared.Point.TheVariants.{Instruction}
+use Rattle.sre_turns.proofs.Moving.{both_first, both_second}
+use Rattle.sre_turns.proofs.RunEnds.{run_next, passed, pass_last}
+use Rattle.sre_turns.proofs.LazyRunEnds.{lazy_next}
+use Rattle.sre_turns.proofs.NextRuns.{greedy_both, greedy_only, greedy_short, lazy_both, lazy_only, lazy_short}
+use Rattle.sre_turns.proofs.NextRuns.{both_wait_there}
+use Rattle.sre_turns.proofs.StepsInRuns.{operands_within}
+use Rattle.sre_request.specs.declared.request.Request.{Request}
+use Rattle.sre_request.specs.Requests.{end_of}
+use Rattle.sre_request.specs.Runs.{run_of, OpcodeAt, Standing}
+use Rattle.sre_machine.specs.Runs.{AreOperands}
+use Rattle.sre_machine.specs.Turns.{At}
+use Rattle.sre_machine.specs.EndlessRuns.{AllTaken, LacksLeast, EndsFirst, NotTakenAt, TakenAt}
+use Rattle.sre_machine.specs.declared.run_operands.RunOperands.{RunOperands}
+
+module _ {S : Type 0} {text : Ghosts S} (r : Request S text) (place : ℕ) (on : RunsOn (run_of r).words place)
+    (o : RunOperands) (read : AreOperands r place o) (c : StringCursor) where
+  abbrev ws : List ℕ
+  ws = (run_of r).words
+
+  abbrev v : ℕ
+  v = word ws (place + 1)
+
+  wv : Word ws (place + 1) v
+  wv = word_there ws (place + 1) (omega (arith, operands_within ws place on.test))
+
+  there : HasTest ws (place + 4)
+  there = on.test
+
+  -- it has no end
+  pub run_short : (b : BoardValue) → LacksLeast r place o.least c.position → (all : List Way) (limit : Limit)
+      → Tries (run_of r) all limit (Instruction place) c b → Later (run_of r) all limit next.Back b
+  run_short b lacks = elim on.code [
+    | inl w ↦ greedy_short (run_of r) place o.least v w there wv read.operands.lowest on.greatest c b
+        (lacks.short there.end there.test there.stands)
+    | inr w ↦ lazy_short (run_of r) place o.least v w there wv read.operands.lowest on.greatest c b
+        (lacks.short there.end there.test there.stands)
+  ]
+
+  -- its first end is its only one
+  pub run_only : (b : BoardValue) (end : StringCursor) → EndsFirst r place o.least c.position end None
+      → (all : List Way) (limit : Limit) → Tries (run_of r) all limit (Instruction place) c b
+      → Later (run_of r) all limit (next.At o.tail end) b
+  run_only b end e all limit g =
+      subst (λ t. Later (run_of r) all limit (next.At t end) b) (sym read.operands.leads) (go on.code)
+    where
+      go : Opcode ws place opcode.REPEAT_ONE ⊎ Opcode ws place opcode.MIN_REPEAT_ONE
+          → Later (run_of r) all limit (next.At (place + 1 + v) end) b
+      go (inl w) =
+          greedy_only (run_of r) place o.least v w there wv read.operands.lowest on.greatest c b end
+          (e.taken there.end there.test there.stands) (e.others there.end there.test there.stands) e.position e.stands
+          all limit g
+      go (inr w) =
+          lazy_only (run_of r) place o.least v w there wv read.operands.lowest on.greatest c b end
+          (e.taken there.end there.test there.stands) (e.others there.end there.test there.stands) e.position e.stands
+          (omega arith) all limit g
+
+  module _ (end later : StringCursor) (e : EndsFirst r place o.least c.position end (Some later)) where
+    -- something may come of its tail
+    pub tail_has : At r place c → HasRun (run_of r) (Instruction o.tail) end
+    tail_has x =
+        subst (λ t. HasRun (run_of r) (Instruction t) end) (sym read.operands.leads) (go on.code)
+      where
+        go : Opcode ws place opcode.REPEAT_ONE ⊎ Opcode ws place opcode.MIN_REPEAT_ONE
+            → HasRun (run_of r) (Instruction (place + 1 + v)) end
+        go (inl w) =
+            let y = run_next (run_of r) place o.least v x.frames x.marks w there wv read.operands.lowest on.greatest
+            c.position x.outcomes x.turns (e.others.2 there.end there.test there.stands) x.runs in
+            record {
+              frames = x.frames;
+              marks = x.marks;
+              outcomes = y.own;
+              turns = y.own_turns;
+              stands = e.stands;
+              runs = rw e.position y.own_runs;
+            }
+        go (inr w) =
+            let y = lazy_next (run_of r) place o.least v x.frames x.marks w there wv read.operands.lowest on.greatest
+            c.position x.outcomes x.turns (e.others.2 there.end there.test there.stands) x.runs in
+            record {
+              frames = x.frames;
+              marks = x.marks;
+              outcomes = y.own;
+              turns = y.own_turns;
+              stands = e.stands;
+              runs = rw e.position y.own_runs;
+            }
+
+    -- the spots to which it leads, as they stand at their cursors
+    greedy_spots : (b : BoardValue) (d : StringCursor) → (run_of r).stands d d.position
+        → OpcodeAt r place opcode.REPEAT_ONE → (all : List Way) (limit : Limit)
+        → Tries (run_of r) all limit (Instruction place) c b
+        → GoesBoth (run_of r) all limit (spot (Instruction place) later b)
+        (spot_at (Instruction (place + 1 + v)) b.frames end.position b.marks) d b.choices
+    greedy_spots b d stands w all limit g =
+        rw (e.others.0, e.position) (greedy_both (run_of r) place o.least v w there wv read.operands.lowest on.greatest
+        c b d (e.others.2 there.end there.test there.stands) stands all limit g)
+
+    lazy_spots : (b : BoardValue) (d : StringCursor) → (run_of r).stands d d.position
+        → OpcodeAt r place opcode.MIN_REPEAT_ONE → (all : List Way) (limit : Limit)
+        → Tries (run_of r) all limit (Instruction place) c b
+        → GoesBoth (run_of r) all limit (spot_at (Instruction (place + 1 + v)) b.frames end.position b.marks)
+        (spot (Instruction place) later b) d b.choices
+    lazy_spots b d stands w all limit g =
+        rw (e.others.0, e.position) (lazy_both (run_of r) place o.least v w there wv read.operands.lowest on.greatest c
+        b d (e.others.2 there.end there.test there.stands) stands all limit g)
+
+    -- where its tail refuses it goes on to the run that has its other ends
+    pub run_refused : (b : BoardValue) → Refuses (run_of r) o.tail end.position → (all : List Way) (limit : Limit)
+        → Tries (run_of r) all limit (Instruction place) c b
+        → Later (run_of r) all limit (next.At place later) b
+    run_refused b none all limit g = go on.code
+      where
+        barren : Refuses (run_of r) (place + 1 + v) end.position
+        barren = subst (λ t. Refuses (run_of r) t end.position) read.operands.leads none
+
+        go : Opcode ws place opcode.REPEAT_ONE ⊎ Opcode ws place opcode.MIN_REPEAT_ONE
+            → Later (run_of r) all limit (next.At place later) b
+        go (inl w) =
+            both_first (run_of r) (spot_at (Instruction (place + 1 + v)) b.frames end.position b.marks) place later b
+            b.choices (λ os n x. barren b.frames b.marks os n x) refl all limit
+            (greedy_spots b later e.others.1 w all limit g)
+        go (inr w) =
+            both_second (run_of r) (spot_at (Instruction (place + 1 + v)) b.frames end.position b.marks) place later b
+            b.choices (λ os n x. barren b.frames b.marks os n x) refl all limit
+            (lazy_spots b later e.others.1 w all limit g)
+
+    -- a greedy run goes on to that run, and its own first end waits
+    pub greedy_saves : (b b' : BoardValue) → OpcodeAt r place opcode.REPEAT_ONE
+        → b' ≡ record b { choices = Else (Instruction o.tail) b.frames end b.marks ∷ b.choices }
+        → (all : List Way) (limit : Limit) → Tries (run_of r) all limit (Instruction place) c b
+        → Later (run_of r) all limit (next.At place later) b'
+    greedy_saves b b' w saved all limit g =
+        subst (λ d. Later (run_of r) all limit (next.At place later) d) (sym saved)
+        (both_wait_there (run_of r) place (spot_at (Instruction o.tail) b.frames end.position b.marks) later end b
+        (record b { choices = Else (Instruction o.tail) b.frames end b.marks ∷ b.choices }) b.choices refl e.stands refl
+        all limit (rw read.operands.leads (greedy_spots b later e.others.1 w all limit g)))
+
+    -- a lazy one goes on to its tail, and that run waits
+    pub lazy_saves : (b b' : BoardValue) → OpcodeAt r place opcode.MIN_REPEAT_ONE
+        → b' ≡ record b { choices = Else (Instruction place) b.frames later b.marks ∷ b.choices }
+        → (all : List Way) (limit : Limit) → Tries (run_of r) all limit (Instruction place) c b
+        → Later (run_of r) all limit (next.At o.tail end) b'
+    lazy_saves b b' w saved all limit g =
+        subst (λ d. Later (run_of r) all limit (next.At o.tail end) d) (sym saved)
+        (both_wait_there (run_of r) o.tail (spot (Instruction place) later b) end later b
+        (record b { choices = Else (Instruction place) b.frames later b.marks ∷ b.choices }) b.choices refl e.others.1
+        refl all limit (rw read.operands.leads (lazy_spots b end e.stands w all limit g)))
+
+-- how a run's first end is found
+module _ {S : Type 0} {text : Ghosts S} (r : Request S text) (place low p : ℕ) where
+  -- the window ends before the least count is there
+  pub lacks_cut : end_of r - p < low → LacksLeast r place low p
+  lacks_cut short = record { short = λ j t stands. omega (arith, run_inside (run_of r).subject t low p, short) }
+
+  module _ (count : ℕ)
+      (counts : (j : ℕ) (t : Test) → TestStands (run_of r).words (place + 4) j t
+      → count ≡ run_length (run_of r).subject t low p) where
+    -- fewer characters pass
+    pub lacks_run : count < low → LacksLeast r place low p
+    lacks_run less = record { short = λ j t stands. omega (arith, counts j t stands, less) }
+
+    module _ (end : StringCursor) (there : HasTest (run_of r).words (place + 4)) (enough : low ≤ count)
+        (moved_on : end.position ≡ p + count) (stands : Standing r end) where
+      least_taken : AllTaken r (place + 4) p (p + low)
+      least_taken j t s = passed (run_of r).subject t low p (p + low) (omega (arith, counts j t s, enough))
+
+      full : end.position ≡ p + low
+      full =
+          omega (
+            arith,
+            run_at_most (run_of r).subject there.test low p,
+            counts there.end there.test there.stands,
+            enough,
+            moved_on,
+          )
+
+      -- so many pass, and no more
+      pub ends_only : NotTakenAt r (place + 4) end.position → EndsFirst r place low p end None
+      ends_only stopped = record {
+        position = full;
+        stands = stands;
+        taken = least_taken;
+        others = λ j t s. subst (λ q. passes (run_of r).subject t q ≡ false) full (stopped j t s);
+      }
+
+      -- one more does
+      pub ends_more : (after : StringCursor) → TakenAt r (place + 4) end.position → after.position ≡ p + 1
+          → (run_of r).stands after (p + 1) → EndsFirst r place low p end (Some after)
+      ends_more after more position there_too = record {
+        position = full;
+        stands = stands;
+        taken = least_taken;
+        others = (
+          position,
+          subst (λ q. (run_of r).stands after q) (sym position) there_too,
+          λ j t s. pass_last (run_of r).subject t p (p + low) (least_taken j t s)
+              (subst (λ q. passes (run_of r).subject t q ≡ true) full (more j t s)),
+        );
+      }

@@ -1,0 +1,39 @@
+-- Runs without a greatest count, while failures are kept: their first end, and the run that has the others.
+-- Words of the machine's contracts; what sre_engine makes public does not rest on it.
+use Rattle.std.specs.Prelude.{ℕ, ◌+◌, ◌≡◌, ◌<◌, true, false, Option, MatchOption}
+use Rattle.sre_chars.specs.declared.string.StrDrive.{Ghosts}
+use Rattle.sre_chars.specs.declared.string.StringCursor.{StringCursor}
+use Rattle.sre_model.specs.Tree.{Test}
+use Rattle.sre_model.specs.Subject.{passes}
+use Rattle.sre_model.specs.Ways.{run_length}
+use Rattle.sre_model.specs.Standing.{TestStands}
+use Rattle.sre_turns.specs.RunEnds.{AllPass}
+use Rattle.sre_request.specs.declared.request.Request.{Request}
+use Rattle.sre_request.specs.Runs.{run_of, Standing}
+
+-- the character at p passes the test at a place; so do all from p up to q
+abbrev pub TakenAt : {S : Type 0} {text : Ghosts S} → Request S text → ℕ → ℕ → Type 0
+TakenAt r place p = (j : ℕ) (t : Test) → TestStands (run_of r).words place j t → passes (run_of r).subject t p ≡ true
+
+abbrev pub AllTaken : {S : Type 0} {text : Ghosts S} → Request S text → ℕ → ℕ → ℕ → Type 0
+AllTaken r place p q = (j : ℕ) (t : Test) → TestStands (run_of r).words place j t → AllPass (run_of r).subject t p q
+
+-- the character at p does not pass the test at a place, or is not in the window
+abbrev pub NotTakenAt : {S : Type 0} {text : Ghosts S} → Request S text → ℕ → ℕ → Type 0
+NotTakenAt r place p =
+    (j : ℕ) (t : Test) → TestStands (run_of r).words place j t → passes (run_of r).subject t p ≡ false
+
+-- the run at a place lacks its least count from p on
+pub record LacksLeast {S : Type 0} {text : Ghosts S} (r : Request S text) (place low p : ℕ) : Type 0 where
+  pub short : (j : ℕ) (t : Test) → TestStands (run_of r).words (place + 4) j t
+      → run_length (run_of r).subject t low p < low
+
+-- its first end stands behind the least count; where one character more is taken, the run from one character later has
+-- its other ends
+pub record EndsFirst {S : Type 0} {text : Ghosts S} (r : Request S text) (place low p : ℕ) (end : StringCursor)
+    (later : Option StringCursor) : Type 0 where
+  pub position : end.position ≡ p + low
+  pub stands : Standing r end
+  pub taken : AllTaken r (place + 4) p (p + low)
+  pub others : MatchOption later (NotTakenAt r (place + 4) (p + low))
+      (λ x. (x.position ≡ p + 1) × Standing r x × AllTaken r (place + 4) p (p + low + 1))

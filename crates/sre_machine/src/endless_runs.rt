@@ -1,0 +1,153 @@
+//! Runs without a greatest count, while failures are kept: turn by turn.
+//!
+//! What comes of such a run is what comes of the same run from one character later, and of its own first end. So it
+//! goes on to that run, which is looked up and tried like any other instruction, and each end is tried once, from
+//! wherever the run is come to.
+
+ghost use Rattle.std.specs.Prelude.{None, ◌≡◌, ◌+◌, ◌-◌, ◌^◌, ◌<◌, ◌≤◌, MatchOption, IfOk, true, false};
+ghost use Rattle.sre_turns.specs.RunEnds.{RunsOn};
+ghost use Rattle.sre_request.specs.Requests.{end_of};
+ghost use Rattle.sre_request.specs.Runs.{run_of, OpcodeAt, Standing, TestAt};
+ghost use Rattle.sre_machine.specs.Turns.{At, TurnOnce};
+ghost use Rattle.sre_machine.specs.EndlessRuns.{TakenAt, NotTakenAt, LacksLeast, EndsFirst};
+
+use crate::machine::{opcode, refuses};
+use crate::run_operands::run_operands;
+use sre_board::Board;
+use sre_chars::constants::{MAXREPEAT, SreOpcode};
+use sre_chars::string::{StrDrive, StringCursor};
+use sre_growth::Refusal;
+use sre_reading::one_character;
+use sre_reading::one_character::takes;
+use sre_reading::runs::run_up_to;
+use sre_reading::text::read;
+use sre_reading::words::{operand, word};
+use sre_request::Request;
+use sre_turns::{Next, Point};
+use std::alloc::Allocator;
+
+/// Whether a run without a greatest count, greedy or lazy, is at a place.
+#[inline(always)]
+pub(super) fn is_endless_run<S: StrDrive>(
+    req: &Request<'_, S>,
+    place: usize,
+    cursor: StringCursor,
+) -> bool
+    requires { At req.now place cursor }
+    ensures on { result ≡ true → RunsOn (run_of req.now).words place }
+    ensures off { result ≡ false → RunsOn (run_of req.now).words place → ⊥ }
+{
+    match opcode(req, place, cursor) {
+        SreOpcode::REPEAT_ONE => operand(req, place, 3) as usize == MAXREPEAT,
+        SreOpcode::MIN_REPEAT_ONE => operand(req, place, 3) as usize == MAXREPEAT,
+        _ => false,
+    }
+}
+
+// Whether the run at a place is a lazy one; else it is greedy.
+#[inline(always)]
+fn is_lazy<S: StrDrive>(req: &Request<'_, S>, place: usize) -> bool
+    requires { RunsOn (run_of req.now).words place }
+    ensures lazy { result ≡ true → OpcodeAt req.now place SreOpcode.MIN_REPEAT_ONE }
+    ensures greedy { result ≡ false → OpcodeAt req.now place SreOpcode.REPEAT_ONE }
+{
+    word(req, place) == SreOpcode::MIN_REPEAT_ONE as u32
+}
+
+// Whether the test at a place takes the next character of the window.
+#[inline(always)]
+fn takes_next<S: StrDrive>(
+    req: &Request<'_, S>,
+    place: usize,
+    test: SreOpcode,
+    cursor: StringCursor,
+) -> bool
+    requires opcode { OpcodeAt req.now place test }
+    requires test { TestAt req.now place }
+    requires stands { Standing req.now cursor }
+    ensures taken { result ≡ true → TakenAt req.now place cursor.position }
+    ensures inside { result ≡ true → cursor.position < end_of req.now }
+    ensures not_taken { result ≡ false → NotTakenAt req.now place cursor.position }
+{
+    if cursor.position() >= req.end() {
+        return false;
+    }
+    let (character, _after) = read(req, cursor);
+    takes(req, place, test, character)
+}
+
+// The first end of a run, behind its least count, and where the run begins that has its other ends: one character
+// later, if there are any.
+#[derive(Clone, Copy)]
+struct FirstEnd {
+    end: StringCursor,
+    later: Option<StringCursor>,
+}
+
+// The first end of a run without a greatest count, if it has one.
+#[inline(always)]
+fn first_end<S: StrDrive, A: Allocator>(
+    req: &Request<'_, S>,
+    board: &mut Board<A>,
+    place: usize,
+    least: usize,
+    start: StringCursor,
+) -> Option<FirstEnd>
+    requires test { TestAt req.now (place + 4) }
+    requires room { place + 2 ^ 33 < 2 ^ 64 }
+    requires stands { Standing req.now start }
+    ensures ends { MatchOption result
+        (LacksLeast req.now place least start.position)
+        (λ x. EndsFirst req.now place least start.position x.end x.later) }
+    ensures board { board.new ≡ board.old }
+{
+    if req.end().saturating_sub(start.position()) < least {
+        return None;
+    }
+    let run = run_up_to(req, place + 4, least, start);
+    board.pass(run.count);
+    if run.count < least {
+        return None;
+    }
+    let end = run.end;
+    let test = one_character::opcode(req, place + 4);
+    if !takes_next(req, place + 4, test, end) {
+        return Some(FirstEnd { end, later: None });
+    }
+    let (_character, after) = read(req, start);
+    Some(FirstEnd {
+        end,
+        later: Some(after),
+    })
+}
+
+/// A run without a greatest count, while failures are kept: its first end, and the same run from one character later.
+#[inline(always)]
+pub(super) fn endless_run<S: StrDrive, A: Allocator>(
+    req: &Request<'_, S>,
+    board: &mut Board<A>,
+    place: usize,
+    cursor: StringCursor,
+) -> Result<Next, Refusal>
+    requires on { RunsOn (run_of req.now).words place }
+    requires stands { At req.now place cursor }
+    ensures { IfOk result (λ next. TurnOnce req.now place cursor board.old next board.new) }
+{
+    let operands = run_operands(req, place);
+    let Some(first) = first_end(req, board, place, operands.least, cursor) else {
+        return Ok(Next::Back);
+    };
+    let end = first.end;
+    let Some(later) = first.later else {
+        return Ok(Next::At(operands.tail, end));
+    };
+    if refuses(req, operands.tail, end) {
+        return Ok(Next::At(place, later));
+    }
+    if is_lazy(req, place) {
+        board.save(Point::Instruction(place), later)?;
+        return Ok(Next::At(operands.tail, end));
+    }
+    board.save(Point::Instruction(operands.tail), end)?;
+    Ok(Next::At(place, later))
+}

@@ -1,0 +1,299 @@
+-- A run without a greatest count, turn by turn: what comes of it is what comes of the run that begins one character
+-- later, and of its own first end. While failures are kept the machine goes by that, so that each end is tried once,
+-- from wherever the run is come to. Such a turn has two ways to go on at most, so one toll alone pays for it.
+use Rattle.std.proofs.Common.{◌≡◌, ℕ, suc, ◌+◌, ◌-◌, ◌<◌, ◌≤◌, false, List, ◌∷◌, ◌++◌, refl, sym, ap, ◌∙◌}
+use Rattle.std.proofs.Common.{subst, arith, append-nil}
+use Rattle.sre_chars.specs.declared.constants.SreOpcode.TheVariants as opcode
+use Rattle.sre_chars.specs.declared.string.StringCursor.{StringCursor}
+use Rattle.sre_model.specs.Marks.{Marks}
+use Rattle.sre_model.specs.Subject.{passes}
+use Rattle.sre_model.specs.Ways.{Way, unlimited, run_length, longest_run}
+use Rattle.sre_model.specs.Grammar.{Word, Opcode}
+use Rattle.sre_model.specs.Runs.{Run}
+use Rattle.sre_model.specs.Standing.{HasTest}
+use Rattle.sre_model.proofs.Bounds.{passes-below}
+use Rattle.sre_turns.specs.Board.{Choice, Else, BoardValue}
+use Rattle.sre_turns.specs.Limits.{Limit, earlier, grant, Fares, FaresAt, FaresBoth}
+use Rattle.sre_turns.specs.Machine.{Moves, Runs, Comes, splits, Tries, GoesBoth, Later, Waits, otherwise, spot}
+use Rattle.sre_turns.specs.Moves.{Spot, spot_at, Stop, Split}
+use Rattle.sre_turns.specs.Nested.{Lies}
+use Rattle.sre_turns.specs.Potential.{potential_of}
+use Rattle.sre_turns.specs.RunEnds.{AllPass}
+use Rattle.sre_turns.specs.Settled.{Regionless, SettledIn}
+use Rattle.sre_turns.specs.declared.Frame.{Frame}
+use Rattle.sre_turns.specs.declared.Next.TheVariants as next
+use Rattle.sre_turns.specs.declared.Point.TheVariants.{Instruction, Shorter, Longer}
+use Rattle.sre_turns.proofs.Faring.{fares_less, fares_earlier, first_waits, run_code}
+use Rattle.sre_turns.proofs.Moving.{comes, run_nothing, some_turns, sooner}
+use Rattle.sre_turns.proofs.NestedPositions.{all_later}
+use Rattle.sre_turns.proofs.PotentialMoves.{toll_pays}
+use Rattle.sre_turns.proofs.SettledMoves.{settled_moves}
+use Rattle.sre_turns.proofs.StepsInRuns.{shorter_stop}
+use Rattle.sre_turns.proofs.RunEnds.{longest_reaches, run_moves, run_next, run_only_moves, run_short_moves}
+use Rattle.sre_turns.proofs.LazyRunEnds.{lazy_next, lazy_moves, lazy_stops, longer_stops}
+
+-- an instruction further on in the text is settled, where it lies in the words under the same loops
+settled_on : (r : Run) (pl : Regionless r) (start i j p q z : ℕ) (fs : List Frame) (m : Marks)
+    → SettledIn r pl start (spot_at (Instruction i) fs p m)
+    → Lies r.words pl.tree pl.whole (spot_at (Instruction j) fs z m) → p ≤ q → q ≤ r.subject.end
+    → SettledIn r pl start (spot_at (Instruction j) fs q m)
+settled_on r pl start i j p q z fs m h lies l e = record {
+  lies = lies;
+  passed = all_later p q fs l h.passed;
+  inside = e;
+  from = omega (arith, h.from, l);
+}
+
+-- an instruction is tried that can make no turn but the last
+tries_nothing : (r : Run) (i : ℕ) (c : StringCursor) (b : BoardValue)
+    → Moves r.words r.subject (spot (Instruction i) c b) Stop → (all : List Way) (limit : Limit)
+    → Tries r all limit (Instruction i) c b → Later r all limit next.Back b
+tries_nothing r i c b none all limit g = (
+  omega (arith, some_turns g.runs, g.within),
+  record {
+    later = g.later;
+    waits = sooner (g.turns + 0) 0 (omega arith)
+        (subst (λ us. Waits r b.choices (g.turns + 0) us all g.later) (run_nothing none g.runs) g.waits);
+    within = omega (arith, some_turns g.runs, g.within);
+    fares = λ pl.
+        let code = run_code r (spot (Instruction i) c b) g.runs in
+        fares_earlier r pl limit b.choices 0 _ (omega arith) (g.fares pl code.0 code.1).fares;
+  },
+)
+
+-- two spots come of one that is tried, and the second can make no turn but the last: the machine goes on at the first
+tries_first : (r : Run) (i j : ℕ) (z : Spot) (c d : StringCursor) (b : BoardValue)
+    → Moves r.words r.subject (spot (Instruction i) c b) (Split (spot (Instruction j) d b) z)
+    → Moves r.words r.subject z Stop → r.stands d d.position → (all : List Way) (limit : Limit)
+    → Tries r all limit (Instruction i) c b → Later r all limit (next.At j d) b
+tries_first r i j z c d b mv none stands all limit g = go (comes (Split y z) mv g.runs) g.waits g.within
+  where
+    x : Spot
+    x = spot (Instruction i) c b
+
+    y : Spot
+    y = spot (Instruction j) d b
+
+    first_fares : (pl : Regionless r)
+        → FaresAt r pl (earlier limit) (potential_of r.words r.subject.end y) y b.choices
+    first_fares pl =
+        let code = run_code r x g.runs in
+        let f = g.fares pl code.0 code.1 in
+        let on = settled_moves r.words r.subject pl.tree pl.whole limit.start pl.no_region x (Split y z) f.here mv in
+        record {
+          here = on.0;
+          fares =
+              fares_earlier r pl limit b.choices _ _ (omega (arith, toll_pays r.words 0 (omega arith))) f.fares;
+        }
+
+    go : {os : List Way} {n k : ℕ} → Comes r.words r.subject x (Split y z) os n
+        → Waits r b.choices (n + 0) os all k → n + k ≤ limit.turns → Later r all limit (next.At j d) b
+    go {os} {n} {k} (splits {os₁ = os₁} {os₂ = os₂} {n₁ = n₁} {n₂ = n₂} x₁ x₂) wt l =
+        let same : os₁ ++ os₂ ≡ os₁ = ap (λ us. os₁ ++ us) (run_nothing none x₂) ∙ append-nil os₁ in (
+          omega arith,
+          record {
+            now = os₁;
+            turns = n₁;
+            later = k;
+            stands = stands;
+            placed = g.placed;
+            runs = x₁;
+            waits =
+                sooner (suc (suc (n₁ + n₂)) + 0) (n₁ + 1) (omega arith)
+                (subst (λ us. Waits r b.choices (suc (suc (n₁ + n₂)) + 0) us all k) same wt);
+            within = omega arith;
+            fares = λ pl o w. first_fares pl;
+          },
+        )
+
+-- two spots that are come to by a turn of which so much is left
+both_fare : (r : Run) (pl : Regionless r) (limit : Limit) (n : ℕ) (x y : Spot) (cs : List Choice)
+    → SettledIn r pl limit.start x → SettledIn r pl limit.start y
+    → potential_of r.words r.subject.end x + potential_of r.words r.subject.end y + 2 ≤ n
+    → Fares r pl limit n cs → FaresBoth r pl limit x y cs
+both_fare r pl limit n x y cs first second l f = record {
+  first = first;
+  second = second;
+  fares = fares_less r pl limit cs _ n l f;
+}
+
+-- a greedy run without a greatest count
+module _ (r : Run) (i low v : ℕ) (w : Opcode r.words i opcode.REPEAT_ONE) (there : HasTest r.words (i + 4))
+    (wv : Word r.words (i + 1) v) (wl : Word r.words (i + 2) low) (wh : Word r.words (i + 3) unlimited)
+    (c : StringCursor) (b : BoardValue) where
+  -- its tail at a position
+  abbrev tail_at : ℕ → Spot
+  tail_at q = spot_at (Instruction (i + 1 + v)) b.frames q b.marks
+
+  -- the run at a position
+  abbrev run_at : ℕ → Spot
+  run_at q = spot_at (Instruction i) b.frames q b.marks
+
+  -- one toll pays for the run from the next character on, and for its own first end
+  greedy_fare : (pl : Regionless r) (limit : Limit) → AllPass r.subject there.test c.position (c.position + low + 1)
+      → FaresAt r pl limit (potential_of r.words r.subject.end (run_at c.position) + grant r.words)
+      (run_at c.position) b.choices
+      → FaresBoth r pl limit (run_at (c.position + 1)) (tail_at (c.position + low)) b.choices
+  greedy_fare pl limit all_pass f =
+      let reaches = longest_reaches r there.test c.position (c.position + low + 1) all_pass in
+      let inside : c.position + low < r.subject.end =
+      passes-below r.subject there.test (c.position + low) (all_pass (c.position + low) (omega arith) (omega arith)) in
+      let on = settled_moves r.words r.subject pl.tree pl.whole limit.start pl.no_region (run_at c.position)
+      (Split (tail_at (c.position + longest_run r.subject there.test unlimited c.position))
+      (spot_at (Shorter (i + 1 + v) (longest_run r.subject there.test unlimited c.position - low)) b.frames
+      (c.position + longest_run r.subject there.test unlimited c.position) b.marks)) f.here
+      (run_moves r i low v b.frames b.marks w there wv wl wh c.position
+      (longest_run r.subject there.test unlimited c.position) refl (omega (arith, reaches))) in
+      both_fare r pl limit _ (run_at (c.position + 1)) (tail_at (c.position + low)) b.choices
+      (settled_on r pl limit.start i i c.position (c.position + 1) c.position b.frames b.marks f.here f.here.lies
+      (omega arith) (omega (arith, inside)))
+      (settled_on r pl limit.start i (i + 1 + v) c.position (c.position + low)
+      (c.position + longest_run r.subject there.test unlimited c.position) b.frames b.marks f.here on.0.lies
+      (omega arith) (omega (arith, inside)))
+      (omega (arith, toll_pays r.words 0 (omega arith)))
+      f.fares
+
+  -- where more than its least count passes, these two come of it
+  pub greedy_both : (d : StringCursor) → AllPass r.subject there.test c.position (c.position + low + 1)
+      → r.stands d d.position → (all : List Way) (limit : Limit) → Tries r all limit (Instruction i) c b
+      → GoesBoth r all limit (run_at (c.position + 1)) (tail_at (c.position + low)) d b.choices
+  greedy_both d all_pass stands all limit g =
+      let y = run_next r i low v b.frames b.marks w there wv wl wh c.position g.now g.turns all_pass g.runs in
+      record {
+        now = y.again;
+        next = y.own;
+        turns = y.again_turns;
+        further = y.own_turns;
+        later = g.later;
+        stands = stands;
+        placed = g.placed;
+        others_placed = g.placed;
+        runs = y.again_runs;
+        others = y.own_runs;
+        waits =
+            sooner (g.turns + 0) (y.again_turns + y.own_turns + 2) (omega (arith, y.sum))
+            (subst (λ us. Waits r b.choices (g.turns + 0) us all g.later) y.both g.waits);
+        within = omega (arith, y.sum, g.within);
+        fares = λ pl. greedy_fare pl limit all_pass (g.fares pl opcode.REPEAT_ONE w);
+      }
+
+  -- where no more passes, its first end is its only one
+  pub greedy_only : (d : StringCursor) → AllPass r.subject there.test c.position (c.position + low)
+      → passes r.subject there.test (c.position + low) ≡ false → d.position ≡ c.position + low → r.stands d d.position
+      → (all : List Way) (limit : Limit) → Tries r all limit (Instruction i) c b
+      → Later r all limit (next.At (i + 1 + v) d) b
+  greedy_only d all_pass stopped e stands all limit g =
+      let z : Spot = spot_at (Shorter (i + 1 + v) (low - low)) b.frames (c.position + low) b.marks in
+      let mv = run_only_moves r i low v b.frames b.marks w there wv wl wh c.position all_pass stopped in
+      tries_first r i (i + 1 + v) z c d b
+      (subst (λ q. Moves r.words r.subject (run_at c.position) (Split (tail_at q) z)) (sym e) mv)
+      (shorter_stop r (i + 1 + v) (low - low) (c.position + low) b.frames b.marks (omega arith)) stands all limit g
+
+  -- where less passes it has none
+  pub greedy_short : run_length r.subject there.test low c.position < low
+      → (all : List Way) (limit : Limit) → Tries r all limit (Instruction i) c b → Later r all limit next.Back b
+  greedy_short short all limit g =
+      tries_nothing r i c b (run_short_moves r i low v b.frames b.marks w there wv wl wh c.position short) all limit g
+
+-- a lazy one
+module _ (r : Run) (i low v : ℕ) (w : Opcode r.words i opcode.MIN_REPEAT_ONE) (there : HasTest r.words (i + 4))
+    (wv : Word r.words (i + 1) v) (wl : Word r.words (i + 2) low) (wh : Word r.words (i + 3) unlimited)
+    (c : StringCursor) (b : BoardValue) where
+  -- its tail at a position
+  abbrev tail_of : ℕ → Spot
+  tail_of q = spot_at (Instruction (i + 1 + v)) b.frames q b.marks
+
+  -- the run at a position
+  abbrev lazy_at : ℕ → Spot
+  lazy_at q = spot_at (Instruction i) b.frames q b.marks
+
+  -- one toll pays for its own first end, and for the run from the next character on
+  lazy_fare : (pl : Regionless r) (limit : Limit) → AllPass r.subject there.test c.position (c.position + low + 1)
+      → FaresAt r pl limit (potential_of r.words r.subject.end (lazy_at c.position) + grant r.words)
+      (lazy_at c.position) b.choices
+      → FaresBoth r pl limit (tail_of (c.position + low)) (lazy_at (c.position + 1)) b.choices
+  lazy_fare pl limit all_pass f =
+      let inside : c.position + low < r.subject.end =
+      passes-below r.subject there.test (c.position + low) (all_pass (c.position + low) (omega arith) (omega arith)) in
+      let on = settled_moves r.words r.subject pl.tree pl.whole limit.start pl.no_region (lazy_at c.position)
+      (Split (tail_of (c.position + low)) (spot_at (Longer i low) b.frames (c.position + low) b.marks)) f.here
+      (lazy_moves r i low v b.frames b.marks w there wv wl wh c.position
+      (λ d from to. all_pass d from (omega (arith, to)))) in
+      both_fare r pl limit _ (tail_of (c.position + low)) (lazy_at (c.position + 1)) b.choices
+      on.0
+      (settled_on r pl limit.start i i c.position (c.position + 1) c.position b.frames b.marks f.here f.here.lies
+      (omega arith) (omega (arith, inside)))
+      (omega (arith, toll_pays r.words 0 (omega arith)))
+      f.fares
+
+  -- where more than its least count passes, these two come of it
+  pub lazy_both : (d : StringCursor) → AllPass r.subject there.test c.position (c.position + low + 1)
+      → r.stands d d.position → (all : List Way) (limit : Limit) → Tries r all limit (Instruction i) c b
+      → GoesBoth r all limit (tail_of (c.position + low)) (lazy_at (c.position + 1)) d b.choices
+  lazy_both d all_pass stands all limit g =
+      let y = lazy_next r i low v b.frames b.marks w there wv wl wh c.position g.now g.turns all_pass g.runs in
+      record {
+        now = y.own;
+        next = y.again;
+        turns = y.own_turns;
+        further = y.again_turns;
+        later = g.later;
+        stands = stands;
+        placed = g.placed;
+        others_placed = g.placed;
+        runs = y.own_runs;
+        others = y.again_runs;
+        waits =
+            sooner (g.turns + 0) (y.own_turns + y.again_turns + 2) (omega (arith, y.sum))
+            (subst (λ us. Waits r b.choices (g.turns + 0) us all g.later) y.both g.waits);
+        within = omega (arith, y.sum, g.within);
+        fares = λ pl. lazy_fare pl limit all_pass (g.fares pl opcode.MIN_REPEAT_ONE w);
+      }
+
+  -- where no more passes, its first end is its only one
+  pub lazy_only : (d : StringCursor) → AllPass r.subject there.test c.position (c.position + low)
+      → passes r.subject there.test (c.position + low) ≡ false → d.position ≡ c.position + low → r.stands d d.position
+      → low ≤ c.position + low
+      → (all : List Way) (limit : Limit) → Tries r all limit (Instruction i) c b
+      → Later r all limit (next.At (i + 1 + v) d) b
+  lazy_only d all_pass stopped e stands past all limit g =
+      let z : Spot = spot_at (Longer i low) b.frames (c.position + low) b.marks in
+      let mv = lazy_moves r i low v b.frames b.marks w there wv wl wh c.position all_pass in
+      tries_first r i (i + 1 + v) z c d b
+      (subst (λ q. Moves r.words r.subject (lazy_at c.position) (Split (tail_of q) z)) (sym e) mv)
+      (longer_stops r i low v b.frames b.marks w there wv wl wh low (c.position + low) past stopped) stands all limit
+      g
+
+  -- where less passes it has none
+  pub lazy_short : run_length r.subject there.test low c.position < low
+      → (all : List Way) (limit : Limit) → Tries r all limit (Instruction i) c b → Later r all limit next.Back b
+  lazy_short short all limit g =
+      tries_nothing r i c b (lazy_stops r i low v b.frames b.marks w there wv wl wh c.position short) all limit g
+
+-- the second of two spots waits at a cursor of its own, and the machine goes on at the first
+pub both_wait_there : (r : Run) (i : ℕ) (z : Spot) (c d : StringCursor) (b b' : BoardValue) (cs : List Choice)
+    → z.position ≡ d.position → r.stands d d.position → b'.choices ≡ Else z.point z.frames d z.marks ∷ cs
+    → (all : List Way) (limit : Limit)
+    → GoesBoth r all limit (spot (Instruction i) c b') z c cs → Later r all limit (next.At i c) b'
+both_wait_there r i z c d b b' cs same_place stands eb all limit g =
+    let others : Runs r.words r.subject (spot_at z.point z.frames d.position z.marks) g.next g.further =
+    subst (λ p. Runs r.words r.subject (spot_at z.point z.frames p z.marks) g.next g.further) same_place g.others in (
+      omega (arith, g.within),
+      record {
+        now = g.now;
+        turns = g.turns;
+        later = suc (g.further + g.later);
+        stands = g.stands;
+        placed = g.placed;
+        runs = g.runs;
+        waits =
+            subst (λ x. Waits r x (g.turns + 1) g.now all (suc (g.further + g.later))) (sym eb)
+            (otherwise stands g.others_placed others
+            (sooner (g.turns + g.further + 2) (g.turns + 1 + g.further + 1) (omega arith) g.waits));
+        within = omega (arith, g.within);
+        fares = λ pl o w.
+            let x : Spot = spot (Instruction i) c b' in
+            subst (λ xs. FaresAt r pl (earlier limit) (potential_of r.words r.subject.end x) x xs) (sym eb)
+            (first_waits r pl limit x z cs (g.fares pl) d same_place);
+      },
+    )
