@@ -2,8 +2,7 @@
 -- there are at most.
 use Rattle.std.proofs.Common.{◌≡◌, ℕ, zero, suc, ◌+◌, ◌*◌, ◌<◌, ◌≤◌, ◌⊎◌, inl, inr, false}
 use Rattle.std.proofs.Common.{List, [], ◌∷◌, ◌++◌, length, Some, slice_get, slice_index}
-use Rattle.std.proofs.Common.{refl, sym, ap, ◌∙◌, subst, arith, length-append, mul-le-mul}
-use Rattle.std.specs.Prelude.{⊤}
+use Rattle.std.proofs.Common.{refl, sym, ap, ◌∙◌, subst, arith, length-append}
 use Rattle.std.specs.Int.{bit_at}
 use Rattle.std.specs.List.{AllByRecursion}
 use Rattle.std.proofs.lemmas.Bool.{cases_order}
@@ -11,15 +10,15 @@ use Rattle.std.proofs.lemmas.Nat.Bits.{bit_at-zero}
 use Rattle.sre_model.specs.Runs.{Run}
 use Rattle.sre_turns.specs.Alike.{Alike}
 use Rattle.sre_turns.specs.Moves.{Spot}
+use Rattle.sre_turns.specs.Nested.{Lies}
 use Rattle.sre_turns.specs.Settled.{Regionless}
-use Rattle.sre_board.specs.Accounts.{BitOf, IsSet, BitsOf, RowLies, Account, most_bits}
+use Rattle.sre_board.specs.Accounts.{BitOf, IsSet, BitsOf, IsOwned, RowLies, IsRoomy, Account, most_bits}
 use Rattle.sre_board.specs.Apart.{IsIn, Apart}
-use Rattle.sre_board.specs.Failures.{BitsKept, Kept, kept_of, Entry, IsOpen, Sets, BitsStay, RowsStay, Roomy, Laid}
-use Rattle.sre_board.specs.Failures.{most_words}
+use Rattle.sre_board.specs.Failures.{BitsKept, Kept, kept_of, Entry, IsOpen, Sets, BitsStay, RowsStay, Laid}
 use Rattle.sre_board.specs.declared.failures.Row.{Row}
-use Rattle.sre_board.proofs.Apart.{few_apart}
 use Rattle.sre_board.proofs.KeptSpots.{one_bit}
 use Rattle.sre_board.proofs.OneEntry.{one_entry}
+use Rattle.sre_board.proofs.OwnedBits.{owned_bit, owned_still, few_owned}
 
 -- no row is new
 abbrev pub NoNewRow : Kept → Kept → Type 0
@@ -60,6 +59,11 @@ apart_moved b (o ∷ os) ds h = (
 
 long_moved : (b : ℕ) (os ds : List ℕ) → length (os ++ b ∷ ds) ≡ length (b ∷ (os ++ ds))
 long_moved b os ds = omega (arith, length-append os (b ∷ ds), length-append os ds)
+
+all_moved : (P : ℕ → Type 0) (b : ℕ) (os ds : List ℕ) → AllByRecursion P (b ∷ (os ++ ds))
+    → AllByRecursion P (os ++ b ∷ ds)
+all_moved P b [] ds all = all
+all_moved P b (o ∷ os) ds all = (all.1.0, all_moved P b os ds (all.0, all.1.1))
 
 -- what holds of all numbers of a list holds of one
 of_one : (P : ℕ → Type 0) (xs : List ℕ) → AllByRecursion P xs → (b : ℕ) → IsIn b xs → P b
@@ -177,9 +181,9 @@ module _ (r : Run) (pl : Regionless r) (first : ℕ) where
 
   -- a spot is tried: its bit is none of those that were taken in
   pub account_opens : (k : Kept) (x : Spot) (xs : List Spot) (n : ℕ) → IsOpen k r.words false x
-      → AllByRecursion (λ (y : Spot). Alike r.words y x → ⊥) xs → Account r pl first k xs n
-      → Account r pl first k (x ∷ xs) (n + 1)
-  account_opens k x xs n clear others a =
+      → Lies r.words pl.tree pl.whole x → AllByRecursion (λ (y : Spot). Alike r.words y x → ⊥) xs
+      → Account r pl first k xs n → Account r pl first k (x ∷ xs) (n + 1)
+  account_opens k x xs n clear lies others a =
       let b : ℕ = clear.at * 64 + clear.bit in
       let own : BitOf k r.words x b = record { at = clear.at; bit = clear.bit; entry = clear.entry; is = refl } in
       record {
@@ -187,6 +191,7 @@ module _ (r : Run) (pl : Regionless r) (first : ℕ) where
         failed = a.failed;
         bits = (own, a.bits);
         set = a.set;
+        owned = (owned_bit r pl first k x b lies a.rows own, a.owned);
         apart = (
           λ there. elim (in_either b a.trying a.failed there) [
             | inl l ↦
@@ -207,13 +212,14 @@ module _ (r : Run) (pl : Regionless r) (first : ℕ) where
 
   -- the memory is another one, with the same bits of the same spots: each of its rows is told
   pub account_grows : (old new : Kept) (xs : List Spot) (n : ℕ) → BitsStay old new → BitsKept old new
-      → ((i : ℕ) (row : Row) → slice_get new.rows i ≡ Some row → RowLies r pl first new row) → Laid new
-      → Roomy r.words first r.subject.end new → Account r pl first old xs n → Account r pl first new xs n
-  account_grows old new xs n stay kept rows laid roomy a = record {
+      → RowsStay old new → ((i : ℕ) (row : Row) → slice_get new.rows i ≡ Some row → RowLies r pl first new row)
+      → Laid new → IsRoomy r pl first new → Account r pl first old xs n → Account r pl first new xs n
+  account_grows old new xs n stay kept still rows laid roomy a = record {
     trying = a.trying;
     failed = a.failed;
     bits = bits_stay old new r.words stay xs a.trying a.bits;
     set = set_still old new kept a.failed a.set;
+    owned = owned_still r pl first old new still (a.trying ++ a.failed) a.owned;
     apart = a.apart;
     count = a.count;
     rows = rows;
@@ -223,15 +229,15 @@ module _ (r : Run) (pl : Regionless r) (first : ℕ) where
 
   -- the same where no row is new
   pub account_still : (old new : Kept) (xs : List Spot) (n : ℕ) → BitsStay old new → BitsKept old new
-      → RowsStay old new → NoNewRow old new → Laid new → Roomy r.words first r.subject.end new
+      → RowsStay old new → NoNewRow old new → Laid new → IsRoomy r pl first new
       → Account r pl first old xs n → Account r pl first new xs n
   account_still old new xs n stay kept rows none laid roomy a =
-      account_grows old new xs n stay kept (rows_lie old new rows none a.rows) laid roomy a
+      account_grows old new xs n stay kept rows (rows_lie old new rows none a.rows) laid roomy a
 
   -- the innermost spot that is tried has failed: its bit is set
   pub account_closes : (old new : Kept) (x : Spot) (xs : List Spot) (n : ℕ) → Sets r.words false x old new
       → BitsStay old new → BitsKept old new → RowsStay old new → NoNewRow old new → Laid new
-      → Roomy r.words first r.subject.end new → Account r pl first old (x ∷ xs) n → Account r pl first new xs n
+      → IsRoomy r pl first new → Account r pl first old (x ∷ xs) n → Account r pl first new xs n
   account_closes old new x xs n sets stay kept rows none laid roomy a =
       closed (account_still old new (x ∷ xs) n stay kept rows none laid roomy a)
     where
@@ -251,15 +257,16 @@ module _ (r : Run) (pl : Regionless r) (first : ℕ) where
           }
 
       parted : (bs ds : List ℕ) → BitsOf new r.words (x ∷ xs) bs → AllByRecursion (λ (b : ℕ). IsSet new b) ds
-          → Apart (bs ++ ds) → length (bs ++ ds) ≡ n
+          → AllByRecursion (λ (b : ℕ). IsOwned r pl first new b) (bs ++ ds) → Apart (bs ++ ds) → length (bs ++ ds) ≡ n
           → ((i : ℕ) (row : Row) → slice_get new.rows i ≡ Some row → RowLies r pl first new row)
           → Account r pl first new xs n
-      parted [] ds bits set apart count lie = absurd bits
-      parted (b ∷ os) ds bits set apart count lie = record {
+      parted [] ds bits set owned apart count lie = absurd bits
+      parted (b ∷ os) ds bits set owned apart count lie = record {
         trying = os;
         failed = b ∷ ds;
         bits = bits.1;
         set = (is_set b bits.0, set);
+        owned = all_moved (λ (c : ℕ). IsOwned r pl first new c) b os ds owned;
         apart = apart_moved b os ds apart;
         count = long_moved b os ds ∙ count;
         rows = lie;
@@ -268,27 +275,16 @@ module _ (r : Run) (pl : Regionless r) (first : ℕ) where
       }
 
       closed : Account r pl first new (x ∷ xs) n → Account r pl first new xs n
-      closed c = parted c.trying c.failed c.bits c.set c.apart c.count c.rows
+      closed c = parted c.trying c.failed c.bits c.set c.owned c.apart c.count c.rows
 
   -- no more bits are taken in than there is room for
-  pub account_few : (k : Kept) (xs : List Spot) (n : ℕ) → Account r pl first k xs n → n ≤ most_bits r first
+  pub account_few : (k : Kept) (xs : List Spot) (n : ℕ) → Account r pl first k xs n → n ≤ most_bits r pl first
   account_few k xs n a =
-      let all = few_apart (64 * length k.bits) (a.trying ++ a.failed) a.apart (λ b h. below b h) in
-      let more : length k.rows * most_words first r.subject.end ≤ length r.words * most_words first r.subject.end =
-      mul-le-mul a.roomy.rows (omega arith) in
-      omega (arith, all, a.count, a.roomy.bits, more)
-    where
-      any : (ys : List Spot) → AllByRecursion (λ (y : Spot). ⊤) ys
-      any [] = tt
-      any (y ∷ ys) = (tt, any ys)
-
-      below : (b : ℕ) → IsIn b (a.trying ++ a.failed) → b < 64 * length k.bits
-      below b h = elim (in_either b a.trying a.failed h) [
-        | inl l ↦
-            let s = of_spot k r.words (λ (y : Spot). ⊤) xs a.trying a.bits (any xs) b l in
-            bit_within k r.words s.0 b a.laid s.2
-        | inr f ↦ set_within k b (of_one (λ (c : ℕ). IsSet k c) a.failed a.set b f)
-      ]
+      omega (
+        arith,
+        a.count,
+        few_owned r pl first k (a.trying ++ a.failed) (length r.words) a.owned a.apart a.roomy.rows,
+      )
 
   -- at first nothing is taken in
   pub account_none : (k : Kept) → k ≡ kept_of [] [] [] → Account r pl first k [] 0
@@ -300,6 +296,7 @@ module _ (r : Run) (pl : Regionless r) (first : ℕ) where
         failed = [];
         bits = tt;
         set = tt;
+        owned = tt;
         apart = tt;
         count = refl;
         rows = λ i row there. absurd (cc);

@@ -18,5 +18,6 @@ pub mod ShapesAdded
 pub mod RowsAdded
 pub mod FewRows
 pub mod LoopsRead
+pub mod OwnedBits
 pub mod AccountLaws
 pub mod Prepared

@@ -6,7 +6,7 @@ use Rattle.std.proofs.Math.Nat.{mul-le-mul_left, mul-le-mul_right}
 use Rattle.sre_model.specs.Runs.{Run}
 use Rattle.sre_turns.specs.Alike.{least_from}
 use Rattle.sre_turns.specs.Moves.{Spot}
-use Rattle.sre_turns.specs.Nested.{repeats}
+use Rattle.sre_turns.specs.Nested.{repeats, slots, most_slots}
 use Rattle.sre_turns.specs.Settled.{Regionless, SettledIn}
 use Rattle.sre_turns.specs.declared.Point.{Point}
 use Rattle.sre_turns.specs.declared.Point.TheVariants.{Instruction}
@@ -14,12 +14,13 @@ use Rattle.sre_turns.proofs.NestedPlaces.{same_loops}
 use Rattle.sre_turns.proofs.NestedSlots.{slots_within}
 use Rattle.sre_board.specs.Accounts.{Account, RowLies, Room}
 use Rattle.sre_board.specs.Failures.{Kept, HasRow, HasNoRow, NewRow, Capacity, BitsStay, BitsKept, Laid, Roomy, HasBit}
-use Rattle.sre_board.specs.Failures.{most_words}
+use Rattle.sre_board.specs.Failures.{HasSlots, most_words}
 use Rattle.sre_board.specs.declared.failures.Row.{Row}
 use Rattle.sre_board.proofs.AccountLaws.{account_grows}
 use Rattle.sre_board.proofs.FewRows.{fewer_rows}
 use Rattle.sre_board.proofs.KeptSpots.{got_within}
 use Rattle.sre_board.proofs.LoopsRead.{lies_words}
+use Rattle.sre_board.proofs.RowsAdded.{more_words}
 use Rattle.sre_board.proofs.RowsThere.{bit_there}
 
 abbrev NoneIn : List Row → ℕ → Type 0
@@ -61,29 +62,41 @@ module _ (r : Run) (pl : Regionless r) (first : ℕ) (old new : Kept) (x : Spot)
     (is_place : place < length r.words)
     (rows : NewRow r.words first r.subject.end place (repeats x.frames) old new) (stay : BitsStay old new)
     (kept : BitsKept old new) (laid : Laid new)
-    (roomy : Roomy r.words first r.subject.end old → Roomy r.words first r.subject.end new)
+    (roomy : (m : ℕ) → HasSlots r.words (repeats x.frames) m → Roomy r.words m first r.subject.end old
+    → Roomy r.words m first r.subject.end new)
     (account : Account r pl first old xs n) where
   begins : first ≤ x.position
   begins = subst (λ (pt : Point). first ≤ least_from pt x.position) point settled.from
+
+  -- its loops have no more slots than the tree tells
+  has_slots : HasSlots r.words (repeats x.frames) (most_slots pl.tree)
+  has_slots =
+      let most = slots_within r.words pl.tree pl.whole x settled.lies in
+      record {
+        words = lies_words r.words pl.tree pl.whole x settled.lies;
+        few = omega (arith, most, room.slots);
+        most = most;
+      }
 
   capacity : HasNoRow old place → Capacity r.words first r.subject.end place (repeats x.frames) old
   capacity none =
       let few : length old.rows < length r.words =
       fewer_rows old (length r.words) account.laid (λ i row e. (account.rows i row e).place) place is_place none in
-      let more : length old.bits + most_words first r.subject.end ≤ 2 ^ 30 =
-      room_for_one (length old.rows) (length r.words) (most_words first r.subject.end) (length old.bits) few
-      account.roomy.bits room.words in
-      let words : length r.words * 1 ≤ length r.words * most_words first r.subject.end =
-      mul-le-mul_left (length r.words) (omega arith) in
+      let most : ℕ = most_words (most_slots pl.tree) first r.subject.end in
+      let more : length old.bits + most ≤ 2 ^ 30 =
+      room_for_one (length old.rows) (length r.words) most (length old.bits) few account.roomy.bits room.words in
+      let own : most_words (slots r.words (repeats x.frames)) first r.subject.end ≤ most =
+      more_words (slots r.words (repeats x.frames)) (most_slots pl.tree) first r.subject.end has_slots.most in
+      let words : length r.words * 1 ≤ length r.words * most = mul-le-mul_left (length r.words) (omega arith) in
       record {
         is_place = is_place;
         few_places = omega (arith, words, room.words);
         few_rows = few;
-        few_words = omega (arith, more);
-        few_in_row = omega (arith, more);
+        few_words = omega (arith, own, more);
+        few_in_row = omega (arith, own, more);
         order = omega (arith, begins, settled.inside);
-        few_slots = omega (arith, slots_within r.words pl.tree pl.whole x settled.lies, room.slots);
-        words = lies_words r.words pl.tree pl.whole x settled.lies;
+        few_slots = has_slots.few;
+        words = has_slots.words;
       }
 
   -- a place whose row is new had none
@@ -118,7 +131,9 @@ module _ (r : Run) (pl : Regionless r) (first : ℕ) (old new : Kept) (x : Spot)
   ]
 
   pub account_prepared : Account r pl first new xs n
-  account_prepared = account_grows r pl first old new xs n stay kept row_lies laid (roomy account.roomy) account
+  account_prepared =
+      account_grows r pl first old new xs n stay kept rows.stay row_lies laid
+      (roomy (most_slots pl.tree) has_slots account.roomy) account
 
   has_it : (Capacity r.words first r.subject.end place (repeats x.frames) old → HasRow new place) → HasRow new place
   has_it there = elim (has_row old place) [

@@ -1,13 +1,14 @@
 -- Rows when one is added: those there were stay, and the new one is for what it was made for.
-use Rattle.std.proofs.Common.{◌≡◌, ℕ, ◌+◌, ◌-◌, ◌*◌, ◌^◌, ◌≤◌, inl, inr, Bool, true, false, cond, List, []}
+use Rattle.std.proofs.Common.{◌≡◌, ℕ, ◌+◌, ◌-◌, ◌*◌, ◌^◌, ◌<◌, ◌≤◌, inl, inr, Bool, true, false, cond, List, []}
 use Rattle.std.proofs.Common.{◌∷◌, ◌++◌, length, slice_get, Result, Ok, Err, is_ok, IfOk}
 use Rattle.std.proofs.Common.{sym, ap, ◌∙◌, subst, arith}
 use Rattle.std.proofs.lemmas.List.{append-nil}
+use Rattle.std.proofs.Math.Nat.{mul-le-mul_right}
 use Rattle.sre_turns.specs.declared.Frame.{Frame}
 use Rattle.sre_turns.specs.Nested.{repeats, slots}
 use Rattle.sre_board.specs.declared.failures.Row.{Row}
 use Rattle.sre_board.specs.Failures.{Kept, HasShape, WordsThere, RowFor, RowsStay, Capacity, HasRow}
-use Rattle.sre_board.specs.Failures.{NewRow, most_words}
+use Rattle.sre_board.specs.Failures.{NewRow, OneRowMore, Roomy, most_words}
 use Rattle.sre_board.proofs.KeptSpots.{got_row}
 use Rattle.sre_board.proofs.KeptStill.{got_still}
 use Rattle.sre_board.proofs.ShapesAdded.{got_next, shape_still, some_slots}
@@ -91,7 +92,7 @@ pub made_for : (ws : List ℕ) (first end place : ℕ) (fs gs : List Frame) (old
     → HasShape mid.shapes (length mid.shapes) shape (repeats fs)
     → (WordsThere ws (repeats fs) → slots ws (repeats fs) ≤ 4096 → n ≡ slots ws (repeats fs))
     → taken ≡ length old.bits
-    → (1 ≤ n → first ≤ end → most_words first end ≤ 2 ^ 30 → taken + most_words first end ≤ 2 ^ 32
+    → (1 ≤ n → first ≤ end → most_words n first end ≤ 2 ^ 30 → taken + most_words n first end ≤ 2 ^ 32
     → (row.positions ≡ end + 1 - first) × (n * 2 * row.positions ≤ 64 * row.length))
     → Capacity ws first end place (repeats gs) old → RowFor mid ws first end (repeats gs) row
 made_for ws first end place fs gs old mid row n taken shape same ef ee es shaped all et enough room =
@@ -99,7 +100,10 @@ made_for ws first end place fs gs old mid row n taken shape same ef ee es shaped
     let number : n ≡ slots ws (repeats gs) =
     subst (λ (qs : List ℕ). WordsThere ws qs → slots ws qs ≤ 4096 → n ≡ slots ws qs) js all room.words room.few_slots in
     let some : 1 ≤ n = omega (arith, number, some_slots ws (repeats gs)) in
-    let parts = enough some room.order room.few_in_row (omega (arith, et, room.few_words)) in
+    let few : most_words n first end ≡ most_words (slots ws (repeats gs)) first end =
+    ap (λ m. most_words m first end) number in
+    let parts =
+    enough some room.order (omega (arith, few, room.few_in_row)) (omega (arith, few, et, room.few_words)) in
     record {
       first_is = ef;
       positions = parts.0;
@@ -110,3 +114,32 @@ made_for ws first end place fs gs old mid row n taken shape same ef ee es shaped
       enough = subst (λ m. m * 2 * row.positions ≤ 64 * row.length) number parts.1;
       few = room.few_slots;
     }
+
+-- more slots need no fewer words
+pub more_words : (k n first end : ℕ) → k ≤ n → most_words k first end ≤ most_words n first end
+more_words k n first end l =
+    let bits : k * 2 * (end + 1 - first) ≤ n * 2 * (end + 1 - first) =
+    mul-le-mul_right (end + 1 - first) (omega arith) in
+    omega (arith, bits)
+
+-- rows have room still where one is added that needs no more than each may
+pub roomy_added : (ws : List ℕ) (k n m first end : ℕ) (old new : Kept) → OneRowMore m old new
+    → m ≤ most_words k first end → k ≤ n → length old.rows < length ws → Roomy ws n first end old
+    → Roomy ws n first end new
+roomy_added ws k n m first end old new (inl same) few l less h =
+    let rows : length new.rows * most_words n first end ≡ length old.rows * most_words n first end =
+    ap (λ (a : ℕ). a * most_words n first end) same.0 in
+    record { rows = omega (arith, same.0, h.rows); bits = omega (arith, same.1, rows, h.bits) }
+roomy_added ws k n m first end old new (inr one) few l less h =
+    let rows : length new.rows * most_words n first end ≡ (length old.rows + 1) * most_words n first end =
+    ap (λ (a : ℕ). a * most_words n first end) one.0 in
+    let next : (length old.rows + 1) * most_words n first end
+    ≡ length old.rows * most_words n first end + most_words n first end =
+    next_line (length old.rows) (most_words n first end) in
+    record {
+      rows = omega (arith, one.0, less);
+      bits = omega (arith, one.1, rows, next, h.bits, few, more_words k n first end l);
+    }
+  where
+    next_line : (a b : ℕ) → (a + 1) * b ≡ a * b + b
+    next_line a b = grind arith

@@ -25,7 +25,7 @@ slot_of_shape ws shapes p j i before (f ∷ fs) h b =
     )
 
 -- a place of a line and a number below its length lie within so many lines
-within_lines : (line all n i : ℕ) → line + 1 ≤ all → i < n → line * n + i < all * n
+pub within_lines : (line all n i : ℕ) → line + 1 ≤ all → i < n → line * n + i < all * n
 within_lines line all n i h l = omega (arith, mul-le-mul_right n h, one_more line n)
   where
     one_more : (a n : ℕ) → (a + 1) * n ≡ a * n + n

@@ -1,6 +1,6 @@
 -- What the memory of failures has taken in for the tolls of instructions that may branch: a bit for each. The bit of a
 -- spot that is tried is not set yet, and none is taken in twice.
-use Rattle.std.specs.Prelude.{⊤, ℕ, ◌+◌, ◌*◌, ◌^◌, ◌<◌, ◌≤◌, ◌≡◌, false, List, [], ◌∷◌, ◌++◌, length, Some, slice_get}
+use Rattle.std.specs.Prelude.{⊤, ℕ, ◌+◌, ◌-◌, ◌*◌, ◌^◌, ◌<◌, ◌≤◌, ◌≡◌, false, List, [], ◌∷◌, ◌++◌, length, Some, slice_get}
 use Rattle.std.specs.Prelude.{slice_index}
 use Rattle.std.specs.Int.{bit_at}
 use Rattle.std.specs.List.{AllByRecursion}
@@ -35,6 +35,21 @@ BitsOf k ws [] (b ∷ bs) = ⊥
 BitsOf k ws (x ∷ xs) [] = ⊥
 BitsOf k ws (x ∷ xs) (b ∷ bs) = BitOf k ws x b × BitsOf k ws xs bs
 
+-- how many positions the window has from first on
+abbrev pub positions_of : Run → ℕ → ℕ
+positions_of r first = r.subject.end + 1 - first
+
+-- a bit is that of a slot and a position at a place, outside all regions
+pub record IsOwned (r : Run) (pl : Regionless r) (first : ℕ) (k : Kept) (b : ℕ) : Type 0 where
+  pub number : ℕ
+  pub row : Row
+  pub slot : ℕ
+  pub behind : ℕ
+  pub there : slice_get k.rows number ≡ Some row
+  pub few : slot < most_slots pl.tree
+  pub inside : behind < positions_of r first
+  pub is : b ≡ row.base * 64 + (slot * 2 * positions_of r first + behind)
+
 -- each row is for the loops of a place in the words, and for the positions from first to end
 pub record RowLies (r : Run) (pl : Regionless r) (first : ℕ) (k : Kept) (row : Row) : Type 0 where
   pub spot : Spot
@@ -43,23 +58,28 @@ pub record RowLies (r : Run) (pl : Regionless r) (first : ℕ) (k : Kept) (row :
   pub place : row.place < length r.words
   pub is_for : RowFor k r.words first r.subject.end (repeats spot.frames) row
 
+-- its rows are no more than there are words, and no larger than the tree's loops need
+abbrev pub IsRoomy : (r : Run) → Regionless r → ℕ → Kept → Type 0
+IsRoomy r pl first k = Roomy r.words (most_slots pl.tree) first r.subject.end k
+
 -- the memory has taken in n bits; of these some are those of the spots that are tried, the others are set
 pub record Account (r : Run) (pl : Regionless r) (first : ℕ) (k : Kept) (xs : List Spot) (n : ℕ) : Type 0 where
   pub trying : List ℕ
   pub failed : List ℕ
   pub bits : BitsOf k r.words xs trying
   pub set : AllByRecursion (λ (b : ℕ). IsSet k b) failed
+  pub owned : AllByRecursion (λ (b : ℕ). IsOwned r pl first k b) (trying ++ failed)
   pub apart : Apart (trying ++ failed)
   pub count : length (trying ++ failed) ≡ n
   pub rows : (i : ℕ) (row : Row) → slice_get k.rows i ≡ Some row → RowLies r pl first k row
-  pub roomy : Roomy r.words first r.subject.end k
+  pub roomy : IsRoomy r pl first k
   pub laid : Laid k
 
 -- all places of the words have room for their bits in a window from first on
 pub record Room (r : Run) (pl : Regionless r) (first : ℕ) : Type 0 where
-  pub words : length r.words * most_words first r.subject.end ≤ 2 ^ 30
+  pub words : length r.words * most_words (most_slots pl.tree) first r.subject.end ≤ 2 ^ 30
   pub slots : most_slots pl.tree ≤ 4096
 
--- so many bits are taken in at most
-abbrev pub most_bits : Run → ℕ → ℕ
-most_bits r first = 64 * (length r.words * most_words first r.subject.end)
+-- so many bits are taken in at most: one for each slot and position at each place
+abbrev pub most_bits : (r : Run) → Regionless r → ℕ → ℕ
+most_bits r pl first = length r.words * (most_slots pl.tree * positions_of r first)

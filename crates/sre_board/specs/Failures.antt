@@ -162,17 +162,17 @@ pub record RowFor (k : Kept) (ws : List ℕ) (first end : ℕ) (js : List ℕ) (
   pub enough : slots ws js * 2 * row.positions ≤ 64 * row.length
   pub few : slots ws js ≤ 4096
 
--- so many words are enough for the bits of a place, with the positions from first to end
-abbrev pub most_words : ℕ → ℕ → ℕ
-most_words first end = 128 * (end + 1 - first) + 1
+-- so many words are enough for the bits of a place with n slots, for the positions from first to end
+abbrev pub most_words : ℕ → ℕ → ℕ → ℕ
+most_words n first end = n * 2 * (end + 1 - first) / 64 + 1
 
 -- a further row has room: one for a place, for the positions from first to end and for the loops at these places
 pub record Capacity (ws : List ℕ) (first end place : ℕ) (js : List ℕ) (k : Kept) : Type 0 where
   pub is_place : place < length ws
   pub few_places : length ws ≤ 2 ^ 32
   pub few_rows : length k.rows < length ws
-  pub few_words : length k.bits + most_words first end ≤ 2 ^ 32
-  pub few_in_row : most_words first end ≤ 2 ^ 30
+  pub few_words : length k.bits + most_words (slots ws js) first end ≤ 2 ^ 32
+  pub few_in_row : most_words (slots ws js) first end ≤ 2 ^ 30
   pub order : first ≤ end
   pub few_slots : slots ws js ≤ 4096
   pub words : WordsThere ws js
@@ -198,10 +198,16 @@ pub record NewRow (ws : List ℕ) (first end place : ℕ) (js : List ℕ) (old n
       ⊎ ((n ≡ length old.rows) × (row.place ≡ place)
       × (Capacity ws first end place js old → RowFor new ws first end js row))
 
--- no more rows than a list has words, and no more bits than these need
-pub record Roomy (ws : List ℕ) (first end : ℕ) (k : Kept) : Type 0 where
+-- the words of the loops at these places are there, and they have at most n slots
+pub record HasSlots (ws js : List ℕ) (n : ℕ) : Type 0 where
+  pub words : WordsThere ws js
+  pub few : slots ws js ≤ 4096
+  pub most : slots ws js ≤ n
+
+-- no more rows than a list has words, and no more bits than these need with n slots each
+pub record Roomy (ws : List ℕ) (n first end : ℕ) (k : Kept) : Type 0 where
   pub rows : length k.rows ≤ length ws
-  pub bits : length k.bits ≤ length k.rows * most_words first end
+  pub bits : length k.bits ≤ length k.rows * most_words n first end
 
 -- at most one row more, with so many words
 abbrev pub OneRowMore : ℕ → Kept → Kept → Type 0

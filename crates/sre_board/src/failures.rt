@@ -18,7 +18,7 @@ ghost use Rattle.sre_turns.specs.declared.Point.TheVariants.{Instruction};
 ghost use Rattle.sre_board.specs.Failures.{Entry, Holds, HoldsNone, HoldsNoMore, HoldsOneMore, HasSlot, IsPassed};
 ghost use Rattle.sre_board.specs.Failures.{HoldsStill, BitsStay, BitsKept, Grows, Sets, Tells, Roomy, OneRowMore, Laid};
 ghost use Rattle.sre_board.specs.Failures.{counted_at, digit, radix, ones, most_words, HasNoRow, HasBit, AreRead};
-ghost use Rattle.sre_board.specs.Failures.{IsOpen, HasShape, WordsThere, Capacity, HasRow, NewRow, kept_of};
+ghost use Rattle.sre_board.specs.Failures.{IsOpen, HasShape, HasSlots, WordsThere, Capacity, HasRow, NewRow, kept_of};
 
 use crate::board::Board;
 use crate::chains::{Chains, frame_of};
@@ -242,8 +242,9 @@ fn add_shape<A: Allocator>(
 fn room(slots: usize, first: usize, end: usize, taken: usize) -> (usize, usize)
     requires { (slots ≤ 4096) × (taken ≤ 2 ^ 32) }
     ensures all { taken + result.1 ≤ 2 ^ 32 }
-    ensures few { result.1 ≤ most_words first end }
-    ensures enough { 1 ≤ slots → first ≤ end → most_words first end ≤ 2 ^ 30 → taken + most_words first end ≤ 2 ^ 32
+    ensures few { result.1 ≤ most_words slots first end }
+    ensures enough { 1 ≤ slots → first ≤ end → most_words slots first end ≤ 2 ^ 30
+        → taken + most_words slots first end ≤ 2 ^ 32
         → (result.0 ≡ end + 1 - first) × (slots * 2 * result.0 ≤ 64 * result.1) }
 {
     if slots == 0 || first > end || end - first >= MOST_POSITIONS {
@@ -306,7 +307,8 @@ impl<A: Allocator> Failures<A> {
         ensures ones { ones self.new ≡ ones self.old }
         ensures laid { Laid self.new }
         ensures bits { BitsKept self.old self.new }
-        ensures roomy { Roomy words.now first end self.old → Roomy words.now first end self.new }
+        ensures roomy { (n : ℕ) → HasSlots words.now (repeats board.now.frames) n
+            → Roomy words.now n first end self.old → Roomy words.now n first end self.new }
         ensures rows { NewRow words.now first end place (repeats board.now.frames) self.old self.new }
         ensures there { IfOk result (λ _. Capacity words.now first end place (repeats board.now.frames) self.old
             → HasRow self.new place) }
@@ -330,7 +332,8 @@ impl<A: Allocator> Failures<A> {
         requires { HasNoRow self.old place }
         ensures grows { Grows self.old self.new }
         ensures laid { Laid self.new }
-        ensures roomy { Roomy words.now first end self.old → Roomy words.now first end self.new }
+        ensures roomy { (n : ℕ) → HasSlots words.now (repeats board.now.frames) n
+            → Roomy words.now n first end self.old → Roomy words.now n first end self.new }
         ensures rows { NewRow words.now first end place (repeats board.now.frames) self.old self.new }
         ensures there { IfOk result (λ _. Capacity words.now first end place (repeats board.now.frames) self.old
             → HasRow self.new place) }

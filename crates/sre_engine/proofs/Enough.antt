@@ -1,9 +1,9 @@
 -- Turns that are enough for a search, where all that failed is remembered, are not used up unless memory was refused.
-use Rattle.std.proofs.Common.{◌≡◌, ℕ, ◌+◌, ◌-◌, ◌*◌, ◌≤◌, inl, inr, length, ap, arith, mul-le-mul}
+use Rattle.std.proofs.Common.{◌≡◌, ℕ, ◌+◌, ◌-◌, ◌*◌, ◌≤◌, inl, inr, length, arith, mul-le-mul}
 use Rattle.std.proofs.Math.Nat.{mul_assoc, mul-le-mul_right}
 use Rattle.sre_chars.specs.declared.string.StrDrive.{Ghosts}
 use Rattle.sre_growth.specs.Refusal.{Refused}
-use Rattle.sre_model.specs.Remembered.{enough_turns, turns_between, most_branches}
+use Rattle.sre_model.specs.Remembered.{enough_turns, turns_between, most_ways}
 use Rattle.sre_board.specs.Accounts.{most_bits}
 use Rattle.sre_request.specs.declared.request.Request.{Request}
 use Rattle.sre_request.specs.Requests.{start_of, end_of, asked_of, code_of}
@@ -23,16 +23,14 @@ few r pl runs l =
     let places : ℕ = length (run_of r).words in
     let own : runs * (2 * places + 4) ≤ (end_of r + 1 - start_of r) * (2 * places + 4) =
     mul-le-mul l (omega arith) in
-    let bits : 2 * most_tolls r pl ≤ most_branches places pl.plain.tree (asked_of r) =
-    omega (arith, mul_assoc 2 (most_bits (run_of r) (start_of r)) (weight r pl)) in
-    let same : (places + 4) * (2 * places + 6 + 2) ≡ (places + 4) * (2 * places + 8) =
-    ap (λ n. (places + 4) * n) (omega arith) in
+    let bits : 2 * most_tolls r pl ≤ most_ways places pl.plain.tree (asked_of r) =
+    omega (arith, mul_assoc 2 (most_bits (run_of r) pl.plain (start_of r)) (weight r pl)) in
     let tolls : 2 * most_tolls r pl * grant (run_of r).words
-    ≤ most_branches places pl.plain.tree (asked_of r) * turns_between places =
-    mul-le-mul bits (omega (arith, same)) in
+    ≤ most_ways places pl.plain.tree (asked_of r) * turns_between places =
+    mul-le-mul bits (omega arith) in
     let all : runs * (2 * places + 4) + 2 * most_tolls r pl * grant (run_of r).words
     ≤ (end_of r + 1 - start_of r) * (2 * places + 4)
-    + most_branches places pl.plain.tree (asked_of r) * turns_between places =
+    + most_ways places pl.plain.tree (asked_of r) * turns_between places =
     omega (arith, own, tolls) in
     omega (arith, mul-le-mul_right (each_of r pl) all)
 

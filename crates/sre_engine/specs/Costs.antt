@@ -18,7 +18,7 @@ search_cost r pl runs tolls =
 
 -- how many tolls are granted at most from where a memo begins
 abbrev pub most_tolls : {S : Type 0} {text : Ghosts S} (r : Request S text) → Remembering r → ℕ
-most_tolls r pl = most_bits (run_of r) (start_of r) * weight r pl
+most_tolls r pl = most_bits (run_of r) pl.plain (start_of r) * weight r pl
 
 -- how many turns a memo waits at most before failures are kept
 abbrev pub most_waits : {S : Type 0} {text : Ghosts S} → Request S text → ℕ

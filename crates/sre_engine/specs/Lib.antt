@@ -10,6 +10,7 @@ pub use Rattle.sre_model.specs.References
 pub use Rattle.sre_model.specs.Regions
 pub use Rattle.sre_model.specs.Slots
 pub use Rattle.sre_model.specs.RunCounts
+pub use Rattle.sre_model.specs.Alternatives
 pub use Rattle.sre_model.specs.Remembered
 pub use Rattle.sre_model.specs.Width
 pub use Rattle.sre_model.specs.Claims

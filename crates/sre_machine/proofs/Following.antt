@@ -37,7 +37,7 @@ use Rattle.sre_machine.specs.declared.turns.Decision.TheVariants.{Decided, Opene
 use Rattle.sre_request.specs.Runs.{run_of}
 use Rattle.sre_machine.specs.Memos.{MemoValue}
 use Rattle.sre_machine.specs.Paying.{Pays, Remembering, Within, Follows, Counts, GivenUp, Settles, Waited}
-use Rattle.sre_machine.specs.Paying.{run_cost, weight, each_of, RunGivenUp, RunSettles}
+use Rattle.sre_machine.specs.Paying.{run_cost, weight, each_of, RunGivenUp, RunSettles, AnewGivenUp, AnewSettles}
 use Rattle.sre_turns.proofs.Start.{first_limit, started, behind_has}
 use Rattle.sre_turns.proofs.SettledMoves.{settled_behind}
 use Rattle.sre_model.specs.Marks.{no_marks}
@@ -159,7 +159,7 @@ module _ {S : Type 0} {text : Ghosts S} (r : Request S text) (all : List Way) (f
             | inr z ↦ elim (spent_more pl keeps) [
               | inl refused ↦ inl refused
               | inr more ↦
-                  let few_bits : z.0 * weight r pl ≤ most_bits (run_of r) (start_of r) * weight r pl =
+                  let few_bits : z.0 * weight r pl ≤ most_bits (run_of r) pl.plain (start_of r) * weight r pl =
                   mul-le-mul (account_few (run_of r) pl.plain (start_of r) m'.kept y.0.trying z.0 z.1) (omega arith) in
                   inr (
                     y.0.tolls,
@@ -261,27 +261,46 @@ module _ {S : Type 0} {text : Ghosts S} (r : Request S text) (all : List Way) (i
   }
 
 -- a run that begins again with failures kept, of which there are none yet
-module _ {S : Type 0} {text : Ghosts S} (r : Request S text) (start : StringCursor) (m m₁ : MemoValue)
-    (left left' : ℕ) (keeps : m₁.is_open ≡ true) (empty : m₁.kept ≡ kept_of [] [] []) (closed : m.is_open ≡ false) where
-  pub again_given_up : RunGivenUp r start m₁ left left' → RunGivenUp r start m left left'
-  again_given_up g = record {
-    keeping = λ pl from kept n h. absurd (true≢false (sym kept ∙ closed));
-    closed = λ pl from c. elim (g.keeping pl from keeps 0 (account_none (run_of r) pl.plain (start_of r) m₁.kept
-        empty)) [
+module _ {S : Type 0} {text : Ghosts S} (r : Request S text) (start : StringCursor) (m : MemoValue) (given : ℕ)
+    (keeps : m.is_open ≡ true) (empty : m.kept ≡ kept_of [] [] []) where
+  pub anew_given_up : (left : ℕ) → RunGivenUp r start m given left → AnewGivenUp r start given left
+  anew_given_up left g = record {
+    cost = λ pl from. elim (g.keeping pl from keeps 0 (account_none (run_of r) pl.plain (start_of r) m.kept empty)) [
+      | inl refused ↦ inl refused
+      | inr z ↦ inr (z.0, omega (arith, z.1), z.2)
+    ];
+  }
+
+  pub anew_settles : (m' : MemoValue) (stood left : ℕ) → RunSettles r start m m' given left
+      → AnewSettles r start m' given stood (min stood left)
+  anew_settles m' stood left g = record {
+    cost = λ pl from waits waited.
+        elim (g.keeping pl from keeps 0 (account_none (run_of r) pl.plain (start_of r) m.kept empty)) [
           | inl refused ↦ inl refused
-          | inr z ↦ inr (z.0, omega (arith, z.1), omega (arith, z.2))
+          | inr z ↦ inr (z.0, z.1, omega (arith, z.2), z.3, z.4, omega (arith, waited, z.5))
         ];
   }
 
-  pub again_settles : (m' : MemoValue) (stood : ℕ) → (Remembering r → left ≤ stood + m.waits)
-      → RunSettles r start m₁ m' left left' → RunSettles r start m m' left (min stood left')
-  again_settles m' stood waited g = record {
+-- and what that says of the whole run
+module _ {S : Type 0} {text : Ghosts S} (r : Request S text) (start : StringCursor) (m : MemoValue) (given : ℕ)
+    (closed : m.is_open ≡ false) where
+  pub again_given_up : (left : ℕ) → AnewGivenUp r start given left → RunGivenUp r start m given left
+  again_given_up left g = record {
     keeping = λ pl from kept n h. absurd (true≢false (sym kept ∙ closed));
-    closed = λ pl from c. elim (g.keeping pl from keeps 0 (account_none (run_of r) pl.plain (start_of r) m₁.kept
-        empty)) [
-          | inl refused ↦ inl refused
-          | inr z ↦ inr (inr (z.0, z.1, omega (arith, z.2), z.3, z.4, omega (arith, waited pl, z.5)))
-        ];
+    closed = λ pl from c. elim (g.cost pl from) [
+      | inl refused ↦ inl refused
+      | inr z ↦ inr (z.0, z.1, omega (arith, z.2))
+    ];
+  }
+
+  pub again_settles : (m' : MemoValue) (stood left : ℕ) → (Remembering r → given ≤ stood + m.waits)
+      → AnewSettles r start m' given stood left → RunSettles r start m m' given left
+  again_settles m' stood left waited g = record {
+    keeping = λ pl from kept n h. absurd (true≢false (sym kept ∙ closed));
+    closed = λ pl from c. elim (g.cost pl from m.waits (waited pl)) [
+      | inl refused ↦ inl refused
+      | inr z ↦ inr (inr z)
+    ];
   }
 
 -- how it begins, whatever the window's start is, up to there

@@ -13,6 +13,7 @@ use Rattle.sre_turns.proofs.Faring.{never_inside, newest_tried}
 use Rattle.sre_turns.proofs.Start.{none_inside}
 use Rattle.sre_turns.specs.Fruit.{is_inside}
 use Rattle.sre_turns.specs.Moves.{Spot, spot_at}
+use Rattle.sre_turns.specs.Nested.{most_slots}
 use Rattle.sre_turns.specs.declared.Point.TheVariants.{Instruction}
 use Rattle.sre_board.specs.Accounts.{Account, BitsOf}
 use Rattle.sre_board.specs.Failures.{Kept, HasBit, KeepsSpot, Roomy, RowsStay}
@@ -36,9 +37,9 @@ stay_rows : (old new : Kept) → new.rows ≡ old.rows → new.shapes ≡ old.sh
 stay_rows old new rows shapes =
     rows_stay old new [] [] (rows ∙ sym (append-nil old.rows)) (shapes ∙ sym (append-nil old.shapes))
 
-stay_roomy : (ws : List ℕ) (first end : ℕ) (old new : Kept) → new.rows ≡ old.rows
-    → length new.bits ≡ length old.bits → Roomy ws first end old → Roomy ws first end new
-stay_roomy ws first end old new rows words h =
+stay_roomy : (ws : List ℕ) (n first end : ℕ) (old new : Kept) → new.rows ≡ old.rows
+    → length new.bits ≡ length old.bits → Roomy ws n first end old → Roomy ws n first end new
+stay_roomy ws n first end old new rows words h =
     let same : length new.rows ≡ length old.rows = ap (λ (rs : List Row). length rs) rows in
     record { rows = omega (arith, same, h.rows); bits = rw (same, words) h.bits }
 
@@ -53,7 +54,8 @@ module _ {S : Type 0} {text : Ghosts S} (r : Request S text) (place : ℕ) (p q 
       account_closes (run_of r) pl.plain (start_of r) k k' x xs n
       (here.set (first_bit k (run_of r).words x xs a.trying a.bits)) keeps.stay keeps.bits
       (stay_rows k k' keeps.rows keeps.shapes) (no_new_row k k' keeps.rows) keeps.laid
-      (stay_roomy (run_of r).words (start_of r) (end_of r) k k' keeps.rows keeps.words a.roomy) a
+      (stay_roomy (run_of r).words (most_slots pl.plain.tree) (start_of r) (end_of r) k k' keeps.rows keeps.words
+      a.roomy) a
 
 -- the mark of an instruction is passed over, which is kept: nothing is granted
 pub pays_kept : {S : Type 0} {text : Ghosts S} (r : Request S text) (place : ℕ) (cursor : StringCursor)

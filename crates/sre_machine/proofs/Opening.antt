@@ -29,7 +29,8 @@ use Rattle.sre_turns.proofs.OpenMarks.{none_open, none_tried}
 use Rattle.sre_turns.proofs.Start.{none_inside}
 use Rattle.sre_turns.proofs.Trying.{trying_goes, trying_tries}
 use Rattle.sre_model.proofs.Words.{opcode_within}
-use Rattle.sre_board.specs.Failures.{BitsStay, BitsKept, Capacity, HasBit, HasRow, IsOpen, Laid, NewRow, Roomy}
+use Rattle.sre_board.specs.Failures.{BitsStay, BitsKept, Capacity, HasBit, HasRow, HasSlots, IsOpen, Laid, NewRow}
+use Rattle.sre_board.specs.Failures.{Roomy}
 use Rattle.sre_board.proofs.AccountLaws.{account_opens}
 use Rattle.sre_board.proofs.Prepared.{account_prepared, bit_prepared}
 use Rattle.sre_request.specs.declared.request.Request.{Request}
@@ -48,8 +49,9 @@ pub record PreparedAt {S : Type 0} {text : Ghosts S} (r : Request S text) (place
   pub stay : BitsStay m.kept m'.kept
   pub bits : BitsKept m.kept m'.kept
   pub laid : Laid m'.kept
-  pub roomy : Roomy (run_of r).words (start_of r) (end_of r) m.kept → Roomy (run_of r).words (start_of r) (end_of r)
-      m'.kept
+  pub roomy : (n : ℕ) → HasSlots (run_of r).words (repeats b.frames) n
+      → Roomy (run_of r).words n (start_of r) (end_of r) m.kept
+      → Roomy (run_of r).words n (start_of r) (end_of r) m'.kept
   pub rows : NewRow (run_of r).words (start_of r) (end_of r) place (repeats b.frames) m.kept m'.kept
   pub there : m'.stopped ≡ false
       → Capacity (run_of r).words (start_of r) (end_of r) place (repeats b.frames) m.kept → HasRow m'.kept place
@@ -68,7 +70,7 @@ pub prepared_at : {S : Type 0} {text : Ghosts S} (r : Request S text) (place : �
     (ws : List ℕ) (first end : ℕ) → ws ≡ (run_of r).words → first ≡ start_of r → end ≡ end_of r
     → (m'.stopped ≡ false → m' ≡ record m { kept = m'.kept }) → (m'.stopped ≡ true → Refused)
     → BitsStay m.kept m'.kept → BitsKept m.kept m'.kept → Laid m'.kept
-    → (Roomy ws first end m.kept → Roomy ws first end m'.kept)
+    → ((n : ℕ) → HasSlots ws (repeats b.frames) n → Roomy ws n first end m.kept → Roomy ws n first end m'.kept)
     → NewRow ws first end place (repeats b.frames) m.kept m'.kept
     → (m'.stopped ≡ false → Capacity ws first end place (repeats b.frames) m.kept → HasRow m'.kept place)
     → PreparedAt r place b m m'
@@ -155,8 +157,8 @@ module _ {S : Type 0} {text : Ghosts S} (r : Request S text) (place : ℕ) (curs
           add-mul n 1 (weight r pl) ∙ ap (λ w. n * weight r pl + w) (one-mul (weight r pl)) in
           inr (
             n + 1,
-            account_opens (run_of r) pl.plain (start_of r) m'.kept here limit.trying n clear (others pl)
-                (holds pl at n h),
+            account_opens (run_of r) pl.plain (start_of r) m'.kept here limit.trying n clear (settled pl at).lies
+                (others pl) (holds pl at n h),
             stays_open keeps e,
             omega (arith, few pl, one),
           )

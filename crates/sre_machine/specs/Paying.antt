@@ -2,7 +2,7 @@
 -- memory takes in, each of which pays for all ends of a run with a greatest count. And what turns cost before that:
 -- each is one of those that the memo waits.
 -- Words of the machine's contracts; what sre_engine makes public does not rest on it.
-use Rattle.std.specs.Prelude.{ℕ, ◌+◌, ◌-◌, ◌*◌, ◌/◌, ◌≤◌, ◌≡◌, ◌⊎◌, ⊤, List, [], ◌∷◌, length, min, true, false}
+use Rattle.std.specs.Prelude.{ℕ, ◌+◌, ◌-◌, ◌*◌, ◌/◌, ◌≤◌, ◌≡◌, ◌⊎◌, ⊤, List, [], ◌∷◌, length, min, max, true, false}
 use Rattle.std.specs.Prelude.{Option}
 use Rattle.sre_chars.specs.declared.string.StrDrive.{Ghosts}
 use Rattle.sre_chars.specs.declared.string.StringCursor.{StringCursor}
@@ -12,6 +12,7 @@ use Rattle.sre_turns.specs.Limits.{Limit, grant}
 use Rattle.sre_turns.specs.Settled.{Regionless}
 use Rattle.sre_model.specs.Ways.{Way}
 use Rattle.sre_model.specs.RunCounts.{most_counts}
+use Rattle.sre_model.specs.Alternatives.{most_alternatives}
 use Rattle.sre_turns.specs.Board.{BoardValue}
 use Rattle.sre_turns.specs.Machine.{Stands}
 use Rattle.sre_turns.specs.Moves.{Spot}
@@ -40,9 +41,10 @@ abbrev pub Holding : {S : Type 0} {text : Ghosts S} (r : Request S text) → Rem
     → Type 0
 Holding r pl m l n = Account (run_of r) pl.plain (start_of r) m.kept l.trying n
 
--- how many tolls an instruction that may branch brings at most while failures are kept: one for each end of a run
+-- how many tolls an instruction that may branch brings at most while failures are kept: one, and one more for each end
+-- of a run or each alternative
 abbrev pub weight : {S : Type 0} {text : Ghosts S} (r : Request S text) → Remembering r → ℕ
-weight r pl = 1 + min (most_counts pl.plain.tree) (end_of r)
+weight r pl = 1 + max (min (most_counts pl.plain.tree) (end_of r)) (most_alternatives pl.plain.tree)
 
 -- for how many a turn counts at most while failures are kept
 abbrev pub each_of : {S : Type 0} {text : Ghosts S} (r : Request S text) → Remembering r → ℕ
@@ -84,7 +86,7 @@ pub record GivenUp {S : Type 0} {text : Ghosts S} (r : Request S text) (all : Li
   pub cost : (pl : Remembering r) → m.is_open ≡ true → (limit : Limit) → Stands (run_of r) all limit first b
       → limit.start ≡ start_of r → limit.taken ≡ before → (n : ℕ) → Holding r pl m limit n
       → Refused ⊎ ((tolls : ℕ)
-      × (tolls + n * weight r pl ≤ limit.tolls + most_bits (run_of r) (start_of r) * weight r pl)
+      × (tolls + n * weight r pl ≤ limit.tolls + most_bits (run_of r) pl.plain (start_of r) * weight r pl)
       × (left ≤ left' + (limit.granted + tolls * grant (run_of r).words + 1) * each_of r pl))
 
 -- turns by which the whole was decided, with no outcome: how many there were at most, and what the memory holds then
@@ -114,10 +116,10 @@ HoldsBits r pl m n = Account (run_of r) pl.plain (start_of r) m.kept [] n
 pub record RunGivenUp {S : Type 0} {text : Ghosts S} (r : Request S text) (start : StringCursor) (m : MemoValue)
     (left left' : ℕ) : Type 0 where
   pub keeping : (pl : Remembering r) → start_of r ≤ start.position → m.is_open ≡ true → (n : ℕ) → HoldsBits r pl m n
-      → Refused ⊎ ((tolls : ℕ) × (tolls + n * weight r pl ≤ most_bits (run_of r) (start_of r) * weight r pl)
+      → Refused ⊎ ((tolls : ℕ) × (tolls + n * weight r pl ≤ most_bits (run_of r) pl.plain (start_of r) * weight r pl)
       × (left ≤ left' + run_cost r pl tolls))
   pub closed : (pl : Remembering r) → start_of r ≤ start.position → m.is_open ≡ false
-      → Refused ⊎ ((tolls : ℕ) × (tolls ≤ most_bits (run_of r) (start_of r) * weight r pl)
+      → Refused ⊎ ((tolls : ℕ) × (tolls ≤ most_bits (run_of r) pl.plain (start_of r) * weight r pl)
       × (left ≤ left' + m.waits + run_cost r pl tolls))
 
 -- a run with no outcome: the same, and what the memory holds then; or failures were not kept in it
@@ -130,6 +132,25 @@ pub record RunSettles {S : Type 0} {text : Ghosts S} (r : Request S text) (start
       → Refused ⊎ (((m'.is_open ≡ false) × (left + m'.waits ≤ left' + m.waits))
       ⊎ ((tolls n' : ℕ) × (tolls ≤ n' * weight r pl) × HoldsBits r pl m' n' × (m'.is_open ≡ true)
       × (left ≤ left' + m.waits + run_cost r pl tolls)))
+
+-- a run that began again with failures kept: as many turns as were given are no more than are left and some, if so they
+-- were where it began again
+abbrev pub SpendsOn : ℕ → ℕ → ℕ → ℕ → Type 0
+SpendsOn given stood left most = given ≤ stood + most → given ≤ left + most
+
+-- one that was given up
+pub record AnewGivenUp {S : Type 0} {text : Ghosts S} (r : Request S text) (start : StringCursor) (given left : ℕ) :
+    Type 0 where
+  pub cost : (pl : Remembering r) → start_of r ≤ start.position
+      → Refused ⊎ ((tolls : ℕ) × (tolls ≤ most_bits (run_of r) pl.plain (start_of r) * weight r pl)
+      × (given ≤ left + run_cost r pl tolls))
+
+-- one with no outcome, and what the memory holds then
+pub record AnewSettles {S : Type 0} {text : Ghosts S} (r : Request S text) (start : StringCursor) (m : MemoValue)
+    (given stood left : ℕ) : Type 0 where
+  pub cost : (pl : Remembering r) → start_of r ≤ start.position → (waits : ℕ) → given ≤ stood + waits
+      → Refused ⊎ ((tolls n : ℕ) × (tolls ≤ n * weight r pl) × HoldsBits r pl m n
+      × (m.is_open ≡ true) × (given ≤ left + waits + run_cost r pl tolls))
 
 -- what holds of what was decided
 abbrev pub IfDecided : Decision → (Option StringCursor → Type 0) → Type 0

@@ -20,7 +20,7 @@ use sre_chars::string::{StrDrive, StringCursor};
 use sre_growth::Refusal;
 use sre_reading::one_character;
 use sre_reading::one_character::takes;
-use sre_reading::runs::{Stretch, run_up_to};
+use sre_reading::runs::run_up_to;
 use sre_reading::text::read;
 use sre_request::Request;
 use sre_turns::{Next, Point};
@@ -68,8 +68,15 @@ pub(super) fn one_longer<S: StrDrive>(
     }
 }
 
-// The first of the longer counts of which something may come, if there is one: so many characters of the run.
-// How many characters it passed comes beside. It is out of line, so that its loop has the registers to itself.
+// How far a lazy run goes on: behind how many of its characters, and where that is if something may come there.
+#[derive(Clone, Copy)]
+struct Reach {
+    count: usize,
+    end: Option<StringCursor>,
+}
+
+// The first of the longer counts of which something may come, if there is one. It is out of line, so that its loop has
+// the registers to itself.
 #[inline(never)]
 fn first_longer<S: StrDrive>(
     req: &Request<'_, S>,
@@ -77,30 +84,34 @@ fn first_longer<S: StrDrive>(
     tail: usize,
     least: usize,
     start: StringCursor,
-    passed: &mut usize,
-) -> Option<Stretch>
+) -> Reach
     requires tail { tail ≡ skip (run_of req.now).words (place + 1) }
     requires stands { HasRun (run_of req.now) (Longer place least) start }
-    ensures { MatchOption result
+    ensures { MatchOption result.end
         ((b : BoardValue) → Advances (run_of req.now) (Longer place least) start b Next.Back b)
-        (λ x. SkipsBoth (run_of req.now) (Longer place least) start (Instruction tail) (Longer place x.count) x.end) }
+        (λ end. SkipsBoth (run_of req.now) (Longer place least) start (Instruction tail) (Longer place result.count)
+        end) }
 {
     let operands = run_operands(req, place);
     let opcode = one_character::opcode(req, place + 4);
     let Some(nearest) = one_longer(req, place, operands, opcode, least, start) else {
-        return None;
+        return Reach {
+            count: least,
+            end: None,
+        };
     };
     let wanted = first_literal(req, tail, nearest);
     let mut cursor = nearest;
     let mut count = least + 1;
     'count: loop {
         if !lacks(req, wanted, cursor) {
-            *passed = count.saturating_sub(least);
-            return Some(Stretch { count, end: cursor });
+            return Reach {
+                count,
+                end: Some(cursor),
+            };
         }
         let Some(after) = one_longer(req, place, operands, opcode, count, cursor) else {
-            *passed = count.saturating_sub(least);
-            return None;
+            return Reach { count, end: None };
         };
         cursor = after;
         count += 1;
@@ -120,19 +131,12 @@ pub(super) fn longer<S: StrDrive, A: Allocator>(
     ensures { IfOk result (λ next. Advances (run_of req.now) (Longer place count) start board.old next board.new) }
 {
     let tail = run_operands(req, place).tail;
-    let mut passed = 0;
-    let found = first_longer(req, place, tail, count, start, &mut passed);
-    board.pass(passed);
-    let Some(found) = found else {
+    let reach = first_longer(req, place, tail, count, start);
+    board.pass(reach.count.saturating_sub(count));
+    let Some(end) = reach.end else {
         return Ok(Next::Back);
     };
-    Ok(choose(
-        req,
-        board,
-        tail,
-        Point::Longer(place, found.count),
-        found.end,
-    )?)
+    Ok(choose(req, board, tail, Point::Longer(place, reach.count), end)?)
 }
 
 /// The least count, and then the longer ones. Where the tail refuses behind the least count the longer ones are looked

@@ -5,14 +5,14 @@
 //! these for each character of the window begins to remember. A search within turns counts these in place of its steps,
 //! twice as many for each character. In either case the run that is under way is begun again then.
 
-ghost use Rattle.std.specs.Prelude.{[], ◌≡◌, ◌+◌, ◌-◌, ◌*◌, ◌^◌, ◌<◌, ◌≤◌, true, false};
+ghost use Rattle.std.specs.Prelude.{[], ℕ, ◌≡◌, ◌+◌, ◌-◌, ◌*◌, ◌^◌, ◌<◌, ◌≤◌, true, false};
 ghost use Rattle.sre_turns.specs.Fruit.{is_inside};
 ghost use Rattle.sre_turns.specs.Moves.{spot_at};
 ghost use Rattle.sre_turns.specs.declared.Point.TheVariants.{Instruction};
 ghost use Rattle.sre_growth.specs.Refusal.{Refused};
 ghost use Rattle.sre_board.specs.Failures.{Holds, HoldsNone, HoldsNoMore, HoldsOneMore, Remembers};
 ghost use Rattle.sre_board.specs.Failures.{HoldsStill, BitsStay, BitsKept, Roomy, Laid, ones, HasBit, IsOpen};
-ghost use Rattle.sre_board.specs.Failures.{Capacity, HasRow, NewRow, KeepsSpot, kept_of};
+ghost use Rattle.sre_board.specs.Failures.{Capacity, HasRow, HasSlots, NewRow, KeepsSpot, kept_of};
 ghost use Rattle.sre_turns.specs.Nested.{repeats};
 ghost use Rattle.sre_request.specs.Requests.{start_of, end_of};
 ghost use Rattle.sre_request.specs.Runs.{run_of};
@@ -190,7 +190,8 @@ impl<A: Allocator> Memo<A> {
         ensures still { HoldsStill self.old.kept self.new.kept }
         ensures stay { BitsStay self.old.kept self.new.kept }
         ensures ones { ones self.new.kept ≡ ones self.old.kept }
-        ensures roomy { Roomy words.now first end self.old.kept → Roomy words.now first end self.new.kept }
+        ensures roomy { (n : ℕ) → HasSlots words.now (repeats board.now.frames) n
+            → Roomy words.now n first end self.old.kept → Roomy words.now n first end self.new.kept }
         ensures rows { NewRow words.now first end place (repeats board.now.frames) self.old.kept self.new.kept }
         ensures there { self.new.stopped ≡ false
             → Capacity words.now first end place (repeats board.now.frames) self.old.kept

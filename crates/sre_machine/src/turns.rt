@@ -11,7 +11,7 @@ ghost use Rattle.sre_model.specs.TurnBounds.{turns_of, most_each};
 ghost use Rattle.sre_turns.specs.Board.{bare};
 ghost use Rattle.sre_turns.specs.Machine.{StandsWithin, SaysAccepted, Decides, outcomes};
 ghost use Rattle.sre_machine.specs.Paying.{Remembering, each_of, GivenUp, Settles, Waited, IfDecided};
-ghost use Rattle.sre_machine.specs.Paying.{RunGivenUp, RunSettles};
+ghost use Rattle.sre_machine.specs.Paying.{RunGivenUp, RunSettles, SpendsOn, AnewGivenUp, AnewSettles};
 ghost use Rattle.sre_board.specs.Failures.{Remembers};
 ghost use Rattle.sre_request.specs.Requests.{end_of, asked_of};
 ghost use Rattle.sre_request.specs.Runs.{run_of, Standing};
@@ -389,6 +389,48 @@ fn run_once<S: StrDrive, A: Allocator>(
     )
 }
 
+// Lets a run begin again on an empty board with its memo open, with as many turns as it was given at first. Of the
+// turns before and after that the more are taken. It is out of line, since few runs begin again.
+#[inline(never)]
+fn run_anew<S: StrDrive, A: Allocator>(
+    req: &Request<'_, S>,
+    literals: usize,
+    start: StringCursor,
+    board: &mut Board<A>,
+    memo: &mut Memo<A>,
+    limited: bool,
+    given: u64,
+    left: &mut u64,
+) -> Result<Option<StringCursor>, Halt>
+    requires stands { Standing req.now start }
+    requires inside { start.position ≤ end_of req.now }
+    requires behind { (t : Tree) → WholeItems (run_of req.now).words t → ReadsBehind (run_of req.now).words literals t }
+    requires room { 2 * literals < 2 ^ 64 }
+    ensures remembers { Remembers (run_of req.now) memo.new.kept }
+    ensures decides { (t : Tree) → WholeItems (run_of req.now).words t
+        → IfOk result
+        (λ found. Decides (run_of req.now)
+        (outcomes (run_of req.now) (behind_items literals t) start.position) found board.new.marks) }
+    ensures spent { (t : Tree) → WholeItems (run_of req.now).words t
+        → SpendsOn given left.old left.new
+        (turns_of (run_of req.now).subject (behind_items literals t) start.position * most_each (asked_of req.now)) }
+    ensures used { IfErr result (λ halt. halt ≡ Halt.UsedUp → (limited ≡ true) × (left.new ≡ 0)) }
+    ensures given_up { IfErr result (λ halt. halt ≡ Halt.UsedUp → AnewGivenUp req.now start given left.new) }
+    ensures settles { limited ≡ true → IfOk result (λ found. found ≡ None
+        → AnewSettles req.now start memo.new given left.old left.new) }
+{
+    let stood = *left;
+    board.clear();
+    memo.open();
+    *left = given;
+    let told = run_once(req, literals, start, board, memo, limited, left)?;
+    *left = stood.min(*left);
+    match told {
+        Decision::Decided(found) => Ok(found),
+        Decision::Opened => unreachable!(),
+    }
+}
+
 /// Runs the machine from a cursor behind some literals that the words begin with, on an empty board: the cursor at the
 /// end of the first accepted way of what follows these literals, whose marks are then on the board, or `None` where no
 /// way is accepted. Where it is limited it takes its turns off those that are left, and is given up where none is.
@@ -427,17 +469,6 @@ pub fn run_behind<S: StrDrive, A: Allocator>(
     let given = *left;
     match run_once(req, literals, start, board, memo, limited, left)? {
         Decision::Decided(found) => Ok(found),
-        Decision::Opened => {
-            let stood = *left;
-            board.clear();
-            memo.open();
-            *left = given;
-            let told = run_once(req, literals, start, board, memo, limited, left)?;
-            *left = stood.min(*left);
-            match told {
-                Decision::Decided(found) => Ok(found),
-                Decision::Opened => unreachable!(),
-            }
-        }
+        Decision::Opened => run_anew(req, literals, start, board, memo, limited, given, left),
     }
 }

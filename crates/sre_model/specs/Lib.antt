@@ -18,12 +18,14 @@ pub mod References
 pub mod Regions
 pub mod Slots
 pub mod RunCounts
+pub mod Alternatives
 pub mod Remembered
 pub mod LeadingRuns
 pub mod WalkBounds
 pub mod Shown
 pub mod Rows
 pub mod RowsOfWalks
+pub mod RowsOfTurns
 pub mod Standing
 pub mod Runs
 pub mod Cost

@@ -1,16 +1,17 @@
 -- Codes of which a search keeps all that failed, and a number of turns that is enough for them.
 -- Of the meaning: what sre_engine makes public rests on it.
-use Rattle.std.specs.Prelude.{ℕ, ◌+◌, ◌-◌, ◌*◌, ◌^◌, ◌/◌, ◌≡◌, ◌≤◌, false, min}
+use Rattle.std.specs.Prelude.{ℕ, ◌+◌, ◌-◌, ◌*◌, ◌^◌, ◌/◌, ◌≡◌, ◌≤◌, false, min, max}
 use Rattle.sre_model.specs.Tree.{Tree}
 use Rattle.sre_model.specs.Found.{Asked}
 use Rattle.sre_model.specs.References.{refers}
 use Rattle.sre_model.specs.Regions.{has_region}
 use Rattle.sre_model.specs.Slots.{most_slots}
 use Rattle.sre_model.specs.RunCounts.{most_counts}
+use Rattle.sre_model.specs.Alternatives.{most_alternatives}
 
--- for so many words of 64 bits there has to be room at each place of the code: two bits for each position and slot
-abbrev pub words_at_place : Asked → ℕ
-words_at_place a = 128 * (a.end + 1 - a.start) + 1
+-- for so many words of 64 bits there has to be room at each place of the code: two bits for each slot and position
+abbrev pub words_at_place : Tree → Asked → ℕ
+words_at_place t a = most_slots t * 2 * (a.end + 1 - a.start) / 64 + 1
 
 -- the tree has neither regions nor references, its loops have few slots, and there is room for what failed at all of so
 -- many places
@@ -18,27 +19,36 @@ pub record IsRemembered (places : ℕ) (t : Tree) (a : Asked) : Type 0 where
   pub no_region : has_region t ≡ false
   pub no_reference : refers t ≡ false
   pub slots : most_slots t ≤ 4096
-  pub room : places * words_at_place a ≤ 2 ^ 30
+  pub room : places * words_at_place t a ≤ 2 ^ 30
   pub order : a.start ≤ a.end
 
 -- up to which number the characters of a run make a difference, in a text of this length
 abbrev pub counts_at_most : Tree → Asked → ℕ
 counts_at_most t a = min (most_counts t) a.end
 
--- how many turns come at most of an instruction that may branch before another one is gone on with
-abbrev pub turns_between : ℕ → ℕ
-turns_between places = 2 * ((places + 4) * (2 * places + 8))
+-- how many ways to go on an instruction has at most: the ends of a run, as far as its characters make a difference, or
+-- the alternatives of a branch
+abbrev pub ways_at_most : Tree → Asked → ℕ
+ways_at_most t a = max (counts_at_most t a) (most_alternatives t)
 
--- how often one is gone on with at most, once failures are kept: for each bit once, and once for each character that
--- makes a difference to a run, in each of the two parts of a search
-abbrev pub most_branches : ℕ → Tree → Asked → ℕ
-most_branches places t a = 2 * (64 * (places * words_at_place a)) * (1 + counts_at_most t a)
+-- how many turns come at most of one way of an instruction that may branch before another one is gone on with
+abbrev pub turns_between : ℕ → ℕ
+turns_between places = 4 * (places + 3)
+
+-- how many spots there are at a place of which it makes a difference that they failed: one for each position and slot
+abbrev pub spots_at_place : Tree → Asked → ℕ
+spots_at_place t a = most_slots t * (a.end + 1 - a.start)
+
+-- how often a way is gone on with at most, once failures are kept: each way of each spot once, and one more, in each of
+-- the two parts of a search
+abbrev pub most_ways : ℕ → Tree → Asked → ℕ
+most_ways places t a = 2 * (places * spots_at_place t a) * (1 + ways_at_most t a)
 
 -- so many turns are enough for a search: those that each of its two parts goes on without failures, and those that come
--- of each start and of each instruction that may branch. Of the latter one counts for more where it passes a long
--- stretch of characters: for one more for each eight of those that make a difference
+-- of each start and of each way. A turn counts for more where it passes a long stretch of characters: for one more for
+-- each eight of those that make a difference
 abbrev pub enough_turns : ℕ → Tree → Asked → ℕ
 enough_turns places t a =
     2 * (32 * (a.end - a.start + 1))
-    + ((a.end + 1 - a.start) * (2 * places + 4) + most_branches places t a * turns_between places)
+    + ((a.end + 1 - a.start) * (2 * places + 4) + most_ways places t a * turns_between places)
     * (1 + counts_at_most t a / 8)

@@ -12,6 +12,8 @@ ghost use Rattle.sre_engine.specs.Requests.{asked_of, code_of, start_of, end_of}
 ghost use Rattle.sre_engine.specs.Answers.{answer_of, Spans};
 ghost use Rattle.sre_engine.specs.Marks.{no_marks};
 ghost use Rattle.sre_engine.specs.TurnBounds.{RunsWithin};
+ghost use Rattle.sre_engine.specs.Counts.{AreEnough};
+ghost use Rattle.sre_engine.specs.Iterators.{request_of};
 ghost use Rattle.sre_engine.specs.WalkBounds.{most_matches, AreInOrder};
 ghost use Rattle.sre_engine.specs.Listed.{match_of};
 ghost use Rattle.sre_engine.specs.Width.{width};
@@ -154,6 +156,29 @@ fn searched_within<S: StrDrive>(
 {
     let _words = req.pattern_codes().words(); // which have a tree
     state.search_within(req, turns)
+}
+
+// A search that is given enough turns is answered, unless memory was refused.
+fn searched_with_enough<S: StrDrive>(
+    req: Request<'_, S>,
+    state: &mut State<Global>,
+    turns: &mut u64,
+) -> Result<Option<bool>, SreError>
+    requires { AreEnough (asked_of req) (code_of req) turns.old }
+    ensures { IfOk result (λ told. told ≡ None → Refused) }
+{
+    state.search_within(req, turns)
+}
+
+// And so is a step of a walk.
+fn stepped_with_enough<S: StrDrive>(
+    walk: &mut SearchIter<'_, S, Global>,
+    turns: &mut u64,
+) -> Result<Option<bool>, SreError>
+    requires { AreEnough (asked_of (request_of walk.old)) (code_of (request_of walk.old)) turns.old }
+    ensures { IfOk result (λ told. told ≡ None → Refused) }
+{
+    walk.next_within(turns)
 }
 
 // The next match of a walk is refused only where memory was.

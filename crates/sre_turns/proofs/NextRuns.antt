@@ -26,7 +26,6 @@ use Rattle.sre_turns.specs.declared.Point.TheVariants.{Instruction, Shorter, Lon
 use Rattle.sre_turns.proofs.Faring.{fares_less, fares_earlier, first_waits, run_code}
 use Rattle.sre_turns.proofs.Moving.{comes, run_nothing, some_turns, sooner}
 use Rattle.sre_turns.proofs.NestedPositions.{all_later}
-use Rattle.sre_turns.proofs.PotentialMoves.{toll_pays}
 use Rattle.sre_turns.proofs.SettledMoves.{settled_moves}
 use Rattle.sre_turns.proofs.StepsInRuns.{shorter_stop}
 use Rattle.sre_turns.proofs.RunEnds.{longest_reaches, run_moves, run_next, run_only_moves, run_short_moves}
@@ -83,7 +82,7 @@ tries_first r i j z c d b mv none stands all limit g = go (comes (Split y z) mv 
         record {
           here = on.0;
           fares =
-              fares_earlier r pl limit b.choices _ _ (omega (arith, toll_pays r.words 0 (omega arith))) f.fares;
+              fares_earlier r pl limit b.choices _ _ (omega arith) f.fares;
         }
 
     go : {os : List Way} {n k : ℕ} → Comes r.words r.subject x (Split y z) os n
@@ -150,7 +149,7 @@ module _ (r : Run) (i low v : ℕ) (w : Opcode r.words i opcode.REPEAT_ONE) (the
       (settled_on r pl limit.start i (i + 1 + v) c.position (c.position + low)
       (c.position + longest_run r.subject there.test unlimited c.position) b.frames b.marks f.here on.0.lies
       (omega arith) (omega (arith, inside)))
-      (omega (arith, toll_pays r.words 0 (omega arith)))
+      (omega arith)
       f.fares
 
   -- where more than its least count passes, these two come of it
@@ -223,7 +222,7 @@ module _ (r : Run) (i low v : ℕ) (w : Opcode r.words i opcode.MIN_REPEAT_ONE) 
       on.0
       (settled_on r pl limit.start i i c.position (c.position + 1) c.position b.frames b.marks f.here f.here.lies
       (omega arith) (omega (arith, inside)))
-      (omega (arith, toll_pays r.words 0 (omega arith)))
+      (omega arith)
       f.fares
 
   -- where more than its least count passes, these two come of it

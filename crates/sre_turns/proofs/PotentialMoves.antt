@@ -1,6 +1,7 @@
 -- A turn spends the potential of its spot: what it leads to has so much less of it that the turn is paid for.
 -- The law that a search takes few turns (`enough` of sre_engine) rests on this.
-use Rattle.std.proofs.Common.{◌≡◌, ℕ, ◌+◌, ◌-◌, ◌*◌, ◌<◌, ◌≤◌, ◌&&◌, ◌||◌, Bool, true, false, cond, nat_eq, nat_lt}
+use Rattle.std.proofs.Common.{◌≡◌, ℕ, zero, suc, ◌+◌, ◌-◌, ◌*◌, ◌<◌, ◌≤◌, ◌&&◌, ◌||◌, Bool, true, false, cond}
+use Rattle.std.proofs.Common.{nat_eq, nat_lt}
 use Rattle.std.proofs.Common.{nat_le, List, [], length, Option, Some, None, refl, sym, ap, subst, arith, mul-le-mul}
 use Rattle.std.proofs.Common.{add-mul, one-mul, min}
 use Rattle.std.proofs.lemmas.Bool.{and_parts}
@@ -28,7 +29,8 @@ use Rattle.sre_turns.specs.MovesInLoops.{at_body, behind, in_order, until_move}
 use Rattle.sre_turns.specs.MovesInRegions.{look}
 use Rattle.sre_turns.specs.MovesAtReferences.{reference_turn, condition_place}
 use Rattle.sre_turns.specs.Machine.{InRole, MovesAt}
-use Rattle.sre_turns.specs.Potential.{path, toll, most_ends, more_ends, potential, potential_of, units, Spends}
+use Rattle.sre_turns.specs.Potential.{path, alternatives_in, alternatives, most_ends, more_ends, potential}
+use Rattle.sre_turns.specs.Potential.{potential_of, units, Spends}
 use Rattle.sre_turns.specs.Limits.{grant, pool}
 use Rattle.sre_model.proofs.Bounds.{passes-below}
 
@@ -62,21 +64,41 @@ cond_spent : (E : Type 0) (ws : List ℕ) (e n : ℕ) (b : Bool) (x y : Move) �
 cond_spent E ws e n true x y h k = h refl
 cond_spent E ws e n false x y h k = k refl
 
--- the toll pays for as many ways to go on as there are words, and for four more
-pub toll_pays : (ws : List ℕ) (k : ℕ) → k ≤ length ws → k * path ws + 4 * (path ws + 2) ≤ toll ws
-toll_pays ws k l = go (path ws)
-  where
-    go : (n : ℕ) → k * n + 4 * (n + 2) ≤ (length ws + 4) * (n + 2)
-    go n =
-        let less : k * n ≤ length ws * (n + 2) = mul-le-mul l (omega arith) in
-        omega (arith, less, add-mul (length ws) 4 (n + 2))
-
--- a toll for each of so many ways to go on, and one more, pay for them and for four more
-pub units_pay : (ws : List ℕ) (k n : ℕ) → k ≤ n → k * path ws + 4 * (path ws + 2) ≤ (1 + n) * grant ws
+-- a toll for each of so many ways to go on, and one more, pay for them and for two more
+pub units_pay : (ws : List ℕ) (k n : ℕ) → k ≤ n → k * path ws + 2 * path ws ≤ (1 + n) * grant ws
 units_pay ws k n l =
-    let one = toll_pays ws 0 (omega arith) in
-    let each : k * path ws ≤ n * grant ws = mul-le-mul l (omega (arith, one)) in
-    omega (arith, one, each, add-mul 1 n (grant ws), one-mul (grant ws))
+    let each : k * path ws ≤ n * grant ws = mul-le-mul l (omega arith) in
+    omega (arith, each, add-mul 1 n (grant ws), one-mul (grant ws))
+
+-- more words have no fewer alternatives
+more_alternatives : (ws : List ℕ) (m n q : ℕ) → m ≤ n → alternatives_in ws m q ≤ alternatives_in ws n q
+unfolding alternatives_in
+more_alternatives ws zero n q l = omega arith
+more_alternatives ws (suc m) zero q l = absurd (omega arith)
+more_alternatives ws (suc m) (suc n) q l =
+    go (nat_eq (word ws q) 0) (more_alternatives ws m n (q + word ws q) (omega arith))
+  where
+    go : (b : Bool) → alternatives_in ws m (q + word ws q) ≤ alternatives_in ws n (q + word ws q)
+        → cond b 0 (1 + alternatives_in ws m (q + word ws q)) ≤ cond b 0 (1 + alternatives_in ws n (q + word ws q))
+    go true h = omega arith
+    go false h = omega (arith, h)
+
+-- behind one alternative there is one fewer
+one_alternative_less : (ws : List ℕ) (q v : ℕ) → q < length ws → word ws q ≡ v → nat_eq v 0 ≡ false
+    → alternatives ws (q + v) + 1 ≤ alternatives ws q
+unfolding alternatives_in
+one_alternative_less ws q v inside is some =
+    subst (λ n. alternatives ws (q + v) + 1 ≤ alternatives_in ws n q) (sym one_word) behind
+  where
+    one_word : length ws - q ≡ suc (length ws - q - 1)
+    one_word = omega (arith, inside)
+
+    fewer : 1 ≤ v → alternatives ws (q + v) ≤ alternatives_in ws (length ws - q - 1) (q + v)
+    fewer l = more_alternatives ws (length ws - (q + v)) (length ws - q - 1) (q + v) (omega (arith, l))
+
+    behind : alternatives ws (q + v) + 1
+        ≤ cond (nat_eq (word ws q) 0) 0 (1 + alternatives_in ws (length ws - q - 1) (q + word ws q))
+    behind = rw (is, some) (omega (arith, fewer (grind (arith, nat_tests))))
 
 -- one way fewer costs one path less
 one_less : (n k : ℕ) → 1 ≤ k → (k - 1) * n + n ≤ k * n
@@ -240,7 +262,7 @@ module _ (ws : List ℕ) (s : Subject) where
         subst (λ move. Pays ToMark move) (sym h.is) (forward ToMark (i + 2) (omega arith))
     role_pays ToBranch a h =
         subst (λ move. Pays ToBranch move) (sym h)
-        (omega (arith, toll_pays ws (length ws - (i + 1)) (omega arith)))
+        (omega (arith, units_pay ws (alternatives ws (i + 1)) (alternatives ws (i + 1)) (omega arith)))
     role_pays ToJump a h =
         subst (λ move. Pays ToJump move) (sym h.is) (forward ToJump (skip ws (i + 1)) (omega arith))
     role_pays (ToRun kind) a h =
@@ -281,13 +303,13 @@ point_spent ws s (Alternatives q) fs p m a n k h =
     there = word_within ws q h.value h.there
 
     more : nat_eq h.value 0 ≡ false
-        → 2 * (length ws - (q + 1)) + 3 + ((length ws - (q + h.value)) * path ws + 2) + 2
-        ≤ (length ws - q) * path ws + 2
+        → 2 * (length ws - (q + 1)) + 3 + (alternatives ws (q + h.value) * path ws + 2) + 2
+        ≤ alternatives ws q * path ws + 2
     more e =
-        let some : 1 ≤ h.value = grind (arith, nat_tests) in
-        let less : (length ws - (q + h.value)) * path ws ≤ (length ws - q - 1) * path ws =
-        mul-le-mul (omega arith) (omega arith) in
-        omega (arith, less, one_less (path ws) (length ws - q) (omega (arith, there)))
+        let fewer = one_alternative_less ws q h.value there (word_of ws q h.value h.there) e in
+        let each : (alternatives ws (q + h.value) + 1) * path ws ≤ alternatives ws q * path ws =
+        mul-le-mul fewer (omega arith) in
+        omega (arith, each, add-mul (alternatives ws (q + h.value)) 1 (path ws), one-mul (path ws))
 point_spent ws s (Shorter t k) fs p m a n j h =
     subst (λ move. Spent ⊥ ws s.end (potential ws s.end (Shorter t k) p) move) (sym h.is)
     (cond_spent ⊥ ws s.end (potential ws s.end (Shorter t k) p) (nat_eq k 0) _ _ (λ e. omega arith) more)

@@ -10,7 +10,7 @@ use Rattle.sre_turns.specs.Board.{Choice, Else, Keep, Trying}
 use Rattle.sre_turns.specs.declared.Point.TheVariants.{Instruction, Alternatives, Shorter, Longer, Inside, Again, Tried}
 use Rattle.sre_turns.specs.declared.Point.{Point}
 use Rattle.sre_turns.specs.Moves.{Spot, spot_at}
-use Rattle.sre_turns.specs.Potential.{potential, potential_of, toll, units}
+use Rattle.sre_turns.specs.Potential.{path, potential, potential_of, units}
 use Rattle.sre_turns.specs.Settled.{Regionless, SettledIn}
 
 -- how many turns are left; how many were taken, with how much potential at first, and how often a toll was granted;
@@ -27,9 +27,9 @@ pub record Limit : Type 0 where
 abbrev pub earlier : Limit → Limit
 earlier l = record l { turns = l.turns - 1; taken = l.taken + 1 }
 
--- what a toll that is granted is worth: it does not depend on the text
+-- what a toll that is granted is worth: two ways to go on. It does not depend on the text
 abbrev pub grant : List ℕ → ℕ
-grant ws = toll ws + toll ws
+grant ws = 2 * path ws
 
 -- the same with so many tolls more
 abbrev pub raised : ℕ → Limit → Limit

@@ -2,7 +2,7 @@
 -- instruction that may branch is gone on with. Such an instruction brings tolls of its own, which pay for the rest.
 -- Of the law that a search takes few turns (an amortised count). What sre_engine makes
 -- public does not rest on it.
-use Rattle.std.specs.Prelude.{⊤, ℕ, ◌+◌, ◌-◌, ◌*◌, ◌≤◌, List, length, cond, min, nat_eq}
+use Rattle.std.specs.Prelude.{⊤, ℕ, zero, suc, ◌+◌, ◌-◌, ◌*◌, ◌≤◌, List, length, cond, min, nat_eq}
 use Rattle.sre_model.specs.Tree.{GreedyRun, LazyRun}
 use Rattle.sre_model.specs.Ways.{unlimited}
 use Rattle.sre_model.specs.Grammar.{word}
@@ -15,9 +15,13 @@ use Rattle.sre_turns.specs.Moves.{Spot, Move, Stop, End, Go, Split, Enter}
 abbrev pub path : List ℕ → ℕ
 path ws = 2 * length ws + 6
 
--- what pays for a choice among as many ways as there are words
-abbrev pub toll : List ℕ → ℕ
-toll ws = (length ws + 4) * (path ws + 2)
+-- how many alternatives there are from q on, if they have n words
+unfoldable pub alternatives_in : List ℕ → ℕ → ℕ → ℕ
+alternatives_in ws zero q = 0
+alternatives_in ws (suc n) q = cond (nat_eq (word ws q) 0) 0 (1 + alternatives_in ws n (q + word ws q))
+
+abbrev pub alternatives : List ℕ → ℕ → ℕ
+alternatives ws q = alternatives_in ws (length ws - q) q
 
 -- how many ends a run at i has at most beside its longest, where the window ends at e
 abbrev pub most_ends : List ℕ → ℕ → ℕ → ℕ
@@ -30,7 +34,7 @@ more_ends ws e i n p = cond (nat_eq (word ws (i + 3)) unlimited) (e - p) (min (w
 -- the potential of a point and a position
 abbrev pub potential : List ℕ → ℕ → Point → ℕ → ℕ
 potential ws e (Instruction i) p = 2 * (length ws - i) + 3
-potential ws e (Alternatives q) p = (length ws - q) * path ws + 2
+potential ws e (Alternatives q) p = alternatives ws q * path ws + 2
 potential ws e (Shorter t k) p = k * path ws + 2
 potential ws e (Longer i n) p = more_ends ws e i n p * path ws + 2
 potential ws e (Inside g) p = 0
@@ -40,9 +44,10 @@ potential ws e (Tried i) p = 0
 abbrev pub potential_of : List ℕ → ℕ → Spot → ℕ
 potential_of ws e x = potential ws e x.point x.position
 
--- how many tolls an instruction at i brings: one if it may have more than one way to go on, a run one more for each end
+-- how many tolls an instruction at i brings: one if it may have more than one way to go on, a run one more for each
+-- end, and a branch one more for each alternative
 abbrev pub units : List ℕ → ℕ → ℕ → Role → ℕ
-units ws e i ToBranch = 1
+units ws e i ToBranch = 1 + alternatives ws (i + 1)
 units ws e i (ToRun GreedyRun) = 1 + most_ends ws e i
 units ws e i (ToRun LazyRun) = 1 + most_ends ws e i
 units ws e i ToRepeat = 1

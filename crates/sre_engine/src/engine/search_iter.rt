@@ -30,7 +30,8 @@ pub struct SearchIter<'a, S: StrDrive, A: Allocator + Copy> {
 
 impl<'a, S: StrDrive, A: Allocator + Copy> SearchIter<'a, S, A> {
     ghost use Rattle.sre_engine.specs.Iterators.{request_of, shown_of, has_ended, NextWithin};
-    ghost use Rattle.sre_engine.specs.Counts.{SpentUpTo};
+    ghost use Rattle.sre_engine.specs.Counts.{SpentUpTo, AreEnough};
+    ghost use Rattle.sre_growth.specs.Refusal.{Refused};
 
     /// The walk over the request's window. The state shows what it showed until the first item comes.
     pub fn new(req: Request<'a, S>, state: State<A>) -> SearchIter<'a, S, A>
@@ -58,12 +59,15 @@ impl<'a, S: StrDrive, A: Allocator + Copy> SearchIter<'a, S, A> {
     /// where they were used up before that was known. `State::match_within` says what a turn is.
     ///
     /// What is left of the turns comes back, so one number can bound a whole walk. Where they are used up there are no
-    /// marks, and the walk stands where it stood: `next`, or this with more turns, begins its step anew.
+    /// marks, and the walk stands where it stood: `next`, or this with more turns, begins its step anew. How many are
+    /// enough for a step is said there, too.
     pub fn next_within(&mut self, turns: &mut u64) -> Result<Option<bool>, SreError>
         ensures gives { NextWithin self.old result self.new }
         ensures used { IfOk result (λ told. told ≡ None → turns.new ≡ 0) }
         ensures spent { SpentUpTo (asked_of (request_of self.old)) (code_of (request_of self.old)) turns.old turns.new
             (shown_of self.new).started }
+        ensures enough { AreEnough (asked_of (request_of self.old)) (code_of (request_of self.old)) turns.old
+            → IfOk result (λ told. told ≡ None → Refused) }
     {
         if self.ended {
             return Ok(Some(false));

@@ -1,10 +1,11 @@
 //! One step of a walk: the next match, and what is asked after it.
 
-ghost use Rattle.std.specs.Prelude.{◌≡◌, ◌<◌, IfOk, IfErr, OnErr, true, false};
+ghost use Rattle.std.specs.Prelude.{◌≡◌, ◌<◌, ◌≤◌, ◌+◌, ◌-◌, IfOk, IfErr, OnErr, true, false};
 ghost use Rattle.sre_model.specs.Marks.{no_marks};
 ghost use Rattle.sre_model.specs.WalkBounds.{most_matches};
-ghost use Rattle.sre_request.specs.Requests.{start_of, code_of, asked_of, stands_in};
+ghost use Rattle.sre_request.specs.Requests.{start_of, end_of, code_of, asked_of, stands_in};
 ghost use Rattle.sre_engine.specs.Walks.{GoesOn};
+ghost use Rattle.sre_engine.specs.Costs.{SearchGivenUp};
 ghost use Rattle.sre_engine.specs.Counts.{SpentUpTo};
 ghost use Rattle.sre_engine.specs.Halts.{Halted};
 ghost use Rattle.sre_engine.specs.Searches.{WalksOn, NoErrorIfLiteral};
@@ -38,6 +39,9 @@ pub(crate) fn step_within<S: StrDrive, A: Allocator + Copy>(
     ensures err { OnErr result ((req.new ≡ req.old) × (state.new.marks ≡ no_marks)) }
     ensures halted { IfErr result (Halted limited left.new) }
     ensures spent { SpentUpTo (asked_of req.old) (code_of req.old) left.old left.new state.new.started }
+    ensures given_up { IfErr result (λ halt. halt ≡ Halt.UsedUp
+        → SearchGivenUp req.old left.old left.new state.new.started) }
+    ensures once { state.new.started ≤ end_of req.old + 1 - start_of req.old }
     ensures literal { NoErrorIfLiteral req.old result }
 {
     if !state.search_from(req, *cursor, limited, left)? {

@@ -1,5 +1,4 @@
-use Rattle.std.proofs.Common.{ℕ, ◌+◌, ◌-◌, ◌*◌, ◌≤◌, arith}
-use Rattle.std.proofs.Math.Nat.{mul-le-mul_right}
+use Rattle.std.proofs.Common.{◌≡◌, ℕ, ◌+◌, ◌-◌, ◌*◌, ap, arith}
 use Rattle.sre_board.proofs.failures.room.Goals as goal
 use Rattle.sre_board.proofs.failures.room.Goals.{
   then-length-gt-MOST_WORDS_IN_ROW-via-then-length-gt-MOST_WORDS_IN_ROW,
@@ -10,7 +9,8 @@ pub returns-then-length-gt-MOST_WORDS_IN_ROW-clause-enough :
     goal.returns-then-length-gt-MOST_WORDS_IN_ROW-clause-enough
 returns-then-length-gt-MOST_WORDS_IN_ROW-clause-enough c = λ some order most fits.
     let p : ℕ = c.args.end - c.args.first + 1 in
-    let lines : c.args.slots * 2 * p ≤ 8192 * p = mul-le-mul_right p (omega arith) in
+    let same : c.args.slots * 2 * p ≡ c.args.slots * 2 * (c.args.end + 1 - c.args.first) =
+    ap (λ n. c.args.slots * 2 * n) (omega arith) in
     let s = c.saturating_mul.ensures in
     absurd
     (elim c.then-length-gt-MOST_WORDS_IN_ROW.branch [

@@ -1,6 +1,8 @@
-use Rattle.std.proofs.Common.{◌≡◌, ◌++◌, length, ◌∙◌, ap, sym, refl, slice_get, arith}
-use Rattle.sre_board.proofs.RowsAdded.{no_row, new_row, made_for, there_if_ok}
-use Rattle.sre_board.specs.Failures.{Kept, kept_of}
+use Rattle.std.proofs.Common.{◌≡◌, ◌<◌, ◌≤◌, ◌++◌, List, length, ◌∙◌, ap, sym, subst, refl, slice_get, arith}
+use Rattle.sre_turns.specs.declared.Frame.{Frame}
+use Rattle.sre_turns.specs.Nested.{repeats, slots}
+use Rattle.sre_board.proofs.RowsAdded.{no_row, new_row, made_for, there_if_ok, roomy_added}
+use Rattle.sre_board.specs.Failures.{Kept, kept_of, Roomy, WordsThere}
 use Rattle.sre_board.specs.declared.failures.Row.{Row}
 use Rattle.sre_board.proofs.KeptStill.{grown, grows_after}
 use Rattle.sre_board.proofs.failures.Failures.add_row.Goals as goal
@@ -61,3 +63,21 @@ returns-clause-there g c =
     there_if_ok c.push_row.result _
     (kept_of c.self.inside.rows.items c.add_shape.new.shapes.items c.self.inside.bits.items) c.push_row.new.self _
     c.args.place c.push_row.ensures.rows refl
+
+pub returns-clause-roomy : goal.returns-clause-roomy
+returns-clause-roomy g c = λ n has h.
+    let ws = c.args.words.now in
+    let mid : Kept = kept_of c.self.inside.rows.items c.add_shape.new.shapes.items c.self.inside.bits.items in
+    let was : Roomy ws n c.args.first c.args.end
+    (kept_of c.args.self.now.rows c.add_shape.new.shapes.items c.args.self.now.bits) =
+    record { rows = h.rows; bits = h.bits } in
+    let there : Roomy ws n c.args.first c.args.end mid =
+    subst (λ (k : Kept). Roomy ws n c.args.first c.args.end
+    (kept_of k.rows c.add_shape.new.shapes.items k.bits)) (sym c.self.view_is) was in
+    let number : c.in_ok-slots.slots ≡ slots ws (repeats c.args.board.now.frames) =
+    subst (λ (fs : List Frame). WordsThere ws (repeats fs) → slots ws (repeats fs) ≤ 4096
+    → c.in_ok-slots.slots ≡ slots ws (repeats fs)) c.loops-innermost.ensures.frames c.in_ok-slots.ensures.slots
+    has.words has.few in
+    let few : length mid.rows < length ws = omega (arith, c.len-number.ensures, c.self.inside.rows.ok.0) in
+    roomy_added ws c.in_ok-slots.slots n c.room-positions.result.1 c.args.first c.args.end mid c.push_row.new.self
+    c.push_row.ensures.size c.room-positions.ensures.few (omega (arith, number, has.most)) few there
