@@ -1,7 +1,7 @@
 //! Laws drawn from several clauses or calls: that requests over texts of two types are answered alike, that what was
 //! emitted is accepted, and what a search, a walk and its list leave where they end otherwise than by a match.
 
-ghost use Rattle.std.specs.Prelude.{◌<◌, ◌+◌, ◌-◌, ◌*◌, ℕ};
+ghost use Rattle.std.specs.Prelude.{◌<◌, ◌+◌, ◌-◌, ◌*◌, ℕ, length};
 ghost use Rattle.std.specs.Prelude.{◌≡◌, ◌≢◌, ◌≤◌, IfOk, IfErr, OnErr, Some, true, false, None, Err, cond, ◌&&◌, map};
 ghost use Rattle.std.specs.Vec.{vec_len};
 ghost use Rattle.sre_growth.specs.Refusal.{Refused};
@@ -19,6 +19,7 @@ ghost use Rattle.sre_engine.specs.Listed.{match_of};
 ghost use Rattle.sre_engine.specs.Width.{width};
 ghost use Rattle.sre_engine.specs.Codes.{hints_of};
 ghost use Rattle.sre_emit.specs.Parts.{tree_of};
+ghost use Rattle.sre_tests.specs.TwoRuns.{words_of_two_runs};
 ghost use Rattle.sre_emit.specs.Block.{block_prefix, is_all_literals};
 ghost use Rattle.sre_emit.specs.Emitted.{Emitted};
 
@@ -168,6 +169,20 @@ fn searched_with_enough<S: StrDrive>(
     ensures { IfOk result (λ told. told ≡ None → Refused) }
 {
     state.search_within(req, turns)
+}
+
+// So who has the words of `(?:a+a+)+b` knows how many turns answer a search of any text of up to 1,000 characters.
+fn two_runs_searched<S: StrDrive>(
+    text: S,
+    code: Code<'_>,
+    state: &mut State<Global>,
+) -> Result<Option<bool>, SreError>
+    requires words { words_of code ≡ words_of_two_runs }
+    requires short { length (S.text text) ≤ 1000 }
+    ensures { IfOk result (λ told. told ≡ None → Refused) }
+{
+    let mut turns = 35_347_313;
+    state.search_within(Request::new(text, 0, usize::MAX, code, false), &mut turns)
 }
 
 // And so is a step of a walk.

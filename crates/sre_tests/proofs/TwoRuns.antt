@@ -1,0 +1,50 @@
+-- How many turns are enough for (?:a+a+)+b, over any text of up to 1,000 characters.
+use Rattle.std.proofs.Common.{◌≡◌, ℕ, zero, suc, ◌+◌, ◌-◌, ◌*◌, ◌/◌, ◌<◌, ◌≤◌, ◌⊎◌, inl, inr, min, max, refl, arith}
+use Rattle.sre_engine.specs.Tree.{Tree, Empty, Then, Item, One, Loop, Run, Literal, Plain, Greedy, GreedyRun}
+use Rattle.sre_engine.specs.Ways.{unlimited}
+use Rattle.sre_engine.specs.Grammar.{Whole, ReadsItem}
+use Rattle.sre_engine.specs.Found.{Asked}
+use Rattle.sre_engine.specs.Remembered.{IsRemembered, enough_turns}
+use Rattle.sre_tests.specs.TwoRuns.{words_of_two_runs}
+
+abbrev letters : Item
+letters = Run GreedyRun 1 unlimited (Literal Plain 97)
+
+abbrev pub two_runs : Tree
+two_runs =
+    Then (Loop Greedy 1 unlimited (Then letters (Then letters Empty))) (Then (One (Literal Plain 98)) Empty)
+
+pub its_words : Whole words_of_two_runs two_runs
+its_words =
+    let some : 1 ≤ unlimited = omega arith in
+    let first : ReadsItem words_of_two_runs 4 11 letters =
+    (refl, (refl, refl, refl, some, refl, (refl, refl), refl)) in
+    let second : ReadsItem words_of_two_runs 11 18 letters =
+    (refl, (refl, refl, refl, some, refl, (refl, refl), refl)) in
+    let loop : ReadsItem words_of_two_runs 0 19 (Loop Greedy 1 unlimited (Then letters (Then letters Empty))) =
+    (refl, (refl, refl, some, (11, first, (18, second, refl)), refl, refl)) in
+    (refl, ((19, loop, (21, (refl, (refl, refl)), refl)), refl))
+
+-- the number over n positions, where a run's characters make a difference up to c
+few : (n k e c : ℕ) → k ≤ n → n ≤ e + 1 → e ≤ 1000 → (c ≡ 0) ⊎ (c ≡ 1)
+    → 2 * (32 * k) + (n * (2 * 22 + 4) + 2 * (22 * (4 * n)) * (1 + max c 0) * (4 * (22 + 3))) * (1 + c / 8) < 35347313
+few n k e c l m short (inl none) = rw none (omega (arith, l, m, short))
+few n k e c l m short (inr one) = rw one (omega (arith, l, m, short))
+
+pub turns_enough : (a : Asked) → a.start ≤ a.end → a.end ≤ 1000 → enough_turns 22 two_runs a < 35347313
+turns_enough a order short =
+    few (a.end + 1 - a.start) (a.end - a.start + 1) a.end (min 1 a.end) (omega (arith, order)) (omega arith) short
+    (least a.end)
+  where
+    least : (e : ℕ) → (min 1 e ≡ 0) ⊎ (min 1 e ≡ 1)
+    least zero = inl refl
+    least (suc e) = inr (omega arith)
+
+pub two_runs_remembered : (a : Asked) → a.start ≤ a.end → a.end ≤ 1000 → IsRemembered 22 two_runs a
+two_runs_remembered a order short = record {
+  no_region = refl;
+  no_reference = refl;
+  slots = omega arith;
+  room = omega (arith, short);
+  order = order;
+}
