@@ -1,12 +1,10 @@
 -- How the account of the bits goes on: a spot is tried, a spot has failed, and the memory grows. And how many bits
 -- there are at most.
-use Rattle.std.proofs.Common.{◌≡◌, ℕ, zero, suc, ◌+◌, ◌*◌, ◌<◌, ◌≤◌, ◌⊎◌, inl, inr, false}
+use Rattle.std.proofs.Common.{◌≡◌, ℕ, ◌+◌, ◌*◌, ◌<◌, ◌≤◌, ◌⊎◌, inl, inr, false}
 use Rattle.std.proofs.Common.{List, [], ◌∷◌, ◌++◌, length, Some, slice_get, slice_index}
 use Rattle.std.proofs.Common.{refl, sym, ap, ◌∙◌, subst, arith, length-append}
 use Rattle.std.specs.Int.{bit_at}
 use Rattle.std.specs.List.{AllByRecursion}
-use Rattle.std.proofs.lemmas.Bool.{cases_order}
-use Rattle.std.proofs.lemmas.Nat.Bits.{bit_at-zero}
 use Rattle.sre_model.specs.Runs.{Run}
 use Rattle.sre_turns.specs.Alike.{Alike}
 use Rattle.sre_turns.specs.Moves.{Spot}
@@ -141,29 +139,6 @@ set_still old new kept bs set =
   where
     one_still : (b : ℕ) → IsSet old b → IsSet new b
     one_still b s = record { at = s.at; bit = s.bit; small = s.small; is = s.is; set = kept s.at s.bit s.set }
-
--- past the last word no bit is set
-none_past : (xs : List ℕ) (i : ℕ) → length xs ≤ i → slice_index xs i ≡ 0
-none_past [] i h = refl
-none_past (x ∷ xs) zero h = absurd (omega (arith, h))
-none_past (x ∷ xs) (suc i) h = none_past xs i (omega (arith, h))
-
-set_within : (k : Kept) (b : ℕ) → IsSet k b → b < 64 * length k.bits
-set_within k b s = elim (cases_order s.at (length k.bits)) [
-  | inl e ↦ absurd (past (omega (arith, e)))
-  | inr (inl h) ↦ omega (arith, h, s.small, s.is)
-  | inr (inr h) ↦ absurd (past (omega (arith, h)))
-]
-  where
-    past : length k.bits ≤ s.at → ⊥
-    past h =
-        let none = ap (λ w. bit_at w s.bit) (none_past k.bits s.at h) in
-        omega (arith, none, s.set, bit_at-zero s.bit)
-
-bit_within : (k : Kept) (ws : List ℕ) (x : Spot) (b : ℕ) → Laid k → BitOf k ws x b → b < 64 * length k.bits
-bit_within k ws x b laid g =
-    let e = g.entry in
-    omega (arith, (laid.within e.number e.row e.there).0, e.within, e.at_is, small_bit k ws x g.at g.bit e, g.is)
 
 module _ (r : Run) (pl : Regionless r) (first : ℕ) where
   rows_lie : (old new : Kept) → RowsStay old new → NoNewRow old new
