@@ -185,7 +185,7 @@ fn two_runs_searched<S: StrDrive>(
     state.search_within(Request::new(text, 0, usize::MAX, code, false), &mut turns)
 }
 
-// And so is a step of a walk.
+// A step of a walk that is given enough turns is answered, too, unless memory was refused.
 fn stepped_with_enough<S: StrDrive>(
     walk: &mut SearchIter<'_, S, Global>,
     turns: &mut u64,
