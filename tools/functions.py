@@ -78,6 +78,20 @@ def functions(texts):
     return found
 
 
+def name_around(text, part):
+    """The name of the function that a part of a file's text stands in, by where the part begins; none where it stands
+    in no function, or more than once."""
+    lines, before = text.split("\n"), text.partition(part)[0].count("\n")
+    if text.count(part) != 1:
+        return None
+    for at in range(before, -1, -1):
+        head = FUNCTION.match(lines[at])
+        if head:
+            begin, end = extent(lines, at, head[1]) if not lines[at].endswith(";") else (at, at)
+            return head[2] if begin <= before <= end else None
+    return None
+
+
 def begin_of_body(lines, indent):
     """The line of a function's text that its body's first brace ends; none where the body is on one line with all."""
     alone = [i for i, line in enumerate(lines) if line == f"{indent}{{"]
@@ -85,14 +99,15 @@ def begin_of_body(lines, indent):
     return next(iter([*alone, *behind]), None)
 
 
-def emptied(texts, kept):
-    """The texts with a panic in place of each function's body, but for those of kept functions and of cycles."""
+def emptied(texts, kept, is_padded=True):
+    """The texts with a panic in place of each function's body, but for those of kept functions and of cycles. They have
+    as many lines as before where they are padded."""
     lines = {file: text.split("\n") for file, text in texts.items()}
     for path, it in functions(texts).items():
         own = lines[it.file][it.begin : it.end + 1]
         begin = begin_of_body(own, re.match(" *", own[-1])[0])
         if path not in kept and not it.cycle and begin is not None:
             # as many lines as before, since the functions' lines are those of before
-            panic = ["unreachable!()", *[""] * (len(own) - begin - 3)]
+            panic = ["unreachable!()", *["" if is_padded else None] * (len(own) - begin - 3)]
             lines[it.file][it.begin + begin + 1 : it.end] = panic
-    return {file: "\n".join(it) for file, it in lines.items()}
+    return {file: "\n".join(line for line in it if line is not None) for file, it in lines.items()}

@@ -5,10 +5,12 @@
 
 It looks whether tests, cases, seal and pictures stand (`standing.py`). `rt ci` proves each crate and its tests, or
 takes over what an earlier run on this machine proved of the same files, tries the must-fail edits, and runs the tests
-and the stored run. Once the crates below a crate are proved, its wrong bodies are tried (`wrong_bodies.py`), where
-cores are idle. In the end the programs answer the case files and random words (`hostile.py`); with `cases` they do that
-alone, over what an earlier run or `rt run` left. The gate tells the minutes of each phase, by the clock and of
-processors, and the dearest functions of the bundles, right or wrong. The last line counts what passed.
+and the stored runs. Once the crates below a crate are proved, its wrong bodies are tried (`wrong_bodies.py`), where
+cores are idle; one that an earlier run judged of the same texts stays judged (`judged.py`), but for GATE_ANEW=1. In the
+end the programs answer the case files and made lines (`cases.py`); with `cases` they do that alone, over what an
+earlier run or `rt run` left. The gate tells what it ran on and what it took over, the minutes of each phase, by the
+clock and of processors, the dearest checks, and the dearest functions of the bundles, right or wrong (those of a crate
+or its tests: `dearest.py`). The last line counts what passed.
 """
 import os
 import re
@@ -21,7 +23,8 @@ import threading
 import time
 from concurrent.futures import ThreadPoolExecutor
 
-import hostile
+import cases
+import judged
 import standing
 import wrong_bodies
 
@@ -82,13 +85,15 @@ class Checks:
         self.rt, self.phases, self.seen, self.running = rt, phases, {}, 0
 
     def kind(self, pid):
+        """Of which kind a check is, and of which crate; nothing of another process."""
         with open(f"/proc/{pid}/cmdline", "rb") as file:
             words = file.read().decode(errors="replace").split("\0")
-        if not words[0].endswith("/rattle"):
+        if not words[0].endswith("/rattle") or "--crate-name" not in words:
             return None
+        name = words[words.index("--crate-name") + 1]
         if "rt-edit-" in os.readlink(f"/proc/{pid}/cwd"):
-            return "must-fail edits"
-        return "proofs of tests" if "--test" in words else "proofs"
+            return "must-fail edits", name
+        return "proofs of tests" if "--test" in words else "proofs", name
 
     def look(self):
         """Looks at the processes. A check of several jobs has copies below it, whose time it takes over in the end."""
@@ -104,7 +109,7 @@ class Checks:
             if kind and int(fields[1]) == self.rt.pid:
                 checks.add(int(pid))
                 self.seen[pid, fields[19]] = kind, processor_seconds(fields)
-                self.phases.reach(kind)
+                self.phases.reach(kind[0])
         copies = {it for it, parent in parents.items() if parent in checks}
         # a check waits while its copies work
         self.running = len(copies) + len(checks - {parents[it] for it in copies})
@@ -114,8 +119,15 @@ class Checks:
             self.look()
             time.sleep(0.25)
         self.running = 0
-        for kind, seconds in self.seen.values():
+        for (kind, _), seconds in self.seen.values():
             self.phases.take(kind, seconds)
+
+    def tell(self):
+        taken = {}
+        for what, seconds in self.seen.values():
+            taken[what] = taken.get(what, 0) + seconds
+        for seconds, (kind, name) in sorted(((it, what) for what, it in taken.items()), reverse=True)[:10]:
+            tell(f"dearest checks: {minutes(seconds)} {kind} of {name}")
 
 
 class Prover:
@@ -123,6 +135,7 @@ class Prover:
 
     def __init__(self, phases, rlibs):
         self.rlibs, self.proved, self.tests, self.idle_edits, self.last = rlibs, {}, 0, 0, ""
+        self.taken_over, self.crates = 0, len(wrong_bodies.crates())
         self.changed = threading.Condition()
         self.rt = subprocess.Popen(
             ["rt", "ci"], cwd=ROOT, text=True, errors="replace",
@@ -138,6 +151,7 @@ class Prover:
             self.idle_edits += SAYS_NOTHING in self.last
             ended = re.fullmatch(r"rt: (\w+) (proved|is kept|NOT PROVED)(?:: .*)?", self.last)
             if ended:
+                self.taken_over += ended[2] == "is kept"
                 self.end(ended[1], ended[2] != "NOT PROVED")
         self.rt.wait()
         with self.changed:
@@ -151,6 +165,10 @@ class Prover:
         with self.changed:
             self.proved[name] = is_proved
             self.changed.notify_all()
+
+    def is_over(self):
+        """Whether all crates are proved, or not, so that tests and wrong bodies are all that is left."""
+        return len(self.proved) >= self.crates
 
     def are_proved(self, names):
         """Waits until these crates are proved, or one of them cannot be any more: whether they are."""
@@ -177,17 +195,25 @@ class Bundles:
 
     def __init__(self, prover, phases, room):
         self.prover, self.phases, self.room, self.kit = prover, phases, room, wrong_bodies.kit()
+        self.judged, self.taken_over = judged.Judged(self.kit, os.path.dirname(os.path.realpath(__file__))), 0
         self.passed, self.failed, self.dearest = 0, 0, []
-        self.running, self.turn = 0, threading.Condition()
+        self.running, self.waiting, self.turn = 0, [], threading.Condition()
 
-    def check(self, command, folder, costs):
-        """Runs a check where a core is idle, and gives what it says. `costs` gets what each function took."""
+    def has_turn(self, size):
+        """Whether a core is idle, and no larger bundle waits for it."""
+        return self.running + self.prover.checks.running < os.cpu_count() and size == max(self.waiting)
+
+    def check(self, command, folder, costs, size):
+        """Runs a check of so many bodies where a core is idle, and gives what it says. `costs` gets what each function
+        took. While crates are still to be proved they go first, since others wait for them."""
         with self.turn:
-            while self.running + self.prover.checks.running >= os.cpu_count():
+            self.waiting.append(size)
+            while not self.has_turn(size):
                 self.turn.wait(1)
+            self.waiting.remove(size)
             self.running += 1
         try:
-            return self.said(["nice", *command], folder, costs)
+            return self.said(command if self.prover.is_over() else ["nice", *command], folder, costs)
         finally:
             self.phases.reach("wrong bodies")
             with self.turn:
@@ -220,20 +246,40 @@ class Bundles:
 
     def of_crate(self, crate, pool):
         """Gives the trials of a crate's bundles, which run in the pool."""
-        made, bad = wrong_bodies.bundles(wrong_bodies.bodies_of(crate), crate)
-        for line in bad:
-            self.count(False, line)
-        words = crate.words(self.kit, lambda it: f"{self.prover.rlibs}/{it.name}")
-        trial = wrong_bodies.Trial(crate, self.kit, words, self.room)
+        rlibs = lambda it: f"{self.prover.rlibs}/{it.name}"
+        trial = wrong_bodies.Trial(crate, self.kit, crate.words(self.kit, rlibs), self.room)
         if not self.prover.are_proved([it.name for it in crate.below()]):
             self.count(False, f"wrong bodies of {crate.name}: not tried, since a crate below it is not proved")
             return []
-        return [pool.submit(self.of_bundle, trial, *it) for it in enumerate(made)]
+        left, names = self.left(trial, self.judged.of_below(crate, rlibs))
+        made, bad = wrong_bodies.bundles(left, crate)
+        for line in bad:
+            self.count(False, line)
+        return [pool.submit(self.of_bundle, trial, names, *it) for it in enumerate(made)]
 
-    def of_bundle(self, trial, number, bundle):
+    def left(self, trial, below):
+        """The bodies that no earlier run has judged, and the name of each body for those that do."""
+        left, names, texts = [], {}, wrong_bodies.sources(trial.crate.folder)
+        for body in wrong_bodies.bodies_of(trial.crate):
+            alone = wrong_bodies.Bundle(texts)
+            # a body that cannot be written is told of where the bundles are made
+            if body.function and body.pairs and alone.take(body):
+                names[body.name] = self.judged.name(body, trial.crate, trial.files(alone, False), below)
+            line = self.judged.line(names[body.name]) if body.name in names else None
+            if line:
+                self.count(True, f"{line} (by an earlier run)")
+                self.taken_over += 1
+            else:
+                left.append(body)
+        return left, names
+
+    def of_bundle(self, trial, names, number, bundle):
         costs, bodies = [], {f"{trial.crate.name}::{it.function}": it.name for it in bundle.bodies}
-        for is_well, line in trial.bundle(number, bundle, lambda *it: self.check(*it, costs)):
+        told = trial.bundle(number, bundle, lambda *it: self.check(*it, costs, len(bundle.bodies)))
+        for body, (is_well, line) in zip(bundle.bodies, told):
             self.count(is_well, line)
+            if is_well:
+                self.judged.keep(names[body.name], line)
         with self.turn:
             self.dearest += [(seconds, f"{it} in {bodies[it]}" if it in bodies else it) for seconds, it in costs]
 
@@ -247,37 +293,6 @@ class Bundles:
     def tell(self):
         for seconds, name in sorted(self.dearest, reverse=True)[:10]:
             tell(f"dearest: {seconds:5.1f} s {name}")
-
-
-class Cases:
-    """The case files and random words, over the program as each compiler built it."""
-
-    def __init__(self):
-        self.passed, self.failed = 0, 0
-
-    def answers(self, program, path):
-        """Whether a program answers NAME.txt as NAME.expected says, with status 0 and no word on standard error, or,
-        where there is a NAME.fault, with status 1 and that line there."""
-        ran = subprocess.run([program, f"{os.path.basename(path)}.txt"], cwd=os.path.dirname(path), capture_output=True)
-        wanted = wrong_bodies.read(f"{path}.expected").encode()
-        fault = wrong_bodies.read(f"{path}.fault").encode() if os.path.isfile(f"{path}.fault") else b""
-        return (ran.returncode, ran.stdout, ran.stderr) == (int(bool(fault)), wanted, fault) and bool(wanted or fault)
-
-    def count(self, is_well, name, program):
-        self.passed += is_well
-        self.failed += not is_well
-        if not is_well:
-            tell(f"{name}: FAILED by {os.path.basename(program)}")
-
-    def run(self):
-        out = f"{ROOT}/crates/sre_cases/out/sre_cases"
-        lists = hostile.Lists()
-        for program in [out, *(it for it in [f"{out}.by-rattle"] if os.path.isfile(it))]:
-            is_there = os.path.isfile(program)
-            for at in (f"{ROOT}/crates/sre_cases/cases", f"{ROOT}/examples"):
-                for name in sorted(it[: -len(".expected")] for it in os.listdir(at) if it.endswith(".expected")):
-                    self.count(is_there and self.answers(program, f"{at}/{name}"), f"case file {name}", program)
-            self.count(is_there and lists.are_judged(program, tell), "random words", program)
 
 
 def proved(room):
@@ -295,8 +310,11 @@ def proved(room):
     finally:
         prover.rt.terminate()
     passed, failed = prover.counts()
+    prover.checks.tell()
     bundles.tell()
     phases.tell()
+    tell(f"ran on {os.cpu_count()} cores with {wrong_bodies.read(f'{bundles.kit}/KIT-ID').strip()}")
+    tell(f"taken over from earlier runs: {prover.taken_over} of {prover.crates} crates, {bundles.taken_over} of the bodies")
     tell(f"{prover.tests} tests, {bundles.passed} bodies in bundles")
     return passed + bundles.passed, failed + bundles.failed
 
@@ -313,13 +331,13 @@ def main(words):
     if words not in ([], ["cases"]):
         print(__doc__.strip())
         return 2
-    passed, failed, cases = 0, 0, Cases()
+    passed, failed, answered = 0, 0, cases.Cases(tell)
     lost = stands()
     if words != ["cases"]:
         with tempfile.TemporaryDirectory(prefix="gate-") as room:
             passed, failed = proved(room)
-    cases.run()
-    passed, failed = passed + cases.passed, failed + cases.failed + lost
+    answered.run()
+    passed, failed = passed + answered.passed, failed + answered.failed + lost
     tell(f"{passed} passed, {failed} failed")
     return 0 if passed and not failed else 1
 

@@ -1,16 +1,21 @@
 #!/usr/bin/env python3
-"""Random words, as `check` lines for the program `sre_cases`, and whether they are a code.
+"""Random and changed words, as `check` lines for the program `sre_cases`, and whether they are a code.
 
     hostile.py [--lists N] [--seed N] PROGRAM     holds the program to a plain reader of the grammar
     hostile.py [--lists N] [--seed N]             writes the lines, and behind each one whether it is a code
 
-The reader is written from docs/WORDS.md and calls itself for parts. Most lists are codes in which a few words were
-changed, since words that are drawn one by one are hardly ever a code. The same seed gives the same lists. The status
-is 1 where the program and the reader differ, or where less than a fifth of the lists are codes, or are none.
+The reader is written from docs/WORDS.md and calls itself for parts. Most random lists are codes in which a few words
+were changed, since words that are drawn one by one are hardly ever a code. The same seed gives the same lists. The
+status is 1 where the program and the reader differ, or where less than a fifth of the lists are codes, or are none.
+
+The gate (`cases.py`) also takes the codes of the probes that are refused memory, which have items of most families:
+each cut short at each place, and with each word changed. Where such a list is a code, `sre_probes` matches and searches
+short texts within turns, and a search finds what a match at the window's start finds.
 """
 import argparse
 import os
 import random
+import re
 import subprocess
 import sys
 import tempfile
@@ -291,40 +296,98 @@ class Writer:
         return words
 
 
-class Lists:
+def written(words):
+    return ",".join(map(str, words)) or "-"
+
+
+def answers_of(program, lines):
+    """What a program answers, line by line; no line where it does not come to a good end."""
+    with tempfile.TemporaryDirectory(prefix="hostile-") as room:
+        path = os.path.join(room, "lines.txt")
+        with open(path, "w", encoding="ascii") as file:
+            file.write("".join(f"{it}\n" for it in lines))
+        ran = subprocess.run([program, path], capture_output=True, text=True)
+    return [] if ran.returncode or ran.stderr else ran.stdout.splitlines()
+
+
+class Judged:
     """Lists of words, and whether each is a code."""
 
-    def __init__(self, lists=50_000, seed=1):
-        writer = Writer(random.Random(seed))
-        self.words = [writer.words() for _ in range(lists)]
-        self.codes = [is_code(it) for it in self.words]
+    def __init__(self, words, of_kind):
+        self.words, self.of_kind, self.codes = words, of_kind, [is_code(it) for it in words]
 
     def lines(self):
-        return ["check " + (",".join(map(str, it)) or "-") for it in self.words]
-
-    def answers(self, program):
-        """What a program answers, line by line; no line where it does not come to a good end."""
-        with tempfile.TemporaryDirectory(prefix="hostile-") as room:
-            path = os.path.join(room, "lines.txt")
-            with open(path, "w", encoding="ascii") as file:
-                file.write("".join(f"{it}\n" for it in self.lines()))
-            ran = subprocess.run([program, path], capture_output=True, text=True)
-        return [] if ran.returncode or ran.stderr else ran.stdout.splitlines()
+        return [f"check {written(it)}" for it in self.words]
 
     def are_judged(self, program, tell):
         """Whether a program judges all lists as the reader does, and there are enough of both kinds."""
-        answers = self.answers(program)
-        told = [it.partition(" ")[0] for it in answers]
+        told = [it.partition(" ")[0] for it in answers_of(program, self.lines())]
         differing = [
             line for line, is_a_code, word in zip(self.lines(), self.codes, told)
             if word != ("ok" if is_a_code else "refused")
         ]
         for line in differing[:10]:
             tell(f"judged otherwise: {line}")
-        tell(f"{len(told)} of {len(self.words)} lists of words, {sum(self.codes)} of them codes:"
+        tell(f"{len(told)} of {len(self.words)} {self.of_kind} lists of words, {sum(self.codes)} of them codes:"
              f" {len(differing)} are judged otherwise")
         fifth = len(self.words) / 5
         return len(told) == len(self.words) and not differing and fifth <= sum(self.codes) <= 4 * fifth
+
+
+class Lists(Judged):
+    """Random lists."""
+
+    def __init__(self, lists=50_000, seed=1):
+        writer = Writer(random.Random(seed))
+        super().__init__([writer.words() for _ in range(lists)], "random")
+
+
+def sample_codes():
+    """The codes of the probes that are refused memory."""
+    path = f"{os.path.dirname(os.path.dirname(os.path.realpath(__file__)))}/crates/sre_probes/cases/refusals.txt"
+    with open(path, encoding="utf-8") as file:
+        found = re.findall(r"(?:match|search|walk) ([0-9,]+) ", file.read())
+    return [[int(it) for it in words.split(",")] for words in dict.fromkeys(found)]
+
+
+# Texts, and windows in them.
+TEXTS = ("s: 0..9", "s:61 0..9", "s:6162 0..9", "s:6162 1..1")
+# More turns than a code of few words takes in such a text, but for one that counts far.
+TURNS = 10_000
+
+
+class Changed(Judged):
+    """The samples, each cut short at each place and with each word changed."""
+
+    def __init__(self):
+        lists = []
+        for words in sample_codes():
+            lists += [words[:at] for at in range(len(words) + 1)]
+            for at, word in enumerate(words):
+                others = (word + 1, max(word - 1, 0), 0, 1, 15, GREATEST)
+                lists += [[*words[:at], min(other, GREATEST), *words[at + 1:]] for other in others]
+        super().__init__(lists, "changed")
+
+    def asked(self):
+        """Two lines for each code and text, but where a mark's number would have its list grow without end."""
+        for words, is_a_code in zip(self.words, self.codes):
+            is_far = any(opcode == MARK and number > 10_000 for opcode, number in zip(words, words[1:]))
+            if is_a_code and not is_far:
+                for text in TEXTS:
+                    yield [f"within {TURNS} {verb} {written(words)} {text} -" for verb in ("match", "search")]
+
+    def agree(self, program, tell):
+        """Whether a search finds what a match at the window's start finds, where that finds something."""
+        asked = list(self.asked())
+        answers = answers_of(program, [it for pair in asked for it in pair])
+        pairs = list(zip(answers[::2], answers[1::2]))
+        differing = [line for (line, _), (one, other) in zip(asked, pairs) if one.startswith("yes ") and one != other]
+        other = [line for (line, _), it in zip(asked, pairs) for word in it if not re.match("yes |no$|given up$", word)]
+        for line in [*differing, *other][:10]:
+            tell(f"found otherwise: {line}")
+        found = sum(one.startswith("yes ") for one, _ in pairs)
+        tell(f"{len(pairs)} of {len(asked)} runs of changed words, {found} with a match: {len(differing)} differ")
+        return len(pairs) == len(asked) and not differing and not other and found > 1000
 
 
 def main(arguments):

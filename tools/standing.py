@@ -59,6 +59,7 @@ def counted():
         found[f"{name} right bodies"] = len(files(f"{folder}/wrong", ".right"))
         found[f"{name} answers"] = sum(read(it).count("\n") for it in files(f"{folder}/cases", ".expected"))
         found[f"{name} faults"] = len(files(f"{folder}/cases", ".fault"))
+        found[f"{name} rows"] = sum(read(it).count("\n") for it in files(f"{folder}/cases", ".jsonl"))
     found["examples answers"] = sum(read(it).count("\n") for it in files(f"{ROOT}/examples", ".expected"))
     lines = read(f"{ROOT}/examples/patterns.txt").split("\n")
     found["examples patterns"] = sum(it.startswith("pattern:") for it in lines)

@@ -172,25 +172,3 @@ class Reader:
 def expression(words, *names):
     """The part that words without an information block mean."""
     return Reader(words, *names).part(0, len(words) - 1)
-
-
-HEAD = """//! The words of the patterns of `{path}`, without information blocks, a list a line.
-//! `tools/words.py --words` writes this file.
-
-pub const PATTERNS: &str = "\\
-"""
-
-
-def write_words(lists, path, name):
-    """Writes a file of Rust that has lists of words of the patterns in a file, each of them once."""
-    lines = dict.fromkeys(','.join(map(str, words)) for words in lists)
-    row = '    '
-    with open(name, 'w', encoding='utf-8', newline='\n') as file:
-        file.write(HEAD.format(path=path))
-        for piece in re.findall(r'\d+(?:,|\\n)', ''.join(f'{line}\\n' for line in lines)):
-            if len(row) + len(piece) > 119:
-                # a backslash at a row's end joins it to the next one
-                file.write(f'{row}\\\n')
-                row = '    '
-            row += piece
-        file.write(f'{row}";\n')

@@ -5,7 +5,6 @@
     words.py --raw VERB WORDS [TEXT]    does so for words in place of a pattern
     words.py --cases FILE NAME          writes NAME.txt and NAME.expected from a file of patterns
     words.py --tree PATTERN             writes the pattern's tree as a Rust expression of `Part`
-    words.py --words FILE NAME          writes the words of a file of patterns to NAME, a file of Rust
 
 With --explain a case's words are listed item by item, and with --run the program answers it. The
 words of a pattern are those that CPython's own compiler makes, and the answers those of CPython's
@@ -385,7 +384,6 @@ def arguments():
     add = parser.add_mutually_exclusive_group().add_argument
     add('--cases', nargs=2, metavar=('FILE', 'NAME'), help='write a case file from patterns')
     add('--tree', metavar='PATTERN', help='write the tree of a pattern as a Rust expression')
-    add('--words', nargs=2, metavar=('FILE', 'NAME'), help='write the words as a Rust constant')
     return parser
 
 
@@ -434,15 +432,12 @@ def show_tree(options):
 def main():
     require_known_numbers()
     options = arguments().parse_intermixed_args()
-    if options.tree is None and options.words is None and options.cases is None:
+    if options.tree is None and options.cases is None:
         return one_case(options)
     if options.verb or options.run or options.explain or options.raw:
-        raise Fault('--cases, --tree and --words take no verb, and none of --run, --explain and --raw beside')
+        raise Fault('--cases and --tree take no verb, and none of --run, --explain and --raw beside')
     if options.tree is not None:
         show_tree(options)
-    elif options.words:
-        path, name = options.words
-        trees.write_words([words for words, _, _ in cases_in(path, True)], path, name)
     else:
         write_cases(*options.cases, options.no_block)
     return 0

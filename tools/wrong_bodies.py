@@ -23,12 +23,11 @@ import copy
 import itertools
 import os
 import re
-import shutil
 import subprocess
 import sys
 import tempfile
 
-from functions import emptied, functions, sources
+from functions import emptied, functions, name_around, sources
 
 ROOT = os.path.dirname(os.path.dirname(os.path.realpath(__file__)))
 PARTS = ("src", "specs", "proofs")
@@ -145,6 +144,13 @@ class Body:
             texts[file] = parts[0] + parts[1].replace(old, new) + parts[2]
         return texts
 
+    def is_inside(self, texts):
+        """Whether it changes its own function alone. Of a method of a trait the name alone is known."""
+        own, name = functions(texts).get(self.function), self.function.rpartition("::")[2]
+        if own:
+            return all(file == own.file and own.text(texts).count(old) == 1 for file, old, _ in self.pairs)
+        return all(name_around(texts[file], old) == name for file, old, _ in self.pairs)
+
     def righted(self):
         """The body that the function has."""
         body = copy.copy(self)
@@ -170,6 +176,13 @@ class Body:
         return {**changed, now.file: f"{parts[0]}{parts[1]}\n{added}{parts[2]}"}
 
 
+def above(path):
+    """The folders that a path lies in."""
+    while "/" in path:
+        path = os.path.dirname(path)
+        yield path
+
+
 def bodies_of(crate):
     folder = f"{crate.folder}/wrong"
     names = sorted(os.listdir(folder)) if os.path.isdir(folder) else []
@@ -180,10 +193,15 @@ class Bundle:
     """Bodies that are tried in one check, each of a function of its own name, and the texts that they make."""
 
     def __init__(self, texts):
-        self.before, self.texts, self.bodies, self.copies = texts, texts, [], {}
+        self.before, self.texts, self.bodies, self.copies, self.is_open = texts, texts, [], {}, True
 
     def take(self, body):
-        """Takes a body in, in its function or, where that is another by now, in a copy of it: whether it could."""
+        """Takes a body in, in its function or, where that is another by now, in a copy of it: whether it could. One that
+        changes more than its function stands alone."""
+        is_inside = body.is_inside(self.before)
+        if self.bodies and not (is_inside and self.is_open):
+            return False
+        self.is_open = is_inside
         names = {it.function for it in self.bodies}
         texts, placed = body.function not in names and body.written(self.texts), body
         if not texts:
@@ -259,58 +277,55 @@ class Trial:
 
     def __init__(self, crate, kit, words, room):
         self.crate, self.kit, self.words, self.room = crate, kit, words, room
+        self.before = {}
+        for at, _, names in itertools.chain(*(os.walk(f"{crate.folder}/{part}") for part in PARTS)):
+            for name in names:
+                self.before[os.path.relpath(f"{at}/{name}", crate.folder)] = read(f"{at}/{name}")
+
+    def files(self, bundle, is_padded=True):
+        """The texts that a check of a bundle reads of its crate, by their paths. The check offers nothing for the
+        functions of the bundle's bodies, and proves no others. Where the texts are not padded, how long the other
+        bodies are makes no difference to them."""
+        texts = {**self.before, **emptied(bundle.texts, {it.function for it in bundle.bodies}, is_padded)}
+        for to, of in bundle.copies.items():
+            texts.update(self.copied_proof(of, to))
+        own = {it.proof() for it in bundle.bodies}
+        opened = self.proofs(bundle) - own
+        texts = {path: text for path, text in texts.items() if not opened & {*above(path.removeprefix("proofs/"))}}
+        for proof in opened:
+            path, name = proof.replace("/", "."), os.path.basename(proof)
+            texts[f"proofs/{proof}/Proof.antt"] = HOLE.format(crate=self.crate.name, path=path, name=name)
+        for proof in own:
+            answers = f"proofs/{proof}/Answers.antt"
+            texts[answers] = texts.get(answers, "") + NO_OFFERS
+        return texts
 
     def place(self, name, bundle):
-        """A copy of the crate with a bundle's texts. A check of it offers nothing for the functions of its bodies, and
-        proves no others."""
+        """A folder with these texts."""
         folder = f"{self.room}/{self.crate.name}-{name}"
-        for part in PARTS:
-            if os.path.isdir(f"{self.crate.folder}/{part}"):
-                shutil.copytree(f"{self.crate.folder}/{part}", f"{folder}/{part}")
-        for file, text in emptied(bundle.texts, {it.function for it in bundle.bodies}).items():
-            with open(f"{folder}/{file}", "w", encoding="utf-8") as it:
+        for path, text in self.files(bundle).items():
+            os.makedirs(os.path.dirname(f"{folder}/{path}"), exist_ok=True)
+            with open(f"{folder}/{path}", "w", encoding="utf-8") as it:
                 it.write(text)
-        for to, of in bundle.copies.items():
-            self.copy_proof(f"{folder}/proofs", of, to)
-        own = {it.proof() for it in bundle.bodies}
-        for proof in self.proofs(bundle) - own:
-            self.open_proof(f"{folder}/proofs", proof)
-        for proof in own:
-            os.makedirs(f"{folder}/proofs/{proof}", exist_ok=True)
-            with open(f"{folder}/proofs/{proof}/Answers.antt", "a", encoding="utf-8") as it:
-                it.write(NO_OFFERS)
         return folder
 
     def proofs(self, bundle):
         """The folders of the proofs of functions that may be left open."""
         listed = {path.replace("::", "/") for path, it in functions(bundle.before).items() if not it.cycle}
-        answered = {
-            os.path.relpath(at, f"{self.crate.folder}/proofs")
-            for at, _, names in os.walk(f"{self.crate.folder}/proofs")
-            if {"Answers.antt", "Invariants.antt"} & {*names} and "/+" not in at
-        }
-        return listed | answered
+        named = [it.removeprefix("proofs/") for it in self.before if it.startswith("proofs/")]
+        answered = {os.path.dirname(it) for it in named if os.path.basename(it) in ("Answers.antt", "Invariants.antt")}
+        return listed | {it for it in answered if "+" not in it}
 
-    def open_proof(self, proofs, proof):
-        """Leaves a function's proof open."""
-        folder, name = f"{proofs}/{proof}", os.path.basename(proof)
-        shutil.rmtree(folder, ignore_errors=True)
-        os.makedirs(folder)
-        with open(f"{folder}/Proof.antt", "w", encoding="utf-8") as it:
-            it.write(HOLE.format(crate=self.crate.name, path=proof.replace("/", "."), name=name))
-
-    def copy_proof(self, proofs, of, to):
-        """Gives a copy of a function what its proof has."""
-        if not os.path.isdir(f"{proofs}/{of}"):
-            return
-        shutil.copytree(f"{proofs}/{of}", f"{proofs}/{to}")
-        for name in os.listdir(f"{proofs}/{to}"):
-            text = read(f"{proofs}/{to}/{name}")
-            for part in ("proofs", "specs.contracts"):
-                before = f"Rattle.{self.crate.name}.{part}.{of.replace('/', '.')}."
-                text = text.replace(before, f"Rattle.{self.crate.name}.{part}.{to.replace('/', '.')}.")
-            with open(f"{proofs}/{to}/{name}", "w", encoding="utf-8") as it:
-                it.write(text)
+    def copied_proof(self, of, to):
+        """What a function's proof has, for a copy of the function."""
+        texts = {}
+        for path, text in self.before.items():
+            if path.startswith(f"proofs/{of}/"):
+                for part in ("proofs", "specs.contracts"):
+                    before = f"Rattle.{self.crate.name}.{part}.{of.replace('/', '.')}."
+                    text = text.replace(before, f"Rattle.{self.crate.name}.{part}.{to.replace('/', '.')}.")
+                texts[f"proofs/{to}/{path.removeprefix(f'proofs/{of}/')}"] = text
+        return texts
 
     def bundle(self, number, bundle, run):
         """Checks a bundle's functions, and judges its bodies. `run` takes a command and its folder."""

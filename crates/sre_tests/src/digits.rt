@@ -1,8 +1,6 @@
-//! Decimal digits past ASCII: those that a table is given, and Unicode's.
+//! Decimal digits past ASCII: those of Unicode are those of CPython.
 
-use crate::asking::{Call, ends};
 use sre_engine::engine::{Found, all_matches};
-use sre_engine::string::UniError;
 use sre_engine::{Code, Request, State, UniTable};
 use std::alloc::Global;
 use std::test::Fail;
@@ -37,52 +35,6 @@ static LATER: [(u32, u32); 8] = [
 ];
 
 const UNI_DIGIT: &[u32] = &[8, 10, 1];
-
-// Words, and whether they match the Arabic-Indic three under a table with Arabic-Indic digits alone.
-static CASES: [(&[u32], bool); 5] = [
-    (UNI_DIGIT, true),
-    (&[8, 11, 1], false),
-    (&[8, 0, 1], false),
-    (&[8, 14, 1], false),
-    (&[13, 4, 8, 10, 0, 1], true),
-];
-
-// Ranges that are refused, and why.
-static FAULTS: [(&[(u32, u32)], UniError); 4] = [
-    (&[(48, 57)], UniError::AsciiEntry),
-    (&[(1641, 1632)], UniError::Unsorted),
-    (&[(200, 210), (205, 220)], UniError::Unsorted),
-    (&[(55295, 57344)], UniError::NotScalar),
-];
-
-// Whether words match all of a text of one character.
-fn matches(alloc: Global, uni: &UniTable, words: &[u32], text: &str) -> Result<bool, Fail> {
-    Ok(ends(alloc, uni, Call::Match, words, text)?.is_some())
-}
-
-#[test]
-fn a_table_names_digits(rt: HostRuntime) -> Result<(), Fail> {
-    let alloc = rt.alloc();
-    let mut uni = UniTable::ascii(alloc);
-    assert!(rt; !matches(alloc, &uni, UNI_DIGIT, "\u{663}")?);
-    uni.set_digits(&[(1632, 1641)])?;
-    for (words, wanted) in CASES {
-        assert!(rt;
-            matches(alloc, &uni, words, "\u{663}")? == wanted,
-            "{words:?}"
-        );
-    }
-    for (ranges, fault) in FAULTS {
-        assert!(rt; uni.set_digits(ranges) == Err(fault), "{ranges:?}");
-        assert!(rt; matches(alloc, &uni, UNI_DIGIT, "\u{663}")?, "{ranges:?}");
-    }
-    uni.set_digits(&[(1776, 1785)])?;
-    assert!(rt; !matches(alloc, &uni, UNI_DIGIT, "\u{663}")?);
-    assert!(rt;
-        matches(alloc, &uni, UNI_DIGIT, "\u{6f3}")? && matches(alloc, &uni, UNI_DIGIT, "3")?
-    );
-    Ok(())
-}
 
 // All scalar values, one after the other.
 fn scalar_values(alloc: Global) -> Result<String, Fail> {

@@ -1,44 +1,19 @@
-//! Tests of the engine: what neither a clause of a contract nor a line of the program shows.
+//! Tests of the engine, the recipes and the lines: what neither a clause of a contract nor a line of a program shows.
 //!
-//! That is each request for memory refused in turn, large inputs with ample memory, codes in which a word was changed,
-//! a state that goes from text to text, offsets in bytes, what a search counts and what it remembers, the names at the
-//! engine's root, and laws drawn from several calls. Answers to words and texts stand in the cases that the program is
-//! run on. The tests stand in a crate of their own, since a crate with tests is proved twice.
+//! That is the names at the engine's root, the digits of CPython, the example of the recipes, writes that fail, and laws
+//! drawn from several calls. Answers to words and texts stand in the files of `sre_cases` and `sre_probes`. The tests
+//! stand in a crate of their own, since a crate with tests is proved twice.
 #![tactic(auto)]
 
 #[cfg(test)]
-mod asking;
-#[cfg(test)]
-mod bounded_memory;
-#[cfg(test)]
-mod changed_runs;
-#[cfg(test)]
-mod counting;
-#[cfg(test)]
-mod counts;
-#[cfg(test)]
 mod digits;
 #[cfg(test)]
-mod large;
+mod fakes;
 #[cfg(test)]
 mod laws;
-#[cfg(test)]
-mod limits;
 #[cfg(test)]
 mod names;
 #[cfg(test)]
 mod recipes;
 #[cfg(test)]
-mod refused_runs;
-#[cfg(test)]
-mod refused_walks;
-#[cfg(test)]
-mod remembering;
-#[cfg(test)]
-mod states;
-#[cfg(test)]
-mod tables;
-#[cfg(test)]
-mod texts;
-#[cfg(test)]
-mod walks;
+mod writes;

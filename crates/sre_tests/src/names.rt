@@ -86,6 +86,8 @@ fn names_stand_at_the_root_and_in_their_modules(rt: HostRuntime) -> Result<(), F
     assert!(rt; hints.width.is_none() && string::category(&uni, SreCatCode::DIGIT, 48));
     assert!(rt; searched(rt.alloc(), checked, "xa1")? == Some(end_of("xa1")));
     assert!(rt; walked(rt.alloc(), checked, "xa1")? == (true, 1));
+    let shown = format!(in rt.alloc(); "{}", SreError::Memory)?;
+    assert!(rt; shown.as_str() == "out of memory" && SreError::Memory.number() == 1);
     Ok(())
 }
 

@@ -105,6 +105,39 @@ fn board_under<A: Allocator + Copy>(
     Ok(board)
 }
 
+// The calls of failures, each with the words as a parameter: where a contract speaks of a constant, a check computes on
+// all of it.
+fn prepare_in<A: Allocator>(
+    failures: &mut Failures<A>,
+    words: &[u32],
+    board: &Board<A>,
+    place: usize,
+    first: usize,
+    end: usize,
+) -> Result<(), Refusal> {
+    failures.prepare(words, board, place, first, end)
+}
+
+fn keep_in<A: Allocator>(
+    failures: &mut Failures<A>,
+    words: &[u32],
+    board: &Board<A>,
+    place: usize,
+    position: usize,
+) {
+    failures.keep(words, board, place, position);
+}
+
+fn is_kept_in<A: Allocator>(
+    failures: &Failures<A>,
+    words: &[u32],
+    board: &Board<A>,
+    place: usize,
+    position: usize,
+) -> bool {
+    failures.is_kept(words, board, place, position)
+}
+
 // Keeps a spot, and says whether it is told then.
 fn keeps<A: Allocator>(
     failures: &mut Failures<A>,
@@ -112,17 +145,23 @@ fn keeps<A: Allocator>(
     place: usize,
     position: usize,
 ) -> bool {
-    failures.keep(WORDS, board, place, position);
-    failures.is_kept(WORDS, board, place, position)
+    keep_in(failures, WORDS, board, place, position);
+    is_kept_in(failures, WORDS, board, place, position)
 }
 
 // Whether a spot that is kept under some loops is told under others.
 fn is_told(alloc: Global, kept: &[Loop], asked: &[Loop]) -> Result<bool, Refusal> {
     let mut failures = Failures::new(alloc);
     let board = board_under(alloc, false, kept)?;
-    failures.prepare(WORDS, &board, PLACE, 10, 20)?;
-    failures.keep(WORDS, &board, PLACE, 12);
-    Ok(failures.is_kept(WORDS, &board_under(alloc, false, asked)?, PLACE, 12))
+    prepare_in(&mut failures, WORDS, &board, PLACE, 10, 20)?;
+    keep_in(&mut failures, WORDS, &board, PLACE, 12);
+    Ok(is_kept_in(
+        &failures,
+        WORDS,
+        &board_under(alloc, false, asked)?,
+        PLACE,
+        12,
+    ))
 }
 
 #[test]
@@ -138,9 +177,9 @@ fn a_spot_is_told_under_loops_that_are_alike(rt: HostRuntime) -> Result<(), Fail
 
 // Prepares all places under a board, for the positions from 10 to 20.
 fn prepare_all<A: Allocator>(failures: &mut Failures<A>, board: &Board<A>) -> Result<(), Refusal> {
-    failures.prepare(WORDS, board, PLACE, 10, 20)?;
+    prepare_in(failures, WORDS, board, PLACE, 10, 20)?;
     for place in OTHERS {
-        failures.prepare(WORDS, board, place, 10, 20)?;
+        prepare_in(failures, WORDS, board, place, 10, 20)?;
     }
     Ok(())
 }
@@ -149,24 +188,27 @@ fn prepare_all<A: Allocator>(failures: &mut Failures<A>, board: &Board<A>) -> Re
 fn count_at(failures: &Failures<Global>, board: &Board<Global>, place: usize) -> u32 {
     let mut told = 0u32;
     for position in 0..40 {
-        if failures.is_kept(WORDS, board, place, position) {
+        if is_kept_in(failures, WORDS, board, place, position) {
             told = told.saturating_add(1);
         }
     }
     told
 }
 
-// How many spots of all places are told under loops, outside a region and inside one.
-fn count_told(alloc: Global, failures: &Failures<Global>, loops: &[Loop]) -> Result<u32, Refusal> {
-    let mut told = 0u32;
-    for is_inside in [false, true] {
-        let board = board_under(alloc, is_inside, loops)?;
-        told = told.saturating_add(count_at(failures, &board, PLACE));
-        for place in OTHERS {
-            told = told.saturating_add(count_at(failures, &board, place));
-        }
+// How many spots of all places are told on a board.
+fn count_on(failures: &Failures<Global>, board: &Board<Global>) -> u32 {
+    let mut told = count_at(failures, board, PLACE);
+    for place in OTHERS {
+        told = told.saturating_add(count_at(failures, board, place));
     }
-    Ok(told)
+    told
+}
+
+// How many are told under loops, outside a region and inside one.
+fn count_told(alloc: Global, failures: &Failures<Global>, loops: &[Loop]) -> Result<u32, Refusal> {
+    let outside = count_on(failures, &board_under(alloc, false, loops)?);
+    let inside = count_on(failures, &board_under(alloc, true, loops)?);
+    Ok(outside.saturating_add(inside))
 }
 
 // Whether a spot is told once it is kept, and no other spot under these loops.
@@ -222,7 +264,7 @@ fn is_kept_as(
 ) -> Result<bool, Refusal> {
     let mut failures = Failures::new(alloc);
     let board = Board::new(alloc);
-    failures.prepare(WORDS, &board, PLACE, first, end)?;
+    prepare_in(&mut failures, WORDS, &board, PLACE, first, end)?;
     let is_told = keeps(&mut failures, &board, PLACE, position);
     let all = if wanted && position < 40 { 1 } else { 0 };
     Ok(is_told == wanted && count_at(&failures, &board, PLACE) == all)
@@ -259,9 +301,9 @@ fn has_last_slot(alloc: Global, (first, second, both): (u32, u32, bool)) -> Resu
         enter_all(&mut board, &[(9, second, Some(12))])?;
     }
     let mut failures = Failures::new(alloc);
-    failures.prepare(&words, &board, PLACE, 10, 20)?;
-    failures.keep(&words, &board, PLACE, 12);
-    Ok(failures.is_kept(&words, &board, PLACE, 12))
+    prepare_in(&mut failures, &words, &board, PLACE, 10, 20)?;
+    keep_in(&mut failures, &words, &board, PLACE, 12);
+    Ok(is_kept_in(&failures, &words, &board, PLACE, 12))
 }
 
 #[test]
@@ -282,16 +324,25 @@ static TOO_FAR: [&[Loop]; 4] = [
 ];
 
 // Whether places under such loops keep nothing, while those before and behind them do.
+fn passes_over(
+    alloc: Global,
+    failures: &mut Failures<Global>,
+    board: &Board<Global>,
+    under: &Board<Global>,
+) -> Result<bool, Refusal> {
+    prepare_in(failures, WORDS, board, PLACE, 10, 20)?;
+    let before = keeps(failures, board, PLACE, 12);
+    prepare_in(failures, WORDS, under, 36, 10, 20)?;
+    let there = keeps(failures, under, 36, 12);
+    prepare_in(failures, WORDS, board, 5, 10, 20)?;
+    let behind = keeps(failures, board, 5, 13);
+    Ok(before && !there && behind && count_told(alloc, failures, &[])? == 2)
+}
+
 fn is_passed_over(alloc: Global, loops: &[Loop]) -> Result<bool, Refusal> {
-    let mut failures = Failures::new(alloc);
-    let (board, under) = (Board::new(alloc), board_under(alloc, false, loops)?);
-    failures.prepare(WORDS, &board, PLACE, 10, 20)?;
-    let before = keeps(&mut failures, &board, PLACE, 12);
-    failures.prepare(WORDS, &under, 36, 10, 20)?;
-    let there = keeps(&mut failures, &under, 36, 12);
-    failures.prepare(WORDS, &board, 5, 10, 20)?;
-    let behind = keeps(&mut failures, &board, 5, 13);
-    Ok(before && !there && behind && count_told(alloc, &failures, &[])? == 2)
+    let under = board_under(alloc, false, loops)?;
+    let (mut failures, board) = (Failures::new(alloc), Board::new(alloc));
+    passes_over(alloc, &mut failures, &board, &under)
 }
 
 #[test]
@@ -361,41 +412,45 @@ fn a_spot_is_told_as_the_board_stands(rt: HostRuntime) -> Result<(), Fail> {
     let alloc: Global = rt.alloc();
     let mut board = board_under(alloc, false, &[(STAR, 3, None)])?;
     let mut failures = Failures::new(alloc);
-    failures.prepare(WORDS, &board, PLACE, 10, 20)?;
-    failures.keep(WORDS, &board, PLACE, 12);
+    prepare_in(&mut failures, WORDS, &board, PLACE, 10, 20)?;
+    keep_in(&mut failures, WORDS, &board, PLACE, 12);
     for (number, &(step, wanted)) in STEPS.iter().enumerate() {
         take(&mut board, step)?;
-        let told = failures.is_kept(WORDS, &board, PLACE, 12);
+        let told = is_kept_in(&failures, WORDS, &board, PLACE, 12);
         assert!(rt; told == wanted, "{number}");
     }
     Ok(())
 }
 
 // Whether a place keeps nothing before it has a row, and is told alone behind that, in whatever order rows are made.
+fn begins_on(
+    alloc: Global,
+    failures: &mut Failures<Global>,
+    board: &Board<Global>,
+    under: &Board<Global>,
+    [kept, other]: [usize; 2],
+) -> Result<bool, Refusal> {
+    let early = keeps(failures, board, kept, 12);
+    prepare_in(failures, WORDS, board, other, 10, 20)?;
+    prepare_in(failures, WORDS, board, kept, 10, 20)?;
+    let is_empty = count_told(alloc, failures, &[])? == 0;
+    let is_kept = keeps(failures, board, kept, 12);
+    // it has a row by now, and gets no other one
+    prepare_in(failures, WORDS, under, kept, 0, 9)?;
+    let is_alone = count_told(alloc, failures, &[])? == 1;
+    failures.forget();
+    let is_forgotten = count_told(alloc, failures, &[])? == 0;
+    Ok(!early && is_empty && is_kept && is_alone && is_forgotten)
+}
+
 fn begins_anew(
     alloc: Global,
     failures: &mut Failures<Global>,
     places: [usize; 2],
 ) -> Result<bool, Refusal> {
+    let under = board_under(alloc, false, &[(STAR, 1, None)])?;
     let board = Board::new(alloc);
-    let [kept, other] = places;
-    let early = keeps(failures, &board, kept, 12);
-    failures.prepare(WORDS, &board, other, 10, 20)?;
-    failures.prepare(WORDS, &board, kept, 10, 20)?;
-    let is_empty = count_told(alloc, failures, &[])? == 0;
-    let is_kept = keeps(failures, &board, kept, 12);
-    // it has a row by now, and gets no other one
-    failures.prepare(
-        WORDS,
-        &board_under(alloc, false, &[(STAR, 1, None)])?,
-        kept,
-        0,
-        9,
-    )?;
-    let is_alone = count_told(alloc, failures, &[])? == 1;
-    failures.forget();
-    let is_forgotten = count_told(alloc, failures, &[])? == 0;
-    Ok(!early && is_empty && is_kept && is_alone && is_forgotten)
+    begins_on(alloc, failures, &board, &under, places)
 }
 
 #[test]
@@ -417,7 +472,7 @@ fn a_place_behind_the_words_keeps_nothing(rt: HostRuntime) -> Result<(), Fail> {
     let board = Board::new(alloc);
     let mut failures = Failures::new(alloc);
     for place in [WORDS.len(), usize::MAX] {
-        failures.prepare(WORDS, &board, place, 10, 20)?;
+        prepare_in(&mut failures, WORDS, &board, place, 10, 20)?;
         assert!(rt; !keeps(&mut failures, &board, place, 12), "{place}");
     }
     Ok(())
@@ -434,21 +489,21 @@ fn makes_room<A: Allocator>(
     place: usize,
 ) -> bool {
     let left = heap.left();
-    let is_refused = failures.prepare(WORDS, board, place, 10, 20).is_err();
+    let is_refused = prepare_in(failures, WORDS, board, place, 10, 20).is_err();
     if is_refused != (left != 0 && heap.left() == 0) {
         return false;
     }
     if is_refused && keeps(failures, board, place, 12) {
         return false;
     }
-    let is_made = !is_refused || failures.prepare(WORDS, board, place, 10, 20).is_ok();
+    let is_made = !is_refused || prepare_in(failures, WORDS, board, place, 10, 20).is_ok();
     is_made && keeps(failures, board, place, 12)
 }
 
 // Whether all places from one on up to another tell their spot.
 fn tell_all<A: Allocator>(failures: &Failures<A>, board: &Board<A>, places: usize) -> bool {
     for place in 0..places {
-        if !failures.is_kept(WORDS, board, place, 12) {
+        if !is_kept_in(failures, WORDS, board, place, 12) {
             return false;
         }
     }

@@ -1,10 +1,10 @@
 //! The check with each request for memory refused in turn.
 
+use crate::samples::SAMPLES;
 use sre_chars::string::UniTable;
 use sre_code::check_in;
 use sre_code::code::CodeError;
 use sre_failing_allocator::Refusing;
-use sre_samples::SAMPLES;
 use std::alloc::Global;
 use std::convert::TryFrom;
 use std::process::Abort;
@@ -90,5 +90,7 @@ fn a_check_fails_where_memory_is_refused(rt: HostRuntime) -> Result<(), Fail> {
     for &(words, _text) in &SAMPLES {
         assert!(rt; refused_in_turn(&rt, alloc, words, None)? > 0);
     }
+    let shown = format!(in alloc; "{}", CodeError::Memory)?;
+    assert!(rt; shown.as_str() == "out of memory" && CodeError::Memory.number() == 1);
     Ok(())
 }

@@ -1,0 +1,79 @@
+//! What a check says of words, and a table of a character.
+
+use crate::probe::{Desk, word_of};
+use sre_engine::string::{category, lower_ascii, lower_unicode, upper_ascii, upper_unicode};
+use sre_engine::{Code, CodeError, SreCatCode, UniTable};
+use sre_lines::answer::push_hints;
+use sre_lines::line::{Case, read_case};
+use std::alloc::{AllocError, Global};
+
+/// Appends what a code shows of its words, or why they are refused.
+pub(crate) fn push_code(
+    desk: &mut Desk<Global>,
+    table: &UniTable,
+    case: &[u8],
+    answer: &mut String,
+) -> Result<(), AllocError> {
+    let Ok(Case::Check) = read_case(case, &mut desk.operands) else {
+        return answer.push_str("no case");
+    };
+    match Code::check(desk.alloc, desk.operands.words.as_slice(), table) {
+        Ok(code) => {
+            push_hints(answer, &code.hints())?;
+            let (items, refers, counts) = (code.items().len(), code.refers(), code.most_counts());
+            write!(answer, " items {items} refers {refers} counts {counts}")
+        }
+        Err(error) => write!(answer, "{error}, number {}", error.number()),
+    }
+}
+
+// Whether less than the words is refused as cut short, and more for what is behind them.
+fn are_whole(desk: &mut Desk<Global>, table: &UniTable) -> Result<bool, AllocError> {
+    let length = desk.operands.words.len();
+    for cut in 0..length {
+        let front = &desk.operands.words.as_slice()[..cut];
+        if Code::check(desk.alloc, front, table).err() != Some(CodeError::Truncated(cut)) {
+            return Ok(false);
+        }
+    }
+    desk.operands.words.push(1)?;
+    let longer = Code::check(desk.alloc, desk.operands.words.as_slice(), table).err();
+    Ok(longer == Some(CodeError::TrailingWords(length)))
+}
+
+/// Appends whether words are refused as `Truncated` wherever they are cut, and as `TrailingWords` with one word more.
+pub(crate) fn push_cuts(
+    desk: &mut Desk<Global>,
+    table: &UniTable,
+    case: &[u8],
+    answer: &mut String,
+) -> Result<(), AllocError> {
+    let Ok(Case::Check) = read_case(case, &mut desk.operands) else {
+        return answer.push_str("no case");
+    };
+    answer.push_str(if are_whole(desk, table)? {
+        "whole"
+    } else {
+        "otherwise"
+    })
+}
+
+/// Appends the cases of a character by ASCII and by the table, and whether the table has it for a letter of a word.
+pub(crate) fn push_letter(
+    table: &UniTable,
+    field: &[u8],
+    answer: &mut String,
+) -> Result<(), AllocError> {
+    let Some(ch) = word_of(field) else {
+        return answer.push_str("no number");
+    };
+    let (lower, upper) = (lower_unicode(table, ch), upper_unicode(table, ch));
+    let word = category(table, SreCatCode::UNI_WORD, ch);
+    let other = category(table, SreCatCode::UNI_NOT_WORD, ch);
+    write!(
+        answer,
+        "{} {} {lower} {upper} {word} {other}",
+        lower_ascii(ch),
+        upper_ascii(ch)
+    )
+}

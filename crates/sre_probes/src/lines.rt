@@ -1,0 +1,129 @@
+//! Lines as `sre_cases` answers them, with each request for memory refused in turn.
+
+use crate::counts::{push_count, two_bounds_of};
+use sre_failing_allocator::Refusing;
+use sre_lines::cases::{CaseFault, answer_lines};
+use sre_lines::line::split_once;
+use std::alloc::{AllocError, Global};
+
+// More requests than any lines make.
+const MOST: u64 = 1000;
+
+// How a run of lines ends, its answers, and whether a request was refused.
+#[derive(Drop)]
+struct Run {
+    end: Result<(), CaseFault>,
+    answers: Vec<u8>,
+    is_refused: bool,
+}
+
+// Runs lines with the request of a number refused; of number 0 none is.
+fn run_refused(alloc: Global, refused: u64, lines: &[u8]) -> Run {
+    let heap = Refusing::new(alloc, refused);
+    let mut answers = Vec::new(alloc);
+    let end = answer_lines(alloc, &heap, lines, &mut answers);
+    Run {
+        end,
+        answers,
+        is_refused: refused > 0 && heap.left() == 0,
+    }
+}
+
+// The first of some lines, and those behind it.
+fn first_and_rest(lines: &[u8]) -> (&[u8], &[u8]) {
+    match split_once(lines, b'\n') {
+        Some(parts) => parts,
+        None => lines.split_at(lines.len()),
+    }
+}
+
+// How many answers are `memory` in place of the wanted ones, where all others are these.
+fn memories(answers: &[u8], wanted: &[u8]) -> Option<u64> {
+    let (mut left, mut others, mut found) = (answers, wanted, 0u64);
+    for _ in 0..MOST {
+        let (line, rest) = first_and_rest(left);
+        let (other, behind) = first_and_rest(others);
+        if line != other {
+            if line != b"memory".as_slice() {
+                return None;
+            }
+            found = found.saturating_add(1);
+        }
+        (left, others) = (rest, behind);
+    }
+    Some(found)
+}
+
+// How often a line was not read to its end, and how often an answer was `memory`.
+#[derive(Clone, Copy)]
+struct Fates {
+    reading: u64,
+    memory: u64,
+}
+
+// Counts what became of lines of which a request was refused: whether it is one of the two.
+fn count(fates: &mut Fates, ran: &Run, ample: &Run) -> bool {
+    let (answers, wanted) = (ran.answers.as_slice(), ample.answers.as_slice());
+    if ran.end == Err(CaseFault::NoMemory) {
+        fates.reading = fates.reading.saturating_add(1);
+        return wanted.starts_with(answers);
+    }
+    fates.memory = fates.memory.saturating_add(1);
+    ran.end == ample.end && memories(answers, wanted) == Some(1)
+}
+
+// Refuses each request for memory of lines in turn, until they make fewer: what became of them.
+fn fates_of(alloc: Global, lines: &[u8], ample: &Run) -> Option<Fates> {
+    let mut fates = Fates {
+        reading: 0,
+        memory: 0,
+    };
+    for refused in 1..MOST {
+        let ran = run_refused(alloc, refused, lines);
+        if !ran.is_refused {
+            return Some(fates);
+        }
+        if !count(&mut fates, &ran, ample) {
+            return None;
+        }
+    }
+    None
+}
+
+// Lines as a file has them, which a probe divides by `|`.
+fn divided(alloc: Global, field: &[u8]) -> Result<Vec<u8>, AllocError> {
+    let mut lines = Vec::new(alloc);
+    for byte in field {
+        lines.push(if *byte == b'|' { b'\n' } else { *byte })?;
+    }
+    Ok(lines)
+}
+
+/// Appends the answers to lines, which are divided by `|`, and their fault. Where each request for memory is refused in
+/// turn, a line is not read to its end, or its answer is `memory`: a count of either that lies outside its bounds is
+/// appended.
+pub(crate) fn push_lines(
+    alloc: Global,
+    rest: &[u8],
+    answer: &mut String,
+) -> Result<(), AllocError> {
+    let Some((field, lines)) = split_once(rest, b' ') else {
+        return answer.push_str("no probe");
+    };
+    let Some((of_reading, of_memory)) = two_bounds_of(field) else {
+        return answer.push_str("no bounds");
+    };
+    let lines = divided(alloc, lines)?;
+    let ample = run_refused(alloc, 0, lines.as_slice());
+    for line in ample.answers.as_slice().split(|byte| *byte == b'\n') {
+        write!(answer, "{}|", str::from_utf8(line).unwrap_or("no text"))?;
+    }
+    if let Err(fault) = ample.end {
+        write!(answer, "{fault:?}")?;
+    }
+    let Some(fates) = fates_of(alloc, lines.as_slice(), &ample) else {
+        return answer.push_str(" and otherwise where memory is refused");
+    };
+    push_count("reading", fates.reading, of_reading, answer)?;
+    push_count("memory", fates.memory, of_memory, answer)
+}

@@ -1,0 +1,141 @@
+//! What a state shows of a match, of all matches of a walk, and of a list.
+
+use sre_engine::{Request, SearchIter, State, StrDrive, all_matches};
+use sre_lines::answer::push_match;
+use sre_lines::line::Finding;
+use std::alloc::{AllocError, Allocator};
+
+// Appends what a state shows of a match.
+fn push_state<A: Allocator + Copy>(
+    state: &State<A>,
+    answer: &mut String,
+) -> Result<(), AllocError> {
+    let (end, marks) = (state.cursor(), state.marks());
+    push_match(
+        answer,
+        state.start(),
+        end.position(),
+        marks.last_index(),
+        marks.raw(),
+    )?;
+    write!(answer, " offset {}", end.offset())
+}
+
+/// Whether a state has no marks, as after each call that finds nothing or fails.
+pub(crate) fn has_none<A: Allocator + Copy>(state: &State<A>) -> bool {
+    state.marks().raw().is_empty() && state.marks().last_index() == -1
+}
+
+/// Appends what a call found.
+pub(crate) fn push_answer<A: Allocator + Copy, E: Drop>(
+    state: &State<A>,
+    found: Result<bool, E>,
+    answer: &mut String,
+) -> Result<(), AllocError> {
+    match found {
+        Ok(true) => push_state(state, answer),
+        Ok(false) if has_none(state) => answer.push_str("no"),
+        Err(_) if has_none(state) => Err(AllocError),
+        _ => answer.push_str("marks are left"),
+    }
+}
+
+/// Appends what a call finds, or each match of a walk.
+pub(crate) fn push_shown<S: StrDrive, A: Allocator + Copy>(
+    heap: A,
+    state: &mut State<A>,
+    finding: Finding,
+    req: Request<'_, S>,
+    answer: &mut String,
+) -> Result<(), AllocError> {
+    let found = match finding {
+        Finding::Match => state.pymatch(&req),
+        Finding::Search => state.search(req),
+        Finding::Walk => return push_walk(&mut SearchIter::new(req, State::new(heap)), answer),
+    };
+    push_answer(state, found, answer)
+}
+
+// Whether the next request of a walk goes on where a match ended, past an empty one.
+fn goes_on<S: StrDrive, A: Allocator + Copy>(walk: &SearchIter<'_, S, A>) -> bool {
+    let (start, end) = (walk.state().start(), walk.state().cursor().position());
+    walk.req().start() == end && walk.req().must_advance() == (start == end)
+}
+
+// Whether a walk stays at its end, with no marks.
+fn stays_ended<S: StrDrive, A: Allocator + Copy>(walk: &mut SearchIter<'_, S, A>) -> bool {
+    for _ in 0..3 {
+        if !has_none(walk.state()) || walk.next().is_some() {
+            return false;
+        }
+    }
+    true
+}
+
+// Appends each match of a walk as its state shows it.
+fn push_walk<S: StrDrive, A: Allocator + Copy>(
+    walk: &mut SearchIter<'_, S, A>,
+    answer: &mut String,
+) -> Result<(), AllocError> {
+    'matches: while let Some(item) = walk.next() {
+        if item.is_err() {
+            let is_over = stays_ended(walk);
+            return if is_over {
+                Err(AllocError)
+            } else {
+                answer.push_str("goes on")
+            };
+        }
+        push_state(walk.state(), answer)?;
+        answer.push_str(if goes_on(walk) { "; " } else { "; elsewhere " })?;
+    }
+    answer.push_str(if stays_ended(walk) { "end" } else { "goes on" })
+}
+
+/// Appends each match of a list.
+pub(crate) fn push_list<S: StrDrive, A: Allocator + Copy>(
+    state: &mut State<A>,
+    req: Request<'_, S>,
+    answer: &mut String,
+) -> Result<(), AllocError> {
+    let listed = all_matches(req, state);
+    if !has_none(state) {
+        return answer.push_str("marks are left");
+    }
+    let Ok(all) = listed else {
+        return Err(AllocError);
+    };
+    for found in &all {
+        push_match(
+            answer,
+            found.start,
+            found.end,
+            found.last_index,
+            found.marks.as_slice(),
+        )?;
+        answer.push_str("; ")?;
+    }
+    answer.push_str("end")
+}
+
+/// Appends what a call finds within so many turns.
+pub(crate) fn push_within<S: StrDrive, A: Allocator + Copy>(
+    state: &mut State<A>,
+    finding: Finding,
+    req: Request<'_, S>,
+    turns: u64,
+    answer: &mut String,
+) -> Result<(), AllocError> {
+    let mut left = turns;
+    let told = match finding {
+        Finding::Match => state.match_within(&req, &mut left),
+        Finding::Search | Finding::Walk => state.search_within(req, &mut left),
+    };
+    match told {
+        Ok(Some(found)) => push_answer(state, Ok::<bool, AllocError>(found), answer),
+        Ok(None) if left == 0 && has_none(state) => answer.push_str("given up"),
+        Ok(None) => answer.push_str("given up with turns or marks left"),
+        Err(_) if has_none(state) => Err(AllocError),
+        Err(_) => answer.push_str("marks are left"),
+    }
+}

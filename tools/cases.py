@@ -1,0 +1,176 @@
+#!/usr/bin/env python3
+"""Case files, held to the programs that were built: `sre_cases`, whose answers are proved, and `sre_probes`.
+
+    cases.py        tries all of them, over what an earlier run of the gate or `rt run` left
+
+Below crates/NAME/cases, and in examples/ for `sre_cases`, stand files for the program NAME. `{TEXT*N}` in a file of
+lines or answers is TEXT N times.
+
+    X.txt           lines; X.expected has the answers, and X.fault the line that the program ends with, if it has one
+    files.jsonl     whole files, with the answers and the fault
+    no_cases.jsonl  lines that are no cases: each is tried as the fourth line of a file
+    calls.jsonl     arguments, with the answers and the fault; `to` and `faults_to` name a file that is written in place
+                    of the two outputs
+
+Each text of a .jsonl file has a character for a byte. Beside the files come lines that are made: random and changed
+words (`hostile.py`), and large ones (`large.py`).
+"""
+import json
+import os
+import re
+import subprocess
+import sys
+import tempfile
+
+import hostile
+import large
+
+ROOT = os.path.dirname(os.path.dirname(os.path.realpath(__file__)))
+BEFORE, ANSWER, BEHIND = b"# all lines count\n\ncheck -\n", b"refused\n", b"\ncheck -\n"
+
+
+def read(path):
+    with open(path, encoding="utf-8") as file:
+        return file.read()
+
+
+def expanded(text):
+    """The text with each {TEXT*N} written out."""
+    return re.sub(r"\{([^{}*]*)\*(\d+)\}", lambda it: it[1] * int(it[2]), text).encode()
+
+
+def programs_of(name):
+    """A crate's program, as each compiler built it."""
+    out = f"{ROOT}/crates/{name}/out/{name}"
+    return [out, *(it for it in [f"{out}.by-rattle"] if os.path.isfile(it))]
+
+
+def folders():
+    """The folders with case files, and the crate whose program answers them."""
+    for name in sorted(os.listdir(f"{ROOT}/crates")):
+        if os.path.isdir(f"{ROOT}/crates/{name}/cases"):
+            yield f"{ROOT}/crates/{name}/cases", name
+    yield f"{ROOT}/examples", "sre_cases"
+
+
+class Call:
+    """A call of a program in a folder, and what it has to write."""
+
+    def __init__(self, arguments, answers, fault=b"", to=None, faults_to=None):
+        self.arguments, self.to, self.faults_to = arguments, to, faults_to
+        self.wanted = (int(bool(fault or faults_to)), b"" if to else answers, b"" if faults_to else fault)
+
+    def is_met(self, program, folder):
+        """Whether the program writes what it has to. Its status is 1 where it ends at a fault, and else 0."""
+        outputs = [open(it, "wb") if it else subprocess.PIPE for it in (self.to, self.faults_to)]
+        how = {"cwd": folder, "stdin": subprocess.DEVNULL, "stdout": outputs[0], "stderr": outputs[1]}
+        try:
+            ran = subprocess.run([program, *self.arguments], **how)
+        finally:
+            for it in outputs:
+                if it != subprocess.PIPE:
+                    it.close()
+        return (ran.returncode, ran.stdout or b"", ran.stderr or b"") == self.wanted
+
+
+class Room:
+    """A folder for the files that the calls read."""
+
+    def __init__(self, folder):
+        self.folder, self.made = folder, 0
+
+    def file(self, content):
+        """The name of a new file."""
+        self.made += 1
+        with open(f"{self.folder}/{self.made}", "wb") as file:
+            file.write(content)
+        return str(self.made)
+
+
+def calls_of_lines(folder, name, room):
+    """The call for NAME.txt. Where there is no such file, the program is to say that it cannot read it."""
+    path = f"{folder}/{name}"
+    fault = read(f"{path}.fault").encode() if os.path.isfile(f"{path}.fault") else b""
+    has_lines = os.path.isfile(f"{path}.txt")
+    file = room.file(expanded(read(f"{path}.txt"))) if has_lines else f"{name}.txt"
+    answers = expanded(read(f"{path}.expected"))
+    # lines without an answer would be compared with nothing
+    yield f"case file {name}", Call([file], answers, fault) if answers or fault else None
+
+
+def rows(folder, name):
+    """The rows of NAME.jsonl with their numbers, if there is such a file."""
+    path = f"{folder}/{name}.jsonl"
+    if os.path.isfile(path):
+        for number, row in enumerate(filter(None, read(path).split("\n")), 1):
+            yield f"{name}, row {number}", json.loads(row)
+
+
+def octets(row, key):
+    return row.get(key, "").encode("latin-1")
+
+
+def calls_of(folder, room):
+    """The calls that a folder's files ask for, each with what it is told by."""
+    for name in sorted(it[: -len(".expected")] for it in os.listdir(folder) if it.endswith(".expected")):
+        yield from calls_of_lines(folder, name, room)
+    for label, row in rows(folder, "files"):
+        yield label, Call([room.file(octets(row, "file"))], octets(row, "answers"), octets(row, "fault"))
+    for label, line in rows(folder, "no_cases"):
+        file = room.file(BEFORE + line.encode("latin-1") + BEHIND)
+        yield label, Call([file], ANSWER, b"line 4: not a case\n")
+    for label, row in rows(folder, "calls"):
+        ends = [row.get(it) for it in ("to", "faults_to")]
+        arguments = [it.encode("latin-1") for it in row["arguments"]]
+        yield label, Call(arguments, octets(row, "answers"), octets(row, "fault"), *ends)
+
+
+class Cases:
+    """All files and made lines, over the programs as each compiler built them."""
+
+    def __init__(self, tell):
+        self.passed, self.failed, self.tell = 0, 0, tell
+
+    def count(self, is_well, label, program):
+        self.passed += is_well
+        self.failed += not is_well
+        if not is_well:
+            self.tell(f"{label}: FAILED by {os.path.basename(program)}")
+
+    def files(self, folder, name):
+        with tempfile.TemporaryDirectory(prefix="cases-") as at:
+            room = Room(at)
+            room_calls = list(calls_of(folder, room))
+            with open(f"{at}/case.txt", "w", encoding="ascii") as file:
+                file.write(read(f"{ROOT}/crates/sre_cases/data/case.txt"))
+            for program in programs_of(name):
+                for label, call in room_calls:
+                    self.count(bool(call) and os.path.isfile(program) and call.is_met(program, at), label, program)
+
+    def made(self, name, label, is_met):
+        for program in programs_of(name):
+            self.count(os.path.isfile(program) and is_met(program), label, program)
+
+    def run(self):
+        for folder, name in folders():
+            self.files(folder, name)
+        lists, changed = hostile.Lists(), hostile.Changed()
+        self.made("sre_cases", "random words", lambda it: lists.are_judged(it, self.tell))
+        self.made("sre_cases", "changed words", lambda it: changed.are_judged(it, self.tell))
+        self.made("sre_probes", "runs of changed words", lambda it: changed.agree(it, self.tell))
+        self.made("sre_cases", "large lines", lambda it: large.are_answered(it, large.cases, self.tell))
+        self.made("sre_probes", "large lines", lambda it: large.are_answered(it, large.probes, self.tell))
+
+
+def main(words):
+    if words:
+        print(__doc__.strip())
+        return 2
+    cases = Cases(print)
+    cases.run()
+    print(f"{cases.passed} passed, {cases.failed} failed")
+    return 0 if cases.passed and not cases.failed else 1
+
+
+if __name__ == "__main__":
+    sys.exit(main(sys.argv[1:]))
