@@ -9,7 +9,7 @@ use sre_lines::line::split_once;
 use std::alloc::{AllocError, Allocator, Global};
 
 // More requests than any line makes.
-const MOST: u64 = 1000;
+pub(crate) const MOST_REQUESTS: u64 = 1000;
 
 // Appends the answer to a probe, or `memory`.
 fn push_outcome<A: Allocator + Copy>(
@@ -119,15 +119,16 @@ fn refuse(
     let (mut told, mut again) = (String::new(alloc), String::new(alloc));
     let mut desk = Desk::new(alloc, &heap);
     match ask(&heap, &mut desk, table, probes, &mut told, &mut again) {
-        Ok(true) => Ok(Turn::NoRequest),
+        Ok(true) if told.as_str() == probes.wanted => Ok(Turn::NoRequest),
+        Ok(true) => Ok(Turn::Otherwise),
         Ok(false) if count(fates, probes, told.as_str(), again.as_str()) => Ok(Turn::Counted),
         Ok(false) => Ok(Turn::Otherwise),
         Err(error) => Err(error),
     }
 }
 
-// Appends the answer to a probe, once each of its requests for memory was refused in turn, and a count that lies outside
-// its bounds.
+// Appends the answer to a probe, once each of its requests for memory was refused in turn, and a count that lies
+// outside its bounds.
 fn push_in_turn(
     alloc: Global,
     table: &UniTable,
@@ -137,7 +138,7 @@ fn push_in_turn(
 ) -> Result<(), AllocError> {
     answer.push_str(probes.wanted)?;
     let mut fates = Fates { memory: 0, same: 0 };
-    for refused in 1..MOST {
+    for refused in 1..MOST_REQUESTS {
         match refuse(alloc, table, probes, refused, &mut fates)? {
             Turn::Counted => {}
             Turn::Otherwise => return write!(answer, " and otherwise without request {refused}"),
@@ -163,8 +164,8 @@ fn push_both(
 }
 
 /// Appends the answer to a probe. Each of its requests for memory is refused in turn: its answer is `memory` then, or
-/// the same, and a count of either that lies outside its bounds is appended. Probes behind it, which are divided by `|`,
-/// are answered each time by the same state, as with ample memory.
+/// the same, and a count of either that lies outside its bounds is appended. Where none is refused the answer is the
+/// same. Probes behind it, which are divided by `|`, are answered each time by the same state, as with ample memory.
 pub(crate) fn push_refused(
     alloc: Global,
     table: &UniTable,

@@ -1,13 +1,11 @@
 //! Lines as `sre_cases` answers them, with each request for memory refused in turn.
 
 use crate::counts::{push_count, two_bounds_of};
+use crate::heaps::MOST_REQUESTS;
 use sre_failing_allocator::Refusing;
 use sre_lines::cases::{CaseFault, answer_lines};
 use sre_lines::line::split_once;
 use std::alloc::{AllocError, Global};
-
-// More requests than any lines make.
-const MOST: u64 = 1000;
 
 // How a run of lines ends, its answers, and whether a request was refused.
 #[derive(Drop)]
@@ -40,7 +38,7 @@ fn first_and_rest(lines: &[u8]) -> (&[u8], &[u8]) {
 // How many answers are `memory` in place of the wanted ones, where all others are these.
 fn memories(answers: &[u8], wanted: &[u8]) -> Option<u64> {
     let (mut left, mut others, mut found) = (answers, wanted, 0u64);
-    for _ in 0..MOST {
+    for _ in 0..MOST_REQUESTS {
         let (line, rest) = first_and_rest(left);
         let (other, behind) = first_and_rest(others);
         if line != other {
@@ -78,10 +76,12 @@ fn fates_of(alloc: Global, lines: &[u8], ample: &Run) -> Option<Fates> {
         reading: 0,
         memory: 0,
     };
-    for refused in 1..MOST {
+    for refused in 1..MOST_REQUESTS {
         let ran = run_refused(alloc, refused, lines);
         if !ran.is_refused {
-            return Some(fates);
+            let is_same = ran.end == ample.end
+                && ran.answers.as_slice() == ample.answers.as_slice();
+            return if is_same { Some(fates) } else { None };
         }
         if !count(&mut fates, &ran, ample) {
             return None;
