@@ -11,19 +11,19 @@ use Rattle.sre_model.specs.Subject.{char_at}
 use Rattle.sre_model.specs.Grammar.{Whole, IsCode}
 use Rattle.sre_model.specs.Claims.{HasFirstSet}
 use Rattle.sre_model.specs.Standing.{HasSet}
-use Rattle.sre_model.specs.Found.{Asked, subject_of, at_start, found}
+use Rattle.sre_model.specs.Found.{Asked, subject_of, at_start}
 use Rattle.sre_model.specs.Prefixes.{how_many}
 use Rattle.sre_code.specs.Codes.{words_of, uni_of, hints_of}
 use Rattle.sre_code.specs.declared.code.Code.{Code}
 use Rattle.sre_code.proofs.Checked.{code_tree, code_confirmed}
 use Rattle.sre_engine.specs.Answers.{Shown}
 use Rattle.sre_engine.specs.Counts.{CountsUpTo}
-use Rattle.sre_engine.specs.Members.{IsFirstSet, is_among, NoMember, AtMember, NextMember}
+use Rattle.sre_engine.specs.Members.{IsFirstSet, is_among, NextMember, IsMemberFrom}
 use Rattle.sre_engine.specs.Prefixed.{IsLast, FitsAt}
-use Rattle.sre_engine.proofs.Answering.{NoneBefore}
+use Rattle.sre_engine.specs.Starts.{NoneBetween, NoneUntil}
 use Rattle.sre_engine.proofs.FirstMembers.{unmembered, no_prefix}
 use Rattle.sre_engine.proofs.PrefixWays.{how_many_grows, how_many_here}
-use Rattle.sre_engine.proofs.Searching.{none_on, none_in_window, few_counted}
+use Rattle.sre_engine.proofs.Searching.{few_counted}
 
 module _ (code : Code) (is : (hints_of code).first_set ≡ true) where
   pub first_set : (t : Tree) → Whole (words_of code) t → HasFirstSet (words_of code) (uni_of code) t
@@ -52,33 +52,29 @@ module _ (code : Code) (is : (hints_of code).first_set ≡ true) where
       rw none refl
 
   module _ (a : Asked) (t : Tree) (table : a.table ≡ uni_of code) (w : Whole (words_of code) t) where
-    none_to : (p q : ℕ) → NoneBefore a t p
-        → ((set : List SetItem) → IsFirstSet (words_of code) set → NoMember a set p q) → NoneBefore a t q
-    none_to p q before none =
-        none_on a t p q before (λ s from to. unmembered_at a t s table w (λ set own. (none set own).each s from to))
-
-    -- up to the next member no start has a match
-    pub none_to_member : (p : ℕ) (next : StringCursor) → NoneBefore a t p → AtMember a (words_of code) p next
-        → NoneBefore a t next.position
-    none_to_member p next before x = none_to p next.position before x.none
-
     -- at the window's end there is no character
     at_end : (set : List SetItem) → is_among a set a.end ≡ false
     at_end set =
         let past : nat_lt a.end a.end ≡ false = grind (arith, nat_tests) in
         ap (λ b. b && is_member a.table set (char_at (subject_of a) a.end)) past
 
-    -- where no member is left there is none in the window
-    pub none_left : (p : ℕ) → NoneBefore a t p → NextMember a (words_of code) p None → found a t ≡ None
-    none_left p before none =
-        none_in_window a t (none_to p (a.end + 1) before (λ set own. record {
-          each = λ s from to. elim (cases_lt s a.end) [
-            | (inl less) ↦ (none set own).each s from less
-            | (inr more) ↦
-                let same : a.end ≡ s = omega (arith, more, to) in
+    -- behind starts that have no match none has one up to the next member, or none in the window
+    pub none_until_member : (p q : ℕ) (next : Option StringCursor) → NoneBetween a t p q
+        → NextMember a (words_of code) q next → NoneUntil a t p next
+    none_until_member p q None before none = λ s from to. elim (cases_lt s q) [
+      | (inl less) ↦ before s from less
+      | (inr more) ↦
+          unmembered_at a t s table w (λ set own. elim (cases_lt s a.end) [
+            | (inl inside) ↦ (none set own).each s more inside
+            | (inr past) ↦
+                let same : a.end ≡ s = omega (arith, past, to) in
                 subst (λ q. is_among a set q ≡ false) same (at_end set)
-          ];
-        }))
+          ])
+    ]
+    none_until_member p q (Some next) before x = λ s from to. elim (cases_lt s q) [
+      | (inl less) ↦ before s from less
+      | (inr more) ↦ unmembered_at a t s table w (λ set own. (x.none set own).each s more to)
+    ]
 
 -- How many members there are
 
@@ -133,7 +129,7 @@ counts_members a code s p to seen is tried l fit none =
 
 -- one more run, at the next member
 pub tried_more : (a : Asked) (words : List ℕ) (n m p : ℕ) (next : StringCursor) → a.start ≤ p → m ≡ n + 1
-    → TriedAtMembers a words n p → AtMember a words p next → TriedAtMembers a words m (next.position + 1)
+    → TriedAtMembers a words n p → IsMemberFrom a words p next → TriedAtMembers a words m (next.position + 1)
 tried_more a words n m p next from one tried x = λ set own.
     let later = members_later a set n p next.position (tried set own) x.from in
     let more = members_more a set n next.position (omega (arith, from, x.from)) (x.member set own) later in
@@ -149,7 +145,7 @@ fit_more a code last n m p next is fits from l few one w e =
 -- so that this is what is counted there
 pub counts_next : (a : Asked) (code : Code) (last : Option ℕ) (s : Shown) (n p : ℕ) (next : StringCursor) (to seen : ℕ)
     → (hints_of code).first_set ≡ true → IsLast a code last → FitsAt last next.position → a.start ≤ p
-    → TriedAtMembers a (words_of code) n p → AtMember a (words_of code) p next → n ≤ p - a.start → s.started ≡ n + 1
+    → TriedAtMembers a (words_of code) n p → IsMemberFrom a (words_of code) p next → n ≤ p - a.start → s.started ≡ n + 1
     → next.position + 1 ≤ to → s.compared ≡ 0 → CountsUpTo a code to seen s
 counts_next a code last s n p next to seen set is fits from tried x few one l none =
     counts_members a code s (next.position + 1) to seen set

@@ -1,6 +1,6 @@
 -- Which starts are barred, and what being barred rules out.
 use Rattle.std.proofs.Common.{◌≡◌, ◌≢◌, ◌≤◌, ◌<◌, ◌-◌, ℕ, Bool, true, false, nat_eq, List, arith, inl, inr, sym, subst}
-use Rattle.std.proofs.Common.{refl, Some, None}
+use Rattle.std.proofs.Common.{Option, refl, Some, None}
 use Rattle.std.proofs.lemmas.Bool.{cases_lt}
 use Rattle.std.proofs.lemmas.Bool.Decides.{nat_tests}
 use Rattle.sre_chars.specs.Texts.{Sought}
@@ -10,15 +10,14 @@ use Rattle.sre_chars.specs.declared.string.StringCursor.{StringCursor}
 use Rattle.sre_model.specs.Tree.{Tree}
 use Rattle.sre_model.specs.Grammar.{WholeItems}
 use Rattle.sre_model.specs.Marks.{no_marks}
-use Rattle.sre_model.specs.Found.{Asked, subject_of, at_start, found}
+use Rattle.sre_model.specs.Found.{Asked, subject_of, at_start}
 use Rattle.sre_model.specs.Subject.{Subject, char_at, holds_at}
 use Rattle.sre_model.specs.Runs.{Run}
 use Rattle.sre_model.specs.FirstCharacters.{NoWay, TreeStands, Leads}
-use Rattle.sre_model.proofs.FoundLaws.{none-found}
 use Rattle.sre_model.proofs.FirstCharacters.{whole_stands}
 use Rattle.sre_engine.specs.declared.engine.first_characters.First.{First}
-use Rattle.sre_engine.proofs.Answering.{NoneBefore}
 use Rattle.sre_engine.specs.Starts.{IsElsewhere, IsLacking, Barred, Bars, AllBarred, BarredUpTo, HeldFrom, HeldNowhere}
+use Rattle.sre_engine.specs.Starts.{NextStart, NoneBetween, NoneUntil}
 
 -- a description of what the first words lead to bars
 pub bars_if : (ws : List ℕ) (i : ℕ) (f : First) → ((t : Tree) → TreeStands ws 0 t → Leads ws t i f.back)
@@ -82,19 +81,19 @@ module _ (r : Run) (a : Asked) (t : Tree) (f : First) (same : r.subject ≡ subj
       let none = (bars.none t whole (subject_of a) q here).none no_marks in
       rw none refl
 
-  pub passed_none : (p : ℕ) (c : StringCursor) → NoneBefore a t p → BarredUpTo r f p c → NoneBefore a t c.position
-  passed_none p c before x s from less = elim (cases_lt s p) [
+  -- behind starts that have no match none has one up to the next start, or none in the window
+  pub none_until_start : (p q : ℕ) (next : Option StringCursor) → NoneBetween a t p q → NextStart r f q next
+      → NoneUntil a t p next
+  none_until_start p q None before x = λ s from to. elim (cases_lt s q) [
     | (inl earlier) ↦ before s from earlier
-    | (inr later) ↦ barred_start s (x.each s later less)
+    | (inr later) ↦
+        let inside : s ≤ a.end = omega (arith, to) in
+        barred_start s (x.each s later (subst (λ (y : Subject). s ≤ y.end) (sym same) inside))
   ]
-
-  pub found_nowhere : (p : ℕ) → NoneBefore a t p → AllBarred r f p → found a t ≡ None
-  found_nowhere p before x =
-      none-found a t
-      (λ s from to. elim (cases_lt s p) [
-        | (inl earlier) ↦ before s from earlier
-        | (inr later) ↦ barred_start s (x.each s later (subst (λ (y : Subject). s ≤ y.end) (sym same) to))
-      ])
+  none_until_start p q (Some c) before x = λ s from to. elim (cases_lt s q) [
+    | (inl earlier) ↦ before s from earlier
+    | (inr later) ↦ barred_start s (x.each s later to)
+  ]
 
 -- A line
 

@@ -32,3 +32,9 @@ pub record AtMember (a : Asked) (words : List ℕ) (p : ℕ) (next : StringCurso
 abbrev pub NextMember : Asked → List ℕ → ℕ → Option StringCursor → Type 0
 NextMember a words p None = (set : List SetItem) → IsFirstSet words set → NoMember a set p a.end
 NextMember a words p (Some next) = AtMember a words p next
+
+-- a cursor is at a member from a position on
+pub record IsMemberFrom (a : Asked) (words : List ℕ) (p : ℕ) (next : StringCursor) : Type 0 where
+  pub from : p ≤ next.position
+  pub inside : next.position < a.end
+  pub member : (set : List SetItem) → IsFirstSet words set → is_among a set next.position ≡ true

@@ -93,3 +93,9 @@ NoneBetween a t p q = (s : ℕ) → p ≤ s → s < q → at_start a t s ≡ Non
 abbrev pub NoneUntil : Asked → Tree → ℕ → Option StringCursor → Type 0
 NoneUntil a t p None = NoneBetween a t p (a.end + 1)
 NoneUntil a t p (Some next) = NoneBetween a t p next.position
+
+-- a cursor stands in the window, from a position on
+pub record StartFrom (r : Run) (p : ℕ) (cursor : StringCursor) : Type 0 where
+  pub stands : r.stands cursor cursor.position
+  pub after : p ≤ cursor.position
+  pub inside : cursor.position ≤ r.subject.end

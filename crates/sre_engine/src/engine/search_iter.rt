@@ -5,6 +5,7 @@ ghost use Rattle.sre_model.specs.Marks.{no_marks};
 ghost use Rattle.sre_request.specs.Requests.{start_of, code_of, asked_of, stands_in};
 
 use crate::engine::state::{SreError, State};
+use crate::engine::told::Nobody;
 use crate::engine::walk::{step, step_within};
 use sre_chars::string::{StrDrive, StringCursor};
 use sre_machine::turns::Halt;
@@ -79,6 +80,7 @@ impl<'a, S: StrDrive, A: Allocator + Copy> SearchIter<'a, S, A> {
             &mut self.cursor,
             limited,
             turns,
+            &mut Nobody,
         ) {
             Ok(true) => Ok(Some(true)),
             Ok(false) => {

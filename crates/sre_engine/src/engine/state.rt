@@ -21,6 +21,7 @@ ghost use Rattle.sre_engine.specs.Costs.{SearchGivenUp};
 ghost use Rattle.sre_machine.specs.Paying.{RunGivenUp, RunSettles};
 ghost use Rattle.sre_growth.specs.Refusal.{Refused};
 
+use crate::engine::told::{Nobody, Starts};
 use sre_board::{Board, Marks};
 use sre_chars::string::{StrDrive, StringCursor};
 use sre_growth::Refusal;
@@ -346,9 +347,38 @@ impl<A: Allocator + Copy> State<A> {
         ensures literal { (l k : ℕ) → (hints_of (code_of req.entry)).prefix ≡ Some (l, k)
             → (hints_of (code_of req.entry)).literal ≡ true → OnErr result ⊥ }
     {
+        self.search_by(req, &mut Nobody)
+    }
+
+    /// Searches the window as `search` does, but passes the starts of which is told that they have no match.
+    pub fn search_by<S: StrDrive, F: Starts<S>>(
+        &mut self,
+        req: Request<'_, S>,
+        starts: &mut F,
+    ) -> Result<bool, SreError>
+        requires suits { F.suits starts.old (string_of req) (code_of req) }
+        ensures suits { F.suits starts.new (string_of req.entry) (code_of req.entry) }
+        ensures ok { (t : Tree) → Whole (words_of (code_of req.entry)) t
+            → IfOk result (λ b. Answers (stands_in req.entry) (found (asked_of req.entry) t) b self.new) }
+        ensures alike { (t : Tree) → Whole (words_of (code_of req.entry)) t
+            → IfOk result (λ b. AnswersAlike (λ asked. found asked t) (asked_of req.entry) b self.new) }
+        ensures span { IfOk result
+            (λ b. b ≡ true → (start_of req.entry ≤ self.new.start) × Spans self.new.start (end_of req.entry) self.new) }
+        ensures no { IfOk result (λ b. b ≡ false → self.new.marks ≡ no_marks) }
+        ensures err { OnErr result (self.new.marks ≡ no_marks) }
+        ensures refused { OnErr result Refused }
+        ensures counts { CountsUpTo (asked_of req.entry) (code_of req.entry) (end_of req.entry + 1) (end_of req.entry)
+            self.new }
+        ensures up_to_match { IfOk result (λ b. b ≡ true → CountsUpTo (asked_of req.entry) (code_of req.entry)
+            (self.new.start + 1) self.new.cursor.position self.new) }
+        ensures anchored { (t : Tree) → Whole (words_of (code_of req.entry)) t
+            → is_anchored t ≡ true → self.new.started ≤ 1 }
+        ensures literal { (l k : ℕ) → (hints_of (code_of req.entry)).prefix ≡ Some (l, k)
+            → (hints_of (code_of req.entry)).literal ≡ true → OnErr result ⊥ }
+    {
         let start = req.string().create_cursor(req.start());
         let limited = false;
-        match self.search_from(&req, start, limited, &mut 0) {
+        match self.search_from(&req, start, limited, &mut 0, starts) {
             Ok(found) => Ok(found),
             Err(Halt::Refused(refusal)) => Err(SreError::from(refusal)),
             Err(Halt::UsedUp) => unreachable!(),
@@ -390,7 +420,7 @@ impl<A: Allocator + Copy> State<A> {
     {
         let start = req.string().create_cursor(req.start());
         let limited = true;
-        match self.search_from(&req, start, limited, turns) {
+        match self.search_from(&req, start, limited, turns, &mut Nobody) {
             Ok(found) => Ok(Some(found)),
             Err(Halt::Refused(refusal)) => Err(SreError::from(refusal)),
             Err(Halt::UsedUp) => Ok(None),

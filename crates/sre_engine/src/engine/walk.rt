@@ -3,7 +3,7 @@
 ghost use Rattle.std.specs.Prelude.{◌≡◌, ◌<◌, ◌≤◌, ◌+◌, ◌-◌, IfOk, IfErr, OnErr, true, false};
 ghost use Rattle.sre_model.specs.Marks.{no_marks};
 ghost use Rattle.sre_model.specs.WalkBounds.{most_matches};
-ghost use Rattle.sre_request.specs.Requests.{start_of, end_of, code_of, asked_of, stands_in};
+ghost use Rattle.sre_request.specs.Requests.{string_of, start_of, end_of, code_of, asked_of, stands_in};
 ghost use Rattle.sre_engine.specs.Walks.{GoesOn};
 ghost use Rattle.sre_engine.specs.Costs.{SearchGivenUp};
 ghost use Rattle.sre_engine.specs.Counts.{SpentUpTo};
@@ -12,6 +12,7 @@ ghost use Rattle.sre_engine.specs.Searches.{WalksOn, NoErrorIfLiteral};
 ghost use Rattle.sre_growth.specs.Refusal.{Refused};
 
 use crate::engine::state::{SreError, State};
+use crate::engine::told::{Nobody, Starts};
 use sre_chars::string::{StrDrive, StringCursor};
 use sre_machine::turns::Halt;
 use sre_request::Request;
@@ -23,14 +24,17 @@ use std::alloc::Allocator;
 ///
 /// Without a match, and after an error, there are no marks, and the request is as it was. Where it is limited it takes
 /// its turns off those that are left.
-pub(crate) fn step_within<S: StrDrive, A: Allocator + Copy>(
+pub(crate) fn step_within<S: StrDrive, A: Allocator + Copy, F: Starts<S>>(
     req: &mut Request<'_, S>,
     state: &mut State<A>,
     cursor: &mut StringCursor,
     limited: bool,
     left: &mut u64,
+    starts: &mut F,
 ) -> Result<bool, Halt>
-    requires { stands_in req.old cursor.old (start_of req.old) }
+    requires stands { stands_in req.old cursor.old (start_of req.old) }
+    requires suits { F.suits starts.old (string_of req.old) (code_of req.old) }
+    ensures suits { F.suits starts.new (string_of req.new) (code_of req.new) }
     ensures ok { IfOk result (λ b. WalksOn req.old b state.new req.new) }
     ensures yes { IfOk result (λ b. b ≡ true → GoesOn req.old state.new req.new) }
     ensures falls { IfOk result (λ b. b ≡ true → most_matches (asked_of req.new) < most_matches (asked_of req.old)) }
@@ -44,7 +48,7 @@ pub(crate) fn step_within<S: StrDrive, A: Allocator + Copy>(
     ensures once { state.new.started ≤ end_of req.old + 1 - start_of req.old }
     ensures literal { NoErrorIfLiteral req.old result }
 {
-    if !state.search_from(req, *cursor, limited, left)? {
+    if !state.search_from(req, *cursor, limited, left, starts)? {
         return Ok(false);
     }
     *cursor = state.cursor();
@@ -54,7 +58,34 @@ pub(crate) fn step_within<S: StrDrive, A: Allocator + Copy>(
     Ok(true)
 }
 
-/// The same without a limit.
+/// The same without a limit. The starts of which is told that they have no match are passed.
+pub fn step_by<S: StrDrive, A: Allocator + Copy, F: Starts<S>>(
+    req: &mut Request<'_, S>,
+    state: &mut State<A>,
+    cursor: &mut StringCursor,
+    starts: &mut F,
+) -> Result<bool, SreError>
+    requires stands { stands_in req.old cursor.old (start_of req.old) }
+    requires suits { F.suits starts.old (string_of req.old) (code_of req.old) }
+    ensures suits { F.suits starts.new (string_of req.new) (code_of req.new) }
+    ensures ok { IfOk result (λ b. WalksOn req.old b state.new req.new) }
+    ensures yes { IfOk result (λ b. b ≡ true → GoesOn req.old state.new req.new) }
+    ensures falls { IfOk result (λ b. b ≡ true → most_matches (asked_of req.new) < most_matches (asked_of req.old)) }
+    ensures no { IfOk result (λ b. b ≡ false → (req.new ≡ req.old) × (state.new.marks ≡ no_marks)) }
+    ensures here { stands_in req.new cursor.new (start_of req.new) }
+    ensures err { OnErr result ((req.new ≡ req.old) × (state.new.marks ≡ no_marks)) }
+    ensures refused { OnErr result Refused }
+    ensures literal { NoErrorIfLiteral req.old result }
+{
+    let limited = false;
+    match step_within(req, state, cursor, limited, &mut 0, starts) {
+        Ok(found) => Ok(found),
+        Err(Halt::Refused(refusal)) => Err(SreError::from(refusal)),
+        Err(Halt::UsedUp) => unreachable!(),
+    }
+}
+
+/// The same where nothing is told.
 pub(crate) fn step<S: StrDrive, A: Allocator + Copy>(
     req: &mut Request<'_, S>,
     state: &mut State<A>,
@@ -70,10 +101,5 @@ pub(crate) fn step<S: StrDrive, A: Allocator + Copy>(
     ensures refused { OnErr result Refused }
     ensures literal { NoErrorIfLiteral req.old result }
 {
-    let limited = false;
-    match step_within(req, state, cursor, limited, &mut 0) {
-        Ok(found) => Ok(found),
-        Err(Halt::Refused(refusal)) => Err(SreError::from(refusal)),
-        Err(Halt::UsedUp) => unreachable!(),
-    }
+    step_by(req, state, cursor, &mut Nobody)
 }

@@ -8,7 +8,7 @@ ghost use Rattle.sre_model.specs.Marks.{no_marks};
 ghost use Rattle.sre_model.specs.Found.{at_start};
 ghost use Rattle.sre_model.specs.Anchors.{is_anchored};
 ghost use Rattle.sre_code.specs.Codes.{words_of, hints_of};
-ghost use Rattle.sre_request.specs.Requests.{start_of, end_of, code_of, asked_of, stands_in};
+ghost use Rattle.sre_request.specs.Requests.{string_of, start_of, end_of, code_of, asked_of, stands_in};
 ghost use Rattle.sre_engine.specs.Counts.{SpentUpTo};
 ghost use Rattle.sre_engine.specs.Prefixed.{IsPrefix, IsLast, FitsAt};
 ghost use Rattle.sre_engine.specs.Starts.{NoneBetween};
@@ -20,12 +20,11 @@ ghost use Rattle.sre_engine.specs.Searches.{NoErrorIfLiteral};
 use crate::engine::anchors::is_anchored;
 use crate::engine::first_characters::First;
 use crate::engine::leading_run::{leading_run, start_behind};
-use crate::engine::members::next_member;
-use crate::engine::next_start::next_start;
 use crate::engine::prefix::{
     Prefix, Spot, behind_literals, find, go_on, may_end, prefix_of, start_of,
 };
 use crate::engine::state::{State, attempt};
+use crate::engine::told::{Starts, next_member_told, next_start_told};
 use crate::engine::widths::{is_past, last_start};
 use sre_chars::string::{StrDrive, StringCursor};
 use sre_machine::turns::Halt;
@@ -34,14 +33,17 @@ use std::alloc::Allocator;
 
 impl<A: Allocator + Copy> State<A> {
     // Searches as `search` does, from a cursor that stands at the window's start.
-    pub(crate) fn search_from<S: StrDrive>(
+    pub(crate) fn search_from<S: StrDrive, F: Starts<S>>(
         &mut self,
         req: &Request<'_, S>,
         from: StringCursor,
         limited: bool,
         left: &mut u64,
+        starts: &mut F,
     ) -> Result<bool, Halt>
-        requires { stands_in req.now from (start_of req.now) }
+        requires stands { stands_in req.now from (start_of req.now) }
+        requires suits { F.suits starts.old (string_of req.now) (code_of req.now) }
+        ensures suits { F.suits starts.new (string_of req.now) (code_of req.now) }
         ensures ok { IfOk result (λ b. FindsFirst req.now b self.new) }
         ensures span { IfOk result (λ b. LiesInside req.now b self.new) }
         ensures no { IfOk result (λ b. b ≡ false → self.new.marks ≡ no_marks) }
@@ -62,12 +64,12 @@ impl<A: Allocator + Copy> State<A> {
             return self.search_places(req, &prefix, from, limited, left);
         }
         if req.pattern_codes().hints().first_set {
-            return self.search_members(req, from, limited, left);
+            return self.search_members(req, from, limited, left, starts);
         }
         if is_anchored(req) {
             return self.search_anchored(req, from, limited, left);
         }
-        self.search_starts(req, from, limited, left)
+        self.search_starts(req, from, limited, left, starts)
     }
 
     // Searches the places where a prefix stands, which is all of the code.
@@ -204,16 +206,19 @@ impl<A: Allocator + Copy> State<A> {
     }
 
     // Searches the places of the members of a confirmed first set.
-    fn search_members<S: StrDrive>(
+    fn search_members<S: StrDrive, F: Starts<S>>(
         &mut self,
         req: &Request<'_, S>,
         from: StringCursor,
         limited: bool,
         left: &mut u64,
+        starts: &mut F,
     ) -> Result<bool, Halt>
         requires stands { stands_in req.now from (start_of req.now) }
         requires plain { (hints_of (code_of req.now)).prefix ≡ None }
         requires set { (hints_of (code_of req.now)).first_set ≡ true }
+        requires suits { F.suits starts.old (string_of req.now) (code_of req.now) }
+        ensures suits { F.suits starts.new (string_of req.now) (code_of req.now) }
         ensures ok { IfOk result (λ b. FindsFirst req.now b self.new) }
         ensures span { IfOk result (λ b. LiesInside req.now b self.new) }
         ensures no { IfOk result (λ b. b ≡ false → self.new.marks ≡ no_marks) }
@@ -231,7 +236,7 @@ impl<A: Allocator + Copy> State<A> {
         let last = last_start(req);
         let mut start = from;
         'start: loop {
-            let Some(next) = next_member(req, start) else {
+            let Some(next) = next_member_told(req, start, starts) else {
                 return Ok(false);
             };
             if is_past(last, next.position()) {
@@ -250,6 +255,7 @@ impl<A: Allocator + Copy> State<A> {
                 (self.start, self.cursor) = (next.position(), end);
                 return Ok(true);
             }
+            starts.note_failed();
             let Some(behind) = start_behind(req, leading_run(req), next) else {
                 return Ok(false);
             };
@@ -258,16 +264,19 @@ impl<A: Allocator + Copy> State<A> {
     }
 
     // Searches the starts, where neither a prefix nor a first set is confirmed.
-    fn search_starts<S: StrDrive>(
+    fn search_starts<S: StrDrive, F: Starts<S>>(
         &mut self,
         req: &Request<'_, S>,
         from: StringCursor,
         limited: bool,
         left: &mut u64,
+        starts: &mut F,
     ) -> Result<bool, Halt>
         requires stands { stands_in req.now from (start_of req.now) }
         requires plain { (hints_of (code_of req.now)).prefix ≡ None }
         requires no_set { (hints_of (code_of req.now)).first_set ≡ false }
+        requires suits { F.suits starts.old (string_of req.now) (code_of req.now) }
+        ensures suits { F.suits starts.new (string_of req.now) (code_of req.now) }
         ensures ok { IfOk result (λ b. FindsFirst req.now b self.new) }
         ensures span { IfOk result (λ b. LiesInside req.now b self.new) }
         ensures no { IfOk result (λ b. b ≡ false → self.new.marks ≡ no_marks) }
@@ -285,7 +294,7 @@ impl<A: Allocator + Copy> State<A> {
         let last = last_start(req);
         let reads_alternatives = false;
         let first = First::of_items(req.pattern_codes().items(), reads_alternatives);
-        let Some(start) = next_start(req, &first, from) else {
+        let Some(start) = next_start_told(req, &first, from, starts) else {
             return Ok(false);
         };
         if is_past(last, start.position()) {
@@ -304,18 +313,20 @@ impl<A: Allocator + Copy> State<A> {
             (self.start, self.cursor) = (start.position(), end);
             return Ok(true);
         }
-        self.search_behind(req, last, start, limited, left)
+        starts.note_failed();
+        self.search_behind(req, last, start, limited, left, starts)
     }
 
     // Goes on with a search behind the first of its starts that was tried. Only now it is worth to read in the words
     // with what alternatives begin, and whether a run leads: most steps of a walk end at the first start that is tried.
-    fn search_behind<S: StrDrive>(
+    fn search_behind<S: StrDrive, F: Starts<S>>(
         &mut self,
         req: &Request<'_, S>,
         last: Option<usize>,
         tried: StringCursor,
         limited: bool,
         left: &mut u64,
+        starts: &mut F,
     ) -> Result<bool, Halt>
         requires plain { (hints_of (code_of req.now)).prefix ≡ None }
         requires no_set { (hints_of (code_of req.now)).first_set ≡ false }
@@ -329,6 +340,8 @@ impl<A: Allocator + Copy> State<A> {
             × (at_start (asked_of req.now) t tried.position ≡ None) }
         requires once { self.old.started ≡ 1 }
         requires uncompared { self.old.compared ≡ 0 }
+        requires suits { F.suits starts.old (string_of req.now) (code_of req.now) }
+        ensures suits { F.suits starts.new (string_of req.now) (code_of req.now) }
         ensures ok { IfOk result (λ b. FindsFirst req.now b self.new) }
         ensures span { IfOk result (λ b. LiesInside req.now b self.new) }
         ensures no { IfOk result (λ b. b ≡ false → self.new.marks ≡ no_marks) }
@@ -352,7 +365,7 @@ impl<A: Allocator + Copy> State<A> {
             let Some(behind) = start_behind(req, lead, start) else {
                 return Ok(false);
             };
-            match next_start(req, &first, behind) {
+            match next_start_told(req, &first, behind, starts) {
                 None => return Ok(false),
                 Some(next) => start = next,
             }
@@ -372,6 +385,7 @@ impl<A: Allocator + Copy> State<A> {
                 (self.start, self.cursor) = (start.position(), end);
                 return Ok(true);
             }
+            starts.note_failed();
         }
     }
 }

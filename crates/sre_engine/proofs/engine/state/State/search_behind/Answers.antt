@@ -1,13 +1,11 @@
 use Rattle.std.proofs.Common.{◌≡◌, refl, subst, arith, rules}
 use Rattle.sre_code.specs.Codes.{words_of, hints_of}
 use Rattle.sre_request.specs.Requests.{code_of, asked_of, stands_in}
-use Rattle.sre_request.specs.Runs.{run_of}
 use Rattle.sre_engine.specs.Starts.{NoneUntil}
 use Rattle.sre_engine.proofs.Answering.{answers_yes, answers_no, none_at, some_at, span_at, found_first}
 use Rattle.sre_engine.proofs.LeadingStarts.{none_joined, found_none_behind}
 use Rattle.sre_engine.specs.Prefixed.{FitsAt}
 use Rattle.sre_engine.proofs.Hinting.{past_none, counts_tried}
-use Rattle.sre_engine.proofs.Starting.{passed_none, found_nowhere}
 use Rattle.sre_code.proofs.Checked.{code_tree, items_whole}
 use Rattle.sre_engine.proofs.Spending.{run_spent}
 use Rattle.sre_engine.proofs.Costing.{behind_begin, behind_run, behind_given_up, gives_up_limited, passed_on}
@@ -27,31 +25,31 @@ returns-in-None-clause-ok g c = λ t whole.
     let items = items_whole asked.pattern_codes t whole in
     let none = c.start.invariant.none t whole in
     answers_no (stands_in asked) _ _
-    (found_nowhere (run_of asked) (asked_of asked) t c.of_items-first.result refl c.start.invariant.bars items _
-    (none_joined (asked_of asked) t _ _ none.0 (c.in-Some.ensures.none t items none.1)) c.in-None.ensures)
+    (found_none_behind (asked_of asked) t c.in-Some.behind.position
+    (none_joined (asked_of asked) t _ _ none.0 (c.in-Some.ensures.none t items none.1)) (c.in-None.ensures.none t whole))
 
 pub returns-in-Some-2-clause-ok : goal.returns-in-Some-2-clause-ok
 returns-in-Some-2-clause-ok g c = λ t whole.
     let asked = c.args.req.now in
     let items = items_whole asked.pattern_codes t whole in
     let none = c.start.invariant.none t whole in
-    let before = passed_none (run_of asked) (asked_of asked) t c.of_items-first.result refl
-    c.start.invariant.bars items _ _
-    (none_joined (asked_of asked) t _ _ none.0 (c.in-Some.ensures.none t items none.1)) c.in-Some-next_start.ensures in
+    let before = none_joined (asked_of asked) t _ _
+    (none_joined (asked_of asked) t _ _ none.0 (c.in-Some.ensures.none t items none.1))
+    (c.in-Some-next_start_told.ensures.none t whole) in
     let some = some_at (stands_in asked) (asked_of asked) t _ c.in_ok-end.field-0 c.attempt.new.board.marks
     (c.in_ok-end.ensures.found t whole) c.in-Some-2.end c.in-Some-2.is in
-    answers_yes (stands_in asked) _ c.in-Some-next_start.next.position c.in-Some-2.end _ c.position-in-Some-2.ensures
+    answers_yes (stands_in asked) _ c.in-Some-next_start_told.next.position c.in-Some-2.end _ c.position-in-Some-2.ensures
     refl
     some.0
     (found_first (asked_of asked) t _ _ before some.1
-    (omega (arith, c.start.invariant.from, c.in-Some.ensures.next.0, c.in-Some-next_start.ensures.after))
-    c.in-Some-next_start.ensures.inside refl)
+    (omega (arith, c.start.invariant.from, c.in-Some.ensures.next.0, c.in-Some-next_start_told.ensures.next.after))
+    c.in-Some-next_start_told.ensures.next.inside refl)
 
 pub returns-in-Some-2-clause-span : goal.returns-in-Some-2-clause-span
 returns-in-Some-2-clause-span g c = λ _.
     let asked = c.args.req.now in
     let tree = code_tree (words_of (code_of asked)) (hints_of (code_of asked)) (code_of asked).checked in
-    let next = c.in-Some-next_start.ensures in
+    let next = c.in-Some-next_start_told.ensures.next in
     let s = span_at (stands_in asked) (asked_of asked) tree.0 _ c.in_ok-end.field-0 c.attempt.new.board.marks
     (c.in_ok-end.ensures.found tree.0 tree.1) next.inside c.in-Some-2.end c.in-Some-2.is in (
       omega (arith, c.start.invariant.from, c.in-Some.ensures.next.0, next.after, c.position-in-Some-2.ensures),
@@ -61,7 +59,7 @@ returns-in-Some-2-clause-span g c = λ _.
 pub start-preserved : goal.start-preserved
 start-preserved g c =
     let asked = c.args.req.now in
-    let next = c.in-Some-next_start.ensures in
+    let next = c.in-Some-next_start_told.ensures.next in
     record {
       stands = next.stands;
       from = omega (arith, c.start.invariant.from, c.in-Some.ensures.next.0, next.after);
@@ -83,15 +81,17 @@ start-preserved g c =
           run_spent (asked_of asked) (code_of asked) given _ _ _ _ (c.start.invariant.spent given one)
           c.attempt.ensures.spent c.attempt.ensures.counted;
       costs = λ limited.
-          behind_run asked _ _ c.in-Some-next_start.next _ _ _ _ _ (c.start.invariant.costs limited)
+          behind_run asked _ _ c.in-Some-next_start_told.next _ _ _ _ _ (c.start.invariant.costs limited)
           (c.in_ok-end.ensures.settles limited c.in_default-2.is)
           (omega (arith, c.start.invariant.from, c.in-Some.ensures.next.0, next.after)) c.attempt.ensures.counted;
       bars = c.start.invariant.bars;
+      suits = search rules;
       none = λ t whole.
           let items = items_whole asked.pattern_codes t whole in
           let none = c.start.invariant.none t whole in (
-            passed_none (run_of asked) (asked_of asked) t c.of_items-first.result refl c.start.invariant.bars items _ _
-                (none_joined (asked_of asked) t _ _ none.0 (c.in-Some.ensures.none t items none.1)) next,
+            none_joined (asked_of asked) t _ _
+                (none_joined (asked_of asked) t _ _ none.0 (c.in-Some.ensures.none t items none.1))
+                (c.in-Some-next_start_told.ensures.none t whole),
             none_at (stands_in asked) (asked_of asked) t _ c.in_ok-end.field-0 c.attempt.new.board.marks
                 (c.in_ok-end.ensures.found t whole) c.in_default-2.is,
           );
@@ -125,10 +125,10 @@ pub returns-in_err-end-clause-counts : goal.returns-in_err-end-clause-counts
 returns-in_err-end-clause-counts g c =
     let asked = c.args.req.now in
     let inv = c.start.invariant in
-    let next = c.in-Some-next_start.ensures in
-    let fits : FitsAt c.args.last c.in-Some-next_start.next.position =
+    let next = c.in-Some-next_start_told.ensures.next in
+    let fits : FitsAt c.args.last c.in-Some-next_start_told.next.position =
     subst (FitsAt c.args.last) c.position.ensures (c.is_past.ensures.fits c.if-is_past.false) in
-    counts_tried (asked_of asked) (code_of asked) c.args.last _ c.in-Some-next_start.next.position _ _ c.requires.plain
+    counts_tried (asked_of asked) (code_of asked) c.args.last _ c.in-Some-next_start_told.next.position _ _ c.requires.plain
     c.requires.no_set c.requires.last fits (omega (arith, inv.from, c.in-Some.ensures.next.0, next.after))
     (omega (arith, inv.once, inv.from, c.in-Some.ensures.next.0, next.after, c.attempt.ensures.counted)) inv.uncompared
     (omega (arith, next.inside))
@@ -137,10 +137,10 @@ pub returns-in-Some-2-clause-counts : goal.returns-in-Some-2-clause-counts
 returns-in-Some-2-clause-counts g c =
     let asked = c.args.req.now in
     let inv = c.start.invariant in
-    let next = c.in-Some-next_start.ensures in
-    let fits : FitsAt c.args.last c.in-Some-next_start.next.position =
+    let next = c.in-Some-next_start_told.ensures.next in
+    let fits : FitsAt c.args.last c.in-Some-next_start_told.next.position =
     subst (FitsAt c.args.last) c.position.ensures (c.is_past.ensures.fits c.if-is_past.false) in
-    counts_tried (asked_of asked) (code_of asked) c.args.last _ c.in-Some-next_start.next.position _ _ c.requires.plain
+    counts_tried (asked_of asked) (code_of asked) c.args.last _ c.in-Some-next_start_told.next.position _ _ c.requires.plain
     c.requires.no_set c.requires.last fits (omega (arith, inv.from, c.in-Some.ensures.next.0, next.after))
     (omega (arith, inv.once, inv.from, c.in-Some.ensures.next.0, next.after, c.attempt.ensures.counted)) inv.uncompared
     (omega (arith, next.inside))
@@ -149,10 +149,10 @@ pub returns-in-Some-2-clause-up_to_match : goal.returns-in-Some-2-clause-up_to_m
 returns-in-Some-2-clause-up_to_match g c = λ _.
     let asked = c.args.req.now in
     let inv = c.start.invariant in
-    let next = c.in-Some-next_start.ensures in
-    let fits : FitsAt c.args.last c.in-Some-next_start.next.position =
+    let next = c.in-Some-next_start_told.ensures.next in
+    let fits : FitsAt c.args.last c.in-Some-next_start_told.next.position =
     subst (FitsAt c.args.last) c.position.ensures (c.is_past.ensures.fits c.if-is_past.false) in
-    counts_tried (asked_of asked) (code_of asked) c.args.last _ c.in-Some-next_start.next.position _ _ c.requires.plain
+    counts_tried (asked_of asked) (code_of asked) c.args.last _ c.in-Some-next_start_told.next.position _ _ c.requires.plain
     c.requires.no_set c.requires.last fits (omega (arith, inv.from, c.in-Some.ensures.next.0, next.after))
     (omega (arith, inv.once, inv.from, c.in-Some.ensures.next.0, next.after, c.attempt.ensures.counted)) inv.uncompared
     (omega (arith, c.position-in-Some-2.ensures))
@@ -162,10 +162,10 @@ returns-then-is_past-clause-ok g c = λ t whole.
     let asked = c.args.req.now in
     let items = items_whole asked.pattern_codes t whole in
     let none = c.start.invariant.none t whole in
-    let before = passed_none (run_of asked) (asked_of asked) t c.of_items-first.result refl
-    c.start.invariant.bars items _ _
-    (none_joined (asked_of asked) t _ _ none.0 (c.in-Some.ensures.none t items none.1)) c.in-Some-next_start.ensures in
-    let past : ¬ (FitsAt c.args.last c.in-Some-next_start.next.position) =
+    let before = none_joined (asked_of asked) t _ _
+    (none_joined (asked_of asked) t _ _ none.0 (c.in-Some.ensures.none t items none.1))
+    (c.in-Some-next_start_told.ensures.none t whole) in
+    let past : ¬ (FitsAt c.args.last c.in-Some-next_start_told.next.position) =
     subst (λ p. ¬ (FitsAt c.args.last p)) c.position.ensures (c.is_past.ensures.past c.if-is_past.true) in
     answers_no (stands_in asked) _ _
     (past_none (asked_of asked) (code_of asked) c.args.last t _ c.requires.last whole past before)
@@ -175,9 +175,9 @@ returns-in_err-end-clause-given_up g c =
     passed_on c.from_residual.result c.in_err-end.field-0.0 _ c.from_residual.ensures.1 (λ e given first.
     let asked = c.args.req.now in
     let inv = c.start.invariant in
-    let next = c.in-Some-next_start.ensures in
+    let next = c.in-Some-next_start_told.ensures.next in
     let limited = gives_up_limited _ _ c.in_err-end.field-0.0 c.in_err-end.ensures.halted e in
-    behind_given_up asked _ c.in-Some-next_start.next given _ _ _ _ _ (inv.costs limited)
+    behind_given_up asked _ c.in-Some-next_start_told.next given _ _ _ _ _ (inv.costs limited)
     (c.in_err-end.ensures.given_up e) (omega (arith, inv.from, c.in-Some.ensures.next.0, next.after))
     c.attempt.ensures.counted first)
 
@@ -196,5 +196,6 @@ start-init g c = record {
       let one : c.self.inside.started ≡ 1 = search rules in
       behind_begin c.args.req.now c.begin.new.self _ _ c.begin.ensures.waits c.begin.ensures.opened one;
   bars = search rules;
+  suits = search rules;
   none = search rules;
 }

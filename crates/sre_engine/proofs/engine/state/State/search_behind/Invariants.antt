@@ -6,7 +6,7 @@ use Rattle.sre_model.specs.Grammar.{Whole}
 use Rattle.sre_turns.specs.Board.{bare}
 use Rattle.sre_board.specs.Failures.{Remembers}
 use Rattle.sre_code.specs.Codes.{words_of}
-use Rattle.sre_request.specs.Requests.{start_of, end_of, code_of, asked_of}
+use Rattle.sre_request.specs.Requests.{string_of, start_of, end_of, code_of, asked_of}
 use Rattle.sre_request.specs.Runs.{run_of}
 use Rattle.sre_engine.specs.Prefixed.{FitsAt}
 use Rattle.sre_engine.specs.Starts.{Bars}
@@ -29,6 +29,7 @@ invariant-start g l = record {
       → SpentUpTo (asked_of l.req) (code_of l.req) given l.left l.self-inside.started;
   costs : l.limited ≡ true → CostsBehind l.req l.self-inside.memo l.fn.left l.left l.self-inside.started;
   bars : Bars (run_of l.req).words l.first;
+  suits : g.F.Starts.suits l.starts (string_of l.req) (code_of l.req);
   none : (t : Tree) → Whole (words_of (code_of l.req)) t
       → NoneBefore (asked_of l.req) t l.start.position × (at_start (asked_of l.req) t l.start.position ≡ None);
 }

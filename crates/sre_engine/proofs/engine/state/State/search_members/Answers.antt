@@ -7,7 +7,7 @@ use Rattle.sre_engine.specs.Starts.{NoneUntil}
 use Rattle.sre_engine.proofs.Answering.{answers_yes, answers_no, none_at, some_at, span_at, found_first}
 use Rattle.sre_engine.proofs.Hinting.{past_none}
 use Rattle.sre_engine.proofs.LeadingStarts.{none_joined, found_none_behind}
-use Rattle.sre_engine.proofs.AmongMembers.{none_left, none_to_member, counts_members, counts_next, tried_more}
+use Rattle.sre_engine.proofs.AmongMembers.{counts_members, counts_next, tried_more}
 use Rattle.sre_engine.proofs.AmongMembers.{fit_more, members_later}
 use Rattle.sre_engine.proofs.Spending.{run_spent}
 use Rattle.sre_engine.proofs.Costing.{since_begin, since_run, since_given_up, gives_up_limited, passed_on}
@@ -16,9 +16,10 @@ use Rattle.sre_engine.proofs.engine.state.State.search_members.Goals as goal
 pub returns-in_default-clause-ok : goal.returns-in_default-clause-ok
 returns-in_default-clause-ok g c = λ t whole.
     let asked = c.args.req.now in
+    let behind = subst (NoneUntil (asked_of asked) t c.start.start.position) c.in_default.is
+    (c.next_member_told.ensures.none t whole) in
     answers_no (stands_in asked) _ _
-    (none_left (code_of asked) c.requires.set (asked_of asked) t refl whole c.start.start.position
-    (c.start.invariant.none t whole) c.in_default.ensures.next)
+    (found_none_behind (asked_of asked) t c.start.start.position (c.start.invariant.none t whole) behind)
 
 pub returns-in_default-clause-counts : goal.returns-in_default-clause-counts
 returns-in_default-clause-counts g c =
@@ -30,8 +31,8 @@ returns-in_default-clause-counts g c =
 pub returns-then-is_past-clause-ok : goal.returns-then-is_past-clause-ok
 returns-then-is_past-clause-ok g c = λ t whole.
     let asked = c.args.req.now in
-    let before = none_to_member (code_of asked) c.requires.set (asked_of asked) t refl whole _ _
-    (c.start.invariant.none t whole) c.in-Some.ensures.next in
+    let before = none_joined (asked_of asked) t _ _ (c.start.invariant.none t whole)
+    (c.in-Some.ensures.none t whole) in
     let past : ¬ (FitsAt c.last_start-last.result c.in-Some.next.position) =
     subst (λ p. ¬ (FitsAt c.last_start-last.result p)) c.position.ensures (c.is_past.ensures.past c.if-is_past.true) in
     answers_no (stands_in asked) _ _
@@ -82,8 +83,8 @@ pub returns-in-Some-2-clause-ok : goal.returns-in-Some-2-clause-ok
 returns-in-Some-2-clause-ok g c = λ t whole.
     let asked = c.args.req.now in
     let next = c.in-Some.ensures.next in
-    let before = none_to_member (code_of asked) c.requires.set (asked_of asked) t refl whole _ _
-    (c.start.invariant.none t whole) next in
+    let before = none_joined (asked_of asked) t _ _ (c.start.invariant.none t whole)
+    (c.in-Some.ensures.none t whole) in
     let some = some_at (stands_in asked) (asked_of asked) t _ c.in_ok-end.field-0 c.attempt.new.board.marks
     (c.in_ok-end.ensures.found t whole) c.in-Some-2.end c.in-Some-2.is in
     answers_yes (stands_in asked) _ c.in-Some.next.position c.in-Some-2.end _ c.position-in-Some-2.ensures refl some.0
@@ -104,8 +105,8 @@ returns-in-Some-2-clause-span g c = λ _.
 pub returns-in_default-start_behind-clause-ok : goal.returns-in_default-start_behind-clause-ok
 returns-in_default-start_behind-clause-ok g c = λ t whole.
     let asked = c.args.req.now in
-    let before = none_to_member (code_of asked) c.requires.set (asked_of asked) t refl whole _ _
-    (c.start.invariant.none t whole) c.in-Some.ensures.next in
+    let before = none_joined (asked_of asked) t _ _ (c.start.invariant.none t whole)
+    (c.in-Some.ensures.none t whole) in
     let none = none_at (stands_in asked) (asked_of asked) t _ c.in_ok-end.field-0 c.attempt.new.board.marks
     (c.in_ok-end.ensures.found t whole) c.in_default-2.is in
     let behind = subst (NoneUntil (asked_of asked) t c.in-Some.next.position) c.in_default-start_behind.is
@@ -140,9 +141,9 @@ start-preserved g c =
       inside = omega (arith, behind.next.1);
       fresh = search rules;
       remembers = search rules;
+      suits = search rules;
       none = λ t whole.
-          let before = none_to_member (code_of asked) c.requires.set (asked_of asked) t refl whole _ _
-          (inv.none t whole) next in
+          let before = none_joined (asked_of asked) t _ _ (inv.none t whole) (c.in-Some.ensures.none t whole) in
           let none = none_at (stands_in asked) (asked_of asked) t _ c.in_ok-end.field-0 c.attempt.new.board.marks
           (c.in_ok-end.ensures.found t whole) c.in_default-2.is in
           none_joined (asked_of asked) t _ _ before
@@ -180,6 +181,7 @@ start-init g c = record {
   inside = search rules;
   fresh = search rules;
   remembers = search rules;
+  suits = search rules;
   none = search rules;
   tried = search rules;
   few = search rules;

@@ -1,38 +1,32 @@
-use Rattle.std.proofs.Common.{◌≡◌, ℕ, List, refl, ap, ◌∙◌}
+use Rattle.std.proofs.Common.{◌≡◌, refl}
 use Rattle.std.proofs.Common.{subst, arith, rules}
-use Rattle.sre_code.specs.Codes.{words_of, items_of, hints_of}
+use Rattle.sre_code.specs.Codes.{words_of, hints_of}
 use Rattle.sre_request.specs.Requests.{start_of, code_of, asked_of, stands_in}
-use Rattle.sre_request.specs.Runs.{run_of}
 use Rattle.sre_engine.specs.Prefixed.{FitsAt}
-use Rattle.sre_engine.specs.Starts.{Bars}
+use Rattle.sre_engine.specs.Starts.{NoneUntil}
 use Rattle.sre_engine.proofs.Answering.{answers_yes, answers_no, none_at, some_at, span_at, found_first}
 use Rattle.sre_engine.proofs.Answering.{none_yet}
 use Rattle.sre_engine.proofs.Hinting.{past_none}
-use Rattle.sre_engine.proofs.Starting.{passed_none, found_nowhere}
-use Rattle.sre_code.proofs.Checked.{code_tree, items_whole}
+use Rattle.sre_engine.proofs.LeadingStarts.{none_joined, found_none_behind}
+use Rattle.sre_code.proofs.Checked.{code_tree}
 use Rattle.sre_engine.proofs.Costing.{since_begin, since_given_up, costs_first, whole_given_up, passed_on}
 use Rattle.sre_engine.proofs.engine.state.State.search_starts.Goals as goal
 
 pub returns-in_default-clause-ok : goal.returns-in_default-clause-ok
 returns-in_default-clause-ok g c = λ t whole.
     let asked = c.args.req.now in
-    let read = c.items.ensures.same ∙ ap items_of c.pattern_codes.ensures in
-    let bars : Bars (items_of asked.pattern_codes) c.of_items-first.result =
-    subst (λ (ws : List ℕ). Bars ws c.of_items-first.result) read c.of_items-first.ensures.bars in
     let at : c.args.from.position ≡ start_of asked = search rules in
+    let behind = subst (NoneUntil (asked_of asked) t c.args.from.position) c.in_default.is
+    (c.next_start_told.ensures.none t whole) in
     answers_no (stands_in asked) _ _
-    (found_nowhere (run_of asked) (asked_of asked) t c.of_items-first.result refl bars
-    (items_whole asked.pattern_codes t whole) _ (none_yet (asked_of asked) t _ at) c.in_default.ensures)
+    (found_none_behind (asked_of asked) t c.args.from.position (none_yet (asked_of asked) t _ at) behind)
 
 pub returns-then-is_past-clause-ok : goal.returns-then-is_past-clause-ok
 returns-then-is_past-clause-ok g c = λ t whole.
     let asked = c.args.req.now in
-    let read = c.items.ensures.same ∙ ap items_of c.pattern_codes.ensures in
-    let bars : Bars (items_of asked.pattern_codes) c.of_items-first.result =
-    subst (λ (ws : List ℕ). Bars ws c.of_items-first.result) read c.of_items-first.ensures.bars in
     let at : c.args.from.position ≡ start_of asked = search rules in
-    let before = passed_none (run_of asked) (asked_of asked) t c.of_items-first.result refl bars
-    (items_whole asked.pattern_codes t whole) _ _ (none_yet (asked_of asked) t _ at) c.in-Some.ensures in
+    let before = none_joined (asked_of asked) t _ _ (none_yet (asked_of asked) t _ at)
+    (c.in-Some.ensures.none t whole) in
     let past : ¬ (FitsAt c.last_start-last.result c.in-Some.start.position) =
     subst (λ p. ¬ (FitsAt c.last_start-last.result p)) c.position.ensures (c.is_past.ensures.past c.if-is_past.true) in
     answers_no (stands_in asked) _ _
@@ -42,17 +36,14 @@ returns-then-is_past-clause-ok g c = λ t whole.
 pub returns-in-Some-2-clause-ok : goal.returns-in-Some-2-clause-ok
 returns-in-Some-2-clause-ok g c = λ t whole.
     let asked = c.args.req.now in
-    let read = c.items.ensures.same ∙ ap items_of c.pattern_codes.ensures in
-    let bars : Bars (items_of asked.pattern_codes) c.of_items-first.result =
-    subst (λ (ws : List ℕ). Bars ws c.of_items-first.result) read c.of_items-first.ensures.bars in
     let at : c.args.from.position ≡ start_of asked = search rules in
-    let before = passed_none (run_of asked) (asked_of asked) t c.of_items-first.result refl bars
-    (items_whole asked.pattern_codes t whole) _ _ (none_yet (asked_of asked) t _ at) c.in-Some.ensures in
+    let before = none_joined (asked_of asked) t _ _ (none_yet (asked_of asked) t _ at)
+    (c.in-Some.ensures.none t whole) in
     let some = some_at (stands_in asked) (asked_of asked) t _ c.in_ok-end.field-0 c.attempt.new.board.marks
     (c.in_ok-end.ensures.found t whole) c.in-Some-2.end c.in-Some-2.is in
     answers_yes (stands_in asked) _ c.in-Some.start.position c.in-Some-2.end _ c.position-in-Some-2.ensures refl some.0
     (found_first (asked_of asked) t _ _ before some.1
-    (omega (arith, at, c.in-Some.ensures.after)) c.in-Some.ensures.inside refl)
+    (omega (arith, at, c.in-Some.ensures.next.after)) c.in-Some.ensures.next.inside refl)
 
 pub returns-in-Some-2-clause-span : goal.returns-in-Some-2-clause-span
 returns-in-Some-2-clause-span g c = λ _.
@@ -60,20 +51,16 @@ returns-in-Some-2-clause-span g c = λ _.
     let tree = code_tree (words_of (code_of asked)) (hints_of (code_of asked)) (code_of asked).checked in
     let at : c.args.from.position ≡ start_of asked = search rules in
     let s = span_at (stands_in asked) (asked_of asked) tree.0 _ c.in_ok-end.field-0 c.attempt.new.board.marks
-    (c.in_ok-end.ensures.found tree.0 tree.1) c.in-Some.ensures.inside c.in-Some-2.end c.in-Some-2.is in (
-      omega (arith, at, c.in-Some.ensures.after, c.position-in-Some-2.ensures),
+    (c.in_ok-end.ensures.found tree.0 tree.1) c.in-Some.ensures.next.inside c.in-Some-2.end c.in-Some-2.is in (
+      omega (arith, at, c.in-Some.ensures.next.after, c.position-in-Some-2.ensures),
       record { starts = refl; forward = omega (arith, c.position-in-Some-2.ensures, s.0); inside = s.1 },
     )
 
 pub search_behind-requires-clause-none : goal.search_behind-requires-clause-none
 search_behind-requires-clause-none g c = λ t whole.
     let asked = c.args.req.now in
-    let read = c.items.ensures.same ∙ ap items_of c.pattern_codes.ensures in
-    let bars : Bars (items_of asked.pattern_codes) c.of_items-first.result =
-    subst (λ (ws : List ℕ). Bars ws c.of_items-first.result) read c.of_items-first.ensures.bars in
     let at : c.args.from.position ≡ start_of asked = search rules in (
-      passed_none (run_of asked) (asked_of asked) t c.of_items-first.result refl bars
-          (items_whole asked.pattern_codes t whole) _ _ (none_yet (asked_of asked) t _ at) c.in-Some.ensures,
+      none_joined (asked_of asked) t _ _ (none_yet (asked_of asked) t _ at) (c.in-Some.ensures.none t whole),
       none_at (stands_in asked) (asked_of asked) t _ c.in_ok-end.field-0 c.attempt.new.board.marks
           (c.in_ok-end.ensures.found t whole) c.in_default-2.is,
     )
@@ -85,7 +72,7 @@ returns-in_err-end-clause-given_up g c =
     let at : c.args.from.position ≡ start_of asked = search rules in
     since_given_up asked _ c.in-Some.start _ _ _ 0 _
     (since_begin asked c.begin.new.self _ c.begin.ensures.waits c.begin.ensures.opened)
-    (c.in_err-end.ensures.given_up e) (omega (arith, at, c.in-Some.ensures.after)) c.attempt.ensures.counted)
+    (c.in_err-end.ensures.given_up e) (omega (arith, at, c.in-Some.ensures.next.after)) c.attempt.ensures.counted)
 
 pub returns-clause-given_up : goal.returns-clause-given_up
 returns-clause-given_up g c =
@@ -93,5 +80,5 @@ returns-clause-given_up g c =
     let at : c.args.from.position ≡ start_of asked = search rules in
     whole_given_up asked _ c.args.limited _ _ _ _ c.search_behind.ensures.halted
     (λ limited. costs_first asked c.begin.new.self _ c.in-Some.start _ _ c.begin.ensures.waits c.begin.ensures.opened
-    (c.in_ok-end.ensures.settles limited c.in_default-2.is) (omega (arith, at, c.in-Some.ensures.after)))
+    (c.in_ok-end.ensures.settles limited c.in_default-2.is) (omega (arith, at, c.in-Some.ensures.next.after)))
     c.search_behind.ensures.given_up

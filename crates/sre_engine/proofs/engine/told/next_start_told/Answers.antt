@@ -1,0 +1,12 @@
+use Rattle.std.proofs.Common.{refl}
+use Rattle.sre_request.specs.Requests.{asked_of}
+use Rattle.sre_request.specs.Runs.{run_of}
+use Rattle.sre_code.proofs.Checked.{items_whole}
+use Rattle.sre_engine.proofs.Starting.{none_until_start}
+use Rattle.sre_engine.proofs.engine.told.next_start_told.Goals as goal
+
+pub returns-clause-none : goal.returns-clause-none
+returns-clause-none g c = λ t whole.
+    let asked = c.args.req.now in
+    none_until_start (run_of asked) (asked_of asked) t c.args.first.now refl c.requires.bars
+    (items_whole asked.pattern_codes t whole) _ _ _ (c.in_ok-told.ensures.none t whole) c.next_start.ensures

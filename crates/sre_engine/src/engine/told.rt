@@ -1,0 +1,100 @@
+//! Starts of which another tells that they have no match: a search passes them with no run.
+
+ghost use Rattle.std.specs.Prelude.{◌≡◌, ◌≤◌, IfSome, true, ⊤};
+ghost use Rattle.sre_model.specs.Tree.{Tree};
+ghost use Rattle.sre_model.specs.Grammar.{Whole};
+ghost use Rattle.sre_code.specs.Codes.{words_of, hints_of};
+ghost use Rattle.sre_code.specs.declared.code.Code.{Code};
+ghost use Rattle.sre_request.specs.Requests.{string_of, end_of, code_of, asked_of};
+ghost use Rattle.sre_request.specs.Runs.{run_of, Standing};
+ghost use Rattle.sre_engine.specs.Members.{IsMemberFrom};
+ghost use Rattle.sre_engine.specs.Starts.{Bars, TestsThere, NoneUntil, StartFrom};
+
+use crate::engine::first_characters::First;
+use crate::engine::members::next_member;
+use crate::engine::next_start::next_start;
+use sre_chars::string::{StrDrive, StringCursor};
+use sre_request::Request;
+
+/// Who tells a search of starts that have no match.
+pub trait Starts<S: StrDrive> {
+    // Whether it tells of a code's starts in a text.
+    ghost suits: { Self → S → Code → Type 0 };
+
+    /// A cursor in the window before which no start from one on has a match; none where no start from there on has
+    /// one. A search asks at its window's start, and behind each start that it tried in vain.
+    fn beyond(&mut self, req: &Request<'_, S>, from: StringCursor) -> Option<StringCursor>
+        requires suits { suits self.old (string_of req.now) (code_of req.now) }
+        requires stands { Standing req.now from }
+        requires inside { from.position ≤ end_of req.now }
+        ensures suits { suits self.new (string_of req.now) (code_of req.now) }
+        ensures next { IfSome result (λ next. StartFrom (run_of req.now) from.position next) }
+        ensures none { (t : Tree) → Whole (words_of (code_of req.now)) t
+            → NoneUntil (asked_of req.now) t from.position result };
+
+    /// Notes that the machine ran in vain at the start that was last found.
+    fn note_failed(&mut self)
+        ensures { (string : S) (code : Code) → suits self.old string code → suits self.new string code };
+}
+
+/// Tells nothing.
+#[derive(Clone, Copy, Debug)]
+pub struct Nobody;
+
+impl<S: StrDrive> Starts<S> for Nobody {
+    ghost suits = { λ _ _ _. ⊤ };
+
+    #[inline(always)]
+    fn beyond(&mut self, _req: &Request<'_, S>, from: StringCursor) -> Option<StringCursor> {
+        Some(from)
+    }
+
+    #[inline(always)]
+    fn note_failed(&mut self) {}
+}
+
+/// The first member of the confirmed first set from a cursor on, where there is one, but for starts of which is told
+/// that they have no match.
+#[inline(always)]
+pub(crate) fn next_member_told<S: StrDrive, F: Starts<S>>(
+    req: &Request<'_, S>,
+    start: StringCursor,
+    starts: &mut F,
+) -> Option<StringCursor>
+    requires set { (hints_of (code_of req.now)).first_set ≡ true }
+    requires stands { Standing req.now start }
+    requires inside { start.position ≤ end_of req.now }
+    requires suits { F.suits starts.old (string_of req.now) (code_of req.now) }
+    ensures suits { F.suits starts.new (string_of req.now) (code_of req.now) }
+    ensures stands { IfSome result (λ next. Standing req.now next) }
+    ensures next { IfSome result
+        (λ next. IsMemberFrom (asked_of req.now) (words_of (code_of req.now)) start.position next) }
+    ensures none { (t : Tree) → Whole (words_of (code_of req.now)) t
+        → NoneUntil (asked_of req.now) t start.position result }
+{
+    let told = starts.beyond(req, start)?;
+    next_member(req, told)
+}
+
+/// The first cursor from one on at which a match may begin, where there is one, but for starts of which is told that
+/// they have none.
+#[inline(always)]
+pub(crate) fn next_start_told<S: StrDrive, F: Starts<S>>(
+    req: &Request<'_, S>,
+    first: &First,
+    start: StringCursor,
+    starts: &mut F,
+) -> Option<StringCursor>
+    requires test { TestsThere (run_of req.now).words first.now.wanted }
+    requires bars { Bars (run_of req.now).words first.now }
+    requires stands { Standing req.now start }
+    requires inside { start.position ≤ end_of req.now }
+    requires suits { F.suits starts.old (string_of req.now) (code_of req.now) }
+    ensures suits { F.suits starts.new (string_of req.now) (code_of req.now) }
+    ensures next { IfSome result (λ next. StartFrom (run_of req.now) start.position next) }
+    ensures none { (t : Tree) → Whole (words_of (code_of req.now)) t
+        → NoneUntil (asked_of req.now) t start.position result }
+{
+    let told = starts.beyond(req, start)?;
+    next_start(req, first, told)
+}
