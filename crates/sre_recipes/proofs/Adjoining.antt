@@ -1,6 +1,6 @@
 -- The matches of a walk that adjoin each other: what a lexer keeps of a walk.
-use Rattle.std.proofs.Common.{◌≡◌, ◌≢◌, ◌<◌, ◌≤◌, ◌+◌, ◌-◌, ℕ, zero, suc, List, [], ◌∷◌, Bool, true, false, not, ◌&&◌}
-use Rattle.std.proofs.Common.{◌||◌, ◌⊎◌, cond, nat_eq, Some, None, refl, sym, ap, ◌∙◌, subst, arith, inl, inr}
+use Rattle.std.proofs.Common.{◌≡◌, ◌≢◌, ◌<◌, ◌≤◌, ◌+◌, ◌-◌, ℕ, zero, suc, List, [], ◌∷◌, ◌++◌, Bool, true, false, not}
+use Rattle.std.proofs.Common.{◌&&◌, ◌||◌, ◌⊎◌, cond, nat_eq, Some, None, refl, sym, ap, ◌∙◌, subst, arith, inl, inr}
 use Rattle.std.proofs.lemmas.Bool.Decides.{eqb_tells, nat_tests}
 use Rattle.std.proofs.lemmas.Bool.{and_parts, eq-eqb, ne_eqb, eqb-true}
 use Rattle.sre_engine.specs.Tree.{Tree}
@@ -11,28 +11,49 @@ use Rattle.sre_engine.specs.Found.{asked_after, walk}
 use Rattle.sre_model.proofs.FoundLaws.{Either, either, found-least, found-is, found-none}
 use Rattle.sre_model.proofs.FoundLaws.{least-found, none-found}
 use Rattle.sre_model.proofs.WalkLaws.{walk-end, walk-next}
-use Rattle.sre_recipes.specs.Lexed.{token_at, tokens_from}
-
--- of matches in order those up to the first gap from p on, without the empty ones
-abbrev pub adjoining : ℕ → List Match → List Match
-adjoining p [] = []
-adjoining p (m ∷ ms) =
-    cond (nat_eq m.start p) (cond (nat_eq m.end p) (adjoining p ms) (m ∷ adjoining m.end ms)) []
+use Rattle.sre_chars.specs.declared.string.StrDrive.{Ghosts}
+use Rattle.sre_engine.specs.Requests.{start_of}
+use Rattle.sre_engine.specs.Walks.{match_shown}
+use Rattle.sre_engine.specs.Iterators.{request_of, shown_of, left_of, Gives, IsOver}
+use Rattle.sre_engine.specs.declared.engine.search_iter.SearchIter.{SearchIter}
+use Rattle.sre_recipes.specs.Lexed.{token_at, tokens_from, token_matches, reached}
+use Rattle.sre_recipes.specs.Adjoining.{adjoining, unless_empty, NoneAdjoins}
 
 -- a token more
-pub adjoining_more : (m : Match) (ms : List Match) (p : ℕ) → m.start ≡ p → p < m.end
+adjoining_more : (m : Match) (ms : List Match) (p : ℕ) → m.start ≡ p → p < m.end
     → adjoining p (m ∷ ms) ≡ m ∷ adjoining m.end ms
 adjoining_more m ms p start more =
     rw (eq-eqb m.start p start) (rw (ne_eqb m.end p (λ e. omega arith)) refl)
 
 -- an empty match is passed
-pub adjoining_empty : (m : Match) (ms : List Match) (p : ℕ) → m.start ≡ p → m.end ≡ p
+adjoining_empty : (m : Match) (ms : List Match) (p : ℕ) → m.start ≡ p → m.end ≡ p
     → adjoining p (m ∷ ms) ≡ adjoining p ms
 adjoining_empty m ms p start end = rw (eq-eqb m.start p start) (rw (eq-eqb m.end p end) refl)
 
 -- a gap ends them
-pub adjoining_gap : (m : Match) (ms : List Match) (p : ℕ) → p < m.start → adjoining p (m ∷ ms) ≡ []
+adjoining_gap : (m : Match) (ms : List Match) (p : ℕ) → p < m.start → adjoining p (m ∷ ms) ≡ []
 adjoining_gap m ms p gap = rw (ne_eqb m.start p (λ e. omega arith)) refl
+
+-- a match at p is one of them unless it is empty, and the others are those from its end on
+pub adjoining_step : (m : Match) (ms : List Match) (p : ℕ) → m.start ≡ p
+    → adjoining p (m ∷ ms) ≡ unless_empty m ++ adjoining m.end ms
+adjoining_step m ms p start = by_end (elim (eqb_tells m.end p) [ (inl y) ↦ inl y.1 | (inr n) ↦ inr n.1 ])
+  where
+    by_end : (m.end ≡ p) ⊎ (m.end ≢ p) → adjoining p (m ∷ ms) ≡ unless_empty m ++ adjoining m.end ms
+    by_end (inl end) = adjoining_empty m ms p start end ∙ rw (eq-eqb m.start m.end (start ∙ sym end)) (rw end refl)
+    by_end (inr far) =
+        rw (eq-eqb m.start p start)
+        (rw (ne_eqb m.end p far) (rw (ne_eqb m.start m.end (λ e. far (sym e ∙ start))) refl))
+
+-- so where the last one ends is told by those from its end on
+pub reached_step : (m : Match) (ms : List Match) (p : ℕ) → m.start ≡ p
+    → reached p (adjoining p (m ∷ ms)) ≡ reached m.end (adjoining m.end ms)
+reached_step m ms p start = by_end (elim (eqb_tells m.end p) [ (inl y) ↦ inl y.1 | (inr n) ↦ inr n.1 ])
+  where
+    by_end : (m.end ≡ p) ⊎ (m.end ≢ p) → reached p (adjoining p (m ∷ ms)) ≡ reached m.end (adjoining m.end ms)
+    by_end (inl end) =
+        ap (reached p) (adjoining_empty m ms p start end) ∙ ap (λ (q : ℕ). reached q (adjoining q ms)) (sym end)
+    by_end (inr far) = rw (eq-eqb m.start p start) (rw (ne_eqb m.end p far) refl)
 
 -- what is asked from p on, with and without leave to be empty
 abbrev pub asked_from : Asked → ℕ → Bool → Asked
@@ -172,3 +193,27 @@ adjoining_tokens (suc n) b t p true l h =
 adjoining_tokens (suc n) b t p false l h =
     adjoining_advances b t p
     ∙ tokens_advance n b t p l (λ q less in_window. adjoining_tokens n b t q false in_window (omega arith))
+
+-- and they are so in the walk over a request's window
+pub walk_tokens : (b : Asked) (t : Tree) → b.start ≤ b.end → adjoining b.start (walk b t) ≡ token_matches b t
+walk_tokens b t inside =
+    adjoining_tokens (b.end + 1 - b.start) b t b.start b.must_advance inside (omega arith)
+
+ne_from_test : (a b : ℕ) → nat_eq a b ≡ false → a ≢ b
+ne_from_test a b test same = absurd (cc (eq-eqb a b same, test))
+
+-- nothing adjoins behind a gap, and nothing at a walk's end
+pub gap_none : {S A : Type 0} {text : Ghosts S} (it next : SearchIter S A text) → Gives it next
+    → nat_eq (shown_of next).start (start_of (request_of it)) ≡ false → NoneAdjoins it
+gap_none it next gives test = record {
+  none = λ t tree.
+      let from = gives.request.from in
+      let apart = ne_from_test (shown_of next).start (start_of (request_of it)) test in
+      ap (adjoining (start_of (request_of it))) (gives.first t tree)
+      ∙ adjoining_gap (match_shown (shown_of next)) (left_of next t) (start_of (request_of it)) (omega arith);
+}
+
+pub over_none : {S A : Type 0} {text : Ghosts S} (it : SearchIter S A text) → IsOver it → NoneAdjoins it
+over_none it over = record {
+  none = λ t tree. ap (adjoining (start_of (request_of it))) (over.none t tree);
+}

@@ -1,27 +1,20 @@
--- What a step over a match leaves to come, and what it adds to what is kept.
-use Rattle.std.proofs.Common.{◌≡◌, ◌≤◌, ℕ, false, cond, Bor, List, [], ◌∷◌, ◌++◌, map, ap, sym, ◌∙◌, subst}
-use Rattle.std.proofs.Common.{append_assoc}
-use Rattle.std.proofs.lemmas.List.{map-append}
+-- What a step over a match leaves to come, and where it stands.
+use Rattle.std.proofs.Common.{◌≡◌, ◌≤◌, ℕ, Bor, List, [], ◌∷◌, ap, sym, ◌∙◌, subst}
 use Rattle.std.specs.List.{slice_range}
 use Rattle.std.specs.Str.{chars}
+use Rattle.sre_chars.specs.Texts.{StandsInText}
 use Rattle.sre_chars.specs.declared.string.StrDrive.{Ghosts}
 use Rattle.sre_chars.specs.declared.string.StringCursor.{StringCursor}
 use Rattle.sre_engine.specs.Tree.{Tree}
 use Rattle.sre_engine.specs.Grammar.{Whole}
-use Rattle.sre_engine.specs.Found.{walk}
 use Rattle.sre_engine.specs.Codes.{words_of}
-use Rattle.sre_engine.specs.Requests.{string_of, start_of, end_of, code_of, asked_of}
+use Rattle.sre_engine.specs.Requests.{string_of, start_of, end_of, code_of}
 use Rattle.sre_engine.specs.Answers.{Shown}
 use Rattle.sre_engine.specs.Walks.{match_shown}
-use Rattle.sre_engine.specs.Iterators.{request_of, shown_of, has_ended, left_of, Gives, IsOver}
+use Rattle.sre_engine.specs.Iterators.{request_of, shown_of, left_of, Gives, IsOver}
 use Rattle.sre_engine.specs.declared.engine.search_iter.SearchIter.{SearchIter}
 use Rattle.sre_recipes.specs.Slices.{slice_of}
 use Rattle.sre_recipes.specs.Spans.{IsSpan}
-
--- of a walk that has not ended all is left
-pub walk_all : {S A : Type 0} {text : Ghosts S} (it : SearchIter S A text) (t : Tree) → has_ended it ≡ false
-    → left_of it t ≡ walk (asked_of (request_of it)) t
-walk_all it t open_is = ap (λ ended. cond ended [] (walk (asked_of (request_of it)) t)) open_is
 
 -- a match comes off a walk whose words are still those that were asked for
 pub walk_step : {S A : Type 0} {text : Ghosts S} (it next : SearchIter S A text) (words : List ℕ) (t : Tree)
@@ -60,8 +53,11 @@ pub span_slice : (text : List ℕ) (s : Shown) (start end : StringCursor) → Is
 span_slice text s start end span =
     ap (λ p. slice_range (chars text) p end.position) span.from.0 ∙ ap (slice_range (chars text) s.start) span.to.0
 
--- an item more, and one less to come
-pub map_step : {X Y : Type 0} (f : X → Y) (xs : List X) (x : X) (y : Y) (rest all : List Y) → f x ≡ y
-    → map f xs ++ y ∷ rest ≡ all → map f (xs ++ x ∷ []) ++ rest ≡ all
-map_step f xs x y rest all is h =
-    rw (map-append f xs (x ∷ []), is) (append_assoc (map f xs) (y ∷ []) rest ∙ h)
+-- at a match's end the walk goes on
+pub walk_on : {A : Type 0} {text : Ghosts (Bor (List ℕ))} (it next : SearchIter (Bor (List ℕ)) A text)
+    (whole : Bor (List ℕ)) (last start end : StringCursor) → string_of (request_of it) ≡ whole → Gives it next
+    → IsSpan (string_of (request_of it)).now (shown_of next) start end → last ≡ end
+    → StandsInText whole.now last (start_of (request_of next))
+walk_on it next whole last start end same gives span is =
+    rw (is, gives.request.start)
+    (subst (λ (x : Bor (List ℕ)). StandsInText x.now end (shown_of next).cursor.position) same span.to)

@@ -1,19 +1,80 @@
 //! The pieces between matches.
 
-ghost use Rattle.std.specs.Prelude.{◌≡◌, map, IfOk, OnErr};
+ghost use Rattle.std.specs.Prelude.{◌≡◌, ◌≤◌, ◌++◌, ◌∷◌, [], map, slice_range, IfOk, OnErr};
 ghost use Rattle.std.specs.Str.{chars};
+ghost use Rattle.sre_chars.specs.Texts.{StandsInText};
 ghost use Rattle.sre_engine.specs.Tree.{Tree};
 ghost use Rattle.sre_engine.specs.Grammar.{Whole};
 ghost use Rattle.sre_engine.specs.Found.{walk};
 ghost use Rattle.sre_engine.specs.Codes.{words_of};
 ghost use Rattle.sre_engine.specs.Requests.{string_of, start_of, end_of, code_of, asked_of};
+ghost use Rattle.sre_engine.specs.Iterators.{request_of, left_of};
 ghost use Rattle.sre_growth.specs.Refusal.{Refused};
 ghost use Rattle.sre_recipes.specs.Pieces.{pieces_between};
 
 use crate::slice::{between, up_to};
-use crate::span::next_span;
-use sre_engine::{Request, SearchIter, SreError, State, StrDrive};
+use crate::span::{Span, next_span};
+use sre_engine::{Request, SearchIter, SreError, State, StrDrive, StringCursor};
 use std::alloc::Allocator;
+
+// Appends the piece from a cursor to a match, behind which the cursor then stands.
+fn add_piece<'t, A: Allocator>(
+    pieces: &mut Vec<&'t str, A>,
+    text: &'t str,
+    last: &mut StringCursor,
+    span: &Span,
+) -> Result<(), SreError>
+    requires last { StandsInText text.now last.old last.old.position }
+    requires start { StandsInText text.now span.now.start span.now.start.position }
+    requires forward { last.old.position ≤ span.now.start.position }
+    ensures ok { IfOk result (λ _. map (λ s. chars s.now) pieces.new.items
+        ≡ map (λ s. chars s.now) pieces.old.items
+        ++ slice_range (chars text.now) last.old.position span.now.start.position ∷ []) }
+    ensures last { IfOk result (λ _. last.new ≡ span.now.end) }
+    ensures refused { OnErr result Refused }
+{
+    sre_growth::push(pieces, between(text, last, &span.start))?;
+    *last = span.end;
+    Ok(())
+}
+
+// Appends the pieces between the matches that are left of a walk.
+fn add_pieces<'t, A: Allocator + Copy>(
+    walk: &mut SearchIter<'_, &'t str, A>,
+    pieces: &mut Vec<&'t str, A>,
+) -> Result<(), SreError>
+    ensures ok { (t : Tree) → Whole (words_of (code_of (request_of walk.old))) t → IfOk result (λ _.
+        map (λ s. chars s.now) pieces.new.items
+        ≡ map (λ s. chars s.now) pieces.old.items
+        ++ pieces_between (chars (string_of (request_of walk.old)).now) (start_of (request_of walk.old))
+        (end_of (request_of walk.old)) (left_of walk.old t)) }
+    ensures refused { OnErr result Refused }
+{
+    let (text, stop) = (walk.req().string(), walk.req().end());
+    let mut last = text.create_cursor(walk.req().start());
+    'walk: while let Some(span) = next_span(walk)? {
+        add_piece(pieces, text, &mut last, &span)?;
+    }
+    sre_growth::push(pieces, up_to(text, &last, stop))?;
+    Ok(())
+}
+
+// Appends the pieces of a window between its matches.
+fn add_all_pieces<'t, A: Allocator + Copy>(
+    alloc: A,
+    req: Request<'_, &'t str>,
+    pieces: &mut Vec<&'t str, A>,
+) -> Result<(), SreError>
+    ensures ok { (t : Tree) → Whole (words_of (code_of req.entry)) t → IfOk result (λ _.
+        map (λ s. chars s.now) pieces.new.items
+        ≡ map (λ s. chars s.now) pieces.old.items
+        ++ pieces_between (chars (string_of req.entry).now) (start_of req.entry) (end_of req.entry)
+        (walk (asked_of req.entry) t)) }
+    ensures refused { OnErr result Refused }
+{
+    let mut walk = SearchIter::new(req, State::new(alloc));
+    add_pieces(&mut walk, pieces)
+}
 
 /// The pieces of a window between its matches, as Python's `split` gives them for a pattern without groups: one more
 /// than there are matches, empty ones among them. An empty match divides, too.
@@ -31,14 +92,7 @@ pub fn split<'t, A: Allocator + Copy>(
         (walk (asked_of req.entry) t)) }
     ensures refused { OnErr result Refused }
 {
-    let (text, stop) = (req.string(), req.end());
     let mut pieces = Vec::new(alloc);
-    let mut last = text.create_cursor(req.start());
-    let mut walk = SearchIter::new(req, State::new(alloc));
-    'walk: while let Some(span) = next_span(&mut walk)? {
-        sre_growth::push(&mut pieces, between(text, &last, &span.start))?;
-        last = span.end;
-    }
-    sre_growth::push(&mut pieces, up_to(text, &last, stop))?;
+    add_all_pieces(alloc, req, &mut pieces)?;
     Ok(pieces)
 }

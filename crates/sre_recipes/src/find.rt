@@ -1,6 +1,7 @@
 //! The text of one match, and those of all.
 
-ghost use Rattle.std.specs.Prelude.{◌≡◌, ◌≤◌, map, slice_range, is_some, IsSome, IfSome, IfOk, OnErr};
+ghost use Rattle.std.specs.Prelude.{◌≡◌, ◌≤◌, ◌++◌, ◌∷◌, [], true, map, slice_range};
+ghost use Rattle.std.specs.Prelude.{is_some, IsSome, IfSome, IfOk, OnErr};
 ghost use Rattle.std.specs.Str.{chars};
 ghost use Rattle.sre_chars.specs.Texts.{StandsInText};
 ghost use Rattle.sre_engine.specs.Tree.{Tree};
@@ -9,13 +10,66 @@ ghost use Rattle.sre_engine.specs.Found.{matched, found, walk};
 ghost use Rattle.sre_engine.specs.Codes.{words_of};
 ghost use Rattle.sre_engine.specs.Requests.{string_of, code_of, asked_of, stands_in};
 ghost use Rattle.sre_engine.specs.Answers.{Answers};
+ghost use Rattle.sre_engine.specs.Iterators.{request_of, left_of};
 ghost use Rattle.sre_growth.specs.Refusal.{Refused};
 ghost use Rattle.sre_recipes.specs.Slices.{slice_of};
 
 use crate::slice::{between, matched_text};
-use crate::span::next_span;
+use crate::span::{Span, next_span};
 use sre_engine::{Request, SearchIter, SreError, State};
 use std::alloc::Allocator;
+
+// Appends the text of a match.
+fn add_text<'t, A: Allocator>(
+    all: &mut Vec<&'t str, A>,
+    text: &'t str,
+    span: &Span,
+) -> Result<(), SreError>
+    requires start { StandsInText text.now span.now.start span.now.start.position }
+    requires end { StandsInText text.now span.now.end span.now.end.position }
+    requires forward { span.now.start.position ≤ span.now.end.position }
+    ensures ok { IfOk result (λ _. map (λ s. chars s.now) all.new.items
+        ≡ map (λ s. chars s.now) all.old.items
+        ++ slice_range (chars text.now) span.now.start.position span.now.end.position ∷ []) }
+    ensures refused { OnErr result Refused }
+{
+    sre_growth::push(all, between(text, &span.start, &span.end))?;
+    Ok(())
+}
+
+// Appends the texts of the matches that are left of a walk.
+fn add_texts<'t, A: Allocator + Copy>(
+    walk: &mut SearchIter<'_, &'t str, A>,
+    all: &mut Vec<&'t str, A>,
+) -> Result<(), SreError>
+    ensures ok { (t : Tree) → Whole (words_of (code_of (request_of walk.old))) t → IfOk result (λ _.
+        map (λ s. chars s.now) all.new.items
+        ≡ map (λ s. chars s.now) all.old.items
+        ++ map (slice_of (chars (string_of (request_of walk.old)).now)) (left_of walk.old t)) }
+    ensures refused { OnErr result Refused }
+{
+    let text = walk.req().string();
+    'walk: while let Some(span) = next_span(walk)? {
+        add_text(all, text, &span)?;
+    }
+    Ok(())
+}
+
+// Appends the texts of all matches.
+fn add_all_texts<'t, A: Allocator + Copy>(
+    alloc: A,
+    req: Request<'_, &'t str>,
+    all: &mut Vec<&'t str, A>,
+) -> Result<(), SreError>
+    ensures ok { (t : Tree) → Whole (words_of (code_of req.entry)) t → IfOk result (λ _.
+        map (λ s. chars s.now) all.new.items
+        ≡ map (λ s. chars s.now) all.old.items
+        ++ map (slice_of (chars (string_of req.entry).now)) (walk (asked_of req.entry) t)) }
+    ensures refused { OnErr result Refused }
+{
+    let mut walk = SearchIter::new(req, State::new(alloc));
+    add_texts(&mut walk, all)
+}
 
 /// The texts of all matches of a window, in order, as Python's `findall` gives them for a pattern without groups.
 ///
@@ -31,13 +85,24 @@ pub fn find_all<'t, A: Allocator + Copy>(
         ≡ map (slice_of (chars (string_of req.entry).now)) (walk (asked_of req.entry) t)) }
     ensures refused { OnErr result Refused }
 {
-    let text = req.string();
     let mut all = Vec::new(alloc);
-    let mut walk = SearchIter::new(req, State::new(alloc));
-    'walk: while let Some(span) = next_span(&mut walk)? {
-        sre_growth::push(&mut all, between(text, &span.start, &span.end))?;
-    }
+    add_all_texts(alloc, req, &mut all)?;
     Ok(all)
+}
+
+// The text of the match that a state shows, where one was found.
+fn text_if<'t, A: Allocator + Copy>(found: bool, text: &'t str, state: &State<A>) -> Option<&'t str>
+    requires stands { found ≡ true → StandsInText text.now state.now.cursor state.now.cursor.position }
+    requires forward { found ≡ true → state.now.start ≤ state.now.cursor.position }
+    ensures some { is_some result ≡ found }
+    ensures text { IfSome result (λ s. chars s.now
+        ≡ slice_range (chars text.now) state.now.start state.now.cursor.position) }
+{
+    if found {
+        Some(matched_text(text, state))
+    } else {
+        None
+    }
 }
 
 /// Matches at the window's start, as `State::pymatch`: the text of the match, which the state then shows.
@@ -59,10 +124,8 @@ pub fn match_text<'t, A: Allocator + Copy>(
     ensures refused { OnErr result Refused }
 {
     let _words = req.pattern_codes().words(); // which have a tree
-    if !state.pymatch(req)? {
-        return Ok(None);
-    }
-    Ok(Some(matched_text(req.string(), state)))
+    let found = state.pymatch(req)?;
+    Ok(text_if(found, req.string(), state))
 }
 
 /// Searches the window, as `State::search`: the text of the match of the least start, which the state then shows.
@@ -85,8 +148,6 @@ pub fn search_text<'t, A: Allocator + Copy>(
 {
     let _words = req.pattern_codes().words(); // which have a tree
     let text = req.string();
-    if !state.search(req)? {
-        return Ok(None);
-    }
-    Ok(Some(matched_text(text, state)))
+    let found = state.search(req)?;
+    Ok(text_if(found, text, state))
 }

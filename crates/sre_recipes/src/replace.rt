@@ -1,21 +1,23 @@
 //! A text with its matches replaced.
 
-ghost use Rattle.std.specs.Prelude.{◌≡◌, ◌++◌, IfOk, OnErr};
+ghost use Rattle.std.specs.Prelude.{◌≡◌, ◌≤◌, ◌++◌, slice_range, IfOk, OnErr};
 ghost use Rattle.std.specs.Str.{chars, IsUtf8};
 ghost use Rattle.std.specs.String.{string_bytes};
+ghost use Rattle.sre_chars.specs.Texts.{StandsInText};
 ghost use Rattle.sre_engine.specs.Tree.{Tree};
 ghost use Rattle.sre_engine.specs.Grammar.{Whole};
 ghost use Rattle.sre_engine.specs.Found.{walk};
 ghost use Rattle.sre_engine.specs.Codes.{words_of};
 ghost use Rattle.sre_engine.specs.Requests.{string_of, start_of, end_of, code_of, asked_of};
 ghost use Rattle.sre_engine.specs.Walks.{match_shown};
+ghost use Rattle.sre_engine.specs.Iterators.{request_of, left_of};
 ghost use Rattle.sre_growth.specs.Refusal.{Refused};
 ghost use Rattle.sre_recipes.specs.Spans.{IsSpan};
 ghost use Rattle.sre_recipes.specs.Templates.{piece_of, written, replaced};
 
 use crate::slice::{between, group_text, up_to};
 use crate::span::{Span, next_span};
-use sre_engine::{Request, SearchIter, SreError, State, StrDrive};
+use sre_engine::{Request, SearchIter, SreError, State, StrDrive, StringCursor};
 use std::alloc::Allocator;
 
 /// A piece of a template: what it writes in place of a match.
@@ -71,6 +73,25 @@ fn piece_text<'t, A: Allocator + Copy>(
     }
 }
 
+// Appends what a piece stands for.
+fn append_piece<A: Allocator + Copy>(
+    output: &mut Vec<u8, A>,
+    text: &str,
+    state: &State<A>,
+    span: &Span,
+    piece: Piece<'_>,
+) -> Result<(), SreError>
+    requires span { IsSpan text.now state.now span.now.start span.now.end }
+    requires utf8 { IsUtf8 output.old.items }
+    ensures ok { IfOk result (λ _.
+        chars output.new.items
+        ≡ chars output.old.items ++ piece_of (chars text.now) (match_shown state.now) piece.entry) }
+    ensures utf8 { IfOk result (λ _. IsUtf8 output.new.items) }
+    ensures refused { OnErr result Refused }
+{
+    append(output, piece_text(text, state, span, piece))
+}
+
 // Appends what a template makes of the match that a state shows.
 fn append_replacement<A: Allocator + Copy>(
     output: &mut Vec<u8, A>,
@@ -88,9 +109,82 @@ fn append_replacement<A: Allocator + Copy>(
     ensures refused { OnErr result Refused }
 {
     'piece: for piece in template {
-        append(output, piece_text(text, state, span, *piece))?;
+        append_piece(output, text, state, span, *piece)?;
     }
     Ok(())
+}
+
+// Appends the text from a cursor to a match and what a template makes of the match, behind which the cursor then
+// stands.
+fn append_match<A: Allocator + Copy>(
+    output: &mut Vec<u8, A>,
+    text: &str,
+    last: &mut StringCursor,
+    state: &State<A>,
+    span: &Span,
+    template: &[Piece<'_>],
+) -> Result<(), SreError>
+    requires last { StandsInText text.now last.old last.old.position }
+    requires forward { last.old.position ≤ state.now.start }
+    requires span { IsSpan text.now state.now span.now.start span.now.end }
+    requires utf8 { IsUtf8 output.old.items }
+    ensures ok { IfOk result (λ _.
+        chars output.new.items
+        ≡ (chars output.old.items ++ slice_range (chars text.now) last.old.position state.now.start)
+        ++ written (chars text.now) template.now (match_shown state.now)) }
+    ensures utf8 { IfOk result (λ _. IsUtf8 output.new.items) }
+    ensures last { IfOk result (λ _. last.new ≡ span.now.end) }
+    ensures refused { OnErr result Refused }
+{
+    append(output, between(text, last, &span.start))?;
+    append_replacement(output, text, state, span, template)?;
+    *last = span.end;
+    Ok(())
+}
+
+// Appends the rest of a window in which each match that is left of a walk is replaced.
+fn append_replaced<A: Allocator + Copy>(
+    walk: &mut SearchIter<'_, &str, A>,
+    template: &[Piece<'_>],
+    output: &mut Vec<u8, A>,
+) -> Result<(), SreError>
+    requires { IsUtf8 output.old.items }
+    ensures ok { (t : Tree) → Whole (words_of (code_of (request_of walk.old))) t → IfOk result (λ _.
+        chars output.new.items
+        ≡ chars output.old.items
+        ++ replaced (chars (string_of (request_of walk.old)).now)
+        (written (chars (string_of (request_of walk.old)).now) template.now) (start_of (request_of walk.old))
+        (end_of (request_of walk.old)) (left_of walk.old t)) }
+    ensures utf8 { IfOk result (λ _. IsUtf8 output.new.items) }
+    ensures refused { OnErr result Refused }
+{
+    let (text, stop) = (walk.req().string(), walk.req().end());
+    let mut last = text.create_cursor(walk.req().start());
+    'walk: while let Some(span) = next_span(walk)? {
+        append_match(output, text, &mut last, walk.state(), &span, template)?;
+    }
+    append(output, up_to(text, &last, stop))?;
+    Ok(())
+}
+
+// Appends the text of a window in which each match is replaced.
+fn append_all<A: Allocator + Copy>(
+    alloc: A,
+    req: Request<'_, &str>,
+    template: &[Piece<'_>],
+    output: &mut Vec<u8, A>,
+) -> Result<(), SreError>
+    requires { IsUtf8 output.old.items }
+    ensures ok { (t : Tree) → Whole (words_of (code_of req.entry)) t → IfOk result (λ _.
+        chars output.new.items
+        ≡ chars output.old.items
+        ++ replaced (chars (string_of req.entry).now) (written (chars (string_of req.entry).now) template.now)
+        (start_of req.entry) (end_of req.entry) (walk (asked_of req.entry) t)) }
+    ensures utf8 { IfOk result (λ _. IsUtf8 output.new.items) }
+    ensures refused { OnErr result Refused }
+{
+    let mut walk = SearchIter::new(req, State::new(alloc));
+    append_replaced(&mut walk, template, output)
 }
 
 /// The text of a window in which each match is replaced by what a template makes of it, as Python's `sub` replaces:
@@ -110,15 +204,7 @@ pub fn replace_all<A: Allocator + Copy>(
         (start_of req.entry) (end_of req.entry) (walk (asked_of req.entry) t)) }
     ensures refused { OnErr result Refused }
 {
-    let (text, stop) = (req.string(), req.end());
     let mut output = Vec::new(alloc);
-    let mut last = text.create_cursor(req.start());
-    let mut walk = SearchIter::new(req, State::new(alloc));
-    'walk: while let Some(span) = next_span(&mut walk)? {
-        append(&mut output, between(text, &last, &span.start))?;
-        append_replacement(&mut output, text, walk.state(), &span, template)?;
-        last = span.end;
-    }
-    append(&mut output, up_to(text, &last, stop))?;
+    append_all(alloc, req, template, &mut output)?;
     Ok(String::from_utf8(output).unwrap())
 }

@@ -6,6 +6,7 @@ ghost use Rattle.std.specs.Str.{chars};
 ghost use Rattle.sre_chars.specs.Texts.{StandsInText};
 ghost use Rattle.sre_recipes.specs.Slices.{group_of};
 
+use crate::span::span_of;
 use sre_engine::{State, StrDrive, StringCursor};
 use std::alloc::Allocator;
 
@@ -57,10 +58,8 @@ pub fn matched_text<'t, A: Allocator + Copy>(text: &'t str, state: &State<A>) ->
     requires forward { state.now.start ≤ state.now.cursor.position }
     ensures { chars result.now ≡ slice_range (chars text.now) state.now.start state.now.cursor.position }
 {
-    let end = state.cursor();
-    let mut start = end;
-    text.back_skip(&mut start, end.position() - state.start());
-    between(text, &start, &end)
+    let span = span_of(text, state);
+    between(text, &span.start, &span.end)
 }
 
 /// The text of group `group` of the match that a state shows, counted from 0 as `Marks::get` counts: `None` where it

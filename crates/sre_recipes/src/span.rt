@@ -1,12 +1,13 @@
 //! Where the matches of a walk start and end.
 
-ghost use Rattle.std.specs.Prelude.{◌≡◌, ◌<◌, IfOk, OnErr, MatchOption, IsSome};
+ghost use Rattle.std.specs.Prelude.{◌≡◌, ◌<◌, ◌≤◌, IfOk, OnErr, MatchOption, IsSome};
+ghost use Rattle.sre_chars.specs.Texts.{StandsInText};
 ghost use Rattle.sre_engine.specs.Requests.{string_of};
 ghost use Rattle.sre_engine.specs.Iterators.{request_of, shown_of, IsOver, Gives, most_items};
 ghost use Rattle.sre_growth.specs.Refusal.{Refused};
 ghost use Rattle.sre_recipes.specs.Spans.{IsSpan};
 
-use sre_engine::{SearchIter, SreError, StrDrive, StringCursor};
+use sre_engine::{SearchIter, SreError, State, StrDrive, StringCursor};
 use std::alloc::Allocator;
 
 /// Where a match starts and ends.
@@ -16,7 +17,19 @@ pub(crate) struct Span {
     pub end: StringCursor,
 }
 
-// The next match of a walk: its start is reached from its end.
+// Where the match that a state shows starts and ends: its start is reached from its end.
+pub(crate) fn span_of<A: Allocator + Copy>(text: &str, state: &State<A>) -> Span
+    requires stands { StandsInText text.now state.now.cursor state.now.cursor.position }
+    requires forward { state.now.start ≤ state.now.cursor.position }
+    ensures { IsSpan text.now state.now result.start result.end }
+{
+    let end = state.cursor();
+    let mut start = end;
+    text.back_skip(&mut start, end.position() - state.start());
+    Span { start, end }
+}
+
+// The next match of a walk.
 pub(crate) fn next_span<A: Allocator + Copy>(
     walk: &mut SearchIter<'_, &str, A>,
 ) -> Result<Option<Span>, SreError>
@@ -28,12 +41,6 @@ pub(crate) fn next_span<A: Allocator + Copy>(
     match walk.next() {
         None => Ok(None),
         Some(Err(error)) => Err(error),
-        Some(Ok(())) => {
-            let end = walk.state().cursor();
-            let mut start = end;
-            let length = end.position() - walk.state().start();
-            walk.req().string().back_skip(&mut start, length);
-            Ok(Some(Span { start, end }))
-        }
+        Some(Ok(())) => Ok(Some(span_of(walk.req().string(), walk.state()))),
     }
 }

@@ -1,0 +1,69 @@
+use Rattle.std.proofs.Common.{◌≡◌, ◌++◌, ◌∷◌, [], ℕ, List, Bor, map, ap, ◌∙◌}
+use Rattle.std.proofs.lemmas.List.{map-append}
+use Rattle.std.specs.Str.{chars}
+use Rattle.std.specs.List.{slice_range}
+use Rattle.sre_engine.specs.Codes.{words_of}
+use Rattle.sre_engine.specs.Requests.{string_of, start_of, end_of, code_of}
+use Rattle.sre_engine.specs.Iterators.{request_of, shown_of, left_of}
+use Rattle.sre_engine.specs.Walks.{match_shown}
+use Rattle.sre_recipes.specs.Pieces.{pieces_between}
+use Rattle.sre_recipes.proofs.Steps.{walk_step, walk_over, walk_on, kept_on}
+use Rattle.sre_recipes.proofs.Written.{pieces_step, pieces_end}
+use Rattle.sre_recipes.proofs.divide.add_pieces.Goals as goal
+
+pub walk-preserved : goal.walk-preserved
+walk-preserved g c =
+    let gives = rw c.in-Some.is at c.in_ok-span.ensures.gives in
+    let asked = request_of c.args.walk.now in
+    let text = chars (string_of asked).now in
+    let words = words_of (code_of asked) in
+    let before = c.walk.walk in
+    let after = c.next_span.new.walk in
+    let kept = c.walk.invariant.kept in
+    let found = match_shown (shown_of after) in
+    let start = start_of (request_of before) in
+    let shown = λ (s : Bor (List ℕ)). chars s.now in
+    let pieces = map shown c.walk.pieces.items in
+    let added : map shown c.add_piece.new.pieces.items ≡ pieces ++ slice_range text start found.start ∷ [] =
+    cc
+    (c.in_ok-add_piece.ensures.ok, c.string-text.ensures, c.req.ensures, c.walk.invariant.stands.0, gives.1.from.0) in
+    record {
+      kept = kept_on before after (string_of asked) words (end_of asked) gives.0 kept;
+      stands =
+          walk_on before after (string_of asked) c.add_piece.new.last c.in-Some.span.start c.in-Some.span.end
+          kept.string gives.0 gives.1 c.in_ok-add_piece.ensures.last;
+      left = λ t tree.
+          pieces_step text pieces (map shown c.add_piece.new.pieces.items) found (left_of before t) (left_of after t)
+          start (start_of (request_of after)) (end_of asked)
+          (map shown c.args.pieces.now.items
+          ++ pieces_between text (start_of asked) (end_of asked) (left_of c.args.walk.now t))
+          (walk_step before after words t gives.0 kept.words tree) gives.0.request.start added
+          (c.walk.invariant.left t tree);
+    }
+
+pub returns-clause-ok : goal.returns-clause-ok
+returns-clause-ok g c = λ t tree.
+    let over = rw c.in_default.is at c.in_ok-span.ensures.gives in
+    let asked = request_of c.args.walk.now in
+    let text = chars (string_of asked).now in
+    let before = c.walk.walk in
+    let start = start_of (request_of before) in
+    let shown = λ (s : Bor (List ℕ)). chars s.now in
+    let pieces = map shown c.walk.pieces.items in
+    let cut : chars c.up_to.result.now ≡ slice_range text start (end_of asked) =
+    cc (
+      c.up_to.ensures,
+      c.string-text.ensures,
+      c.req.ensures,
+      c.end-stop.ensures.value,
+      c.req-2.ensures,
+      c.walk.invariant.stands.0,
+    ) in
+    let added = ap (map shown) c.in_ok-push.ensures.items
+    ∙ map-append shown c.walk.pieces.items (c.up_to.result ∷ [])
+    ∙ ap (λ (cs : List ℕ). pieces ++ cs ∷ []) cut in
+    pieces_end text pieces (map shown c.push.new.list.items) (left_of before t) start (end_of asked)
+    (map shown c.args.pieces.now.items
+    ++ pieces_between text (start_of asked) (end_of asked) (left_of c.args.walk.now t))
+    (walk_over before (words_of (code_of asked)) t over c.walk.invariant.kept.words tree) added
+    (c.walk.invariant.left t tree)

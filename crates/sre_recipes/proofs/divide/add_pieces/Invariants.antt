@@ -1,0 +1,28 @@
+use Rattle.std.proofs.Common.{◌≡◌, ◌++◌, map}
+use Rattle.std.specs.Str.{chars}
+use Rattle.sre_chars.specs.Texts.{StandsInText}
+use Rattle.sre_engine.specs.Tree.{Tree}
+use Rattle.sre_engine.specs.Grammar.{Whole}
+use Rattle.sre_engine.specs.Codes.{words_of}
+use Rattle.sre_engine.specs.Requests.{string_of, start_of, end_of, code_of}
+use Rattle.sre_engine.specs.Iterators.{request_of, left_of, most_items}
+use Rattle.sre_recipes.specs.Pieces.{pieces_between}
+use Rattle.sre_recipes.proofs.Steps.{Kept}
+use Rattle.sre_recipes.proofs.divide.add_pieces.Given as goal
+
+abbrev pub invariant-walk : goal.invariant-walk
+invariant-walk g l =
+    let asked = request_of l.fn.walk in
+    record {
+      kept : Kept l.walk (string_of asked) (words_of (code_of asked)) (end_of asked);
+      stands : StandsInText (string_of asked).now l.last (start_of (request_of l.walk));
+      left : (t : Tree) → Whole (words_of (code_of asked)) t
+          → map (λ s. chars s.now) l.pieces.items
+          ++ pieces_between (chars (string_of asked).now) (start_of (request_of l.walk)) (end_of asked)
+          (left_of l.walk t)
+          ≡ map (λ s. chars s.now) l.fn.pieces.items
+          ++ pieces_between (chars (string_of asked).now) (start_of asked) (end_of asked) (left_of l.fn.walk t);
+    }
+
+abbrev pub decreases-walk : goal.decreases-walk
+decreases-walk g l = most_items l.walk

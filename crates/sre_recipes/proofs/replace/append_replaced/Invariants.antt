@@ -1,0 +1,29 @@
+use Rattle.std.proofs.Common.{◌≡◌, ◌++◌}
+use Rattle.std.specs.Str.{chars, IsUtf8}
+use Rattle.sre_chars.specs.Texts.{StandsInText}
+use Rattle.sre_engine.specs.Tree.{Tree}
+use Rattle.sre_engine.specs.Grammar.{Whole}
+use Rattle.sre_engine.specs.Codes.{words_of}
+use Rattle.sre_engine.specs.Requests.{string_of, start_of, end_of, code_of}
+use Rattle.sre_engine.specs.Iterators.{request_of, left_of, most_items}
+use Rattle.sre_recipes.specs.Templates.{written, replaced}
+use Rattle.sre_recipes.proofs.Steps.{Kept}
+use Rattle.sre_recipes.proofs.replace.append_replaced.Given as goal
+
+abbrev pub invariant-walk : goal.invariant-walk
+invariant-walk g l =
+    let asked = request_of l.fn.walk in
+    let text = chars (string_of asked).now in
+    record {
+      kept : Kept l.walk (string_of asked) (words_of (code_of asked)) (end_of asked);
+      stands : StandsInText (string_of asked).now l.last (start_of (request_of l.walk));
+      utf8 : IsUtf8 l.output.items;
+      left : (t : Tree) → Whole (words_of (code_of asked)) t
+          → chars l.output.items
+          ++ replaced text (written text l.template) (start_of (request_of l.walk)) (end_of asked) (left_of l.walk t)
+          ≡ chars l.fn.output.items
+          ++ replaced text (written text l.template) (start_of asked) (end_of asked) (left_of l.fn.walk t);
+    }
+
+abbrev pub decreases-walk : goal.decreases-walk
+decreases-walk g l = most_items l.walk
