@@ -1,7 +1,7 @@
 //! Probes with each request for memory refused in turn, and on a heap of a fixed size.
 
 use crate::counts::{Bounds, push_count, two_bounds_of};
-use crate::probe::{Desk, number_of, push_plain};
+use crate::probe::{Desk, cut, number_of, push_plain};
 use linked_list_allocator::LocalHeap;
 use sre_engine::UniTable;
 use sre_failing_allocator::Refusing;
@@ -32,9 +32,15 @@ fn push_outcomes<A: Allocator + Copy>(
     probes: &[u8],
     answer: &mut String,
 ) -> Result<(), AllocError> {
-    for probe in probes.split(|byte| *byte == b'|') {
+    let mut left = Some(probes);
+    for _ in 0..probes.len().saturating_add(1) {
+        let Some(several) = left else {
+            return Ok(());
+        };
+        let (probe, others) = cut(several, b'|');
         push_outcome(desk, table, probe, answer)?;
         answer.push_str("|")?;
+        left = others;
     }
     Ok(())
 }
@@ -99,9 +105,9 @@ fn count(fates: &mut Fates, probes: Refused<'_>, told: &str, again: &str) -> boo
     told == "memory" && again == probes.behind
 }
 
-// What a turn of refusals comes to.
+/// What a turn of refusals comes to.
 #[derive(Clone, Copy)]
-enum Turn {
+pub(crate) enum Turn {
     Counted,
     Otherwise,
     NoRequest,

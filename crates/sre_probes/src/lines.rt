@@ -1,7 +1,8 @@
 //! Lines as `sre_cases` answers them, with each request for memory refused in turn.
 
-use crate::counts::{push_count, two_bounds_of};
-use crate::heaps::MOST_REQUESTS;
+use crate::counts::{Bounds, push_count, two_bounds_of};
+use crate::heaps::{MOST_REQUESTS, Turn};
+use crate::probe::cut;
 use sre_failing_allocator::Refusing;
 use sre_lines::cases::{CaseFault, answer_lines};
 use sre_lines::line::split_once;
@@ -70,6 +71,23 @@ fn count(fates: &mut Fates, ran: &Run, ample: &Run) -> bool {
     ran.end == ample.end && memories(answers, wanted) == Some(1)
 }
 
+// Whether lines end and are answered as others.
+fn is_same(ran: &Run, ample: &Run) -> bool {
+    ran.end == ample.end && ran.answers.as_slice() == ample.answers.as_slice()
+}
+
+// Refuses the request of a number, and counts what becomes of the lines.
+fn refuse(alloc: Global, refused: u64, lines: &[u8], ample: &Run, fates: &mut Fates) -> Turn {
+    let ran = run_refused(alloc, refused, lines);
+    if !ran.is_refused && is_same(&ran, ample) {
+        Turn::NoRequest
+    } else if ran.is_refused && count(fates, &ran, ample) {
+        Turn::Counted
+    } else {
+        Turn::Otherwise
+    }
+}
+
 // Refuses each request for memory of lines in turn, until they make fewer: what became of them.
 fn fates_of(alloc: Global, lines: &[u8], ample: &Run) -> Option<Fates> {
     let mut fates = Fates {
@@ -77,26 +95,73 @@ fn fates_of(alloc: Global, lines: &[u8], ample: &Run) -> Option<Fates> {
         memory: 0,
     };
     for refused in 1..MOST_REQUESTS {
-        let ran = run_refused(alloc, refused, lines);
-        if !ran.is_refused {
-            let is_same = ran.end == ample.end
-                && ran.answers.as_slice() == ample.answers.as_slice();
-            return if is_same { Some(fates) } else { None };
-        }
-        if !count(&mut fates, &ran, ample) {
-            return None;
+        match refuse(alloc, refused, lines, ample, &mut fates) {
+            Turn::Counted => {}
+            Turn::Otherwise => return None,
+            Turn::NoRequest => return Some(fates),
         }
     }
     None
 }
 
-// Lines as a file has them, which a probe divides by `|`.
-fn divided(alloc: Global, field: &[u8]) -> Result<Vec<u8>, AllocError> {
-    let mut lines = Vec::new(alloc);
+// Appends lines as a file has them, which a probe divides by `|`.
+fn push_divided(field: &[u8], lines: &mut Vec<u8>) -> Result<(), AllocError> {
     for byte in field {
         lines.push(if *byte == b'|' { b'\n' } else { *byte })?;
     }
-    Ok(lines)
+    Ok(())
+}
+
+// Appends lines, each as text.
+fn push_each(lines: &[u8], answer: &mut String) -> Result<(), AllocError> {
+    let mut left = Some(lines);
+    for _ in 0..lines.len().saturating_add(1) {
+        let Some(several) = left else {
+            return Ok(());
+        };
+        let (line, others) = cut(several, b'\n');
+        answer.push_str(str::from_utf8(line).unwrap_or("no text"))?;
+        answer.push_str("|")?;
+        left = others;
+    }
+    Ok(())
+}
+
+// Appends answers and the fault behind them.
+fn push_run(run: &Run, answer: &mut String) -> Result<(), AllocError> {
+    push_each(run.answers.as_slice(), answer)?;
+    match run.end {
+        Ok(()) => Ok(()),
+        Err(fault) => write!(answer, "{fault:?}"),
+    }
+}
+
+// Appends the answers to lines, once each of their requests was refused in turn, and a count that lies outside its
+// bounds.
+fn push_in_turn(
+    alloc: Global,
+    lines: &[u8],
+    ample: &Run,
+    (of_reading, of_memory): (Bounds, Bounds),
+    answer: &mut String,
+) -> Result<(), AllocError> {
+    push_run(ample, answer)?;
+    let Some(fates) = fates_of(alloc, lines, ample) else {
+        return answer.push_str(" and otherwise where memory is refused");
+    };
+    push_count("reading", fates.reading, of_reading, answer)?;
+    push_count("memory", fates.memory, of_memory, answer)
+}
+
+// The same, with the run whose memory is ample.
+fn push_refused(
+    alloc: Global,
+    lines: &[u8],
+    bounds: (Bounds, Bounds),
+    answer: &mut String,
+) -> Result<(), AllocError> {
+    let ample = run_refused(alloc, 0, lines);
+    push_in_turn(alloc, lines, &ample, bounds, answer)
 }
 
 /// Appends the answers to lines, which are divided by `|`, and their fault. Where each request for memory is refused in
@@ -110,20 +175,12 @@ pub(crate) fn push_lines(
     let Some((field, lines)) = split_once(rest, b' ') else {
         return answer.push_str("no probe");
     };
-    let Some((of_reading, of_memory)) = two_bounds_of(field) else {
+    let Some(bounds) = two_bounds_of(field) else {
         return answer.push_str("no bounds");
     };
-    let lines = divided(alloc, lines)?;
-    let ample = run_refused(alloc, 0, lines.as_slice());
-    for line in ample.answers.as_slice().split(|byte| *byte == b'\n') {
-        write!(answer, "{}|", str::from_utf8(line).unwrap_or("no text"))?;
+    let mut divided = Vec::new(alloc);
+    match push_divided(lines, &mut divided) {
+        Ok(()) => push_refused(alloc, divided.as_slice(), bounds, answer),
+        Err(error) => Err(error),
     }
-    if let Err(fault) = ample.end {
-        write!(answer, "{fault:?}")?;
-    }
-    let Some(fates) = fates_of(alloc, lines.as_slice(), &ample) else {
-        return answer.push_str(" and otherwise where memory is refused");
-    };
-    push_count("reading", fates.reading, of_reading, answer)?;
-    push_count("memory", fates.memory, of_memory, answer)
 }

@@ -13,10 +13,11 @@ mod shown;
 mod tables;
 mod turns;
 
-use probe::{Desk, push_probe};
+use probe::{Desk, cut, push_probe};
 use sre_engine::UniTable;
 use sre_lines::line::split_once;
 use std::alloc::{AllocError, Global};
+use std::env::Args;
 use std::io::{self, BufWriter, Write};
 use std::test::Fail;
 use std::{env, fs};
@@ -36,10 +37,28 @@ fn push_line(
     answer: &mut String,
 ) -> Result<(), AllocError> {
     match split_once(line, b' ') {
-        Some((b"table", lists)) => tables::push_table(alloc, lists, &mut bench.table, answer),
-        Some((b"digits", ranges)) => tables::push_digits(alloc, ranges, &mut bench.table, answer),
+        Some((word, lists)) if word == b"table".as_slice() => {
+            tables::push_table(alloc, lists, &mut bench.table, answer)
+        }
+        Some((word, ranges)) if word == b"digits".as_slice() => {
+            tables::push_digits(alloc, ranges, &mut bench.table, answer)
+        }
         _ => push_probe(&mut bench.desk, &bench.table, line, answer),
     }
+}
+
+// Appends the answer to a line, and ends it.
+fn push_answer(
+    bench: &mut Bench,
+    alloc: Global,
+    line: &[u8],
+    answer: &mut String,
+) -> Result<(), AllocError> {
+    if push_line(bench, alloc, line, answer).is_err() {
+        answer.clear();
+        answer.push_str("memory")?;
+    }
+    answer.push_str("\n")
 }
 
 // Writes the answer to a line, if it has one.
@@ -53,31 +72,56 @@ fn answer_line<W: Write>(
         return Ok(());
     }
     let mut answer = String::new(alloc);
-    if push_line(bench, alloc, line, &mut answer).is_err() {
-        answer.clear();
-        answer.push_str("memory")?;
+    match push_answer(bench, alloc, line, &mut answer) {
+        Ok(()) => out.write_all(answer.as_bytes()),
+        Err(error) => Err(error.into()),
     }
-    answer.push_str("\n")?;
-    out.write_all(answer.as_bytes())
 }
 
 // Answers all lines of a file.
+fn answer_lines<W: Write>(
+    bench: &mut Bench,
+    alloc: Global,
+    file: &[u8],
+    out: &mut W,
+) -> io::Result<()> {
+    let mut left = Some(file);
+    for _ in 0..file.len().saturating_add(1) {
+        let Some(lines) = left else {
+            return out.flush();
+        };
+        let (line, others) = cut(lines, b'\n');
+        answer_line(bench, alloc, line, out)?;
+        left = others;
+    }
+    out.flush()
+}
+
+// Answers all lines of a file, under the table of ASCII until a line sets another one.
 fn answer_all<W: Write>(alloc: Global, file: &[u8], out: &mut W) -> io::Result<()> {
     let mut bench = Bench {
         table: UniTable::ascii(alloc),
         desk: Desk::new(alloc, alloc),
     };
-    for line in file.split(|byte| *byte == b'\n') {
-        answer_line(&mut bench, alloc, line, out)?;
+    answer_lines(&mut bench, alloc, file, out)
+}
+
+// The argument behind the program's name.
+fn argument(mut args: Args) -> Option<String> {
+    let _program = args.next();
+    args.next()
+}
+
+// The file that the argument names.
+fn file_of(rt: &HostRuntime) -> Result<Vec<u8>, Fail> {
+    match argument(env::args(rt)?) {
+        Some(name) => Ok(fs::read(rt, name.as_str())?),
+        None => Err("usage: sre_probes FILE".into()),
     }
-    out.flush()
 }
 
 fn main(rt: HostRuntime) -> Result<(), Fail> {
-    let mut args = env::args(&rt)?;
-    let _program = args.next();
-    let name = args.next().ok_or("usage: sre_probes FILE")?;
-    let file = fs::read(&rt, name.as_str())?;
+    let file = file_of(&rt)?;
     let mut out = BufWriter::new(rt.alloc(), io::writer(&rt))?;
     answer_all(rt.alloc(), file.as_slice(), &mut out)?;
     Ok(())

@@ -50,6 +50,14 @@ pub(crate) enum Asked<'a> {
     Recipe(Recipe<'a>),
 }
 
+/// The first of some parts, up to a byte that divides them, and those behind it.
+pub(crate) fn cut(parts: &[u8], divider: u8) -> (&[u8], Option<&[u8]>) {
+    match split_once(parts, divider) {
+        Some((first, others)) => (first, Some(others)),
+        None => (parts, None),
+    }
+}
+
 /// The number that a field writes, if it does.
 pub(crate) fn number_of(field: &[u8]) -> Option<u64> {
     let text = str::from_utf8(field).ok()?;
@@ -77,6 +85,39 @@ pub(crate) fn request<'a, S: StrDrive>(
     request
 }
 
+// A probe that does more than ask one thing of a case, or has none.
+#[derive(Clone, Copy)]
+enum Kind {
+    Refuse,
+    Lines,
+    Heap,
+    Code,
+    Cuts,
+    Reads,
+    Letter,
+}
+
+static KINDS: [(&[u8], Kind); 7] = [
+    (b"refuse", Kind::Refuse),
+    (b"lines", Kind::Lines),
+    (b"heap", Kind::Heap),
+    (b"code", Kind::Code),
+    (b"cuts", Kind::Cuts),
+    (b"reads", Kind::Reads),
+    (b"letter", Kind::Letter),
+];
+
+// The kind that a probe's word says, and what stands behind it.
+fn kind_of(probe: &[u8]) -> Option<(Kind, &[u8])> {
+    let (word, rest) = split_once(probe, b' ')?;
+    for &(name, kind) in &KINDS {
+        if word == name {
+            return Some((kind, rest));
+        }
+    }
+    None
+}
+
 /// Appends the answer to a probe that may ask for another one, with memory refused or bounded.
 pub(crate) fn push_probe(
     desk: &mut Desk<Global>,
@@ -84,15 +125,17 @@ pub(crate) fn push_probe(
     probe: &[u8],
     answer: &mut String,
 ) -> Result<(), AllocError> {
-    match split_once(probe, b' ') {
-        Some((b"refuse", rest)) => push_refused(desk.alloc, table, rest, answer),
-        Some((b"lines", rest)) => push_lines(desk.alloc, rest, answer),
-        Some((b"heap", rest)) => push_on_heap(desk.alloc, table, rest, answer),
-        Some((b"code", rest)) => push_code(desk, table, rest, answer),
-        Some((b"cuts", rest)) => push_cuts(desk, table, rest, answer),
-        Some((b"reads", rest)) => push_reads(desk, table, rest, answer),
-        Some((b"letter", rest)) => push_letter(table, rest, answer),
-        _ => push_plain(desk, table, probe, answer),
+    let Some((kind, rest)) = kind_of(probe) else {
+        return push_plain(desk, table, probe, answer);
+    };
+    match kind {
+        Kind::Refuse => push_refused(desk.alloc, table, rest, answer),
+        Kind::Lines => push_lines(desk.alloc, rest, answer),
+        Kind::Heap => push_on_heap(desk.alloc, table, rest, answer),
+        Kind::Code => push_code(desk, table, rest, answer),
+        Kind::Cuts => push_cuts(desk, table, rest, answer),
+        Kind::Reads => push_reads(desk, table, rest, answer),
+        Kind::Letter => push_letter(table, rest, answer),
     }
 }
 
@@ -132,29 +175,49 @@ pub(crate) fn push_plain<A: Allocator + Copy>(
     }
 }
 
+// The words that stand alone before a case.
+static ALONE: [(&[u8], Asked<'static>); 7] = [
+    (b"shown", Asked::Shown),
+    (b"list", Asked::Listed),
+    (b"fewest", Asked::Fewest),
+    (b"find", Asked::Recipe(Recipe::Find)),
+    (b"split", Asked::Recipe(Recipe::Split)),
+    (b"tokens", Asked::Recipe(Recipe::Tokens)),
+    (b"groups", Asked::Recipe(Recipe::Groups)),
+];
+
+// What a word alone asks.
+fn asked_alone(word: &[u8]) -> Option<Asked<'static>> {
+    for &(name, asked) in &ALONE {
+        if word == name {
+            return Some(asked);
+        }
+    }
+    None
+}
+
+// What a word asks with a field behind it.
+fn asked_with<'a>(word: &[u8], field: &'a [u8]) -> Option<Asked<'a>> {
+    if word == b"within".as_slice() {
+        return Some(Asked::Within(number_of(field)?));
+    }
+    if word == b"counts".as_slice() {
+        return Some(Asked::Counted(field));
+    }
+    if word == b"replace".as_slice() {
+        return Some(Asked::Recipe(Recipe::Replace(field)));
+    }
+    None
+}
+
 // What a probe asks, and its case.
 fn asked_of(probe: &[u8]) -> Option<(Asked<'_>, &[u8])> {
     let (word, rest) = split_once(probe, b' ')?;
-    let alone = match word {
-        b"shown" => Some(Asked::Shown),
-        b"list" => Some(Asked::Listed),
-        b"fewest" => Some(Asked::Fewest),
-        b"find" => Some(Asked::Recipe(Recipe::Find)),
-        b"split" => Some(Asked::Recipe(Recipe::Split)),
-        b"tokens" => Some(Asked::Recipe(Recipe::Tokens)),
-        b"groups" => Some(Asked::Recipe(Recipe::Groups)),
-        _ => None,
-    };
-    if let Some(asked) = alone {
+    if let Some(asked) = asked_alone(word) {
         return Some((asked, rest));
     }
     let (field, case) = split_once(rest, b' ')?;
-    match word {
-        b"within" => Some((Asked::Within(number_of(field)?), case)),
-        b"counts" => Some((Asked::Counted(field), case)),
-        b"replace" => Some((Asked::Recipe(Recipe::Replace(field)), case)),
-        _ => None,
-    }
+    Some((asked_with(word, field)?, case))
 }
 
 // Appends what a text is asked.

@@ -1,9 +1,10 @@
 //! The recipes over a text.
 
-use sre_engine::{Request, SreError, State};
+use crate::probe::cut;
+use sre_engine::{Request, SreError, State, StringCursor};
 use sre_lines::line::Finding;
 use sre_recipes::{
-    Piece, find_all, group_text, match_text, replace_all, search_text, split, tokens_of,
+    Piece, Token, find_all, group_text, match_text, replace_all, search_text, split, tokens_of,
 };
 use std::alloc::{AllocError, Allocator};
 
@@ -44,7 +45,39 @@ fn piece_of(part: &[u8]) -> Piece<'_> {
     }
 }
 
-// Appends a text with its matches replaced.
+// Appends the pieces that a template writes.
+fn push_pieces<'a, A: Allocator>(
+    template: &'a [u8],
+    pieces: &mut Vec<Piece<'a>, A>,
+) -> Result<(), AllocError> {
+    let mut left = Some(template);
+    for _ in 0..template.len().saturating_add(1) {
+        let Some(several) = left else {
+            return Ok(());
+        };
+        let (part, others) = cut(several, b'+');
+        if !part.is_empty() {
+            pieces.push(piece_of(part))?;
+        }
+        left = others;
+    }
+    Ok(())
+}
+
+// Appends a text with its matches replaced by pieces.
+fn push_replaced_by<A: Allocator + Copy>(
+    heap: A,
+    req: Request<'_, &str>,
+    pieces: &[Piece<'_>],
+    answer: &mut String,
+) -> Result<(), AllocError> {
+    match replace_all(heap, req, pieces) {
+        Ok(text) => write!(answer, "[{}]", text.as_str()),
+        Err(SreError::Memory) => Err(AllocError),
+    }
+}
+
+// Appends a text with its matches replaced by a template.
 fn push_replaced<A: Allocator + Copy>(
     heap: A,
     req: Request<'_, &str>,
@@ -52,35 +85,40 @@ fn push_replaced<A: Allocator + Copy>(
     answer: &mut String,
 ) -> Result<(), AllocError> {
     let mut pieces = Vec::new(heap);
-    for part in template.split(|byte| *byte == b'+') {
-        if !part.is_empty() {
-            pieces.push(piece_of(part))?;
-        }
-    }
-    match replace_all(heap, req, pieces.as_slice()) {
-        Ok(text) => write!(answer, "[{}]", text.as_str()),
-        Err(SreError::Memory) => Err(AllocError),
+    match push_pieces(template, &mut pieces) {
+        Ok(()) => push_replaced_by(heap, req, pieces.as_slice(), answer),
+        Err(error) => Err(error),
     }
 }
 
+// Appends tokens with their kinds.
+fn push_each(tokens: &[Token<'_>], answer: &mut String) -> Result<(), AllocError> {
+    for token in tokens {
+        write!(answer, "{}[{}]", token.kind, token.text)?;
+    }
+    Ok(())
+}
+
 // Appends tokens with their kinds, and where they end.
+fn push_lexed(
+    tokens: &[Token<'_>],
+    end: StringCursor,
+    answer: &mut String,
+) -> Result<(), AllocError> {
+    push_each(tokens, answer)?;
+    write!(answer, " to {} offset {}", end.position(), end.offset())
+}
+
+// Appends what a text's tokens are.
 fn push_tokens<A: Allocator + Copy>(
     heap: A,
     req: Request<'_, &str>,
     answer: &mut String,
 ) -> Result<(), AllocError> {
-    let Ok(lexed) = tokens_of(heap, req) else {
-        return Err(AllocError);
-    };
-    for token in &lexed.tokens {
-        write!(answer, "{}[{}]", token.kind, token.text)?;
+    match tokens_of(heap, req) {
+        Ok(lexed) => push_lexed(lexed.tokens.as_slice(), lexed.end, answer),
+        Err(SreError::Memory) => Err(AllocError),
     }
-    write!(
-        answer,
-        " to {} offset {}",
-        lexed.end.position(),
-        lexed.end.offset()
-    )
 }
 
 // Appends the text of a match, and those of its groups.

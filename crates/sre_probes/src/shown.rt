@@ -1,6 +1,6 @@
 //! What a state shows of a match, of all matches of a walk, and of a list.
 
-use sre_engine::{Request, SearchIter, State, StrDrive, all_matches};
+use sre_engine::{Found, Request, SearchIter, State, StrDrive, all_matches};
 use sre_lines::answer::push_match;
 use sre_lines::line::Finding;
 use std::alloc::{AllocError, Allocator};
@@ -92,6 +92,16 @@ fn push_walk<S: StrDrive, A: Allocator + Copy>(
     answer.push_str(if stays_ended(walk) { "end" } else { "goes on" })
 }
 
+// Appends each of some matches.
+fn push_all<A: Allocator>(all: &[Found<A>], answer: &mut String) -> Result<(), AllocError> {
+    for found in all {
+        let marks = found.marks.as_slice();
+        push_match(answer, found.start, found.end, found.last_index, marks)?;
+        answer.push_str("; ")?;
+    }
+    answer.push_str("end")
+}
+
 /// Appends each match of a list.
 pub(crate) fn push_list<S: StrDrive, A: Allocator + Copy>(
     state: &mut State<A>,
@@ -102,20 +112,10 @@ pub(crate) fn push_list<S: StrDrive, A: Allocator + Copy>(
     if !has_none(state) {
         return answer.push_str("marks are left");
     }
-    let Ok(all) = listed else {
-        return Err(AllocError);
-    };
-    for found in &all {
-        push_match(
-            answer,
-            found.start,
-            found.end,
-            found.last_index,
-            found.marks.as_slice(),
-        )?;
-        answer.push_str("; ")?;
+    match listed {
+        Ok(all) => push_all(all.as_slice(), answer),
+        Err(_) => Err(AllocError),
     }
-    answer.push_str("end")
 }
 
 /// Appends what a call finds within so many turns.

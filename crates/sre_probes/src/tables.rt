@@ -1,20 +1,30 @@
 //! Tables that lines set for the lines behind them.
 
-use crate::probe::word_of;
+use crate::probe::{cut, word_of};
 use sre_engine::{UniError, UniTable};
 use sre_lines::line::split_once;
 use std::alloc::{AllocError, Global};
 
-// The pairs that a field writes as `A-B,A-B`, or none, for a `-` alone.
-fn pairs_of(alloc: Global, field: &[u8]) -> Result<Vec<(u32, u32)>, AllocError> {
-    let mut pairs = Vec::new(alloc);
-    for pair in field.split(|byte| *byte == b',') {
-        let (low, high) = split_once(pair, b'-').unwrap_or((pair, pair));
-        if let (Some(low), Some(high)) = (word_of(low), word_of(high)) {
-            pairs.push((low, high))?;
+// The numbers that a pair writes, if it does.
+fn pair_of(pair: &[u8]) -> Option<(u32, u32)> {
+    let (low, high) = split_once(pair, b'-')?;
+    Some((word_of(low)?, word_of(high)?))
+}
+
+// Appends the pairs that a field writes as `A-B,A-B`, or none, for a `-` alone.
+fn push_pairs(field: &[u8], pairs: &mut Vec<(u32, u32)>) -> Result<(), AllocError> {
+    let mut left = Some(field);
+    for _ in 0..field.len().saturating_add(1) {
+        let Some(several) = left else {
+            return Ok(());
+        };
+        let (pair, others) = cut(several, b',');
+        if let Some(numbers) = pair_of(pair) {
+            pairs.push(numbers)?;
         }
+        left = others;
     }
-    Ok(pairs)
+    Ok(())
 }
 
 // Appends that a table was made, or why it was not.
@@ -25,13 +35,54 @@ fn push_outcome(outcome: Result<(), UniError>, answer: &mut String) -> Result<()
     }
 }
 
-// The table that lists make: those of lower, of upper cases and of letters.
-fn table_of(alloc: Global, lists: &[u8]) -> Result<Result<UniTable, UniError>, AllocError> {
-    let (lower, rest) = split_once(lists, b' ').unwrap_or((lists, b""));
-    let (upper, alnum) = split_once(rest, b' ').unwrap_or((rest, b""));
-    let (lower, upper) = (pairs_of(alloc, lower)?, pairs_of(alloc, upper)?);
-    let alnum = pairs_of(alloc, alnum)?;
-    Ok(UniTable::new(alloc, lower.as_slice(), upper.as_slice(), alnum.as_slice()))
+// The lists of a table: those of lower, of upper cases and of letters.
+#[derive(Drop)]
+struct Lists {
+    lower: Vec<(u32, u32)>,
+    upper: Vec<(u32, u32)>,
+    alnum: Vec<(u32, u32)>,
+}
+
+// Appends the pairs of three fields to the lists; a field that is missing has none.
+fn push_lists(fields: &[u8], lists: &mut Lists) -> Result<(), AllocError> {
+    let Some((lower, rest)) = split_once(fields, b' ') else {
+        return push_pairs(fields, &mut lists.lower);
+    };
+    push_pairs(lower, &mut lists.lower)?;
+    let Some((upper, alnum)) = split_once(rest, b' ') else {
+        return push_pairs(rest, &mut lists.upper);
+    };
+    push_pairs(upper, &mut lists.upper)?;
+    push_pairs(alnum, &mut lists.alnum)
+}
+
+// The table that three fields make.
+fn table_of(alloc: Global, fields: &[u8]) -> Result<UniTable, UniError> {
+    let mut lists = Lists {
+        lower: Vec::new(alloc),
+        upper: Vec::new(alloc),
+        alnum: Vec::new(alloc),
+    };
+    match push_lists(fields, &mut lists) {
+        Ok(()) => UniTable::new(
+            alloc,
+            lists.lower.as_slice(),
+            lists.upper.as_slice(),
+            lists.alnum.as_slice(),
+        ),
+        Err(AllocError) => Err(UniError::Memory),
+    }
+}
+
+// The table of ASCII, std's, or the one that three fields make.
+fn named_table(alloc: Global, name: &[u8]) -> Result<UniTable, UniError> {
+    if name == b"ascii".as_slice() {
+        return Ok(UniTable::ascii(alloc));
+    }
+    if name == b"std".as_slice() {
+        return UniTable::from_std(alloc);
+    }
+    table_of(alloc, name)
 }
 
 /// Sets the table, to that of ASCII, to std's, or to the one of three lists. Where these have a fault, the table stays.
@@ -41,12 +92,7 @@ pub(crate) fn push_table(
     table: &mut UniTable,
     answer: &mut String,
 ) -> Result<(), AllocError> {
-    let made = match lists {
-        b"ascii" => Ok(UniTable::ascii(alloc)),
-        b"std" => UniTable::from_std(alloc),
-        _ => table_of(alloc, lists)?,
-    };
-    match made {
+    match named_table(alloc, lists) {
         Ok(new) => {
             *table = new;
             answer.push_str("ok")
@@ -62,6 +108,9 @@ pub(crate) fn push_digits(
     table: &mut UniTable,
     answer: &mut String,
 ) -> Result<(), AllocError> {
-    let pairs = pairs_of(alloc, ranges)?;
-    push_outcome(table.set_digits(pairs.as_slice()), answer)
+    let mut pairs = Vec::new(alloc);
+    match push_pairs(ranges, &mut pairs) {
+        Ok(()) => push_outcome(table.set_digits(pairs.as_slice()), answer),
+        Err(error) => Err(error),
+    }
 }

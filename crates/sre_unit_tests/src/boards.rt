@@ -1,51 +1,62 @@
 //! What no clause says of the board: its memory.
 
+use crate::growths::was_refused;
 use sre_board::{Board, Change, Saved};
 use sre_chars::string::StringCursor;
 use sre_failing_allocator::Refusing;
 use sre_growth::Refusal;
 use sre_turns::Point;
 use std::alloc::{Allocator, Global};
-use std::test::Fail;
 
-// Sets marks, each at its position.
-fn set_all<A: Allocator>(board: &mut Board<A>, marks: &[(u32, usize)]) -> Result<(), Refusal> {
-    for &(mark, position) in marks {
-        board.set(mark, position)?;
-    }
-    Ok(())
+// Sets two marks at positions.
+fn set_both<A: Allocator>(
+    board: &mut Board<A>,
+    first: (u32, usize),
+    second: (u32, usize),
+) -> Result<(), Refusal> {
+    board.set(first.0, first.1)?;
+    board.set(second.0, second.1)
 }
 
 // Marks set over two choices, the second mark of each pair before the first, and one of them twice.
 fn set_over_choices<A: Allocator>(board: &mut Board<A>) -> Result<(), Refusal> {
-    set_all(board, &[(1, 7)])?;
+    board.set(1, 7)?;
     board.save(Point::Instruction(4), StringCursor::new(1, 2))?;
-    set_all(board, &[(0, 5), (3, 9)])?;
+    set_both(board, (0, 5), (3, 9))?;
     board.save(Point::Shorter(6, 3), StringCursor::new(8, 16))?;
-    set_all(board, &[(3, 8), (5, 2)])
+    set_both(board, (3, 8), (5, 2))
 }
 
-// Each request for memory is refused in turn: an error comes where it was, and the board, once it is cleared,
-// serves again.
+// Whether an error comes exactly where a request is refused, and the board, once it is cleared, serves again.
+fn is_left(heap: &Refusing<Global>, board: &mut Board<&Refusing<Global>>) -> bool {
+    let left = heap.left();
+    if set_over_choices(board).is_err() != was_refused(heap, left) {
+        return false;
+    }
+    board.clear();
+    let is_empty = board.marks().raw().is_empty() && board.marks().last_index() == -1;
+    is_empty && set_over_choices(board).is_ok() && board.marks().last_index() == 3
+}
+
+// The same with the request of a number refused, and whether there was one.
+fn is_left_by(alloc: Global, refused: u64) -> (bool, bool) {
+    let heap = Refusing::new(alloc, refused);
+    let mut board: Board<&Refusing<Global>> = Board::new(&heap);
+    (is_left(&heap, &mut board), heap.left() == 0)
+}
+
+// Each request for memory is refused in turn.
 #[test]
-fn a_refused_growth_leaves_a_board(rt: HostRuntime) -> Result<(), Fail> {
+fn a_refused_growth_leaves_a_board(rt: HostRuntime) {
     let mut refusals = 0u64;
     for refused in 1..16u64 {
-        let heap = Refusing::new(rt.alloc(), refused);
-        let mut board: Board<&Refusing<Global>> = Board::new(&heap);
-        if set_over_choices(&mut board).is_err() {
-            assert!(rt; heap.left() == 0);
+        let (is_left, is_refused) = is_left_by(rt.alloc(), refused);
+        assert!(rt; is_left, "{refused}");
+        if is_refused {
             refusals = refusals.saturating_add(1);
-        } else {
-            assert!(rt; heap.left() > 0);
         }
-        board.clear();
-        assert!(rt; board.marks().raw().is_empty() && board.marks().last_index() == -1);
-        set_over_choices(&mut board)?;
-        assert!(rt; board.marks().last_index() == 3);
     }
     assert!(rt; refusals > 2);
-    Ok(())
 }
 
 #[test]
@@ -60,21 +71,24 @@ fn set_often<A: Allocator>(board: &mut Board<A>) -> Result<(), Refusal> {
         board.clear();
         set_over_choices(board)?;
         board.clear();
-        set_all(board, &[(5, position), (0, position)])?;
+        set_both(board, (5, position), (0, position))?;
     }
     Ok(())
 }
 
-// Neither a cleared board nor marks that no choice remembers ask for memory.
+// Whether a board asks for memory at first, and not where marks are set once more.
+fn keeps_memory(heap: &Refusing<Global>, board: &mut Board<&Refusing<Global>>) -> bool {
+    let first = heap.left();
+    let is_set = set_over_choices(board).is_ok();
+    let left = heap.left();
+    is_set && left < first && set_often(board).is_ok() && heap.left() == left
+}
+
+// Neither a new or a cleared board nor marks that no choice remembers ask for memory.
 #[test]
-fn memory_is_kept(rt: HostRuntime) -> Result<(), Fail> {
+fn memory_is_kept(rt: HostRuntime) {
     let heap = Refusing::new(rt.alloc(), 1_000_000);
     let mut board: Board<&Refusing<Global>> = Board::new(&heap);
     assert!(rt; heap.left() == 1_000_000);
-    set_over_choices(&mut board)?;
-    let left = heap.left();
-    assert!(rt; left < 1_000_000);
-    set_often(&mut board)?;
-    assert!(rt; heap.left() == left);
-    Ok(())
+    assert!(rt; keeps_memory(&heap, &mut board));
 }

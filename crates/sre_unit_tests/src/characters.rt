@@ -1,10 +1,11 @@
 //! Worked examples, and what no clause says: printed texts, and the trait through its bound.
 
+use crate::shown::is_shown;
 use sre_chars::constants::{
     CODESIZE, MAXGROUPS, MAXREPEAT, SreAtCode, SreCatCode, SreOpcode, UnknownCode,
 };
 use sre_chars::string::{StrDrive, StringCursor, UniError, UniTable, category};
-use std::test::Fail;
+use std::alloc::Global;
 
 // Words and the codes of these numbers, as CPython's `_constants.py` has them.
 static CODES: [(
@@ -63,21 +64,25 @@ static CODES: [(
     (4294967295, None, None, None),
 ];
 
+// Whether a word becomes these codes.
+fn becomes(
+    word: u32,
+    opcode: Option<SreOpcode>,
+    at: Option<SreAtCode>,
+    category: Option<SreCatCode>,
+) -> bool {
+    SreOpcode::try_from(word).ok() == opcode
+        && SreAtCode::try_from(word).ok() == at
+        && SreCatCode::try_from(word).ok() == category
+}
+
 #[test]
 fn words_become_codes(rt: HostRuntime) {
-    assert!(rt; (CODESIZE, MAXREPEAT, MAXGROUPS) == (4, 4294967295, 2147483647));
+    assert!(rt; CODESIZE == 4 && MAXREPEAT == 4294967295 && MAXGROUPS == 2147483647);
     for &(word, opcode, at, category) in &CODES {
-        let refusal = UnknownCode(word);
-        assert!(rt;
-            SreOpcode::try_from(word) == opcode.ok_or(refusal),
-            "{word}"
-        );
-        assert!(rt; SreAtCode::try_from(word) == at.ok_or(refusal), "{word}");
-        assert!(rt;
-            SreCatCode::try_from(word) == category.ok_or(refusal),
-            "{word}"
-        );
+        assert!(rt; becomes(word, opcode, at, category), "{word}");
     }
+    assert!(rt; SreOpcode::try_from(43).err() == Some(UnknownCode(43)));
 }
 
 static ERRORS: [(UniError, u32, &str); 4] = [
@@ -88,23 +93,12 @@ static ERRORS: [(UniError, u32, &str); 4] = [
 ];
 
 #[test]
-fn errors_have_numbers_and_words(rt: HostRuntime) -> Result<(), Fail> {
+fn errors_have_numbers_and_words(rt: HostRuntime) {
     for &(error, number, words) in &ERRORS {
-        let text = format!(in rt.alloc(); "{error}")?;
-        assert!(rt;
-            error.number() == number && text.as_str() == words,
-            "{words}"
-        );
+        assert!(rt; error.number() == number && is_shown(rt.alloc(), &error, words));
     }
-    Ok(())
-}
-
-#[test]
-fn an_unknown_code_has_a_number_and_words(rt: HostRuntime) -> Result<(), Fail> {
     let refusal = UnknownCode(43);
-    let text = format!(in rt.alloc(); "{refusal}")?;
-    assert!(rt; refusal.number() == 1 && text.as_str() == "unknown code 43");
-    Ok(())
+    assert!(rt; refusal.number() == 1 && is_shown(rt.alloc(), &refusal, "unknown code 43"));
 }
 
 // Whether two places are one.
@@ -164,54 +158,23 @@ static TEXTS: [(&str, &[u32]); 5] = [
     ),
 ];
 
+// Whether a text is these characters, both so many times over.
+fn is_repeated(alloc: Global, text: &str, chars: &[u32], times: usize) -> bool {
+    match (text.repeat(alloc, times), chars.repeat(alloc, times)) {
+        (Ok(text), Ok(chars)) => is_text_of(text.as_str(), chars.as_slice()),
+        _ => false,
+    }
+}
+
 // Each `str` is repeated to go past several blocks of bytes, at whose edges characters of each width are cut.
 #[test]
-fn texts_are_their_characters(rt: HostRuntime) -> Result<(), Fail> {
+fn texts_are_their_characters(rt: HostRuntime) {
     let bytes = [0u8, 7, 127, 128, 195, 169, 255];
     assert!(rt; is_text_of(bytes.as_slice(), &[0, 7, 127, 128, 195, 169, 255]));
     for &(text, chars) in &TEXTS {
-        for times in [1, 70] {
-            let text = text.repeat(rt.alloc(), times)?;
-            let chars = chars.repeat(rt.alloc(), times)?;
-            assert!(rt;
-                is_text_of(text.as_str(), chars.as_slice()),
-                "{times} times"
-            );
-        }
+        assert!(rt; is_repeated(rt.alloc(), text, chars, 1));
+        assert!(rt; is_repeated(rt.alloc(), text, chars, 70));
     }
-    Ok(())
-}
-
-// Positions and offsets in "aé€😀", many times over, whose characters take 1, 2, 3 and 4 bytes.
-static PLACES: [(usize, usize); 6] = [(1, 1), (2, 3), (3, 6), (4, 10), (402, 1003), (600, 1500)];
-
-// Whether a place has this position and this offset.
-fn is_at(cursor: StringCursor, position: usize, offset: usize) -> bool {
-    cursor.position() == position && cursor.offset() == offset
-}
-
-// The place that is reached from a text's start, which is where it was if the text is shorter.
-fn skipped(text: &str, position: usize) -> StringCursor {
-    let mut cursor = StringCursor::default();
-    if position <= text.count() {
-        text.skip(&mut cursor, position);
-    }
-    cursor
-}
-
-#[test]
-fn offsets_count_bytes(rt: HostRuntime) -> Result<(), Fail> {
-    assert!(rt; is_at(StringCursor::default(), 0, 0));
-    let text = "aé€😀".repeat(rt.alloc(), 150)?;
-    let text = text.as_str();
-    assert!(rt; text.count() == 600 && is_at(text.create_cursor(0), 0, 0));
-    for &(position, offset) in &PLACES {
-        assert!(rt;
-            is_at(skipped(text, position), position, offset),
-            "{position}"
-        );
-    }
-    Ok(())
 }
 
 // The runs are CPython's; of its Unicode words only those in ASCII, since the table has no others.

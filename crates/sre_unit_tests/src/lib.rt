@@ -7,8 +7,6 @@
 #![tactic(auto)]
 
 #[cfg(test)]
-mod ascii_sets;
-#[cfg(test)]
 mod boards;
 #[cfg(test)]
 mod characters;
@@ -28,5 +26,9 @@ mod refusals;
 mod refused_checks;
 #[cfg(test)]
 mod samples;
+#[cfg(test)]
+mod scripts;
+#[cfg(test)]
+mod shown;
 #[cfg(test)]
 mod trees;

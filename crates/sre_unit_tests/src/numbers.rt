@@ -3,26 +3,35 @@
 use sre_chars::constants::{SreAtCode, SreCatCode, SreOpcode};
 use std::convert::TryFrom;
 
-// The number that a cast gives of a word's code of each kind.
-fn numbers(word: u32) -> (Option<u32>, Option<u32>, Option<u32>) {
-    (
-        SreOpcode::try_from(word).ok().map(|code| code as u32),
-        SreAtCode::try_from(word).ok().map(|code| code as u32),
-        SreCatCode::try_from(word).ok().map(|code| code as u32),
-    )
+// Whether a word has an opcode exactly where it is below their count, and it has the word as its number.
+fn has_opcode(word: u32) -> bool {
+    match SreOpcode::try_from(word) {
+        Ok(code) => code as u32 == word && word < 43,
+        Err(_) => word >= 43,
+    }
 }
 
-// A word, where it is below a count.
-fn below(word: u32, count: u32) -> Option<u32> {
-    if word < count { Some(word) } else { None }
+// The same of the codes of positions.
+fn has_at_code(word: u32) -> bool {
+    match SreAtCode::try_from(word) {
+        Ok(code) => code as u32 == word && word < 12,
+        Err(_) => word >= 12,
+    }
+}
+
+// The same of the codes of categories.
+fn has_category_code(word: u32) -> bool {
+    match SreCatCode::try_from(word) {
+        Ok(code) => code as u32 == word && word < 18,
+        Err(_) => word >= 18,
+    }
 }
 
 #[test]
 fn codes_have_their_numbers(rt: HostRuntime) {
     for word in 0..100u32 {
-        let (opcode, at, category) = numbers(word);
-        assert!(rt; opcode == below(word, 43), "{word}");
-        assert!(rt; at == below(word, 12), "{word}");
-        assert!(rt; category == below(word, 18), "{word}");
+        assert!(rt; has_opcode(word), "{word}");
+        assert!(rt; has_at_code(word), "{word}");
+        assert!(rt; has_category_code(word), "{word}");
     }
 }

@@ -1,14 +1,13 @@
 //! The check with each request for memory refused in turn.
 
 use crate::samples::SAMPLES;
+use crate::shown::is_shown;
 use sre_chars::string::UniTable;
 use sre_code::check_in;
 use sre_code::code::CodeError;
 use sre_failing_allocator::Refusing;
-use std::alloc::Global;
+use std::alloc::{AllocError, Global};
 use std::convert::TryFrom;
-use std::process::Abort;
-use std::test::Fail;
 
 // A part round items: its opcode, what its length word counts beside the items, what stands behind that word, and what
 // stands behind the items.
@@ -22,75 +21,131 @@ static PARTS: [Around; 4] = [
     (27, 2, &[], &[1]),
 ];
 
-// Items, inside one more part.
-fn inside(
-    alloc: Global,
-    (opcode, beside, front, end): Around,
-    items: &[u32],
-) -> Result<Vec<u32>, Fail> {
-    let length = u32::try_from(items.len())?;
-    let mut words = Vec::from_slice(alloc, &[opcode, length.saturating_add(beside)])?;
+// Appends items inside one more part.
+fn push_inside(part: &Around, items: &[u32], words: &mut Vec<u32>) -> Result<(), AllocError> {
+    let (opcode, beside, front, end) = *part;
+    let length = u32::try_from(items.len()).unwrap_or(0);
+    words.extend_from_slice(&[opcode, length.saturating_add(beside)])?;
     words.extend_from_slice(front)?;
     words.extend_from_slice(items)?;
-    words.extend_from_slice(end)?;
-    Ok(words)
+    words.extend_from_slice(end)
 }
 
-// An opcode with an operand inside 40 parts of the four kinds, and as many words behind them as are given.
-fn nested(alloc: Global, opcode: u32, behind: &[u32]) -> Result<Vec<u32>, Fail> {
-    let mut words = Vec::from_slice(alloc, &[opcode, 97])?;
+// Puts items inside one more part.
+fn put_inside(alloc: Global, part: &Around, items: &mut Vec<u32>) -> Result<(), AllocError> {
+    let mut words = Vec::new(alloc);
+    push_inside(part, items.as_slice(), &mut words)?;
+    *items = words;
+    Ok(())
+}
+
+// Puts an opcode with an operand inside 40 parts of the four kinds, and words behind them.
+fn put_nested(
+    alloc: Global,
+    opcode: u32,
+    behind: &[u32],
+    words: &mut Vec<u32>,
+) -> Result<(), AllocError> {
+    words.extend_from_slice(&[opcode, 97])?;
     for _ in 0..10 {
-        for &part in &PARTS {
-            words = inside(alloc, part, &words)?;
+        for part in &PARTS {
+            put_inside(alloc, part, words)?;
         }
     }
-    words.extend_from_slice(behind)?;
-    Ok(words)
+    words.extend_from_slice(behind)
 }
 
-// Refuses each request for memory of a check in turn, until it asks for fewer: how many were refused. Else the check
-// says what is wrong with the words.
-fn refused_in_turn(
-    rt: &impl Abort,
+// Whether the request of a number is refused while words are checked. Where it is not the check says what is wrong with
+// them, and nothing is told where it says anything else.
+fn is_refused(
     alloc: Global,
     words: &[u32],
+    uni: &UniTable,
     fault: Option<CodeError>,
-) -> Result<u64, Fail> {
-    let uni = UniTable::ascii(alloc);
-    for refused in 1..20u64 {
-        let heap = Refusing::new(alloc, refused);
-        let error = check_in(&heap, words, &uni).err();
-        if heap.left() > 0 {
-            assert!(rt; error == fault, "{words:?}");
-            return Ok(refused - 1);
-        }
-        assert!(rt; error == Some(CodeError::Memory), "{words:?}");
+    refused: u64,
+) -> Option<bool> {
+    let heap = Refusing::new(alloc, refused);
+    let error = check_in(&heap, words, uni).err();
+    let is_refused = heap.left() == 0;
+    let wanted = if is_refused {
+        Some(CodeError::Memory)
+    } else {
+        fault
+    };
+    if error == wanted {
+        Some(is_refused)
+    } else {
+        None
     }
-    assert!(rt; false, "the requests have no end");
-    Ok(0)
+}
+
+// Refuses each request for memory of a check in turn, until it asks for fewer: whether the stack grew so often at
+// least, and the check then says what is wrong with the words.
+fn fails_in_turn(
+    alloc: Global,
+    words: &[u32],
+    uni: &UniTable,
+    fault: Option<CodeError>,
+    growths: u64,
+) -> bool {
+    for refused in 1..20u64 {
+        match is_refused(alloc, words, uni, fault, refused) {
+            Some(true) => {}
+            Some(false) => return refused > growths,
+            None => return false,
+        }
+    }
+    false
+}
+
+// The same of nested parts.
+fn fails_nested(
+    alloc: Global,
+    uni: &UniTable,
+    opcode: u32,
+    behind: &[u32],
+    fault: Option<CodeError>,
+) -> bool {
+    let mut words = Vec::new(alloc);
+    put_nested(alloc, opcode, behind, &mut words).is_ok()
+        && fails_in_turn(alloc, words.as_slice(), uni, fault, 4)
+}
+
+// An opcode inside 40 parts, which have 170 words beside it, the words behind them, and what is wrong with that.
+static NESTED: [(u32, &[u32], Option<CodeError>); 3] = [
+    (16, &[1], None),
+    (16, &[1, 1], Some(CodeError::TrailingWords(173))),
+    (43, &[1], Some(CodeError::UnknownOpcode(110))),
+];
+
+#[test]
+fn a_check_fails_where_memory_is_refused(rt: HostRuntime) {
+    let uni = UniTable::ascii(rt.alloc());
+    for &(opcode, behind, fault) in &NESTED {
+        assert!(rt;
+            fails_nested(rt.alloc(), &uni, opcode, behind, fault),
+            "{fault:?}"
+        );
+    }
+    assert!(rt;
+        fails_in_turn(
+            rt.alloc(),
+            &[43],
+            &uni,
+            Some(CodeError::UnknownOpcode(0)),
+            1
+        )
+    );
+    for &(words, _text) in &SAMPLES {
+        assert!(rt;
+            fails_in_turn(rt.alloc(), words, &uni, None, 1),
+            "{words:?}"
+        );
+    }
 }
 
 #[test]
-fn a_check_fails_where_memory_is_refused(rt: HostRuntime) -> Result<(), Fail> {
-    let alloc = rt.alloc();
-    let lawful = nested(alloc, 16, &[1])?;
-    let trailing = nested(alloc, 16, &[1, 1])?;
-    let unknown = nested(alloc, 43, &[1])?;
-    // words, what is wrong with them, and how often the stack grows at least
-    let cases: [(&[u32], Option<CodeError>, u64); 5] = [
-        (&[1], None, 1),
-        (&[43], Some(CodeError::UnknownOpcode(0)), 1),
-        (&lawful, None, 4),
-        (&trailing, Some(CodeError::TrailingWords(lawful.len())), 4),
-        (&unknown, Some(CodeError::UnknownOpcode(110)), 4),
-    ];
-    for (words, fault, growths) in cases {
-        assert!(rt; growths <= refused_in_turn(&rt, alloc, words, fault)?);
-    }
-    for &(words, _text) in &SAMPLES {
-        assert!(rt; refused_in_turn(&rt, alloc, words, None)? > 0);
-    }
-    let shown = format!(in alloc; "{}", CodeError::Memory)?;
-    assert!(rt; shown.as_str() == "out of memory" && CodeError::Memory.number() == 1);
-    Ok(())
+fn a_refused_check_is_told(rt: HostRuntime) {
+    let error = CodeError::Memory;
+    assert!(rt; error.number() == 1 && is_shown(rt.alloc(), &error, "out of memory"));
 }

@@ -1,14 +1,10 @@
-//! Words from trees: worked rows, which the check accepts and whose claims it confirms, parts that have none, and each
-//! request for memory refused in turn.
+//! Words from trees: worked rows with each request for memory refused in turn, the deepest part, and printed causes.
+//! Which words a tree has is a clause of `emit`, and rows of it stand beside its definitions.
 
-use sre_chars::string::UniTable;
-use sre_code::Code;
-use sre_code::code::Hints;
-use sre_emit::{EmitError, Fold, Item, OneChar, Part, RunKind, SetItem, emit, emit_in};
+use crate::shown::is_shown;
+use sre_emit::{EmitError, Fold, Item, OneChar, Part, RunKind, emit, emit_in};
 use sre_failing_allocator::Refusing;
 use std::alloc::{AllocError, Global};
-use std::process::Abort;
-use std::test::Fail;
 
 const NO_LIMIT: u32 = u32::MAX;
 
@@ -30,47 +26,18 @@ fn item(step: Step) -> Item {
     }
 }
 
-fn part(alloc: Global, steps: &[Step]) -> Result<Part, AllocError> {
-    let mut items = Vec::new(alloc);
-    for step in steps {
-        items.push(item(*step))?;
-    }
-    Ok(Part { items })
-}
+// Literals and marks, whether a block is wanted, the words, and how many requests for memory these take at least.
+type Row = (&'static [Step], bool, &'static [u32], u64);
 
-fn single(alloc: Global, item: Item) -> Result<Part, AllocError> {
-    let mut items = Vec::new(alloc);
-    items.push(item)?;
-    Ok(Part { items })
-}
-
-// Literals and marks, whether a block is wanted, the words, and the hints: the width, the prefix and LITERAL.
-type Row = (
-    &'static [Step],
-    bool,
-    &'static [u32],
-    (Option<u32>, Option<(u32, u32)>, bool),
-);
-
-static ROWS: [Row; 7] = [
-    (&[], false, &[1], (None, None, false)),
-    (
-        &[],
-        true,
-        &[14, 4, 0, 0, NO_LIMIT, 1],
-        (Some(0), None, false),
-    ),
-    (
-        &[Step::Letter(97)],
-        false,
-        &[16, 97, 1],
-        (None, None, false),
-    ),
+static ROWS: [Row; 9] = [
+    (&[], false, &[1], 1),
+    (&[], true, &[14, 4, 0, 0, NO_LIMIT, 1], 1),
+    (&[Step::Letter(97)], false, &[16, 97, 1], 1),
     (
         &[Step::Letter(97)],
         true,
         &[14, 8, 3, 1, NO_LIMIT, 1, 1, 97, 0, 16, 97, 1],
-        (Some(1), Some((1, 1)), true),
+        1,
     ),
     // ab(cd)
     (
@@ -87,13 +54,13 @@ static ROWS: [Row; 7] = [
             14, 14, 1, 4, NO_LIMIT, 4, 2, 97, 98, 99, 100, 0, 0, 0, 0, 16, 97, 16, 98, 17, 0, 16,
             99, 16, 100, 17, 1, 1,
         ],
-        (Some(4), Some((4, 2)), false),
+        1,
     ),
     (
         &[Step::Letter(97), Step::Mark(0)],
         true,
         &[14, 8, 1, 1, NO_LIMIT, 1, 1, 97, 0, 16, 97, 17, 0, 1],
-        (Some(1), Some((1, 1)), false),
+        1,
     ),
     // aabaaa, whose overlap words rise and fall
     (
@@ -110,174 +77,156 @@ static ROWS: [Row; 7] = [
             14, 18, 3, 6, NO_LIMIT, 6, 6, 97, 97, 98, 97, 97, 97, 0, 1, 0, 1, 2, 2, 16, 97, 16, 97,
             16, 98, 16, 97, 16, 97, 16, 97, 1,
         ],
-        (Some(6), Some((6, 6)), true),
+        1,
+    ),
+    // a 16 times
+    (
+        &[Step::Letter(97); 16],
+        false,
+        &[
+            16, 97, 16, 97, 16, 97, 16, 97, 16, 97, 16, 97, 16, 97, 16, 97, 16, 97, 16, 97, 16, 97,
+            16, 97, 16, 97, 16, 97, 16, 97, 16, 97, 1,
+        ],
+        5,
+    ),
+    // the literals and the overlap words are lists, too
+    (
+        &[Step::Letter(97); 16],
+        true,
+        &[
+            14, 38, 3, 16, NO_LIMIT, 16, 16, 97, 97, 97, 97, 97, 97, 97, 97, 97, 97, 97, 97, 97,
+            97, 97, 97, 0, 1, 2, 3, 4, 5, 6, 7, 8, 9, 10, 11, 12, 13, 14, 15, 16, 97, 16, 97, 16,
+            97, 16, 97, 16, 97, 16, 97, 16, 97, 16, 97, 16, 97, 16, 97, 16, 97, 16, 97, 16, 97, 16,
+            97, 16, 97, 16, 97, 1,
+        ],
+        9,
     ),
 ];
 
-// What the check confirms of words.
-fn confirmed(alloc: Global, words: &[u32]) -> Result<Hints, Fail> {
-    let uni = UniTable::ascii(alloc);
-    let code = Code::check(alloc, words, &uni)?;
-    Ok(code.hints())
-}
-
-// Whether a part has these words, and the check confirms these hints.
-fn has_words(alloc: Global, row: &Row) -> Result<bool, Fail> {
-    let (steps, with_block, wanted, (width, prefix, literal)) = *row;
-    let words = emit(alloc, &part(alloc, steps)?, with_block)?;
-    let same = Hints {
-        width,
-        prefix,
-        literal,
-        first_set: false,
-    };
-    Ok(words.as_slice() == wanted && confirmed(alloc, &words)? == same)
-}
-
-#[test]
-fn parts_have_their_words(rt: HostRuntime) -> Result<(), Fail> {
-    for row in &ROWS {
-        assert!(rt; has_words(rt.alloc(), row)?, "{:?}", row.2);
+// Appends the items of steps.
+fn push_items(steps: &[Step], items: &mut Vec<Item>) -> bool {
+    for step in steps {
+        if items.push(item(*step)).is_err() {
+            return false;
+        }
     }
-    Ok(())
+    true
 }
 
-// The branch of the empty part and of the letter a.
-fn branch(alloc: Global) -> Result<Part, AllocError> {
-    let mut parts = Vec::new(alloc);
-    parts.push(part(alloc, &[])?)?;
-    parts.push(part(alloc, &[Step::Letter(97)])?)?;
-    single(alloc, Item::Branch(parts))
+// Whether the request of a number is refused while a part is emitted; nothing where it gives other words, or an error
+// without a refusal.
+fn is_refused(
+    alloc: Global,
+    part: &Part,
+    with_block: bool,
+    wanted: &[u32],
+    refused: u64,
+) -> Option<bool> {
+    let heap = Refusing::new(alloc, refused);
+    let (is_right, is_refused) = match emit_in(&heap, part, with_block) {
+        Ok(words) => (words.as_slice() == wanted, false),
+        Err(error) => (error == EmitError::Memory, true),
+    };
+    if is_right && is_refused == (heap.left() == 0) {
+        Some(is_refused)
+    } else {
+        None
+    }
+}
+
+// Refuses each request for memory in turn: whether there are so many at least, and the words are right behind them.
+fn is_emitted(alloc: Global, part: &Part, with_block: bool, wanted: &[u32], least: u64) -> bool {
+    for refused in 1..40u64 {
+        match is_refused(alloc, part, with_block, wanted, refused) {
+            Some(true) => {}
+            Some(false) => return refused > least,
+            None => return false,
+        }
+    }
+    false
+}
+
+// The same of a row's part.
+fn has_words(alloc: Global, row: &Row) -> bool {
+    let (steps, with_block, wanted, least) = *row;
+    let mut part = Part {
+        items: Vec::new(alloc),
+    };
+    push_items(steps, &mut part.items) && is_emitted(alloc, &part, with_block, wanted, least)
 }
 
 #[test]
-fn a_branch_has_its_words(rt: HostRuntime) -> Result<(), Fail> {
-    let alloc = rt.alloc();
-    let words = emit(alloc, &branch(alloc)?, true)?;
-    let wanted = [14, 4, 0, 0, NO_LIMIT, 7, 3, 15, 7, 5, 16, 97, 15, 2, 0, 1];
-    assert!(rt; words.as_slice() == wanted.as_slice());
-    let words = emit(alloc, &branch(alloc)?, false)?;
-    assert!(rt; words.as_slice() == &wanted[5..]);
-    assert!(rt; Code::check(alloc, &words, &UniTable::ascii(alloc)).is_ok());
-    Ok(())
+fn parts_have_their_words_or_memory_is_refused(rt: HostRuntime) {
+    for row in &ROWS {
+        assert!(rt; has_words(rt.alloc(), row), "{:?}", row.2);
+    }
+}
+
+// A part of one item.
+fn single(alloc: Global, item: Item) -> Result<Part, AllocError> {
+    let mut items = Vec::new(alloc);
+    match items.push(item) {
+        Ok(()) => Ok(Part { items }),
+        Err(_) => Err(AllocError),
+    }
 }
 
 // The letter a inside so many atomic groups.
 fn nested(alloc: Global, depth: u32) -> Result<Part, AllocError> {
-    let mut inner = part(alloc, &[Step::Letter(97)])?;
+    let mut inner = single(alloc, item(Step::Letter(97)))?;
     for _ in 0..depth {
         inner = single(alloc, Item::Atomic(inner))?;
     }
     Ok(inner)
 }
 
-#[test]
-fn parts_lie_inside_a_thousand_items(rt: HostRuntime) -> Result<(), Fail> {
-    let alloc = rt.alloc();
-    let words = emit(alloc, &nested(alloc, 1000)?, false)?;
-    assert!(rt; words.len() == 3003 && words[1] == 3001);
-    assert!(rt; Code::check(alloc, &words, &UniTable::ascii(alloc)).is_ok());
-    let error = emit(alloc, &nested(alloc, 1001)?, false).err();
-    assert!(rt; error == Some(EmitError::TooDeep));
-    Ok(())
+// How many words such a part has.
+fn length_of(alloc: Global, depth: u32) -> Result<usize, EmitError> {
+    let Ok(part) = nested(alloc, depth) else {
+        return Err(EmitError::Memory);
+    };
+    match emit(alloc, &part, false) {
+        Ok(words) => Ok(words.len()),
+        Err(error) => Err(error),
+    }
 }
 
-// A set of one item in blocks, with so many block numbers, all of them 0, and so many words of bits.
-fn set_of_blocks(alloc: Global, numbers: usize, bits: usize) -> Result<Item, AllocError> {
-    let mut list: Vec<u8> = Vec::new(alloc);
-    list.resize(numbers, 0)?;
-    let mut words: Vec<u32> = Vec::new(alloc);
-    words.resize(bits, 5)?;
-    let mut set = Vec::new(alloc);
-    set.push(SetItem::BigCharset {
-        numbers: list,
-        bits: words,
-    })?;
-    Ok(Item::One(OneChar::In {
-        fold: Fold::Plain,
-        set,
-    }))
+#[test]
+fn parts_lie_inside_a_thousand_items(rt: HostRuntime) {
+    assert!(rt; length_of(rt.alloc(), 1000).ok() == Some(3003));
+    assert!(rt; length_of(rt.alloc(), 1001).err() == Some(EmitError::TooDeep));
 }
 
-// Block numbers, words of bits, and whether they are a set.
-static SETS: [(usize, usize, bool); 4] = [
-    (256, 8, true),
-    (255, 8, false),
-    (256, 7, false),
-    (256, 0, false),
-];
+// Whether a part of one item is refused as bad.
+fn is_bad(alloc: Global, item: Item) -> bool {
+    match single(alloc, item) {
+        Ok(part) => emit(alloc, &part, true).err() == Some(EmitError::BadPart),
+        Err(_) => false,
+    }
+}
 
 #[test]
-fn bad_parts_have_no_words(rt: HostRuntime) -> Result<(), Fail> {
-    let alloc = rt.alloc();
+fn bad_parts_have_no_words(rt: HostRuntime) {
     let run = Item::Run {
         kind: RunKind::Greedy,
         min: 2,
         max: 1,
         test: OneChar::Any,
     };
-    let error = emit(alloc, &single(alloc, run)?, false).err();
-    assert!(rt; error == Some(EmitError::BadPart));
-    let error = emit(alloc, &single(alloc, Item::Branch(Vec::new(alloc)))?, true).err();
-    assert!(rt; error == Some(EmitError::BadPart));
-    for &(numbers, bits, is_set) in &SETS {
-        let words = emit(
-            alloc,
-            &single(alloc, set_of_blocks(alloc, numbers, bits)?)?,
-            true,
-        );
-        match words {
-            Ok(words) => assert!(rt;
-                is_set && words.len() == 83 && words[5] == 13 && words[6] == 76
-            ),
-            Err(error) => assert!(rt; !is_set && error == EmitError::BadPart),
-        }
-    }
-    Ok(())
+    assert!(rt; is_bad(rt.alloc(), run));
+    assert!(rt; is_bad(rt.alloc(), Item::Branch(Vec::new(rt.alloc()))));
 }
 
-// A part, its words, and each request for memory refused in turn: how many there were.
-fn refusals(rt: &impl Abort, alloc: Global, part: &Part, with_block: bool) -> Result<u64, Fail> {
-    let wanted = emit(alloc, part, with_block)?;
-    for refused in 1..40u64 {
-        let heap = Refusing::new(alloc, refused);
-        match emit_in(&heap, part, with_block) {
-            Ok(words) => {
-                assert!(rt; words.as_slice() == wanted.as_slice() && heap.left() > 0);
-                return Ok(refused - 1);
-            }
-            Err(error) => assert!(rt; error == EmitError::Memory && heap.left() == 0),
-        }
-    }
-    assert!(rt; false, "the requests have no end");
-    Ok(0)
-}
+static CAUSES: [(EmitError, u32, &str); 4] = [
+    (EmitError::Memory, 1, "out of memory"),
+    (EmitError::TooLong, 2, "TooLong"),
+    (EmitError::TooDeep, 3, "TooDeep"),
+    (EmitError::BadPart, 4, "BadPart"),
+];
 
 #[test]
-fn no_words_where_memory_is_refused(rt: HostRuntime) -> Result<(), Fail> {
-    let alloc = rt.alloc();
-    let letters = part(alloc, &[Step::Letter(97); 20])?;
-    assert!(rt; refusals(&rt, alloc, &letters, false)? > 1);
-    // the literals and the overlap words are lists, too
-    assert!(rt;
-        refusals(&rt, alloc, &letters, true)?
-            > refusals(&rt, alloc, &letters, false)?.saturating_add(1)
-    );
-    assert!(rt; refusals(&rt, alloc, &branch(alloc)?, true)? > 0);
-    Ok(())
-}
-
-#[test]
-fn causes_are_told(rt: HostRuntime) -> Result<(), Fail> {
-    let rows = [
-        (EmitError::Memory, 1, "out of memory"),
-        (EmitError::TooLong, 2, "TooLong"),
-        (EmitError::TooDeep, 3, "TooDeep"),
-        (EmitError::BadPart, 4, "BadPart"),
-    ];
-    for (error, number, text) in rows {
-        let shown = format!(in rt.alloc(); "{error}")?;
-        assert!(rt; error.number() == number && shown.as_str() == text);
+fn causes_are_told(rt: HostRuntime) {
+    for &(error, number, text) in &CAUSES {
+        assert!(rt; error.number() == number && is_shown(rt.alloc(), &error, text));
     }
-    Ok(())
 }
