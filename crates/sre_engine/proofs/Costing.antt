@@ -17,6 +17,14 @@ use Rattle.sre_turns.specs.Limits.{grant}
 use Rattle.sre_machine.specs.Memos.{MemoValue}
 use Rattle.sre_machine.specs.Paying.{Remembering, weight, each_of, run_cost, RunGivenUp, RunSettles}
 
+-- a run with no outcome, where its refusal is not kept beyond it
+pub rested : {S : Type 0} {text : Ghosts S} (r : Request S text) (start : StringCursor) (m m' m'' : MemoValue)
+    (left after : ℕ) → m'' ≡ record m' { stopped = false } → RunSettles r start m m' left after
+    → RunSettles r start m m'' left after
+rested r start m m' m'' left after same run =
+    subst (λ (k : MemoValue). RunSettles r start m k left after) (sym same)
+    (record { keeping = run.keeping; closed = run.closed })
+
 -- what j runs cost, and what k more of them cost
 sum_of : (j k a s t g m : ℕ) → ((j + k) * a + (s + t) * g) * m ≡ (j * a + s * g) * m + (k * a + t * g) * m
 sum_of j k a s t g m =

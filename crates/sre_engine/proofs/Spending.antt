@@ -1,6 +1,6 @@
 -- How the turns of a search's runs add up.
-use Rattle.std.proofs.Common.{◌≡◌, ℕ, ◌+◌, ◌*◌, ◌≤◌, ◌<◌, ◌≢◌, Bool, true, refl, arith}
-use Rattle.std.proofs.Math.Nat.{mul-le-mul_right}
+use Rattle.std.proofs.Common.{◌≡◌, ℕ, ◌+◌, ◌-◌, ◌*◌, ◌≤◌, ◌<◌, ◌≢◌, Bool, true, refl, arith, add-mul}
+use Rattle.std.proofs.Math.Nat.{mul-le-mul, mul-le-mul_right}
 use Rattle.sre_model.specs.Tree.{Tree}
 use Rattle.sre_model.specs.Grammar.{Whole}
 use Rattle.sre_model.specs.Found.{Asked, subject_of}
@@ -21,24 +21,36 @@ none_spent a code given = record { each = λ t whole most within. omega arith }
 pub nothing_spent : (a : Asked) (code : Code) (given started : ℕ) → SpentUpTo a code given given started
 nothing_spent a code given started = record { each = λ t whole most within. omega arith }
 
--- a run
-pub once_spent : (a : Asked) (code : Code) (n p given left : ℕ) → p ≤ a.end
+-- a run, and those that begin again where it began
+pub once_spent : (a : Asked) (code : Code) (n p given left runs : ℕ) → p ≤ a.end
     → ((t : Tree) → Whole (words_of code) t
-    → given ≤ left + turns_of (subject_of a) (behind_items n t) p * most_each a)
-    → SpentUpTo a code given left 1
-once_spent a code n p given left inside run = record {
-  each = λ t whole most within. omega (arith, run t whole, within.each n p inside);
+    → given ≤ left + runs * (turns_of (subject_of a) (behind_items n t) p * most_each a))
+    → SpentUpTo a code given left runs
+once_spent a code n p given left runs inside run = record {
+  each = λ t whole most within.
+      let few : runs * (turns_of (subject_of a) (behind_items n t) p * most_each a) ≤ runs * most =
+      mul-le-mul (omega arith) (within.each n p inside) in
+      omega (arith, run t whole, few);
 }
 
--- another run
-pub run_spent : (a : Asked) (code : Code) (given left after before started : ℕ) → SpentUpTo a code given left before
-    → SpentUpTo a code left after 1 → started ≡ before + 1 → SpentUpTo a code given after started
-run_spent a code given left after before started old one e = record {
+-- another run, which may have begun again
+pub run_spent : (a : Asked) (code : Code) (given left after started restarted started' restarted' : ℕ)
+    → SpentUpTo a code given left (started + restarted) → SpentUpTo a code left after (1 + restarted' - restarted)
+    → started' ≡ started + 1 → restarted ≤ restarted' → SpentUpTo a code given after (started' + restarted')
+run_spent a code given left after started restarted started' restarted' old one e l = record {
   each = λ t whole most within.
       let o = old.each t whole most within in
       let n = one.each t whole most within in
-      let sum : given ≤ after + (before + 1) * most = omega (arith, o, n) in
-      rw e sum;
+      let runs : started' + restarted' ≡ (started + restarted) + (1 + restarted' - restarted) = omega (arith, e, l) in
+      rw runs (omega (arith, o, n, add-mul (started + restarted) (1 + restarted' - restarted) most));
+}
+
+-- where there were no more runs
+pub spent_by : (a : Asked) (code : Code) (given left few runs : ℕ) → SpentUpTo a code given left few → few ≤ runs
+    → SpentUpTo a code given left runs
+spent_by a code given left few runs spent l = record {
+  each = λ t whole most within.
+      omega (arith, spent.each t whole most within, mul-le-mul_right most l);
 }
 
 -- why a run is given up

@@ -6,13 +6,14 @@ use Rattle.sre_model.specs.Marks.{Marks}
 use Rattle.sre_model.specs.Found.{Asked, Match}
 
 -- what a state shows: of the last match its marks, its start and its end, and of the last search how many comparisons
--- with words of a prefix and how many runs of the machine it made
+-- with words of a prefix it made, at how many starts it began a run of the machine, and how many runs it began again
 pub record Shown : Type 0 where
   pub marks : Marks
   pub start : ℕ
   pub cursor : StringCursor
   pub compared : ℕ
   pub started : ℕ
+  pub restarted : ℕ
 
 -- a state shows a match, at whose end its cursor stands
 pub record Shows (stands : StringCursor → ℕ → Type 0) (m : Match) (s : Shown) : Type 0 where

@@ -1,6 +1,6 @@
 -- What a search counts at most.
 -- Public clauses rest on it.
-use Rattle.std.specs.Prelude.{ℕ, ◌+◌, ◌-◌, ◌*◌, ◌≡◌, ◌<◌, ◌≤◌, List, length, true, Some, None}
+use Rattle.std.specs.Prelude.{ℕ, ◌+◌, ◌-◌, ◌*◌, ◌≡◌, ◌<◌, ◌≤◌, Bool, List, length, true, false, Some, None}
 use Rattle.sre_model.specs.Tree.{Tree, SetItem}
 use Rattle.sre_model.specs.Grammar.{Whole}
 use Rattle.sre_model.specs.TurnBounds.{RunsWithin}
@@ -28,9 +28,18 @@ pub record CountsUpTo (a : Asked) (code : Code) (to seen : ℕ) (s : Shown) : Ty
   pub compared : s.compared ≤ 2 * (seen - a.start)
   pub uncompared : (hints_of code).prefix ≡ None → s.compared ≡ 0
 
+-- how many runs of the machine a search began
+abbrev pub runs_of : Shown → ℕ
+runs_of s = s.started + s.restarted
+
+-- of runs some began again: no more than there were, and none without a limit
+pub record BeginsAgain (limited : Bool) (s : Shown) : Type 0 where
+  pub few : s.restarted ≤ s.started
+  pub never : limited ≡ false → s.restarted ≡ 0
+
 -- of turns that were given, those that are left are no fewer than those that so many runs of the machine leave
-pub record SpentUpTo (a : Asked) (code : Code) (given left started : ℕ) : Type 0 where
-  pub each : (t : Tree) → Whole (words_of code) t → (most : ℕ) → RunsWithin a t most → given ≤ left + started * most
+pub record SpentUpTo (a : Asked) (code : Code) (given left runs : ℕ) : Type 0 where
+  pub each : (t : Tree) → Whole (words_of code) t → (most : ℕ) → RunsWithin a t most → given ≤ left + runs * most
 
 -- so many turns are enough to know an answer, unless memory is refused: the code is one of which all that failed is
 -- remembered, and these are more than the number that is written for it

@@ -1,5 +1,5 @@
 -- Turns one after the other: what they cost at most, where each toll that is granted is paid.
-use Rattle.std.proofs.Common.{Bool, not, min, Option, ◌≢◌, ◌/◌, ◌≡◌, ℕ, ◌+◌, ◌-◌, ◌*◌, ◌≤◌, ◌⊎◌, inl, inr, true}
+use Rattle.std.proofs.Common.{Bool, not, Option, ◌≢◌, ◌/◌, ◌≡◌, ℕ, ◌+◌, ◌-◌, ◌*◌, ◌≤◌, ◌⊎◌, inl, inr, true}
 use Rattle.std.proofs.Common.{false, List, [], length, Result, Ok, Err, IfOk, IfErr}
 use Rattle.std.proofs.Common.{refl, sym, ap, ◌∙◌, subst, arith}
 use Rattle.std.proofs.Common.{mul-le-mul, add-mul, one-mul}
@@ -261,45 +261,44 @@ module _ {S : Type 0} {text : Ghosts S} (r : Request S text) (all : List Way) (i
   }
 
 -- a run that begins again with failures kept, of which there are none yet
-module _ {S : Type 0} {text : Ghosts S} (r : Request S text) (start : StringCursor) (m : MemoValue) (given : ℕ)
+module _ {S : Type 0} {text : Ghosts S} (r : Request S text) (start : StringCursor) (m : MemoValue) (left : ℕ)
     (keeps : m.is_open ≡ true) (empty : m.kept ≡ kept_of [] [] []) where
-  pub anew_given_up : (left : ℕ) → RunGivenUp r start m given left → AnewGivenUp r start given left
-  anew_given_up left g = record {
+  pub anew_given_up : (left' : ℕ) → RunGivenUp r start m left left' → AnewGivenUp r start left left'
+  anew_given_up left' g = record {
     cost = λ pl from. elim (g.keeping pl from keeps 0 (account_none (run_of r) pl.plain (start_of r) m.kept empty)) [
       | inl refused ↦ inl refused
       | inr z ↦ inr (z.0, omega (arith, z.1), z.2)
     ];
   }
 
-  pub anew_settles : (m' : MemoValue) (stood left : ℕ) → RunSettles r start m m' given left
-      → AnewSettles r start m' given stood (min stood left)
-  anew_settles m' stood left g = record {
-    cost = λ pl from waits waited.
+  pub anew_settles : (m' : MemoValue) (left' : ℕ) → RunSettles r start m m' left left'
+      → AnewSettles r start m' left left'
+  anew_settles m' left' g = record {
+    cost = λ pl from.
         elim (g.keeping pl from keeps 0 (account_none (run_of r) pl.plain (start_of r) m.kept empty)) [
           | inl refused ↦ inl refused
-          | inr z ↦ inr (z.0, z.1, omega (arith, z.2), z.3, z.4, omega (arith, waited, z.5))
+          | inr z ↦ inr (z.0, z.1, omega (arith, z.2), z.3, z.4, z.5)
         ];
   }
 
--- and what that says of the whole run
-module _ {S : Type 0} {text : Ghosts S} (r : Request S text) (start : StringCursor) (m : MemoValue) (given : ℕ)
-    (closed : m.is_open ≡ false) where
-  pub again_given_up : (left : ℕ) → AnewGivenUp r start given left → RunGivenUp r start m given left
-  again_given_up left g = record {
+-- and what that says of the whole: the run before it was waited for
+module _ {S : Type 0} {text : Ghosts S} (r : Request S text) (start : StringCursor) (m : MemoValue)
+    (given stood left : ℕ) (closed : m.is_open ≡ false) (waited : Remembering r → given ≤ stood + m.waits) where
+  pub again_given_up : AnewGivenUp r start stood left → RunGivenUp r start m given left
+  again_given_up g = record {
     keeping = λ pl from kept n h. absurd (true≢false (sym kept ∙ closed));
     closed = λ pl from c. elim (g.cost pl from) [
       | inl refused ↦ inl refused
-      | inr z ↦ inr (z.0, z.1, omega (arith, z.2))
+      | inr z ↦ inr (z.0, z.1, omega (arith, z.2, waited pl))
     ];
   }
 
-  pub again_settles : (m' : MemoValue) (stood left : ℕ) → (Remembering r → given ≤ stood + m.waits)
-      → AnewSettles r start m' given stood left → RunSettles r start m m' given left
-  again_settles m' stood left waited g = record {
+  pub again_settles : (m' : MemoValue) → AnewSettles r start m' stood left → RunSettles r start m m' given left
+  again_settles m' g = record {
     keeping = λ pl from kept n h. absurd (true≢false (sym kept ∙ closed));
-    closed = λ pl from c. elim (g.cost pl from m.waits (waited pl)) [
+    closed = λ pl from c. elim (g.cost pl from) [
       | inl refused ↦ inl refused
-      | inr z ↦ inr (inr z)
+      | inr z ↦ inr (inr (z.0, z.1, z.2, z.3, z.4, omega (arith, z.5, waited pl)))
     ];
   }
 

@@ -2,6 +2,7 @@ pub mod Paying
 pub mod Halting
 pub mod Failing
 pub mod EndlessRuns
+pub mod LaterRuns
 pub mod Taken
 pub mod Opening
 pub mod Keeping

@@ -37,3 +37,10 @@ pub record EndsFirst {S : Type 0} {text : Ghosts S} (r : Request S text) (place 
   pub taken : AllTaken r (place + 4) p (p + low)
   pub others : MatchOption later (NotTakenAt r (place + 4) (p + low))
       (λ x. (x.position ≡ p + 1) × Standing r x × AllTaken r (place + 4) p (p + low + 1))
+
+-- the run at a place that begins later has the ends which are left behind one at p, where one character more passes
+pub record BeginsLater {S : Type 0} {text : Ghosts S} (r : Request S text) (place low p : ℕ) (later : StringCursor) :
+    Type 0 where
+  pub position : later.position + low ≡ p + 1
+  pub stands : Standing r later
+  pub taken : TakenAt r (place + 4) p

@@ -133,24 +133,19 @@ pub record RunSettles {S : Type 0} {text : Ghosts S} (r : Request S text) (start
       ⊎ ((tolls n' : ℕ) × (tolls ≤ n' * weight r pl) × HoldsBits r pl m' n' × (m'.is_open ≡ true)
       × (left ≤ left' + m.waits + run_cost r pl tolls)))
 
--- a run that began again with failures kept: as many turns as were given are no more than are left and some, if so they
--- were where it began again
-abbrev pub SpendsOn : ℕ → ℕ → ℕ → ℕ → Type 0
-SpendsOn given stood left most = given ≤ stood + most → given ≤ left + most
-
--- one that was given up
-pub record AnewGivenUp {S : Type 0} {text : Ghosts S} (r : Request S text) (start : StringCursor) (given left : ℕ) :
+-- a run that began again with failures kept, of which there were none, and was given up
+pub record AnewGivenUp {S : Type 0} {text : Ghosts S} (r : Request S text) (start : StringCursor) (left left' : ℕ) :
     Type 0 where
   pub cost : (pl : Remembering r) → start_of r ≤ start.position
       → Refused ⊎ ((tolls : ℕ) × (tolls ≤ most_bits (run_of r) pl.plain (start_of r) * weight r pl)
-      × (given ≤ left + run_cost r pl tolls))
+      × (left ≤ left' + run_cost r pl tolls))
 
 -- one with no outcome, and what the memory holds then
 pub record AnewSettles {S : Type 0} {text : Ghosts S} (r : Request S text) (start : StringCursor) (m : MemoValue)
-    (given stood left : ℕ) : Type 0 where
-  pub cost : (pl : Remembering r) → start_of r ≤ start.position → (waits : ℕ) → given ≤ stood + waits
+    (left left' : ℕ) : Type 0 where
+  pub cost : (pl : Remembering r) → start_of r ≤ start.position
       → Refused ⊎ ((tolls n : ℕ) × (tolls ≤ n * weight r pl) × HoldsBits r pl m n
-      × (m.is_open ≡ true) × (given ≤ left + waits + run_cost r pl tolls))
+      × (m.is_open ≡ true) × (left ≤ left' + run_cost r pl tolls))
 
 -- what holds of what was decided
 abbrev pub IfDecided : Decision → (Option StringCursor → Type 0) → Type 0

@@ -5,12 +5,17 @@
 //! wherever the run is come to.
 
 ghost use Rattle.std.specs.Prelude.{None, ◌≡◌, ◌+◌, ◌-◌, ◌^◌, ◌<◌, ◌≤◌, MatchOption, IfOk, true, false};
+ghost use Rattle.sre_model.specs.Grammar.{Word};
+ghost use Rattle.sre_model.specs.Ways.{unlimited};
+ghost use Rattle.sre_turns.specs.Machine.{HasRun, Advances};
 ghost use Rattle.sre_turns.specs.RunEnds.{RunsOn};
+ghost use Rattle.sre_turns.specs.declared.Point.TheVariants.{Longer};
 ghost use Rattle.sre_request.specs.Requests.{end_of};
 ghost use Rattle.sre_request.specs.Runs.{run_of, OpcodeAt, Standing, TestAt};
 ghost use Rattle.sre_machine.specs.Turns.{At, TurnOnce};
-ghost use Rattle.sre_machine.specs.EndlessRuns.{TakenAt, NotTakenAt, LacksLeast, EndsFirst};
+ghost use Rattle.sre_machine.specs.EndlessRuns.{TakenAt, NotTakenAt, LacksLeast, EndsFirst, BeginsLater};
 
+use crate::lazy_runs::{longer, one_longer};
 use crate::machine::{opcode, refuses};
 use crate::run_operands::run_operands;
 use sre_board::Board;
@@ -150,4 +155,76 @@ pub(super) fn endless_run<S: StrDrive, A: Allocator>(
     }
     board.save(Point::Instruction(operands.tail), end)?;
     Ok(Next::At(place, later))
+}
+
+// Whether a lazy run without a greatest count is at a place, which is known to hold a run.
+#[inline(always)]
+fn goes_on_lazily<S: StrDrive>(req: &Request<'_, S>, place: usize) -> bool
+    requires { TestAt req.now (place + 4) }
+    ensures lazy { result ≡ true → OpcodeAt req.now place SreOpcode.MIN_REPEAT_ONE }
+    ensures greatest { result ≡ true → Word (run_of req.now).words (place + 3) unlimited }
+{
+    if word(req, place) != SreOpcode::MIN_REPEAT_ONE as u32 {
+        return false;
+    }
+    operand(req, place, 3) as usize == MAXREPEAT
+}
+
+// Where the run at a place begins that has the ends which are left behind one of them, if there are any.
+#[inline(always)]
+fn later_start<S: StrDrive>(
+    req: &Request<'_, S>,
+    place: usize,
+    least: usize,
+    end: StringCursor,
+) -> Option<StringCursor>
+    requires test { TestAt req.now (place + 4) }
+    requires room { place + 2 ^ 33 < 2 ^ 64 }
+    requires least { least ≤ 1 }
+    requires stands { Standing req.now end }
+    ensures { MatchOption result
+        (NotTakenAt req.now (place + 4) end.position)
+        (λ later. BeginsLater req.now place least end.position later) }
+{
+    let test = one_character::opcode(req, place + 4);
+    if !takes_next(req, place + 4, test, end) {
+        return None;
+    }
+    if least == 1 {
+        return Some(end);
+    }
+    let (_character, after) = read(req, end);
+    Some(after)
+}
+
+/// The longer counts of the run at a place that were saved before failures were kept: the next of them, and the same
+/// run from later on, which has the others, so that they are looked up and tried as those of any run.
+#[inline(never)]
+pub(super) fn later_run<S: StrDrive, A: Allocator>(
+    req: &Request<'_, S>,
+    board: &mut Board<A>,
+    place: usize,
+    count: usize,
+    start: StringCursor,
+) -> Result<Next, Refusal>
+    requires { HasRun (run_of req.now) (Longer place count) start }
+    ensures { IfOk result (λ next. Advances (run_of req.now) (Longer place count) start board.old next board.new) }
+{
+    let operands = run_operands(req, place);
+    let least = operands.least;
+    if least > 1 {
+        return longer(req, board, place, count, start);
+    }
+    if !goes_on_lazily(req, place) {
+        return longer(req, board, place, count, start);
+    }
+    let test = one_character::opcode(req, place + 4);
+    let Some(end) = one_longer(req, place, operands, test, count, start) else {
+        return Ok(Next::Back);
+    };
+    let Some(later) = later_start(req, place, least, end) else {
+        return Ok(Next::At(operands.tail, end));
+    };
+    board.save(Point::Instruction(place), later)?;
+    Ok(Next::At(operands.tail, end))
 }

@@ -7,15 +7,16 @@
 ghost use Rattle.std.specs.Prelude.{◌≡◌, ℕ, ◌+◌, ◌^◌, ◌<◌, [], List, IfOk, MatchOption, true};
 ghost use Rattle.sre_model.specs.Ways.{Way};
 ghost use Rattle.sre_turns.specs.Board.{BoardValue};
-ghost use Rattle.sre_turns.specs.declared.Point.TheVariants.{Instruction};
+ghost use Rattle.sre_turns.specs.declared.Point.TheVariants.{Instruction, Longer};
 ghost use Rattle.sre_turns.specs.declared.Point.{Point};
-ghost use Rattle.sre_turns.specs.Machine.{IsAt, IsBack, Chooses, Refuses, DemandsAny};
+ghost use Rattle.sre_turns.specs.Machine.{IsAt, IsBack, Chooses, HasRun, Advances, Refuses, DemandsAny};
 ghost use Rattle.sre_model.specs.Roles.{begins_test};
 ghost use Rattle.sre_request.specs.Runs.{run_of, OpcodeAt, Standing};
 ghost use Rattle.sre_board.specs.Failures.{Remembers};
 ghost use Rattle.sre_machine.specs.Turns.{At, Turn, Retreats, Finishes};
 
 use crate::branches::{alternatives, branch};
+use crate::endless_runs::later_run;
 use crate::greedy_runs::{repeat_one, shorter_saved};
 use crate::lazy_runs::{longer, min_repeat_one};
 use crate::loops::{max_until, min_until, repeat};
@@ -223,6 +224,25 @@ pub(super) fn choose<S: StrDrive, A: Allocator>(
     Ok(Next::At(place, cursor))
 }
 
+// The longer counts of a run that were saved, while failures are kept or not.
+#[inline(always)]
+fn longer_saved<S: StrDrive, A: Allocator, const KEEPS: bool>(
+    req: &Request<'_, S>,
+    board: &mut Board<A>,
+    memo: &Memo<A>,
+    place: usize,
+    count: usize,
+    start: StringCursor,
+) -> Result<Next, Refusal>
+    requires { HasRun (run_of req.now) (Longer place count) start }
+    ensures { IfOk result (λ next. Advances (run_of req.now) (Longer place count) start board.old next board.new) }
+{
+    if KEEPS && memo.is_open() {
+        return later_run(req, board, place, count, start);
+    }
+    longer(req, board, place, count, start)
+}
+
 /// Goes on with the newest choice, if there is one. Marks of instructions that were tried are passed over: nothing came
 /// of them, which is kept where failures are.
 #[inline(always)]
@@ -252,7 +272,9 @@ pub(super) fn back<S: StrDrive, A: Allocator, const KEEPS: bool>(
                 return Ok(Some(shorter_saved(req, board, tail, count, choice.1)?));
             }
             Point::Longer(place, count) => {
-                return Ok(Some(longer(req, board, place, count, choice.1)?));
+                return Ok(Some(longer_saved::<S, A, KEEPS>(
+                    req, board, memo, place, count, choice.1,
+                )?));
             }
             Point::Again => return Ok(Some(Next::Again(choice.1))),
             Point::Inside(region) => return Ok(Some(without_outcome(board, region, choice.1))),

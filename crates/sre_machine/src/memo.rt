@@ -3,7 +3,8 @@
 //! To keep what failed costs time at each instruction, and most searches have little to gain by it. So a search goes
 //! its way without, and counts its steps back and the bodies of loops that it begins: only one that has taken 16 of
 //! these for each character of the window begins to remember. A search within turns counts these in place of its steps,
-//! twice as many for each character. In either case the run that is under way is begun again then.
+//! twice as many for each character. The run that is under way then goes on, and remembers what it tries from there on;
+//! within turns it begins again.
 
 ghost use Rattle.std.specs.Prelude.{[], ℕ, ◌≡◌, ◌+◌, ◌-◌, ◌*◌, ◌^◌, ◌<◌, ◌≤◌, true, false};
 ghost use Rattle.sre_turns.specs.Fruit.{is_inside};
@@ -94,6 +95,16 @@ impl<A: Allocator> Memo<A> {
         let window = req.end().saturating_sub(req.start());
         self.waits = window.saturating_add(1).saturating_mul(TURNS_EACH);
         self.is_open = false;
+        self.refused = None;
+    }
+
+    /// Ends a run. That memory was refused is not kept beyond it.
+    #[inline(always)]
+    pub fn rest(&mut self)
+        ensures same { self.new ≡ record self.old { stopped = false } }
+        ensures kept { self.new.kept ≡ self.old.kept }
+        ensures stopped { self.new.stopped ≡ false }
+    {
         self.refused = None;
     }
 

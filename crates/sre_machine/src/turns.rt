@@ -11,7 +11,7 @@ ghost use Rattle.sre_model.specs.TurnBounds.{turns_of, most_each};
 ghost use Rattle.sre_turns.specs.Board.{bare};
 ghost use Rattle.sre_turns.specs.Machine.{StandsWithin, SaysAccepted, Decides, outcomes};
 ghost use Rattle.sre_machine.specs.Paying.{Remembering, each_of, GivenUp, Settles, Waited, IfDecided};
-ghost use Rattle.sre_machine.specs.Paying.{RunGivenUp, RunSettles, SpendsOn, AnewGivenUp, AnewSettles};
+ghost use Rattle.sre_machine.specs.Paying.{RunGivenUp, RunSettles, AnewGivenUp, AnewSettles};
 ghost use Rattle.sre_board.specs.Failures.{Remembers};
 ghost use Rattle.sre_request.specs.Requests.{end_of, asked_of};
 ghost use Rattle.sre_request.specs.Runs.{run_of, Standing};
@@ -78,6 +78,28 @@ impl Plan for Brand {
     ghost limit = { 0 };
 }
 
+/// How many runs of the machine were begun.
+#[derive(Clone, Copy)]
+pub struct Begun {
+    /// Those at a start.
+    pub started: u64,
+    /// Those that began again at their start, since failures came to be kept in the course of a run within turns.
+    pub restarted: u64,
+}
+
+impl Begun {
+    /// No run.
+    pub fn none() -> Begun
+        ensures started { result.started ≡ 0 }
+        ensures restarted { result.restarted ≡ 0 }
+    {
+        Begun {
+            started: 0,
+            restarted: 0,
+        }
+    }
+}
+
 /// Why a run was given up.
 #[derive(Clone, Copy, Debug)]
 pub enum Halt {
@@ -103,7 +125,8 @@ impl From<Refusal> for Halt {
 pub(crate) enum Decision {
     // The whole is decided: the cursor at the first accepted outcome's end, where there is one.
     Decided(Option<StringCursor>),
-    // Failures are to be kept from now on, so the run is to begin again.
+    // Failures are to be kept from now on: by this run where its turns are not limited, and else by one that begins
+    // again.
     Opened,
 }
 
@@ -139,6 +162,7 @@ fn turns_due<S: StrDrive, A: Allocator>(
 #[inline(always)]
 fn takes_turns(limited: bool, turns: u64, left: &mut u64) -> bool
     ensures spent { left.old ≤ left.new + turns }
+    ensures fewer { left.new ≤ left.old }
     ensures taken { result ≡ true → limited ≡ true → left.old ≡ left.new + turns }
     ensures used { result ≡ false → (limited ≡ true) × (left.new ≡ 0) }
 {
@@ -195,6 +219,7 @@ fn remembering_turns<L: Ledger, K: Plan, S: StrDrive, A: Allocator>(
         (λ told. IfDecided told (λ found. Decides (run_of req.now) K.all found board.new.marks)) }
     ensures opened { memo.old.is_open ≡ true → IfOk result (λ told. told ≢ Decision.Opened) }
     ensures remembers { Remembers (run_of req.now) memo.new.kept }
+    ensures fewer { left.new ≤ left.old }
     ensures spent { left.old ≤ left.new + (K.limit + 1) * most_each (asked_of req.now) }
     ensures used { IfErr result (λ halt. halt ≡ Halt.UsedUp → (limited ≡ true) × (left.new ≡ 0)) }
     ensures given_up { IfErr result (λ halt. halt ≡ Halt.UsedUp
@@ -241,8 +266,8 @@ fn remembering_turns<L: Ledger, K: Plan, S: StrDrive, A: Allocator>(
     }
 }
 
-// The same with no limit, and with no failure kept, until the memo opens. It is one function out of line, whatever its
-// size, so that `run_behind` is inlined where a search tries its starts.
+// The same with no limit, and with no failure kept, until the memo opens: then the machine goes back. It is one function
+// out of line, whatever its size, so that `run_behind` is inlined where a search tries its starts.
 #[inline(never)]
 fn turns<L: Ledger, K: Plan, S: StrDrive, A: Allocator>(
     req: &Request<'_, S>,
@@ -258,6 +283,10 @@ fn turns<L: Ledger, K: Plan, S: StrDrive, A: Allocator>(
     ensures decides { IfOk result
         (λ told. IfDecided told (λ found. Decides (run_of req.now) K.all found board.new.marks)) }
     ensures remembers { Remembers (run_of req.now) memo.new.kept }
+    ensures opened { IfOk result (λ told. told ≡ Decision.Opened → memo.new.is_open ≡ true) }
+    ensures within { IfOk result (λ told. told ≡ Decision.Opened → turned.new ≤ K.limit) }
+    ensures stands { IfOk result (λ told. told ≡ Decision.Opened
+        → StandsWithin (run_of req.now) K.all (K.limit - turned.new) Next.Back board.new) }
     ensures used { IfErr result (λ halt. halt ≡ Halt.UsedUp → ⊥) }
 {
     let mut next = Next::At(place, start);
@@ -297,6 +326,35 @@ fn turns<L: Ledger, K: Plan, S: StrDrive, A: Allocator>(
     }
 }
 
+// Turns with no limit, of which the first keep no failure. Where failures come to be kept the run goes on: what it saved
+// before is resumed once at most, and what comes after is remembered.
+#[inline(always)]
+fn unlimited_turns<L: Ledger, K: Plan, S: StrDrive, A: Allocator>(
+    req: &Request<'_, S>,
+    board: &mut Board<A>,
+    memo: &mut Memo<A>,
+    place: usize,
+    start: StringCursor,
+    turned: &mut Turned<L>,
+) -> Result<Decision, Halt>
+    requires new { turned.old ≡ 0 }
+    requires stands { StandsWithin (run_of req.now) K.all K.limit (Next.At place start) board.old }
+    requires remembers { Remembers (run_of req.now) memo.old.kept }
+    ensures decides { IfOk result
+        (λ told. IfDecided told (λ found. Decides (run_of req.now) K.all found board.new.marks)) }
+    ensures remembers { Remembers (run_of req.now) memo.new.kept }
+    ensures decided { IfOk result (λ told. told ≢ Decision.Opened) }
+    ensures used { IfErr result (λ halt. halt ≡ Halt.UsedUp → ⊥) }
+{
+    match turns::<L, K, S, A>(req, board, memo, place, start, turned)? {
+        Decision::Decided(found) => Ok(Decision::Decided(found)),
+        Decision::Opened => {
+            let (limited, left) = (false, &mut 0);
+            remembering_turns::<L, K, S, A>(req, board, memo, Next::Back, turned, limited, left)
+        }
+    }
+}
+
 // Turns from the place behind some literals, on an empty board.
 #[inline(always)]
 fn turns_from<L: Ledger, K: Plan, S: StrDrive, A: Allocator>(
@@ -319,6 +377,8 @@ fn turns_from<L: Ledger, K: Plan, S: StrDrive, A: Allocator>(
     ensures decides { IfOk result
         (λ told. IfDecided told (λ found. Decides (run_of req.now) K.all found board.new.marks)) }
     ensures opened { memo.old.is_open ≡ true → IfOk result (λ told. told ≢ Decision.Opened) }
+    ensures unlimited { limited ≡ false → IfOk result (λ told. told ≢ Decision.Opened) }
+    ensures fewer { left.new ≤ left.old }
     ensures spent { left.old ≤ left.new + (K.limit + 1) * most_each (asked_of req.now) }
     ensures used { IfErr result (λ halt. halt ≡ Halt.UsedUp → (limited ≡ true) × (left.new ≡ 0)) }
     ensures given_up { IfErr result (λ halt. halt ≡ Halt.UsedUp
@@ -338,11 +398,11 @@ fn turns_from<L: Ledger, K: Plan, S: StrDrive, A: Allocator>(
         let first = Next::At(2 * literals, start);
         remembering_turns::<L, K, S, A>(req, board, memo, first, &mut turned, limited, left)
     } else {
-        turns::<L, K, S, A>(req, board, memo, 2 * literals, start, &mut turned)
+        unlimited_turns::<L, K, S, A>(req, board, memo, 2 * literals, start, &mut turned)
     }
 }
 
-// A run on an empty board, until it is decided or failures are to be kept.
+// A run on an empty board, which is counted, until it is decided or another is to begin with failures kept.
 #[inline(always)]
 fn run_once<S: StrDrive, A: Allocator>(
     req: &Request<'_, S>,
@@ -350,6 +410,7 @@ fn run_once<S: StrDrive, A: Allocator>(
     start: StringCursor,
     board: &mut Board<A>,
     memo: &mut Memo<A>,
+    begun: &mut u64,
     limited: bool,
     left: &mut u64,
 ) -> Result<Decision, Halt>
@@ -358,13 +419,17 @@ fn run_once<S: StrDrive, A: Allocator>(
     requires fresh { board.old ≡ bare no_marks }
     requires behind { (t : Tree) → WholeItems (run_of req.now).words t → ReadsBehind (run_of req.now).words literals t }
     requires room { 2 * literals < 2 ^ 64 }
+    requires few { begun.old + 1 < 2 ^ 64 }
     requires remembers { Remembers (run_of req.now) memo.old.kept }
     ensures remembers { Remembers (run_of req.now) memo.new.kept }
+    ensures counted { begun.new ≡ begun.old + 1 }
     ensures decides { (t : Tree) → WholeItems (run_of req.now).words t
         → IfOk result (λ told. IfDecided told
         (λ found. Decides (run_of req.now)
         (outcomes (run_of req.now) (behind_items literals t) start.position) found board.new.marks)) }
     ensures opened { memo.old.is_open ≡ true → IfOk result (λ told. told ≢ Decision.Opened) }
+    ensures unlimited { limited ≡ false → IfOk result (λ told. told ≢ Decision.Opened) }
+    ensures fewer { left.new ≤ left.old }
     ensures spent { (t : Tree) → WholeItems (run_of req.now).words t
         → left.old ≤ left.new + turns_of (run_of req.now).subject (behind_items literals t) start.position
         * most_each (asked_of req.now) }
@@ -377,6 +442,7 @@ fn run_once<S: StrDrive, A: Allocator>(
         told ≡ Decision.Opened → left.old ≤ left.new + memo.old.waits) }
 {
     know_words(req.pattern_codes().items());
+    *begun += 1;
     turns_from::<Brand, Brand, S, A>(
         req,
         board,
@@ -389,8 +455,8 @@ fn run_once<S: StrDrive, A: Allocator>(
     )
 }
 
-// Lets a run begin again on an empty board with its memo open, with as many turns as it was given at first. Of the
-// turns before and after that the more are taken. It is out of line, since few runs begin again.
+// A run that begins again on an empty board with its memo open, which is counted. It is out of line, since few runs
+// begin again.
 #[inline(never)]
 fn run_anew<S: StrDrive, A: Allocator>(
     req: &Request<'_, S>,
@@ -398,34 +464,33 @@ fn run_anew<S: StrDrive, A: Allocator>(
     start: StringCursor,
     board: &mut Board<A>,
     memo: &mut Memo<A>,
+    begun: &mut u64,
     limited: bool,
-    given: u64,
     left: &mut u64,
 ) -> Result<Option<StringCursor>, Halt>
     requires stands { Standing req.now start }
     requires inside { start.position ≤ end_of req.now }
     requires behind { (t : Tree) → WholeItems (run_of req.now).words t → ReadsBehind (run_of req.now).words literals t }
     requires room { 2 * literals < 2 ^ 64 }
+    requires few { begun.old + 1 < 2 ^ 64 }
     ensures remembers { Remembers (run_of req.now) memo.new.kept }
+    ensures counted { begun.new ≡ begun.old + 1 }
     ensures decides { (t : Tree) → WholeItems (run_of req.now).words t
         → IfOk result
         (λ found. Decides (run_of req.now)
         (outcomes (run_of req.now) (behind_items literals t) start.position) found board.new.marks) }
+    ensures fewer { left.new ≤ left.old }
     ensures spent { (t : Tree) → WholeItems (run_of req.now).words t
-        → SpendsOn given left.old left.new
-        (turns_of (run_of req.now).subject (behind_items literals t) start.position * most_each (asked_of req.now)) }
+        → left.old ≤ left.new + turns_of (run_of req.now).subject (behind_items literals t) start.position
+        * most_each (asked_of req.now) }
     ensures used { IfErr result (λ halt. halt ≡ Halt.UsedUp → (limited ≡ true) × (left.new ≡ 0)) }
-    ensures given_up { IfErr result (λ halt. halt ≡ Halt.UsedUp → AnewGivenUp req.now start given left.new) }
+    ensures given_up { IfErr result (λ halt. halt ≡ Halt.UsedUp → AnewGivenUp req.now start left.old left.new) }
     ensures settles { limited ≡ true → IfOk result (λ found. found ≡ None
-        → AnewSettles req.now start memo.new given left.old left.new) }
+        → AnewSettles req.now start memo.new left.old left.new) }
 {
-    let stood = *left;
     board.clear();
     memo.open();
-    *left = given;
-    let told = run_once(req, literals, start, board, memo, limited, left)?;
-    *left = stood.min(*left);
-    match told {
+    match run_once(req, literals, start, board, memo, begun, limited, left)? {
         Decision::Decided(found) => Ok(found),
         Decision::Opened => unreachable!(),
     }
@@ -434,8 +499,9 @@ fn run_anew<S: StrDrive, A: Allocator>(
 /// Runs the machine from a cursor behind some literals that the words begin with, on an empty board: the cursor at the
 /// end of the first accepted way of what follows these literals, whose marks are then on the board, or `None` where no
 /// way is accepted. Where it is limited it takes its turns off those that are left, and is given up where none is.
-/// Where failures come to be kept in its course it begins again, and of the turns before and after that the more are
-/// taken.
+///
+/// Where failures come to be kept in its course, it goes on with what it saved, or, where it is limited, begins again:
+/// no more turns are bounded then than were waited and those of a run that keeps failures. Each run is counted.
 #[inline(always)]
 pub fn run_behind<S: StrDrive, A: Allocator>(
     req: &Request<'_, S>,
@@ -443,6 +509,7 @@ pub fn run_behind<S: StrDrive, A: Allocator>(
     start: StringCursor,
     board: &mut Board<A>,
     memo: &mut Memo<A>,
+    begun: &mut Begun,
     limited: bool,
     left: &mut u64,
 ) -> Result<Option<StringCursor>, Halt>
@@ -451,24 +518,49 @@ pub fn run_behind<S: StrDrive, A: Allocator>(
     requires fresh { board.old ≡ bare no_marks }
     requires behind { (t : Tree) → WholeItems (run_of req.now).words t → ReadsBehind (run_of req.now).words literals t }
     requires room { 2 * literals < 2 ^ 64 }
+    requires few { begun.old.started + 1 < 2 ^ 64 }
+    requires few_restarted { begun.old.restarted + 1 < 2 ^ 64 }
     requires remembers { Remembers (run_of req.now) memo.old.kept }
     ensures remembers { Remembers (run_of req.now) memo.new.kept }
+    ensures counted { begun.new.started ≡ begun.old.started + 1 }
+    ensures restarted { (begun.old.restarted ≤ begun.new.restarted) × (begun.new.restarted ≤ begun.old.restarted + 1) }
+    ensures unlimited { limited ≡ false → begun.new.restarted ≡ begun.old.restarted }
     ensures decides { (t : Tree) → WholeItems (run_of req.now).words t
         → IfOk result
         (λ found. Decides (run_of req.now)
         (outcomes (run_of req.now) (behind_items literals t) start.position) found board.new.marks) }
+    ensures fewer { left.new ≤ left.old }
     ensures spent { (t : Tree) → WholeItems (run_of req.now).words t
-        → left.old ≤ left.new + turns_of (run_of req.now).subject (behind_items literals t) start.position
-        * most_each (asked_of req.now) }
+        → left.old ≤ left.new + (1 + begun.new.restarted - begun.old.restarted)
+        * (turns_of (run_of req.now).subject (behind_items literals t) start.position * most_each (asked_of req.now)) }
     ensures used { IfErr result (λ halt. halt ≡ Halt.UsedUp → (limited ≡ true) × (left.new ≡ 0)) }
     ensures given_up { IfErr result (λ halt. halt ≡ Halt.UsedUp
         → RunGivenUp req.now start memo.old left.old left.new) }
     ensures settles { limited ≡ true → IfOk result (λ found. found ≡ None
         → RunSettles req.now start memo.old memo.new left.old left.new) }
 {
-    let given = *left;
-    match run_once(req, literals, start, board, memo, limited, left)? {
+    match run_once(
+        req,
+        literals,
+        start,
+        board,
+        memo,
+        &mut begun.started,
+        limited,
+        left,
+    )? {
         Decision::Decided(found) => Ok(found),
-        Decision::Opened => run_anew(req, literals, start, board, memo, limited, given, left),
+        Decision::Opened => {
+            run_anew(
+                req,
+                literals,
+                start,
+                board,
+                memo,
+                &mut begun.restarted,
+                limited,
+                left,
+            )
+        }
     }
 }

@@ -144,14 +144,14 @@ fn searched_in_window<S: StrDrive>(
     state.search(req)
 }
 
-// A search is answered within more turns than all its runs can take.
+// A search is answered within more turns than all its runs can take, where each begins again.
 fn searched_within<S: StrDrive>(
     req: Request<'_, S>,
     state: &mut State<Global>,
     turns: &mut u64,
 ) -> Result<Option<bool>, SreError>
     requires { (t : Tree) → Whole (words_of (code_of req)) t
-        → (most : ℕ) × RunsWithin (asked_of req) t most × ((end_of req + 1 - start_of req) * most < turns.old) }
+        → (most : ℕ) × RunsWithin (asked_of req) t most × (2 * (end_of req + 1 - start_of req) * most < turns.old) }
     ensures told { IfOk result (λ told. told ≢ None) }
     ensures refused { OnErr result Refused }
 {

@@ -143,7 +143,7 @@ module _ (r : Run) (i low v : ℕ) (fs : List Frame) (m : Marks) (w : Opcode r.w
       go false y later = longer_stopped a b p os n past y x
 
   -- where one more character passes, they are what comes of a run from later in the stretch
-  longer_run : (n p q : ℕ) (os : List Way) (k : ℕ) → q + low ≡ p + 1
+  pub longer_run : (n p q : ℕ) (os : List Way) (k : ℕ) → q + low ≡ p + 1
       → AllPass r.subject there.test q (p + 1) → passes r.subject there.test p ≡ true
       → Runs r.words r.subject (longer_at n p) os k → Runs r.words r.subject (starts_at q) os k
   longer_run n p q os k e all_pass taken x =

@@ -36,4 +36,5 @@ pub mod Trying
 pub mod RunEnds
 pub mod LazyRunEnds
 pub mod NextRuns
+pub mod LaterRuns
 pub mod OpenMarks

@@ -106,7 +106,7 @@ tries_first r i j z c d b mv none stands all limit g = go (comes (Split y z) mv 
         )
 
 -- two spots that are come to by a turn of which so much is left
-both_fare : (r : Run) (pl : Regionless r) (limit : Limit) (n : ℕ) (x y : Spot) (cs : List Choice)
+pub both_fare : (r : Run) (pl : Regionless r) (limit : Limit) (n : ℕ) (x y : Spot) (cs : List Choice)
     → SettledIn r pl limit.start x → SettledIn r pl limit.start y
     → potential_of r.words r.subject.end x + potential_of r.words r.subject.end y + 2 ≤ n
     → Fares r pl limit n cs → FaresBoth r pl limit x y cs

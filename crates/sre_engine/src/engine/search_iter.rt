@@ -1,6 +1,6 @@
 //! The walk over all matches, one after the other.
 
-ghost use Rattle.std.specs.Prelude.{◌≡◌, true, false, IfOk, None};
+ghost use Rattle.std.specs.Prelude.{◌≡◌, ◌≤◌, true, false, IfOk, None};
 ghost use Rattle.sre_model.specs.Marks.{no_marks};
 ghost use Rattle.sre_request.specs.Requests.{start_of, code_of, asked_of, stands_in};
 
@@ -31,7 +31,7 @@ pub struct SearchIter<'a, S: StrDrive, A: Allocator + Copy> {
 
 impl<'a, S: StrDrive, A: Allocator + Copy> SearchIter<'a, S, A> {
     ghost use Rattle.sre_engine.specs.Iterators.{request_of, shown_of, has_ended, NextWithin};
-    ghost use Rattle.sre_engine.specs.Counts.{SpentUpTo, AreEnough};
+    ghost use Rattle.sre_engine.specs.Counts.{SpentUpTo, runs_of, AreEnough};
     ghost use Rattle.sre_growth.specs.Refusal.{Refused};
 
     /// The walk over the request's window. The state shows what it showed until the first item comes.
@@ -66,7 +66,8 @@ impl<'a, S: StrDrive, A: Allocator + Copy> SearchIter<'a, S, A> {
         ensures gives { NextWithin self.old result self.new }
         ensures used { IfOk result (λ told. told ≡ None → turns.new ≡ 0) }
         ensures spent { SpentUpTo (asked_of (request_of self.old)) (code_of (request_of self.old)) turns.old turns.new
-            (shown_of self.new).started }
+            (runs_of (shown_of self.new)) }
+        ensures fewer { turns.new ≤ turns.old }
         ensures enough { AreEnough (asked_of (request_of self.old)) (code_of (request_of self.old)) turns.old
             → IfOk result (λ told. told ≡ None → Refused) }
     {

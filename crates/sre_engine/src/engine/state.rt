@@ -15,7 +15,7 @@ ghost use Rattle.sre_code.specs.Codes.{words_of, hints_of};
 ghost use Rattle.sre_request.specs.Requests.{string_of, start_of, end_of, code_of, asked_of, stands_in};
 ghost use Rattle.sre_request.specs.Runs.{run_of, Standing};
 ghost use Rattle.sre_engine.specs.Answers.{Answers, AnswersAlike, Spans};
-ghost use Rattle.sre_engine.specs.Counts.{CountsUpTo, SpentUpTo, AreEnough};
+ghost use Rattle.sre_engine.specs.Counts.{CountsUpTo, SpentUpTo, BeginsAgain, runs_of, AreEnough};
 ghost use Rattle.sre_engine.specs.Halts.{Halted};
 ghost use Rattle.sre_engine.specs.Costs.{SearchGivenUp};
 ghost use Rattle.sre_machine.specs.Paying.{RunGivenUp, RunSettles};
@@ -26,7 +26,7 @@ use sre_board::{Board, Marks};
 use sre_chars::string::{StrDrive, StringCursor};
 use sre_growth::Refusal;
 use sre_machine::memo::Memo;
-use sre_machine::turns::{Halt, run_behind};
+use sre_machine::turns::{Begun, Halt, run_behind};
 use sre_request::Request;
 use std::alloc::Allocator;
 use std::marker::Model;
@@ -67,10 +67,11 @@ pub struct State<A: Allocator + Copy> {
     start: usize,
     cursor: StringCursor,
     compared: u64,
-    started: u64,
+    begun: Begun,
 }
 
 impl<A: Allocator + Copy> Model for State<A> {
+    ghost use Rattle.std.specs.Prelude.{◌≡◌, false};
     ghost use Rattle.sre_engine.specs.Answers.{Shown};
 
     ghost Value = { Shown };
@@ -80,14 +81,18 @@ impl<A: Allocator + Copy> Model for State<A> {
       start = s.start;
       cursor = s.cursor;
       compared = s.compared;
-      started = s.started;
+      started = s.begun.started;
+      restarted = s.begun.restarted;
     } };
+
+    // No refusal of an earlier search is held.
+    ghost invariant = { λ s. s.memo.stopped ≡ false };
 }
 
 // The first accepted way of what follows some literals, from a cursor and on an empty board: the cursor at its end, and
 // its marks on the board. Without a way, or with an error, the board is empty. Where the run is limited it takes its
-// turns off those that are left. What fails is remembered for the later starts of a search. No other function begins a
-// run of the machine, and this one begins one.
+// turns off those that are left. What fails is remembered for the later starts of a search. No other function begins
+// runs of the machine, and those that this one begins are counted where they begin.
 #[inline(always)]
 fn attempt<S: StrDrive, A: Allocator>(
     req: &Request<'_, S>,
@@ -95,7 +100,7 @@ fn attempt<S: StrDrive, A: Allocator>(
     start: StringCursor,
     board: &mut Board<A>,
     memo: &mut Memo<A>,
-    started: &mut u64,
+    begun: &mut Begun,
     limited: bool,
     left: &mut u64,
 ) -> Result<Option<StringCursor>, Halt>
@@ -104,10 +109,16 @@ fn attempt<S: StrDrive, A: Allocator>(
     requires fresh { board.old ≡ bare no_marks }
     requires behind { (t : Tree) → WholeItems (run_of req.now).words t → ReadsBehind (run_of req.now).words literals t }
     requires few { 2 * literals < 2 ^ 64 }
-    requires room { started.old + 1 < 2 ^ 64 }
+    requires room { begun.old.started + 1 < 2 ^ 64 }
+    requires again { begun.old.restarted ≤ begun.old.started }
     requires remembers { Remembers (run_of req.now) memo.old.kept }
     ensures remembers { Remembers (run_of req.now) memo.new.kept }
-    ensures counted { started.new ≡ started.old + 1 }
+    ensures rested { memo.new.stopped ≡ false }
+    ensures counted { begun.new.started ≡ begun.old.started + 1 }
+    ensures restarted { begun.old.restarted ≤ begun.new.restarted }
+    ensures again { begun.new.restarted ≤ begun.new.started }
+    ensures never { limited ≡ false → begun.new.restarted ≡ begun.old.restarted }
+    ensures fewer { left.new ≤ left.old }
     ensures found { (t : Tree) → Whole (words_of (code_of req.now)) t
         → IfOk result
         (λ found. Decides (run_of req.now) (outcomes (run_of req.now) (behind_items literals t) start.position) found
@@ -115,20 +126,25 @@ fn attempt<S: StrDrive, A: Allocator>(
     ensures none { result ≡ Ok None → board.new ≡ bare no_marks }
     ensures err { OnErr result (board.new ≡ bare no_marks) }
     ensures halted { IfErr result (Halted limited left.new) }
-    ensures spent { SpentUpTo (asked_of req.now) (code_of req.now) left.old left.new 1 }
+    ensures spent { SpentUpTo (asked_of req.now) (code_of req.now) left.old left.new
+        (1 + begun.new.restarted - begun.old.restarted) }
     ensures given_up { IfErr result (λ halt. halt ≡ Halt.UsedUp
         → RunGivenUp req.now start memo.old left.old left.new) }
     ensures settles { limited ≡ true → IfOk result (λ found. found ≡ None
         → RunSettles req.now start memo.old memo.new left.old left.new) }
 {
-    *started += 1;
-    match run_behind(req, literals, start, board, memo, limited, left) {
-        Ok(Some(end)) => Ok(Some(end)),
+    match run_behind(req, literals, start, board, memo, begun, limited, left) {
+        Ok(Some(end)) => {
+            memo.rest();
+            Ok(Some(end))
+        }
         Ok(None) => {
+            memo.rest();
             board.clear();
             Ok(None)
         }
         Err(halt) => {
+            memo.rest();
             board.clear();
             Err(halt)
         }
@@ -144,6 +160,7 @@ impl<A: Allocator + Copy> State<A> {
           cursor = record { position = 0; offset = 0 };
           compared = 0;
           started = 0;
+          restarted = 0;
         } }
     {
         State {
@@ -152,7 +169,7 @@ impl<A: Allocator + Copy> State<A> {
             start: 0,
             cursor: StringCursor::default(),
             compared: 0,
-            started: 0,
+            begun: Begun::none(),
         }
     }
 
@@ -185,11 +202,20 @@ impl<A: Allocator + Copy> State<A> {
         self.compared
     }
 
-    /// How many runs of the machine the last search began, one that was given up among them. Only a search counts.
+    /// At how many starts the last search began a run of the machine, one that was given up among them. Only a search
+    /// counts.
     pub fn started(&self) -> u64
         ensures { result ≡ self.now.started }
     {
-        self.started
+        self.begun.started
+    }
+
+    /// How many of these runs began a second time, since failures came to be kept in their course: only a search within
+    /// turns lets a run do so. `started` and this are all runs of the last search.
+    pub fn restarted(&self) -> u64
+        ensures { result ≡ self.now.restarted }
+    {
+        self.begun.restarted
     }
 
     /// Stands at a position of a request's text, with no marks.
@@ -200,6 +226,7 @@ impl<A: Allocator + Copy> State<A> {
         ensures cursor { S.stands (string_of req.now) self.new.cursor start }
         ensures compared { self.new.compared ≡ self.old.compared }
         ensures started { self.new.started ≡ self.old.started }
+        ensures restarted { self.new.restarted ≡ self.old.restarted }
     {
         self.board.clear();
         (self.start, self.cursor) = (start, req.string().create_cursor(start));
@@ -224,6 +251,7 @@ impl<A: Allocator + Copy> State<A> {
         ensures refused { OnErr result Refused }
         ensures compared { self.new.compared ≡ self.old.compared }
         ensures started { self.new.started ≡ self.old.started }
+        ensures restarted { self.new.restarted ≡ self.old.restarted }
     {
         let start = req.string().create_cursor(req.start());
         let limited = false;
@@ -256,13 +284,15 @@ impl<A: Allocator + Copy> State<A> {
         ensures span { IfOk result (λ told. told ≡ Some true → Spans (start_of req.now) (end_of req.now) self.new) }
         ensures no { IfOk result (λ told. told ≢ Some true → self.new.marks ≡ no_marks) }
         ensures used { IfOk result (λ told. told ≡ None → turns.new ≡ 0) }
-        ensures spent { SpentUpTo (asked_of req.now) (code_of req.now) turns.old turns.new 1 }
+        ensures spent { SpentUpTo (asked_of req.now) (code_of req.now) turns.old turns.new 2 }
+        ensures fewer { turns.new ≤ turns.old }
         ensures enough { AreEnough (asked_of req.now) (code_of req.now) turns.old
             → IfOk result (λ told. told ≡ None → Refused) }
         ensures err { OnErr result (self.new.marks ≡ no_marks) }
         ensures refused { OnErr result Refused }
         ensures compared { self.new.compared ≡ self.old.compared }
         ensures started { self.new.started ≡ self.old.started }
+        ensures restarted { self.new.restarted ≡ self.old.restarted }
     {
         let start = req.string().create_cursor(req.start());
         let limited = true;
@@ -288,12 +318,14 @@ impl<A: Allocator + Copy> State<A> {
         ensures no { IfOk result (λ b. b ≡ false → self.new.marks ≡ no_marks) }
         ensures err { OnErr result (self.new.marks ≡ no_marks) }
         ensures halted { IfErr result (Halted limited left.new) }
-        ensures spent { SpentUpTo (asked_of req.now) (code_of req.now) left.old left.new 1 }
+        ensures spent { SpentUpTo (asked_of req.now) (code_of req.now) left.old left.new 2 }
+        ensures fewer { left.new ≤ left.old }
         ensures given_up { IfErr result (λ halt. halt ≡ Halt.UsedUp → SearchGivenUp req.now left.old left.new 1) }
         ensures compared { self.new.compared ≡ self.old.compared }
         ensures started { self.new.started ≡ self.old.started }
+        ensures restarted { self.new.restarted ≡ self.old.restarted }
     {
-        let mut own = 0; // no search
+        let mut own = Begun::none(); // no search
         self.board.clear(); // of an earlier match
         self.memo.begin(req, &mut self.board);
         match attempt(
@@ -322,7 +354,7 @@ impl<A: Allocator + Copy> State<A> {
     /// flags and trees have equal answers, whatever types the texts are of.
     ///
     /// A start at which no match begins by the code's hints is passed, and `started` and `compared` tell what the
-    /// search took: at most one run at each start, none at which a confirmed width does not fit, with a confirmed
+    /// search took: at most one run at each start, which never begins again, none at which a confirmed width does not fit, with a confirmed
     /// prefix only where it stands, and with a confirmed first set only at its members; and at most two comparisons
     /// with a confirmed prefix for each character. Where the prefix is all of the code, there is no run and no error.
     ///
@@ -344,6 +376,7 @@ impl<A: Allocator + Copy> State<A> {
             (self.new.start + 1) self.new.cursor.position self.new) }
         ensures anchored { (t : Tree) → Whole (words_of (code_of req.entry)) t
             → is_anchored t ≡ true → self.new.started ≤ 1 }
+        ensures once { self.new.restarted ≡ 0 }
         ensures literal { (l k : ℕ) → (hints_of (code_of req.entry)).prefix ≡ Some (l, k)
             → (hints_of (code_of req.entry)).literal ≡ true → OnErr result ⊥ }
     {
@@ -373,6 +406,7 @@ impl<A: Allocator + Copy> State<A> {
             (self.new.start + 1) self.new.cursor.position self.new) }
         ensures anchored { (t : Tree) → Whole (words_of (code_of req.entry)) t
             → is_anchored t ≡ true → self.new.started ≤ 1 }
+        ensures once { self.new.restarted ≡ 0 }
         ensures literal { (l k : ℕ) → (hints_of (code_of req.entry)).prefix ≡ Some (l, k)
             → (hints_of (code_of req.entry)).literal ≡ true → OnErr result ⊥ }
     {
@@ -404,7 +438,9 @@ impl<A: Allocator + Copy> State<A> {
             → (start_of req.entry ≤ self.new.start) × Spans self.new.start (end_of req.entry) self.new) }
         ensures no { IfOk result (λ told. told ≢ Some true → self.new.marks ≡ no_marks) }
         ensures used { IfOk result (λ told. told ≡ None → turns.new ≡ 0) }
-        ensures spent { SpentUpTo (asked_of req.entry) (code_of req.entry) turns.old turns.new self.new.started }
+        ensures spent { SpentUpTo (asked_of req.entry) (code_of req.entry) turns.old turns.new (runs_of self.new) }
+        ensures fewer { turns.new ≤ turns.old }
+        ensures again { BeginsAgain true self.new }
         ensures enough { AreEnough (asked_of req.entry) (code_of req.entry) turns.old
             → IfOk result (λ told. told ≡ None → Refused) }
         ensures err { OnErr result (self.new.marks ≡ no_marks) }

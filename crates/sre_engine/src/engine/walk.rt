@@ -6,7 +6,7 @@ ghost use Rattle.sre_model.specs.WalkBounds.{most_matches};
 ghost use Rattle.sre_request.specs.Requests.{string_of, start_of, end_of, code_of, asked_of, stands_in};
 ghost use Rattle.sre_engine.specs.Walks.{GoesOn};
 ghost use Rattle.sre_engine.specs.Costs.{SearchGivenUp};
-ghost use Rattle.sre_engine.specs.Counts.{SpentUpTo};
+ghost use Rattle.sre_engine.specs.Counts.{SpentUpTo, BeginsAgain, runs_of};
 ghost use Rattle.sre_engine.specs.Halts.{Halted};
 ghost use Rattle.sre_engine.specs.Searches.{WalksOn, NoErrorIfLiteral};
 ghost use Rattle.sre_growth.specs.Refusal.{Refused};
@@ -42,7 +42,9 @@ pub(crate) fn step_within<S: StrDrive, A: Allocator + Copy, F: Starts<S>>(
     ensures here { stands_in req.new cursor.new (start_of req.new) }
     ensures err { OnErr result ((req.new ≡ req.old) × (state.new.marks ≡ no_marks)) }
     ensures halted { IfErr result (Halted limited left.new) }
-    ensures spent { SpentUpTo (asked_of req.old) (code_of req.old) left.old left.new state.new.started }
+    ensures spent { SpentUpTo (asked_of req.old) (code_of req.old) left.old left.new (runs_of state.new) }
+    ensures fewer { left.new ≤ left.old }
+    ensures again { BeginsAgain limited state.new }
     ensures given_up { IfErr result (λ halt. halt ≡ Halt.UsedUp
         → SearchGivenUp req.old left.old left.new state.new.started) }
     ensures once { state.new.started ≤ end_of req.old + 1 - start_of req.old }

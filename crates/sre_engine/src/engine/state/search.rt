@@ -9,7 +9,7 @@ ghost use Rattle.sre_model.specs.Found.{at_start};
 ghost use Rattle.sre_model.specs.Anchors.{is_anchored};
 ghost use Rattle.sre_code.specs.Codes.{words_of, hints_of};
 ghost use Rattle.sre_request.specs.Requests.{string_of, start_of, end_of, code_of, asked_of, stands_in};
-ghost use Rattle.sre_engine.specs.Counts.{SpentUpTo};
+ghost use Rattle.sre_engine.specs.Counts.{SpentUpTo, BeginsAgain, runs_of};
 ghost use Rattle.sre_engine.specs.Prefixed.{IsPrefix, IsLast, FitsAt};
 ghost use Rattle.sre_engine.specs.Starts.{NoneBetween};
 ghost use Rattle.sre_engine.specs.Halts.{Halted};
@@ -27,7 +27,7 @@ use crate::engine::state::{State, attempt};
 use crate::engine::told::{Starts, next_member_told, next_start_told};
 use crate::engine::widths::{is_past, last_start};
 use sre_chars::string::{StrDrive, StringCursor};
-use sre_machine::turns::Halt;
+use sre_machine::turns::{Begun, Halt};
 use sre_request::Request;
 use std::alloc::Allocator;
 
@@ -49,7 +49,9 @@ impl<A: Allocator + Copy> State<A> {
         ensures no { IfOk result (λ b. b ≡ false → self.new.marks ≡ no_marks) }
         ensures err { OnErr result (self.new.marks ≡ no_marks) }
         ensures halted { IfErr result (Halted limited left.new) }
-        ensures spent { SpentUpTo (asked_of req.now) (code_of req.now) left.old left.new self.new.started }
+        ensures spent { SpentUpTo (asked_of req.now) (code_of req.now) left.old left.new (runs_of self.new) }
+        ensures fewer { left.new ≤ left.old }
+        ensures again { BeginsAgain limited self.new }
         ensures given_up { IfErr result (λ halt. halt ≡ Halt.UsedUp
             → SearchGivenUp req.now left.old left.new self.new.started) }
         ensures counts { CountsInside req.now self.new }
@@ -87,9 +89,10 @@ impl<A: Allocator + Copy> State<A> {
         ensures no { result ≡ false → self.new.marks ≡ no_marks }
         ensures counts { CountsInside req.now self.new }
         ensures up_to_match { CountsToMatch req.now result self.new }
+        ensures none { runs_of self.new ≡ 0 }
     {
         self.board.clear(); // of an earlier search
-        (self.compared, self.started) = (0, 0);
+        (self.compared, self.begun) = (0, Begun::none());
         let mut spot = Spot {
             cursor: from,
             matched: 0,
@@ -121,7 +124,9 @@ impl<A: Allocator + Copy> State<A> {
         ensures no { IfOk result (λ b. b ≡ false → self.new.marks ≡ no_marks) }
         ensures err { OnErr result (self.new.marks ≡ no_marks) }
         ensures halted { IfErr result (Halted limited left.new) }
-        ensures spent { SpentUpTo (asked_of req.now) (code_of req.now) left.old left.new self.new.started }
+        ensures spent { SpentUpTo (asked_of req.now) (code_of req.now) left.old left.new (runs_of self.new) }
+        ensures fewer { left.new ≤ left.old }
+        ensures again { BeginsAgain limited self.new }
         ensures given_up { IfErr result (λ halt. halt ≡ Halt.UsedUp
             → SearchGivenUp req.now left.old left.new self.new.started) }
         ensures counts { CountsInside req.now self.new }
@@ -129,7 +134,7 @@ impl<A: Allocator + Copy> State<A> {
     {
         self.board.clear(); // of an earlier search
         self.memo.begin(req, &mut self.board);
-        (self.compared, self.started) = (0, 0);
+        (self.compared, self.begun) = (0, Begun::none());
         let last = last_start(req);
         let mut spot = Spot {
             cursor: from,
@@ -147,7 +152,7 @@ impl<A: Allocator + Copy> State<A> {
                 behind,
                 &mut self.board,
                 &mut self.memo,
-                &mut self.started,
+                &mut self.begun,
                 limited,
                 left,
             )? {
@@ -176,7 +181,9 @@ impl<A: Allocator + Copy> State<A> {
         ensures no { IfOk result (λ b. b ≡ false → self.new.marks ≡ no_marks) }
         ensures err { OnErr result (self.new.marks ≡ no_marks) }
         ensures halted { IfErr result (Halted limited left.new) }
-        ensures spent { SpentUpTo (asked_of req.now) (code_of req.now) left.old left.new self.new.started }
+        ensures spent { SpentUpTo (asked_of req.now) (code_of req.now) left.old left.new (runs_of self.new) }
+        ensures fewer { left.new ≤ left.old }
+        ensures again { BeginsAgain limited self.new }
         ensures given_up { IfErr result (λ halt. halt ≡ Halt.UsedUp
             → SearchGivenUp req.now left.old left.new self.new.started) }
         ensures counts { CountsInside req.now self.new }
@@ -185,7 +192,7 @@ impl<A: Allocator + Copy> State<A> {
     {
         self.board.clear(); // of an earlier search
         self.memo.begin(req, &mut self.board);
-        (self.compared, self.started) = (0, 0);
+        (self.compared, self.begun) = (0, Begun::none());
         if is_past(last_start(req), from.position()) {
             return Ok(false);
         }
@@ -195,7 +202,7 @@ impl<A: Allocator + Copy> State<A> {
             from,
             &mut self.board,
             &mut self.memo,
-            &mut self.started,
+            &mut self.begun,
             limited,
             left,
         )? {
@@ -224,7 +231,9 @@ impl<A: Allocator + Copy> State<A> {
         ensures no { IfOk result (λ b. b ≡ false → self.new.marks ≡ no_marks) }
         ensures err { OnErr result (self.new.marks ≡ no_marks) }
         ensures halted { IfErr result (Halted limited left.new) }
-        ensures spent { SpentUpTo (asked_of req.now) (code_of req.now) left.old left.new self.new.started }
+        ensures spent { SpentUpTo (asked_of req.now) (code_of req.now) left.old left.new (runs_of self.new) }
+        ensures fewer { left.new ≤ left.old }
+        ensures again { BeginsAgain limited self.new }
         ensures given_up { IfErr result (λ halt. halt ≡ Halt.UsedUp
             → SearchGivenUp req.now left.old left.new self.new.started) }
         ensures counts { CountsInside req.now self.new }
@@ -232,7 +241,7 @@ impl<A: Allocator + Copy> State<A> {
     {
         self.board.clear(); // of an earlier search
         self.memo.begin(req, &mut self.board);
-        (self.compared, self.started) = (0, 0);
+        (self.compared, self.begun) = (0, Begun::none());
         let last = last_start(req);
         let mut start = from;
         'start: loop {
@@ -248,7 +257,7 @@ impl<A: Allocator + Copy> State<A> {
                 next,
                 &mut self.board,
                 &mut self.memo,
-                &mut self.started,
+                &mut self.begun,
                 limited,
                 left,
             )? {
@@ -282,7 +291,9 @@ impl<A: Allocator + Copy> State<A> {
         ensures no { IfOk result (λ b. b ≡ false → self.new.marks ≡ no_marks) }
         ensures err { OnErr result (self.new.marks ≡ no_marks) }
         ensures halted { IfErr result (Halted limited left.new) }
-        ensures spent { SpentUpTo (asked_of req.now) (code_of req.now) left.old left.new self.new.started }
+        ensures spent { SpentUpTo (asked_of req.now) (code_of req.now) left.old left.new (runs_of self.new) }
+        ensures fewer { left.new ≤ left.old }
+        ensures again { BeginsAgain limited self.new }
         ensures given_up { IfErr result (λ halt. halt ≡ Halt.UsedUp
             → SearchGivenUp req.now left.old left.new self.new.started) }
         ensures counts { CountsInside req.now self.new }
@@ -290,7 +301,7 @@ impl<A: Allocator + Copy> State<A> {
     {
         self.board.clear(); // of an earlier search
         self.memo.begin(req, &mut self.board);
-        (self.compared, self.started) = (0, 0);
+        (self.compared, self.begun) = (0, Begun::none());
         let last = last_start(req);
         let reads_alternatives = false;
         let first = First::of_items(req.pattern_codes().items(), reads_alternatives);
@@ -306,7 +317,7 @@ impl<A: Allocator + Copy> State<A> {
             start,
             &mut self.board,
             &mut self.memo,
-            &mut self.started,
+            &mut self.begun,
             limited,
             left,
         )? {
@@ -339,6 +350,7 @@ impl<A: Allocator + Copy> State<A> {
             → NoneBetween (asked_of req.now) t (start_of req.now) tried.position
             × (at_start (asked_of req.now) t tried.position ≡ None) }
         requires once { self.old.started ≡ 1 }
+        requires again { BeginsAgain limited self.old }
         requires uncompared { self.old.compared ≡ 0 }
         requires suits { F.suits starts.old (string_of req.now) (code_of req.now) }
         ensures suits { F.suits starts.new (string_of req.now) (code_of req.now) }
@@ -347,8 +359,10 @@ impl<A: Allocator + Copy> State<A> {
         ensures no { IfOk result (λ b. b ≡ false → self.new.marks ≡ no_marks) }
         ensures err { OnErr result (self.new.marks ≡ no_marks) }
         ensures halted { IfErr result (Halted limited left.new) }
-        ensures spent { (given : ℕ) → SpentUpTo (asked_of req.now) (code_of req.now) given left.old 1
-            → SpentUpTo (asked_of req.now) (code_of req.now) given left.new self.new.started }
+        ensures spent { (given : ℕ) → SpentUpTo (asked_of req.now) (code_of req.now) given left.old (runs_of self.old)
+            → SpentUpTo (asked_of req.now) (code_of req.now) given left.new (runs_of self.new) }
+        ensures fewer { left.new ≤ left.old }
+        ensures again { BeginsAgain limited self.new }
         ensures given_up { IfErr result (λ halt. halt ≡ Halt.UsedUp
             → (given : ℕ) → SearchCosts req.now given left.old 1
             → SearchGivenUp req.now given left.new self.new.started) }
@@ -378,7 +392,7 @@ impl<A: Allocator + Copy> State<A> {
                 start,
                 &mut self.board,
                 &mut self.memo,
-                &mut self.started,
+                &mut self.begun,
                 limited,
                 left,
             )? {

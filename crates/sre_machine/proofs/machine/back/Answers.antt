@@ -75,7 +75,7 @@ returns-in-Longer-clause-next g c = λ all limit x.
     all y.0 y.2 in (
       y.0,
       y.1,
-      later_again (run_of c.args.req.now) all y.0 _ _ s.0 (c.in_ok-longer-in-Longer.ensures all
+      later_again (run_of c.args.req.now) all y.0 _ _ s.0 (c.in_ok-longer_saved-in-Longer.ensures all
           (earlier y.0) s.1),
       λ keeps. y.3 (λ none. true≢false (sym (rw none at keeps))),
     )

@@ -107,6 +107,7 @@ turn-preserved g c =
           c.takes_turns.new.left c.turns_due-turns.result (c.turn.invariant.waited w) c.waits_on.ensures.same
           (c.waits_on.ensures.waited c.if-not-waits_on.false w) c.takes_turns.ensures.spent
           (λ h. (refl, refl));
+      fewer = omega (arith, c.turn.invariant.fewer, c.takes_turns.ensures.fewer);
       spent = rw c.tick.ensures (turn_spent _ _ _ _ _ c.turn.invariant.spent
           (omega (arith, c.takes_turns.ensures.spent, c.turns_due-turns.ensures.most)));
     }
@@ -165,6 +166,7 @@ turn-preserved-in-At g c =
           c.takes_turns.new.left c.turns_due-turns.result (c.turn.invariant.waited w) c.waits_on.ensures.same
           (c.waits_on.ensures.waited c.if-not-waits_on.false w) c.takes_turns.ensures.spent
           (λ h. same_memo c.waits_on.new.memo c.instruction_or_back.new.memo (c.in_ok-next-in-At.ensures.closed h));
+      fewer = omega (arith, c.turn.invariant.fewer, c.takes_turns.ensures.fewer);
       spent = rw c.tick.ensures (turn_spent _ _ _ _ _ c.turn.invariant.spent
           (omega (arith, c.takes_turns.ensures.spent, c.turns_due-turns.ensures.most)));
     }
@@ -212,6 +214,7 @@ turn-preserved-in-Again g c =
           c.takes_turns.new.left c.turns_due-turns.result (c.turn.invariant.waited w) c.waits_on.ensures.same
           (c.waits_on.ensures.waited c.if-not-waits_on.false w) c.takes_turns.ensures.spent
           (λ h. (refl, refl));
+      fewer = omega (arith, c.turn.invariant.fewer, c.takes_turns.ensures.fewer);
       spent = rw c.tick.ensures (turn_spent _ _ _ _ _ c.turn.invariant.spent
           (omega (arith, c.takes_turns.ensures.spent, c.turns_due-turns.ensures.most)));
     }
@@ -249,6 +252,7 @@ turn-preserved-in-Some-end g c =
           c.takes_turns.new.left c.turns_due-turns.result (c.turn.invariant.waited w) c.waits_on.ensures.same
           (c.waits_on.ensures.waited c.if-not-waits_on.false w) c.takes_turns.ensures.spent
           (λ h. (refl, refl));
+      fewer = omega (arith, c.turn.invariant.fewer, c.takes_turns.ensures.fewer);
       spent = rw c.tick.ensures (turn_spent _ _ _ _ _ c.turn.invariant.spent
           (omega (arith, c.takes_turns.ensures.spent, c.turns_due-turns.ensures.most)));
     }
@@ -295,6 +299,7 @@ turn-preserved-in-Some g c =
           c.takes_turns.new.left c.turns_due-turns.result (c.turn.invariant.waited w) c.waits_on.ensures.same
           (c.waits_on.ensures.waited c.if-not-waits_on.false w) c.takes_turns.ensures.spent
           (λ h. kept_memo c.waits_on.new.memo c.back.new.memo c.in_ok-after-in-Back.ensures.same);
+      fewer = omega (arith, c.turn.invariant.fewer, c.takes_turns.ensures.fewer);
       spent = rw c.tick.ensures (turn_spent _ _ _ _ _ c.turn.invariant.spent
           (omega (arith, c.takes_turns.ensures.spent, c.turns_due-turns.ensures.most)));
     }

@@ -12,6 +12,7 @@ invariant-turn g l = record {
   stands : StandsWithin (run_of l.req) g.K.Plan.all (g.K.Plan.limit - l.turned) l.next l.board;
   follows : Follows l.req g.K.Plan.all l.fn.first l.next l.fn.board l.board l.fn.memo l.memo l.fn.turned l.turned;
   within : l.turned ≤ g.K.Plan.limit;
+  fewer : l.left ≤ l.fn.left;
   spent : l.fn.left ≤ l.left + l.turned * most_each (asked_of l.req);
   counts : Counts l.req l.fn.memo l.memo l.fn.left l.left l.turned;
   waited : l.waits ≡ true → Waited l.fn.memo l.memo l.fn.left l.left;

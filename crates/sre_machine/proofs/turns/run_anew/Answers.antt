@@ -3,15 +3,14 @@ use Rattle.sre_machine.specs.declared.turns.Decision.TheVariants.{Decided}
 use Rattle.sre_machine.proofs.Following.{anew_given_up, anew_settles, passed_up}
 use Rattle.sre_machine.proofs.turns.run_anew.Goals as goal
 
-pub returns-in_err-told-clause-given_up : goal.returns-in_err-told-clause-given_up
-returns-in_err-told-clause-given_up g c =
-    passed_up c.from_residual.result c.in_err-told.field-0.0 _ c.from_residual.ensures.1
-    (λ used. anew_given_up c.args.req.now c.args.start c.open.new.self c.args.given c.open.ensures.opened
-    c.open.ensures.empty c.run_once.new.left (c.in_err-told.ensures.given_up used))
+pub returns-in_err-found-clause-given_up : goal.returns-in_err-found-clause-given_up
+returns-in_err-found-clause-given_up g c =
+    passed_up c.from_residual.result c.in_err-found.field-0.0 _ c.from_residual.ensures.1
+    (λ used. anew_given_up c.args.req.now c.args.start c.open.new.self c.args.left.now c.open.ensures.opened
+    c.open.ensures.empty c.run_once.new.left (c.in_err-found.ensures.given_up used))
 
 pub returns-clause-settles : goal.returns-clause-settles
 returns-clause-settles g c = λ limited none.
-    rw c.min.ensures
-    (anew_settles c.args.req.now c.args.start c.open.new.self c.args.given c.open.ensures.opened
-    c.open.ensures.empty c.run_once.new.memo c.args.left.now c.run_once.new.left
-    (c.in_ok-told.ensures.settles limited (c.in-Decided.is ∙ ap Decided none)))
+    anew_settles c.args.req.now c.args.start c.open.new.self c.args.left.now c.open.ensures.opened
+    c.open.ensures.empty c.run_once.new.memo c.run_once.new.left
+    (c.in_ok-found.ensures.settles limited (c.in-Decided.is ∙ ap Decided none))

@@ -1,4 +1,6 @@
-use Rattle.std.proofs.Common.{◌≡◌, ◌≢◌, ℕ, ◌+◌, ◌-◌, Bool, List, Option, None, Result, Ok, Err, IfOk, ap, ◌∙◌, subst}
+use Rattle.std.proofs.Common.{◌≡◌, ◌≢◌, ℕ, ◌+◌, ◌-◌, ◌*◌, Bool, List, Option, None, Result, Ok, Err, IfOk, ap, ◌∙◌}
+use Rattle.std.proofs.Common.{subst, arith}
+use Rattle.sre_engine.specs.Counts.{runs_of}
 use Rattle.sre_engine.specs.Grammar.{Whole}
 use Rattle.sre_engine.specs.Codes.{words_of}
 use Rattle.sre_engine.specs.Requests.{asked_of, code_of, start_of, end_of}
@@ -20,5 +22,6 @@ returns-clause-told g c =
     let m = c.requires t.0 whole in
     answered c.search_within.new.turns c.search_within.result c.search_within.ensures.used
     (never_used_up (asked_of c.args.req) code t.0 c.args.turns.now c.search_within.new.turns
-    c.search_within.new.self.started m.0 (end_of c.args.req + 1 - start_of c.args.req) whole m.1
-    c.search_within.ensures.spent c.search_within.ensures.counts.once m.2)
+    (runs_of c.search_within.new.self) m.0 (2 * (end_of c.args.req + 1 - start_of c.args.req)) whole m.1
+    c.search_within.ensures.spent
+    (omega (arith, c.search_within.ensures.counts.once, c.search_within.ensures.again.few)) m.2)

@@ -5,6 +5,7 @@ use Rattle.sre_model.specs.Prefixes.{behind_items}
 use Rattle.sre_request.specs.Requests.{asked_of, code_of}
 use Rattle.sre_request.specs.Runs.{run_of}
 use Rattle.sre_code.proofs.Checked.{items_whole}
+use Rattle.sre_engine.proofs.Costing.{rested}
 use Rattle.sre_engine.proofs.Spending.{once_spent}
 use Rattle.sre_engine.proofs.engine.state.attempt.Goals as goal
 
@@ -24,18 +25,23 @@ returns-in-Ok-None-clause-found g c = λ t whole.
 
 pub returns-in-Ok-Some-clause-spent : goal.returns-in-Ok-Some-clause-spent
 returns-in-Ok-Some-clause-spent g c =
-    once_spent (asked_of c.args.req.now) (code_of c.args.req.now) c.args.literals c.args.start.position _ _
+    once_spent (asked_of c.args.req.now) (code_of c.args.req.now) c.args.literals c.args.start.position _ _ _
     c.requires.inside
     (λ t whole. c.run_behind.ensures.spent t (items_whole c.args.req.now.pattern_codes t whole))
 
 pub returns-in-Ok-None-clause-spent : goal.returns-in-Ok-None-clause-spent
 returns-in-Ok-None-clause-spent g c =
-    once_spent (asked_of c.args.req.now) (code_of c.args.req.now) c.args.literals c.args.start.position _ _
+    once_spent (asked_of c.args.req.now) (code_of c.args.req.now) c.args.literals c.args.start.position _ _ _
     c.requires.inside
     (λ t whole. c.run_behind.ensures.spent t (items_whole c.args.req.now.pattern_codes t whole))
 
 pub returns-in-Err-clause-spent : goal.returns-in-Err-clause-spent
 returns-in-Err-clause-spent g c =
-    once_spent (asked_of c.args.req.now) (code_of c.args.req.now) c.args.literals c.args.start.position _ _
+    once_spent (asked_of c.args.req.now) (code_of c.args.req.now) c.args.literals c.args.start.position _ _ _
     c.requires.inside
     (λ t whole. c.run_behind.ensures.spent t (items_whole c.args.req.now.pattern_codes t whole))
+
+pub returns-in-Ok-None-clause-settles : goal.returns-in-Ok-None-clause-settles
+returns-in-Ok-None-clause-settles g c = λ limited none.
+    rested c.args.req.now c.args.start c.args.memo.now c.run_behind.new.memo c.rest-in-Ok-None.new.self _ _ c.rest-in-Ok-None.ensures.same
+    (c.in-Ok-None.ensures.settles limited c.in-Ok-None.field-0-is)

@@ -57,4 +57,5 @@ returns-in_err-end-clause-given_up g c =
     let at : c.args.from.position ≡ start_of asked = search rules in
     since_given_up asked _ c.args.from _ _ _ 0 _
     (since_begin asked c.begin.new.self _ c.begin.ensures.waits c.begin.ensures.opened)
-    (c.in_err-end.ensures.given_up e) (omega (arith, at)) c.attempt.ensures.counted)
+    (c.in_err-end.ensures.given_up e) (omega (arith, at))
+    (omega (arith, c.attempt.ensures.counted, c.none.ensures.started)))

@@ -1,4 +1,4 @@
-use Rattle.std.proofs.Common.{◌≡◌, refl, subst, arith, rules}
+use Rattle.std.proofs.Common.{◌≡◌, refl, ◌∙◌, subst, arith, rules}
 use Rattle.sre_code.specs.Codes.{words_of, hints_of}
 use Rattle.sre_request.specs.Requests.{code_of, asked_of, stands_in}
 use Rattle.sre_engine.specs.Starts.{NoneUntil}
@@ -77,9 +77,13 @@ start-preserved g c =
             c.attempt.ensures.counted,
           );
       uncompared = c.start.invariant.uncompared;
+      again = c.attempt.ensures.again;
+      never = λ e. c.attempt.ensures.never e ∙ c.start.invariant.never e;
+      rested = c.attempt.ensures.rested;
+      fewer = omega (arith, c.start.invariant.fewer, c.attempt.ensures.fewer);
       spent = λ given one.
-          run_spent (asked_of asked) (code_of asked) given _ _ _ _ (c.start.invariant.spent given one)
-          c.attempt.ensures.spent c.attempt.ensures.counted;
+          run_spent (asked_of asked) (code_of asked) given _ _ _ _ _ _ (c.start.invariant.spent given one)
+          c.attempt.ensures.spent c.attempt.ensures.counted c.attempt.ensures.restarted;
       costs = λ limited.
           behind_run asked _ _ c.in-Some-next_start_told.next _ _ _ _ _ (c.start.invariant.costs limited)
           (c.in_ok-end.ensures.settles limited c.in_default-2.is)
@@ -191,11 +195,25 @@ start-init g c = record {
   fits = search rules;
   once = search rules;
   uncompared = search rules;
+  again = search rules;
+  never = search rules;
+  rested = search rules;
+  fewer = search rules;
   spent = search rules;
   costs = λ limited.
-      let one : c.self.inside.started ≡ 1 = search rules in
+      let one : c.self.inside.begun.started ≡ 1 = search rules in
       behind_begin c.args.req.now c.begin.new.self _ _ c.begin.ensures.waits c.begin.ensures.opened one;
   bars = search rules;
   suits = search rules;
   none = search rules;
 }
+
+pub returns-in_err-end-clause-spent : goal.returns-in_err-end-clause-spent
+returns-in_err-end-clause-spent g c = λ given one.
+    run_spent (asked_of c.args.req.now) (code_of c.args.req.now) given _ _ _ _ _ _ (c.start.invariant.spent given one)
+    c.attempt.ensures.spent c.attempt.ensures.counted c.attempt.ensures.restarted
+
+pub returns-in-Some-2-clause-spent : goal.returns-in-Some-2-clause-spent
+returns-in-Some-2-clause-spent g c = λ given one.
+    run_spent (asked_of c.args.req.now) (code_of c.args.req.now) given _ _ _ _ _ _ (c.start.invariant.spent given one)
+    c.attempt.ensures.spent c.attempt.ensures.counted c.attempt.ensures.restarted

@@ -1,4 +1,4 @@
-use Rattle.std.proofs.Common.{◌+◌, ◌-◌, ◌≤◌, ◌≡◌, None, ℕ, true}
+use Rattle.std.proofs.Common.{◌+◌, ◌-◌, ◌≤◌, ◌≡◌, None, ℕ, true, false}
 use Rattle.sre_model.specs.Tree.{Tree}
 use Rattle.sre_model.specs.Found.{at_start}
 use Rattle.sre_model.specs.Marks.{no_marks}
@@ -10,7 +10,7 @@ use Rattle.sre_request.specs.Requests.{string_of, start_of, end_of, code_of, ask
 use Rattle.sre_request.specs.Runs.{run_of}
 use Rattle.sre_engine.specs.Prefixed.{FitsAt}
 use Rattle.sre_engine.specs.Starts.{Bars}
-use Rattle.sre_engine.specs.Counts.{SpentUpTo}
+use Rattle.sre_engine.specs.Counts.{SpentUpTo, runs_of}
 use Rattle.sre_engine.proofs.Answering.{NoneBefore}
 use Rattle.sre_engine.proofs.Costing.{CostsBehind}
 use Rattle.sre_engine.proofs.engine.state.State.search_behind.Given as goal
@@ -23,11 +23,16 @@ invariant-start g l = record {
   fresh : l.self-inside.board ≡ bare no_marks;
   remembers : Remembers (run_of l.req) l.self-inside.memo.kept;
   fits : FitsAt l.last l.start.position;
-  once : l.self-inside.started ≤ l.start.position - start_of l.req + 1;
+  once : l.self-inside.begun.started ≤ l.start.position - start_of l.req + 1;
   uncompared : l.self-inside.compared ≡ 0;
-  spent : (given : ℕ) → SpentUpTo (asked_of l.req) (code_of l.req) given l.fn.left 1
-      → SpentUpTo (asked_of l.req) (code_of l.req) given l.left l.self-inside.started;
-  costs : l.limited ≡ true → CostsBehind l.req l.self-inside.memo l.fn.left l.left l.self-inside.started;
+  again : l.self-inside.begun.restarted ≤ l.self-inside.begun.started;
+  never : l.limited ≡ false → l.self-inside.begun.restarted ≡ 0;
+  rested : l.self-inside.memo.stopped ≡ false;
+  fewer : l.left ≤ l.fn.left;
+  spent : (given : ℕ) → SpentUpTo (asked_of l.req) (code_of l.req) given l.fn.left (runs_of l.fn.self)
+      → SpentUpTo (asked_of l.req) (code_of l.req) given l.left
+      (l.self-inside.begun.started + l.self-inside.begun.restarted);
+  costs : l.limited ≡ true → CostsBehind l.req l.self-inside.memo l.fn.left l.left l.self-inside.begun.started;
   bars : Bars (run_of l.req).words l.first;
   suits : g.F.Starts.suits l.starts (string_of l.req) (code_of l.req);
   none : (t : Tree) → Whole (words_of (code_of l.req)) t

@@ -1,4 +1,4 @@
-use Rattle.std.proofs.Common.{◌≤◌, ◌+◌, refl, subst, arith, rules}
+use Rattle.std.proofs.Common.{◌≤◌, ◌+◌, refl, ◌∙◌, subst, arith, rules}
 use Rattle.sre_code.specs.Codes.{words_of, hints_of}
 use Rattle.sre_code.proofs.Checked.{code_tree, items_whole}
 use Rattle.sre_request.specs.Requests.{code_of, asked_of, stands_in}
@@ -149,16 +149,20 @@ start-preserved g c =
           none_joined (asked_of asked) t _ _ before
           (behind.none t (items_whole asked.pattern_codes t whole) none);
       tried = λ set own.
-          members_later (asked_of asked) set c.attempt.new.started (c.in-Some.next.position + 1)
+          members_later (asked_of asked) set c.attempt.new.begun.started (c.in-Some.next.position + 1)
           c.in-Some-start_behind.behind.position (tried set own) later;
       few = omega (arith, inv.few, inv.from, next.from, c.attempt.ensures.counted, behind.next.0);
       fit =
           fit_more (asked_of asked) (code_of asked) c.last_start-last.result _ _ _ c.in-Some.next.position
           c.last_start-last.ensures fits inv.from next.from inv.few c.attempt.ensures.counted;
       uncompared = inv.uncompared;
+      again = c.attempt.ensures.again;
+      never = λ e. c.attempt.ensures.never e ∙ inv.never e;
+      rested = c.attempt.ensures.rested;
+      fewer = omega (arith, inv.fewer, c.attempt.ensures.fewer);
       spent =
-          run_spent (asked_of asked) (code_of asked) _ _ _ _ _ inv.spent c.attempt.ensures.spent
-          c.attempt.ensures.counted;
+          run_spent (asked_of asked) (code_of asked) _ _ _ _ _ _ _ inv.spent c.attempt.ensures.spent
+          c.attempt.ensures.counted c.attempt.ensures.restarted;
       costs = λ limited.
           since_run asked _ _ c.in-Some.next _ _ _ _ _ (inv.costs limited)
           (c.in_ok-end.ensures.settles limited c.in_default-2.is) (omega (arith, inv.from, next.from))
@@ -187,7 +191,27 @@ start-init g c = record {
   few = search rules;
   fit = search rules;
   uncompared = search rules;
+  again = search rules;
+  never = search rules;
+  rested = search rules;
+  fewer = search rules;
   spent = search rules;
   costs = λ limited.
-      since_begin c.args.req.now c.begin.new.self _ c.begin.ensures.waits c.begin.ensures.opened;
+      rw c.none.ensures.started
+      (since_begin c.args.req.now c.begin.new.self _ c.begin.ensures.waits c.begin.ensures.opened);
 }
+
+pub returns-in_err-end-clause-spent : goal.returns-in_err-end-clause-spent
+returns-in_err-end-clause-spent g c =
+    run_spent (asked_of c.args.req.now) (code_of c.args.req.now) _ _ _ _ _ _ _ c.start.invariant.spent
+    c.attempt.ensures.spent c.attempt.ensures.counted c.attempt.ensures.restarted
+
+pub returns-in-Some-2-clause-spent : goal.returns-in-Some-2-clause-spent
+returns-in-Some-2-clause-spent g c =
+    run_spent (asked_of c.args.req.now) (code_of c.args.req.now) _ _ _ _ _ _ _ c.start.invariant.spent
+    c.attempt.ensures.spent c.attempt.ensures.counted c.attempt.ensures.restarted
+
+pub returns-in_default-start_behind-clause-spent : goal.returns-in_default-start_behind-clause-spent
+returns-in_default-start_behind-clause-spent g c =
+    run_spent (asked_of c.args.req.now) (code_of c.args.req.now) _ _ _ _ _ _ _ c.start.invariant.spent
+    c.attempt.ensures.spent c.attempt.ensures.counted c.attempt.ensures.restarted

@@ -1,4 +1,4 @@
-use Rattle.std.proofs.Common.{◌≡◌, ◌≤◌, ◌+◌, ◌-◌, ℕ, Some, true}
+use Rattle.std.proofs.Common.{◌≡◌, ◌≤◌, ◌+◌, ◌-◌, ℕ, Some, true, false}
 use Rattle.sre_model.specs.Tree.{Tree}
 use Rattle.sre_model.specs.Marks.{no_marks}
 use Rattle.sre_model.specs.Grammar.{Whole}
@@ -22,13 +22,18 @@ invariant-start g l = record {
   remembers : Remembers (run_of l.req) l.self-inside.memo.kept;
   suits : g.F.Starts.suits l.starts (string_of l.req) (code_of l.req);
   none : (t : Tree) → Whole (words_of (code_of l.req)) t → NoneBefore (asked_of l.req) t l.start.position;
-  tried : TriedAtMembers (asked_of l.req) (words_of (code_of l.req)) l.self-inside.started l.start.position;
-  few : l.self-inside.started ≤ l.start.position - start_of l.req;
+  tried : TriedAtMembers (asked_of l.req) (words_of (code_of l.req)) l.self-inside.begun.started l.start.position;
+  few : l.self-inside.begun.started ≤ l.start.position - start_of l.req;
   fit : (w : ℕ) → (hints_of (code_of l.req)).width ≡ Some w
-      → l.self-inside.started ≤ end_of l.req + 1 - (start_of l.req + w);
+      → l.self-inside.begun.started ≤ end_of l.req + 1 - (start_of l.req + w);
   uncompared : l.self-inside.compared ≡ 0;
-  spent : SpentUpTo (asked_of l.req) (code_of l.req) l.fn.left l.left l.self-inside.started;
-  costs : l.limited ≡ true → CostsSince l.req l.self-inside.memo l.fn.left l.left l.self-inside.started;
+  again : l.self-inside.begun.restarted ≤ l.self-inside.begun.started;
+  never : l.limited ≡ false → l.self-inside.begun.restarted ≡ 0;
+  rested : l.self-inside.memo.stopped ≡ false;
+  fewer : l.left ≤ l.fn.left;
+  spent : SpentUpTo (asked_of l.req) (code_of l.req) l.fn.left l.left
+      (l.self-inside.begun.started + l.self-inside.begun.restarted);
+  costs : l.limited ≡ true → CostsSince l.req l.self-inside.memo l.fn.left l.left l.self-inside.begun.started;
 }
 
 abbrev pub decreases-start : goal.decreases-start

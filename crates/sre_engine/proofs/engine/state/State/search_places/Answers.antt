@@ -83,7 +83,7 @@ returns-then-is_past-clause-counts g c =
     let some = c.args.prefix.now.confirmed.some in
     let inv = c.place.invariant in
     let here = c.find.ensures.here in
-    let no : c.args.prefix.now.whole ≡ true → c.place.self-inside.started ≡ 0 =
+    let no : c.args.prefix.now.whole ≡ true → c.place.self-inside.begun.started ≡ 0 =
     (λ e. let never : true ≡ false = sym e ∙ c.requires.more in absurd (cc never)) in
     counts_at a (code_of asked) vs _ _ is some _ (c.place.spot.cursor.position - c.place.spot.matched) _ _ inv.few
     inv.fit
@@ -98,7 +98,7 @@ returns-clause-counts g c =
     let some = c.args.prefix.now.confirmed.some in
     let inv = c.place.invariant in
     let here = c.find.ensures.here in
-    let no : c.args.prefix.now.whole ≡ true → c.place.self-inside.started ≡ 0 =
+    let no : c.args.prefix.now.whole ≡ true → c.place.self-inside.begun.started ≡ 0 =
     (λ e. let never : true ≡ false = sym e ∙ c.requires.more in absurd (cc never)) in
     counts_at a (code_of asked) vs _ _ is some _ (c.place.spot.cursor.position - c.place.spot.matched) _ _ inv.few
     inv.fit
@@ -124,15 +124,15 @@ returns-in_err-end-clause-counts g c =
     (omega (arith, at, forward)) in
     let more = places_more a (code_of asked) vs _ _ is some c.start_of-start.result stands _ from few in
     let own = few_counted (stands_at (subject_of a) vs) a.start (c.start_of-start.result - a.start) in
-    let most : c.attempt.new.started
+    let most : c.attempt.new.begun.started
     ≤ how_many (stands_at (subject_of a) vs) a.start (c.start_of-start.result + 1 - a.start) =
     omega (arith, c.attempt.ensures.counted, more) in
     let fit : (w : ℕ) → (hints_of (code_of asked)).width ≡ Some w
-    → c.attempt.new.started ≤ a.end + 1 - (a.start + w) =
+    → c.attempt.new.begun.started ≤ a.end + 1 - (a.start + w) =
     (λ w e.
     let wide = c.last_start-last.ensures.fits c.start_of-start.result (c.is_past.ensures.fits c.if-is_past.false) w e in
     omega (arith, wide, from, few, own, c.attempt.ensures.counted)) in
-    let no : c.args.prefix.now.whole ≡ true → c.attempt.new.started ≡ 0 =
+    let no : c.args.prefix.now.whole ≡ true → c.attempt.new.begun.started ≡ 0 =
     (λ e. let never : true ≡ false = sym e ∙ c.requires.more in absurd (cc never)) in
     counts_at a (code_of asked) vs _ _ is some _ (c.start_of-start.result + 1) _ _ most fit
     no (omega (arith, stands.within)) (omega (arith, here.cost, here.front.within, here.front.from))
@@ -157,15 +157,15 @@ returns-in-Some-clause-counts g c =
     (omega (arith, at, forward)) in
     let more = places_more a (code_of asked) vs _ _ is some c.start_of-start.result stands _ from few in
     let own = few_counted (stands_at (subject_of a) vs) a.start (c.start_of-start.result - a.start) in
-    let most : c.attempt.new.started
+    let most : c.attempt.new.begun.started
     ≤ how_many (stands_at (subject_of a) vs) a.start (c.start_of-start.result + 1 - a.start) =
     omega (arith, c.attempt.ensures.counted, more) in
     let fit : (w : ℕ) → (hints_of (code_of asked)).width ≡ Some w
-    → c.attempt.new.started ≤ a.end + 1 - (a.start + w) =
+    → c.attempt.new.begun.started ≤ a.end + 1 - (a.start + w) =
     (λ w e.
     let wide = c.last_start-last.ensures.fits c.start_of-start.result (c.is_past.ensures.fits c.if-is_past.false) w e in
     omega (arith, wide, from, few, own, c.attempt.ensures.counted)) in
-    let no : c.args.prefix.now.whole ≡ true → c.attempt.new.started ≡ 0 =
+    let no : c.args.prefix.now.whole ≡ true → c.attempt.new.begun.started ≡ 0 =
     (λ e. let never : true ≡ false = sym e ∙ c.requires.more in absurd (cc never)) in
     counts_at a (code_of asked) vs _ _ is some _ (c.start_of-start.result + 1) _ _ most fit
     no (omega (arith, stands.within)) (omega (arith, here.cost, here.front.within, here.front.from))
@@ -242,15 +242,15 @@ returns-in-Some-clause-up_to_match g c = λ _.
     (omega (arith, at, forward)) in
     let more = places_more a (code_of asked) vs _ _ is some c.start_of-start.result stands _ from few in
     let own = few_counted (stands_at (subject_of a) vs) a.start (c.start_of-start.result - a.start) in
-    let most : c.attempt.new.started
+    let most : c.attempt.new.begun.started
     ≤ how_many (stands_at (subject_of a) vs) a.start (c.start_of-start.result + 1 - a.start) =
     omega (arith, c.attempt.ensures.counted, more) in
     let fit : (w : ℕ) → (hints_of (code_of asked)).width ≡ Some w
-    → c.attempt.new.started ≤ a.end + 1 - (a.start + w) =
+    → c.attempt.new.begun.started ≤ a.end + 1 - (a.start + w) =
     (λ w e.
     let wide = c.last_start-last.ensures.fits c.start_of-start.result (c.is_past.ensures.fits c.if-is_past.false) w e in
     omega (arith, wide, from, few, own, c.attempt.ensures.counted)) in
-    let no : c.args.prefix.now.whole ≡ true → c.attempt.new.started ≡ 0 =
+    let no : c.args.prefix.now.whole ≡ true → c.attempt.new.begun.started ≡ 0 =
     (λ e. let never : true ≡ false = sym e ∙ c.requires.more in absurd (cc never)) in
     let tree = code_tree (words_of (code_of asked)) (hints_of (code_of asked)) (code_of asked).checked in
     let behind : c.behind_literals-behind.result.position ≡ c.start_of-start.result + c.args.prefix.now.literals =
@@ -284,11 +284,11 @@ place-preserved g c =
     (omega (arith, at, forward)) in
     let more = places_more a (code_of asked) vs _ _ is some c.start_of-start.result stands _ from few in
     let own = few_counted (stands_at (subject_of a) vs) a.start (c.start_of-start.result - a.start) in
-    let most : c.attempt.new.started
+    let most : c.attempt.new.begun.started
     ≤ how_many (stands_at (subject_of a) vs) a.start (c.start_of-start.result + 1 - a.start) =
     omega (arith, c.attempt.ensures.counted, more) in
     let fit : (w : ℕ) → (hints_of (code_of asked)).width ≡ Some w
-    → c.attempt.new.started ≤ a.end + 1 - (a.start + w) =
+    → c.attempt.new.begun.started ≤ a.end + 1 - (a.start + w) =
     (λ w e.
     let wide = c.last_start-last.ensures.fits c.start_of-start.result (c.is_past.ensures.fits c.if-is_past.false) w e in
     omega (arith, wide, from, few, own, c.attempt.ensures.counted)) in
@@ -318,8 +318,13 @@ place-preserved g c =
           none_unplaced a (code_of asked) vs _ _ is some t whole _ _ (none_further a t _ before none) passed;
       few = places_later a (code_of asked) vs _ _ is some _ _ _ most passed.forward;
       fit = fit;
+      again = c.attempt.ensures.again;
+      never = λ e. c.attempt.ensures.never e ∙ inv.never e;
+      rested = c.attempt.ensures.rested;
+      fewer = omega (arith, inv.fewer, c.attempt.ensures.fewer);
       spent =
-          run_spent a (code_of asked) _ _ _ _ _ inv.spent c.attempt.ensures.spent c.attempt.ensures.counted;
+          run_spent a (code_of asked) _ _ _ _ _ _ _ inv.spent c.attempt.ensures.spent c.attempt.ensures.counted
+          c.attempt.ensures.restarted;
       costs = λ limited.
           let behind : a.start ≤ c.behind_literals-behind.result.position =
           omega (arith, from, c.behind_literals-behind.ensures.position, c.start_of-start.ensures) in
@@ -353,7 +358,22 @@ place-init g c = record {
   none = search rules;
   few = search rules;
   fit = search rules;
+  again = search rules;
+  never = search rules;
+  rested = search rules;
+  fewer = search rules;
   spent = search rules;
   costs = λ limited.
-      since_begin c.args.req.now c.begin.new.self _ c.begin.ensures.waits c.begin.ensures.opened;
+      rw c.none.ensures.started
+      (since_begin c.args.req.now c.begin.new.self _ c.begin.ensures.waits c.begin.ensures.opened);
 }
+
+pub returns-in_err-end-clause-spent : goal.returns-in_err-end-clause-spent
+returns-in_err-end-clause-spent g c =
+    run_spent (asked_of c.args.req.now) (code_of c.args.req.now) _ _ _ _ _ _ _ c.place.invariant.spent
+    c.attempt.ensures.spent c.attempt.ensures.counted c.attempt.ensures.restarted
+
+pub returns-in-Some-clause-spent : goal.returns-in-Some-clause-spent
+returns-in-Some-clause-spent g c =
+    run_spent (asked_of c.args.req.now) (code_of c.args.req.now) _ _ _ _ _ _ _ c.place.invariant.spent
+    c.attempt.ensures.spent c.attempt.ensures.counted c.attempt.ensures.restarted

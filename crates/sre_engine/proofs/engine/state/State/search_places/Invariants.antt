@@ -1,4 +1,4 @@
-use Rattle.std.proofs.Common.{◌≡◌, ◌≤◌, ◌+◌, ◌-◌, ℕ, Some, true}
+use Rattle.std.proofs.Common.{◌≡◌, ◌≤◌, ◌+◌, ◌-◌, ℕ, Some, true, false}
 use Rattle.sre_model.specs.Tree.{Tree}
 use Rattle.sre_model.specs.Marks.{no_marks}
 use Rattle.sre_model.specs.Grammar.{Whole}
@@ -24,13 +24,18 @@ invariant-place g l = record {
   remembers : Remembers (run_of l.req) l.self-inside.memo.kept;
   none : (t : Tree) → Whole (words_of (code_of l.req)) t
       → NoneBefore (asked_of l.req) t (l.spot.cursor.position - l.spot.matched);
-  few : l.self-inside.started
+  few : l.self-inside.begun.started
       ≤ how_many (stands_at (subject_of (asked_of l.req)) l.prefix.words.now) (start_of l.req)
       (l.spot.cursor.position - l.spot.matched - start_of l.req);
   fit : (w : ℕ) → (hints_of (code_of l.req)).width ≡ Some w
-      → l.self-inside.started ≤ end_of l.req + 1 - (start_of l.req + w);
-  spent : SpentUpTo (asked_of l.req) (code_of l.req) l.fn.left l.left l.self-inside.started;
-  costs : l.limited ≡ true → CostsSince l.req l.self-inside.memo l.fn.left l.left l.self-inside.started;
+      → l.self-inside.begun.started ≤ end_of l.req + 1 - (start_of l.req + w);
+  again : l.self-inside.begun.restarted ≤ l.self-inside.begun.started;
+  never : l.limited ≡ false → l.self-inside.begun.restarted ≡ 0;
+  rested : l.self-inside.memo.stopped ≡ false;
+  fewer : l.left ≤ l.fn.left;
+  spent : SpentUpTo (asked_of l.req) (code_of l.req) l.fn.left l.left
+      (l.self-inside.begun.started + l.self-inside.begun.restarted);
+  costs : l.limited ≡ true → CostsSince l.req l.self-inside.memo l.fn.left l.left l.self-inside.begun.started;
 }
 
 abbrev pub decreases-place : goal.decreases-place

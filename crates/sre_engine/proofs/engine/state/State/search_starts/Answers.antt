@@ -72,7 +72,8 @@ returns-in_err-end-clause-given_up g c =
     let at : c.args.from.position ≡ start_of asked = search rules in
     since_given_up asked _ c.in-Some.start _ _ _ 0 _
     (since_begin asked c.begin.new.self _ c.begin.ensures.waits c.begin.ensures.opened)
-    (c.in_err-end.ensures.given_up e) (omega (arith, at, c.in-Some.ensures.next.after)) c.attempt.ensures.counted)
+    (c.in_err-end.ensures.given_up e) (omega (arith, at, c.in-Some.ensures.next.after))
+    (omega (arith, c.attempt.ensures.counted, c.none.ensures.started)))
 
 pub returns-clause-given_up : goal.returns-clause-given_up
 returns-clause-given_up g c =

@@ -64,6 +64,12 @@ returns-then-may_end-clause-ok g c = λ t whole.
     answers_yes (stands_in asked) _ c.start_of.result c.find.new.spot.cursor _ refl refl c.find.ensures.stands
     (found_first a t _ _ before found_ from (omega (arith, stands.within)) refl)
 
+pub returns-then-may_end-clause-none : goal.returns-then-may_end-clause-none
+returns-then-may_end-clause-none g c = omega (arith, c.place.invariant.idle, c.place.invariant.calm)
+
+pub returns-clause-none : goal.returns-clause-none
+returns-clause-none g c = omega (arith, c.place.invariant.idle, c.place.invariant.calm)
+
 pub place-preserved : goal.place-preserved
 place-preserved g c =
     let asked = c.args.req.now in
@@ -82,6 +88,8 @@ place-preserved g c =
       here = on.here;
       fresh = search rules;
       idle = inv.idle;
+      calm = inv.calm;
+      rested = inv.rested;
       none = λ t whole.
           let stands = complete a.text vs a.start a.end _ _ _ here there.0 in
           let before = none_unplaced a (code_of asked) vs _ _ is some t whole _ _ (inv.none t whole) there.1 in

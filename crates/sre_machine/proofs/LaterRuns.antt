@@ -1,0 +1,64 @@
+-- The ends that are left of a lazy run, where failures are kept by now: the next of them, and the same run later on.
+use Rattle.std.proofs.Common.{◌≡◌, ℕ, ◌+◌, ◌≤◌, true, List, ◌∷◌, refl, sym, subst, arith}
+use Rattle.sre_chars.specs.declared.string.StrDrive.{Ghosts}
+use Rattle.sre_chars.specs.declared.string.StringCursor.{StringCursor}
+use Rattle.sre_chars.specs.declared.constants.SreOpcode.TheVariants as opcode
+use Rattle.sre_model.specs.Grammar.{Word, word}
+use Rattle.sre_model.specs.Standing.{HasTest}
+use Rattle.sre_model.specs.Subject.{passes}
+use Rattle.sre_model.specs.Ways.{Way, unlimited}
+use Rattle.sre_model.proofs.Words.{word_there}
+use Rattle.sre_turns.specs.Board.{BoardValue, Else}
+use Rattle.sre_turns.specs.Limits.{Limit}
+use Rattle.sre_turns.specs.Machine.{Goes, Later, SkipsBoth, spot}
+use Rattle.sre_turns.specs.declared.Next.TheVariants as next
+use Rattle.sre_turns.specs.declared.Point.TheVariants.{Instruction, Longer}
+use Rattle.sre_turns.proofs.LaterRuns.{later_goes}
+use Rattle.sre_turns.proofs.LazyRunEnds.{longer_stops}
+use Rattle.sre_turns.proofs.Moving.{both_first, run_nothing}
+use Rattle.sre_turns.proofs.NextRuns.{both_wait_there}
+use Rattle.sre_turns.proofs.StepsInRuns.{longer_past, operands_within}
+use Rattle.sre_request.specs.declared.request.Request.{Request}
+use Rattle.sre_request.specs.Runs.{run_of, OpcodeAt}
+use Rattle.sre_machine.specs.Runs.{AreOperands}
+use Rattle.sre_machine.specs.EndlessRuns.{BeginsLater, NotTakenAt}
+use Rattle.sre_machine.specs.declared.run_operands.RunOperands.{RunOperands}
+
+module _ {S : Type 0} {text : Ghosts S} (r : Request S text) (place count : ℕ) (o : RunOperands)
+    (read : AreOperands r place o) (w : OpcodeAt r place opcode.MIN_REPEAT_ONE)
+    (wh : Word (run_of r).words (place + 3) unlimited) (start end : StringCursor)
+    (skips : SkipsBoth (run_of r) (Longer place count) start (Instruction o.tail) (Longer place (count + 1)) end)
+  where
+    abbrev there : HasTest (run_of r).words (place + 4)
+    there = read.operands.test
+
+    wv : Word (run_of r).words (place + 1) (word (run_of r).words (place + 1))
+    wv = word_there (run_of r).words (place + 1) (omega (arith, operands_within (run_of r).words place there))
+
+    -- none is left
+    pub last_end : (b : BoardValue) → NotTakenAt r (place + 4) end.position → (all : List Way) (limit : Limit)
+        → Goes (run_of r) all limit (Longer place count) start b
+        → Later (run_of r) all limit (next.At o.tail end) b
+    last_end b stopped all limit g =
+        both_first (run_of r) (spot (Longer place (count + 1)) end b) o.tail end b b.choices
+        (λ os n x. run_nothing (longer_stops (run_of r) place o.least (word (run_of r).words (place + 1)) b.frames b.marks
+        w there wv read.operands.lowest wh (count + 1) end.position
+        (longer_past (run_of r) place (count + 1) end skips.others) (stopped there.end there.test there.stands)) x) refl
+        all limit (skips.skips b all limit g)
+
+    -- the others wait
+    pub others_wait : (b b' : BoardValue) (later : StringCursor) → o.least ≤ 1 → BeginsLater r place o.least end.position
+        later → b' ≡ record b { choices = Else (Instruction place) b.frames later b.marks ∷ b.choices }
+        → (all : List Way) (limit : Limit) → Goes (run_of r) all limit (Longer place count) start b
+        → Later (run_of r) all limit (next.At o.tail end) b'
+    others_wait b b' later few e saved all limit g =
+        let taken = e.taken there.end there.test there.stands in
+        subst (λ d. Later (run_of r) all limit (next.At o.tail end) d) (sym saved)
+        (both_wait_there (run_of r) o.tail (spot (Instruction place) later b) end later b
+        (record b { choices = Else (Instruction place) b.frames later b.marks ∷ b.choices }) b.choices refl e.stands
+        refl all limit
+        (later_goes (run_of r) place o.least (word (run_of r).words (place + 1)) b.frames b.marks w there wv
+        read.operands.lowest wh (count + 1) end.position later.position e.position (omega (arith, e.position, few))
+        (λ c from to. subst (λ z. passes (run_of r).subject there.test z ≡ true)
+        (omega (arith, from, to, e.position, few)) taken) taken all limit (spot (Instruction o.tail) end b) end b.choices
+        (skips.skips b all limit g)))
