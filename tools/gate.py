@@ -5,9 +5,10 @@
 
 It looks whether tests, cases, seal and pictures stand (`standing.py`). `rt ci` proves each crate and its tests, or
 takes over what an earlier run on this machine proved of the same files, tries the must-fail edits, and runs the tests
-and the stored runs. Once the crates below a crate are proved, its wrong bodies are tried (`wrong_bodies.py`), where
-cores are idle; one that an earlier run judged of the same texts stays judged (`judged.py`), but for GATE_ANEW=1. In the
-end the programs answer the case files and made lines (`cases.py`); with `cases` they do that alone, over what an
+and the stored runs: each test that the sources count, and each program as both compilers build it. Once the crates
+below a crate are proved, its wrong bodies are tried (`wrong_bodies.py`), and beside them one function as it is, where
+cores are idle; one that an earlier run judged of the same texts stays judged (`judged.py`), but for GATE_ANEW=1.
+In the end the programs answer the case files and made lines (`cases.py`); with `cases` they do that alone, over what an
 earlier run or `rt run` left. The gate tells what it ran on and what it took over, the minutes of each phase, by the
 clock and of processors, the dearest checks, and the dearest functions of the bundles, right or wrong (those of a crate
 or its tests: `dearest.py`). The last line counts what passed.
@@ -34,6 +35,12 @@ PRINTING = threading.Lock()
 
 # How `rt ci` tells that an edit says nothing of a contract.
 SAYS_NOTHING = "only because a proof file names what the edit took away"
+
+# How it tells that a crate's tests have run, and that a program has, as one of the compilers built it.
+TESTS_RAN = re.compile(r"rt: (\w+): its tests passed")
+PROGRAM_RAN = re.compile(
+    r"rt: (\w+) ran(?: \((built by Rattle's own compiler)[^)]*\))?, and wrote what its file stdout has"
+)
 
 
 def tell(line):
@@ -130,11 +137,41 @@ class Checks:
             tell(f"dearest checks: {minutes(seconds)} {kind} of {name}")
 
 
+class Ran:
+    """The tests and the programs that `rt ci` has run, by its lines."""
+
+    def __init__(self):
+        self.heard, self.tests, self.compilers = 0, {}, {}
+
+    def hear(self, line):
+        self.heard += bool(re.fullmatch(r"test .* \.\.\. ok", line))
+        tests, program = TESTS_RAN.fullmatch(line), PROGRAM_RAN.fullmatch(line)
+        if tests:
+            # its tests stand before this line
+            self.tests[tests[1]], self.heard = self.heard, 0
+        elif program:
+            self.compilers.setdefault(program[1], set()).add(program[2])
+
+    def by_both(self):
+        """The programs that have run as both compilers build them."""
+        return [name for name, compilers in self.compilers.items() if len(compilers) == 2]
+
+    def lacking(self):
+        """What the sources count, and what did not run so."""
+        for what, number in standing.counted().items():
+            name, _, kind = what.partition(" ")
+            if kind == "tests" and self.tests.get(name) != number:
+                yield f"{name}: its sources count {number} tests, and {self.tests.get(name, 0)} ran and passed"
+            if kind == "programs" and name not in self.by_both():
+                yield f"{name}: it was not run as both compilers build it"
+
+
 class Prover:
     """`rt ci`, with its lines passed on; that crates are proved can be waited for."""
 
     def __init__(self, phases, rlibs):
-        self.rlibs, self.proved, self.tests, self.idle_edits, self.last = rlibs, {}, 0, 0, ""
+        self.rlibs, self.proved, self.idle_edits, self.last = rlibs, {}, 0, ""
+        self.ran = Ran()
         self.taken_over, self.crates = 0, len(wrong_bodies.crates())
         self.changed = threading.Condition()
         self.rt = subprocess.Popen(
@@ -147,7 +184,7 @@ class Prover:
         for line in self.rt.stdout:
             self.last = line.rstrip("\n")
             tell(self.last)
-            self.tests += bool(re.fullmatch(r"test .* \.\.\. ok", self.last))
+            self.ran.hear(self.last)
             self.idle_edits += SAYS_NOTHING in self.last
             ended = re.fullmatch(r"rt: (\w+) (proved|is kept|NOT PROVED)(?:: .*)?", self.last)
             if ended:
@@ -183,11 +220,14 @@ class Prover:
     def counts(self):
         found = re.fullmatch(r"(\d+) passed, (\d+) failed", self.last)
         passed, failed = (int(found[1]), int(found[2])) if found else (0, 1)
-        if not self.tests:
-            tell("no test was run")
+        lacking = list(self.ran.lacking())
+        for line in lacking:
+            tell(line)
+        if self.rt.returncode:
+            tell(f"rt ci ended with status {self.rt.returncode}")
         if self.idle_edits:
             tell(f"{self.idle_edits} must-fail edits are refused for the names that they take away alone")
-        return passed, failed + (not self.tests) + self.idle_edits
+        return passed, failed + len(lacking) + bool(self.rt.returncode) + self.idle_edits
 
 
 class Bundles:
@@ -260,10 +300,11 @@ class Bundles:
     def left(self, trial, below):
         """The bodies that no earlier run has judged, and the name of each body for those that do."""
         left, names, texts = [], {}, wrong_bodies.sources(trial.crate.folder)
-        for body in wrong_bodies.bodies_of(trial.crate):
+        bodies = wrong_bodies.bodies_of(trial.crate)
+        for body in [*bodies, *wrong_bodies.control(bodies, texts)]:
             alone = wrong_bodies.Bundle(texts)
-            # a body that cannot be written is told of where the bundles are made
-            if body.function and body.pairs and alone.take(body):
+            # a body that cannot be tried is told of where the bundles are made
+            if not body.fault(texts) and alone.take(body):
                 names[body.name] = self.judged.name(body, trial.crate, trial.files(alone, False), below)
             line = self.judged.line(names[body.name]) if body.name in names else None
             if line:
@@ -314,8 +355,9 @@ def proved(room):
     bundles.tell()
     phases.tell()
     tell(f"ran on {os.cpu_count()} cores with {wrong_bodies.read(f'{bundles.kit}/KIT-ID').strip()}")
-    tell(f"taken over from earlier runs: {prover.taken_over} of {prover.crates} crates, {bundles.taken_over} of the bodies")
-    tell(f"{prover.tests} tests, {bundles.passed} bodies in bundles")
+    tell(f"taken over from earlier runs: {prover.taken_over} of {prover.crates} crates, {bundles.taken_over} bodies")
+    tests, programs = sum(prover.ran.tests.values()), len(prover.ran.by_both())
+    tell(f"{tests} tests, {programs} programs by both compilers, {bundles.passed} bodies in bundles")
     return passed + bundles.passed, failed + bundles.failed
 
 

@@ -85,7 +85,7 @@ class Judged:
 
     def name(self, body, crate, texts, below):
         """The name of a body, where these are the texts that a check of it alone would read."""
-        said = repr((crate.name, body.name, body.function, body.cycle, body.is_wrong, body.pairs))
+        said = repr((crate.name, body.name, body.function, body.goal, body.cycle, body.is_wrong, body.pairs))
         return sum_of([self.of_all, below, said, *itertools.chain(*sorted(texts.items()))])
 
     def line(self, name):

@@ -5,7 +5,9 @@
     standing.py --write    writes today's numbers to .ci/counts
 
 Nothing else would notice that a test, a wrong body, a line of a case file or a pattern is gone: so .ci/counts has
-their numbers by crate, none of which may be less. And every clause on memory rests on the seal: a crate that could
+their numbers by crate, none of which may be less. Nor may a number of that file be less than it was in a commit, but
+where its row says why: 'WHAT NUMBER # was GREATEST: REASON'. What counts is what the tools read, and no two wrong
+bodies make the same text. HANDLES allows nothing. And every clause on memory rests on the seal: a crate that could
 say that a growth was refused could pass on any error. Only sre_growth stands on the crate that has the fact, one line
 of one spec hands on the fact without its lemma, and the lemma is cited by the answers of the three growths alone. And
 what tools draw goes stale without a sign: the pictures of docs/ (`pictures.py`) and a table (`adding.py`). The status
@@ -13,13 +15,26 @@ is 1 where something does not stand.
 """
 import os
 import re
+import subprocess
 import sys
 
 import adding
 import pictures
+import wrong_bodies
 
 ROOT = os.path.dirname(os.path.dirname(os.path.realpath(__file__)))
 COUNTS = f"{ROOT}/.ci/counts"
+# What is counted, how many there are, and where that is less than it was: the greatest number before, and why.
+ROW = re.compile(r"(\w+ [a-z -]+) (\d+)(?: # was (\d+): (\S.*))?")
+
+HANDLES = "Handles allowed: none.\n"
+
+# What the tools read of these folders of a crate.
+READ = {
+    "must-fail": r".*\.edit",
+    "wrong": r".*\.(edit|right)",
+    "cases": r".*\.(txt|expected|fault)|(files|no_cases|calls)\.jsonl",
+}
 
 GROWTHS = ("from_slice", "push", "resize")
 # Each line of the repository's code and proofs that names the crate of the seal.
@@ -48,31 +63,114 @@ def is_said(line):
     return not line.lstrip().startswith(("//", "--"))
 
 
+def listed(folder, end):
+    """The files right in a folder whose names end so, as the tools list them."""
+    names = sorted(os.listdir(folder)) if os.path.isdir(folder) else []
+    return [f"{folder}/{it}" for it in names if it.endswith(end)]
+
+
+def lines_in(paths):
+    return sum(read(it).count("\n") for it in paths)
+
+
+def tests_in(path):
+    """The number of tests of a source."""
+    return sum(it.strip() == "#[test]" for it in read(path).split("\n"))
+
+
 def counted():
     """The number of each kind of thing, by crate, that nothing else would miss."""
     found = {}
     for name in sorted(os.listdir(f"{ROOT}/crates")):
         folder = f"{ROOT}/crates/{name}"
-        found[f"{name} tests"] = sum(read(it).count("#[test]") for it in files(f"{folder}/src", ".rt"))
-        found[f"{name} must-fail edits"] = len(files(f"{folder}/must-fail", ".edit"))
-        found[f"{name} wrong bodies"] = len(files(f"{folder}/wrong", ".edit"))
-        found[f"{name} right bodies"] = len(files(f"{folder}/wrong", ".right"))
-        found[f"{name} answers"] = sum(read(it).count("\n") for it in files(f"{folder}/cases", ".expected"))
-        found[f"{name} faults"] = len(files(f"{folder}/cases", ".fault"))
-        found[f"{name} rows"] = sum(read(it).count("\n") for it in files(f"{folder}/cases", ".jsonl"))
-    found["examples answers"] = sum(read(it).count("\n") for it in files(f"{ROOT}/examples", ".expected"))
+        found[f"{name} tests"] = sum(tests_in(it) for it in files(f"{folder}/src", ".rt"))
+        found[f"{name} programs"] = len(listed(f"{folder}/src", "main.rt"))
+        found[f"{name} must-fail edits"] = len(listed(f"{folder}/must-fail", ".edit"))
+        found[f"{name} wrong bodies"] = len(listed(f"{folder}/wrong", ".edit"))
+        found[f"{name} named goals"] = sum("\ngoal: " in read(it) for it in listed(f"{folder}/wrong", ".edit"))
+        found[f"{name} right bodies"] = len(listed(f"{folder}/wrong", ".right"))
+        found[f"{name} answers"] = lines_in(listed(f"{folder}/cases", ".expected"))
+        found[f"{name} faults"] = len(listed(f"{folder}/cases", ".fault"))
+        found[f"{name} rows"] = lines_in(listed(f"{folder}/cases", ".jsonl"))
+    found["examples answers"] = lines_in(listed(f"{ROOT}/examples", ".expected"))
     lines = read(f"{ROOT}/examples/patterns.txt").split("\n")
     found["examples patterns"] = sum(it.startswith("pattern:") for it in lines)
     return {what: number for what, number in found.items() if number}
 
 
+def rows_of(text):
+    """The rows of a text of .ci/counts: of each thing its number, the number that it was, and why it is less."""
+    found = [it for it in map(ROW.fullmatch, text.split("\n")) if it]
+    return {it[1]: (int(it[2]), int(it[3] or 0), it[4]) for it in found}
+
+
+def rows_now():
+    return rows_of(read(COUNTS)) if os.path.isfile(COUNTS) else {}
+
+
 def missed():
     """What there is less of than .ci/counts says."""
     now = counted()
-    for row in read(COUNTS).split("\n"):
-        what, _, number = row.rpartition(" ")
-        if what and now.get(what, 0) < int(number):
+    for what, (number, _, _) in rows_now().items():
+        if now.get(what, 0) < number:
             yield f"{what}: there are {now.get(what, 0)} of {number}"
+
+
+def git(*words, given=""):
+    how = {"input": given, "stdout": subprocess.PIPE, "text": True, "check": True}
+    return subprocess.run(["git", "-C", ROOT, *words], **how).stdout
+
+
+def greatest():
+    """The greatest number of each thing that .ci/counts has had in the commits that are here, which in a shallow clone
+    are not all of them. Beside no repository there are none."""
+    if not os.path.exists(f"{ROOT}/.git"):
+        return {}
+    commits = git("rev-list", "--full-history", "HEAD", "--", ".ci/counts").split()
+    said = git("cat-file", "--batch=%(objecttype)", given="".join(f"{it}:.ci/counts\n" for it in commits))
+    found = {}
+    for it in filter(None, map(ROW.fullmatch, said.split("\n"))):
+        found[it[1]] = max(found.get(it[1], 0), int(it[2]))
+    return found
+
+
+def lowered():
+    """The rows of .ci/counts that have less than in a commit and do not say why."""
+    now = rows_now()
+    for what, number in greatest().items():
+        has, was, _ = now.get(what, (0, 0, None))
+        if has < number > was:
+            yield f".ci/counts: {what} {has}, but it was {number}: write '{what} {has} # was {number}: REASON' there"
+
+
+def unread():
+    """What stands beside files that a tool reads, and is read by nothing."""
+    for name in sorted(os.listdir(f"{ROOT}/crates")):
+        for part, form in READ.items():
+            for path in listed(f"{ROOT}/crates/{name}/{part}", ""):
+                begun, end = os.path.splitext(path)
+                is_alone = end in (".txt", ".fault") and not os.path.isfile(f"{begun}.expected")
+                if is_alone or not os.path.isfile(path) or not re.fullmatch(form, os.path.basename(path)):
+                    yield f"{os.path.relpath(path, ROOT)}: nothing reads it"
+
+
+def alike():
+    """The wrong bodies that make the text of another one, but for spaces."""
+    for crate in wrong_bodies.crates().values():
+        texts, made = wrong_bodies.sources(crate.folder), {}
+        for body in [*wrong_bodies.bodies_of(crate), *wrong_bodies.bodies_of(crate, "must-fail")]:
+            written = body.written(texts) or {}
+            changed = tuple((file, "".join(text.split())) for file, text in written.items() if text != texts[file])
+            if changed in made:
+                yield f"{body.label(crate)} makes the same text as {made[changed]}"
+            elif changed:
+                made[changed] = body.name
+
+
+def widened():
+    """HANDLES, where it allows more than nothing."""
+    if not os.path.isfile(f"{ROOT}/HANDLES") or read(f"{ROOT}/HANDLES") != HANDLES:
+        yield f"HANDLES is not the line '{HANDLES.strip()}'"
 
 
 def unsealed():
@@ -108,13 +206,22 @@ def stale():
 
 def fallen():
     """All that does not stand."""
-    return [*missed(), *unsealed(), *adding.stale(), *stale()]
+    kept = [*missed(), *lowered(), *unread(), *alike(), *widened()]
+    return [*kept, *unsealed(), *adding.stale(), *stale()]
+
+
+def write():
+    """Writes today's numbers. A row that says why its number is less keeps that while it is."""
+    numbers, before = counted(), rows_now()
+    reasons = {what: f" # was {was}: {why}" for what, (_, was, why) in before.items() if numbers.get(what, 0) < was}
+    with open(COUNTS, "w", encoding="utf-8") as file:
+        for what in [*numbers, *(it for it in reasons if it not in numbers)]:
+            file.write(f"{what} {numbers.get(what, 0)}{reasons.get(what, '')}\n")
 
 
 def main(words):
     if words == ["--write"]:
-        with open(COUNTS, "w", encoding="utf-8") as file:
-            file.write("".join(f"{what} {number}\n" for what, number in counted().items()))
+        write()
         return 0
     if words:
         print(__doc__.strip())

@@ -5,15 +5,17 @@
 
 A wrong body is a file crates/CRATE/wrong/NAME.edit, written as a must-fail edit is: lines 'file: src/..', and pairs of
 lines 'old: TEXT' and 'new: TEXT'. A line 'fn: PATH' names the function that has to be refused, as a check names it
-below its crate, and each TEXT stands once in that function, or else once in its file.
+below its crate, and each TEXT stands once in that function, or else once in its file. No edit changes a contract or an
+attribute. A line 'goal: NAME' names the goal that has to stay open; without it any goal of the function may.
 
 A function is proved from the contracts of those that it calls, so what stays open in it is its own. So wrong bodies
 are written into one copy of the crate and checked at once, and the proofs of the functions that they call are holes. A
-second body of a function stands in a copy of it, under another name. A wrong body is refused where a goal of its own
-function stays open, or an answer to one is no longer a proof; a function that only calls a refused one has no such
-goal. Functions that call one another have one proof: there a line 'cycle: NAME' has the cycle's name, and only the
+second body of a function stands in a copy of it, under another name. A wrong body is refused where its goal stays open
+in its own function, or an answer to that goal is no longer a proof; a function that only calls a refused one has no
+such goal. Functions that call one another have one proof: there a line 'cycle: NAME' has the cycle's name, and only the
 goals that begin with the function's name are its own. A file NAME.right has a body that is right: it goes along, and
-fails the run where it is told as refused.
+fails the run where it is told as refused. Where a check does not reach its end, its bodies are tried by halves, down to
+the one that keeps it from there.
 
 By hand, the crates below a crate have to be built, which `rt check` in its folder does. --alone gives each body a check
 of its own, and --right tries the functions as they are, none of which may be told as refused. The status is 0 where
@@ -33,7 +35,10 @@ ROOT = os.path.dirname(os.path.dirname(os.path.realpath(__file__)))
 PARTS = ("src", "specs", "proofs")
 
 # An answer that names what a wrong body took away says nothing of the contract.
-TAKEN_AWAY = re.compile(r"has no field|is not in scope|has no `|was not admitted")
+TAKEN_AWAY = re.compile(r"has no field|is not in scope|has no `|was not admitted|stands by its signature")
+
+# What a reader takes for promised begins so.
+PROMISE = re.compile(r"\b(?:ensures|requires|ghost)\b[^{;]*[{;]")
 
 # Where a function's answers are refused for their own text, a check tells which goals stay open, and offers no files
 # for them. Its offers take a second pass, as long as a third of the first.
@@ -97,17 +102,32 @@ def crates():
     return known
 
 
+def promises(text):
+    """The contracts of a source, what else of it is ghost, and its attributes, which name lemmas for the search."""
+    text = re.sub(r"//.*", "", text)
+    found = re.findall(r"#!?\[.*", text)
+    for begun in PROMISE.finditer(text):
+        at, depth = begun.end(), text[begun.end() - 1] == "{"
+        while depth and at < len(text):
+            depth += {"{": 1, "}": -1}.get(text[at], 0)
+            at += 1
+        found.append(text[begun.start() : at])
+    return found
+
+
 class Body:
     """A body of a function, and whether it is a wrong one."""
 
     def __init__(self, path):
         self.name, end = os.path.splitext(os.path.basename(path))
         self.is_wrong = end == ".edit"
-        self.function, self.cycle, self.pairs, file, old = "", "", [], "", ""
+        self.function, self.goal, self.cycle, self.pairs, file, old = "", "", "", [], "", ""
         for row in read(path).split("\n"):
             word, _, text = row.partition(": ")
             if word == "fn":
                 self.function = text
+            elif word == "goal":
+                self.goal = text
             elif word == "cycle":
                 self.cycle = text
             elif word == "file":
@@ -144,6 +164,19 @@ class Body:
             texts[file] = parts[0] + parts[1].replace(old, new) + parts[2]
         return texts
 
+    def fault(self, texts):
+        """Why it cannot be tried on these texts, if so."""
+        if not self.function:
+            return "it names no function"
+        if self.is_wrong and not self.pairs:
+            return "it changes nothing"
+        made = self.written(texts)
+        if made is None:
+            return "an old text does not stand once"
+        if any(promises(text) != promises(texts[file]) for file, text in made.items() if text != texts[file]):
+            return "it changes a contract or an attribute, and not a body alone"
+        return None
+
     def is_inside(self, texts):
         """Whether it changes its own function alone. Of a method of a trait the name alone is known."""
         own, name = functions(texts).get(self.function), self.function.rpartition("::")[2]
@@ -154,7 +187,7 @@ class Body:
     def righted(self):
         """The body that the function has."""
         body = copy.copy(self)
-        body.is_wrong, body.pairs = False, [(file, old, old) for file, old, _ in self.pairs]
+        body.name, body.is_wrong, body.pairs = f"{self.function}, as it is", False, []
         return body
 
     def renamed(self, names):
@@ -183,21 +216,34 @@ def above(path):
         yield path
 
 
-def bodies_of(crate):
-    folder = f"{crate.folder}/wrong"
+def bodies_of(crate, part="wrong"):
+    folder = f"{crate.folder}/{part}"
     names = sorted(os.listdir(folder)) if os.path.isdir(folder) else []
     return [Body(f"{folder}/{it}") for it in names if it.endswith((".edit", ".right"))]
+
+
+def righted(bodies):
+    """The functions of these bodies as they are, each once: the control of the bundles."""
+    return list({it.function: it.righted() for it in bodies if it.function}.values())
+
+
+def control(bodies, texts):
+    """The shortest of these functions, as it is, where the texts have one by its name."""
+    listed = functions(texts)
+    found = [it for it in righted(bodies) if it.function in listed]
+    return sorted(found, key=lambda it: len(listed[it.function].text(texts)))[:1]
 
 
 class Bundle:
     """Bodies that are tried in one check, each of a function of its own name, and the texts that they make."""
 
     def __init__(self, texts):
-        self.before, self.texts, self.bodies, self.copies, self.is_open = texts, texts, [], {}, True
+        self.before, self.texts, self.copies, self.is_open = texts, texts, {}, True
+        self.bodies, self.given = [], []
 
     def take(self, body):
-        """Takes a body in, in its function or, where that is another by now, in a copy of it: whether it could. One that
-        changes more than its function stands alone."""
+        """Takes a body in, in its function or, where that is another by now, in a copy of it: whether it could. One
+        that changes more than its function stands alone."""
         is_inside = body.is_inside(self.before)
         if self.bodies and not (is_inside and self.is_open):
             return False
@@ -211,26 +257,45 @@ class Bundle:
             return False
         if placed is not body:
             self.copies[placed.proof()] = body.proof()
-        self.texts, self.bodies = texts, [*self.bodies, placed]
+        self.texts, self.bodies, self.given = texts, [*self.bodies, placed], [*self.given, body]
         return True
+
+    def halves(self):
+        """Its bodies in two bundles."""
+        middle = len(self.given) // 2
+        for part in (self.given[:middle], self.given[middle:]):
+            half = Bundle(self.before)
+            for it in part:
+                half.take(it)
+            yield half
 
 
 def bundles(bodies, crate, is_alone=False):
     """Bodies in few bundles; and a line for each body that cannot be written into the crate."""
     made, bad, texts = [], [], sources(crate.folder)
     for body in bodies:
-        if not body.function or not body.pairs or body.written(texts) is None:
-            bad.append(f"{body.label(crate)}: BAD: it names no function, or an old text does not stand once")
+        fault = body.fault(texts)
+        if fault:
+            bad.append(f"{body.label(crate)}: BAD: {fault}")
         elif is_alone or not any(it.take(body) for it in made):
             made.append(Bundle(texts))
             made[-1].take(body)
     return made, bad
 
 
+def lines_of(said):
+    """The lines that a check says, each with those below it that go on with it."""
+    return re.sub(r"\n +", " ", said).rstrip("\n").split("\n")
+
+
+def has_ended(said):
+    return lines_of(said)[-1].startswith("only=")
+
+
 def refusals(said, crate):
     """What a check says of each function that is not proved: the goals of its own that stay open."""
     open_goals, told = {}, []
-    for line in said.split("\n"):
+    for line in lines_of(said):
         goal = re.match(r"note: \S+:\d+:\d+: (?:it is not proved|`search` found no proof) .*\(`([^`]+)`\)", line)
         ended = re.match(rf"(?:fn|impl|struct|enum) (?:{crate.name}::(\S+): (no proof|not proved)(.*))?", line)
         if goal:
@@ -241,7 +306,7 @@ def refusals(said, crate):
                 open_goals[ended[1]] = told + re.findall(r"`search` did not prove `([^`]+)`", ended[3])
             told = []
     answers = r"(?m)^(?:\./)?proofs/(\S+)/(?:Answers|Invariants|Proof)\.antt:\d+:\d+: error: `([^`]+)`(.*)"
-    for path, goal, why in re.findall(answers, said):
+    for path, goal, why in re.findall(answers, "\n".join(lines_of(said))):
         # the answers of a cycle tell the function by the goal
         name = re.sub(r"\+\w+$", goal.partition("-")[0], path).replace("/", "::")
         if name in open_goals and not TAKEN_AWAY.search(why):
@@ -249,27 +314,32 @@ def refusals(said, crate):
     return open_goals
 
 
+def verdict(body, goals):
+    """Whether a body is judged as it must be where these goals of its own are open, and the words that tell so."""
+    if not body.is_wrong:
+        return not goals, f"REFUSED: {goals[0]}" if goals else "not refused"
+    if body.goal not in ["", *goals] or not goals:
+        return False, f"NOT REFUSED: {body.goal or 'its goal'} is not open; open are {', '.join(goals) or 'none'}"
+    return True, f"refused: {body.goal or ', '.join(goals) + ' (it names no goal)'}"
+
+
 def judged(bundle, crate, said):
     """For each body of a bundle, whether it was judged as it must be, and a line that tells."""
-    lines = said.rstrip("\n").split("\n")
-    is_judged = lines[-1].startswith("only=")
-    open_goals = refusals(said, crate)
+    lines, open_goals = lines_of(said), refusals(said, crate)
     named = set(re.findall(rf"(?m)^fn {crate.name}::(\S+):", said))
     changed = {body.function for body in bundle.bodies}
     others = ", ".join(it for it, goals in open_goals.items() if goals and it not in changed)
     for body in bundle.bodies:
         goals = body.own(open_goals.get(body.function))
-        label = body.label(crate)
-        if not is_judged:
+        if not has_ended(said):
             first = next((it for it in lines if "error" in it), lines[-1])
-            yield False, f"{label}: BAD: the check did not reach its end: {first[:200]}"
+            is_well, told = False, f"BAD: the check did not reach its end: {first[:200]}"
         elif body.function not in named:
-            yield False, f"{label}: BAD: the check names no function {body.function}"
-        elif goals:
-            yield body.is_wrong, f"{label}: {'refused' if body.is_wrong else 'REFUSED'}: {goals[0]}"
+            is_well, told = False, f"BAD: the check names no function {body.function}"
         else:
-            elsewhere = f"; goals are open in {others}" if body.is_wrong and others else ""
-            yield not body.is_wrong, f"{label}: {'NOT REFUSED' if body.is_wrong else 'not refused'}{elsewhere}"
+            is_well, told = verdict(body, goals)
+            told += f"; goals are open in {others}" if not goals and body.is_wrong and others else ""
+        yield is_well, f"{body.label(crate)}: {told}"
 
 
 class Trial:
@@ -328,10 +398,14 @@ class Trial:
         return texts
 
     def bundle(self, number, bundle, run):
-        """Checks a bundle's functions, and judges its bodies. `run` takes a command and its folder."""
+        """Checks a bundle's functions, and judges its bodies. `run` takes a command and its folder. Where the check
+        does not reach its end, the halves of the bundle are checked: one bad body spoils no other."""
         only = [word for it in bundle.bodies for word in ("--only", it.function)]
         words = [f"{self.kit}/bin/rattle", "check", *self.words, "--allow-holes", "--progress", *only]
-        return list(judged(bundle, self.crate, run(words, self.place(f"bundle-{number}", bundle))))
+        said = run(words, self.place(f"bundle-{number}", bundle))
+        if has_ended(said) or len(bundle.bodies) == 1:
+            return list(judged(bundle, self.crate, said))
+        return [it for at, half in enumerate(bundle.halves()) for it in self.bundle(f"{number}-{at}", half, run)]
 
 
 def by_hand(crate, picked, is_alone, is_right):
@@ -345,7 +419,7 @@ def by_hand(crate, picked, is_alone, is_right):
         return f"{below.folder}/out/rlib"
 
     bodies = [it for it in bodies_of(crate) if not picked or it.name in picked]
-    bodies = [it.righted() for it in bodies] if is_right else bodies
+    bodies = righted(bodies) if is_right else bodies
     made, bad = bundles(bodies, crate, is_alone)
     failed = len(bad)
     for line in bad:
