@@ -1,20 +1,23 @@
 -- What a walk that goes from match to match shows, and what its next item is.
 -- Of the meaning: what sre_engine makes public rests on it.
-use Rattle.std.specs.Prelude.{◌≡◌, ℕ, ◌+◌, Bool, true, false, cond, List, [], ◌∷◌, Option, Some, None, Result, Ok, Err}
+use Rattle.std.specs.Prelude.{◌≡◌, ◌≤◌, ℕ, ◌+◌, Bool, true, false, cond, List, [], ◌∷◌, Option, Some, None, Result}
+use Rattle.std.specs.Prelude.{Ok, Err}
 use Rattle.sre_chars.specs.declared.string.StrDrive.{Ghosts}
 use Rattle.sre_model.specs.Tree.{Tree}
 use Rattle.sre_model.specs.Grammar.{Whole}
+use Rattle.sre_model.specs.Anchors.{is_anchored}
 use Rattle.sre_model.specs.Marks.{no_marks}
 use Rattle.sre_model.specs.Found.{Match, walk}
 use Rattle.sre_model.specs.WalkBounds.{most_matches}
 use Rattle.sre_code.specs.Codes.{words_of, hints_of}
 use Rattle.sre_code.specs.declared.code.Code.{Code}
 use Rattle.sre_request.specs.declared.request.Request.{Request}
-use Rattle.sre_request.specs.Requests.{code_of, asked_of}
+use Rattle.sre_request.specs.Requests.{end_of, code_of, asked_of}
 use Rattle.sre_growth.specs.Refusal.{Refused}
 use Rattle.sre_engine.specs.declared.engine.state.SreError.{SreError}
 use Rattle.sre_engine.specs.declared.engine.search_iter.SearchIter.{SearchIter}
 use Rattle.sre_engine.specs.Answers.{Shown}
+use Rattle.sre_engine.specs.Counts.{CountsUpTo}
 use Rattle.sre_engine.specs.Walks.{match_shown, GoesOn}
 
 -- what is asked next, what the state shows, and whether the walk has ended
@@ -35,6 +38,14 @@ left_of it t = cond (has_ended it) [] (walk (asked_of (request_of it)) t)
 abbrev pub most_items : {S A : Type 0} {text : Ghosts S} → SearchIter S A text → ℕ
 most_items it = cond (has_ended it) 0 (most_matches (asked_of (request_of it)) + 1)
 
+-- what a step counted, which is a search of the window that is left
+pub record Counted {S A : Type 0} {text : Ghosts S} (it next : SearchIter S A text) : Type 0 where
+  pub counts : CountsUpTo (asked_of (request_of it)) (code_of (request_of it)) (end_of (request_of it) + 1)
+      (end_of (request_of it)) (shown_of next)
+  pub anchored : (t : Tree) → Whole (words_of (code_of (request_of it))) t → is_anchored t ≡ true
+      → (shown_of next).started ≤ 1
+  pub again : (shown_of next).restarted ≤ (shown_of next).started
+
 -- a match comes, the first of those that were left, and the walk goes on at its end
 pub record Gives {S A : Type 0} {text : Ghosts S} (it next : SearchIter S A text) : Type 0 where
   pub before : has_ended it ≡ false
@@ -42,12 +53,16 @@ pub record Gives {S A : Type 0} {text : Ghosts S} (it next : SearchIter S A text
   pub first : (t : Tree) → Whole (words_of (code_of (request_of it))) t
       → left_of it t ≡ match_shown (shown_of next) ∷ left_of next t
   pub request : GoesOn (request_of it) (shown_of next) (request_of next)
+  pub counted : Counted it next
+  pub up_to_match : CountsUpTo (asked_of (request_of it)) (code_of (request_of it)) ((shown_of next).start + 1)
+      (shown_of next).cursor.position (shown_of next)
 
 -- the walk has ended, for good: there are no marks, and the request is as it was
 pub record Ends {S A : Type 0} {text : Ghosts S} (it next : SearchIter S A text) : Type 0 where
   pub over : has_ended next ≡ true
   pub marks : (shown_of next).marks ≡ no_marks
   pub request : request_of next ≡ request_of it
+  pub counted : has_ended it ≡ false → Counted it next
 
 -- no match is left
 pub record IsOver {S A : Type 0} {text : Ghosts S} (it : SearchIter S A text) : Type 0 where
@@ -71,6 +86,7 @@ pub record Stays {S A : Type 0} {text : Ghosts S} (it next : SearchIter S A text
   pub after : has_ended next ≡ false
   pub marks : (shown_of next).marks ≡ no_marks
   pub request : request_of next ≡ request_of it
+  pub counted : Counted it next
 
 -- the next item within a number of turns: whether there is one, or that the turns were used up before that was known
 abbrev pub NextWithin : {S A : Type 0} {text : Ghosts S}

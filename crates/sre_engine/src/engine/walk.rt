@@ -8,7 +8,7 @@ ghost use Rattle.sre_engine.specs.Walks.{GoesOn};
 ghost use Rattle.sre_engine.specs.Costs.{SearchGivenUp};
 ghost use Rattle.sre_engine.specs.Counts.{SpentUpTo, BeginsAgain, runs_of};
 ghost use Rattle.sre_engine.specs.Halts.{Halted};
-ghost use Rattle.sre_engine.specs.Searches.{WalksOn, NoErrorIfLiteral};
+ghost use Rattle.sre_engine.specs.Searches.{WalksOn, NoErrorIfLiteral, CountsInside, CountsToMatch, RunsOnceAnchored};
 ghost use Rattle.sre_growth.specs.Refusal.{Refused};
 
 use crate::engine::state::{SreError, State};
@@ -45,9 +45,12 @@ pub(crate) fn step_within<S: StrDrive, A: Allocator + Copy, F: Starts<S>>(
     ensures spent { SpentUpTo (asked_of req.old) (code_of req.old) left.old left.new (runs_of state.new) }
     ensures fewer { left.new ≤ left.old }
     ensures again { BeginsAgain limited state.new }
+    ensures few { state.new.restarted ≤ state.new.started }
     ensures given_up { IfErr result (λ halt. halt ≡ Halt.UsedUp
         → SearchGivenUp req.old left.old left.new state.new.started) }
-    ensures once { state.new.started ≤ end_of req.old + 1 - start_of req.old }
+    ensures counts { CountsInside req.old state.new }
+    ensures up_to_match { IfOk result (λ b. CountsToMatch req.old b state.new) }
+    ensures anchored { RunsOnceAnchored req.old state.new }
     ensures literal { NoErrorIfLiteral req.old result }
 {
     if !state.search_from(req, *cursor, limited, left, starts)? {
@@ -77,6 +80,11 @@ pub fn step_by<S: StrDrive, A: Allocator + Copy, F: Starts<S>>(
     ensures here { stands_in req.new cursor.new (start_of req.new) }
     ensures err { OnErr result ((req.new ≡ req.old) × (state.new.marks ≡ no_marks)) }
     ensures refused { OnErr result Refused }
+    ensures counts { CountsInside req.old state.new }
+    ensures up_to_match { IfOk result (λ b. CountsToMatch req.old b state.new) }
+    ensures anchored { RunsOnceAnchored req.old state.new }
+    ensures once { state.new.restarted ≡ 0 }
+    ensures few { state.new.restarted ≤ state.new.started }
     ensures literal { NoErrorIfLiteral req.old result }
 {
     let limited = false;
@@ -101,6 +109,11 @@ pub(crate) fn step<S: StrDrive, A: Allocator + Copy>(
     ensures here { stands_in req.new cursor.new (start_of req.new) }
     ensures err { OnErr result ((req.new ≡ req.old) × (state.new.marks ≡ no_marks)) }
     ensures refused { OnErr result Refused }
+    ensures counts { CountsInside req.old state.new }
+    ensures up_to_match { IfOk result (λ b. CountsToMatch req.old b state.new) }
+    ensures anchored { RunsOnceAnchored req.old state.new }
+    ensures once { state.new.restarted ≡ 0 }
+    ensures few { state.new.restarted ≤ state.new.started }
     ensures literal { NoErrorIfLiteral req.old result }
 {
     step_by(req, state, cursor, &mut Nobody)

@@ -12,4 +12,4 @@ pub returns-in-Err-UsedUp-clause-enough : goal.returns-in-Err-UsedUp-clause-enou
 returns-in-Err-UsedUp-clause-enough g c = λ enough _.
     let halted = rw c.in-Err-UsedUp.field-0-is at c.in-Err-UsedUp.ensures.halted in
     never_given_up c.args.self.now.req c.args.turns.now enough c.step_within.new.left c.step_within.new.state.started
-    (c.in-Err-UsedUp.ensures.given_up c.in-Err-UsedUp.field-0-is) halted.1 c.in-Err-UsedUp.ensures.once
+    (c.in-Err-UsedUp.ensures.given_up c.in-Err-UsedUp.field-0-is) halted.1 c.in-Err-UsedUp.ensures.counts.once
