@@ -1,5 +1,5 @@
 -- Starts from which there is no match: barred by what has to come first, or passed behind a start that has none.
--- Words of the search's contracts; what sre_engine makes public does not rest on it.
+-- Words of the search's contracts. What is public rests on `NoneUntil` and `StartFrom`, by `Starts::beyond`.
 use Rattle.std.specs.Prelude.{ℕ, ◌≡◌, ◌<◌, ◌≤◌, ◌+◌, ◌-◌, ◌⊎◌, ◌||◌, nat_le, false, List, Option, Some, None}
 use Rattle.sre_chars.specs.declared.constants.SreAtCode.{SreAtCode}
 use Rattle.sre_code.specs.declared.ascii_set.AsciiSet.{AsciiSet}
