@@ -266,8 +266,9 @@ fn remembering_turns<L: Ledger, K: Plan, S: StrDrive, A: Allocator>(
     }
 }
 
-// The same with no limit, and with no failure kept, until the memo opens: then the machine goes back. It is one function
-// out of line, whatever its size, so that `run_behind` is inlined where a search tries its starts.
+// The same with no limit, and with no failure kept until the memo opens. Then the run goes on: what it saved before is
+// resumed once at most, and what comes after is remembered. It is one function out of line, whatever its size, so that
+// `run_behind` is inlined where a search tries its starts.
 #[inline(never)]
 fn turns<L: Ledger, K: Plan, S: StrDrive, A: Allocator>(
     req: &Request<'_, S>,
@@ -283,10 +284,7 @@ fn turns<L: Ledger, K: Plan, S: StrDrive, A: Allocator>(
     ensures decides { IfOk result
         (λ told. IfDecided told (λ found. Decides (run_of req.now) K.all found board.new.marks)) }
     ensures remembers { Remembers (run_of req.now) memo.new.kept }
-    ensures opened { IfOk result (λ told. told ≡ Decision.Opened → memo.new.is_open ≡ true) }
-    ensures within { IfOk result (λ told. told ≡ Decision.Opened → turned.new ≤ K.limit) }
-    ensures stands { IfOk result (λ told. told ≡ Decision.Opened
-        → StandsWithin (run_of req.now) K.all (K.limit - turned.new) Next.Back board.new) }
+    ensures decided { IfOk result (λ told. told ≢ Decision.Opened) }
     ensures used { IfErr result (λ halt. halt ≡ Halt.UsedUp → ⊥) }
 {
     let mut next = Next::At(place, start);
@@ -302,7 +300,11 @@ fn turns<L: Ledger, K: Plan, S: StrDrive, A: Allocator>(
             }
             Next::Back => {
                 if memo.opens(req, board) {
-                    return Ok(Decision::Opened);
+                    let (limited, left) = (false, &mut 0);
+                    let back = Next::Back;
+                    return remembering_turns::<L, K, S, A>(
+                        req, board, memo, back, turned, limited, left,
+                    );
                 }
                 turned.tick();
                 match back::<S, A, false>(req, board, memo)? {
@@ -322,35 +324,6 @@ fn turns<L: Ledger, K: Plan, S: StrDrive, A: Allocator>(
                     }
                 }
             }
-        }
-    }
-}
-
-// Turns with no limit, of which the first keep no failure. Where failures come to be kept the run goes on: what it saved
-// before is resumed once at most, and what comes after is remembered.
-#[inline(always)]
-fn unlimited_turns<L: Ledger, K: Plan, S: StrDrive, A: Allocator>(
-    req: &Request<'_, S>,
-    board: &mut Board<A>,
-    memo: &mut Memo<A>,
-    place: usize,
-    start: StringCursor,
-    turned: &mut Turned<L>,
-) -> Result<Decision, Halt>
-    requires new { turned.old ≡ 0 }
-    requires stands { StandsWithin (run_of req.now) K.all K.limit (Next.At place start) board.old }
-    requires remembers { Remembers (run_of req.now) memo.old.kept }
-    ensures decides { IfOk result
-        (λ told. IfDecided told (λ found. Decides (run_of req.now) K.all found board.new.marks)) }
-    ensures remembers { Remembers (run_of req.now) memo.new.kept }
-    ensures decided { IfOk result (λ told. told ≢ Decision.Opened) }
-    ensures used { IfErr result (λ halt. halt ≡ Halt.UsedUp → ⊥) }
-{
-    match turns::<L, K, S, A>(req, board, memo, place, start, turned)? {
-        Decision::Decided(found) => Ok(Decision::Decided(found)),
-        Decision::Opened => {
-            let (limited, left) = (false, &mut 0);
-            remembering_turns::<L, K, S, A>(req, board, memo, Next::Back, turned, limited, left)
         }
     }
 }
@@ -398,7 +371,7 @@ fn turns_from<L: Ledger, K: Plan, S: StrDrive, A: Allocator>(
         let first = Next::At(2 * literals, start);
         remembering_turns::<L, K, S, A>(req, board, memo, first, &mut turned, limited, left)
     } else {
-        unlimited_turns::<L, K, S, A>(req, board, memo, 2 * literals, start, &mut turned)
+        turns::<L, K, S, A>(req, board, memo, 2 * literals, start, &mut turned)
     }
 }
 
