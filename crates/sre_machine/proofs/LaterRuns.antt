@@ -41,14 +41,14 @@ module _ {S : Type 0} {text : Ghosts S} (r : Request S text) (place count : ℕ)
         → Later (run_of r) all limit (next.At o.tail end) b
     last_end b stopped all limit g =
         both_first (run_of r) (spot (Longer place (count + 1)) end b) o.tail end b b.choices
-        (λ os n x. run_nothing (longer_stops (run_of r) place o.least (word (run_of r).words (place + 1)) b.frames b.marks
-        w there wv read.operands.lowest wh (count + 1) end.position
+        (λ os n x. run_nothing (longer_stops (run_of r) place o.least (word (run_of r).words (place + 1)) b.frames
+        b.marks w there wv read.operands.lowest wh (count + 1) end.position
         (longer_past (run_of r) place (count + 1) end skips.others) (stopped there.end there.test there.stands)) x) refl
         all limit (skips.skips b all limit g)
 
     -- the others wait
-    pub others_wait : (b b' : BoardValue) (later : StringCursor) → o.least ≤ 1 → BeginsLater r place o.least end.position
-        later → b' ≡ record b { choices = Else (Instruction place) b.frames later b.marks ∷ b.choices }
+    pub others_wait : (b b' : BoardValue) (later : StringCursor) → o.least ≤ 1
+        → BeginsLater r place o.least end.position later → b' ≡ record b { choices = Else (Instruction place) b.frames later b.marks ∷ b.choices }
         → (all : List Way) (limit : Limit) → Goes (run_of r) all limit (Longer place count) start b
         → Later (run_of r) all limit (next.At o.tail end) b'
     others_wait b b' later few e saved all limit g =
@@ -60,5 +60,5 @@ module _ {S : Type 0} {text : Ghosts S} (r : Request S text) (place count : ℕ)
         (later_goes (run_of r) place o.least (word (run_of r).words (place + 1)) b.frames b.marks w there wv
         read.operands.lowest wh (count + 1) end.position later.position e.position (omega (arith, e.position, few))
         (λ c from to. subst (λ z. passes (run_of r).subject there.test z ≡ true)
-        (omega (arith, from, to, e.position, few)) taken) taken all limit (spot (Instruction o.tail) end b) end b.choices
-        (skips.skips b all limit g)))
+        (omega (arith, from, to, e.position, few)) taken) taken all limit (spot (Instruction o.tail) end b) end
+        b.choices (skips.skips b all limit g)))

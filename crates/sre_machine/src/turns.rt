@@ -125,8 +125,7 @@ impl From<Refusal> for Halt {
 pub(crate) enum Decision {
     // The whole is decided: the cursor at the first accepted outcome's end, where there is one.
     Decided(Option<StringCursor>),
-    // Failures are to be kept from now on: by this run where its turns are not limited, and else by one that begins
-    // again.
+    // Failures are to be kept from now on, so a run within turns is to begin again.
     Opened,
 }
 
@@ -473,8 +472,8 @@ fn run_anew<S: StrDrive, A: Allocator>(
 /// end of the first accepted way of what follows these literals, whose marks are then on the board, or `None` where no
 /// way is accepted. Where it is limited it takes its turns off those that are left, and is given up where none is.
 ///
-/// Where failures come to be kept in its course, it goes on with what it saved, or, where it is limited, begins again:
-/// no more turns are bounded then than were waited and those of a run that keeps failures. Each run is counted.
+/// Where failures come to be kept in its course, it goes on with what it saved, or, where it is limited, begins again.
+/// Then it takes the turns that were waited, and those of a run that keeps failures. Each run is counted.
 #[inline(always)]
 pub fn run_behind<S: StrDrive, A: Allocator>(
     req: &Request<'_, S>,

@@ -1,17 +1,17 @@
 -- The ends that are left of a lazy run without a greatest count are those of the same run from later on. So what was
 -- saved of it before failures were kept goes on as that run, which is looked up and tried like any other instruction.
-use Rattle.std.proofs.Common.{◌≡◌, ℕ, ◌+◌, ◌-◌, ◌*◌, ◌<◌, ◌≤◌, ◌⊎◌, inl, inr, true, List, [], ◌∷◌, length, refl}
-use Rattle.std.proofs.Common.{arith, ap, cond, nat_eq}
+use Rattle.std.proofs.Common.{◌≡◌, ℕ, ◌+◌, ◌-◌, ◌<◌, ◌≤◌, ◌⊎◌, inl, inr, true, List, [], ◌∷◌, length, refl}
+use Rattle.std.proofs.Common.{arith, ap, nat_eq}
 use Rattle.std.proofs.Math.Nat.{mul-le-mul_right}
 use Rattle.std.proofs.lemmas.Bool.Decides.{nat_tests}
 use Rattle.sre_chars.specs.declared.constants.SreOpcode.TheVariants as opcode
 use Rattle.sre_chars.specs.declared.string.StringCursor.{StringCursor}
 use Rattle.sre_model.specs.Tree.{Tree, Empty, Then, Item, Fail, One, At, Mark, Branch, Loop, Run, PossessiveLoop}
-use Rattle.sre_model.specs.Tree.{Atomic, Look, Reference, Exists, ExistsElse, Trees, Only, Or, RunKind}
+use Rattle.sre_model.specs.Tree.{Atomic, Look, Reference, Exists, ExistsElse, Trees, Only, Or}
 use Rattle.sre_model.specs.Marks.{Marks}
 use Rattle.sre_model.specs.Subject.{passes}
 use Rattle.sre_model.specs.Ways.{Way, unlimited}
-use Rattle.sre_model.specs.Grammar.{word, skip, Word, Opcode, Reads, Operands, ReadsBranch, WholeItems}
+use Rattle.sre_model.specs.Grammar.{word, skip, Word, Opcode, Reads, Operands, ReadsBranch}
 use Rattle.sre_model.specs.Runs as runs
 use Rattle.sre_model.specs.Standing.{HasTest}
 use Rattle.sre_model.proofs.Bounds.{passes-below}
@@ -25,8 +25,7 @@ use Rattle.sre_turns.specs.Potential.{path, potential_of, more_ends}
 use Rattle.sre_turns.specs.RunEnds.{AllPass}
 use Rattle.sre_turns.specs.Settled.{Regionless, SettledIn}
 use Rattle.sre_turns.specs.declared.Frame.{Frame}
-use Rattle.sre_turns.specs.declared.Point.TheVariants.{Instruction, Alternatives, Shorter, Longer, Again}
-use Rattle.sre_turns.specs.declared.Point.{Point}
+use Rattle.sre_turns.specs.declared.Point.TheVariants.{Instruction, Longer}
 use Rattle.sre_turns.proofs.Faring.{fares_less}
 use Rattle.sre_turns.proofs.LazyRunEnds.{longer_run}
 use Rattle.sre_turns.proofs.NestedPositions.{all_later}

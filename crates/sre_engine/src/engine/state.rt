@@ -354,9 +354,10 @@ impl<A: Allocator + Copy> State<A> {
     /// flags and trees have equal answers, whatever types the texts are of.
     ///
     /// A start at which no match begins by the code's hints is passed, and `started` and `compared` tell what the
-    /// search took: at most one run at each start, which never begins again, none at which a confirmed width does not fit, with a confirmed
-    /// prefix only where it stands, and with a confirmed first set only at its members; and at most two comparisons
-    /// with a confirmed prefix for each character. Where the prefix is all of the code, there is no run and no error.
+    /// search took: at most one run at each start, which never begins again, none at which a confirmed width does not
+    /// fit, with a confirmed prefix only where it stands, and with a confirmed first set only at its members; and at
+    /// most two comparisons with a confirmed prefix for each character. Where the prefix is all of the code, there is
+    /// no run and no error.
     ///
     /// An error means that a growth of the state's memory was refused. After it, as after `Ok(false)`, there are no
     /// marks, start and cursor are open, and the state serves again, with a text of any type.

@@ -43,5 +43,5 @@ returns-in-Err-clause-spent g c =
 
 pub returns-in-Ok-None-clause-settles : goal.returns-in-Ok-None-clause-settles
 returns-in-Ok-None-clause-settles g c = λ limited none.
-    rested c.args.req.now c.args.start c.args.memo.now c.run_behind.new.memo c.rest-in-Ok-None.new.self _ _ c.rest-in-Ok-None.ensures.same
-    (c.in-Ok-None.ensures.settles limited c.in-Ok-None.field-0-is)
+    rested c.args.req.now c.args.start c.args.memo.now c.run_behind.new.memo c.rest-in-Ok-None.new.self _ _
+    c.rest-in-Ok-None.ensures.same (c.in-Ok-None.ensures.settles limited c.in-Ok-None.field-0-is)

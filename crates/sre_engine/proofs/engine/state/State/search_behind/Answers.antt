@@ -26,7 +26,8 @@ returns-in-None-clause-ok g c = λ t whole.
     let none = c.start.invariant.none t whole in
     answers_no (stands_in asked) _ _
     (found_none_behind (asked_of asked) t c.in-Some.behind.position
-    (none_joined (asked_of asked) t _ _ none.0 (c.in-Some.ensures.none t items none.1)) (c.in-None.ensures.none t whole))
+    (none_joined (asked_of asked) t _ _ none.0 (c.in-Some.ensures.none t items none.1))
+    (c.in-None.ensures.none t whole))
 
 pub returns-in-Some-2-clause-ok : goal.returns-in-Some-2-clause-ok
 returns-in-Some-2-clause-ok g c = λ t whole.
@@ -38,8 +39,8 @@ returns-in-Some-2-clause-ok g c = λ t whole.
     (c.in-Some-next_start_told.ensures.none t whole) in
     let some = some_at (stands_in asked) (asked_of asked) t _ c.in_ok-end.field-0 c.attempt.new.board.marks
     (c.in_ok-end.ensures.found t whole) c.in-Some-2.end c.in-Some-2.is in
-    answers_yes (stands_in asked) _ c.in-Some-next_start_told.next.position c.in-Some-2.end _ c.position-in-Some-2.ensures
-    refl
+    answers_yes (stands_in asked) _ c.in-Some-next_start_told.next.position c.in-Some-2.end _
+    c.position-in-Some-2.ensures refl
     some.0
     (found_first (asked_of asked) t _ _ before some.1
     (omega (arith, c.start.invariant.from, c.in-Some.ensures.next.0, c.in-Some-next_start_told.ensures.next.after))
@@ -132,8 +133,9 @@ returns-in_err-end-clause-counts g c =
     let next = c.in-Some-next_start_told.ensures.next in
     let fits : FitsAt c.args.last c.in-Some-next_start_told.next.position =
     subst (FitsAt c.args.last) c.position.ensures (c.is_past.ensures.fits c.if-is_past.false) in
-    counts_tried (asked_of asked) (code_of asked) c.args.last _ c.in-Some-next_start_told.next.position _ _ c.requires.plain
-    c.requires.no_set c.requires.last fits (omega (arith, inv.from, c.in-Some.ensures.next.0, next.after))
+    counts_tried (asked_of asked) (code_of asked) c.args.last _ c.in-Some-next_start_told.next.position _ _
+    c.requires.plain c.requires.no_set c.requires.last fits
+    (omega (arith, inv.from, c.in-Some.ensures.next.0, next.after))
     (omega (arith, inv.once, inv.from, c.in-Some.ensures.next.0, next.after, c.attempt.ensures.counted)) inv.uncompared
     (omega (arith, next.inside))
 
@@ -144,8 +146,9 @@ returns-in-Some-2-clause-counts g c =
     let next = c.in-Some-next_start_told.ensures.next in
     let fits : FitsAt c.args.last c.in-Some-next_start_told.next.position =
     subst (FitsAt c.args.last) c.position.ensures (c.is_past.ensures.fits c.if-is_past.false) in
-    counts_tried (asked_of asked) (code_of asked) c.args.last _ c.in-Some-next_start_told.next.position _ _ c.requires.plain
-    c.requires.no_set c.requires.last fits (omega (arith, inv.from, c.in-Some.ensures.next.0, next.after))
+    counts_tried (asked_of asked) (code_of asked) c.args.last _ c.in-Some-next_start_told.next.position _ _
+    c.requires.plain c.requires.no_set c.requires.last fits
+    (omega (arith, inv.from, c.in-Some.ensures.next.0, next.after))
     (omega (arith, inv.once, inv.from, c.in-Some.ensures.next.0, next.after, c.attempt.ensures.counted)) inv.uncompared
     (omega (arith, next.inside))
 
@@ -156,8 +159,9 @@ returns-in-Some-2-clause-up_to_match g c = λ _.
     let next = c.in-Some-next_start_told.ensures.next in
     let fits : FitsAt c.args.last c.in-Some-next_start_told.next.position =
     subst (FitsAt c.args.last) c.position.ensures (c.is_past.ensures.fits c.if-is_past.false) in
-    counts_tried (asked_of asked) (code_of asked) c.args.last _ c.in-Some-next_start_told.next.position _ _ c.requires.plain
-    c.requires.no_set c.requires.last fits (omega (arith, inv.from, c.in-Some.ensures.next.0, next.after))
+    counts_tried (asked_of asked) (code_of asked) c.args.last _ c.in-Some-next_start_told.next.position _ _
+    c.requires.plain c.requires.no_set c.requires.last fits
+    (omega (arith, inv.from, c.in-Some.ensures.next.0, next.after))
     (omega (arith, inv.once, inv.from, c.in-Some.ensures.next.0, next.after, c.attempt.ensures.counted)) inv.uncompared
     (omega (arith, c.position-in-Some-2.ensures))
 
