@@ -4,7 +4,6 @@ pub mod Walking
 pub mod Starting
 pub mod FirstSets
 pub mod Anchored
-pub mod WideWays
 pub mod Steps
 pub mod Seeking
 pub mod PrefixWays

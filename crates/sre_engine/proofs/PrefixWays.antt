@@ -13,8 +13,8 @@ use Rattle.sre_model.specs.Grammar.{Reads}
 use Rattle.sre_model.specs.FirstCharacters.{NoWay}
 use Rattle.sre_model.specs.Prefixes.{spells, behind_items, stands_at, how_many}
 use Rattle.sre_model.proofs.Each.{each-cond}
+use Rattle.sre_model.proofs.WideWays.{Far, EachFar, on-far, shorter, ways-far}
 use Rattle.sre_engine.specs.Scans.{Fits, Stands}
-use Rattle.sre_engine.proofs.WideWays.{Far, EachFar, on-far, shorter, ways-far}
 
 -- a mark is none of the first literals
 marked_never : (k : ℕ) (b : Bool) → (nat_eq (suc k) 0 && b) ≡ true → ⊥

@@ -18,6 +18,7 @@ use Rattle.sre_turns.specs.Machine.{Decides, outcomes}
 use Rattle.sre_model.specs.Runs.{Run}
 use Rattle.sre_model.specs.Prefixes.{spells, behind_items, is_empty, stands_at, how_many}
 use Rattle.sre_model.proofs.FoundLaws.{none-found}
+use Rattle.sre_model.proofs.WideWays.{EachFar, narrow_none}
 use Rattle.sre_code.specs.Codes.{words_of, hints_of}
 use Rattle.sre_model.specs.Prefixes.{prefix_of}
 use Rattle.sre_code.specs.declared.code.Code.{Code}
@@ -26,7 +27,6 @@ use Rattle.sre_engine.specs.Counts.{CountsUpTo}
 use Rattle.sre_engine.specs.Prefixed.{IsPrefix}
 use Rattle.sre_engine.specs.Scans.{Stands, NoPlace}
 use Rattle.sre_engine.proofs.Answering.{NoneBefore}
-use Rattle.sre_engine.proofs.WideWays.{EachFar, narrow_none}
 use Rattle.sre_engine.proofs.PrefixWays.{spelled_none, spelled_far, spelled_ways, stand_fit, stand_parts}
 use Rattle.sre_engine.proofs.PrefixWays.{how_many_grows}
 use Rattle.sre_engine.proofs.PrefixWays.{how_many_here}

@@ -9,6 +9,7 @@ pub mod SetWords
 pub mod ClaimProps
 pub mod Each
 pub mod Bounds
+pub mod WideWays
 pub mod LoopCases
 pub mod PossessiveCases
 pub mod FoundLaws

@@ -1,7 +1,7 @@
 -- Each way is at least as long as the tree's least width.
-use Rattle.std.proofs.Common.{◌≡◌, ℕ, zero, suc, ◌+◌, ◌-◌, ◌*◌, ◌<◌, ◌≤◌, Bool, cond, ◌&&◌, nat_le, nat_lt}
+use Rattle.std.proofs.Common.{◌≡◌, ℕ, zero, suc, ◌+◌, ◌-◌, ◌*◌, ◌<◌, ◌≤◌, cond, ◌&&◌, nat_le, nat_lt}
 use Rattle.std.proofs.Common.{List, [], ◌∷◌, Option, Some, None, map, refl, arith}
-use Rattle.std.specs.List.{flat_map, filter, AllByRecursion}
+use Rattle.std.specs.List.{flat_map, AllByRecursion}
 use Rattle.std.proofs.lemmas.Bool.{leb-true}
 use Rattle.sre_model.specs.Tree.{Tree, Empty, Then, Item, Fail, One, At, Mark, Branch, Loop, Run, PossessiveLoop}
 use Rattle.sre_model.specs.Tree.{Atomic, Look, Reference, Exists, ExistsElse, Trees, Only, Or, Test, Order, Greedy}
@@ -14,6 +14,7 @@ use Rattle.sre_model.specs.Ways.{may_repeat, more, least, possessive_more, look_
 use Rattle.sre_model.specs.Ways.{branch_ways}
 use Rattle.sre_model.specs.Width.{capped, width, item_width, least_width}
 use Rattle.sre_model.proofs.Each.{each-append, each-flat_map, each-weaken, each-map, each-first, each-cond}
+use Rattle.sre_model.proofs.Each.{each-filtered}
 use Rattle.sre_model.proofs.Bounds.{EachBetween, ways-bounded}
 
 -- a way that ends n characters on, or more
@@ -26,14 +27,6 @@ EachFar n p ws = AllByRecursion (Far n p) ws
 -- each way of a body does, from wherever it begins
 abbrev pub IsWide : ℕ → Body → Type 0
 IsWide n body = (p : ℕ) (m : Marks) → EachFar n p (body p m)
-
--- a filter leaves what holds of each
-each-filtered : {X : Type 0} (P : X → Type 0) (t : X → Bool) (xs : List X) → AllByRecursion P xs
-    → AllByRecursion P (filter t xs)
-each-filtered P t [] h = tt
-each-filtered P t (x ∷ xs) h =
-    let ih = each-filtered P t xs h.1 in
-    each-cond P (t x) (x ∷ filter t xs) (filter t xs) (λ _. (h.0, ih)) (λ _. ih)
 
 -- the counts of a run are at least the least
 falling-least : (low n : ℕ) → AllByRecursion (λ c. low ≤ c) (falling low n)

@@ -1,0 +1,263 @@
+-- Positions between characters, seen as places between bytes: where a position's condition holds an assertion does.
+use Rattle.std.proofs.Common.{◌≡◌, ℕ, zero, suc, ◌+◌, ◌-◌, ◌<◌, ◌≤◌, Bool, true, false, cond, not, ◌&&◌, ◌||◌, ◌==◌}
+use Rattle.std.proofs.Common.{nat_eq, nat_lt, List, length, Option, Some, None, is_some, slice_get, refl, sym, ap, ap₂}
+use Rattle.std.proofs.Common.{◌∙◌, subst, arith}
+use Rattle.std.proofs.lemmas.Bool.{and_parts}
+use Rattle.std.proofs.lemmas.Bool.Decides.{nat_tests}
+use Rattle.std.proofs.lemmas.Option.{slice_get_past, none-some, same_Some}
+use Rattle.ucd_perl.specs.Perl.{is_word_byte}
+use Rattle.regex_hir.specs.Text as bytes
+use Rattle.regex_hir.specs.Looks as looks
+use Rattle.regex_hir.specs.Re.{look}
+use Rattle.regex_hir.specs.declared.look.Look.{Look}
+use Rattle.regex_hir.specs.declared.look.Look.TheVariants.{Start, End, StartLf, EndLf, WordAscii, WordAsciiNegate}
+use Rattle.regex_hir.proofs.TextLemmas.{byte_before-zero, byte_before-add-one}
+use Rattle.sre_chars.specs.Tables.{Table}
+use Rattle.sre_chars.specs.Categories.{is_word, is_unicode_word, is_linebreak}
+use Rattle.sre_chars.specs.declared.constants.SreAtCode.{SreAtCode}
+use Rattle.sre_chars.specs.declared.constants.SreAtCode.TheVariants.{BEGINNING, BEGINNING_LINE, BEGINNING_STRING}
+use Rattle.sre_chars.specs.declared.constants.SreAtCode.TheVariants.{BOUNDARY, NON_BOUNDARY, END, END_LINE, END_STRING}
+use Rattle.sre_chars.specs.declared.constants.SreAtCode.TheVariants.{LOC_BOUNDARY, LOC_NON_BOUNDARY, UNI_BOUNDARY}
+use Rattle.sre_chars.specs.declared.constants.SreAtCode.TheVariants.{UNI_NON_BOUNDARY}
+use Rattle.sre_model.specs.Tree.{At}
+use Rattle.sre_model.specs.Subject.{Subject, char_at, before, after, holds_at, is_boundary, is_on_nothing}
+use Rattle.sre_model.specs.Subject.{bars_non_boundary}
+use Rattle.sre_shape.specs.Covers.{View, CoversItem, InBytes}
+use Rattle.sre_shape.proofs.Matched.{at-matched}
+
+-- the assertion that a position's condition is at most
+abbrev pub look_of : SreAtCode → Option Look
+look_of BEGINNING = Some Start
+look_of BEGINNING_LINE = Some StartLf
+look_of BEGINNING_STRING = Some Start
+look_of BOUNDARY = Some WordAscii
+look_of NON_BOUNDARY = Some WordAsciiNegate
+look_of END = Some EndLf
+look_of END_LINE = Some EndLf
+look_of END_STRING = Some End
+look_of LOC_BOUNDARY = Some WordAscii
+look_of LOC_NON_BOUNDARY = Some WordAsciiNegate
+look_of UNI_BOUNDARY = None
+look_of UNI_NON_BOUNDARY = None
+
+same_word : (c : ℕ) → is_word_byte c ≡ is_word c
+same_word c = grind (arith, nat_tests)
+
+past_word : (b c : ℕ) → 128 ≤ b → 128 ≤ c → is_word_byte b ≡ is_word c
+past_word b c l k = no_byte ∙ sym no_char
+  where
+    no_byte : is_word_byte b ≡ false
+    no_byte = grind (arith, nat_tests)
+
+    no_char : is_word c ≡ false
+    no_char = grind (arith, nat_tests)
+
+-- a byte at an edge of a character: an ASCII character itself, and no ASCII byte else
+pub record Alike (b c : ℕ) : Type 0 where
+  pub ascii : c < 128 → b ≡ c
+  pub other : 128 ≤ c → 128 ≤ b
+
+-- what stands at both edges of each character
+pub record Sided (s : Subject) (hay : List ℕ) (off : ℕ → ℕ) : Type 0 where
+  pub starts : off 0 ≡ 0
+  pub ends : off s.end ≡ length hay
+  pub first : (p : ℕ) → p < s.end → (b : ℕ) × (slice_get hay (off p) ≡ Some b) × Alike b (char_at s p)
+  pub last : (p : ℕ) → p < s.end → (b : ℕ) × (bytes.byte_before hay (off (p + 1)) ≡ Some b) × Alike b (char_at s p)
+
+pub bytes-sided : (bound : ℕ) (s : Subject) (hay : List ℕ) (off : ℕ → ℕ) → InBytes bound s hay off → Sided s hay off
+bytes-sided bound s hay off v =
+    let itself : (c : ℕ) → Alike c c = λ c. record { ascii = λ l. refl; other = λ l. l } in
+    record {
+      starts = v.starts;
+      ends = v.ends;
+      first = λ p inside. (char_at s p, v.byte p inside, itself (char_at s p));
+      last = λ p inside. (
+        char_at s p,
+        ap (bytes.byte_before hay) (v.next p inside) ∙ byte_before-add-one hay (off p) ∙ v.byte p inside,
+        itself (char_at s p),
+      );
+    }
+
+module _ (s : Subject) (hay : List ℕ) (off : ℕ → ℕ) (v : Sided s hay off) where
+  -- the tests agree on each character of the window and the bytes at its edges
+  abbrev Agree : (ℕ → Bool) → (ℕ → Bool) → Type 0
+  Agree T U = (q b : ℕ) → q < s.end → Alike b (char_at s q) → T b ≡ U (char_at s q)
+
+  before-same : (T U : ℕ → Bool) → Agree T U → (p : ℕ) → p ≤ s.end
+      → bytes.is_some_and (bytes.byte_before hay (off p)) T ≡ before s U p
+  before-same T U g zero l =
+      ap (λ o. bytes.is_some_and o T) (ap (bytes.byte_before hay) v.starts ∙ byte_before-zero hay)
+  before-same T U g (suc q) l =
+      let x = v.last q (omega arith) in
+      let one : q + 1 ≡ suc q = omega arith in
+      let back : suc q - 1 ≡ q = omega arith in
+      let past : nat_lt 0 (suc q) ≡ true = grind (arith, nat_tests) in
+      ap (λ n. bytes.is_some_and (bytes.byte_before hay (off n)) T) (sym one)
+      ∙ ap (λ o. bytes.is_some_and o T) x.1
+      ∙ g q x.0 (omega arith) x.2
+      ∙ sym (ap₂ (λ y n. y && U (char_at s n)) past back)
+
+  after-same : (T U : ℕ → Bool) → Agree T U → (p : ℕ) → p ≤ s.end
+      → bytes.is_some_and (slice_get hay (off p)) T ≡ after s U p
+  after-same T U g p l = by_test (nat_lt p s.end) refl
+    where
+      by_test : (y : Bool) → nat_lt p s.end ≡ y → bytes.is_some_and (slice_get hay (off p)) T ≡ (y && U (char_at s p))
+      by_test true e =
+          let inside : p < s.end = grind (arith, nat_tests) in
+          let x = v.first p inside in
+          ap (λ o. bytes.is_some_and o T) x.1 ∙ g p x.0 inside x.2
+      by_test false e =
+          let at : p ≡ s.end = grind (arith, nat_tests) in
+          ap (λ o. bytes.is_some_and o T) (slice_get_past hay (off p) (omega (arith, ap off at, v.ends)))
+
+  starts-same : (p : ℕ) → p ≤ s.end → not (is_some (bytes.byte_before hay (off p))) ≡ nat_eq p 0
+  starts-same zero l = ap (λ o. not (is_some o)) (ap (bytes.byte_before hay) v.starts ∙ byte_before-zero hay)
+  starts-same (suc q) l =
+      let x = v.last q (omega arith) in
+      let one : q + 1 ≡ suc q = omega arith in
+      let past : nat_eq (suc q) 0 ≡ false = grind (arith, nat_tests) in
+      ap (λ n. not (is_some (bytes.byte_before hay (off n)))) (sym one) ∙ ap (λ o. not (is_some o)) x.1 ∙ sym past
+
+  ends-same : (p : ℕ) → p ≤ s.end → not (is_some (slice_get hay (off p))) ≡ nat_eq p s.end
+  ends-same p l = by_test (nat_eq p s.end) refl
+    where
+      by_test : (y : Bool) → nat_eq p s.end ≡ y → not (is_some (slice_get hay (off p))) ≡ y
+      by_test true e =
+          let at : p ≡ s.end = grind (arith, nat_tests) in
+          ap (λ o. not (is_some o)) (slice_get_past hay (off p) (omega (arith, ap off at, v.ends)))
+      by_test false e =
+          let inside : p < s.end = grind (arith, nat_tests) in
+          ap (λ o. not (is_some o)) (v.first p inside).1
+
+  line-agrees : Agree (λ b. b == 10) is_linebreak
+  line-agrees q b l a = by_size (nat_lt (char_at s q) 128) refl
+    where
+      by_size : (y : Bool) → nat_lt (char_at s q) 128 ≡ y → (b == 10) ≡ (char_at s q == 10)
+      by_size true e = ap (λ n. n == 10) (a.ascii (grind (arith, nat_tests)))
+      by_size false e = let big : 128 ≤ b = a.other (grind (arith, nat_tests)) in grind (arith, nat_tests)
+
+  word-agrees : Agree is_word_byte is_word
+  word-agrees q b l a = by_size (nat_lt (char_at s q) 128) refl
+    where
+      by_size : (y : Bool) → nat_lt (char_at s q) 128 ≡ y → is_word_byte b ≡ is_word (char_at s q)
+      by_size true e =
+          let same : b ≡ char_at s q = a.ascii (grind (arith, nat_tests)) in
+          ap is_word_byte same ∙ same_word (char_at s q)
+      by_size false e =
+          let big : 128 ≤ b = a.other (grind (arith, nat_tests)) in
+          past_word b (char_at s q) big (grind (arith, nat_tests))
+
+  -- conditions that are assertions
+  start-holds : (p : ℕ) → p ≤ s.end → looks.holds Start hay (off p) ≡ nat_eq p 0
+  unfolding looks.holds looks.holds_between
+  start-holds p l = starts-same p l
+
+  end-holds : (p : ℕ) → p ≤ s.end → looks.holds End hay (off p) ≡ nat_eq p s.end
+  unfolding looks.holds looks.holds_between
+  end-holds p l = ends-same p l
+
+  start_line-holds : (p : ℕ) → p ≤ s.end
+      → looks.holds StartLf hay (off p) ≡ (nat_eq p 0 || before s is_linebreak p)
+  unfolding looks.holds looks.holds_between
+  start_line-holds p l = ap₂ (λ x y. x || y) (starts-same p l) (before-same (λ b. b == 10) is_linebreak line-agrees p l)
+
+  end_line-holds : (p : ℕ) → p ≤ s.end
+      → looks.holds EndLf hay (off p) ≡ (nat_eq p s.end || after s is_linebreak p)
+  unfolding looks.holds looks.holds_between
+  end_line-holds p l = ap₂ (λ x y. x || y) (ends-same p l) (after-same (λ b. b == 10) is_linebreak line-agrees p l)
+
+  word-holds : (word : ℕ → Bool) → Agree is_word_byte word → (p : ℕ) → p ≤ s.end
+      → looks.holds WordAscii hay (off p) ≡ is_boundary s word p
+  unfolding looks.holds looks.holds_between
+  word-holds word g p l =
+      ap₂ (λ x y. cond x (not y) y) (before-same is_word_byte word g p l) (after-same is_word_byte word g p l)
+
+  no_word-holds : (word : ℕ → Bool) → Agree is_word_byte word → (p : ℕ) → p ≤ s.end
+      → looks.holds WordAsciiNegate hay (off p) ≡ not (is_boundary s word p)
+  unfolding looks.holds looks.holds_between
+  no_word-holds word g p l =
+      ap₂ (λ x y. not (cond x (not y) y)) (before-same is_word_byte word g p l) (after-same is_word_byte word g p l)
+
+  -- a condition of which the assertion that it is at most holds wherever it does
+  abbrev Implies : Look → SreAtCode → Type 0
+  Implies l a = (p : ℕ) → p ≤ s.end → holds_at s a p ≡ true → looks.holds l hay (off p) ≡ true
+
+  beginning : Implies Start BEGINNING
+  beginning p l h = start-holds p l ∙ h
+
+  beginning_string : Implies Start BEGINNING_STRING
+  beginning_string p l h = start-holds p l ∙ h
+
+  beginning_line : Implies StartLf BEGINNING_LINE
+  beginning_line p l h = start_line-holds p l ∙ h
+
+  end_string : Implies End END_STRING
+  end_string p l h = end-holds p l ∙ h
+
+  end_line : Implies EndLf END_LINE
+  end_line p l h = end_line-holds p l ∙ h
+
+  end : Implies EndLf END
+  end p l h = end_line-holds p l ∙ weaker (nat_eq p s.end) (nat_eq (p + 1) s.end) (after s is_linebreak p) h
+    where
+      weaker : (x y z : Bool) → (x || (y && z)) ≡ true → (x || z) ≡ true
+      weaker true y z e = refl
+      weaker false y z e = (and_parts y z e).1
+
+  boundary : Implies WordAscii BOUNDARY
+  boundary p l h =
+      word-holds is_word word-agrees p l ∙ (and_parts (not (is_on_nothing s p)) (is_boundary s is_word p) h).1
+
+  loc_boundary : Implies WordAscii LOC_BOUNDARY
+  loc_boundary p l h = boundary p l h
+
+  non_boundary : Implies WordAsciiNegate NON_BOUNDARY
+  non_boundary p l h =
+      no_word-holds is_word word-agrees p l
+      ∙ (and_parts (not (bars_non_boundary s p)) (not (is_boundary s is_word p)) h).1
+
+  loc_non_boundary : Implies WordAsciiNegate LOC_NON_BOUNDARY
+  loc_non_boundary p l h = non_boundary p l h
+
+  -- where the table's words are the ASCII words on this text
+  abbrev AsciiWords : Type 0
+  AsciiWords = (q : ℕ) → q < s.end → is_unicode_word s.table (char_at s q) ≡ is_word (char_at s q)
+
+  uni-agrees : AsciiWords → Agree is_word_byte (is_unicode_word s.table)
+  uni-agrees w q b l a = word-agrees q b l a ∙ sym (w q l)
+
+  uni_boundary : AsciiWords → Implies WordAscii UNI_BOUNDARY
+  uni_boundary w p l h =
+      word-holds (is_unicode_word s.table) (uni-agrees w) p l
+      ∙ (and_parts (not (is_on_nothing s p)) (is_boundary s (is_unicode_word s.table) p) h).1
+
+  uni_non_boundary : AsciiWords → Implies WordAsciiNegate UNI_NON_BOUNDARY
+  uni_non_boundary w p l h =
+      no_word-holds (is_unicode_word s.table) (uni-agrees w) p l
+      ∙ (and_parts (not (bars_non_boundary s p)) (not (is_boundary s (is_unicode_word s.table) p)) h).1
+
+  implied : (k l : Look) (a : SreAtCode) → Some k ≡ Some l → Implies k a → Implies l a
+  implied k l a e f = subst (λ x. Implies x a) (same_Some k l e) f
+
+  look-implies : (a : SreAtCode) (l : Look) → look_of a ≡ Some l → Implies l a
+  look-implies BEGINNING l e = implied Start l BEGINNING e beginning
+  look-implies BEGINNING_LINE l e = implied StartLf l BEGINNING_LINE e beginning_line
+  look-implies BEGINNING_STRING l e = implied Start l BEGINNING_STRING e beginning_string
+  look-implies BOUNDARY l e = implied WordAscii l BOUNDARY e boundary
+  look-implies NON_BOUNDARY l e = implied WordAsciiNegate l NON_BOUNDARY e non_boundary
+  look-implies END l e = implied EndLf l END e end
+  look-implies END_LINE l e = implied EndLf l END_LINE e end_line
+  look-implies END_STRING l e = implied End l END_STRING e end_string
+  look-implies LOC_BOUNDARY l e = implied WordAscii l LOC_BOUNDARY e loc_boundary
+  look-implies LOC_NON_BOUNDARY l e = implied WordAsciiNegate l LOC_NON_BOUNDARY e loc_non_boundary
+  look-implies UNI_BOUNDARY l e = absurd (none-some l e)
+  look-implies UNI_NON_BOUNDARY l e = absurd (none-some l e)
+
+-- a position is covered by its assertion
+pub covers-look_of : (V : View) (table : Table)
+    → ((s : Subject) (hay : List ℕ) (off : ℕ → ℕ) → V s hay off → Sided s hay off)
+    → (a : SreAtCode) (l : Look) → look_of a ≡ Some l → CoversItem V table (look l) (At a)
+covers-look_of V table sided a l e = record {
+  covers = λ s hay off v same.
+      at-matched s hay off (look l) a (λ p i h. (look-implies s hay off (sided s hay off v) a l e p i h, refl));
+}

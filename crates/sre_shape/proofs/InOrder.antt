@@ -1,0 +1,286 @@
+-- Where a pattern is exact it tries the ways of its tree in their order, so its first match is their first.
+use Rattle.std.proofs.Common.{◌≡◌, ℕ, zero, suc, ◌+◌, ◌-◌, ◌<◌, ◌≤◌, Bool, true, false, cond, ◌&&◌, ◌||◌, not, nat_lt}
+use Rattle.std.proofs.Common.{nat_eq}
+use Rattle.std.proofs.Common.{List, [], ◌∷◌, ◌++◌, length, Option, Some, None, refl, sym, ap, ap₂, ◌∙◌, arith}
+use Rattle.std.proofs.Common.{slice_get, true≢false}
+use Rattle.std.specs.List.{flat_map, AllByRecursion}
+use Rattle.std.specs.Option.{option_or}
+use Rattle.std.proofs.lemmas.Bool.{cond-true}
+use Rattle.std.proofs.lemmas.Bool.Decides.{nat_tests}
+use Rattle.regex_hir.specs.Re.{Re, empty, cat, alt, plus, Trace, Rest, accept, prefer, more_rounds, attempt, byte_in}
+use Rattle.regex_hir.specs.Text.{is_some_and}
+use Rattle.regex_class.specs.Ranges.{in_ranges}
+use Rattle.std.proofs.lemmas.Option.{slice_get_past}
+use Rattle.sre_model.specs.Characters.{holds}
+use Rattle.regex_hir.specs.Meaning.{optional, copies, up_to, at_least, repeat}
+use Rattle.regex_hir.proofs.AttemptLemmas.{more_rounds_unfold}
+use Rattle.sre_model.specs.Tree.{Tree, Empty, Then, Item, Mark, Trees, Or, Order, Greedy, Lazy, One, Test}
+use Rattle.sre_model.specs.Marks.{Marks}
+use Rattle.sre_model.specs.Subject.{Subject, char_at}
+use Rattle.sre_model.specs.Ways.{Way, Body, here, unlimited, ordered, may_repeat, loop_ways, ways, item_ways}
+use Rattle.sre_model.specs.Ways.{branch_ways}
+use Rattle.sre_model.specs.Loops.{loop_from}
+use Rattle.sre_model.proofs.Each.{each-both}
+use Rattle.sre_model.proofs.Bounds.{Between, Bounded, item-bounded}
+use Rattle.sre_model.proofs.LoopCases.{loop-below-all, loop-beyond-all, loop-ways}
+use Rattle.sre_shape.specs.Shape.{is_greedy}
+
+or-none : {A : Type 0} (a : Option A) → option_or a None ≡ a
+or-none None = refl
+or-none (Some x) = refl
+
+or-assoc : {A : Type 0} (a b c : Option A) → option_or (option_or a b) c ≡ option_or a (option_or b c)
+or-assoc None b c = refl
+or-assoc (Some x) b c = refl
+
+module _ (s : Subject) (hay : List ℕ) (off : ℕ → ℕ) where
+  -- what follows, tried from the end of each of some ways in turn
+  abbrev pub tried : Rest → List Way → Option Trace
+  tried k [] = None
+  tried k (w ∷ ws) = option_or (k (off w.stop)) (tried k ws)
+
+  -- the pattern tries the ways of a body in their order
+  abbrev pub Exact : Re → Body → Type 0
+  Exact re body = (k : Rest) (p : ℕ) (m : Marks) → p ≤ s.end → attempt hay re k (off p) ≡ tried k (body p m)
+
+  tried-append : (k : Rest) (xs ys : List Way) → tried k (xs ++ ys) ≡ option_or (tried k xs) (tried k ys)
+  tried-append k [] ys = refl
+  tried-append k (x ∷ xs) ys =
+      ap (option_or (k (off x.stop))) (tried-append k xs ys)
+      ∙ sym (or-assoc (k (off x.stop)) (tried k xs) (tried k ys))
+
+  tried-flat : (P : Way → Type 0) (j k : Rest) (f : Way → List Way) (ws : List Way) → AllByRecursion P ws
+      → ((w : Way) → P w → j (off w.stop) ≡ tried k (f w)) → tried j ws ≡ tried k (flat_map f ws)
+  tried-flat P j k f [] h g = refl
+  tried-flat P j k f (w ∷ ws) h g =
+      ap₂ option_or (g w h.0) (tried-flat P j k f ws h.1 g) ∙ sym (tried-append k (f w) (flat_map f ws))
+
+  tried-here : (k : Rest) (p : ℕ) (m : Marks) → tried k (here p m) ≡ k (off p)
+  tried-here k p m = or-none (k (off p))
+
+  tried-ordered : (k : Rest) (o : Order) (xs ys : List Way)
+      → prefer (is_greedy o) (tried k xs) (tried k ys) ≡ tried k (ordered o xs ys)
+  tried-ordered k Greedy xs ys = sym (tried-append k xs ys)
+  tried-ordered k Lazy xs ys = sym (tried-append k ys xs)
+
+  pub empty-exact : Exact empty (ways s Empty)
+  unfolding attempt
+  empty-exact k p m h = sym (tried-here k p m)
+
+  pub then-exact : (a b : Re) (item : Item) (rest : Tree) → Exact a (item_ways s item) → Exact b (ways s rest)
+      → Exact (cat a b) (ways s (Then item rest))
+  unfolding attempt
+  then-exact a b item rest f g k p m h =
+      f (attempt hay b k) p m h
+      ∙ tried-flat (Between s p) (attempt hay b k) k (λ w. ways s rest w.stop w.marks) (item_ways s item p m)
+      (item-bounded s item p m h) (λ w l. g k w.stop w.marks l.1)
+
+  pub or-exact : (a b : Re) (t : Tree) (ts : Trees) → Exact a (ways s t) → Exact b (branch_ways s ts)
+      → Exact (alt a b) (branch_ways s (Or t ts))
+  unfolding attempt
+  or-exact a b t ts f g k p m h =
+      ap₂ option_or (f k p m h) (g k p m h) ∙ sym (tried-append k (ways s t p m) (branch_ways s ts p m))
+
+  attempt-optional : (g : Bool) (b : Re) (k : Rest) (i : ℕ)
+      → attempt hay (optional g b) k i ≡ prefer g (attempt hay b k i) (k i)
+  unfolding attempt
+  attempt-optional true b k i = refl
+  attempt-optional false b k i = refl
+
+  -- a loop whose body moves on
+  module _ (up : (p q : ℕ) → p < q → q ≤ s.end → off p < off q) (o : Order) (low high : ℕ) (body : Body) (a : Re)
+      (x : Exact a body) (b : Bounded s body)
+      (moves : (p : ℕ) (m : Marks) → p ≤ s.end → AllByRecursion (λ w. p < w.stop) (body p m)) where
+    abbrev loop : ℕ → Option ℕ → Body
+    loop = loop_from s o low high body
+
+    abbrev g : Bool
+    g = is_greedy o
+
+    -- the last body began before here
+    abbrev Passed : Option ℕ → ℕ → Type 0
+    Passed None p = Unit {0}
+    Passed (Some q) p = q < p
+
+    abbrev OnWay : ℕ → Way → Type 0
+    OnWay p w = Between s p w × (p < w.stop)
+
+    on_way : (p : ℕ) (m : Marks) → p ≤ s.end → AllByRecursion (OnWay p) (body p m)
+    on_way p m h = each-both (Between s p) (λ w. p < w.stop) (body p m) (b p m h) (moves p m h)
+
+    repeats : (count : ℕ) (last : Option ℕ) (p : ℕ) → Passed last p
+        → may_repeat high count last p ≡ (nat_eq high unlimited || nat_lt count high)
+    repeats count None p l = refl
+    repeats count (Some q) p l =
+        let other : nat_eq q p ≡ false = grind (arith, nat_tests) in
+        ap (λ y. (nat_eq high unlimited || nat_lt count high) && not y) other
+        ∙ and-true (nat_eq high unlimited || nat_lt count high)
+      where
+        and-true : (y : Bool) → (y && true) ≡ y
+        and-true true = refl
+        and-true false = refl
+
+    -- a further body, or the end
+    beyond : (k : Rest) (count : ℕ) (last : Option ℕ) (p : ℕ) (m : Marks) → p ≤ s.end → low ≤ count → Passed last p
+        → (j : Rest) → (nat_eq high unlimited || nat_lt count high) ≡ true
+        → ((w : Way) → OnWay p w → j (off w.stop) ≡ tried k (loop (count + 1) (Some p) w.stop w.marks))
+        → prefer g (attempt hay a j (off p)) (k (off p)) ≡ tried k (loop count last p m)
+    beyond k count last p m h l passed j may each =
+        let tries : List Way = flat_map (λ w. loop (count + 1) (Some p) w.stop w.marks) (body p m) in
+        ap₂ (prefer g)
+        (x j p m h ∙ tried-flat (OnWay p) j k (λ w. loop (count + 1) (Some p) w.stop w.marks) (body p m) (on_way p m h)
+        each)
+        (sym (tried-here k p m))
+        ∙ tried-ordered k o tries (here p m)
+        ∙ ap (λ y. tried k (ordered o (cond y tries []) (here p m))) (sym (repeats count last p passed ∙ may))
+        ∙ ap (tried k) (sym (loop-beyond-all s o low high body b count last p m h l))
+
+    ends : (k : Rest) (count : ℕ) (last : Option ℕ) (p : ℕ) (m : Marks) → p ≤ s.end → low ≤ count → Passed last p
+        → (nat_eq high unlimited || nat_lt count high) ≡ false → k (off p) ≡ tried k (loop count last p m)
+    ends k count last p m h l passed may =
+        let tries : List Way = flat_map (λ w. loop (count + 1) (Some p) w.stop w.marks) (body p m) in
+        sym (tried-here k p m)
+        ∙ ap (tried k) (alone o)
+        ∙ ap (λ y. tried k (ordered o (cond y tries []) (here p m))) (sym (repeats count last p passed ∙ may))
+        ∙ ap (tried k) (sym (loop-beyond-all s o low high body b count last p m h l))
+      where
+        alone : (r : Order) → here p m ≡ ordered r [] (here p m)
+        alone Greedy = refl
+        alone Lazy = refl
+
+    -- so many further bodies at most
+    up_to-exact : (n : ℕ) (k : Rest) (count : ℕ) (last : Option ℕ) (p : ℕ) (m : Marks) → p ≤ s.end → low ≤ count
+        → count + n ≡ high → high < unlimited → Passed last p
+        → attempt hay (up_to g n a) k (off p) ≡ tried k (loop count last p m)
+    unfolding attempt
+    up_to-exact zero k count last p m h l e u passed = ends k count last p m h l passed (grind (arith, nat_tests))
+    up_to-exact (suc n) k count last p m h l e u passed =
+        attempt-optional g (cat a (up_to g n a)) k (off p)
+        ∙ beyond k count last p m h l passed (attempt hay (up_to g n a) k) (grind (arith, nat_tests))
+        (λ w on. up_to-exact n k (count + 1) (Some p) w.stop w.marks on.0.1 (omega arith) (omega arith) u on.1)
+
+    -- any number of them
+    rounds-exact : (fuel : ℕ) (k : Rest) (count : ℕ) (last : Option ℕ) (p : ℕ) (m : Marks) → s.end < p + fuel
+        → p ≤ s.end
+        → low ≤ count → nat_eq high unlimited ≡ true → Passed last p
+        → more_rounds hay g (attempt hay a) k (off p) ≡ tried k (loop count last p m)
+    rounds-exact zero k count last p m f h l e passed = absurd (omega arith)
+    rounds-exact (suc fuel) k count last p m f h l e passed =
+        more_rounds_unfold hay g a k (off p)
+        ∙ beyond k count last p m h l passed
+        (λ i. cond (nat_lt (off p) i) (more_rounds hay g (attempt hay a) k i) None)
+        (ap (λ y. y || nat_lt count high) e)
+        (λ w on. let later : off p < off w.stop = up p w.stop on.1 on.0.1 in
+        let moved : nat_lt (off p) (off w.stop) ≡ true = grind (arith, nat_tests) in
+        cond-true (nat_lt (off p) (off w.stop)) (more_rounds hay g (attempt hay a) k (off w.stop)) None moved
+        ∙ rounds-exact fuel k (count + 1) (Some p) w.stop w.marks (omega (arith, on.1)) on.0.1 (omega arith) e on.1)
+
+    -- at least one
+    plus-exact : (k : Rest) (count : ℕ) (last : Option ℕ) (p : ℕ) (m : Marks) → p ≤ s.end → low ≤ count
+        → nat_eq high unlimited ≡ true → ((q : ℕ) → p < q → Passed last q)
+        → attempt hay (plus g a) k (off p) ≡ tried k (flat_map (λ w. loop count last w.stop w.marks) (body p m))
+    unfolding attempt
+    plus-exact k count last p m h l e passed =
+        x (λ j. cond (nat_lt (off p) j) (more_rounds hay g (attempt hay a) k j) (k j)) p m h
+        ∙ tried-flat (OnWay p) (λ j. cond (nat_lt (off p) j) (more_rounds hay g (attempt hay a) k j) (k j)) k
+        (λ w. loop count last w.stop w.marks) (body p m) (on_way p m h)
+        (λ w on. let later : off p < off w.stop = up p w.stop on.1 on.0.1 in
+        let moved : nat_lt (off p) (off w.stop) ≡ true = grind (arith, nat_tests) in
+        cond-true (nat_lt (off p) (off w.stop)) (more_rounds hay g (attempt hay a) k (off w.stop)) (k (off w.stop))
+        moved
+        ∙ rounds-exact (s.end + 1) k count last w.stop w.marks (omega arith) on.0.1 l e (passed w.stop on.1))
+
+    -- bodies below the least count
+    copies-exact : (r : Re) (k : Rest) (n count : ℕ) → count + n ≤ low
+        → ((q : ℕ) (m : Marks) → q ≤ s.end → attempt hay r k (off q) ≡ tried k (loop (count + n) None q m))
+        → (p : ℕ) (m : Marks) → p ≤ s.end → attempt hay (copies n a r) k (off p) ≡ tried k (loop count None p m)
+    unfolding attempt
+    copies-exact r k zero count l f p m h =
+        let same : count + zero ≡ count = omega arith in
+        f p m h ∙ ap (λ c. tried k (loop c None p m)) same
+    copies-exact r k (suc n) count l f p m h =
+        let same : count + suc n ≡ count + 1 + n = omega arith in
+        x (attempt hay (copies n a r) k) p m h
+        ∙ tried-flat (Between s p) (attempt hay (copies n a r) k) k (λ w. loop (count + 1) None w.stop w.marks)
+        (body p m)
+        (b p m h)
+        (λ w on. copies-exact r k n (count + 1) (omega arith)
+        (λ q n' i. f q n' i ∙ ap (λ c. tried k (loop c None q n')) same) w.stop w.marks on.1)
+        ∙ ap (tried k) (sym (loop-below-all s o low high body b count None p m h (omega arith)))
+
+    pub counted-exact : low ≤ high → high < unlimited → Exact (repeat low (Some high) g a) (loop_ways s o low high body)
+    unfolding repeat
+    counted-exact l u k p m h =
+        copies-exact (up_to g (high - low) a) k low 0 (omega arith)
+        (λ q n i. up_to-exact (high - low) k (0 + low) None q n i (omega arith) (omega arith) u tt) p m h
+        ∙ ap (tried k) (sym (loop-ways s o low high body p m))
+
+    -- and without a greatest count
+    pub endless-exact : nat_eq high unlimited ≡ true → Exact (repeat low None g a) (loop_ways s o low high body)
+    unfolding repeat attempt
+    endless-exact e k p m h =
+        by_low low refl ∙ ap (tried k) (sym (loop-ways s o low high body p m))
+      where
+        by_low : (n : ℕ) → low ≡ n → attempt hay (at_least g n a) k (off p) ≡ tried k (loop 0 None p m)
+        by_low zero is =
+            attempt-optional g (plus g a) k (off p)
+            ∙ beyond k 0 None p m h (omega arith) tt
+            (λ j. cond (nat_lt (off p) j) (more_rounds hay g (attempt hay a) k j) (k j))
+            (ap (λ y. y || nat_lt 0 high) e)
+            (λ w on. let later : off p < off w.stop = up p w.stop on.1 on.0.1 in
+            let moved : nat_lt (off p) (off w.stop) ≡ true = grind (arith, nat_tests) in
+            cond-true (nat_lt (off p) (off w.stop)) (more_rounds hay g (attempt hay a) k (off w.stop)) (k (off w.stop))
+            moved
+            ∙ rounds-exact (s.end + 1) k (0 + 1) (Some p) w.stop w.marks (omega arith) on.0.1 (omega arith) e on.1)
+        by_low (suc c) is =
+            let there : 0 + c ≡ c = omega arith in
+            copies-exact (plus g a) k c 0 (omega arith)
+            (λ q n i.
+            plus-exact k (c + 1) None q n i (omega arith) e (λ r l. tt)
+            ∙ ap (tried k) (sym (loop-below-all s o low high body b c None q n i (omega arith)))
+            ∙ ap (λ z. tried k (loop z None q n)) (sym there)) p m h
+
+  -- a class that has the bytes that pass, and no others
+  pub one-exact : (rs : List (ℕ × ℕ)) (t : Test)
+      → ((p : ℕ) → p < s.end → (is_some_and (slice_get hay (off p)) (in_ranges rs) ≡ holds s.table t (char_at s p)))
+      → ((p : ℕ) → p < s.end → off (p + 1) ≡ off p + 1) → off s.end ≡ length hay
+      → Exact (byte_in rs) (item_ways s (One t))
+  unfolding attempt
+  one-exact rs t same next last k p m h = by_place (nat_lt p s.end) refl
+    where
+      by_test : (x y : Bool) → x ≡ y → off (p + 1) ≡ off p + 1
+          → cond x (k (off p + 1)) None ≡ tried k (cond y (here (p + 1) m) [])
+      by_test true true e n = sym (tried-here k (p + 1) m ∙ ap k n)
+      by_test true false e n = absurd (true≢false e)
+      by_test false true e n = absurd (true≢false (sym e))
+      by_test false false e n = refl
+
+      by_place : (y : Bool) → nat_lt p s.end ≡ y
+          → cond (is_some_and (slice_get hay (off p)) (in_ranges rs)) (k (off p + 1)) None
+          ≡ tried k (cond (y && holds s.table t (char_at s p)) (here (p + 1) m) [])
+      by_place false e =
+          let at : p ≡ s.end = grind (arith, nat_tests) in
+          ap (λ z. cond (is_some_and z (in_ranges rs)) (k (off p + 1)) None)
+          (slice_get_past hay (off p) (omega (arith, ap off at, last)))
+      by_place true e =
+          let inside : p < s.end = grind (arith, nat_tests) in
+          by_test (is_some_and (slice_get hay (off p)) (in_ranges rs)) (holds s.table t (char_at s p)) (same p inside)
+          (next p inside)
+
+  pub mark-exact : (n : ℕ) → Exact empty (item_ways s (Mark n))
+  unfolding attempt
+  mark-exact n k p m h = sym (or-none (k (off p)))
+
+  -- the end of the first of some ways
+  abbrev pub first_end : List Way → Option Trace
+  first_end [] = None
+  first_end (w ∷ ws) = Some (record { end = off w.stop; writes = [] })
+
+  -- an exact pattern matches as its body's first way ends, and where it has none not at all
+  pub first-way : (re : Re) (body : Body) → Exact re body → (p : ℕ) (m : Marks) → p ≤ s.end
+      → attempt hay re accept (off p) ≡ first_end (body p m)
+  first-way re body x p m h = x accept p m h ∙ its (body p m)
+    where
+      its : (ws : List Way) → tried accept ws ≡ first_end ws
+      its [] = refl
+      its (w ∷ ws) = refl

@@ -1,0 +1,15 @@
+pub mod Times
+pub mod Journeys
+pub mod RunsAlong
+pub mod Matched
+pub mod Skipped
+pub mod OverBytes
+pub mod Composed
+pub mod OverUtf8
+pub mod Edges
+pub mod EdgesUtf8
+pub mod Fronts
+pub mod InOrder
+pub mod RunsInOrder
+pub mod ExactTrees
+pub mod FirstFound

@@ -1,0 +1,73 @@
+-- When a pattern of bytes has a match wherever a tree has a way.
+use Rattle.std.specs.Prelude.{ℕ, ◌≡◌, ◌+◌, ◌≤◌, ◌<◌, true, List, length, take, Some, slice_get}
+use Rattle.std.specs.List.{AllByRecursion}
+use Rattle.std.specs.Char.{len_utf8}
+use Rattle.regex_hir.specs.Re.{Re}
+use Rattle.regex_hir.specs.Matches.{Matches}
+use Rattle.regex_hir.specs.Text as bytes
+use Rattle.sre_chars.specs.Tables.{Table}
+use Rattle.sre_chars.specs.Texts.{offset_of}
+use Rattle.sre_model.specs.Tree.{Tree, Item, Trees, Test}
+use Rattle.sre_model.specs.Marks.{Marks}
+use Rattle.sre_model.specs.Characters.{holds}
+use Rattle.sre_model.specs.Subject.{Subject, char_at}
+use Rattle.sre_model.specs.Ways.{Body, ways, item_ways, branch_ways}
+
+-- the pattern leads from one position of the text to another, where `off` tells at which byte a position stands
+abbrev pub Leads : List ℕ → (ℕ → ℕ) → Re → ℕ → ℕ → Type 0
+Leads hay off re p q = Matches hay re (off p) (off q)
+
+-- from within the window each way of a body goes along a relation, and ends within the window
+abbrev pub Along : Subject → (ℕ → ℕ → Type 0) → Body → Type 0
+Along s R body = (p : ℕ) (m : Marks) → p ≤ s.end → AllByRecursion (λ w. R p w.stop × (w.stop ≤ s.end)) (body p m)
+
+-- the pattern has a match over each character of the window that passes the test
+abbrev pub TakesAll : Subject → List ℕ → (ℕ → ℕ) → Re → Test → Type 0
+TakesAll s hay off re t =
+    (p : ℕ) → p < s.end → holds s.table t (char_at s p) ≡ true → Leads hay off re p (p + 1)
+
+-- How a text is seen as bytes: its subject, the bytes up to the window's end, and the byte at which a position stands.
+abbrev pub View : Type 1
+View = Subject → List ℕ → (ℕ → ℕ) → Type 0
+
+-- each character is a byte below a bound
+pub record InBytes (bound : ℕ) (s : Subject) (hay : List ℕ) (off : ℕ → ℕ) : Type 0 where
+  pub starts : off 0 ≡ 0
+  pub ends : off s.end ≡ length hay
+  pub byte : (p : ℕ) → p < s.end → slice_get hay (off p) ≡ Some (char_at s p)
+  pub next : (p : ℕ) → p < s.end → off (p + 1) ≡ off p + 1
+  pub below : (p : ℕ) → p < s.end → char_at s p < bound
+
+-- each character stands as UTF-8
+pub record InUtf8 (s : Subject) (hay : List ℕ) (off : ℕ → ℕ) : Type 0 where
+  pub starts : off 0 ≡ 0
+  pub ends : off s.end ≡ length hay
+  pub char : (p : ℕ) → p < s.end → bytes.char_at hay (off p) ≡ Some (char_at s p)
+  pub next : (p : ℕ) → p < s.end → off (p + 1) ≡ off p + len_utf8 (char_at s p)
+
+-- on each text that is seen so the pattern has a match wherever the tree has a way, from the same place to the same
+pub record Covers (V : View) (table : Table) (re : Re) (t : Tree) : Type 0 where
+  pub covers : (s : Subject) (hay : List ℕ) (off : ℕ → ℕ) → V s hay off → s.table ≡ table
+      → Along s (Leads hay off re) (ways s t)
+
+pub record CoversItem (V : View) (table : Table) (re : Re) (item : Item) : Type 0 where
+  pub covers : (s : Subject) (hay : List ℕ) (off : ℕ → ℕ) → V s hay off → s.table ≡ table
+      → Along s (Leads hay off re) (item_ways s item)
+
+pub record CoversBranch (V : View) (table : Table) (re : Re) (ts : Trees) : Type 0 where
+  pub covers : (s : Subject) (hay : List ℕ) (off : ℕ → ℕ) → V s hay off → s.table ≡ table
+      → Along s (Leads hay off re) (branch_ways s ts)
+
+pub record CoversTest (V : View) (table : Table) (re : Re) (t : Test) : Type 0 where
+  pub takes : (s : Subject) (hay : List ℕ) (off : ℕ → ℕ) → V s hay off → s.table ≡ table → TakesAll s hay off re t
+
+-- a position of a text of bytes is a byte's place
+abbrev pub place : ℕ → ℕ
+place p = p
+
+-- What a search through a text reads: the window's end cuts it off, and the window's start does not.
+abbrev pub read_bytes : Subject → List ℕ
+read_bytes s = take s.end s.text
+
+abbrev pub read_utf8 : List ℕ → ℕ → List ℕ
+read_utf8 text end = take (offset_of text end) text
