@@ -1,0 +1,57 @@
+-- Patterns one after the other, and one or another of them.
+use Rattle.std.proofs.Common.{◌≡◌, ℕ, List, [], ◌∷◌, ◌++◌, refl, sym, ap, subst, inl}
+use Rattle.regex_hir.specs.Re.{Re, empty, cat, alt, byte_in, literal}
+use Rattle.regex_hir.specs.Meaning.{cat_all, alt_all}
+use Rattle.regex_hir.specs.Matches.{Matches}
+use Rattle.sre_shape.proofs.OverUtf8.{literals-joined}
+use Rattle.sre_patterns.specs.Patterns.{IsWider, cat_onto, alt_onto}
+
+pub wider-same : (a b : Re) → a ≡ b → IsWider a b
+wider-same a b e hay i j m = subst (λ x. Matches hay x i j) e m
+
+pub wider-then : (a b c : Re) → IsWider a b → IsWider b c → IsWider a c
+wider-then a b c f g hay i j m = g hay i j (f hay i j m)
+
+pub cat-wider : (all : List Re) (a b : Re) → IsWider a b → IsWider (cat_onto all a) (cat_onto all b)
+cat-wider [] a b w hay i j m = w hay i j m
+cat-wider (x ∷ xs) a b w hay i j m = (m.0, m.1, cat-wider xs a b w hay m.0 j m.2)
+
+pub cat-last : (all : List Re) (a b : Re) → cat_onto (all ++ a ∷ []) b ≡ cat_onto all (cat a b)
+cat-last [] a b = refl
+cat-last (x ∷ xs) a b = ap (λ z. cat x z) (cat-last xs a b)
+
+pub cat-all : (all : List Re) → cat_onto all empty ≡ cat_all all
+cat-all [] = refl
+cat-all (x ∷ xs) = ap (λ z. cat x z) (cat-all xs)
+
+pub empty-first : (b : Re) → IsWider (cat empty b) b
+empty-first b hay i j m = subst (λ l. Matches hay b l j) m.1 m.2
+
+pub alone : (a : Re) → IsWider (cat a empty) a
+alone a hay i j m = subst (λ l. Matches hay a i l) (sym m.2) m.1
+
+pub alt-last : (all : List Re) (a b : Re) → alt_onto (all ++ a ∷ []) b ≡ alt_onto all (alt a b)
+alt-last [] a b = refl
+alt-last (x ∷ xs) a b = ap (λ z. alt x z) (alt-last xs a b)
+
+pub alt-all : (all : List Re) → alt_onto all (byte_in []) ≡ alt_all all
+alt-all [] = refl
+alt-all (x ∷ xs) = ap (λ z. alt x z) (alt-all xs)
+
+pub alt-first : (a b : Re) → IsWider a (alt a b)
+alt-first a b hay i j m = inl m
+
+-- a literal behind a literal
+pub literals-join : (all : List Re) (before bytes : List ℕ) (b : Re)
+    → IsWider (cat_onto (all ++ literal before ∷ []) (cat (literal bytes) b))
+    (cat_onto (all ++ literal (before ++ bytes) ∷ []) b)
+literals-join all before bytes b hay i j m =
+    let apart = cat (literal before) (cat (literal bytes) b) in
+    let one = literal (before ++ bytes) in
+    wider-same (cat_onto all (cat one b)) (cat_onto (all ++ one ∷ []) b) (sym (cat-last all one b)) hay i j
+    (cat-wider all apart (cat one b) together hay i j
+    (wider-same (cat_onto (all ++ literal before ∷ []) (cat (literal bytes) b)) (cat_onto all apart)
+    (cat-last all (literal before) (cat (literal bytes) b)) hay i j m))
+  where
+    together : IsWider (cat (literal before) (cat (literal bytes) b)) (cat (literal (before ++ bytes)) b)
+    together hay i j m = (m.2.0, literals-joined before bytes hay i m.2.0 (m.0, m.1, m.2.1), m.2.2)

@@ -1,0 +1,101 @@
+-- Items one after the other: what is read so far, and what is left.
+use Rattle.std.proofs.Common.{◌≡◌, ℕ, ◌<◌, ◌≤◌, ◌⊎◌, List, [], length, refl, sym, subst, inl, inr}
+use Rattle.std.proofs.Common.{arith}
+use Rattle.regex_hir.specs.Re.{Re, empty, cat}
+use Rattle.sre_chars.specs.Tables.{Table}
+use Rattle.sre_chars.specs.declared.constants.SreOpcode.TheVariants as opcode
+use Rattle.sre_model.specs.Tree.{Tree, Empty, Then, Item}
+use Rattle.sre_model.specs.Grammar.{Word, Opcode, Reads, ReadsItem}
+use Rattle.sre_model.proofs.Words.{opcode_moved, opcode_within, same_word}
+use Rattle.sre_model.proofs.Families.{no_item}
+use Rattle.sre_model.proofs.Places.{reads_within, operands_past}
+use Rattle.sre_shape.specs.Covers.{View, Covers}
+use Rattle.sre_shape.proofs.Composed.{covers-empty, covers-then, covers-wider}
+use Rattle.sre_patterns.specs.Patterns.{IsWider, cat_onto, CoversItemsAt, CoversItemAt, Stops}
+
+-- a place is within what is read of a code
+pub there : (ws read : List ℕ) (q : ℕ) → read ≡ ws → q < length ws → q < length read
+there ws read q same l = subst (λ (r : List ℕ). q < length r) (sym same) l
+
+pub no-jump : (ws read : List ℕ) (i v : ℕ) → read ≡ ws → Word read i v → (v ≡ 15 → ⊥) → Opcode ws i opcode.JUMP → ⊥
+no-jump ws read i v same w other o =
+    other (same_word ws i v 15 (subst (λ (r : List ℕ). Word r i v) same w) o)
+
+module _ (V : View) (table : Table) (ws : List ℕ) (start end : ℕ) where
+  -- the items from start on are those that the patterns cover, and then those from place on
+  pub record Left (place : ℕ) (parts : List Re) (j : ℕ) (t : Tree) : Type 0 where
+    pub rest : Tree
+    pub reads : Reads ws place j rest
+    pub covers : (b : Re) → Covers V table b rest → Covers V table (cat_onto parts b) t
+
+  pub record SoFar (place : ℕ) (parts : List Re) : Type 0 where
+    pub each : (j : ℕ) (t : Tree) → Reads ws start j t → Stops ws j end → Left place parts j t
+
+  pub begun : SoFar start []
+  begun = record { each = λ j t r s. record { rest = t; reads = r; covers = λ b c. c } }
+
+  -- where neither the end nor a JUMP is, an item is
+  pub record Next (place j : ℕ) (u : Tree) : Type 0 where
+    pub item : Item
+    pub rest : Tree
+    pub is : u ≡ Then item rest
+    pub behind : ℕ
+    pub reads : ReadsItem ws place behind item
+    pub more : Reads ws behind j rest
+
+  pub next : (place j : ℕ) (u : Tree) → Reads ws place j u → Stops ws j end → place < end
+      → (Opcode ws place opcode.JUMP → ⊥) → Next place j u
+  next place j Empty r s before none =
+      absurd (go s.1)
+    where
+      go : (j ≡ end) ⊎ Opcode ws j opcode.JUMP → ⊥
+      go (inl e) = omega arith
+      go (inr o) = none (opcode_moved ws j place opcode.JUMP (sym r) o)
+  next place j (Then x rest) r s before none =
+      record { item = x; rest = rest; is = refl; behind = r.0; reads = r.1; more = r.2 }
+
+  -- a word is there, too
+  pub inside : (place j : ℕ) (u : Tree) → Reads ws place j u → Stops ws j end → place < end → place < length ws
+  inside place j Empty r s before = go s.1
+    where
+      go : (j ≡ end) ⊎ Opcode ws j opcode.JUMP → place < length ws
+      go (inl e) = absurd (omega arith)
+      go (inr o) = opcode_within ws place opcode.JUMP (opcode_moved ws j place opcode.JUMP (sym r) o)
+  inside place j (Then x rest) r s before = opcode_within ws place _ r.1.0
+
+  -- one more item
+  pub more : (place behind : ℕ) (parts after : List Re) (re : Re) → SoFar place parts → place < end
+      → (Opcode ws place opcode.JUMP → ⊥) → CoversItemAt V table ws place re behind
+      → ((b : Re) → IsWider (cat_onto parts (cat re b)) (cat_onto after b)) → SoFar behind after
+  more place behind parts after re so before none c wider = record {
+    each = λ j t r s.
+        let left = so.each j t r s in
+        let n = next place j left.rest left.reads s before none in
+        let x = c n.behind n.item n.reads in
+        record {
+          rest = n.rest;
+          reads = subst (λ k. Reads ws k j n.rest) (sym x.0) n.more;
+          covers = λ b d.
+              covers-wider V table (cat_onto parts (cat re b)) (cat_onto after b) t (wider b)
+              (left.covers (cat re b)
+              (subst (Covers V table (cat re b)) (sym n.is) (covers-then V table re b n.item n.rest x.1 d)));
+        };
+  }
+
+  -- at the end, or at a JUMP, nothing is left
+  pub ended : (place : ℕ) (parts : List Re) (re : Re) → SoFar place parts → (end ≤ place) ⊎ Opcode ws place opcode.JUMP
+      → IsWider (cat_onto parts empty) re → CoversItemsAt V table ws start end re place
+  ended place parts re so at wider j t r s =
+      let left = so.each j t r s in
+      let nothing = go left.rest left.reads s at in (
+        nothing.1,
+        covers-wider V table (cat_onto parts empty) re t wider
+            (left.covers empty (subst (Covers V table empty) (sym nothing.0) (covers-empty V table))),
+      )
+    where
+      go : (u : Tree) → Reads ws place j u → Stops ws j end → (end ≤ place) ⊎ Opcode ws place opcode.JUMP
+          → (u ≡ Empty) × (place ≡ j)
+      go Empty r s a = (refl, r)
+      go (Then x rest) r s (inl past) =
+          absurd (omega (arith, operands_past x ws place r.0 r.1.1, reads_within rest ws r.0 j r.2, s.0))
+      go (Then x rest) r s (inr jump) = absurd (no_item ws place r.0 x opcode.JUMP jump refl r.1)

@@ -1,0 +1,118 @@
+-- Classes of what a test takes.
+use Rattle.std.proofs.Common.{◌≡◌, ℕ, ◌+◌, ◌≤◌, Bool, true, false, ◌||◌, List, [], ◌∷◌, ◌++◌}
+use Rattle.std.proofs.Common.{refl, sym, ap, ◌∙◌, ⊎_elim, arith, true≢false}
+use Rattle.std.proofs.lemmas.Bool.{cases_lt}
+use Rattle.std.proofs.lemmas.Bool.Decides.{nat_tests}
+use Rattle.std.specs.Char.{IsScalar}
+use Rattle.regex_class.specs.Ranges.{in_range, in_ranges, HasExactly}
+use Rattle.regex_hir.specs.Re.{byte_in, char_in}
+use Rattle.sre_chars.specs.Tables.{Table}
+use Rattle.std.proofs.Common.{length, drop, get_or, suc, ◌<◌, subst}
+use Rattle.std.proofs.Math.Seq.{drop-cons}
+use Rattle.std.proofs.lemmas.Option.{get_or_from_slice_get, slice_get_within}
+use Rattle.regex_hir.proofs.TextLemmas.{has_bytes_at_from}
+use Rattle.regex_hir.specs.Re.{Re, literal}
+use Rattle.sre_chars.specs.declared.constants.SreOpcode.TheVariants as opcode
+use Rattle.sre_model.specs.Grammar.{Word, Opcode, test_opcode, TestOperands}
+use Rattle.sre_model.specs.Standing.{HasTest, TestStands}
+use Rattle.sre_model.specs.Subject.{char_at}
+use Rattle.sre_model.proofs.Words.{same_word, same_opcode, word_within}
+use Rattle.sre_shape.specs.Covers.{View}
+use Rattle.sre_patterns.specs.Patterns.{CoversTestAt}
+use Rattle.sre_model.specs.Tree.{Test, Literal, Plain}
+use Rattle.sre_model.specs.Characters.{holds}
+use Rattle.sre_shape.specs.Covers.{CoversTest, InBytes, InUtf8}
+use Rattle.sre_shape.proofs.OverBytes.{bytes-take}
+use Rattle.sre_shape.proofs.OverUtf8.{utf8-take}
+use Rattle.sre_patterns.specs.Patterns.{HasBelow}
+
+pub scalar-most : (c : ℕ) → IsScalar c → c ≤ 1114111
+scalar-most c s = grind (arith, nat_tests)
+
+pub range-has : (low high c : ℕ) → low ≤ c → c ≤ high → in_range (low, high) c ≡ true
+unfolding in_range
+range-has low high c l h = grind (arith, nat_tests)
+
+pub kept : (xs ys : List (ℕ × ℕ)) (c : ℕ) → in_ranges xs c ≡ true → in_ranges (xs ++ ys) c ≡ true
+unfolding in_ranges
+kept [] ys c h = absurd (true≢false (sym h))
+kept (x ∷ xs) ys c h = by_test (in_range x c) h (kept xs ys c)
+  where
+    by_test : (b : Bool) → (b || in_ranges xs c) ≡ true → (in_ranges xs c ≡ true → in_ranges (xs ++ ys) c ≡ true)
+        → (b || in_ranges (xs ++ ys) c) ≡ true
+    by_test true h ih = refl
+    by_test false h ih = ih h
+
+pub added : (xs : List (ℕ × ℕ)) (low high c : ℕ) → low ≤ c → c ≤ high → in_ranges (xs ++ (low, high) ∷ []) c ≡ true
+unfolding in_ranges
+added [] low high c l h = rw (range-has low high c l h) refl
+added (x ∷ xs) low high c l h = by_test (in_range x c) (added xs low high c l h)
+  where
+    by_test : (b : Bool) → in_ranges (xs ++ (low, high) ∷ []) c ≡ true
+        → (b || in_ranges (xs ++ (low, high) ∷ []) c) ≡ true
+    by_test true h = refl
+    by_test false h = h
+
+-- a step over one more number
+pub one-more : (test : ℕ → Bool) (xs : List (ℕ × ℕ)) (i : ℕ) → HasBelow i test xs
+    → HasBelow (i + 1) test (xs ++ (i, i) ∷ [])
+one-more test xs i h c l t =
+    ⊎_elim (λ below. kept xs ((i, i) ∷ []) c (h c below t)) (λ at. added xs i i c at (omega arith)) (cases_lt c i)
+
+pub none-more : (test : ℕ → Bool) (xs : List (ℕ × ℕ)) (i : ℕ) → HasBelow i test xs → test i ≡ false
+    → HasBelow (i + 1) test xs
+none-more test xs i h refused c l t =
+    ⊎_elim (λ below. h c below t)
+    (λ at. let same : c ≡ i = omega arith in absurd (true≢false (sym t ∙ ap test same ∙ refused))) (cases_lt c i)
+
+pub bytes-class : (bound : ℕ) (table : Table) (t : Test) (xs ranges : List (ℕ × ℕ)) → bound ≤ 256
+    → HasBelow bound (holds table t) xs → HasExactly ranges (in_ranges xs)
+    → CoversTest (InBytes bound) table (byte_in ranges) t
+bytes-class bound table t xs ranges few h e =
+    bytes-take bound table ranges t (λ c l k. e c (omega arith) ∙ h c l k)
+
+pub utf8-class : (table : Table) (t : Test) (xs ranges : List (ℕ × ℕ)) → HasBelow 128 (holds table t) xs
+    → HasExactly ranges (in_ranges (xs ++ (128, 1114111) ∷ [])) → CoversTest InUtf8 table (char_in ranges) t
+utf8-class table t xs ranges h e =
+    utf8-take table ranges t (λ c s k.
+    let most : c ≤ 1114111 = scalar-most c s in
+    e c most ∙ ⊎_elim (λ below. kept xs ((128, 1114111) ∷ []) c (h c below k)) (λ at. added xs 128 1114111 c at most)
+    (cases_lt c 128))
+
+-- the one test that LITERAL begins
+pub plain-literal : (ws : List ℕ) (i j v : ℕ) (t : Test) → Opcode ws i opcode.LITERAL → Word ws (i + 1) v
+    → TestStands ws i j t
+    → t ≡ Literal Plain v
+plain-literal ws i j v t o w s = go t (same_opcode ws i opcode.LITERAL (test_opcode t) o s.code) s.operands
+  where
+    go : (u : Test) → opcode.LITERAL ≡ test_opcode u → TestOperands ws i j u → u ≡ Literal Plain v
+    go (Literal Plain n) e r = ap (λ z. Literal Plain z) (same_word ws (i + 1) n v r.0 w)
+    go u e r = absurd (grind arith)
+
+pub literal-value : (ws : List ℕ) (i : ℕ) → Opcode ws i opcode.LITERAL → HasTest ws i → i + 1 < length ws
+literal-value ws i o h =
+    go h.test (same_opcode ws i opcode.LITERAL (test_opcode h.test) o h.stands.code) h.stands.operands
+  where
+    go : (u : Test) → opcode.LITERAL ≡ test_opcode u → TestOperands ws i h.end u → i + 1 < length ws
+    go (Literal f n) e r = word_within ws (i + 1) n r.0
+    go u e r = absurd (grind arith)
+
+pub literal-at : (V : View) (table : Table) (ws : List ℕ) (i v : ℕ) (re : Re) → Opcode ws i opcode.LITERAL
+    → Word ws (i + 1) v
+    → CoversTest V table re (Literal Plain v) → CoversTestAt V table ws i re
+literal-at V table ws i v re o w c j t s = subst (CoversTest V table re) (sym (plain-literal ws i j v t o w s)) c
+
+-- a byte stands where its character does
+pub bytes-literal : (bound : ℕ) (table : Table) (v : ℕ)
+    → CoversTest (InBytes bound) table (literal (v ∷ [])) (Literal Plain v)
+bytes-literal bound table v = record {
+  takes = λ s hay off w same p inside h.
+      let is : v ≡ char_at s p = grind (arith, nat_tests) in
+      let found = w.byte p inside in
+      let first : get_or hay (off p) 0 ≡ v = get_or_from_slice_get hay (off p) (char_at s p) 0 found ∙ sym is in (
+        has_bytes_at_from hay (off p) (v ∷ []) (drop (suc (off p)) hay)
+            (drop-cons hay (off p) 0 (slice_get_within hay (off p) (char_at s p) found)
+            ∙ ap (λ b. b ∷ drop (suc (off p)) hay) first),
+        w.next p inside,
+      );
+}

@@ -1,0 +1,21 @@
+use Rattle.std.proofs.Common.{◌∙◌, ◌≡◌, sym, subst, false}
+use Rattle.sre_code.specs.Codes.{uni_of, items_of}
+use Rattle.sre_model.specs.Characters.{holds}
+use Rattle.sre_model.specs.Standing.{TestStands}
+use Rattle.sre_patterns.proofs.Tests.{one-more, none-more}
+use Rattle.sre_patterns.proofs.classes.taken_below.Goals.{then-takes+in_ok-push, else-takes}
+use Rattle.sre_patterns.proofs.classes.taken_below.Goals as goal
+
+pub loop-character-preserved : goal.loop-character-preserved
+loop-character-preserved c j t s =
+    let test = holds (uni_of c.args.code.now) t in
+    let before = c.loop-character.ranges.items in
+    let i = c.loop-character.character in
+    let same = c.new-req.ensures.pattern_codes in
+    let there = subst (λ k. TestStands (items_of k) c.args.place j t) (sym same) s in
+    elim c.if-takes.branch [
+      | then-takes+in_ok-push w ↦
+          rw (w.ranges-is, w.in_ok-push.ensures.items) (one-more test before i (c.loop-character.invariant j t s))
+      | else-takes w ↦ rw w.ranges-is (none-more test before i (c.loop-character.invariant j t s)
+          (subst (λ k. holds (uni_of k) t i ≡ false) same (sym (c.takes.ensures j t there) ∙ w.if-takes.false)))
+    ]

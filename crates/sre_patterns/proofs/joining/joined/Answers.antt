@@ -1,0 +1,9 @@
+use Rattle.std.proofs.Common.{◌∙◌, sym, map}
+use Rattle.regex_hir.specs.Meaning.{meaning}
+use Rattle.regex_hir.proofs.MeaningLemmas.{meaning-Concat}
+use Rattle.sre_patterns.proofs.Onto.{cat-all, wider-same}
+use Rattle.sre_patterns.proofs.joining.joined.Goals as goal
+
+pub returns-then-len-gt1 : goal.returns-then-len-gt1
+returns-then-len-gt1 c =
+    wider-same _ _ (cat-all (map meaning c.args.parts.items) ∙ sym (meaning-Concat c.args.parts))

@@ -1,0 +1,105 @@
+-- What is said of a pattern for the words at a place.
+use Rattle.std.specs.Prelude.{ℕ, ◌≡◌, ◌<◌, ◌≤◌, ◌⊎◌, Bool, true, List, [], ◌∷◌}
+use Rattle.regex_class.specs.Ranges.{in_ranges}
+use Rattle.regex_hir.specs.Re.{Re, cat, alt}
+use Rattle.regex_hir.specs.Matches.{Matches}
+use Rattle.sre_chars.specs.Tables.{Table}
+use Rattle.sre_chars.specs.declared.constants.SreOpcode.TheVariants as opcode
+use Rattle.sre_model.specs.Tree.{Tree, Item, Branch, Run, Atomic, Trees, Test, RunKind}
+use Rattle.sre_model.specs.Roles.{role, ToRepeat, ToRepeatPossessively, ToCheckGroup}
+use Rattle.sre_model.specs.Grammar.{Opcode, item_opcode, Reads, ReadsItem}
+use Rattle.sre_model.specs.Standing.{TestStands}
+use Rattle.sre_shape.specs.Covers.{View, InBytes, InUtf8, Covers, CoversItem, CoversTest}
+use Rattle.sre_shape.proofs.Fronts.{CoversStart}
+use Rattle.sre_patterns.specs.declared.kind.Kind as kind_type
+use Rattle.sre_patterns.specs.declared.kind.Kind.TheVariants as kind
+
+abbrev pub view_of : kind_type.Kind → View
+view_of kind.Bytes = InBytes 256
+view_of kind.Ascii = InBytes 128
+view_of kind.Utf8 = InUtf8
+
+-- the second pattern leads wherever the first does
+abbrev pub IsWider : Re → Re → Type 0
+IsWider a b = (hay : List ℕ) (i j : ℕ) → Matches hay a i j → Matches hay b i j
+
+-- patterns one after the other, and then another one
+abbrev pub cat_onto : List Re → Re → Re
+cat_onto [] b = b
+cat_onto (a ∷ rest) b = cat a (cat_onto rest b)
+
+-- one of some patterns, or else another one
+abbrev pub alt_onto : List Re → Re → Re
+alt_onto [] b = b
+alt_onto (a ∷ rest) b = alt a (alt_onto rest b)
+
+-- the ranges have each number below the bound that passes the test
+abbrev pub HasBelow : ℕ → (ℕ → Bool) → List (ℕ × ℕ) → Type 0
+HasBelow bound test ranges = (c : ℕ) → c < bound → test c ≡ true → in_ranges ranges c ≡ true
+
+-- the pattern covers each test that is read at a place
+abbrev pub CoversTestAt : View → Table → List ℕ → ℕ → Re → Type 0
+CoversTestAt V table ws i re = (j : ℕ) (t : Test) → TestStands ws i j t → CoversTest V table re t
+
+-- items may end there: at an end, or at a JUMP before it
+abbrev pub Stops : List ℕ → ℕ → ℕ → Type 0
+Stops ws j end = (j ≤ end) × ((j ≡ end) ⊎ Opcode ws j opcode.JUMP)
+
+-- some items stand from i on, up to an end or a JUMP before it
+pub record HasItems (ws : List ℕ) (i end : ℕ) : Type 0 where
+  pub stop : ℕ
+  pub tree : Tree
+  pub reads : Reads ws i stop tree
+  pub stops : Stops ws stop end
+
+-- an item stands at i
+pub record HasItem (ws : List ℕ) (i : ℕ) : Type 0 where
+  pub end : ℕ
+  pub item : Item
+  pub reads : ReadsItem ws i end item
+
+-- the pattern covers all items that are read from i on, which end at e
+abbrev pub CoversItemsAt : View → Table → List ℕ → ℕ → ℕ → Re → ℕ → Type 0
+CoversItemsAt V table ws i end re e =
+    (j : ℕ) (t : Tree) → Reads ws i j t → Stops ws j end → (e ≡ j) × Covers V table re t
+
+-- the pattern covers the item that is read at i, which ends at e
+abbrev pub CoversItemAt : View → Table → List ℕ → ℕ → Re → ℕ → Type 0
+CoversItemAt V table ws i re e = (j : ℕ) (x : Item) → ReadsItem ws i j x → (e ≡ j) × CoversItem V table re x
+
+-- an item of a certain form stands at i
+pub record HasRun (ws : List ℕ) (i : ℕ) : Type 0 where
+  pub end : ℕ
+  pub kind : RunKind
+  pub low : ℕ
+  pub high : ℕ
+  pub test : Test
+  pub reads : ReadsItem ws i end (Run kind low high test)
+
+pub record HasAtomic (ws : List ℕ) (i : ℕ) : Type 0 where
+  pub end : ℕ
+  pub body : Tree
+  pub reads : ReadsItem ws i end (Atomic body)
+
+pub record HasBranch (ws : List ℕ) (i : ℕ) : Type 0 where
+  pub end : ℕ
+  pub trees : Trees
+  pub reads : ReadsItem ws i end (Branch trees)
+
+-- a loop, possessive or not
+pub record HasLoop (ws : List ℕ) (i : ℕ) : Type 0 where
+  pub end : ℕ
+  pub item : Item
+  pub reads : ReadsItem ws i end item
+  pub is : (role (item_opcode item) ≡ ToRepeat) ⊎ (role (item_opcode item) ≡ ToRepeatPossessively)
+
+-- a condition, with another part or without
+pub record HasCondition (ws : List ℕ) (i : ℕ) : Type 0 where
+  pub end : ℕ
+  pub item : Item
+  pub reads : ReadsItem ws i end item
+  pub is : role (item_opcode item) ≡ ToCheckGroup
+
+-- the pattern tells of the starts of all items that are read from i on
+abbrev pub CoversFrontAt : View → Table → List ℕ → ℕ → ℕ → Re → Type 0
+CoversFrontAt V table ws i end re = (j : ℕ) (t : Tree) → Reads ws i j t → Stops ws j end → CoversStart V table re t

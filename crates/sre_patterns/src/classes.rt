@@ -1,0 +1,149 @@
+//! Tests of one character, as classes of bytes or of characters.
+
+ghost use Rattle.std.specs.Prelude.{◌≡◌, ℕ, IfOk, Some, [], ◌∷◌, encode_utf8};
+ghost use Rattle.regex_hir.specs.Re.{literal};
+ghost use Rattle.regex_hir.specs.Meaning.{meaning};
+ghost use Rattle.sre_model.specs.Tree.{Test, AnyAll, Literal, Plain};
+ghost use Rattle.sre_model.specs.Grammar.{Opcode};
+ghost use Rattle.sre_model.specs.Standing.{TestStands, HasTest};
+ghost use Rattle.sre_code.specs.Codes.{items_of, uni_of};
+ghost use Rattle.sre_shape.specs.Covers.{CoversTest};
+ghost use Rattle.sre_model.specs.Characters.{holds};
+ghost use Rattle.sre_chars.specs.Tables.{Table};
+ghost use Rattle.sre_patterns.specs.Patterns.{view_of, CoversTestAt, HasBelow};
+
+use crate::kind::Kind;
+use regex_class::Class;
+use regex_hir::Hir;
+use sre_chars::constants::SreOpcode;
+use sre_code::Code;
+use sre_code::operands::operand;
+use sre_reading::one_character::{takes, test_end};
+use sre_request::Request;
+use std::alloc::{AllocError, Global};
+
+/// A pattern of the characters that the test at a place takes: a literal's bytes, or a class.
+pub(crate) fn pattern_of(
+    alloc: Global,
+    code: &Code<'_>,
+    kind: Kind,
+    place: usize,
+    opcode: SreOpcode,
+) -> Result<Hir, AllocError>
+    requires code { Opcode (items_of code.now) place opcode }
+    requires stands { HasTest (items_of code.now) place }
+    ensures { IfOk result (λ h. CoversTestAt (view_of kind) (uni_of code.now) (items_of code.now) place (meaning h)) }
+{
+    let SreOpcode::LITERAL = opcode else {
+        return class_of(alloc, code, kind, place, opcode);
+    };
+    let value = operand(code.items(), place, 1);
+    match literal_of(alloc, kind, value)? {
+        Some(hir) => Ok(hir),
+        None => class_of(alloc, code, kind, place, opcode),
+    }
+}
+
+// The bytes of a literal; none where no byte or character has its number.
+fn literal_of(alloc: Global, kind: Kind, value: u32) -> Result<Option<Hir>, AllocError>
+    ensures { IfOk result (λ o. (h : Hir) → o ≡ Some h → (table : Table)
+        → CoversTest (view_of kind) table (meaning h) (Literal Plain value)) }
+{
+    match kind {
+        Kind::Bytes => Ok(literal_byte(alloc, value)?),
+        Kind::Ascii => Ok(literal_byte(alloc, value)?),
+        Kind::Utf8 => Ok(literal_character(alloc, value)?),
+    }
+}
+
+// One byte.
+fn literal_byte(alloc: Global, value: u32) -> Result<Option<Hir>, AllocError>
+    ensures { IfOk result (λ o. (h : Hir) → o ≡ Some h → meaning h ≡ literal (value ∷ [])) }
+{
+    if value >= 256 {
+        return Ok(None);
+    }
+    let mut bytes: Vec<u8> = Vec::new(alloc);
+    bytes.push(value as u8)?;
+    Ok(Some(Hir::Literal(bytes)))
+}
+
+// The UTF-8 of one character.
+fn literal_character(alloc: Global, value: u32) -> Result<Option<Hir>, AllocError>
+    ensures { IfOk result (λ o. (h : Hir) → o ≡ Some h → meaning h ≡ literal (encode_utf8 value)) }
+{
+    let Some(character) = char::from_u32(value) else {
+        return Ok(None);
+    };
+    let mut text = String::new(alloc);
+    text.push(character)?;
+    Ok(Some(Hir::Literal(text.into_bytes())))
+}
+
+/// The class of the characters that the test at a place takes; past ASCII of all characters, where these are read as
+/// UTF-8.
+fn class_of(
+    alloc: Global,
+    code: &Code<'_>,
+    kind: Kind,
+    place: usize,
+    opcode: SreOpcode,
+) -> Result<Hir, AllocError>
+    requires code { Opcode (items_of code.now) place opcode }
+    requires stands { HasTest (items_of code.now) place }
+    ensures { IfOk result (λ h. CoversTestAt (view_of kind) (uni_of code.now) (items_of code.now) place (meaning h)) }
+{
+    match kind {
+        Kind::Bytes => Ok(Hir::Bytes(Class::new(taken_below(alloc, code, place, opcode, 256)?)?)),
+        Kind::Ascii => Ok(Hir::Bytes(Class::new(taken_below(alloc, code, place, opcode, 128)?)?)),
+        Kind::Utf8 => {
+            let mut ranges = taken_below(alloc, code, place, opcode, 128)?;
+            ranges.push((128, 0x10_FFFF))?;
+            Ok(Hir::Chars(Class::new(ranges)?))
+        }
+    }
+}
+
+// The numbers below a bound that the test at a place takes, each as a range.
+fn taken_below(
+    alloc: Global,
+    code: &Code<'_>,
+    place: usize,
+    opcode: SreOpcode,
+    bound: u32,
+) -> Result<Vec<(u32, u32)>, AllocError>
+    requires code { Opcode (items_of code.now) place opcode }
+    requires stands { HasTest (items_of code.now) place }
+    ensures { IfOk result (λ r. (j : ℕ) (t : Test) → TestStands (items_of code.now) place j t
+        → HasBelow bound (holds (uni_of code.now) t) r.items) }
+{
+    let req = Request::new(b"".as_slice(), 0, 0, *code, false);
+    let mut ranges: Vec<(u32, u32)> = Vec::new(alloc);
+    for character in 0..bound {
+        if takes(&req, place, opcode, character) {
+            ranges.push((character, character))?;
+        }
+    }
+    Ok(ranges)
+}
+
+/// Any character.
+pub(crate) fn anything(alloc: Global, kind: Kind) -> Result<Hir, AllocError>
+    ensures { IfOk result (λ h. (table : Table) → CoversTest (view_of kind) table (meaning h) AnyAll) }
+{
+    match kind {
+        Kind::Bytes => Ok(Hir::Bytes(Class::from_ranges(alloc, &[(0, 255)])?)),
+        Kind::Ascii => Ok(Hir::Bytes(Class::from_ranges(alloc, &[(0, 127)])?)),
+        Kind::Utf8 => Ok(Hir::Chars(Class::from_ranges(alloc, &[(0, 0x10_FFFF)])?)),
+    }
+}
+
+/// Where the words of the test at a place end.
+pub(crate) fn end_of_test(code: &Code<'_>, place: usize, opcode: SreOpcode) -> usize
+    requires code { Opcode (items_of code.now) place opcode }
+    requires stands { HasTest (items_of code.now) place }
+    ensures { (j : ℕ) (t : Test) → TestStands (items_of code.now) place j t → result ≡ j }
+{
+    let req = Request::new(b"".as_slice(), 0, 0, *code, false);
+    test_end(&req, place, opcode)
+}

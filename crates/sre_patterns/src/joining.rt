@@ -1,0 +1,72 @@
+//! Parts one after the other.
+
+ghost use Rattle.std.specs.Prelude.{◌≡◌, ℕ, map, OnOk, IfOk};
+ghost use Rattle.regex_hir.specs.Re.{Re, cat, alt, empty, literal};
+ghost use Rattle.regex_hir.specs.Meaning.{meaning};
+ghost use Rattle.sre_patterns.specs.Patterns.{cat_onto, IsWider};
+
+use regex_hir::Hir;
+use std::alloc::{AllocError, Global};
+
+/// Adds a part behind others. An empty one is left out, and literals one after the other become one.
+pub(crate) fn add(parts: &mut Vec<Hir>, hir: Hir) -> Result<(), AllocError>
+    ensures { OnOk result ((b : Re)
+        → IsWider (cat_onto (map meaning parts.old.items) (cat (meaning hir) b))
+        (cat_onto (map meaning parts.new.items) b)) }
+{
+    match hir {
+        Hir::Empty => Ok(()),
+        Hir::Literal(bytes) => Ok(add_literal(parts, bytes)?),
+        other => {
+            parts.push(other)?;
+            Ok(())
+        }
+    }
+}
+
+// Adds a literal, which becomes one with a literal before it.
+fn add_literal(parts: &mut Vec<Hir>, bytes: Vec<u8>) -> Result<(), AllocError>
+    ensures { OnOk result ((b : Re)
+        → IsWider (cat_onto (map meaning parts.old.items) (cat (literal bytes.items) b))
+        (cat_onto (map meaning parts.new.items) b)) }
+{
+    match parts.pop() {
+        Some(Hir::Literal(mut before)) => {
+            before.extend_from_slice(bytes.as_slice())?;
+            parts.push(Hir::Literal(before))?;
+            Ok(())
+        }
+        Some(other) => {
+            parts.push(other)?;
+            parts.push(Hir::Literal(bytes))?;
+            Ok(())
+        }
+        None => {
+            parts.push(Hir::Literal(bytes))?;
+            Ok(())
+        }
+    }
+}
+
+/// All parts, one after the other.
+pub(crate) fn joined(mut parts: Vec<Hir>) -> Hir
+    ensures { IsWider (cat_onto (map meaning parts.items) empty) (meaning result) }
+{
+    if parts.len() > 1 {
+        return Hir::Concat(parts);
+    }
+    match parts.pop() {
+        Some(only) => only,
+        None => Hir::Empty,
+    }
+}
+
+/// One of two patterns.
+pub(crate) fn either(alloc: Global, first: Hir, second: Hir) -> Result<Hir, AllocError>
+    ensures { IfOk result (λ h. IsWider (alt (meaning first) (meaning second)) (meaning h)) }
+{
+    let mut both: Vec<Hir> = Vec::new(alloc);
+    both.push(first)?;
+    both.push(second)?;
+    Ok(Hir::Alternation(both))
+}

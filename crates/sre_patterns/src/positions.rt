@@ -1,0 +1,22 @@
+//! Positions, as looks.
+
+ghost use Rattle.std.specs.Prelude.{◌≡◌};
+ghost use Rattle.sre_shape.proofs.Edges as edges;
+
+use regex_hir::Look;
+use sre_chars::constants::SreAtCode;
+
+/// The look that holds wherever the position does; none where a table says what a word is.
+pub(crate) fn look_of(code: SreAtCode) -> Option<Look>
+    ensures { result ≡ edges.look_of code }
+{
+    match code {
+        SreAtCode::BEGINNING | SreAtCode::BEGINNING_STRING => Some(Look::Start),
+        SreAtCode::BEGINNING_LINE => Some(Look::StartLf),
+        SreAtCode::END_STRING => Some(Look::End),
+        SreAtCode::END | SreAtCode::END_LINE => Some(Look::EndLf),
+        SreAtCode::BOUNDARY | SreAtCode::LOC_BOUNDARY => Some(Look::WordAscii),
+        SreAtCode::NON_BOUNDARY | SreAtCode::LOC_NON_BOUNDARY => Some(Look::WordAsciiNegate),
+        SreAtCode::UNI_BOUNDARY | SreAtCode::UNI_NON_BOUNDARY => None,
+    }
+}
