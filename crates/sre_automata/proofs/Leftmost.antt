@@ -1,0 +1,78 @@
+-- What the ends and the starts of an automaton's matches tell of a pattern's.
+use Rattle.std.proofs.Common.{◌≡◌, ◌≤◌, ◌<◌, ℕ, List, length, All, Option, Some, None, option_map, refl, sym, ap, ◌∙◌}
+use Rattle.std.proofs.Common.{subst, arith, inl, inr, Fits, w8, get_or}
+use Rattle.std.proofs.lemmas.Bool.{cases_lt}
+use Rattle.std.proofs.lemmas.List.Elements.{All-from_get_or}
+use Rattle.regex_hir.specs.Re.{Re, Trace}
+use Rattle.regex_hir.specs.Find.{Match}
+use Rattle.regex_hir.specs.Matches.{Matches}
+use Rattle.regex_hir.proofs.FindLemmas.{none_of_first_between}
+use Rattle.regex_nfa.specs.Run.{run, find_in}
+use Rattle.regex_nfa.specs.Paths.{Accepts}
+use Rattle.regex_nfa.specs.declared.nfa.Nfa.{Nfa}
+use Rattle.regex_nfa.proofs.PathsLemmas.{no_path_of_run_none}
+use Rattle.regex_nfa.proofs.SearchLemmas.{run_unanchored, find_in_paths}
+use Rattle.regex_nfa.proofs.StopLemmas.{Accepts_stop}
+use Rattle.regex_compile.specs.Implements.{HasPaths}
+use Rattle.regex_dfa.specs.Search.{end_from, IsLeast}
+use Rattle.regex_dfa.specs.declared.reverse.Start.{Start}
+use Rattle.regex_dfa.specs.declared.reverse.Start.TheVariants as start
+use Rattle.sre_automata.specs.Told.{NoneLeft, NoneUpTo}
+
+pub are_bytes : (hay : List ℕ) → ((i : ℕ) → Fits w8 (get_or hay i 0)) → All (λ b. b < 256) hay
+are_bytes hay h = All-from_get_or (λ b. b < 256) hay 0 (λ i _. omega (arith, h i))
+
+-- where the leftmost match ends that a search finds, if any
+abbrev ends : Option Match → Option ℕ
+ends o = option_map (λ (t : Trace). t.end) (option_map (λ (m : Match). m.trace) o)
+
+no_match : (o : Option Match) → ends o ≡ None → o ≡ None
+no_match None e = refl
+no_match (Some m) e = absurd (cc e)
+
+some_match : (o : Option Match) (end : ℕ) → ends o ≡ Some end → (m : Match) × (o ≡ Some m) × (m.trace.end ≡ end)
+some_match None end e = absurd (cc e)
+some_match (Some m) end e = (m, refl, cc e)
+
+module _ (nfa : Nfa) (re : Re) (hay : List ℕ) (paths : HasPaths nfa re) (bytes : All (λ b. b < 256) hay) (from : ℕ)
+    (inside : from ≤ length hay) where
+  searched : end_from nfa hay (length hay) nfa.unanchored from ≡ ends (find_in nfa hay (length hay) from)
+  searched = ap (option_map (λ (t : Trace). t.end)) (run_unanchored nfa hay (length hay) from bytes (omega arith) inside)
+
+  -- where no match ends, none is left
+  pub none_left : end_from nfa hay (length hay) nfa.unanchored from ≡ None → NoneLeft hay re from
+  unfolding find_in
+  none_left e =
+      let nothing = no_match (find_in nfa hay (length hay) from) (sym searched ∙ e) in
+      record {
+        none = λ i j l within m.
+            let stays = none_of_first_between (run nfa hay (length hay) nfa.start) from (length hay) nothing i l within in
+            no_path_of_run_none nfa hay (length hay) j nfa.start i stays (paths hay i j m);
+      }
+
+  -- where the leftmost match ends, none begins below the least start of a path to that end
+  pub none_below : (end least : ℕ) → end_from nfa hay (length hay) nfa.unanchored from ≡ Some end → end ≤ length hay
+      → IsLeast (Accepts nfa hay end end nfa.start) from end (start.At least) → NoneUpTo hay re from least
+  none_below end least e l is =
+      let some = some_match (find_in nfa hay (length hay) from) end (sym searched ∙ e) in
+      let m = some.0 in
+      let found = find_in_paths nfa hay (length hay) from m some.1 in
+      let path : Accepts nfa hay end end nfa.start m.start =
+      subst (λ n. Accepts nfa hay n n nfa.start m.start) some.2
+      (Accepts_stop nfa hay (length hay) m.trace.end m.trace.end nfa.start m.start (omega arith) found.2) in
+      record {
+        after = is.0;
+        inside = omega (arith, is.1, l);
+        none = λ i j low high match. elim (cases_lt m.start least) [
+          | (inl less) ↦ is.3 m.start found.0 less path
+          | (inr more) ↦ found.3 i j low (omega (arith, high, more)) (paths hay i j match)
+        ];
+      }
+
+-- nothing is passed
+pub none_yet : (hay : List ℕ) (re : Re) (from : ℕ) → from ≤ length hay → NoneUpTo hay re from from
+none_yet hay re from inside = record {
+  after = omega arith;
+  inside = inside;
+  none = λ i j low high. absurd (omega (arith, low, high));
+}

@@ -1,0 +1,22 @@
+-- What automata tell of the matches of a pattern.
+-- Words of this crate's contracts.
+use Rattle.std.specs.Prelude.{ℕ, ◌≤◌, ◌<◌, List, length}
+use Rattle.regex_hir.specs.Re.{Re}
+use Rattle.regex_hir.specs.Matches.{Matches}
+use Rattle.sre_automata.specs.declared.Told.{Told}
+use Rattle.sre_automata.specs.declared.Told.TheVariants.{Nothing, From}
+
+-- no match begins at a place or behind it
+pub record NoneLeft (hay : List ℕ) (re : Re) (start : ℕ) : Type 0 where
+  pub none : (i j : ℕ) → start ≤ i → i ≤ length hay → Matches hay re i j → ⊥
+
+-- none begins from one place up to before another
+pub record NoneUpTo (hay : List ℕ) (re : Re) (start from : ℕ) : Type 0 where
+  pub after : start ≤ from
+  pub inside : from ≤ length hay
+  pub none : (i j : ℕ) → start ≤ i → i < from → Matches hay re i j → ⊥
+
+-- from where on the next match can begin
+abbrev pub Tells : List ℕ → Re → ℕ → Told → Type 0
+Tells hay re start Nothing = NoneLeft hay re start
+Tells hay re start (From from) = NoneUpTo hay re start from

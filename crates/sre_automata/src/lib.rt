@@ -1,0 +1,105 @@
+//! The automata of a pattern of bytes: from where on its next match can begin.
+//!
+//! They are the kit's: a forward automaton tells where the leftmost match ends, and a backward one the least place at
+//! which a match begins that ends there. Both are built as they read, within a bound on their memory; where that does
+//! not do, or memory is refused, nothing is told.
+#![tactic(auto)]
+
+ghost use Rattle.std.specs.Prelude.{ℕ, ◌≡◌, ◌≤◌, IfSome, length};
+ghost use Rattle.regex_hir.specs.Re.{Re};
+ghost use Rattle.regex_hir.specs.Meaning.{meaning};
+ghost use Rattle.regex_compile.specs.Implements.{HasPaths};
+ghost use Rattle.sre_automata.specs.Told.{Tells};
+
+use regex_compile::compile;
+use regex_dfa::{Dfa, End, Forward, Reverse, Start};
+use regex_hir::Hir;
+use std::alloc::Global;
+use std::marker::Model;
+
+/// From where on the next match of a pattern can begin, as far as its automata know.
+#[derive(Clone, Copy, PartialEq, Eq, Debug)]
+pub enum Told {
+    /// No match is left.
+    Nothing,
+    /// None begins below this place.
+    From(usize),
+}
+
+/// The automata of a pattern, and what they have built so far.
+#[derive(Drop)]
+pub struct Automata {
+    dfa: Dfa,
+    forward: Forward,
+    reverse: Reverse,
+    read: usize,
+}
+
+impl Model for Automata {
+    ghost use Rattle.regex_nfa.specs.declared.nfa.Nfa.{Nfa};
+    ghost use Rattle.regex_dfa.specs.Search.{IsForwardFor, IsReverseFor};
+
+    ghost Value = { Nfa };
+
+    ghost view = { λ a. a.dfa.nfa };
+
+    ghost invariant = { λ a. IsForwardFor a.forward a.dfa × IsReverseFor a.reverse a.dfa };
+}
+
+impl Automata {
+    /// The automata of a pattern, whose tables take at most so many bytes; none where they would take more, or where
+    /// memory was refused.
+    pub fn new(alloc: Global, hir: &Hir, size_limit: usize) -> Option<Automata>
+        ensures { IfSome result (λ automata. HasPaths automata (meaning hir.now)) }
+    {
+        let Ok(nfa) = compile(alloc, hir, 1, size_limit) else {
+            return None;
+        };
+        let Ok(dfa) = Dfa::new(alloc, nfa) else {
+            return None;
+        };
+        let stops_when_idle = false;
+        let Ok(forward) = Forward::new(alloc, &dfa, stops_when_idle) else {
+            return None;
+        };
+        let Ok(reverse) = Reverse::new(alloc, &dfa) else {
+            return None;
+        };
+        Some(Automata {
+            dfa,
+            forward,
+            reverse,
+            read: 0,
+        })
+    }
+
+    /// How many bytes were read.
+    pub fn read(&self) -> usize {
+        self.read
+    }
+
+    /// From where on the next match can begin that begins at a place or behind it.
+    pub fn next_from(&mut self, hay: &[u8], start: usize) -> Told
+        requires { start ≤ length hay.now }
+        ensures told { (re : Re) → HasPaths self.old re → Tells hay.now re start result }
+        ensures same { self.new ≡ self.old }
+    {
+        let (anchored, earliest) = (false, false);
+        let end = self
+            .forward
+            .find_end(&self.dfa, hay, start, hay.len(), anchored, earliest);
+        self.read = self.read.saturating_add(self.forward.reached().saturating_sub(start));
+        match end {
+            End::NoMatch => Told::Nothing,
+            End::At(end) => {
+                let found = self.reverse.find_start(&self.dfa, hay, start, end);
+                self.read = self.read.saturating_add(end - start);
+                match found {
+                    Start::At(from) => Told::From(from),
+                    _ => Told::From(start),
+                }
+            }
+            _ => Told::From(start),
+        }
+    }
+}
