@@ -117,6 +117,18 @@ claim ws t l k e = by_test (is_some (behind_prefix ws t)) refl e
         }
     by_test false y same = absurd (let never : None ≡ Some (l, k) = same in cc never)
 
+-- where none is confirmed, none is all of the code
+pub claim_none : (ws : List ℕ) (t : Tree) → confirmed_prefix ws t ≡ None → is_literal ws t ≡ false
+claim_none ws t e = by_left (behind_prefix ws t) (has_flag 2 ws) (nat_eq (prefix_skip ws) (prefix_length ws)) e
+  where
+    by_left : (o : Option Tree) (flag all : Bool)
+        → cond {A = Option (ℕ × ℕ)} (is_some o) (Some (prefix_length ws, prefix_skip ws)) None ≡ None
+        → (flag && all && is_at_end o) ≡ false
+    by_left (Some t) flag all e = absurd (cc e)
+    by_left None true true e = refl
+    by_left None true false e = refl
+    by_left None false all e = refl
+
 module _ (ws : List ℕ) (t : Tree) (l k : ℕ) (w : Whole ws t) (c : Claimed ws t l k) where
   parts : (has_flag 1 ws ≡ true) × (nat_lt 0 (prefix_length ws) ≡ true)
       × (nat_le (prefix_skip ws) (prefix_length ws) ≡ true)

@@ -1,5 +1,5 @@
 -- What the confirmed hints of a code tell of its tree.
-use Rattle.std.proofs.Common.{◌≡◌, ◌≤◌, ◌<◌, ◌+◌, ◌-◌, ◌^◌, ℕ, List, Bool, false, length, Option, Some, None}
+use Rattle.std.proofs.Common.{◌≡◌, ◌≤◌, ◌<◌, ◌+◌, ◌-◌, ◌^◌, ℕ, List, Bool, length, Option, Some, None}
 use Rattle.std.proofs.Common.{sym, ap, ◌∙◌, arith, inl, inr, SomeIff, slice_range, length-take, length-drop}
 use Rattle.std.proofs.lemmas.Bool.{cases_lt}
 use Rattle.sre_model.specs.Tree.{Tree}
@@ -11,15 +11,13 @@ use Rattle.sre_code.specs.Codes.{words_of, hints_of}
 use Rattle.sre_code.specs.declared.code.Code.{Code}
 use Rattle.sre_code.proofs.Checked.{code_tree, code_confirmed}
 use Rattle.sre_code.proofs.Borders.{overlaps_right}
-use Rattle.sre_engine.specs.Answers.{Shown}
-use Rattle.sre_engine.specs.Counts.{CountsUpTo}
 use Rattle.sre_engine.specs.Prefixed.{IsPrefix, FitsAt, IsLast}
 use Rattle.sre_engine.specs.Scans.{Overlapping}
 use Rattle.sre_engine.proofs.Steps.{overlapping}
 use Rattle.sre_engine.proofs.Answering.{NoneBefore}
 use Rattle.sre_engine.proofs.Claiming.{Claimed, claim, claim_some, claim_few, claim_room, claim_overlaps, claim_spells}
 use Rattle.sre_engine.proofs.Claiming.{claim_whole, width_told}
-use Rattle.sre_engine.proofs.Searching.{narrow_at, none_on, none_in_window, counts_plain}
+use Rattle.sre_engine.proofs.Searching.{narrow_at, none_on, none_in_window}
 
 -- the length of a part
 range_long : (ws : List ℕ) (i n : ℕ) → i + n ≤ length ws → length (slice_range ws i (i + n)) ≡ n
@@ -115,11 +113,3 @@ pub past_none : (a : Asked) (code : Code) (last : Option ℕ) (t : Tree) (p : �
 past_none a code last t p is w past before =
     none_in_window a t (none_on a t p (a.end + 1) before
     (λ s from to. is.narrow t w s (later_past last p s from past) (omega (arith, to))))
-
--- the counts behind a start that was tried
-pub counts_tried : (a : Asked) (code : Code) (last : Option ℕ) (s : Shown) (p to seen : ℕ)
-    → (hints_of code).prefix ≡ None → (hints_of code).first_set ≡ false → IsLast a code last → FitsAt last p
-    → a.start ≤ p → s.started ≤ p - a.start + 1 → s.compared ≡ 0 → p + 1 ≤ to → CountsUpTo a code to seen s
-counts_tried a code last s p to seen plain no_set is fits from few none l =
-    counts_plain a code s to seen plain no_set (omega (arith, from, few, l))
-    (λ w e. let fit = is.fits p fits w e in omega (arith, from, few, fit)) none

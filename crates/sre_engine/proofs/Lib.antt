@@ -15,3 +15,6 @@ pub mod Hinting
 pub mod Spending
 pub mod Enough
 pub mod Costing
+pub mod MayStart
+pub mod CountLaws
+pub mod CountRows

@@ -1,5 +1,5 @@
 -- What a search along the places of a prefix comes to.
-use Rattle.std.proofs.Common.{◌≡◌, ◌≤◌, ◌<◌, ◌+◌, ◌-◌, ◌*◌, ◌||◌, ◌&&◌, ℕ, zero, suc, List, [], ◌∷◌, Bool, true, false}
+use Rattle.std.proofs.Common.{◌≡◌, ◌≤◌, ◌<◌, ◌+◌, ◌||◌, ◌&&◌, ℕ, zero, suc, List, [], ◌∷◌, Bool, true, false}
 use Rattle.std.proofs.Common.{not}
 use Rattle.std.proofs.Common.{cond}
 use Rattle.std.proofs.Common.{length, nat_eq, Option, Some, None, refl, sym, ap, ◌∙◌, subst, arith, inl, inr}
@@ -19,18 +19,12 @@ use Rattle.sre_model.specs.Runs.{Run}
 use Rattle.sre_model.specs.Prefixes.{spells, behind_items, is_empty, stands_at, how_many}
 use Rattle.sre_model.proofs.FoundLaws.{none-found}
 use Rattle.sre_model.proofs.WideWays.{EachFar, narrow_none}
-use Rattle.sre_code.specs.Codes.{words_of, hints_of}
-use Rattle.sre_model.specs.Prefixes.{prefix_of}
+use Rattle.sre_code.specs.Codes.{words_of}
 use Rattle.sre_code.specs.declared.code.Code.{Code}
-use Rattle.sre_engine.specs.Answers.{Shown}
-use Rattle.sre_engine.specs.Counts.{CountsUpTo}
 use Rattle.sre_engine.specs.Prefixed.{IsPrefix}
 use Rattle.sre_engine.specs.Scans.{Stands, NoPlace}
 use Rattle.sre_engine.proofs.Answering.{NoneBefore}
 use Rattle.sre_engine.proofs.PrefixWays.{spelled_none, spelled_far, spelled_ways, stand_fit, stand_parts}
-use Rattle.sre_engine.proofs.PrefixWays.{how_many_grows}
-use Rattle.sre_engine.proofs.PrefixWays.{how_many_here}
-use Rattle.sre_engine.proofs.FirstMembers.{no_prefix}
 
 -- at a start where the least width does not fit there is no match
 pub narrow_at : (a : Asked) (t : Tree) (w p : ℕ) → w ≤ width t → p ≤ a.end → a.end < p + w → at_start a t p ≡ None
@@ -65,11 +59,6 @@ none_further a t p before none =
 
 pub none_in_window : (a : Asked) (t : Tree) → NoneBefore a t (a.end + 1) → found a t ≡ None
 none_in_window a t before = none-found a t (λ s from to. before s from (omega (arith, to)))
-
--- what a hint says
-abbrev either_hint : ℕ × ℕ → Option (ℕ × ℕ) → ℕ × ℕ
-either_hint d (Some x) = x
-either_hint d None = d
 
 -- with the words of a prefix
 module _ (a : Asked) (code : Code) (vs : List ℕ) (k : ℕ) (whole : Bool) (is : IsPrefix code vs k whole)
@@ -154,65 +143,6 @@ module _ (a : Asked) (code : Code) (vs : List ℕ) (k : ℕ) (whole : Bool) (is 
         by_flags false true ends false n = refl
         by_flags false false ends false n = refl
         by_flags all advance ends true n = absurd (cc)
-
-    -- one more of the places
-    pub places_more : (n : ℕ) → a.start ≤ s → n ≤ how_many (stands_at (subject_of a) vs) a.start (s - a.start)
-        → n + 1 ≤ how_many (stands_at (subject_of a) vs) a.start (s + 1 - a.start)
-    places_more n from few =
-        let at : a.start + (s - a.start) ≡ s = omega (arith, from) in
-        let up : s + 1 - a.start ≡ s - a.start + 1 = omega (arith, from) in
-        let one = how_many_here (stands_at (subject_of a) vs) a.start (s - a.start)
-        (subst (λ q. stands_at (subject_of a) vs q ≡ true) (sym at) there) in
-        omega (arith, few, one, ap (how_many (stands_at (subject_of a) vs) a.start) up)
-
-  -- places up to a further position
-  pub places_later : (n p q : ℕ) → n ≤ how_many (stands_at (subject_of a) vs) a.start (p - a.start) → p ≤ q
-      → n ≤ how_many (stands_at (subject_of a) vs) a.start (q - a.start)
-  places_later n p q few l =
-      omega (
-        arith,
-        few,
-        how_many_grows (stands_at (subject_of a) vs) a.start (p - a.start) (q - a.start)
-            (omega (arith, l)),
-      )
-
-  -- the counts
-  pub counts_at : (s : Shown) (p to seen : ℕ)
-      → s.started ≤ how_many (stands_at (subject_of a) vs) a.start (p - a.start)
-      → ((w : ℕ) → (hints_of code).width ≡ Some w → s.started ≤ a.end + 1 - (a.start + w))
-      → (whole ≡ true → s.started ≡ 0) → p ≤ to → s.compared ≤ 2 * (seen - a.start) → CountsUpTo a code to seen s
-  counts_at s p to seen few fit none l cost =
-      let further = places_later s.started p to few l in
-      record {
-        once = omega (arith, further, few_counted (stands_at (subject_of a) vs) a.start (to - a.start));
-        fitting = fit;
-        places = λ l' k' e.
-            let same : Some (length vs, k) ≡ Some (l', k') = sym is.hint ∙ e in
-            let pair : (length vs, k) ≡ (l', k') = ap (either_hint (length vs, k)) same in
-            let long : length vs ≡ l' = ap (λ (x : ℕ × ℕ). x.0) pair in
-            let words : vs ≡ prefix_of (words_of code) l' = is.is ∙ ap (prefix_of (words_of code)) long in
-            subst (λ ws. s.started ≤ how_many (stands_at (subject_of a) ws) a.start (to - a.start)) words further;
-        literal = λ l' k' e y. none (is.all ∙ y);
-        members = λ e.
-            let never : Some (length vs, k) ≡ None = sym is.hint ∙ no_prefix code e in absurd (cc);
-        compared = cost;
-        uncompared = λ e. let never : Some (length vs, k) ≡ None = sym is.hint ∙ e in absurd (cc);
-      }
-
--- where neither a prefix nor a first set is confirmed
-pub counts_plain : (a : Asked) (code : Code) (s : Shown) (to seen : ℕ) → (hints_of code).prefix ≡ None
-    → (hints_of code).first_set ≡ false → s.started ≤ to - a.start
-    → ((w : ℕ) → (hints_of code).width ≡ Some w → s.started ≤ a.end + 1 - (a.start + w))
-    → s.compared ≡ 0 → CountsUpTo a code to seen s
-counts_plain a code s to seen plain no_set once fit none = record {
-  once = once;
-  fitting = fit;
-  places = λ l k e. let never : None ≡ Some (l, k) = sym plain ∙ e in absurd (cc);
-  literal = λ l k e y. let never : None ≡ Some (l, k) = sym plain ∙ e in absurd (cc);
-  members = λ yes. let never : true ≡ false = sym yes ∙ no_set in absurd (cc never);
-  compared = omega (arith, none);
-  uncompared = λ e. none;
-}
 
 -- a tree with a prefix begins with no position code
 pub anchored_never : (k : ℕ) (t : Tree) (vs : List ℕ) → spells k t vs ≡ true → 0 < length vs → is_anchored t ≡ true → ⊥

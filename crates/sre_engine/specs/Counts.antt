@@ -1,6 +1,7 @@
 -- What a search counts at most.
 -- Public clauses rest on it.
-use Rattle.std.specs.Prelude.{ℕ, ◌+◌, ◌-◌, ◌*◌, ◌≡◌, ◌<◌, ◌≤◌, Bool, List, length, true, false, Some, None}
+use Rattle.std.specs.Prelude.{ℕ, ◌+◌, ◌-◌, ◌*◌, ◌≡◌, ◌<◌, ◌≤◌, ◌&&◌, ◌||◌, nat_le, Bool, true, false, not, List, length}
+use Rattle.std.specs.Prelude.{Option, Some, None}
 use Rattle.sre_model.specs.Tree.{Tree, SetItem}
 use Rattle.sre_model.specs.Grammar.{Whole}
 use Rattle.sre_model.specs.TurnBounds.{RunsWithin}
@@ -10,21 +11,34 @@ use Rattle.sre_model.specs.Remembered.{IsRemembered, enough_turns}
 use Rattle.sre_code.specs.Codes.{words_of, items_of, hints_of}
 use Rattle.sre_model.specs.Prefixes.{prefix_of}
 use Rattle.sre_code.specs.declared.code.Code.{Code}
+use Rattle.sre_code.specs.declared.code.Hints.{Hints}
 use Rattle.sre_engine.specs.Answers.{Shown}
 use Rattle.sre_engine.specs.Members.{IsFirstSet, is_among}
 
--- of a search that looked at starts before `to`, and at characters before `seen`: each start was tried once at most,
--- none at which a confirmed width does not fit, with a confirmed prefix only those where it stands, none of them where
--- the prefix is all, and with a confirmed first set only those at its members; and no character was compared more than
--- twice on average
+-- whether a confirmed width fits between a start and the window's end
+abbrev pub width_fits : Asked → Option ℕ → ℕ → Bool
+width_fits a None p = true
+width_fits a (Some w) p = nat_le (p + w) a.end
+
+-- whether a confirmed prefix stands at a start
+abbrev pub prefix_stands : Asked → List ℕ → Option (ℕ × ℕ) → ℕ → Bool
+prefix_stands a words None p = true
+prefix_stands a words (Some (l, k)) p = stands_at (subject_of a) (prefix_of words l) p
+
+-- whether a run may begin at a start: a confirmed width fits there, a confirmed prefix stands there and is not all of
+-- the code, and with a confirmed first set the character there is a member
+abbrev pub may_start : Asked → List ℕ → Hints → List SetItem → ℕ → Bool
+may_start a words hints set p =
+    width_fits a hints.width p && prefix_stands a words hints.prefix p && not hints.literal
+    && (not hints.first_set || is_among a set p)
+
+-- of a search that looked at starts before `to`, and at characters before `seen`: it began no more runs than there are
+-- starts at which one may begin; and it compared no character more than twice on average, and none where no prefix is
+-- confirmed
 pub record CountsUpTo (a : Asked) (code : Code) (to seen : ℕ) (s : Shown) : Type 0 where
-  pub once : s.started ≤ to - a.start
-  pub fitting : (w : ℕ) → (hints_of code).width ≡ Some w → s.started ≤ a.end + 1 - (a.start + w)
-  pub places : (l k : ℕ) → (hints_of code).prefix ≡ Some (l, k)
-      → s.started ≤ how_many (stands_at (subject_of a) (prefix_of (words_of code) l)) a.start (to - a.start)
-  pub literal : (l k : ℕ) → (hints_of code).prefix ≡ Some (l, k) → (hints_of code).literal ≡ true → s.started ≡ 0
-  pub members : (hints_of code).first_set ≡ true → (set : List SetItem) → IsFirstSet (words_of code) set
-      → s.started ≤ how_many (is_among a set) a.start (to - a.start)
+  pub started : (set : List SetItem) → ((hints_of code).first_set ≡ true → IsFirstSet (words_of code) set)
+      → s.started ≤ how_many (may_start a (words_of code) (hints_of code) set) a.start
+      (to - a.start)
   pub compared : s.compared ≤ 2 * (seen - a.start)
   pub uncompared : (hints_of code).prefix ≡ None → s.compared ≡ 0
 

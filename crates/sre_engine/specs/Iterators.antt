@@ -70,15 +70,19 @@ pub record IsOver {S A : Type 0} {text : Ghosts S} (it : SearchIter S A text) : 
 
 -- no prefix is confirmed that is all of the code, with which a search takes no memory
 abbrev pub MayTakeMemory : Code → Type 0
-MayTakeMemory code = (l k : ℕ) → (hints_of code).prefix ≡ Some (l, k) → (hints_of code).literal ≡ true → ⊥
+MayTakeMemory code = (hints_of code).literal ≡ true → ⊥
+
+-- no run of a step without a limit began again
+abbrev pub NoneAgain : {S A : Type 0} {text : Ghosts S} → SearchIter S A text → SearchIter S A text → Type 0
+NoneAgain it next = has_ended it ≡ false → (shown_of next).restarted ≡ 0
 
 -- the next item; an error comes only where a growth was refused, and not after the walk's end
 abbrev pub NextGives : {S A : Type 0} {text : Ghosts S}
     → SearchIter S A text → Option (Result (Unit {0}) SreError) → SearchIter S A text → Type 0
-NextGives it None next = IsOver it × Ends it next
-NextGives it (Some (Ok _)) next = Gives it next
+NextGives it None next = IsOver it × Ends it next × NoneAgain it next
+NextGives it (Some (Ok _)) next = Gives it next × NoneAgain it next
 NextGives it (Some (Err _)) next =
-    (has_ended it ≡ false) × Refused × Ends it next × MayTakeMemory (code_of (request_of it))
+    (has_ended it ≡ false) × Refused × Ends it next × NoneAgain it next × MayTakeMemory (code_of (request_of it))
 
 -- the walk stands where it stood, and goes on from there: there are no marks, and the request is as it was
 pub record Stays {S A : Type 0} {text : Ghosts S} (it next : SearchIter S A text) : Type 0 where

@@ -1,6 +1,6 @@
 -- What a search of a request says of its answer.
 -- Words of the contracts inside this crate; what it makes public does not rest on it.
-use Rattle.std.specs.Prelude.{ℕ, ◌+◌, ◌≡◌, ◌≤◌, Bool, true, Some, Result, OnErr}
+use Rattle.std.specs.Prelude.{◌+◌, ◌≡◌, ◌≤◌, Bool, true, Result, OnErr}
 use Rattle.sre_chars.specs.declared.string.StrDrive.{Ghosts}
 use Rattle.sre_model.specs.Tree.{Tree}
 use Rattle.sre_model.specs.Grammar.{Whole}
@@ -35,8 +35,7 @@ RunsOnceAnchored r s = (t : Tree) → Whole (words_of (code_of r)) t → is_anch
 
 -- where a confirmed prefix is all of the code, there is no error
 abbrev pub NoErrorIfLiteral : {S E : Type 0} {text : Ghosts S} → Request S text → Result Bool E → Type 0
-NoErrorIfLiteral r result =
-    (l k : ℕ) → (hints_of (code_of r)).prefix ≡ Some (l, k) → (hints_of (code_of r)).literal ≡ true → OnErr result ⊥
+NoErrorIfLiteral r result = (hints_of (code_of r)).literal ≡ true → OnErr result ⊥
 
 -- the matches left to a walk are the one that is shown and those left to what is asked next, where there is one
 abbrev pub WalksOn : {S : Type 0} {text : Ghosts S} → Request S text → Bool → Shown → Request S text → Type 0

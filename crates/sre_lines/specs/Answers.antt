@@ -2,6 +2,7 @@
 use Rattle.std.specs.Prelude.{ℕ, ◌≤◌, Bool, true, false, Option, Some, None, List, [], ◌∷◌, ◌++◌, codes}
 use Rattle.std.specs.Fmt.{decimal}
 use Rattle.std.specs.List.{flat_map}
+use Rattle.sre_growth.specs.Refusal.{Refused}
 use Rattle.sre_lines.specs.declared.cases.CaseFault.{CaseFault}
 use Rattle.sre_lines.specs.declared.cases.CaseFault.TheVariants.{Usage, CannotRead, NotACase, NoMemory, OutputFailed}
 
@@ -37,10 +38,10 @@ fault_text (NotACase line) name = codes "line " ++ decimal line ++ codes ": not 
 fault_text NoMemory name = codes "no memory"
 fault_text OutputFailed name = codes "output failed"
 
--- a fault of the cases of a file, whose lines count from 1
+-- a fault of the cases of a file, whose lines count from 1; for want of memory only where a growth was refused
 abbrev pub IsFaultOfCases : CaseFault → Type 0
 IsFaultOfCases Usage = ⊥
 IsFaultOfCases CannotRead = ⊥
 IsFaultOfCases (NotACase line) = 1 ≤ line
-IsFaultOfCases NoMemory = Unit {0}
+IsFaultOfCases NoMemory = Refused
 IsFaultOfCases OutputFailed = Unit {0}

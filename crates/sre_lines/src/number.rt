@@ -1,8 +1,9 @@
 //! Numbers and bytes as the digits of a case's fields.
 
 ghost use Rattle.std.specs.Prelude.{◌≡◌, ◌≢◌, ℕ, ◌+◌, ◌*◌, ◌/◌, ◌%◌, ◌^◌, ◌<◌, List, All, IfSome, IfNone, OnOk, false};
-ghost use Rattle.std.specs.Prelude.{IsTrue, ◌↔◌};
+ghost use Rattle.std.specs.Prelude.{IsTrue, ◌↔◌, Err};
 ghost use Rattle.std.specs.Fmt.{decimal, digit_glyph};
+ghost use Rattle.sre_growth.specs.Refusal.{Refused};
 ghost use Rattle.sre_lines.specs.Fields.{hex_text, BeginsAsNumber};
 
 use crate::line::LineFault;
@@ -43,6 +44,7 @@ pub fn read_hex<A: Allocator>(digits: &[u8], bytes: &mut Vec<u8, A>) -> Result<(
     ensures fit { OnOk result (All (λ b. b < 256) bytes.new.items) }
     ensures refused { result ≡ Err LineFault.NotACase → (bs : List ℕ) → All (λ b. b < 256) bs
         → hex_text bs ≢ digits.now }
+    ensures memory { result ≡ Err LineFault.NoMemory → Refused }
 {
     bytes.clear();
     if digits.len() % 2 != 0 {
@@ -52,7 +54,7 @@ pub fn read_hex<A: Allocator>(digits: &[u8], bytes: &mut Vec<u8, A>) -> Result<(
         let Some(byte) = hex_byte(digits[2 * i], digits[2 * i + 1]) else {
             return Err(LineFault::NotACase);
         };
-        bytes.push(byte)?;
+        sre_growth::push(bytes, byte)?;
     }
     Ok(())
 }

@@ -1,7 +1,8 @@
 //! What the program does with its arguments and its file.
 
-ghost use Rattle.std.specs.Prelude.{◌≡◌, ◌++◌, ◌∷◌, [], Err, IfErr, OnOk};
+ghost use Rattle.std.specs.Prelude.{◌≡◌, ◌≢◌, ◌++◌, ◌∷◌, [], Err, IfErr, OnOk};
 ghost use Rattle.std.specs.Fn.{FnOnceReturnsAt};
+ghost use Rattle.std.specs.Io.Buffered.{writer_contents, writer_buffer};
 ghost use Rattle.std.specs.Io.KnownBytes.{Appends};
 ghost use Rattle.std.specs.Process.{exit_status};
 ghost use Rattle.sre_lines.specs.Answers.{fault_text, IsFaultOfCases};
@@ -12,7 +13,7 @@ ghost use Rattle.sre_lines.specs.Program.{IsFaultOf, IsArgument, AnswersFile, en
 use crate::cases::{CaseFault, run_cases, write_fault};
 use std::alloc::Global;
 use std::env::Args;
-use std::io::{self, ErrorKind, Write};
+use std::io::{self, BufWriter, ErrorKind, Write};
 use std::process::ExitCode;
 
 /// How the program ends.
@@ -41,21 +42,24 @@ impl Ending {
 /// Answers the cases of the file that the one argument names, which `read` reads. Where that stops at a
 /// fault, the line that tells it is written to `faults`.
 ///
-/// The first argument is the program's name. The arguments are an error where one is no UTF-8.
+/// The first argument is the program's name. The arguments are an error where one is no UTF-8. No answer is left in
+/// the buffer of `out`, unless a write failed.
 pub fn run<F, W, E>(
     alloc: Global,
     args: io::Result<Args>,
     read: F,
-    out: &mut W,
+    out: &mut BufWriter<W>,
     faults: &mut E,
 ) -> Ending
 where
     F: FnOnce(&str) -> io::Result<Vec<u8>>,
-    W: Write,
+    W: Write + Drop,
     E: Write,
     requires { F.IsAlwaysCallable read }
-    ensures { ProgramRun (FnOnceReturnsAt F.FnOnce read) args (W.contents out.old) (W.contents out.new)
-        (E.contents faults.old) (E.contents faults.new) result }
+    ensures run { ProgramRun (FnOnceReturnsAt F.FnOnce read) args (writer_contents W.contents out.old)
+        (writer_contents W.contents out.new) (E.contents faults.old) (E.contents faults.new) result }
+    ensures flushed { writer_buffer out.old ≡ [] → end_of result ≢ Err CaseFault.OutputFailed
+        → writer_buffer out.new ≡ [] }
 {
     let name = match argument(args) {
         Ok(name) => name,
@@ -107,13 +111,20 @@ fn memory_or(error: &io::Error, usual: CaseFault) -> CaseFault
 }
 
 // Answers the cases of the file of this name.
-fn answer_file<F, W>(alloc: Global, name: &str, read: F, out: &mut W) -> Result<(), CaseFault>
+fn answer_file<F, W>(
+    alloc: Global,
+    name: &str,
+    read: F,
+    out: &mut BufWriter<W>,
+) -> Result<(), CaseFault>
 where
     F: FnOnce(&str) -> io::Result<Vec<u8>>,
-    W: Write,
+    W: Write + Drop,
     requires { F.IsAlwaysCallable read }
-    ensures { (file : _) × FnOnceReturnsAt F.FnOnce read name.now file
-        × AnswersFile (W.contents out.old) (W.contents out.new) file result }
+    ensures answers { (file : _) × FnOnceReturnsAt F.FnOnce read name.now file
+        × AnswersFile (writer_contents W.contents out.old) (writer_contents W.contents out.new) file result }
+    ensures flushed { writer_buffer out.old ≡ [] → result ≢ Err CaseFault.OutputFailed
+        → writer_buffer out.new ≡ [] }
 {
     match read(name) {
         Ok(file) => answer_bytes(alloc, file.as_slice(), out),
@@ -122,10 +133,17 @@ where
 }
 
 // Answers the cases of a file, and leaves no answer in a buffer.
-fn answer_bytes<W: Write>(alloc: Global, file: &[u8], out: &mut W) -> Result<(), CaseFault>
-    ensures answers { OnOk result (Answered (W.contents out.old) (W.contents out.new) (lines_of file.now)) }
+fn answer_bytes<W: Write + Drop>(
+    alloc: Global,
+    file: &[u8],
+    out: &mut BufWriter<W>,
+) -> Result<(), CaseFault>
+    ensures answers { OnOk result (Answered (writer_contents W.contents out.old) (writer_contents W.contents out.new)
+        (lines_of file.now)) }
     ensures faults { IfErr result IsFaultOfCases }
-    ensures stopped { IfErr result (StopsAt (W.contents out.old) (W.contents out.new) (lines_of file.now)) }
+    ensures stopped { IfErr result (StopsAt (writer_contents W.contents out.old) (writer_contents W.contents out.new)
+        (lines_of file.now)) }
+    ensures flushed { result ≢ Err CaseFault.OutputFailed → writer_buffer out.new ≡ [] }
 {
     let ran = run_cases(alloc, file, out);
     // The answers before a fault are written too.

@@ -169,8 +169,8 @@ fn is_repeated(alloc: Global, text: &str, chars: &[u32], times: usize) -> bool {
 // Each `str` is repeated to go past several blocks of bytes, at whose edges characters of each width are cut.
 #[test]
 fn texts_are_their_characters(rt: HostRuntime) {
-    let bytes = [0u8, 7, 127, 128, 195, 169, 255];
-    assert!(rt; is_text_of(bytes.as_slice(), &[0, 7, 127, 128, 195, 169, 255]));
+    let bytes = [0u8, 7, 9, 127, 128, 195, 169, 255];
+    assert!(rt; is_text_of(bytes.as_slice(), &[0, 7, 9, 127, 128, 195, 169, 255]));
     for &(text, chars) in &TEXTS {
         assert!(rt; is_repeated(rt.alloc(), text, chars, 1));
         assert!(rt; is_repeated(rt.alloc(), text, chars, 70));

@@ -2,7 +2,7 @@
 //! Which words a tree has is a clause of `emit`, and rows of it stand beside its definitions.
 
 use crate::shown::is_shown;
-use sre_emit::{EmitError, Fold, Item, OneChar, Part, RunKind, emit, emit_in};
+use sre_emit::{EmitError, Fold, Item, OneChar, Part, RunKind, emit_in};
 use sre_failing_allocator::Refusing;
 use std::alloc::{AllocError, Global};
 
@@ -180,27 +180,43 @@ fn nested(alloc: Global, depth: u32) -> Result<Part, AllocError> {
     Ok(inner)
 }
 
-// How many words such a part has.
-fn length_of(alloc: Global, depth: u32) -> Result<usize, EmitError> {
-    let Ok(part) = nested(alloc, depth) else {
-        return Err(EmitError::Memory);
-    };
-    match emit(alloc, &part, false) {
-        Ok(words) => Ok(words.len()),
-        Err(error) => Err(error),
+// Whether a part has so many words or ends with that error, and with each request for memory refused in turn before.
+fn is_answered(alloc: Global, part: &Part, wanted: Result<usize, EmitError>) -> bool {
+    let with_block = false;
+    for refused in 1..40u64 {
+        let heap = Refusing::new(alloc, refused);
+        let answer = match emit_in(&heap, part, with_block) {
+            Ok(words) => Ok(words.len()),
+            Err(error) => Err(error),
+        };
+        if heap.left() != 0 {
+            return answer == wanted;
+        }
+        if answer != Err(EmitError::Memory) {
+            return false;
+        }
+    }
+    false
+}
+
+// The same of the letter inside so many groups.
+fn is_nested(alloc: Global, depth: u32, wanted: Result<usize, EmitError>) -> bool {
+    match nested(alloc, depth) {
+        Ok(part) => is_answered(alloc, &part, wanted),
+        Err(_) => false,
     }
 }
 
 #[test]
 fn parts_lie_inside_a_thousand_items(rt: HostRuntime) {
-    assert!(rt; length_of(rt.alloc(), 1000).ok() == Some(3003));
-    assert!(rt; length_of(rt.alloc(), 1001).err() == Some(EmitError::TooDeep));
+    assert!(rt; is_nested(rt.alloc(), 1000, Ok(3003)));
+    assert!(rt; is_nested(rt.alloc(), 1001, Err(EmitError::TooDeep)));
 }
 
 // Whether a part of one item is refused as bad.
 fn is_bad(alloc: Global, item: Item) -> bool {
     match single(alloc, item) {
-        Ok(part) => emit(alloc, &part, true).err() == Some(EmitError::BadPart),
+        Ok(part) => is_answered(alloc, &part, Err(EmitError::BadPart)),
         Err(_) => false,
     }
 }
@@ -215,6 +231,43 @@ fn bad_parts_have_no_words(rt: HostRuntime) {
     };
     assert!(rt; is_bad(rt.alloc(), run));
     assert!(rt; is_bad(rt.alloc(), Item::Branch(Vec::new(rt.alloc()))));
+}
+
+// A branch of nothing and the letter a: whether a block is wanted, and the words.
+static BRANCHES: [(bool, &[u32]); 2] = [
+    (false, &[7, 3, 15, 7, 5, 16, 97, 15, 2, 0, 1]),
+    (
+        true,
+        &[14, 4, 0, 0, NO_LIMIT, 7, 3, 15, 7, 5, 16, 97, 15, 2, 0, 1],
+    ),
+];
+
+// The part of such a branch.
+fn nothing_or_letter(alloc: Global) -> Result<Part, AllocError> {
+    let letter = single(alloc, item(Step::Letter(97)))?;
+    let nothing = Part {
+        items: Vec::new(alloc),
+    };
+    let mut alternatives = Vec::new(alloc);
+    if alternatives.push(nothing).is_err() || alternatives.push(letter).is_err() {
+        return Err(AllocError);
+    }
+    single(alloc, Item::Branch(alternatives))
+}
+
+// Whether it has the words, with each request for memory refused in turn before.
+fn has_branch_words(alloc: Global, with_block: bool, wanted: &[u32]) -> bool {
+    match nothing_or_letter(alloc) {
+        Ok(part) => is_emitted(alloc, &part, with_block, wanted, 1),
+        Err(_) => false,
+    }
+}
+
+#[test]
+fn branches_have_their_words_or_memory_is_refused(rt: HostRuntime) {
+    for &(with_block, wanted) in &BRANCHES {
+        assert!(rt; has_branch_words(rt.alloc(), with_block, wanted));
+    }
 }
 
 static CAUSES: [(EmitError, u32, &str); 4] = [

@@ -378,8 +378,7 @@ impl<A: Allocator + Copy> State<A> {
         ensures anchored { (t : Tree) → Whole (words_of (code_of req.entry)) t
             → is_anchored t ≡ true → self.new.started ≤ 1 }
         ensures once { self.new.restarted ≡ 0 }
-        ensures literal { (l k : ℕ) → (hints_of (code_of req.entry)).prefix ≡ Some (l, k)
-            → (hints_of (code_of req.entry)).literal ≡ true → OnErr result ⊥ }
+        ensures literal { (hints_of (code_of req.entry)).literal ≡ true → OnErr result ⊥ }
     {
         self.search_by(req, &mut Nobody)
     }
@@ -408,8 +407,7 @@ impl<A: Allocator + Copy> State<A> {
         ensures anchored { (t : Tree) → Whole (words_of (code_of req.entry)) t
             → is_anchored t ≡ true → self.new.started ≤ 1 }
         ensures once { self.new.restarted ≡ 0 }
-        ensures literal { (l k : ℕ) → (hints_of (code_of req.entry)).prefix ≡ Some (l, k)
-            → (hints_of (code_of req.entry)).literal ≡ true → OnErr result ⊥ }
+        ensures literal { (hints_of (code_of req.entry)).literal ≡ true → OnErr result ⊥ }
     {
         let start = req.string().create_cursor(req.start());
         let limited = false;
@@ -452,8 +450,7 @@ impl<A: Allocator + Copy> State<A> {
             (code_of req.entry) (self.new.start + 1) self.new.cursor.position self.new) }
         ensures anchored { (t : Tree) → Whole (words_of (code_of req.entry)) t
             → is_anchored t ≡ true → self.new.started ≤ 1 }
-        ensures literal { (l k : ℕ) → (hints_of (code_of req.entry)).prefix ≡ Some (l, k)
-            → (hints_of (code_of req.entry)).literal ≡ true → (OnErr result ⊥) × IfOk result (λ told. told ≢ None) }
+        ensures literal { (hints_of (code_of req.entry)).literal ≡ true → (OnErr result ⊥) × IfOk result (λ told. told ≢ None) }
     {
         let start = req.string().create_cursor(req.start());
         let limited = true;

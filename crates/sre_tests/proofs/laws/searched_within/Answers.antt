@@ -4,6 +4,7 @@ use Rattle.sre_engine.specs.Counts.{runs_of}
 use Rattle.sre_engine.specs.Grammar.{Whole}
 use Rattle.sre_engine.specs.Codes.{words_of}
 use Rattle.sre_engine.specs.Requests.{asked_of, code_of, start_of, end_of}
+use Rattle.sre_engine.proofs.CountLaws.{once}
 use Rattle.sre_engine.proofs.Spending.{never_used_up}
 use Rattle.sre_tests.proofs.laws.searched_within.Goals as goal
 
@@ -24,4 +25,4 @@ returns-clause-told g c =
     (never_used_up (asked_of c.args.req) code t.0 c.args.turns.now c.search_within.new.turns
     (runs_of c.search_within.new.self) m.0 (2 * (end_of c.args.req + 1 - start_of c.args.req)) whole m.1
     c.search_within.ensures.spent
-    (omega (arith, c.search_within.ensures.counts.once, c.search_within.ensures.again.few)) m.2)
+    (omega (arith, once _ code _ _ _ c.search_within.ensures.counts, c.search_within.ensures.again.few)) m.2)

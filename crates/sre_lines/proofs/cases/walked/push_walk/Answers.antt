@@ -10,7 +10,7 @@ use Rattle.sre_lines.proofs.cases.walked.push_walk.Goals as goal
 
 pub matches-preserved : goal.matches-preserved
 matches-preserved g c =
-    let gives : Gives c.matches.matches c.next.new.self = rw c.in-Ok.is at c.in-Some.ensures.steps in
+    let gives : Gives c.matches.matches c.next.new.self = (rw c.in-Ok.is at c.in-Some.ensures.steps).0 in
     let same = c.matches.invariant.0 in (
       gives.request.pattern_codes ∙ same,
       one_written (words_of (code_of c.args.request)) (asked_of c.args.request) (string_bytes c.args.answer.now)

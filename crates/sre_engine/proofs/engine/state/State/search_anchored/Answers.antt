@@ -1,4 +1,4 @@
-use Rattle.std.proofs.Common.{◌≡◌, refl, subst, arith, rules}
+use Rattle.std.proofs.Common.{◌≡◌, ◌+◌, refl, subst, arith, rules}
 use Rattle.sre_code.specs.Codes.{words_of, hints_of}
 use Rattle.sre_code.proofs.Checked.{code_tree}
 use Rattle.sre_request.specs.Requests.{start_of, code_of, asked_of, stands_in}
@@ -6,6 +6,7 @@ use Rattle.sre_engine.specs.Prefixed.{FitsAt}
 use Rattle.sre_engine.proofs.Anchored.{anchored_nowhere}
 use Rattle.sre_engine.proofs.Answering.{answers_yes, answers_no, none_at, some_at, span_at, found_first, none_yet}
 use Rattle.sre_engine.proofs.Hinting.{past_none}
+use Rattle.sre_engine.proofs.MayStart.{ran_none, ran_first, counts_plain}
 use Rattle.sre_engine.proofs.Costing.{since_begin, since_given_up, passed_on}
 use Rattle.sre_engine.proofs.engine.state.State.search_anchored.Goals as goal
 
@@ -59,3 +60,53 @@ returns-in_err-end-clause-given_up g c =
     (since_begin asked c.begin.new.self _ c.begin.ensures.waits c.begin.ensures.opened)
     (c.in_err-end.ensures.given_up e) (omega (arith, at))
     (omega (arith, c.attempt.ensures.counted, c.none.ensures.started)))
+
+pub returns-then-is_past-clause-counts : goal.returns-then-is_past-clause-counts
+returns-then-is_past-clause-counts g c =
+    let asked = c.args.req.now in
+    counts_plain (asked_of asked) (code_of asked) _ 0 _ _
+    (ran_none (asked_of asked) (code_of asked) _ 0 c.none.ensures.started) (omega arith) refl
+
+pub returns-in_err-end-clause-counts : goal.returns-in_err-end-clause-counts
+returns-in_err-end-clause-counts g c =
+    let asked = c.args.req.now in
+    let at : c.args.from.position ≡ start_of asked = search rules in
+    let fits : FitsAt c.last_start.result c.args.from.position =
+    subst (FitsAt c.last_start.result) c.position.ensures (c.is_past.ensures.fits c.if-is_past.false) in
+    let ran = ran_first (asked_of asked) (code_of asked) c.last_start.result _ _ c.args.from.position
+    c.last_start.ensures fits (omega (arith, at)) c.none.ensures.started c.attempt.ensures.counted c.requires.plain
+    c.requires.no_set in
+    counts_plain (asked_of asked) (code_of asked) _ (c.args.from.position + 1) _ _ ran (omega (arith, at, asked.in_window.0)) refl
+
+pub returns-in-Some-clause-counts : goal.returns-in-Some-clause-counts
+returns-in-Some-clause-counts g c =
+    let asked = c.args.req.now in
+    let at : c.args.from.position ≡ start_of asked = search rules in
+    let fits : FitsAt c.last_start.result c.args.from.position =
+    subst (FitsAt c.last_start.result) c.position.ensures (c.is_past.ensures.fits c.if-is_past.false) in
+    let ran = ran_first (asked_of asked) (code_of asked) c.last_start.result _ _ c.args.from.position
+    c.last_start.ensures fits (omega (arith, at)) c.none.ensures.started c.attempt.ensures.counted c.requires.plain
+    c.requires.no_set in
+    counts_plain (asked_of asked) (code_of asked) _ (c.args.from.position + 1) _ _ ran (omega (arith, at, asked.in_window.0)) refl
+
+pub returns-clause-counts : goal.returns-clause-counts
+returns-clause-counts g c =
+    let asked = c.args.req.now in
+    let at : c.args.from.position ≡ start_of asked = search rules in
+    let fits : FitsAt c.last_start.result c.args.from.position =
+    subst (FitsAt c.last_start.result) c.position.ensures (c.is_past.ensures.fits c.if-is_past.false) in
+    let ran = ran_first (asked_of asked) (code_of asked) c.last_start.result _ _ c.args.from.position
+    c.last_start.ensures fits (omega (arith, at)) c.none.ensures.started c.attempt.ensures.counted c.requires.plain
+    c.requires.no_set in
+    counts_plain (asked_of asked) (code_of asked) _ (c.args.from.position + 1) _ _ ran (omega (arith, at, asked.in_window.0)) refl
+
+pub returns-in-Some-clause-up_to_match : goal.returns-in-Some-clause-up_to_match
+returns-in-Some-clause-up_to_match g c = λ _.
+    let asked = c.args.req.now in
+    let at : c.args.from.position ≡ start_of asked = search rules in
+    let fits : FitsAt c.last_start.result c.args.from.position =
+    subst (FitsAt c.last_start.result) c.position.ensures (c.is_past.ensures.fits c.if-is_past.false) in
+    let ran = ran_first (asked_of asked) (code_of asked) c.last_start.result _ _ c.args.from.position
+    c.last_start.ensures fits (omega (arith, at)) c.none.ensures.started c.attempt.ensures.counted c.requires.plain
+    c.requires.no_set in
+    counts_plain (asked_of asked) (code_of asked) _ (c.args.from.position + 1) _ _ ran (omega (arith, c.position-in-Some.ensures)) refl

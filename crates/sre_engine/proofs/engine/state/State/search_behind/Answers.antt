@@ -1,15 +1,24 @@
-use Rattle.std.proofs.Common.{◌≡◌, refl, ◌∙◌, subst, arith, rules}
+use Rattle.std.proofs.Common.{◌≡◌, ◌+◌, refl, ◌∙◌, subst, arith, rules}
 use Rattle.sre_code.specs.Codes.{words_of, hints_of}
 use Rattle.sre_request.specs.Requests.{code_of, asked_of, stands_in}
 use Rattle.sre_engine.specs.Starts.{NoneUntil}
 use Rattle.sre_engine.proofs.Answering.{answers_yes, answers_no, none_at, some_at, span_at, found_first}
 use Rattle.sre_engine.proofs.LeadingStarts.{none_joined, found_none_behind}
 use Rattle.sre_engine.specs.Prefixed.{FitsAt}
-use Rattle.sre_engine.proofs.Hinting.{past_none, counts_tried}
+use Rattle.sre_engine.proofs.Hinting.{past_none}
+use Rattle.sre_engine.proofs.MayStart.{ran_first, ran_plain, few_ran, counts_plain}
 use Rattle.sre_code.proofs.Checked.{code_tree, items_whole}
 use Rattle.sre_engine.proofs.Spending.{run_spent}
 use Rattle.sre_engine.proofs.Costing.{behind_begin, behind_run, behind_given_up, gives_up_limited, passed_on}
 use Rattle.sre_engine.proofs.engine.state.State.search_behind.Goals as goal
+
+pub attempt-requires-clause-room : goal.attempt-requires-clause-room
+attempt-requires-clause-room g c =
+    let asked = c.args.req.now in
+    let inv = c.start.invariant in
+    let next = c.in-Some-next_start_told.ensures.next in
+    let few = few_ran (asked_of asked) (code_of asked) _ _ inv.ran in
+    omega (arith, few, c.in-Some.ensures.next.0, next.after, next.inside, asked.in_window.1)
 
 pub returns-in_default-clause-ok : goal.returns-in_default-clause-ok
 returns-in_default-clause-ok g c = λ t whole.
@@ -60,23 +69,22 @@ returns-in-Some-2-clause-span g c = λ _.
 pub start-preserved : goal.start-preserved
 start-preserved g c =
     let asked = c.args.req.now in
+    let inv = c.start.invariant in
     let next = c.in-Some-next_start_told.ensures.next in
+    let fits : FitsAt c.args.last c.in-Some-next_start_told.next.position =
+    subst (FitsAt c.args.last) c.position.ensures (c.is_past.ensures.fits c.if-is_past.false) in
+    let ran = ran_plain (asked_of asked) (code_of asked) c.args.last _ _ (c.start.start.position + 1)
+    c.in-Some-next_start_told.next.position c.requires.last fits (omega (arith, inv.from))
+    (omega (arith, c.in-Some.ensures.next.0, next.after)) inv.ran c.attempt.ensures.counted c.requires.plain
+    c.requires.no_set in
     record {
       stands = next.stands;
       from = omega (arith, c.start.invariant.from, c.in-Some.ensures.next.0, next.after);
       inside = next.inside;
       fresh = search rules;
       remembers = search rules;
-      fits = subst (FitsAt c.args.last) c.position.ensures (c.is_past.ensures.fits c.if-is_past.false);
-      once =
-          omega (
-            arith,
-            c.start.invariant.once,
-            c.start.invariant.from,
-            c.in-Some.ensures.next.0,
-            next.after,
-            c.attempt.ensures.counted,
-          );
+      fits = fits;
+      ran = ran;
       uncompared = c.start.invariant.uncompared;
       again = c.attempt.ensures.again;
       never = λ e. c.attempt.ensures.never e ∙ c.start.invariant.never e;
@@ -106,25 +114,22 @@ pub returns-in_default-clause-counts : goal.returns-in_default-clause-counts
 returns-in_default-clause-counts g c =
     let asked = c.args.req.now in
     let inv = c.start.invariant in
-    counts_tried (asked_of asked) (code_of asked) c.args.last _ c.start.start.position _ _ c.requires.plain
-    c.requires.no_set c.requires.last
-    inv.fits inv.from inv.once inv.uncompared (omega (arith, inv.inside))
+    counts_plain (asked_of asked) (code_of asked) _ (c.start.start.position + 1) _ _ inv.ran
+    (omega (arith, inv.inside)) inv.uncompared
 
 pub returns-in-None-clause-counts : goal.returns-in-None-clause-counts
 returns-in-None-clause-counts g c =
     let asked = c.args.req.now in
     let inv = c.start.invariant in
-    counts_tried (asked_of asked) (code_of asked) c.args.last _ c.start.start.position _ _ c.requires.plain
-    c.requires.no_set c.requires.last
-    inv.fits inv.from inv.once inv.uncompared (omega (arith, inv.inside))
+    counts_plain (asked_of asked) (code_of asked) _ (c.start.start.position + 1) _ _ inv.ran
+    (omega (arith, inv.inside)) inv.uncompared
 
 pub returns-then-is_past-clause-counts : goal.returns-then-is_past-clause-counts
 returns-then-is_past-clause-counts g c =
     let asked = c.args.req.now in
     let inv = c.start.invariant in
-    counts_tried (asked_of asked) (code_of asked) c.args.last _ c.start.start.position _ _ c.requires.plain
-    c.requires.no_set c.requires.last
-    inv.fits inv.from inv.once inv.uncompared (omega (arith, inv.inside))
+    counts_plain (asked_of asked) (code_of asked) _ (c.start.start.position + 1) _ _ inv.ran
+    (omega (arith, inv.inside)) inv.uncompared
 
 pub returns-in_err-end-clause-counts : goal.returns-in_err-end-clause-counts
 returns-in_err-end-clause-counts g c =
@@ -133,11 +138,12 @@ returns-in_err-end-clause-counts g c =
     let next = c.in-Some-next_start_told.ensures.next in
     let fits : FitsAt c.args.last c.in-Some-next_start_told.next.position =
     subst (FitsAt c.args.last) c.position.ensures (c.is_past.ensures.fits c.if-is_past.false) in
-    counts_tried (asked_of asked) (code_of asked) c.args.last _ c.in-Some-next_start_told.next.position _ _
-    c.requires.plain c.requires.no_set c.requires.last fits
-    (omega (arith, inv.from, c.in-Some.ensures.next.0, next.after))
-    (omega (arith, inv.once, inv.from, c.in-Some.ensures.next.0, next.after, c.attempt.ensures.counted)) inv.uncompared
-    (omega (arith, next.inside))
+    let ran = ran_plain (asked_of asked) (code_of asked) c.args.last _ _ (c.start.start.position + 1)
+    c.in-Some-next_start_told.next.position c.requires.last fits (omega (arith, inv.from))
+    (omega (arith, c.in-Some.ensures.next.0, next.after)) inv.ran c.attempt.ensures.counted c.requires.plain
+    c.requires.no_set in
+    counts_plain (asked_of asked) (code_of asked) _ (c.in-Some-next_start_told.next.position + 1) _ _ ran
+    (omega (arith, next.inside)) inv.uncompared
 
 pub returns-in-Some-2-clause-counts : goal.returns-in-Some-2-clause-counts
 returns-in-Some-2-clause-counts g c =
@@ -146,11 +152,12 @@ returns-in-Some-2-clause-counts g c =
     let next = c.in-Some-next_start_told.ensures.next in
     let fits : FitsAt c.args.last c.in-Some-next_start_told.next.position =
     subst (FitsAt c.args.last) c.position.ensures (c.is_past.ensures.fits c.if-is_past.false) in
-    counts_tried (asked_of asked) (code_of asked) c.args.last _ c.in-Some-next_start_told.next.position _ _
-    c.requires.plain c.requires.no_set c.requires.last fits
-    (omega (arith, inv.from, c.in-Some.ensures.next.0, next.after))
-    (omega (arith, inv.once, inv.from, c.in-Some.ensures.next.0, next.after, c.attempt.ensures.counted)) inv.uncompared
-    (omega (arith, next.inside))
+    let ran = ran_plain (asked_of asked) (code_of asked) c.args.last _ _ (c.start.start.position + 1)
+    c.in-Some-next_start_told.next.position c.requires.last fits (omega (arith, inv.from))
+    (omega (arith, c.in-Some.ensures.next.0, next.after)) inv.ran c.attempt.ensures.counted c.requires.plain
+    c.requires.no_set in
+    counts_plain (asked_of asked) (code_of asked) _ (c.in-Some-next_start_told.next.position + 1) _ _ ran
+    (omega (arith, next.inside)) inv.uncompared
 
 pub returns-in-Some-2-clause-up_to_match : goal.returns-in-Some-2-clause-up_to_match
 returns-in-Some-2-clause-up_to_match g c = λ _.
@@ -159,11 +166,12 @@ returns-in-Some-2-clause-up_to_match g c = λ _.
     let next = c.in-Some-next_start_told.ensures.next in
     let fits : FitsAt c.args.last c.in-Some-next_start_told.next.position =
     subst (FitsAt c.args.last) c.position.ensures (c.is_past.ensures.fits c.if-is_past.false) in
-    counts_tried (asked_of asked) (code_of asked) c.args.last _ c.in-Some-next_start_told.next.position _ _
-    c.requires.plain c.requires.no_set c.requires.last fits
-    (omega (arith, inv.from, c.in-Some.ensures.next.0, next.after))
-    (omega (arith, inv.once, inv.from, c.in-Some.ensures.next.0, next.after, c.attempt.ensures.counted)) inv.uncompared
-    (omega (arith, c.position-in-Some-2.ensures))
+    let ran = ran_plain (asked_of asked) (code_of asked) c.args.last _ _ (c.start.start.position + 1)
+    c.in-Some-next_start_told.next.position c.requires.last fits (omega (arith, inv.from))
+    (omega (arith, c.in-Some.ensures.next.0, next.after)) inv.ran c.attempt.ensures.counted c.requires.plain
+    c.requires.no_set in
+    counts_plain (asked_of asked) (code_of asked) _ (c.in-Some-next_start_told.next.position + 1) _ _ ran
+    (omega (arith, c.position-in-Some-2.ensures)) inv.uncompared
 
 pub returns-then-is_past-clause-ok : goal.returns-then-is_past-clause-ok
 returns-then-is_past-clause-ok g c = λ t whole.
@@ -197,7 +205,11 @@ start-init g c = record {
   fresh = search rules;
   remembers = search rules;
   fits = search rules;
-  once = search rules;
+  ran =
+      let asked = c.args.req.now in
+      let one : c.self.inside.begun.started ≡ 0 + 1 = search rules in
+      ran_first (asked_of asked) (code_of asked) c.args.last 0 _ c.args.tried.position c.requires.last c.requires.fits
+      c.requires.from refl one c.requires.plain c.requires.no_set;
   uncompared = search rules;
   again = search rules;
   never = search rules;

@@ -13,6 +13,7 @@ use Rattle.sre_engine.specs.Starts.{Bars}
 use Rattle.sre_engine.specs.Counts.{SpentUpTo, runs_of}
 use Rattle.sre_engine.proofs.Answering.{NoneBefore}
 use Rattle.sre_engine.proofs.Costing.{CostsBehind}
+use Rattle.sre_engine.proofs.MayStart.{RanBefore}
 use Rattle.sre_engine.proofs.engine.state.State.search_behind.Given as goal
 
 abbrev pub invariant-start : goal.invariant-start
@@ -23,7 +24,7 @@ invariant-start g l = record {
   fresh : l.self-inside.board ≡ bare no_marks;
   remembers : Remembers (run_of l.req) l.self-inside.memo.kept;
   fits : FitsAt l.last l.start.position;
-  once : l.self-inside.begun.started ≤ l.start.position - start_of l.req + 1;
+  ran : RanBefore (asked_of l.req) (code_of l.req) l.self-inside.begun.started (l.start.position + 1);
   uncompared : l.self-inside.compared ≡ 0;
   again : l.self-inside.begun.restarted ≤ l.self-inside.begun.started;
   never : l.limited ≡ false → l.self-inside.begun.restarted ≡ 0;

@@ -1,4 +1,4 @@
-use Rattle.std.proofs.Common.{◌≤◌, ◌+◌, refl, ◌∙◌, subst, arith, rules}
+use Rattle.std.proofs.Common.{◌+◌, refl, ◌∙◌, subst, arith, rules}
 use Rattle.sre_code.specs.Codes.{words_of, hints_of}
 use Rattle.sre_code.proofs.Checked.{code_tree, items_whole}
 use Rattle.sre_request.specs.Requests.{code_of, asked_of, stands_in}
@@ -7,11 +7,17 @@ use Rattle.sre_engine.specs.Starts.{NoneUntil}
 use Rattle.sre_engine.proofs.Answering.{answers_yes, answers_no, none_at, some_at, span_at, found_first}
 use Rattle.sre_engine.proofs.Hinting.{past_none}
 use Rattle.sre_engine.proofs.LeadingStarts.{none_joined, found_none_behind}
-use Rattle.sre_engine.proofs.AmongMembers.{counts_members, counts_next, tried_more}
-use Rattle.sre_engine.proofs.AmongMembers.{fit_more, members_later}
+use Rattle.sre_engine.proofs.MayStart.{ran_none, ran_later, ran_member, few_ran, counts_plain}
 use Rattle.sre_engine.proofs.Spending.{run_spent}
 use Rattle.sre_engine.proofs.Costing.{since_begin, since_run, since_given_up, gives_up_limited, passed_on}
 use Rattle.sre_engine.proofs.engine.state.State.search_members.Goals as goal
+
+pub attempt-requires-clause-room : goal.attempt-requires-clause-room
+attempt-requires-clause-room g c =
+    let asked = c.args.req.now in
+    let inv = c.start.invariant in
+    let few = few_ran (asked_of asked) (code_of asked) _ _ inv.ran in
+    omega (arith, few, inv.inside, asked.in_window.1)
 
 pub returns-in_default-clause-ok : goal.returns-in_default-clause-ok
 returns-in_default-clause-ok g c = λ t whole.
@@ -25,8 +31,8 @@ pub returns-in_default-clause-counts : goal.returns-in_default-clause-counts
 returns-in_default-clause-counts g c =
     let asked = c.args.req.now in
     let inv = c.start.invariant in
-    counts_members (asked_of asked) (code_of asked) _ c.start.start.position _ _ c.requires.set inv.tried
-    (omega (arith, inv.inside)) inv.fit inv.uncompared
+    counts_plain (asked_of asked) (code_of asked) _ c.start.start.position _ _ inv.ran (omega (arith, inv.inside))
+    inv.uncompared
 
 pub returns-then-is_past-clause-ok : goal.returns-then-is_past-clause-ok
 returns-then-is_past-clause-ok g c = λ t whole.
@@ -43,8 +49,8 @@ pub returns-then-is_past-clause-counts : goal.returns-then-is_past-clause-counts
 returns-then-is_past-clause-counts g c =
     let asked = c.args.req.now in
     let inv = c.start.invariant in
-    counts_members (asked_of asked) (code_of asked) _ c.start.start.position _ _ c.requires.set inv.tried
-    (omega (arith, inv.inside)) inv.fit inv.uncompared
+    counts_plain (asked_of asked) (code_of asked) _ c.start.start.position _ _ inv.ran (omega (arith, inv.inside))
+    inv.uncompared
 
 pub returns-in_err-end-clause-counts : goal.returns-in_err-end-clause-counts
 returns-in_err-end-clause-counts g c =
@@ -53,8 +59,9 @@ returns-in_err-end-clause-counts g c =
     let next = c.in-Some.ensures.next in
     let fits : FitsAt c.last_start-last.result c.in-Some.next.position =
     subst (FitsAt c.last_start-last.result) c.position.ensures (c.is_past.ensures.fits c.if-is_past.false) in
-    counts_next (asked_of asked) (code_of asked) c.last_start-last.result _ _ _ c.in-Some.next _ _ c.requires.set
-    c.last_start-last.ensures fits inv.from inv.tried next inv.few c.attempt.ensures.counted
+    let ran = ran_member (asked_of asked) (code_of asked) c.last_start-last.result _ _ _ c.in-Some.next.position
+    c.last_start-last.ensures fits inv.from next.from inv.ran c.attempt.ensures.counted c.requires.set next.member in
+    counts_plain (asked_of asked) (code_of asked) _ (c.in-Some.next.position + 1) _ _ ran
     (omega (arith, next.inside)) inv.uncompared
 
 pub returns-in-Some-2-clause-counts : goal.returns-in-Some-2-clause-counts
@@ -64,8 +71,9 @@ returns-in-Some-2-clause-counts g c =
     let next = c.in-Some.ensures.next in
     let fits : FitsAt c.last_start-last.result c.in-Some.next.position =
     subst (FitsAt c.last_start-last.result) c.position.ensures (c.is_past.ensures.fits c.if-is_past.false) in
-    counts_next (asked_of asked) (code_of asked) c.last_start-last.result _ _ _ c.in-Some.next _ _ c.requires.set
-    c.last_start-last.ensures fits inv.from inv.tried next inv.few c.attempt.ensures.counted
+    let ran = ran_member (asked_of asked) (code_of asked) c.last_start-last.result _ _ _ c.in-Some.next.position
+    c.last_start-last.ensures fits inv.from next.from inv.ran c.attempt.ensures.counted c.requires.set next.member in
+    counts_plain (asked_of asked) (code_of asked) _ (c.in-Some.next.position + 1) _ _ ran
     (omega (arith, next.inside)) inv.uncompared
 
 pub returns-in-Some-2-clause-up_to_match : goal.returns-in-Some-2-clause-up_to_match
@@ -75,8 +83,9 @@ returns-in-Some-2-clause-up_to_match g c = λ _.
     let next = c.in-Some.ensures.next in
     let fits : FitsAt c.last_start-last.result c.in-Some.next.position =
     subst (FitsAt c.last_start-last.result) c.position.ensures (c.is_past.ensures.fits c.if-is_past.false) in
-    counts_next (asked_of asked) (code_of asked) c.last_start-last.result _ _ _ c.in-Some.next _ _ c.requires.set
-    c.last_start-last.ensures fits inv.from inv.tried next inv.few c.attempt.ensures.counted
+    let ran = ran_member (asked_of asked) (code_of asked) c.last_start-last.result _ _ _ c.in-Some.next.position
+    c.last_start-last.ensures fits inv.from next.from inv.ran c.attempt.ensures.counted c.requires.set next.member in
+    counts_plain (asked_of asked) (code_of asked) _ (c.in-Some.next.position + 1) _ _ ran
     (omega (arith, c.position-in-Some-2.ensures)) inv.uncompared
 
 pub returns-in-Some-2-clause-ok : goal.returns-in-Some-2-clause-ok
@@ -120,8 +129,9 @@ returns-in_default-start_behind-clause-counts g c =
     let next = c.in-Some.ensures.next in
     let fits : FitsAt c.last_start-last.result c.in-Some.next.position =
     subst (FitsAt c.last_start-last.result) c.position.ensures (c.is_past.ensures.fits c.if-is_past.false) in
-    counts_next (asked_of asked) (code_of asked) c.last_start-last.result _ _ _ c.in-Some.next _ _ c.requires.set
-    c.last_start-last.ensures fits inv.from inv.tried next inv.few c.attempt.ensures.counted
+    let ran = ran_member (asked_of asked) (code_of asked) c.last_start-last.result _ _ _ c.in-Some.next.position
+    c.last_start-last.ensures fits inv.from next.from inv.ran c.attempt.ensures.counted c.requires.set next.member in
+    counts_plain (asked_of asked) (code_of asked) _ (c.in-Some.next.position + 1) _ _ ran
     (omega (arith, next.inside)) inv.uncompared
 
 pub start-preserved : goal.start-preserved
@@ -132,9 +142,8 @@ start-preserved g c =
     let behind = c.in-Some-start_behind.ensures in
     let fits : FitsAt c.last_start-last.result c.in-Some.next.position =
     subst (FitsAt c.last_start-last.result) c.position.ensures (c.is_past.ensures.fits c.if-is_past.false) in
-    let tried = tried_more (asked_of asked) (words_of (code_of asked)) _ _ _ c.in-Some.next inv.from
-    c.attempt.ensures.counted inv.tried next in
-    let later : c.in-Some.next.position + 1 ≤ c.in-Some-start_behind.behind.position = omega (arith, behind.next.0) in
+    let ran = ran_member (asked_of asked) (code_of asked) c.last_start-last.result _ _ _ c.in-Some.next.position
+    c.last_start-last.ensures fits inv.from next.from inv.ran c.attempt.ensures.counted c.requires.set next.member in
     record {
       stands = behind.stands;
       from = omega (arith, inv.from, next.from, behind.next.0);
@@ -148,13 +157,7 @@ start-preserved g c =
           (c.in_ok-end.ensures.found t whole) c.in_default-2.is in
           none_joined (asked_of asked) t _ _ before
           (behind.none t (items_whole asked.pattern_codes t whole) none);
-      tried = λ set own.
-          members_later (asked_of asked) set c.attempt.new.begun.started (c.in-Some.next.position + 1)
-          c.in-Some-start_behind.behind.position (tried set own) later;
-      few = omega (arith, inv.few, inv.from, next.from, c.attempt.ensures.counted, behind.next.0);
-      fit =
-          fit_more (asked_of asked) (code_of asked) c.last_start-last.result _ _ _ c.in-Some.next.position
-          c.last_start-last.ensures fits inv.from next.from inv.few c.attempt.ensures.counted;
+      ran = ran_later (asked_of asked) (code_of asked) _ _ _ ran (omega (arith, behind.next.0));
       uncompared = inv.uncompared;
       again = c.attempt.ensures.again;
       never = λ e. c.attempt.ensures.never e ∙ inv.never e;
@@ -187,9 +190,7 @@ start-init g c = record {
   remembers = search rules;
   suits = search rules;
   none = search rules;
-  tried = search rules;
-  few = search rules;
-  fit = search rules;
+  ran = ran_none (asked_of c.args.req.now) (code_of c.args.req.now) _ _ c.none.ensures.started;
   uncompared = search rules;
   again = search rules;
   never = search rules;

@@ -1,15 +1,15 @@
-use Rattle.std.proofs.Common.{◌≡◌, ◌≤◌, ◌+◌, ◌-◌, ℕ, Some, true, false}
+use Rattle.std.proofs.Common.{◌≡◌, ◌≤◌, ◌+◌, ◌-◌, true, false}
 use Rattle.sre_model.specs.Tree.{Tree}
 use Rattle.sre_model.specs.Marks.{no_marks}
 use Rattle.sre_model.specs.Grammar.{Whole}
 use Rattle.sre_turns.specs.Board.{bare}
 use Rattle.sre_board.specs.Failures.{Remembers}
-use Rattle.sre_code.specs.Codes.{words_of, hints_of}
+use Rattle.sre_code.specs.Codes.{words_of}
 use Rattle.sre_request.specs.Requests.{string_of, start_of, end_of, code_of, asked_of}
 use Rattle.sre_request.specs.Runs.{run_of}
 use Rattle.sre_engine.specs.Counts.{SpentUpTo}
 use Rattle.sre_engine.proofs.Answering.{NoneBefore}
-use Rattle.sre_engine.proofs.AmongMembers.{TriedAtMembers}
+use Rattle.sre_engine.proofs.MayStart.{RanBefore}
 use Rattle.sre_engine.proofs.Costing.{CostsSince}
 use Rattle.sre_engine.proofs.engine.state.State.search_members.Given as goal
 
@@ -22,10 +22,7 @@ invariant-start g l = record {
   remembers : Remembers (run_of l.req) l.self-inside.memo.kept;
   suits : g.F.Starts.suits l.starts (string_of l.req) (code_of l.req);
   none : (t : Tree) → Whole (words_of (code_of l.req)) t → NoneBefore (asked_of l.req) t l.start.position;
-  tried : TriedAtMembers (asked_of l.req) (words_of (code_of l.req)) l.self-inside.begun.started l.start.position;
-  few : l.self-inside.begun.started ≤ l.start.position - start_of l.req;
-  fit : (w : ℕ) → (hints_of (code_of l.req)).width ≡ Some w
-      → l.self-inside.begun.started ≤ end_of l.req + 1 - (start_of l.req + w);
+  ran : RanBefore (asked_of l.req) (code_of l.req) l.self-inside.begun.started l.start.position;
   uncompared : l.self-inside.compared ≡ 0;
   again : l.self-inside.begun.restarted ≤ l.self-inside.begun.started;
   never : l.limited ≡ false → l.self-inside.begun.restarted ≡ 0;

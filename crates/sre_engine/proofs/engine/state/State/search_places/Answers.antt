@@ -1,9 +1,8 @@
-use Rattle.std.proofs.Common.{◌≡◌, ◌≤◌, ◌+◌, ◌-◌, ◌*◌, ℕ, true, false, Some}
+use Rattle.std.proofs.Common.{◌≡◌, ◌≤◌, ◌+◌, ◌-◌, ◌*◌}
 use Rattle.std.proofs.Common.{length, refl, sym, ◌∙◌, subst, arith, rules}
 use Rattle.sre_chars.specs.declared.string.StringCursor.{StringCursor}
 use Rattle.sre_model.specs.Grammar.{Reads}
-use Rattle.sre_model.specs.Found.{subject_of}
-use Rattle.sre_model.specs.Prefixes.{stands_at, how_many, behind_items}
+use Rattle.sre_model.specs.Prefixes.{behind_items}
 use Rattle.sre_code.specs.Codes.{words_of, items_of, hints_of}
 use Rattle.sre_request.specs.Requests.{code_of, asked_of, stands_in}
 use Rattle.sre_request.specs.Runs.{run_of}
@@ -14,7 +13,7 @@ use Rattle.sre_engine.proofs.Steps.{complete}
 use Rattle.sre_engine.proofs.PrefixWays.{reads_behind}
 use Rattle.sre_engine.proofs.Hinting.{past_none}
 use Rattle.sre_engine.proofs.Searching.{none_further, none_in_window, none_unplaced, decided_behind, far_end}
-use Rattle.sre_engine.proofs.Searching.{places_more, places_later, counts_at, few_counted}
+use Rattle.sre_engine.proofs.MayStart.{ran_none, ran_later, ran_place, few_ran, counts_placed}
 use Rattle.sre_code.proofs.Checked.{code_tree, whole_items}
 use Rattle.sre_engine.proofs.Spending.{run_spent}
 use Rattle.sre_engine.proofs.Costing.{since_begin, since_run, since_given_up, gives_up_limited, passed_on}
@@ -39,9 +38,8 @@ attempt-requires-clause-room g c =
     let some = c.args.prefix.now.confirmed.some in
     let inv = c.place.invariant in
     let here = c.find.ensures.here in
-    let own = few_counted (stands_at (subject_of a) vs) a.start
-    (c.place.spot.cursor.position - c.place.spot.matched - a.start) in
-    omega (arith, inv.few, own, inv.here.front.within, asked.in_window.1)
+    let few = few_ran a (code_of asked) _ _ inv.ran in
+    omega (arith, few, inv.here.front.within, asked.in_window.1)
 
 pub returns-then-is_past-clause-ok : goal.returns-then-is_past-clause-ok
 returns-then-is_past-clause-ok g c = λ t whole.
@@ -83,11 +81,8 @@ returns-then-is_past-clause-counts g c =
     let some = c.args.prefix.now.confirmed.some in
     let inv = c.place.invariant in
     let here = c.find.ensures.here in
-    let no : c.args.prefix.now.whole ≡ true → c.place.self-inside.begun.started ≡ 0 =
-    (λ e. let never : true ≡ false = sym e ∙ c.requires.more in absurd (cc never)) in
-    counts_at a (code_of asked) vs _ _ is some _ (c.place.spot.cursor.position - c.place.spot.matched) _ _ inv.few
-    inv.fit
-    no (omega (arith, inv.here.front.within)) (omega (arith, here.cost, here.front.within, here.front.from))
+    counts_placed a (code_of asked) vs _ _ _ (c.place.spot.cursor.position - c.place.spot.matched) _ _ is inv.ran
+    (omega (arith, inv.here.front.within)) (omega (arith, here.cost, here.front.within, here.front.from))
 
 pub returns-clause-counts : goal.returns-clause-counts
 returns-clause-counts g c =
@@ -98,11 +93,8 @@ returns-clause-counts g c =
     let some = c.args.prefix.now.confirmed.some in
     let inv = c.place.invariant in
     let here = c.find.ensures.here in
-    let no : c.args.prefix.now.whole ≡ true → c.place.self-inside.begun.started ≡ 0 =
-    (λ e. let never : true ≡ false = sym e ∙ c.requires.more in absurd (cc never)) in
-    counts_at a (code_of asked) vs _ _ is some _ (c.place.spot.cursor.position - c.place.spot.matched) _ _ inv.few
-    inv.fit
-    no (omega (arith, inv.here.front.within)) (omega (arith, here.cost, here.front.within, here.front.from))
+    counts_placed a (code_of asked) vs _ _ _ (c.place.spot.cursor.position - c.place.spot.matched) _ _ is inv.ran
+    (omega (arith, inv.here.front.within)) (omega (arith, here.cost, here.front.within, here.front.from))
 
 pub returns-in_err-end-clause-counts : goal.returns-in_err-end-clause-counts
 returns-in_err-end-clause-counts g c =
@@ -120,22 +112,12 @@ returns-in_err-end-clause-counts g c =
     subst (λ p. Stands a.text vs a.end p) at (complete a.text vs a.start a.end _ _ _ here there.0) in
     let from : a.start ≤ c.start_of-start.result = omega (arith, at, here.front.from, there.0) in
     let forward = there.1.forward in
-    let few = places_later a (code_of asked) vs _ _ is some _ _ c.start_of-start.result inv.few
-    (omega (arith, at, forward)) in
-    let more = places_more a (code_of asked) vs _ _ is some c.start_of-start.result stands _ from few in
-    let own = few_counted (stands_at (subject_of a) vs) a.start (c.start_of-start.result - a.start) in
-    let most : c.attempt.new.begun.started
-    ≤ how_many (stands_at (subject_of a) vs) a.start (c.start_of-start.result + 1 - a.start) =
-    omega (arith, c.attempt.ensures.counted, more) in
-    let fit : (w : ℕ) → (hints_of (code_of asked)).width ≡ Some w
-    → c.attempt.new.begun.started ≤ a.end + 1 - (a.start + w) =
-    (λ w e.
-    let wide = c.last_start-last.ensures.fits c.start_of-start.result (c.is_past.ensures.fits c.if-is_past.false) w e in
-    omega (arith, wide, from, few, own, c.attempt.ensures.counted)) in
-    let no : c.args.prefix.now.whole ≡ true → c.attempt.new.begun.started ≡ 0 =
-    (λ e. let never : true ≡ false = sym e ∙ c.requires.more in absurd (cc never)) in
-    counts_at a (code_of asked) vs _ _ is some _ (c.start_of-start.result + 1) _ _ most fit
-    no (omega (arith, stands.within)) (omega (arith, here.cost, here.front.within, here.front.from))
+    let fits = c.is_past.ensures.fits c.if-is_past.false in
+    let ran = ran_place a (code_of asked) c.last_start-last.result _ _ _ c.start_of-start.result
+    c.last_start-last.ensures fits (omega (arith, inv.here.front.from)) (omega (arith, at, forward)) inv.ran
+    c.attempt.ensures.counted vs _ _ is c.requires.more stands in
+    counts_placed a (code_of asked) vs _ _ _ (c.start_of-start.result + 1) _ _ is ran (omega (arith, stands.within))
+    (omega (arith, here.cost, here.front.within, here.front.from))
 
 pub returns-in-Some-clause-counts : goal.returns-in-Some-clause-counts
 returns-in-Some-clause-counts g c =
@@ -153,22 +135,12 @@ returns-in-Some-clause-counts g c =
     subst (λ p. Stands a.text vs a.end p) at (complete a.text vs a.start a.end _ _ _ here there.0) in
     let from : a.start ≤ c.start_of-start.result = omega (arith, at, here.front.from, there.0) in
     let forward = there.1.forward in
-    let few = places_later a (code_of asked) vs _ _ is some _ _ c.start_of-start.result inv.few
-    (omega (arith, at, forward)) in
-    let more = places_more a (code_of asked) vs _ _ is some c.start_of-start.result stands _ from few in
-    let own = few_counted (stands_at (subject_of a) vs) a.start (c.start_of-start.result - a.start) in
-    let most : c.attempt.new.begun.started
-    ≤ how_many (stands_at (subject_of a) vs) a.start (c.start_of-start.result + 1 - a.start) =
-    omega (arith, c.attempt.ensures.counted, more) in
-    let fit : (w : ℕ) → (hints_of (code_of asked)).width ≡ Some w
-    → c.attempt.new.begun.started ≤ a.end + 1 - (a.start + w) =
-    (λ w e.
-    let wide = c.last_start-last.ensures.fits c.start_of-start.result (c.is_past.ensures.fits c.if-is_past.false) w e in
-    omega (arith, wide, from, few, own, c.attempt.ensures.counted)) in
-    let no : c.args.prefix.now.whole ≡ true → c.attempt.new.begun.started ≡ 0 =
-    (λ e. let never : true ≡ false = sym e ∙ c.requires.more in absurd (cc never)) in
-    counts_at a (code_of asked) vs _ _ is some _ (c.start_of-start.result + 1) _ _ most fit
-    no (omega (arith, stands.within)) (omega (arith, here.cost, here.front.within, here.front.from))
+    let fits = c.is_past.ensures.fits c.if-is_past.false in
+    let ran = ran_place a (code_of asked) c.last_start-last.result _ _ _ c.start_of-start.result
+    c.last_start-last.ensures fits (omega (arith, inv.here.front.from)) (omega (arith, at, forward)) inv.ran
+    c.attempt.ensures.counted vs _ _ is c.requires.more stands in
+    counts_placed a (code_of asked) vs _ _ _ (c.start_of-start.result + 1) _ _ is ran (omega (arith, stands.within))
+    (omega (arith, here.cost, here.front.within, here.front.from))
 
 pub returns-in-Some-clause-ok : goal.returns-in-Some-clause-ok
 returns-in-Some-clause-ok g c = λ t whole.
@@ -238,20 +210,10 @@ returns-in-Some-clause-up_to_match g c = λ _.
     subst (λ p. Stands a.text vs a.end p) at (complete a.text vs a.start a.end _ _ _ here there.0) in
     let from : a.start ≤ c.start_of-start.result = omega (arith, at, here.front.from, there.0) in
     let forward = there.1.forward in
-    let few = places_later a (code_of asked) vs _ _ is some _ _ c.start_of-start.result inv.few
-    (omega (arith, at, forward)) in
-    let more = places_more a (code_of asked) vs _ _ is some c.start_of-start.result stands _ from few in
-    let own = few_counted (stands_at (subject_of a) vs) a.start (c.start_of-start.result - a.start) in
-    let most : c.attempt.new.begun.started
-    ≤ how_many (stands_at (subject_of a) vs) a.start (c.start_of-start.result + 1 - a.start) =
-    omega (arith, c.attempt.ensures.counted, more) in
-    let fit : (w : ℕ) → (hints_of (code_of asked)).width ≡ Some w
-    → c.attempt.new.begun.started ≤ a.end + 1 - (a.start + w) =
-    (λ w e.
-    let wide = c.last_start-last.ensures.fits c.start_of-start.result (c.is_past.ensures.fits c.if-is_past.false) w e in
-    omega (arith, wide, from, few, own, c.attempt.ensures.counted)) in
-    let no : c.args.prefix.now.whole ≡ true → c.attempt.new.begun.started ≡ 0 =
-    (λ e. let never : true ≡ false = sym e ∙ c.requires.more in absurd (cc never)) in
+    let fits = c.is_past.ensures.fits c.if-is_past.false in
+    let ran = ran_place a (code_of asked) c.last_start-last.result _ _ _ c.start_of-start.result
+    c.last_start-last.ensures fits (omega (arith, inv.here.front.from)) (omega (arith, at, forward)) inv.ran
+    c.attempt.ensures.counted vs _ _ is c.requires.more stands in
     let tree = code_tree (words_of (code_of asked)) (hints_of (code_of asked)) (code_of asked).checked in
     let behind : c.behind_literals-behind.result.position ≡ c.start_of-start.result + c.args.prefix.now.literals =
     omega (arith, c.behind_literals-behind.ensures.position, c.start_of-start.ensures) in
@@ -261,8 +223,8 @@ returns-in-Some-clause-up_to_match g c = λ _.
     let match = some_at (stands_in asked) a tree.0 c.start_of-start.result c.in_ok-end.field-0 c.attempt.new.board.marks
     decides c.in-Some.end c.in-Some.is in
     let far = far_end a (code_of asked) vs _ _ is some c.start_of-start.result stands tree.0 tree.1 _ match.1 in
-    counts_at a (code_of asked) vs _ _ is some _ (c.start_of-start.result + 1) _ _ most fit
-    no (omega arith) (omega (arith, here.cost, here.front.from, there.0, at, far))
+    counts_placed a (code_of asked) vs _ _ _ (c.start_of-start.result + 1) _ _ is ran (omega arith)
+    (omega (arith, here.cost, here.front.from, there.0, at, far))
 
 pub place-preserved : goal.place-preserved
 place-preserved g c =
@@ -280,18 +242,10 @@ place-preserved g c =
     subst (λ p. Stands a.text vs a.end p) at (complete a.text vs a.start a.end _ _ _ here there.0) in
     let from : a.start ≤ c.start_of-start.result = omega (arith, at, here.front.from, there.0) in
     let forward = there.1.forward in
-    let few = places_later a (code_of asked) vs _ _ is some _ _ c.start_of-start.result inv.few
-    (omega (arith, at, forward)) in
-    let more = places_more a (code_of asked) vs _ _ is some c.start_of-start.result stands _ from few in
-    let own = few_counted (stands_at (subject_of a) vs) a.start (c.start_of-start.result - a.start) in
-    let most : c.attempt.new.begun.started
-    ≤ how_many (stands_at (subject_of a) vs) a.start (c.start_of-start.result + 1 - a.start) =
-    omega (arith, c.attempt.ensures.counted, more) in
-    let fit : (w : ℕ) → (hints_of (code_of asked)).width ≡ Some w
-    → c.attempt.new.begun.started ≤ a.end + 1 - (a.start + w) =
-    (λ w e.
-    let wide = c.last_start-last.ensures.fits c.start_of-start.result (c.is_past.ensures.fits c.if-is_past.false) w e in
-    omega (arith, wide, from, few, own, c.attempt.ensures.counted)) in
+    let fits = c.is_past.ensures.fits c.if-is_past.false in
+    let ran = ran_place a (code_of asked) c.last_start-last.result _ _ _ c.start_of-start.result
+    c.last_start-last.ensures fits (omega (arith, inv.here.front.from)) (omega (arith, at, forward)) inv.ran
+    c.attempt.ensures.counted vs _ _ is c.requires.more stands in
     let on = c.go_on-spot.ensures in
     let passed : NoPlace a.text vs a.end (c.start_of-start.result + 1)
     (c.go_on-spot.result.cursor.position - c.go_on-spot.result.matched) =
@@ -316,8 +270,7 @@ place-preserved g c =
           let none = none_at (stands_in asked) a t c.start_of-start.result c.in_ok-end.field-0
           c.attempt.new.board.marks decides c.in_default.is in
           none_unplaced a (code_of asked) vs _ _ is some t whole _ _ (none_further a t _ before none) passed;
-      few = places_later a (code_of asked) vs _ _ is some _ _ _ most passed.forward;
-      fit = fit;
+      ran = ran_later a (code_of asked) _ _ _ ran passed.forward;
       again = c.attempt.ensures.again;
       never = λ e. c.attempt.ensures.never e ∙ inv.never e;
       rested = c.attempt.ensures.rested;
@@ -356,8 +309,7 @@ place-init g c = record {
   fresh = search rules;
   remembers = search rules;
   none = search rules;
-  few = search rules;
-  fit = search rules;
+  ran = ran_none (asked_of c.args.req.now) (code_of c.args.req.now) _ _ c.none.ensures.started;
   again = search rules;
   never = search rules;
   rested = search rules;

@@ -1,18 +1,17 @@
-use Rattle.std.proofs.Common.{◌≡◌, ◌≤◌, ◌+◌, ◌-◌, ℕ, Some, true, false}
+use Rattle.std.proofs.Common.{◌≡◌, ◌≤◌, ◌+◌, ◌-◌, true, false}
 use Rattle.sre_model.specs.Tree.{Tree}
 use Rattle.sre_model.specs.Marks.{no_marks}
 use Rattle.sre_model.specs.Grammar.{Whole}
 use Rattle.sre_turns.specs.Board.{bare}
 use Rattle.sre_board.specs.Failures.{Remembers}
-use Rattle.sre_model.specs.Found.{subject_of}
-use Rattle.sre_model.specs.Prefixes.{stands_at, how_many}
-use Rattle.sre_code.specs.Codes.{words_of, hints_of}
+use Rattle.sre_code.specs.Codes.{words_of}
 use Rattle.sre_request.specs.Requests.{start_of, end_of, code_of, asked_of}
 use Rattle.sre_request.specs.Runs.{run_of}
 use Rattle.sre_engine.specs.Scans.{Here}
 use Rattle.sre_engine.specs.Counts.{SpentUpTo}
 use Rattle.sre_engine.proofs.Answering.{NoneBefore}
 use Rattle.sre_engine.proofs.Costing.{CostsSince}
+use Rattle.sre_engine.proofs.MayStart.{RanBefore}
 use Rattle.sre_engine.proofs.engine.state.State.search_places.Given as goal
 
 abbrev pub invariant-place : goal.invariant-place
@@ -24,11 +23,8 @@ invariant-place g l = record {
   remembers : Remembers (run_of l.req) l.self-inside.memo.kept;
   none : (t : Tree) → Whole (words_of (code_of l.req)) t
       → NoneBefore (asked_of l.req) t (l.spot.cursor.position - l.spot.matched);
-  few : l.self-inside.begun.started
-      ≤ how_many (stands_at (subject_of (asked_of l.req)) l.prefix.words.now) (start_of l.req)
-      (l.spot.cursor.position - l.spot.matched - start_of l.req);
-  fit : (w : ℕ) → (hints_of (code_of l.req)).width ≡ Some w
-      → l.self-inside.begun.started ≤ end_of l.req + 1 - (start_of l.req + w);
+  ran : RanBefore (asked_of l.req) (code_of l.req) l.self-inside.begun.started
+      (l.spot.cursor.position - l.spot.matched);
   again : l.self-inside.begun.restarted ≤ l.self-inside.begun.started;
   never : l.limited ≡ false → l.self-inside.begun.restarted ≡ 0;
   rested : l.self-inside.memo.stopped ≡ false;

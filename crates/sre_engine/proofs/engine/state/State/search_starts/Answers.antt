@@ -1,4 +1,4 @@
-use Rattle.std.proofs.Common.{◌≡◌, refl}
+use Rattle.std.proofs.Common.{◌≡◌, ◌+◌, refl}
 use Rattle.std.proofs.Common.{subst, arith, rules}
 use Rattle.sre_code.specs.Codes.{words_of, hints_of}
 use Rattle.sre_request.specs.Requests.{start_of, code_of, asked_of, stands_in}
@@ -7,6 +7,7 @@ use Rattle.sre_engine.specs.Starts.{NoneUntil}
 use Rattle.sre_engine.proofs.Answering.{answers_yes, answers_no, none_at, some_at, span_at, found_first}
 use Rattle.sre_engine.proofs.Answering.{none_yet}
 use Rattle.sre_engine.proofs.Hinting.{past_none}
+use Rattle.sre_engine.proofs.MayStart.{ran_none, ran_first, counts_plain}
 use Rattle.sre_engine.proofs.LeadingStarts.{none_joined, found_none_behind}
 use Rattle.sre_code.proofs.Checked.{code_tree}
 use Rattle.sre_engine.proofs.Costing.{since_begin, since_given_up, costs_first, whole_given_up, passed_on}
@@ -83,3 +84,51 @@ returns-clause-given_up g c =
     (λ limited. costs_first asked c.begin.new.self _ c.in-Some.start _ _ c.begin.ensures.waits c.begin.ensures.opened
     (c.in_ok-end.ensures.settles limited c.in_default-2.is) (omega (arith, at, c.in-Some.ensures.next.after)))
     c.search_behind.ensures.given_up
+
+pub returns-in_default-clause-counts : goal.returns-in_default-clause-counts
+returns-in_default-clause-counts g c =
+    let asked = c.args.req.now in
+    counts_plain (asked_of asked) (code_of asked) _ 0 _ _
+    (ran_none (asked_of asked) (code_of asked) _ 0 c.none.ensures.started) (omega arith) refl
+
+pub returns-then-is_past-clause-counts : goal.returns-then-is_past-clause-counts
+returns-then-is_past-clause-counts g c =
+    let asked = c.args.req.now in
+    counts_plain (asked_of asked) (code_of asked) _ 0 _ _
+    (ran_none (asked_of asked) (code_of asked) _ 0 c.none.ensures.started) (omega arith) refl
+
+pub returns-in_err-end-clause-counts : goal.returns-in_err-end-clause-counts
+returns-in_err-end-clause-counts g c =
+    let asked = c.args.req.now in
+    let at : c.args.from.position ≡ start_of asked = search rules in
+    let fits : FitsAt c.last_start-last.result c.in-Some.start.position =
+    subst (FitsAt c.last_start-last.result) c.position.ensures (c.is_past.ensures.fits c.if-is_past.false) in
+    let ran = ran_first (asked_of asked) (code_of asked) c.last_start-last.result _ _ c.in-Some.start.position
+    c.last_start-last.ensures fits (omega (arith, at, c.in-Some.ensures.next.after)) c.none.ensures.started
+    c.attempt.ensures.counted c.requires.plain c.requires.no_set in
+    counts_plain (asked_of asked) (code_of asked) _ (c.in-Some.start.position + 1) _ _ ran
+    (omega (arith, c.in-Some.ensures.next.inside)) refl
+
+pub returns-in-Some-2-clause-counts : goal.returns-in-Some-2-clause-counts
+returns-in-Some-2-clause-counts g c =
+    let asked = c.args.req.now in
+    let at : c.args.from.position ≡ start_of asked = search rules in
+    let fits : FitsAt c.last_start-last.result c.in-Some.start.position =
+    subst (FitsAt c.last_start-last.result) c.position.ensures (c.is_past.ensures.fits c.if-is_past.false) in
+    let ran = ran_first (asked_of asked) (code_of asked) c.last_start-last.result _ _ c.in-Some.start.position
+    c.last_start-last.ensures fits (omega (arith, at, c.in-Some.ensures.next.after)) c.none.ensures.started
+    c.attempt.ensures.counted c.requires.plain c.requires.no_set in
+    counts_plain (asked_of asked) (code_of asked) _ (c.in-Some.start.position + 1) _ _ ran
+    (omega (arith, c.in-Some.ensures.next.inside)) refl
+
+pub returns-in-Some-2-clause-up_to_match : goal.returns-in-Some-2-clause-up_to_match
+returns-in-Some-2-clause-up_to_match g c = λ _.
+    let asked = c.args.req.now in
+    let at : c.args.from.position ≡ start_of asked = search rules in
+    let fits : FitsAt c.last_start-last.result c.in-Some.start.position =
+    subst (FitsAt c.last_start-last.result) c.position.ensures (c.is_past.ensures.fits c.if-is_past.false) in
+    let ran = ran_first (asked_of asked) (code_of asked) c.last_start-last.result _ _ c.in-Some.start.position
+    c.last_start-last.ensures fits (omega (arith, at, c.in-Some.ensures.next.after)) c.none.ensures.started
+    c.attempt.ensures.counted c.requires.plain c.requires.no_set in
+    counts_plain (asked_of asked) (code_of asked) _ (c.in-Some.start.position + 1) _ _ ran
+    (omega (arith, c.position-in-Some-2.ensures)) refl

@@ -9,6 +9,7 @@ use Rattle.sre_engine.specs.Scans.{Stands}
 use Rattle.sre_engine.proofs.Answering.{answers_yes, answers_no, found_first}
 use Rattle.sre_engine.proofs.Answering.{NoneBefore}
 use Rattle.sre_engine.proofs.Steps.{complete}
+use Rattle.sre_engine.proofs.MayStart.{ran_none, counts_placed}
 use Rattle.sre_engine.proofs.Searching.{none_further, none_in_window, none_unplaced, whole_at}
 use Rattle.sre_engine.proofs.engine.state.State.search_whole.Goals as goal
 
@@ -63,6 +64,31 @@ returns-then-may_end-clause-ok g c = λ t whole.
     })) marks) in
     answers_yes (stands_in asked) _ c.start_of.result c.find.new.spot.cursor _ refl refl c.find.ensures.stands
     (found_first a t _ _ before found_ from (omega (arith, stands.within)) refl)
+
+pub returns-clause-counts : goal.returns-clause-counts
+returns-clause-counts g c =
+    let asked = c.args.req.now in
+    let here = c.find.ensures.here in
+    counts_placed (asked_of asked) (code_of asked) _ _ _ _ 0 _ _ c.requires.is
+    (ran_none (asked_of asked) (code_of asked) _ 0 c.place.invariant.idle) (omega arith)
+    (omega (arith, here.cost, here.front.within, here.front.from))
+
+pub returns-then-may_end-clause-counts : goal.returns-then-may_end-clause-counts
+returns-then-may_end-clause-counts g c =
+    let asked = c.args.req.now in
+    let here = c.find.ensures.here in
+    counts_placed (asked_of asked) (code_of asked) _ _ _ _ 0 _ _ c.requires.is
+    (ran_none (asked_of asked) (code_of asked) _ 0 c.place.invariant.idle) (omega arith)
+    (omega (arith, here.cost, here.front.within, here.front.from))
+
+pub returns-then-may_end-clause-up_to_match : goal.returns-then-may_end-clause-up_to_match
+returns-then-may_end-clause-up_to_match g c = λ _.
+    let asked = c.args.req.now in
+    let here = c.find.ensures.here in
+    let there = c.find.ensures.found c.place-test.true in
+    counts_placed (asked_of asked) (code_of asked) _ _ _ _ 0 _ _ c.requires.is
+    (ran_none (asked_of asked) (code_of asked) _ 0 c.place.invariant.idle) (omega arith)
+    (omega (arith, here.cost, here.front.within, here.front.from))
 
 pub returns-then-may_end-clause-none : goal.returns-then-may_end-clause-none
 returns-then-may_end-clause-none g c = omega (arith, c.place.invariant.idle, c.place.invariant.calm)

@@ -1,0 +1,165 @@
+-- At how many starts a search ran: no more than there are at which a run may begin.
+use Rattle.std.proofs.Common.{◌≡◌, ◌≤◌, ◌+◌, ◌-◌, ◌*◌, ◌&&◌, ◌||◌, ℕ, List, [], Bool, true, false, not, length}
+use Rattle.std.proofs.Common.{Option, Some, None, refl, sym, ap, ◌∙◌, subst, arith}
+use Rattle.std.proofs.lemmas.Bool.Decides.{nat_tests}
+use Rattle.sre_model.specs.Tree.{SetItem}
+use Rattle.sre_model.specs.Found.{Asked, subject_of}
+use Rattle.sre_model.specs.Prefixes.{stands_at, how_many}
+use Rattle.sre_code.specs.Codes.{words_of, hints_of}
+use Rattle.sre_code.specs.declared.code.Code.{Code}
+use Rattle.sre_code.proofs.Checked.{code_tree, code_confirmed}
+use Rattle.sre_engine.specs.Answers.{Shown}
+use Rattle.sre_engine.specs.Counts.{CountsUpTo, width_fits, prefix_stands, may_start}
+use Rattle.sre_engine.specs.Members.{IsFirstSet, is_among}
+use Rattle.sre_engine.specs.Prefixed.{IsPrefix, IsLast, FitsAt}
+use Rattle.sre_engine.specs.Scans.{Stands}
+use Rattle.sre_engine.proofs.AmongMembers.{some_set}
+use Rattle.sre_engine.proofs.Claiming.{claim_none}
+use Rattle.sre_engine.proofs.FirstMembers.{no_prefix}
+use Rattle.sre_engine.proofs.PrefixWays.{how_many_grows, how_many_here, stand_fit}
+use Rattle.sre_engine.proofs.Searching.{few_counted}
+
+-- a set is the code's first set, where one is confirmed
+abbrev pub IsOwnSet : Code → List SetItem → Type 0
+IsOwnSet code set = (hints_of code).first_set ≡ true → IsFirstSet (words_of code) set
+
+-- whether a run may begin at a start, by the code's own hints
+abbrev pub may_run : Asked → Code → List SetItem → ℕ → Bool
+may_run a code set = may_start a (words_of code) (hints_of code) set
+
+-- a run may begin at a start
+pub record MayStart (a : Asked) (code : Code) (p : ℕ) : Type 0 where
+  pub may : (set : List SetItem) → IsOwnSet code set → may_run a code set p ≡ true
+
+-- so many runs were begun before a position: no more than there are starts at which one may begin
+pub record RanBefore (a : Asked) (code : Code) (n p : ℕ) : Type 0 where
+  pub few : (set : List SetItem) → IsOwnSet code set
+      → n ≤ how_many (may_run a code set) a.start (p - a.start)
+
+-- no run yet
+pub ran_none : (a : Asked) (code : Code) (n p : ℕ) → n ≡ 0 → RanBefore a code n p
+ran_none a code n p none = record { few = λ set own. omega (arith, none) }
+
+-- none up to a further position
+pub ran_later : (a : Asked) (code : Code) (n p q : ℕ) → RanBefore a code n p → p ≤ q → RanBefore a code n q
+ran_later a code n p q ran l = record {
+  few = λ set own.
+      let more = how_many_grows (may_run a code set) a.start (p - a.start) (q - a.start) (omega (arith, l)) in
+      omega (arith, ran.few set own, more);
+}
+
+-- one more, at a further start
+ran_more : (a : Asked) (code : Code) (n m p q : ℕ) → a.start ≤ p → p ≤ q → RanBefore a code n p → m ≡ n + 1
+    → MayStart a code q → RanBefore a code m (q + 1)
+ran_more a code n m p q from l ran one start = record {
+  few = λ set own.
+      let at : a.start + (q - a.start) ≡ q = omega (arith, from, l) in
+      let up : q + 1 - a.start ≡ q - a.start + 1 = omega (arith, from, l) in
+      let later = (ran_later a code n p q ran l).few set own in
+      let here = how_many_here (may_run a code set) a.start (q - a.start)
+      (subst (λ s. may_run a code set s ≡ true) (sym at) (start.may set own)) in
+      omega (arith, later, here, one, ap (how_many (may_run a code set) a.start) up);
+}
+
+-- such a set, if any
+pub own_set : (code : Code) → (set : List SetItem) × IsOwnSet code set
+own_set code = by_set (hints_of code).first_set refl
+  where
+    by_set : (b : Bool) → (hints_of code).first_set ≡ b → (set : List SetItem) × IsOwnSet code set
+    by_set true y = let set = some_set code y in (set.0, λ yes. set.1)
+    by_set false y = ([], λ yes. absurd (let never : true ≡ false = sym yes ∙ y in cc never))
+
+-- no more than there are starts
+pub few_ran : (a : Asked) (code : Code) (n p : ℕ) → RanBefore a code n p → n ≤ p - a.start
+few_ran a code n p ran =
+    let set = own_set code in
+    omega (arith, ran.few set.0 set.1, few_counted (may_run a code set.0) a.start (p - a.start))
+
+-- the counts of a search that ran before a position, by a confirmed prefix
+pub counts_placed : (a : Asked) (code : Code) (vs : List ℕ) (k : ℕ) (whole : Bool) (s : Shown) (p to seen : ℕ)
+    → IsPrefix code vs k whole → RanBefore a code s.started p → p ≤ to → s.compared ≤ 2 * (seen - a.start)
+    → CountsUpTo a code to seen s
+counts_placed a code vs k whole s p to seen is ran l cost = record {
+  started = (ran_later a code s.started p to ran l).few;
+  compared = cost;
+  uncompared = λ plain. absurd (let never : Some (length vs, k) ≡ None = sym is.hint ∙ plain in cc never);
+}
+
+-- and of one that compared nothing
+pub counts_plain : (a : Asked) (code : Code) (s : Shown) (p to seen : ℕ) → RanBefore a code s.started p → p ≤ to
+    → s.compared ≡ 0 → CountsUpTo a code to seen s
+counts_plain a code s p to seen ran l none = record {
+  started = (ran_later a code s.started p to ran l).few;
+  compared = omega (arith, none);
+  uncompared = λ plain. none;
+}
+
+-- without a confirmed prefix none is all of the code
+pub not_literal : (code : Code) → (hints_of code).prefix ≡ None → (hints_of code).literal ≡ false
+not_literal code plain =
+    let tree = code_tree (words_of code) (hints_of code) code.checked in
+    let said = code_confirmed code tree.0 tree.1 in
+    said.literal ∙ claim_none (words_of code) tree.0 (sym said.prefix ∙ plain)
+
+pub never_literal : (code : Code) → (hints_of code).prefix ≡ None → (hints_of code).literal ≡ true → ⊥
+never_literal code plain all = let never : true ≡ false = sym all ∙ not_literal code plain in cc never
+
+-- The starts at which a run may begin
+
+all_parts : (fits stands literal has_set member : Bool) → fits ≡ true → stands ≡ true → literal ≡ false
+    → (has_set ≡ true → member ≡ true) → (fits && stands && not literal && (not has_set || member)) ≡ true
+all_parts true true false true member f s l m = m refl
+all_parts true true false false member f s l m = refl
+all_parts true true true has_set member f s l m = absurd (cc l)
+all_parts true false literal has_set member f s l m = absurd (cc s)
+all_parts false stands literal has_set member f s l m = absurd (cc f)
+
+module _ (a : Asked) (code : Code) (last : Option ℕ) (n m p q : ℕ) (is : IsLast a code last) (fits : FitsAt last q)
+    (from : a.start ≤ p) (l : p ≤ q) (ran : RanBefore a code n p) (one : m ≡ n + 1) where
+  fit : width_fits a (hints_of code).width q ≡ true
+  fit = by_width (hints_of code).width refl
+    where
+      by_width : (w : Option ℕ) → (hints_of code).width ≡ w → width_fits a w q ≡ true
+      by_width None e = refl
+      by_width (Some w) e = let wide = is.fits q fits w e in grind (arith, nat_tests)
+
+  -- neither a prefix nor a first set is confirmed
+  pub ran_plain : (hints_of code).prefix ≡ None → (hints_of code).first_set ≡ false → RanBefore a code m (q + 1)
+  ran_plain plain no_set = ran_more a code n m p q from l ran one (record {
+    may = λ set own.
+        let stands : prefix_stands a (words_of code) (hints_of code).prefix q ≡ true =
+        subst (λ hint. prefix_stands a (words_of code) hint q ≡ true) (sym plain) refl in
+        all_parts _ _ _ _ _ fit stands (not_literal code plain)
+        (λ yes. absurd (let never : true ≡ false = sym yes ∙ no_set in cc never));
+  })
+
+  -- a member of the first set is there
+  pub ran_member : (hints_of code).first_set ≡ true
+      → ((set : List SetItem) → IsFirstSet (words_of code) set → is_among a set q ≡ true) → RanBefore a code m (q + 1)
+  ran_member has_set member = ran_more a code n m p q from l ran one (record {
+    may = λ set own.
+        let plain = no_prefix code has_set in
+        let stands : prefix_stands a (words_of code) (hints_of code).prefix q ≡ true =
+        subst (λ hint. prefix_stands a (words_of code) hint q ≡ true) (sym plain) refl in
+        all_parts _ _ _ _ _ fit stands (not_literal code plain) (λ yes. member set (own yes));
+  })
+
+  -- a prefix stands there that is not all of the code
+  pub ran_place : (vs : List ℕ) (k : ℕ) (whole : Bool) → IsPrefix code vs k whole → whole ≡ false
+      → Stands a.text vs a.end q → RanBefore a code m (q + 1)
+  ran_place vs k whole prefix more there = ran_more a code n m p q from l ran one (record {
+    may = λ set own.
+        let stands : prefix_stands a (words_of code) (hints_of code).prefix q ≡ true =
+        subst (λ hint. prefix_stands a (words_of code) hint q ≡ true) (sym prefix.hint)
+        (ap (λ ws. stands_at (subject_of a) ws q) (sym prefix.is)
+        ∙ stand_fit (subject_of a) vs q there.within there.fits) in
+        all_parts _ _ _ _ _ fit stands (sym prefix.all ∙ more)
+        (λ yes. absurd (let never : Some (length vs, k) ≡ None = sym prefix.hint ∙ no_prefix code yes in cc never));
+  })
+
+-- the first run of all
+pub ran_first : (a : Asked) (code : Code) (last : Option ℕ) (n m q : ℕ) → IsLast a code last → FitsAt last q
+    → a.start ≤ q → n ≡ 0 → m ≡ n + 1 → (hints_of code).prefix ≡ None → (hints_of code).first_set ≡ false
+    → RanBefore a code m (q + 1)
+ran_first a code last n m q is fits from none one plain no_set =
+    ran_plain a code last n m a.start q is fits (omega arith) from (ran_none a code n a.start none) one plain no_set
