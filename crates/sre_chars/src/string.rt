@@ -12,6 +12,7 @@ pub use crate::category::category;
 pub use crate::table::{
     UniError, UniTable, lower_ascii, lower_unicode, upper_ascii, upper_unicode,
 };
+pub use crate::text::cursor_at;
 use std::marker::Model;
 
 /// A place in a text: how many characters are before it, and how many bytes.

@@ -3,7 +3,8 @@
 //! A `str` is always well-formed, so a step finds a whole character at the offset of a cursor and never
 //! searches for its edge.
 
-ghost use Rattle.std.specs.Prelude.{◌≡◌, ◌+◌, ◌-◌, ◌^◌, ◌<◌, ◌≤◌, length, slice_index, count_by, true, MatchOption};
+ghost use Rattle.std.specs.Prelude.{◌≡◌, ◌+◌, ◌-◌, ◌^◌, ◌<◌, ◌≤◌, length, slice_index, count_by, true};
+ghost use Rattle.std.specs.Prelude.{IfSome, MatchOption};
 ghost use Rattle.std.specs.Str.{chars, IsCharBoundary};
 ghost use Rattle.std.proofs.Props.{props};
 ghost use Rattle.sre_chars.specs.Texts.{StandsInText, offset_of, begins_char, begun, NoneIs, Sought};
@@ -181,6 +182,22 @@ fn pass_bytes_back(bytes: &[u8], mut offset: usize, mut n: usize) -> usize
         }
     }
     offset
+}
+
+/// The cursor at an offset no less than another cursor's, where a character begins or the text ends there. It counts
+/// the characters between the two.
+pub fn cursor_at(text: &str, from: StringCursor, offset: usize) -> Option<StringCursor>
+    requires at { StandsInText text.now from from.position }
+    requires behind { from.offset ≤ offset }
+    requires within { offset ≤ length text.now }
+    ensures stands { IfSome result (λ there. StandsInText text.now there there.position) }
+    ensures offset { IfSome result (λ there. there.offset ≡ offset) }
+{
+    if !text.is_char_boundary(offset) {
+        return None;
+    }
+    let between = beginnings(&text.as_bytes()[from.offset()..offset]);
+    Some(StringCursor::new(from.position() + between, offset))
 }
 
 // The cursor behind the next such character that stands before `end`. An ASCII character is a byte that no other

@@ -19,4 +19,4 @@ pub use sre_request::Request;
 pub use state::{SreError, State};
 pub use told::{Nobody, Starts};
 pub use walk::step_by;
-pub use whole_walk::{Found, all_matches};
+pub use whole_walk::{Found, all_matches, all_matches_by};

@@ -1,12 +1,12 @@
 //! The walk over all matches, one after the other.
 
-ghost use Rattle.std.specs.Prelude.{◌≡◌, ◌≤◌, true, false, IfOk, None};
+ghost use Rattle.std.specs.Prelude.{◌≡◌, ◌≤◌, ◌<◌, true, false, IfOk, IfSome, None};
 ghost use Rattle.sre_model.specs.Marks.{no_marks};
-ghost use Rattle.sre_request.specs.Requests.{start_of, code_of, asked_of, stands_in};
+ghost use Rattle.sre_request.specs.Requests.{string_of, start_of, code_of, asked_of, stands_in};
 
 use crate::engine::state::{SreError, State};
-use crate::engine::told::Nobody;
-use crate::engine::walk::{step, step_within};
+use crate::engine::told::{Nobody, Starts};
+use crate::engine::walk::{step_by, step_within};
 use sre_chars::string::{StrDrive, StringCursor};
 use sre_machine::turns::Halt;
 use sre_request::Request;
@@ -30,7 +30,7 @@ pub struct SearchIter<'a, S: StrDrive, A: Allocator + Copy> {
 }
 
 impl<'a, S: StrDrive, A: Allocator + Copy> SearchIter<'a, S, A> {
-    ghost use Rattle.sre_engine.specs.Iterators.{request_of, shown_of, has_ended, NextWithin};
+    ghost use Rattle.sre_engine.specs.Iterators.{request_of, shown_of, has_ended, most_items, NextGives, NextWithin};
     ghost use Rattle.sre_engine.specs.Counts.{SpentUpTo, runs_of, AreEnough};
     ghost use Rattle.sre_growth.specs.Refusal.{Refused};
 
@@ -96,6 +96,29 @@ impl<'a, S: StrDrive, A: Allocator + Copy> SearchIter<'a, S, A> {
         }
     }
 
+    /// The next item as `next` gives it; the starts of which is told that they have no match are passed.
+    pub fn next_by<F: Starts<S>>(&mut self, starts: &mut F) -> Option<Result<(), SreError>>
+        requires suits { F.suits starts.old (string_of (request_of self.old)) (code_of (request_of self.old)) }
+        ensures suits { F.suits starts.new (string_of (request_of self.new)) (code_of (request_of self.new)) }
+        ensures gives { NextGives self.old result self.new }
+        ensures falls { IfSome result (λ _. most_items self.new < most_items self.old) }
+    {
+        if self.ended {
+            return None;
+        }
+        match step_by(&mut self.req, &mut self.state, &mut self.cursor, starts) {
+            Ok(true) => Some(Ok(())),
+            Ok(false) => {
+                self.ended = true;
+                None
+            }
+            Err(error) => {
+                self.ended = true;
+                Some(Err(error))
+            }
+        }
+    }
+
     /// The state, which shows the match of the last item.
     pub fn state(&self) -> &State<A>
         ensures { result.now ≡ shown_of self.now }
@@ -115,19 +138,6 @@ impl<'a, S: StrDrive, A: Allocator + Copy> Iterator for SearchIter<'a, S, A> {
     ghost remaining = { λ it. at_most (most_items it) };
 
     fn next(&mut self) -> Option<Result<(), SreError>> {
-        if self.ended {
-            return None;
-        }
-        match step(&mut self.req, &mut self.state, &mut self.cursor) {
-            Ok(true) => Some(Ok(())),
-            Ok(false) => {
-                self.ended = true;
-                None
-            }
-            Err(error) => {
-                self.ended = true;
-                Some(Err(error))
-            }
-        }
+        self.next_by(&mut Nobody)
     }
 }

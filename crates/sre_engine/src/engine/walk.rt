@@ -12,7 +12,7 @@ ghost use Rattle.sre_engine.specs.Searches.{WalksOn, NoErrorIfLiteral, CountsIns
 ghost use Rattle.sre_growth.specs.Refusal.{Refused};
 
 use crate::engine::state::{SreError, State};
-use crate::engine::told::{Nobody, Starts};
+use crate::engine::told::Starts;
 use sre_chars::string::{StrDrive, StringCursor};
 use sre_machine::turns::Halt;
 use sre_request::Request;
@@ -93,28 +93,4 @@ pub fn step_by<S: StrDrive, A: Allocator + Copy, F: Starts<S>>(
         Err(Halt::Refused(refusal)) => Err(SreError::from(refusal)),
         Err(Halt::UsedUp) => unreachable!(),
     }
-}
-
-/// The same where nothing is told.
-pub(crate) fn step<S: StrDrive, A: Allocator + Copy>(
-    req: &mut Request<'_, S>,
-    state: &mut State<A>,
-    cursor: &mut StringCursor,
-) -> Result<bool, SreError>
-    requires { stands_in req.old cursor.old (start_of req.old) }
-    ensures ok { IfOk result (λ b. WalksOn req.old b state.new req.new) }
-    ensures yes { IfOk result (λ b. b ≡ true → GoesOn req.old state.new req.new) }
-    ensures falls { IfOk result (λ b. b ≡ true → most_matches (asked_of req.new) < most_matches (asked_of req.old)) }
-    ensures no { IfOk result (λ b. b ≡ false → (req.new ≡ req.old) × (state.new.marks ≡ no_marks)) }
-    ensures here { stands_in req.new cursor.new (start_of req.new) }
-    ensures err { OnErr result ((req.new ≡ req.old) × (state.new.marks ≡ no_marks)) }
-    ensures refused { OnErr result Refused }
-    ensures counts { CountsInside req.old state.new }
-    ensures up_to_match { IfOk result (λ b. CountsToMatch req.old b state.new) }
-    ensures anchored { RunsOnceAnchored req.old state.new }
-    ensures once { state.new.restarted ≡ 0 }
-    ensures few { state.new.restarted ≤ state.new.started }
-    ensures literal { NoErrorIfLiteral req.old result }
-{
-    step_by(req, state, cursor, &mut Nobody)
 }

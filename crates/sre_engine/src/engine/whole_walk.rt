@@ -8,13 +8,14 @@ ghost use Rattle.sre_model.specs.Marks.{no_marks};
 ghost use Rattle.sre_model.specs.Found.{walk};
 ghost use Rattle.sre_model.specs.WalkBounds.{most_matches, AreInOrder};
 ghost use Rattle.sre_code.specs.Codes.{words_of};
-ghost use Rattle.sre_request.specs.Requests.{start_of, code_of, asked_of};
+ghost use Rattle.sre_request.specs.Requests.{string_of, start_of, code_of, asked_of};
 ghost use Rattle.sre_engine.specs.Walks.{match_shown};
 ghost use Rattle.sre_engine.specs.Listed.{match_of};
 ghost use Rattle.sre_growth.specs.Refusal.{Refused};
 
 use crate::engine::state::{SreError, State};
-use crate::engine::walk::step;
+use crate::engine::told::{Nobody, Starts};
+use crate::engine::walk::step_by;
 use sre_chars::string::StrDrive;
 use sre_growth::Refusal;
 use sre_request::Request;
@@ -44,18 +45,21 @@ fn found_in<A: Allocator + Copy>(state: &State<A>) -> Result<Found<A>, Refusal>
 }
 
 // Appends the matches of the walk.
-fn add_matches<S: StrDrive, A: Allocator + Copy>(
+fn add_matches<S: StrDrive, A: Allocator + Copy, F: Starts<S>>(
     mut req: Request<'_, S>,
     state: &mut State<A>,
     all: &mut Vec<Found<A>, A>,
+    starts: &mut F,
 ) -> Result<(), SreError>
+    requires suits { F.suits starts.old (string_of req) (code_of req) }
+    ensures suits { F.suits starts.new (string_of req.entry) (code_of req.entry) }
     ensures ok { (t : Tree) → Whole (words_of (code_of req.entry)) t → IfOk result
         (λ _. map match_of all.new.items ≡ map match_of all.old.items ++ walk (asked_of req.entry) t) }
     ensures after { IfOk result (λ _. state.new.marks ≡ no_marks) }
     ensures refused { OnErr result Refused }
 {
     let mut cursor = req.string().create_cursor(req.start());
-    'step: while step(&mut req, state, &mut cursor)? {
+    'step: while step_by(&mut req, state, &mut cursor, starts)? {
         let found = found_in(state)?;
         sre_growth::push(all, found)?;
     }
@@ -80,8 +84,26 @@ pub fn all_matches<S: StrDrive, A: Allocator + Copy>(
     ensures after { state.new.marks ≡ no_marks }
     ensures refused { OnErr result Refused }
 {
+    all_matches_by(req, state, &mut Nobody)
+}
+
+/// The same; the starts of which is told that they have no match are passed.
+pub fn all_matches_by<S: StrDrive, A: Allocator + Copy, F: Starts<S>>(
+    req: Request<'_, S>,
+    state: &mut State<A>,
+    starts: &mut F,
+) -> Result<Vec<Found<A>, A>, SreError>
+    requires suits { F.suits starts.old (string_of req) (code_of req) }
+    ensures suits { F.suits starts.new (string_of req.entry) (code_of req.entry) }
+    ensures ok { (t : Tree) → Whole (words_of (code_of req.entry)) t
+        → IfOk result (λ all. map match_of all.items ≡ walk (asked_of req.entry) t) }
+    ensures bound { IfOk result (λ all. vec_len all ≤ most_matches (asked_of req.entry)) }
+    ensures order { IfOk result (λ all. AreInOrder (start_of req.entry) (map match_of all.items)) }
+    ensures after { state.new.marks ≡ no_marks }
+    ensures refused { OnErr result Refused }
+{
     let mut all = Vec::new(state.allocator());
-    match add_matches(req, state, &mut all) {
+    match add_matches(req, state, &mut all, starts) {
         Ok(()) => Ok(all),
         Err(error) => {
             state.forget(); // a match that could not be kept

@@ -4,7 +4,7 @@ use Rattle.sre_model.specs.Grammar.{Whole}
 use Rattle.sre_model.specs.Found.{walk}
 use Rattle.sre_model.specs.WalkBounds.{most_matches}
 use Rattle.sre_code.specs.Codes.{words_of}
-use Rattle.sre_request.specs.Requests.{start_of, code_of, asked_of, stands_in}
+use Rattle.sre_request.specs.Requests.{string_of, start_of, code_of, asked_of, stands_in}
 use Rattle.sre_engine.specs.Listed.{match_of}
 use Rattle.sre_engine.proofs.engine.whole_walk.add_matches.Given as goal
 
@@ -12,6 +12,8 @@ abbrev pub invariant-step : goal.invariant-step
 invariant-step g l = record {
   here : stands_in l.req l.cursor (start_of l.req);
   code : code_of l.req ≡ code_of l.fn.req;
+  string : string_of l.req ≡ string_of l.fn.req;
+  suits : g.F.Starts.suits l.starts (string_of l.req) (code_of l.req);
   left : (t : Tree) → Whole (words_of (code_of l.fn.req)) t
       → map match_of l.all.items ++ walk (asked_of l.req) t ≡ map match_of l.fn.all.items ++ walk (asked_of l.fn.req) t;
 }

@@ -7,7 +7,7 @@ use Rattle.sre_code.specs.Codes.{words_of, hints_of}
 use Rattle.sre_request.specs.Requests.{start_of, code_of, asked_of}
 use Rattle.sre_engine.specs.Listed.{match_of}
 use Rattle.sre_code.proofs.Checked.{code_tree}
-use Rattle.sre_engine.proofs.engine.whole_walk.all_matches.Goals as goal
+use Rattle.sre_engine.proofs.engine.whole_walk.all_matches_by.Goals as goal
 
 pub returns-in-Ok-clause-bound : goal.returns-in-Ok-clause-bound
 returns-in-Ok-clause-bound g c =
