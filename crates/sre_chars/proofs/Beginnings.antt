@@ -1,5 +1,6 @@
 -- Where characters begin in bytes, and how many begin before a place.
-use Rattle.std.proofs.Common.{◌≡◌, ℕ, ◌+◌, ◌-◌, ◌/◌, ◌<◌, ◌≤◌, true, false, cond, inl, inr, refl, ap, sym, ◌∙◌, arith}
+use Rattle.std.proofs.Common.{◌≡◌, ℕ, ◌+◌, ◌-◌, ◌/◌, ◌<◌, ◌≤◌, true, false, cond, inl, inr, refl, ap, sym, ◌∙◌, subst}
+use Rattle.std.proofs.Common.{arith}
 use Rattle.std.proofs.Common.{List, [], ◌∷◌, ◌++◌, length, take, drop, count_by, length-append}
 use Rattle.std.proofs.Math.Seq.{take-add}
 use Rattle.std.proofs.lemmas.List.{take-take}
@@ -117,3 +118,17 @@ place_at text bs o p same u b e =
       sym (length-take-le o bs b.0) ∙ ap length (sym front.1.1) ∙ ap (λ t. length (encodes t)) (sym first),
       omega (arith, ap length whole, length-append cs rest, many),
     )
+
+-- behind a place, where a character begins or the text ends, is that of as many characters more as begin between
+pub place_behind : (text bs : List ℕ) (from p to n : ℕ) → bs ≡ text → IsUtf8 text → from ≡ offset_of text p
+    → p ≤ length (chars text) → from ≤ to → IsCharBoundary text to
+    → n ≡ count_by begins_char (take (to - from) (drop from bs))
+    → (to ≡ offset_of text (p + n)) × (p + n ≤ length (chars text)) × (length (chars text) ≤ length bs)
+place_behind text bs from p to n same u at l on boundary counted =
+    let own : IsUtf8 bs = subst IsUtf8 (sym same) u in
+    let place = place_in text bs from p same own at l in
+    let whole : from + (to - from) ≡ to = omega (arith, on) in
+    let passed = ap (begun bs) (sym whole) ∙ begun_block bs from (to - from) in
+    let there = place_at text bs to (p + n) same own (subst (λ b. IsCharBoundary b to) (sym same) boundary)
+    (omega (arith, passed, place.begun_before, counted)) in
+    (there.0, there.1, place.few)

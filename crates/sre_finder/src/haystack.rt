@@ -1,0 +1,137 @@
+//! Texts whose bytes automata can read: bytes, and UTF-8.
+
+ghost use Rattle.std.specs.Prelude.{◌≡◌, ◌≤◌, ◌<◌, ℕ, length};
+ghost use Rattle.std.specs.Str.{chars};
+ghost use Rattle.sre_chars.specs.Texts.{StandsInText, offset_of};
+ghost use Rattle.sre_patterns.specs.declared.kind.Kind as kind;
+ghost use Rattle.sre_patterns.specs.declared.kind.Kind.TheVariants.{Bytes, Utf8};
+ghost use Rattle.sre_finder.specs.Views.{SeenAs};
+
+use sre_chars::string::{StrDrive, StringCursor, cursor_at};
+use sre_patterns::Kind;
+
+/// A text whose bytes automata can read.
+pub trait Haystack: StrDrive {
+    // How its characters are seen as bytes.
+    ghost seen_as: { Self → kind.Kind };
+
+    // The byte at which a position stands.
+    ghost place: { Self → ℕ → ℕ };
+
+    /// How its characters are seen as bytes.
+    fn kind(&self) -> Kind
+        ensures { result ≡ seen_as self.now };
+
+    /// The bytes up to a cursor.
+    fn hay(&self, end: StringCursor) -> &[u8]
+        requires { Self.stands self.now end end.position }
+        ensures { SeenAs (seen_as self.now) (Self.text self.now) (place self.now) end.position result.now };
+
+    /// How many bytes are before a cursor.
+    fn place_of(&self, cursor: StringCursor) -> usize
+        requires { Self.stands self.now cursor cursor.position }
+        ensures { result ≡ place self.now cursor.position };
+
+    /// A cursor no earlier than `from` and no later than `end`, before which no position from `from` on stands at the
+    /// offset or behind it: one that stands there, where a character begins there.
+    fn cursor_up_to(&self, from: StringCursor, offset: usize, end: StringCursor) -> StringCursor
+        requires from { Self.stands self.now from from.position }
+        requires end { Self.stands self.now end end.position }
+        requires ordered { from.position ≤ end.position }
+        requires behind { place self.now from.position ≤ offset }
+        requires within { offset ≤ place self.now end.position }
+        ensures stands { Self.stands self.now result result.position }
+        ensures after { from.position ≤ result.position }
+        ensures inside { result.position ≤ end.position }
+        ensures passed { (q : ℕ) → from.position ≤ q → q < result.position → place self.now q < offset };
+}
+
+// The bytes up to a position.
+#[inline(always)]
+fn bytes_up_to(bytes: &[u8], end: usize) -> &[u8]
+    requires { end ≤ length bytes.now }
+    ensures { SeenAs Bytes bytes.now (λ p. p) end result.now }
+{
+    &bytes[..end]
+}
+
+// The bytes of UTF-8 up to a cursor.
+#[inline(always)]
+fn text_up_to(text: &str, end: StringCursor) -> &[u8]
+    requires { StandsInText text.now end end.position }
+    ensures { SeenAs Utf8 (chars text.now) (offset_of text.now) end.position result.now }
+{
+    &text.as_bytes()[..end.offset()]
+}
+
+// The cursor at an offset between two others, where a character begins there, else the first of them.
+fn text_cursor(text: &str, from: StringCursor, offset: usize, end: StringCursor) -> StringCursor
+    requires from { StandsInText text.now from from.position }
+    requires end { StandsInText text.now end end.position }
+    requires ordered { from.position ≤ end.position }
+    requires behind { from.offset ≤ offset }
+    requires within { offset ≤ end.offset }
+    ensures stands { StandsInText text.now result result.position }
+    ensures after { from.position ≤ result.position }
+    ensures inside { result.position ≤ end.position }
+    ensures passed { (q : ℕ) → from.position ≤ q → q < result.position → offset_of text.now q < offset }
+{
+    let _end = end.offset();
+    let _bytes = text.len();
+    match cursor_at(text, from, offset) {
+        Some(there) => there,
+        None => from,
+    }
+}
+
+impl<'a> Haystack for &'a [u8] {
+    ghost seen_as = { λ _. Bytes };
+
+    ghost place = { λ _ p. p };
+
+    #[inline(always)]
+    fn kind(&self) -> Kind {
+        Kind::Bytes
+    }
+
+    #[inline(always)]
+    fn hay(&self, end: StringCursor) -> &[u8] {
+        bytes_up_to(self, end.offset())
+    }
+
+    #[inline(always)]
+    fn place_of(&self, cursor: StringCursor) -> usize {
+        cursor.offset()
+    }
+
+    #[inline(always)]
+    fn cursor_up_to(&self, _from: StringCursor, offset: usize, _end: StringCursor) -> StringCursor {
+        StringCursor::new(offset, offset)
+    }
+}
+
+impl<'a> Haystack for &'a str {
+    ghost seen_as = { λ _. Utf8 };
+
+    ghost place = { λ s p. offset_of s.now p };
+
+    #[inline(always)]
+    fn kind(&self) -> Kind {
+        Kind::Utf8
+    }
+
+    #[inline(always)]
+    fn hay(&self, end: StringCursor) -> &[u8] {
+        text_up_to(self, end)
+    }
+
+    #[inline(always)]
+    fn place_of(&self, cursor: StringCursor) -> usize {
+        cursor.offset()
+    }
+
+    #[inline(always)]
+    fn cursor_up_to(&self, from: StringCursor, offset: usize, end: StringCursor) -> StringCursor {
+        text_cursor(self, from, offset, end)
+    }
+}
