@@ -31,8 +31,8 @@ def read(path):
 
 
 def crates():
-    """The names of the crates, lowest first."""
-    return re.findall(r"(?m)^(\w+):", read(f"{ROOT}/crates.txt"))
+    """The names of the crates, lowest first. A crate that someone tries beside these has another name."""
+    return re.findall(r"(?m)^(sre_\w+):", read(f"{ROOT}/crates.txt"))
 
 
 def files(crate):
