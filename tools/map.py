@@ -5,8 +5,9 @@
     map.py --write    writes the list of files anew
 
 A path is a table by hand, a row for each function on it: the function, the file in which it stands, and a row above
-that calls it. Each function has to stand in its file, and its name in the function that calls it. Each file of src/ has
-to begin with a sentence of its own. The status is 1 where one of these does not hold.
+that calls it. Each function has to stand in its file, and its name in the function that calls it; in the part on hints,
+in the order of the rows. Each file of src/ has to begin with a sentence of its own. The status is 1 where one of these
+does not hold.
 """
 import os
 import re
@@ -20,6 +21,9 @@ BEGIN, END = "<!-- the map begins -->\n", "<!-- the map ends -->\n"
 
 # A row of a path: a function, its file, and the function that calls it, if one above does.
 FRAME = re.compile(r"\| `([\w:]+)` \| `(\w+)/([\w/]+)` \| (?:`([\w:]+)`)? ?\| .* \|")
+
+# The part whose rows stand in the order in which they are called.
+IN_ORDER = "## In which order hints are tried"
 
 # The first sentence of a paragraph.
 SENTENCE = re.compile(r".*?\.(?= [A-Z`\[]|$)")
@@ -98,27 +102,34 @@ class Frame:
         where = f"{ROOT}/crates/{self.file}.rt"
         self.bodies = list(bodies(read(where), self.name)) if os.path.isfile(where) else []
 
-    def is_called(self, callers):
-        """Whether a function that calls it, of those above, has its name as that of a call."""
+    def called_at(self, callers):
+        """Where a function of those above that calls it has its name as that of a call, if one has."""
         called = re.compile(rf"\b{self.name}(?:::<[^()]*>)?\(")
-        own = [body for it in callers if it.path == self.caller for body in it.bodies]
-        return any(called.search(body.partition("\n")[2]) for body in own)
+        own = [body.partition("\n")[2] for it in callers if it.path == self.caller for body in it.bodies]
+        return next((it.start() for it in map(called.search, own) if it), None)
 
 
 def astray():
     """The rows of the paths that are not as the code is."""
-    above = []
-    for line in read(PAGE).partition(BEGIN)[0].split("\n"):
+    lines = read(PAGE).partition(BEGIN)[0].split("\n")
+    if IN_ORDER not in lines:
+        yield f"docs/CODE.md: it has no part '{IN_ORDER}'"
+    part, above, reached = "", [], {}
+    for line in lines:
         row = FRAME.fullmatch(line)
         if line.startswith("## "):
-            above = []
+            part, above, reached = line, [], {}
         elif row:
             frame = Frame(row)
+            at = frame.called_at(above)
             if not frame.bodies:
                 yield f"docs/CODE.md: {frame.path} does not stand in {frame.file}"
-            elif frame.caller and not frame.is_called(above):
+            elif frame.caller and at is None:
                 yield f"docs/CODE.md: no row above has a {frame.caller} that calls {frame.path}"
+            elif part == IN_ORDER and frame.caller and at < reached.get(frame.caller, 0):
+                yield f"docs/CODE.md: {frame.caller} calls {frame.path} before what stands above it"
             above.append(frame)
+            reached[frame.caller] = at or 0
         elif line.startswith("| `"):
             yield f"docs/CODE.md: no row of a path: {line}"
 
