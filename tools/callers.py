@@ -1,9 +1,9 @@
 #!/usr/bin/env python3
-"""Runs the callers that README.md and docs/CALLING.md show, as a reader would who copies them out of the page.
+"""Runs the callers that README.md, docs/CALLING.md and docs/DEPENDING.md show, as a reader who copies them would.
 
     callers.py [NAME ..]     those of these names; with no name all of them
 
-`strangers` is a service that bounds what each request may take; `settings` and `pairs` make calls without a bound. A
+`strangers` is a service that bounds what each request may take; `settings`, `pairs` and `finds` make calls without. A
 caller is a whole program: a block of Rust that begins with its head comment. In front of it the page names it, and what
 it lists in `crates.txt`. It is put beside the crates of a copy of the repository, where `rt try` builds and runs it,
 and proves nothing. Where the page shows what that writes, it has to write the same. The status is 1 where it does not,
@@ -18,7 +18,7 @@ import sys
 import tempfile
 
 ROOT = os.path.dirname(os.path.dirname(os.path.realpath(__file__)))
-PAGES = ("README.md", "docs/CALLING.md")
+PAGES = ("README.md", "docs/CALLING.md", "docs/DEPENDING.md")
 
 # A line of crates.txt as a page gives it, by itself or in a sentence.
 LISTED = re.compile(r"(?m)(?:^|`)(\w+): (sre_\w+(?: \w+)*)(?:$|`)")

@@ -227,6 +227,11 @@ def arguments():
     return parser
 
 
+def shown(theirs, ours):
+    """Two times and their ratio, as columns that no number fills."""
+    return f'{theirs:>11.2f}{ours:>11.2f}{ours / theirs:>7.2f}'
+
+
 def mean(ratios):
     """The geometric mean."""
     return math.exp(sum(map(math.log, ratios)) / len(ratios))
@@ -237,7 +242,7 @@ def main():
     options = arguments().parse_args()
     words.require_program(options.program)
     chosen = [work for work in WORK if not options.only or work.name in options.only.split(',')]
-    print(f'{"":<16}{"characters":>11}{"CPython":>9}{"ours":>9}{"ratio":>7}   with the block{"ratio":>7}')
+    print(f'{"":<16}{"characters":>11}{"CPython":>11}{"ours":>11}{"ratio":>7}     with the block{"ratio":>10}')
     columns, is_wrong = ([], []), False
     with tempfile.TemporaryDirectory() as room:
         for work in chosen:
@@ -246,8 +251,8 @@ def main():
                 column.append(ours / theirs)
             agree = bare[2] and block[2]
             is_wrong = is_wrong or not agree
-            print(f'{work.name:<16}{work.size:>11}{bare[0]:>9.2f}{bare[1]:>9.2f}{bare[1] / bare[0]:>7.2f}'
-                  f'{block[0]:>9.2f}{block[1]:>8.2f}{block[1] / block[0]:>7.2f}' + '  WRONG' * (not agree), flush=True)
+            print(f'{work.name:<16}{work.size:>11}' + shown(*bare[:2]) + shown(*block[:2]) + '  WRONG' * (not agree),
+                  flush=True)
     python = 'CPython ' + '.'.join(map(str, sys.version_info[:3]))
     if options.svg and not is_wrong:
         rows = [*zip((work.name for work in chosen), *columns), ('geometric mean', *map(mean, columns))]

@@ -10,8 +10,8 @@ where its row says why: 'WHAT NUMBER # was GREATEST: REASON'. What counts is wha
 bodies make the same text. HANDLES allows nothing. And every clause on memory rests on the seal: a crate that could
 say that a growth was refused could pass on any error. Only sre_growth stands on the crate that has the fact, one line
 of one spec hands on the fact without its lemma, and the lemma is cited by the answers of the three growths alone. And
-what tools draw goes stale without a sign: the pictures of docs/ (`pictures.py`) and a table (`adding.py`). The status
-is 1 where something does not stand.
+what tools draw goes stale without a sign: the pictures of docs/ (`pictures.py`), a table (`adding.py`) and the map of
+the code (`map.py`); and so does the kit's name on a page (`kit.py`). The status is 1 where something does not stand.
 """
 import os
 import re
@@ -19,6 +19,8 @@ import subprocess
 import sys
 
 import adding
+import kit
+import map as code_map
 import pictures
 import wrong_bodies
 
@@ -207,7 +209,7 @@ def stale():
 def fallen():
     """All that does not stand."""
     kept = [*missed(), *lowered(), *unread(), *alike(), *widened()]
-    return [*kept, *unsealed(), *adding.stale(), *stale()]
+    return [*kept, *unsealed(), *adding.stale(), *code_map.stale(), *kit.unnamed(), *stale()]
 
 
 def write():

@@ -1,4 +1,4 @@
-//! Checked words.
+//! Checked words as a view: [`Code`].
 //!
 //! A [`Code`] is a view of words that the grammar (`specs/Grammar.antt`) relates to a tree, of which there is then
 //! exactly one, together with a table of characters. An information block at the front is passed over: the grammar asks

@@ -1,4 +1,4 @@
-//! The words of a part.
+//! [`emit`]: the words of a part, or why there are none.
 
 ghost use Rattle.std.specs.Prelude.{◌≡◌, IfOk, IfErr, true};
 ghost use Rattle.sre_model.specs.Written.{code_words};

@@ -1,5 +1,5 @@
 -- What a search of a request says of its answer.
--- Words of the contracts inside this crate; what it makes public does not rest on it.
+-- Words of the search's contracts. What is public rests on some of them, by `step_by`.
 use Rattle.std.specs.Prelude.{◌+◌, ◌≡◌, ◌≤◌, Bool, true, Result, OnErr}
 use Rattle.sre_chars.specs.declared.string.StrDrive.{Ghosts}
 use Rattle.sre_model.specs.Tree.{Tree}

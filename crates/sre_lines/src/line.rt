@@ -1,4 +1,4 @@
-//! Lines as cases.
+//! Lines as cases: how each field of a line is read.
 //!
 //! A case is `check WORDS`, or `match`, `search` or `walk` with WORDS TEXT WINDOW FLAGS, its fields divided by single
 //! spaces. A line is read whole before its words are checked, and any other line is refused.

@@ -1,4 +1,4 @@
-//! `POSSESSIVE_REPEAT_ONE skip least greatest test SUCCESS`: the longest run alone.
+//! Possessive runs, the longest alone: `POSSESSIVE_REPEAT_ONE skip least greatest test SUCCESS`.
 ghost use Rattle.sre_request.specs.Runs.{OpcodeAt};
 ghost use Rattle.sre_machine.specs.Turns.{At, Turn};
 

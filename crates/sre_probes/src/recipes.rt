@@ -1,4 +1,4 @@
-//! The recipes over a text.
+//! What the recipes give over a text.
 
 use crate::probe::cut;
 use sre_engine::{Request, SreError, State, StringCursor};

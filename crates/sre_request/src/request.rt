@@ -1,4 +1,4 @@
-//! What is asked of a search.
+//! [`Request`]: what is asked of a search, part by part.
 
 ghost use Rattle.std.specs.Prelude.{⊤, ◌≡◌, ◌+◌, ◌^◌, ◌≤◌, length};
 

@@ -1,5 +1,5 @@
-//! `<BRANCH>`, then alternatives `<length> <items> <JUMP> <skip>`, and 0 in place of a further length; each JUMP leads
-//! behind that 0.
+//! Branches: `<BRANCH>`, then alternatives `<length> <items> <JUMP> <skip>`, and 0 in place of a further length;
+//! each JUMP leads behind that 0.
 
 ghost use Rattle.std.specs.Prelude.{◌≡◌};
 ghost use Rattle.sre_model.specs.Grammar.{Opcode};

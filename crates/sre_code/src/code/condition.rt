@@ -1,4 +1,4 @@
-//! `<GROUPREF_EXISTS> <group> <skip> <items>`, whose skip leads behind the items, and with a no part
+//! Conditions: `<GROUPREF_EXISTS> <group> <skip> <items>`, whose skip leads behind the items, and with a no part
 //! `<GROUPREF_EXISTS> <group> <skip> <items> <JUMP> <skip> <items>`, whose first skip leads to the second items and
 //! whose second one leads behind them. The first skip counts from the group's word.
 

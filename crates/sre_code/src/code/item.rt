@@ -1,4 +1,4 @@
-//! Items, by their opcodes.
+//! Items: which one stands at a place, by its opcode.
 
 ghost use Rattle.sre_model.specs.Grammar.{Opcode, reference_opcode};
 ghost use Rattle.sre_code.specs.Reading.{FoldedAt};

@@ -1,4 +1,4 @@
-//! What closes parts.
+//! Open parts: how each is closed, by what stands where it may end.
 
 ghost use Rattle.sre_code.specs.Steps.{Closing};
 

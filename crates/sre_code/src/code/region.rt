@@ -1,6 +1,6 @@
-//! `<ATOMIC_GROUP> <skip> <items> <SUCCESS>`, and `<ASSERT> <skip> <back> <items> <SUCCESS>` and ASSERT_NOT alike; the
-//! skip leads behind the SUCCESS. `<POSSESSIVE_REPEAT> <skip> <least count> <greatest count> <items> <SUCCESS>`;
-//! its skip leads to the SUCCESS.
+//! Regions: `<ATOMIC_GROUP> <skip> <items> <SUCCESS>`, and `<ASSERT> <skip> <back> <items> <SUCCESS>` and
+//! ASSERT_NOT alike; the skip leads behind the SUCCESS. `<POSSESSIVE_REPEAT> <skip> <least count> <greatest count>
+//! <items> <SUCCESS>`; its skip leads to the SUCCESS.
 
 ghost use Rattle.sre_model.specs.Grammar.{Opcode};
 ghost use Rattle.sre_code.specs.Steps.{Gives, ItemAt, LookAt, Closing};

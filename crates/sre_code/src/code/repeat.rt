@@ -1,4 +1,5 @@
-//! `<REPEAT> <skip> <least count> <greatest count> <items>`, and MAX_UNTIL or MIN_UNTIL where the skip leads.
+//! Loops: `<REPEAT> <skip> <least count> <greatest count> <items>`, and MAX_UNTIL or MIN_UNTIL where the skip
+//! leads.
 
 ghost use Rattle.sre_model.specs.Grammar.{Opcode};
 ghost use Rattle.sre_code.specs.Steps.{Gives, ItemAt, Closing};
