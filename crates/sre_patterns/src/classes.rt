@@ -95,12 +95,14 @@ fn class_of(
         CoversTestAt (view_of encoding) (uni_of code.now) (items_of code.now) place (meaning h)) }
 {
     match encoding {
-        Encoding::Bytes => Ok(Hir::Bytes(Class::new(taken_below(
-            alloc, code, place, opcode, 256,
-        )?)?)),
-        Encoding::Ascii => Ok(Hir::Bytes(Class::new(taken_below(
-            alloc, code, place, opcode, 128,
-        )?)?)),
+        Encoding::Bytes => {
+            let ranges = taken_below(alloc, code, place, opcode, 256)?;
+            Ok(Hir::Bytes(Class::new(ranges)?))
+        }
+        Encoding::Ascii => {
+            let ranges = taken_below(alloc, code, place, opcode, 128)?;
+            Ok(Hir::Bytes(Class::new(ranges)?))
+        }
         Encoding::Utf8 => {
             let mut ranges = taken_below(alloc, code, place, opcode, 128)?;
             ranges.push((128, 0x10_FFFF))?;
