@@ -19,7 +19,7 @@ PAGE = f"{ROOT}/docs/ADDING.md"
 BEGIN, END = "<!-- the table begins -->\n", "<!-- the table ends -->\n"
 
 CRATES = ("sre_chars", "sre_model", "sre_turns", "sre_code", "sre_board", "sre_request", "sre_reading", "sre_machine",
-          "sre_engine", "sre_emit")
+          "sre_engine", "sre_emit", "sre_shape", "sre_patterns")
 
 # A column's head, and what names its item.
 ITEMS = {
@@ -30,6 +30,9 @@ ITEMS = {
     "reference": r"Reference|GROUPREF(_\w*IGNORE)?|ToRefer|is_reference|reference_opcode",
     "condition": r"Exists|ExistsElse|GROUPREF_EXISTS|ToCheckGroup|is_exists",
 }
+
+# The kit's patterns have a `Look` of their own, which is no item.
+KITS_LOOK = re.compile(r"regex_hir\S*\bLook\b")
 
 
 def read(path):
@@ -55,6 +58,7 @@ def table():
     for crate in CRATES:
         for path in files(crate):
             text = read(path)
+            text = re.sub(r"\bLook\b", "", text) if KITS_LOOK.search(text) else text
             marks = ["x" if name.search(text) else "" for name in named.values()]
             if any(marks):
                 for item, mark in zip(ITEMS, marks):

@@ -70,14 +70,12 @@ module _ (V : View) (table : Table) (ws : List ℕ) where
       first (Only t) r =
           record {
             items = items-to ws (at + 1) (skip ws at - 2) (skip ws at - 2) t r.0 refl;
-            long = alternative_long
-                ws at h.end (Only t) r;
+            long = alternative_long ws at h.end (Only t) r;
           }
       first (Or t ts) r =
           record {
             items = items-to ws (at + 1) (skip ws at - 2) (skip ws at - 2) t r.0 refl;
-            long = alternative_long
-                ws at h.end (Or t ts) r;
+            long = alternative_long ws at h.end (Or t ts) r;
           }
 
       go : Open at parts h.end h.trees ⊎ Closed at parts h.end h.trees → AlternativeRead at
@@ -86,8 +84,7 @@ module _ (V : View) (table : Table) (ws : List ℕ) where
 
   -- one more alternative
   pub alternative : (start at v u : ℕ) (parts after : List Re) (re : Re) → BranchSoFar start at parts → Word ws at v
-      → v ≢ 0
-      → CoversItemsAt V table ws (at + 1) (at + v - 2) re u → after ≡ parts ++ re ∷ []
+      → v ≢ 0 → CoversItemsAt V table ws (at + 1) (at + v - 2) re u → after ≡ parts ++ re ∷ []
       → BranchSoFar start (at + v) after
   alternative start at v u parts after re so w some c same = record { each = λ j ts r. go j ts (so.each j ts r) }
     where
@@ -108,9 +105,8 @@ module _ (V : View) (table : Table) (ws : List ℕ) where
       rest-of j ts (Only t) r k = inr (record {
         zero = subst (λ n. Word ws n 0) to r.2;
         ends = r.3 ∙ ap (λ n. n + 1) to;
-        covers =
-            λ b. onto b ts (k (alt re b) (covers-only V table (alt re b) t
-            (covers-wider V table re (alt re b) t (alt-first re b) (body t r.0))));
+        covers = λ b. onto b ts (k (alt re b)
+            (covers-only V table (alt re b) t (covers-wider V table re (alt re b) t (alt-first re b) (body t r.0))));
       })
       rest-of j ts (Or t us) r k = inl (record {
         rest = us;

@@ -11,19 +11,9 @@ use Rattle.sre_model.proofs.Words.{word_past}
 use Rattle.sre_model.proofs.Families.{role_here, is_exists}
 use Rattle.sre_model.proofs.Places.{reads_within}
 use Rattle.sre_shape.specs.Covers.{View, CoversItem}
-use Rattle.sre_shape.proofs.Composed.{covers-exists, covers-either}
-use Rattle.sre_shape.proofs.Journeys.{weaken-along}
-use Rattle.sre_shape.specs.Covers.{Leads}
-use Rattle.sre_model.specs.Ways.{item_ways}
+use Rattle.sre_shape.proofs.Composed.{covers-exists, covers-either, item-wider}
 use Rattle.sre_patterns.specs.Patterns.{IsWider, CoversItemAt, CoversItemsAt, HasItems, HasCondition}
 use Rattle.sre_patterns.proofs.Items.{items-to}
-
-pub item-wider : (V : View) (table : Table) (a b : Re) (x : Item) → IsWider a b → CoversItem V table a x
-    → CoversItem V table b x
-item-wider V table a b x wider f = record {
-  covers = λ s hay off v same. weaken-along s (Leads hay off a) (Leads hay off b) (λ p q. wider hay (off p) (off q))
-      (item_ways s x) (f.covers s hay off v same);
-}
 
 -- a word that a sum needs is there
 word-needed : (ws : List ℕ) (q n : ℕ) → n < word ws q → q < length ws

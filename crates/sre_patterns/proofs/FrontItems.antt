@@ -1,31 +1,14 @@
 -- The first items alone: what is read so far tells of where matches start.
-use Rattle.std.proofs.Common.{ℕ, ◌<◌, List, [], refl, sym, subst}
+use Rattle.std.proofs.Common.{ℕ, ◌≡◌, ◌<◌, List, [], length, sym, subst}
 use Rattle.regex_hir.specs.Re.{Re, empty, cat}
 use Rattle.sre_chars.specs.Tables.{Table}
 use Rattle.sre_chars.specs.declared.constants.SreOpcode.TheVariants as opcode
-use Rattle.sre_model.specs.Tree.{Tree, Then, Item}
-use Rattle.sre_model.specs.Grammar.{Opcode, Reads}
-use Rattle.sre_shape.specs.Covers.{View, CoversItem}
-use Rattle.sre_shape.proofs.Fronts.{CoversStart, fronts-then}
-use Rattle.sre_patterns.specs.Patterns.{IsWider, cat_onto, CoversFrontAt, CoversItemAt, Stops}
-use Rattle.sre_patterns.proofs.Sequences.{next}
-
-module _ (V : View) (table : Table) where
-  -- the empty pattern has a match everywhere
-  pub start-empty : (t : Tree) → CoversStart V table empty t
-  start-empty t = record { covers = λ s hay off v same p m l none. absurd (none (off p) refl) }
-
-  pub start-wider : (a b : Re) (t : Tree) → IsWider a b → CoversStart V table a t → CoversStart V table b t
-  start-wider a b t wider f = record {
-    covers = λ s hay off v same p m l none. f.covers s hay off v same p m l (λ j k. none j (wider hay (off p) j k));
-  }
-
-  pub start-then : (a b : Re) (item : Item) (rest : Tree) → CoversItem V table a item → CoversStart V table b rest
-      → CoversStart V table (cat a b) (Then item rest)
-  start-then a b item rest f g = record {
-    covers = λ s hay off v same.
-        fronts-then s hay off a b item rest (f.covers s hay off v same) (g.covers s hay off v same);
-  }
+use Rattle.sre_model.specs.Tree.{Tree}
+use Rattle.sre_model.specs.Grammar.{Word, Opcode, Reads}
+use Rattle.sre_shape.specs.Covers.{View, CoversStart}
+use Rattle.sre_shape.proofs.Fronts.{start-empty, start-wider, start-then}
+use Rattle.sre_patterns.specs.Patterns.{IsWider, cat_onto, HasItems, HasItem, CoversFrontAt, CoversItemAt, Stops}
+use Rattle.sre_patterns.proofs.Sequences.{no-jump, inside, next}
 
 module _ (V : View) (table : Table) (ws : List ℕ) (start end : ℕ) where
   pub record FrontLeft (place : ℕ) (parts : List Re) (j : ℕ) (t : Tree) : Type 0 where
@@ -38,6 +21,20 @@ module _ (V : View) (table : Table) (ws : List ℕ) (start end : ℕ) where
 
   pub front-begun : FrontSoFar start []
   front-begun = record { each = λ j t r s. record { rest = t; reads = r; covers = λ b c. c } }
+
+  pub front-word : (place : ℕ) (parts : List Re) → HasItems ws start end → FrontSoFar place parts → place < end
+      → place < length ws
+  front-word place parts h so before =
+      let left = so.each h.stop h.tree h.reads h.stops in
+      inside V table ws start end place h.stop left.rest left.reads h.stops before
+
+  pub front-item : (place v : ℕ) (parts : List Re) → HasItems ws start end → FrontSoFar place parts → place < end
+      → Word ws place v → (v ≡ 15 → ⊥) → HasItem ws place
+  front-item place v parts h so before w other =
+      let left = so.each h.stop h.tree h.reads h.stops in
+      let n =
+      next V table ws start end place h.stop left.rest left.reads h.stops before (no-jump ws place v w other) in
+      record { end = n.behind; item = n.item; reads = n.reads }
 
   pub front-more : (place behind : ℕ) (parts after : List Re) (re : Re) → FrontSoFar place parts → place < end
       → (Opcode ws place opcode.JUMP → ⊥) → CoversItemAt V table ws place re behind

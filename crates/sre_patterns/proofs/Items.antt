@@ -1,7 +1,6 @@
 -- What is read at a place, by its opcode.
 use Rattle.std.proofs.Common.{◌≡◌, ℕ, ◌+◌, ◌-◌, ◌<◌, ◌≤◌, ◌⊎◌, Bool, List, length, refl, sym, ap, ◌∙◌, subst, inl, inr}
-use Rattle.std.proofs.Common.{arith}
-use Rattle.std.proofs.Common.{None}
+use Rattle.std.proofs.Common.{arith, None}
 use Rattle.regex_hir.specs.Re.{Re, empty}
 use Rattle.regex_hir.specs.Meaning.{repeat}
 use Rattle.sre_chars.specs.Tables.{Table}
@@ -9,32 +8,23 @@ use Rattle.sre_chars.specs.declared.constants.SreOpcode.{SreOpcode}
 use Rattle.sre_chars.specs.declared.constants.SreOpcode.TheVariants as opcode
 use Rattle.sre_chars.specs.declared.constants.SreAtCode.{SreAtCode}
 use Rattle.sre_chars.specs.Numbers.{at_number}
-use Rattle.sre_model.specs.Tree.{Tree, Item, At, Loop, PossessiveLoop}
-use Rattle.sre_model.specs.Tree.{Test, AnyAll, RunKind, Sign}
-use Rattle.sre_model.specs.Tree.{GreedyRun, LazyRun, PossessiveRun, Positive, Negative}
-use Rattle.sre_model.specs.Roles.{role, ToFail, ToCheckPosition, ToMark, ToRun, ToRepeat}
-use Rattle.sre_model.specs.Roles.{ToRepeatPossessively, ToGroupAtomically, ToLook, ToRefer}
-use Rattle.sre_model.specs.Grammar.{Word, skip, Opcode, item_opcode, Reads}
+use Rattle.sre_model.specs.Tree.{Tree, Item, At, Loop, PossessiveLoop, Test, AnyAll, RunKind, Sign, GreedyRun, LazyRun}
+use Rattle.sre_model.specs.Tree.{PossessiveRun, Positive, Negative}
+use Rattle.sre_model.specs.Roles.{role, ToFail, ToCheckPosition, ToMark, ToRun, ToRepeat, ToRepeatPossessively}
+use Rattle.sre_model.specs.Roles.{ToGroupAtomically, ToLook, ToRefer}
+use Rattle.sre_model.specs.Grammar.{Word, skip, Opcode, item_opcode, Reads, run_opcode}
 use Rattle.sre_model.specs.Standing.{HasTest, TestStands}
-use Rattle.sre_model.specs.Grammar.{run_opcode}
 use Rattle.sre_model.specs.Ways.{unlimited}
-use Rattle.sre_model.proofs.Families.{run_role}
-use Rattle.sre_shape.specs.Shape.{repeated}
-use Rattle.sre_shape.specs.Covers.{Covers}
-use Rattle.sre_shape.proofs.Composed.{covers-run, covers-loop, covers-possessive, covers-atomic}
-use Rattle.sre_patterns.specs.Patterns.{CoversItemsAt}
+use Rattle.sre_model.proofs.Families.{run_role, role_here, test_here, is_fail, is_one, is_at, is_mark, is_loop, is_run}
+use Rattle.sre_model.proofs.Families.{is_possessive, is_atomic, is_look, is_reference}
 use Rattle.sre_model.proofs.Words.{same_word, same_at, opcode_within, word_within}
-use Rattle.sre_model.proofs.Families.{role_here, test_here, is_fail, is_one, is_at, is_mark}
-use Rattle.sre_model.proofs.Families.{is_loop, is_run, is_possessive, is_atomic, is_look, is_reference}
 use Rattle.sre_model.proofs.Places.{reads_within}
-use Rattle.sre_shape.specs.Covers.{View, CoversItem, CoversTest}
-use Rattle.sre_shape.proofs.Composed.{covers-fail, covers-mark, covers-look, covers-reference, covers-one}
-use Rattle.sre_patterns.specs.Patterns.{CoversItemAt, CoversTestAt, HasItem, HasItems, HasRun, HasAtomic, HasLoop}
-
--- a word of what is read of a code, where its number is known
-pub moved-word : (ws read : List ℕ) (i v n : ℕ) → read ≡ ws → Word read i v → n ≡ v → Word ws i n
-moved-word ws read i v n same w e =
-    subst (λ x. Word ws i x) (sym e) (subst (λ (r : List ℕ). Word r i v) same w)
+use Rattle.sre_shape.specs.Repeated.{repeated}
+use Rattle.sre_shape.specs.Covers.{Covers, View, CoversItem, CoversTest}
+use Rattle.sre_shape.proofs.Composed.{covers-run, covers-loop, covers-possessive, covers-atomic, covers-fail}
+use Rattle.sre_shape.proofs.Composed.{covers-mark, covers-look, covers-reference, covers-one}
+use Rattle.sre_patterns.specs.Patterns.{CoversItemsAt, CoversItemAt, CoversTestAt, HasItem, HasItems, HasRun, HasAtomic}
+use Rattle.sre_patterns.specs.Patterns.{HasLoop}
 
 -- items whose end is known
 pub items-to : (ws : List ℕ) (i j e : ℕ) (t : Tree) → Reads ws i j t → j ≡ e → HasItems ws i e
@@ -134,10 +124,10 @@ module _ (V : View) (table : Table) (ws : List ℕ) (i : ℕ) where
       )
 
   -- where a test stands no other item does
-  pub one_item : (re : Re) (e : ℕ) (o : SreOpcode) → Opcode ws i o → HasTest ws i
+  pub one_item : (re : Re) (e : ℕ) → HasTest ws i
       → CoversTestAt V table ws i re → ((j : ℕ) (t : Test) → TestStands ws i j t → e ≡ j)
       → CoversItemAt V table ws i re e
-  one_item re e o there h c ends j x r =
+  one_item re e h c ends j x r =
       let f = is_one ws i j x (test_here ws i h.test h.stands.code) r in
       let stands : TestStands ws i j f.0 = record { code = f.2.0; operands = f.2.1 } in (
         ends j f.0 stands,

@@ -1,6 +1,5 @@
 -- Items one after the other: what is read so far, and what is left.
-use Rattle.std.proofs.Common.{◌≡◌, ℕ, ◌<◌, ◌≤◌, ◌⊎◌, List, [], length, refl, sym, subst, inl, inr}
-use Rattle.std.proofs.Common.{arith}
+use Rattle.std.proofs.Common.{◌≡◌, ℕ, ◌<◌, ◌≤◌, ◌⊎◌, List, [], length, refl, sym, subst, inl, inr, arith}
 use Rattle.regex_hir.specs.Re.{Re, empty, cat}
 use Rattle.sre_chars.specs.Tables.{Table}
 use Rattle.sre_chars.specs.declared.constants.SreOpcode.TheVariants as opcode
@@ -11,15 +10,16 @@ use Rattle.sre_model.proofs.Families.{no_item}
 use Rattle.sre_model.proofs.Places.{reads_within, operands_past}
 use Rattle.sre_shape.specs.Covers.{View, Covers}
 use Rattle.sre_shape.proofs.Composed.{covers-empty, covers-then, covers-wider}
-use Rattle.sre_patterns.specs.Patterns.{IsWider, cat_onto, CoversItemsAt, CoversItemAt, Stops}
+use Rattle.sre_patterns.specs.Patterns.{IsWider, cat_onto, HasItems, HasItem, CoversItemsAt, CoversItemAt, Stops}
 
--- a place is within what is read of a code
-pub there : (ws read : List ℕ) (q : ℕ) → read ≡ ws → q < length ws → q < length read
-there ws read q same l = subst (λ (r : List ℕ). q < length r) (sym same) l
+pub no-jump : (ws : List ℕ) (i v : ℕ) → Word ws i v → (v ≡ 15 → ⊥) → Opcode ws i opcode.JUMP → ⊥
+no-jump ws i v w other o = other (same_word ws i v 15 w o)
 
-pub no-jump : (ws read : List ℕ) (i v : ℕ) → read ≡ ws → Word read i v → (v ≡ 15 → ⊥) → Opcode ws i opcode.JUMP → ⊥
-no-jump ws read i v same w other o =
-    other (same_word ws i v 15 (subst (λ (r : List ℕ). Word r i v) same w) o)
+-- an item has words
+pub item-long : (V : View) (table : Table) (ws : List ℕ) (place behind : ℕ) (re : Re) → HasItem ws place
+    → CoversItemAt V table ws place re behind → place < behind
+item-long V table ws place behind re h c =
+    omega (arith, (c h.end h.item h.reads).0, operands_past h.item ws place h.end h.reads.1)
 
 module _ (V : View) (table : Table) (ws : List ℕ) (start end : ℕ) where
   -- the items from start on are those that the patterns cover, and then those from place on
@@ -62,6 +62,20 @@ module _ (V : View) (table : Table) (ws : List ℕ) (start end : ℕ) where
       go (inl e) = absurd (omega arith)
       go (inr o) = opcode_within ws place opcode.JUMP (opcode_moved ws j place opcode.JUMP (sym r) o)
   inside place j (Then x rest) r s before = opcode_within ws place _ r.1.0
+
+  -- what stands before the end, unless it is a JUMP, is an item
+  pub word-next : (place : ℕ) (parts : List Re) → HasItems ws start end → SoFar place parts → place < end
+      → place < length ws
+  word-next place parts h so before =
+      let left = so.each h.stop h.tree h.reads h.stops in
+      inside place h.stop left.rest left.reads h.stops before
+
+  pub item-next : (place v : ℕ) (parts : List Re) → HasItems ws start end → SoFar place parts → place < end
+      → Word ws place v → (v ≡ 15 → ⊥) → HasItem ws place
+  item-next place v parts h so before w other =
+      let left = so.each h.stop h.tree h.reads h.stops in
+      let n = next place h.stop left.rest left.reads h.stops before (no-jump ws place v w other) in
+      record { end = n.behind; item = n.item; reads = n.reads }
 
   -- one more item
   pub more : (place behind : ℕ) (parts after : List Re) (re : Re) → SoFar place parts → place < end

@@ -1,30 +1,26 @@
 -- Classes of what a test takes.
-use Rattle.std.proofs.Common.{◌≡◌, ℕ, ◌+◌, ◌≤◌, Bool, true, false, ◌||◌, List, [], ◌∷◌, ◌++◌}
-use Rattle.std.proofs.Common.{refl, sym, ap, ◌∙◌, ⊎_elim, arith, true≢false}
+use Rattle.std.proofs.Common.{◌≡◌, ℕ, ◌+◌, ◌≤◌, Bool, true, false, ◌||◌, List, [], ◌∷◌, ◌++◌, refl, sym, ap, ◌∙◌}
+use Rattle.std.proofs.Common.{⊎_elim, arith, true≢false, length, drop, get_or, suc, ◌<◌, subst}
 use Rattle.std.proofs.lemmas.Bool.{cases_lt}
 use Rattle.std.proofs.lemmas.Bool.Decides.{nat_tests}
 use Rattle.std.specs.Char.{IsScalar}
-use Rattle.regex_class.specs.Ranges.{in_range, in_ranges, HasExactly}
-use Rattle.regex_hir.specs.Re.{byte_in, char_in}
-use Rattle.sre_chars.specs.Tables.{Table}
-use Rattle.std.proofs.Common.{length, drop, get_or, suc, ◌<◌, subst}
 use Rattle.std.proofs.Math.Seq.{drop-cons}
 use Rattle.std.proofs.lemmas.Option.{get_or_from_slice_get, slice_get_within}
+use Rattle.regex_class.specs.Ranges.{in_range, in_ranges, HasExactly}
+use Rattle.regex_hir.specs.Re.{byte_in, char_in, Re, literal}
 use Rattle.regex_hir.proofs.TextLemmas.{has_bytes_at_from}
-use Rattle.regex_hir.specs.Re.{Re, literal}
+use Rattle.sre_chars.specs.Tables.{Table}
 use Rattle.sre_chars.specs.declared.constants.SreOpcode.TheVariants as opcode
 use Rattle.sre_model.specs.Grammar.{Word, Opcode, test_opcode, TestOperands}
 use Rattle.sre_model.specs.Standing.{HasTest, TestStands}
 use Rattle.sre_model.specs.Subject.{char_at}
-use Rattle.sre_model.proofs.Words.{same_word, same_opcode, word_within}
-use Rattle.sre_shape.specs.Covers.{View}
-use Rattle.sre_patterns.specs.Patterns.{CoversTestAt}
 use Rattle.sre_model.specs.Tree.{Test, Literal, Plain}
 use Rattle.sre_model.specs.Characters.{holds}
-use Rattle.sre_shape.specs.Covers.{CoversTest, InBytes, InUtf8}
+use Rattle.sre_model.proofs.Words.{same_word, same_opcode, word_within}
+use Rattle.sre_shape.specs.Covers.{View, CoversTest, InBytes, InUtf8}
 use Rattle.sre_shape.proofs.OverBytes.{bytes-take}
 use Rattle.sre_shape.proofs.OverUtf8.{utf8-take}
-use Rattle.sre_patterns.specs.Patterns.{HasBelow}
+use Rattle.sre_patterns.specs.Patterns.{CoversTestAt, HasBelow}
 
 pub scalar-most : (c : ℕ) → IsScalar c → c ≤ 1114111
 scalar-most c s = grind (arith, nat_tests)

@@ -9,15 +9,14 @@ use Rattle.sre_model.specs.Tree.{Tree, Item, Branch, Run, Atomic, Trees, Test, R
 use Rattle.sre_model.specs.Roles.{role, ToRepeat, ToRepeatPossessively, ToCheckGroup}
 use Rattle.sre_model.specs.Grammar.{Opcode, item_opcode, Reads, ReadsItem}
 use Rattle.sre_model.specs.Standing.{TestStands}
-use Rattle.sre_shape.specs.Covers.{View, InBytes, InUtf8, Covers, CoversItem, CoversTest}
-use Rattle.sre_shape.proofs.Fronts.{CoversStart}
-use Rattle.sre_patterns.specs.declared.kind.Kind as kind_type
-use Rattle.sre_patterns.specs.declared.kind.Kind.TheVariants as kind
+use Rattle.sre_shape.specs.Covers.{View, InBytes, InUtf8, Covers, CoversItem, CoversTest, CoversStart}
+use Rattle.sre_patterns.specs.declared.encoding.Encoding as encoding_type
+use Rattle.sre_patterns.specs.declared.encoding.Encoding.TheVariants as encoding
 
-abbrev pub view_of : kind_type.Kind → View
-view_of kind.Bytes = InBytes 256
-view_of kind.Ascii = InBytes 128
-view_of kind.Utf8 = InUtf8
+abbrev pub view_of : encoding_type.Encoding → View
+view_of encoding.Bytes = InBytes 256
+view_of encoding.Ascii = InBytes 128
+view_of encoding.Utf8 = InUtf8
 
 -- the second pattern leads wherever the first does
 abbrev pub IsWider : Re → Re → Type 0

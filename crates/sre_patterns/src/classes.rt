@@ -12,12 +12,12 @@ ghost use Rattle.sre_model.specs.Characters.{holds};
 ghost use Rattle.sre_chars.specs.Tables.{Table};
 ghost use Rattle.sre_patterns.specs.Patterns.{view_of, CoversTestAt, HasBelow};
 
-use crate::kind::Kind;
+use crate::encoding::Encoding;
+use crate::words::{operand, test_opcode};
 use regex_class::Class;
 use regex_hir::Hir;
 use sre_chars::constants::SreOpcode;
 use sre_code::Code;
-use sre_code::operands::operand;
 use sre_reading::one_character::{takes, test_end};
 use sre_request::Request;
 use std::alloc::{AllocError, Global};
@@ -26,33 +26,33 @@ use std::alloc::{AllocError, Global};
 pub(crate) fn pattern_of(
     alloc: Global,
     code: &Code<'_>,
-    kind: Kind,
+    encoding: Encoding,
     place: usize,
-    opcode: SreOpcode,
 ) -> Result<Hir, AllocError>
-    requires code { Opcode (items_of code.now) place opcode }
-    requires stands { HasTest (items_of code.now) place }
-    ensures { IfOk result (λ h. CoversTestAt (view_of kind) (uni_of code.now) (items_of code.now) place (meaning h)) }
+    requires { HasTest (items_of code.now) place }
+    ensures { IfOk result (λ h.
+        CoversTestAt (view_of encoding) (uni_of code.now) (items_of code.now) place (meaning h)) }
 {
+    let opcode = test_opcode(code, place);
     let SreOpcode::LITERAL = opcode else {
-        return class_of(alloc, code, kind, place, opcode);
+        return class_of(alloc, code, encoding, place, opcode);
     };
-    let value = operand(code.items(), place, 1);
-    match literal_of(alloc, kind, value)? {
+    let value = operand(code, place, 1);
+    match literal_of(alloc, encoding, value)? {
         Some(hir) => Ok(hir),
-        None => class_of(alloc, code, kind, place, opcode),
+        None => class_of(alloc, code, encoding, place, opcode),
     }
 }
 
 // The bytes of a literal; none where no byte or character has its number.
-fn literal_of(alloc: Global, kind: Kind, value: u32) -> Result<Option<Hir>, AllocError>
+fn literal_of(alloc: Global, encoding: Encoding, value: u32) -> Result<Option<Hir>, AllocError>
     ensures { IfOk result (λ o. (h : Hir) → o ≡ Some h → (table : Table)
-        → CoversTest (view_of kind) table (meaning h) (Literal Plain value)) }
+        → CoversTest (view_of encoding) table (meaning h) (Literal Plain value)) }
 {
-    match kind {
-        Kind::Bytes => Ok(literal_byte(alloc, value)?),
-        Kind::Ascii => Ok(literal_byte(alloc, value)?),
-        Kind::Utf8 => Ok(literal_character(alloc, value)?),
+    match encoding {
+        Encoding::Bytes => Ok(literal_byte(alloc, value)?),
+        Encoding::Ascii => Ok(literal_byte(alloc, value)?),
+        Encoding::Utf8 => Ok(literal_character(alloc, value)?),
     }
 }
 
@@ -85,18 +85,25 @@ fn literal_character(alloc: Global, value: u32) -> Result<Option<Hir>, AllocErro
 fn class_of(
     alloc: Global,
     code: &Code<'_>,
-    kind: Kind,
+    encoding: Encoding,
     place: usize,
     opcode: SreOpcode,
 ) -> Result<Hir, AllocError>
     requires code { Opcode (items_of code.now) place opcode }
     requires stands { HasTest (items_of code.now) place }
-    ensures { IfOk result (λ h. CoversTestAt (view_of kind) (uni_of code.now) (items_of code.now) place (meaning h)) }
+    ensures { IfOk result (λ h.
+        CoversTestAt (view_of encoding) (uni_of code.now) (items_of code.now) place (meaning h)) }
 {
-    match kind {
-        Kind::Bytes => Ok(Hir::Bytes(Class::new(taken_below(alloc, code, place, opcode, 256)?)?)),
-        Kind::Ascii => Ok(Hir::Bytes(Class::new(taken_below(alloc, code, place, opcode, 128)?)?)),
-        Kind::Utf8 => {
+    match encoding {
+        Encoding::Bytes => {
+            let ranges = taken_below(alloc, code, place, opcode, 256)?;
+            Ok(Hir::Bytes(Class::new(ranges)?))
+        }
+        Encoding::Ascii => {
+            let ranges = taken_below(alloc, code, place, opcode, 128)?;
+            Ok(Hir::Bytes(Class::new(ranges)?))
+        }
+        Encoding::Utf8 => {
             let mut ranges = taken_below(alloc, code, place, opcode, 128)?;
             ranges.push((128, 0x10_FFFF))?;
             Ok(Hir::Chars(Class::new(ranges)?))
@@ -128,22 +135,21 @@ fn taken_below(
 }
 
 /// Any character.
-pub(crate) fn anything(alloc: Global, kind: Kind) -> Result<Hir, AllocError>
-    ensures { IfOk result (λ h. (table : Table) → CoversTest (view_of kind) table (meaning h) AnyAll) }
+pub(crate) fn anything(alloc: Global, encoding: Encoding) -> Result<Hir, AllocError>
+    ensures { IfOk result (λ h. (table : Table) → CoversTest (view_of encoding) table (meaning h) AnyAll) }
 {
-    match kind {
-        Kind::Bytes => Ok(Hir::Bytes(Class::from_ranges(alloc, &[(0, 255)])?)),
-        Kind::Ascii => Ok(Hir::Bytes(Class::from_ranges(alloc, &[(0, 127)])?)),
-        Kind::Utf8 => Ok(Hir::Chars(Class::from_ranges(alloc, &[(0, 0x10_FFFF)])?)),
+    match encoding {
+        Encoding::Bytes => Ok(Hir::Bytes(Class::from_ranges(alloc, &[(0, 255)])?)),
+        Encoding::Ascii => Ok(Hir::Bytes(Class::from_ranges(alloc, &[(0, 127)])?)),
+        Encoding::Utf8 => Ok(Hir::Chars(Class::from_ranges(alloc, &[(0, 0x10_FFFF)])?)),
     }
 }
 
 /// Where the words of the test at a place end.
-pub(crate) fn end_of_test(code: &Code<'_>, place: usize, opcode: SreOpcode) -> usize
-    requires code { Opcode (items_of code.now) place opcode }
-    requires stands { HasTest (items_of code.now) place }
+pub(crate) fn end_of_test(code: &Code<'_>, place: usize) -> usize
+    requires { HasTest (items_of code.now) place }
     ensures { (j : ℕ) (t : Test) → TestStands (items_of code.now) place j t → result ≡ j }
 {
     let req = Request::new(b"".as_slice(), 0, 0, *code, false);
-    test_end(&req, place, opcode)
+    test_end(&req, place, test_opcode(code, place))
 }

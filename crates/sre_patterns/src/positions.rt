@@ -1,14 +1,14 @@
 //! Positions, as looks.
 
 ghost use Rattle.std.specs.Prelude.{◌≡◌};
-ghost use Rattle.sre_shape.proofs.Edges as edges;
+ghost use Rattle.sre_shape.specs.Looks as looks;
 
 use regex_hir::Look;
 use sre_chars::constants::SreAtCode;
 
 /// The look that holds wherever the position does; none where a table says what a word is.
 pub(crate) fn look_of(code: SreAtCode) -> Option<Look>
-    ensures { result ≡ edges.look_of code }
+    ensures { result ≡ looks.look_of code }
 {
     match code {
         SreAtCode::BEGINNING | SreAtCode::BEGINNING_STRING => Some(Look::Start),

@@ -1,32 +1,31 @@
 //! Items, and what stands in them.
 
-ghost use Rattle.std.specs.Prelude.{ℕ, ◌≡◌, ◌+◌, ◌<◌, IfOk, Some, length};
+ghost use Rattle.std.specs.Prelude.{◌≡◌, IfOk, Some};
 ghost use Rattle.regex_hir.specs.Meaning.{meaning};
+ghost use Rattle.regex_hir.specs.Re.{empty};
 ghost use Rattle.sre_model.specs.Tree.{Tree};
 ghost use Rattle.sre_model.specs.Grammar.{Opcode, WholeItems};
-ghost use Rattle.sre_model.specs.Grammar as grammar;
-ghost use Rattle.sre_code.specs.Codes.{items_of, uni_of};
-ghost use Rattle.sre_shape.specs.Covers.{Covers};
-ghost use Rattle.sre_shape.proofs.Fronts.{CoversStart};
 ghost use Rattle.sre_model.specs.Standing.{HasTest};
+ghost use Rattle.sre_code.specs.Codes.{items_of, uni_of};
+ghost use Rattle.sre_shape.specs.Covers.{Covers, CoversStart};
 ghost use Rattle.sre_patterns.specs.Patterns.{view_of, HasItems, HasItem, CoversItemsAt, CoversItemAt, CoversFrontAt};
 ghost use Rattle.sre_patterns.specs.Patterns.{HasRun, HasLoop, HasAtomic, HasCondition, HasBranch};
 
 use crate::classes::{anything, end_of_test, pattern_of};
+use crate::encoding::Encoding;
+use crate::fault::Fault;
 use crate::joining::{add, either, joined};
-use crate::kind::{Fault, Kind};
 use crate::positions::look_of;
-use crate::repeats::{any_number, repeated};
+use crate::repeats::{Order, any_number, is_greedy, repeated};
+use crate::words::{at_code, item_opcode, operand, skip, word};
 use regex_class::Class;
 use regex_hir::Hir;
-use sre_chars::constants::{SreAtCode, SreOpcode};
+use sre_chars::constants::SreOpcode;
 use sre_code::Code;
-use sre_code::operands::{operand, word};
 use std::alloc::{AllocError, Global};
-use std::convert::TryFrom;
 
-/// How deep parts may nest.
-const DEPTH: u32 = 64;
+/// How many items a part may lie in, itself among them.
+pub const DEPTH: u32 = 64;
 
 /// A part: its pattern, and where its words end.
 #[derive(Drop)]
@@ -35,27 +34,33 @@ pub(crate) struct Part {
     pub(crate) end: usize,
 }
 
-/// A pattern of bytes that has a match wherever the code has one; none where parts nest too deep.
-pub fn hir_of(alloc: Global, code: &Code<'_>, kind: Kind) -> Result<Option<Hir>, AllocError>
+/// A pattern that has a match wherever a tree of the words has a way, from the same place to the same, whatever is
+/// asked beside. An error means that memory was refused. `None` is for parts that lie in more than `DEPTH` items; no
+/// clause says when it comes.
+pub fn hir_of(alloc: Global, code: &Code<'_>, encoding: Encoding) -> Result<Option<Hir>, AllocError>
     ensures { IfOk result (λ o. (h : Hir) → o ≡ Some h → (t : Tree) → WholeItems (items_of code.now) t
-        → Covers (view_of kind) (uni_of code.now) (meaning h) t) }
+        → Covers (view_of encoding) (uni_of code.now) (meaning h) t) }
 {
-    let words = code.items();
-    match sequence(alloc, code, kind, false, 0, words.len() - 1, DEPTH) {
+    let end = code.items().len() - 1;
+    match sequence(alloc, code, encoding, Order::AsWritten, 0, end, DEPTH) {
         Ok(part) => Ok(Some(part.hir)),
         Err(Fault::TooDeep) => Ok(None),
         Err(Fault::Memory) => Err(AllocError),
     }
 }
 
-/// A pattern of bytes that has a match wherever a match of the code starts; none where parts nest too deep. It is lazy,
-/// and tells nothing of where the code's match ends: what stands behind the first reference is left out.
-pub fn starts_of(alloc: Global, code: &Code<'_>, kind: Kind) -> Result<Option<Hir>, AllocError>
+/// A pattern that has a match from wherever a tree of the words has a way. It tells nothing of where that ends: it is
+/// lazy, and what stands behind the first reference is left out. An error and `None` are those of `hir_of`.
+pub fn starts_of(
+    alloc: Global,
+    code: &Code<'_>,
+    encoding: Encoding,
+) -> Result<Option<Hir>, AllocError>
     ensures { IfOk result (λ o. (h : Hir) → o ≡ Some h → (t : Tree) → WholeItems (items_of code.now) t
-        → CoversStart (view_of kind) (uni_of code.now) (meaning h) t) }
+        → CoversStart (view_of encoding) (uni_of code.now) (meaning h) t) }
 {
-    let words = code.items();
-    match front(alloc, code, kind, words.len() - 1) {
+    let end = code.items().len() - 1;
+    match front(alloc, code, encoding, end) {
         Ok(hir) => Ok(Some(hir)),
         Err(Fault::TooDeep) => Ok(None),
         Err(Fault::Memory) => Err(AllocError),
@@ -63,22 +68,22 @@ pub fn starts_of(alloc: Global, code: &Code<'_>, kind: Kind) -> Result<Option<Hi
 }
 
 // The first items, up to an end or a reference before it.
-fn front(alloc: Global, code: &Code<'_>, kind: Kind, end: usize) -> Result<Hir, Fault>
+fn front(alloc: Global, code: &Code<'_>, encoding: Encoding, end: usize) -> Result<Hir, Fault>
     requires { HasItems (items_of code.now) 0 end }
-    ensures { IfOk result (λ h. CoversFrontAt (view_of kind) (uni_of code.now) (items_of code.now) 0 end (meaning h)) }
+    ensures { IfOk result (λ h.
+        CoversFrontAt (view_of encoding) (uni_of code.now) (items_of code.now) 0 end (meaning h)) }
 {
-    let words = code.items();
     let mut parts: Vec<Hir> = Vec::new(alloc);
     let mut place = 0;
     'each: while place < end {
-        let first = word(words, place);
+        let first = word(code, place);
         if first == SreOpcode::JUMP as u32 {
             break;
         }
         if is_reference(first) {
             break;
         }
-        let Part { hir, end: behind } = item(alloc, code, kind, true, place, DEPTH)?;
+        let Part { hir, end: behind } = item(alloc, code, encoding, Order::Lazy, place, DEPTH)?;
         place = behind;
         add(&mut parts, hir)?;
     }
@@ -98,24 +103,23 @@ fn is_reference(word: u32) -> bool {
 fn sequence(
     alloc: Global,
     code: &Code<'_>,
-    kind: Kind,
-    lazy: bool,
+    encoding: Encoding,
+    order: Order,
     start: usize,
     end: usize,
     depth: u32,
 ) -> Result<Part, Fault>
     requires { HasItems (items_of code.now) start end }
-    ensures { IfOk result (λ p. CoversItemsAt (view_of kind) (uni_of code.now) (items_of code.now) start end
+    ensures { IfOk result (λ p. CoversItemsAt (view_of encoding) (uni_of code.now) (items_of code.now) start end
         (meaning p.hir) p.end) }
 {
-    let words = code.items();
     let mut parts: Vec<Hir> = Vec::new(alloc);
     let mut place = start;
     'each: while place < end {
-        if word(words, place) == SreOpcode::JUMP as u32 {
+        if word(code, place) == SreOpcode::JUMP as u32 {
             break;
         }
-        let Part { hir, end: behind } = item(alloc, code, kind, lazy, place, depth)?;
+        let Part { hir, end: behind } = item(alloc, code, encoding, order, place, depth)?;
         place = behind;
         add(&mut parts, hir)?;
     }
@@ -130,230 +134,209 @@ fn sequence(
 fn item(
     alloc: Global,
     code: &Code<'_>,
-    kind: Kind,
-    lazy: bool,
+    encoding: Encoding,
+    order: Order,
     place: usize,
     depth: u32,
 ) -> Result<Part, Fault>
     requires { HasItem (items_of code.now) place }
-    ensures { IfOk result (λ p. CoversItemAt (view_of kind) (uni_of code.now) (items_of code.now) place
+    ensures { IfOk result (λ p. CoversItemAt (view_of encoding) (uni_of code.now) (items_of code.now) place
         (meaning p.hir) p.end) }
 {
     if depth == 0 {
         return Err(Fault::TooDeep);
     }
     let depth = depth - 1;
-    let Ok(opcode) = SreOpcode::try_from(word(code.items(), place)) else {
-        return Err(Fault::TooDeep);
-    };
+    let opcode = item_opcode(code, place);
     match opcode {
         SreOpcode::FAILURE => Ok(Part {
             hir: Hir::Bytes(Class::empty(alloc)),
             end: place + 1,
         }),
-        SreOpcode::MARK => Ok(Part {
-            hir: Hir::Empty,
-            end: place + 2,
-        }),
-        SreOpcode::AT => position(code, kind, place),
-        SreOpcode::BRANCH => branch(alloc, code, kind, lazy, place, depth),
+        SreOpcode::MARK => Ok(nothing(place + 2)),
+        SreOpcode::AT => Ok(position(code, place)),
+        SreOpcode::BRANCH => branch(alloc, code, encoding, order, place, depth),
         SreOpcode::REPEAT | SreOpcode::POSSESSIVE_REPEAT => {
-            counted(alloc, code, kind, lazy, place, depth)
+            counted(alloc, code, encoding, order, place, depth)
         }
         SreOpcode::REPEAT_ONE | SreOpcode::MIN_REPEAT_ONE | SreOpcode::POSSESSIVE_REPEAT_ONE => run(
-            alloc, code, kind, lazy, place, opcode,
+            alloc, code, encoding, order, place, opcode,
         ),
-        SreOpcode::ATOMIC_GROUP => atomic(alloc, code, kind, lazy, place, depth),
-        SreOpcode::ASSERT | SreOpcode::ASSERT_NOT => Ok(Part {
-            hir: Hir::Empty,
-            end: skip(code.items(), place, 1),
-        }),
+        SreOpcode::ATOMIC_GROUP => atomic(alloc, code, encoding, order, place, depth),
+        SreOpcode::ASSERT | SreOpcode::ASSERT_NOT => Ok(nothing(skip(code, place, 1))),
         SreOpcode::GROUPREF
         | SreOpcode::GROUPREF_IGNORE
         | SreOpcode::GROUPREF_LOC_IGNORE
         | SreOpcode::GROUPREF_UNI_IGNORE => Ok(Part {
-            hir: any_number(alloc, anything(alloc, kind)?)?,
+            hir: any_number(alloc, anything(alloc, encoding)?)?,
             end: place + 2,
         }),
-        SreOpcode::GROUPREF_EXISTS => condition(alloc, code, kind, lazy, place, depth),
-        _ => one(alloc, code, kind, place, opcode),
+        SreOpcode::GROUPREF_EXISTS => condition(alloc, code, encoding, order, place, depth),
+        _ => one(alloc, code, encoding, place),
     }
 }
 
-// Where a skip word some places on leads: it is counted from the word behind the opcode.
-fn skip(words: &[u32], place: usize, offset: usize) -> usize
-    requires { place + offset < length words.now }
-    ensures { result ≡ place + 1 + grammar.word words.now (place + offset) }
+// A part that takes no character and asks nothing.
+fn nothing(end: usize) -> Part
+    ensures hir { meaning result.hir ≡ empty }
+    ensures end { result.end ≡ end }
 {
-    let skip = operand(words, place, offset) as usize;
-    place + 1 + skip
+    Part {
+        hir: Hir::Empty,
+        end,
+    }
 }
 
-// A position at a place.
-fn position(code: &Code<'_>, kind: Kind, place: usize) -> Result<Part, Fault>
+// The position at a place.
+fn position(code: &Code<'_>, place: usize) -> Part
     requires opcode { Opcode (items_of code.now) place SreOpcode.AT }
     requires item { HasItem (items_of code.now) place }
-    ensures { IfOk result (λ p. CoversItemAt (view_of kind) (uni_of code.now) (items_of code.now) place
-        (meaning p.hir) p.end) }
+    ensures { (e : Encoding) → CoversItemAt (view_of e) (uni_of code.now) (items_of code.now) place (meaning result.hir)
+        result.end }
 {
-    let Ok(number) = SreAtCode::try_from(operand(code.items(), place, 1)) else {
-        return Err(Fault::TooDeep);
-    };
+    let number = at_code(code, place);
     let hir = match look_of(number) {
         Some(look) => Hir::Look(look),
         None => Hir::Empty,
     };
-    Ok(Part {
+    Part {
         hir,
         end: place + 2,
-    })
+    }
 }
 
-// A test of one character at a place.
-fn one(
-    alloc: Global,
-    code: &Code<'_>,
-    kind: Kind,
-    place: usize,
-    opcode: SreOpcode,
-) -> Result<Part, Fault>
-    requires opcode { Opcode (items_of code.now) place opcode }
-    requires test { HasTest (items_of code.now) place }
-    ensures { IfOk result (λ p. CoversItemAt (view_of kind) (uni_of code.now) (items_of code.now) place
+// The test of one character at a place.
+fn one(alloc: Global, code: &Code<'_>, encoding: Encoding, place: usize) -> Result<Part, Fault>
+    requires { HasTest (items_of code.now) place }
+    ensures { IfOk result (λ p. CoversItemAt (view_of encoding) (uni_of code.now) (items_of code.now) place
         (meaning p.hir) p.end) }
 {
-    let hir = pattern_of(alloc, code, kind, place, opcode)?;
+    let hir = pattern_of(alloc, code, encoding, place)?;
     Ok(Part {
         hir,
-        end: end_of_test(code, place, opcode),
+        end: end_of_test(code, place),
     })
 }
 
-// A run of a test at a place.
+// The run of a test at a place.
 fn run(
     alloc: Global,
     code: &Code<'_>,
-    kind: Kind,
-    lazy: bool,
+    encoding: Encoding,
+    order: Order,
     place: usize,
     opcode: SreOpcode,
 ) -> Result<Part, Fault>
-    requires opcode { Opcode (items_of code.now) place opcode }
-    requires run { HasRun (items_of code.now) place }
-    ensures { IfOk result (λ p. CoversItemAt (view_of kind) (uni_of code.now) (items_of code.now) place
+    requires { HasRun (items_of code.now) place }
+    ensures { IfOk result (λ p. CoversItemAt (view_of encoding) (uni_of code.now) (items_of code.now) place
         (meaning p.hir) p.end) }
 {
-    let words = code.items();
-    let end = skip(words, place, 1);
-    let Ok(tested) = SreOpcode::try_from(operand(words, place, 4)) else {
-        return Err(Fault::TooDeep);
-    };
-    let hir = pattern_of(alloc, code, kind, place + 4, tested)?;
-    let greedy = opcode != SreOpcode::MIN_REPEAT_ONE;
-    let low = operand(words, place, 2);
-    let high = operand(words, place, 3);
+    let end = skip(code, place, 1);
+    let hir = pattern_of(alloc, code, encoding, place + 4)?;
+    let greedy = is_greedy(order, opcode != SreOpcode::MIN_REPEAT_ONE);
+    let low = operand(code, place, 2);
+    let high = operand(code, place, 3);
     Ok(Part {
-        hir: repeated(alloc, low, high, greedy, lazy, hir)?,
+        hir: repeated(alloc, low, high, greedy, hir)?,
         end,
     })
 }
 
-// A loop at a place, possessive or not.
+// The loop at a place, possessive or not.
 #[cycle(items)]
 fn counted(
     alloc: Global,
     code: &Code<'_>,
-    kind: Kind,
-    lazy: bool,
+    encoding: Encoding,
+    order: Order,
     place: usize,
     depth: u32,
 ) -> Result<Part, Fault>
     requires { HasLoop (items_of code.now) place }
-    ensures { IfOk result (λ p. CoversItemAt (view_of kind) (uni_of code.now) (items_of code.now) place
+    ensures { IfOk result (λ p. CoversItemAt (view_of encoding) (uni_of code.now) (items_of code.now) place
         (meaning p.hir) p.end) }
 {
-    let words = code.items();
-    let until = skip(words, place, 1);
-    let body = sequence(alloc, code, kind, lazy, place + 4, until, depth)?;
-    let greedy = word(words, until) != SreOpcode::MIN_UNTIL as u32;
-    let low = operand(words, place, 2);
-    let high = operand(words, place, 3);
+    let until = skip(code, place, 1);
+    let body = sequence(alloc, code, encoding, order, place + 4, until, depth)?;
+    let greedy = is_greedy(order, word(code, until) != SreOpcode::MIN_UNTIL as u32);
+    let low = operand(code, place, 2);
+    let high = operand(code, place, 3);
     Ok(Part {
-        hir: repeated(alloc, low, high, greedy, lazy, body.hir)?,
+        hir: repeated(alloc, low, high, greedy, body.hir)?,
         end: until + 1,
     })
 }
 
-// A body at a place that is not entered again.
+// The atomic group at a place.
 #[cycle(items)]
 fn atomic(
     alloc: Global,
     code: &Code<'_>,
-    kind: Kind,
-    lazy: bool,
+    encoding: Encoding,
+    order: Order,
     place: usize,
     depth: u32,
 ) -> Result<Part, Fault>
     requires { HasAtomic (items_of code.now) place }
-    ensures { IfOk result (λ p. CoversItemAt (view_of kind) (uni_of code.now) (items_of code.now) place
+    ensures { IfOk result (λ p. CoversItemAt (view_of encoding) (uni_of code.now) (items_of code.now) place
         (meaning p.hir) p.end) }
 {
-    let end = skip(code.items(), place, 1);
-    let body = sequence(alloc, code, kind, lazy, place + 2, end - 1, depth)?;
+    let end = skip(code, place, 1);
+    let body = sequence(alloc, code, encoding, order, place + 2, end - 1, depth)?;
     Ok(Part { hir: body.hir, end })
 }
 
-// A condition at a place.
+// The condition at a place.
 #[cycle(items)]
 fn condition(
     alloc: Global,
     code: &Code<'_>,
-    kind: Kind,
-    lazy: bool,
+    encoding: Encoding,
+    order: Order,
     place: usize,
     depth: u32,
 ) -> Result<Part, Fault>
     requires { HasCondition (items_of code.now) place }
-    ensures { IfOk result (λ p. CoversItemAt (view_of kind) (uni_of code.now) (items_of code.now) place
+    ensures { IfOk result (λ p. CoversItemAt (view_of encoding) (uni_of code.now) (items_of code.now) place
         (meaning p.hir) p.end) }
 {
-    let words = code.items();
-    let behind = skip(words, place, 2);
-    let Part { hir, end: stop } = sequence(alloc, code, kind, lazy, place + 3, behind, depth)?;
+    let behind = skip(code, place, 2);
+    let Part { hir, end: stop } = sequence(alloc, code, encoding, order, place + 3, behind, depth)?;
     if stop == behind {
         return Ok(Part {
             hir: either(alloc, hir, Hir::Empty)?,
             end: behind,
         });
     }
-    let end = skip(words, stop, 1);
-    let absent = sequence(alloc, code, kind, lazy, behind, end, depth)?;
+    let end = skip(code, stop, 1);
+    let absent = sequence(alloc, code, encoding, order, behind, end, depth)?;
     Ok(Part {
         hir: either(alloc, hir, absent.hir)?,
         end,
     })
 }
 
-// A branch at a place.
+// The branch at a place.
 #[cycle(items)]
 fn branch(
     alloc: Global,
     code: &Code<'_>,
-    kind: Kind,
-    lazy: bool,
+    encoding: Encoding,
+    order: Order,
     place: usize,
     depth: u32,
 ) -> Result<Part, Fault>
     requires { HasBranch (items_of code.now) place }
-    ensures { IfOk result (λ p. CoversItemAt (view_of kind) (uni_of code.now) (items_of code.now) place
+    ensures { IfOk result (λ p. CoversItemAt (view_of encoding) (uni_of code.now) (items_of code.now) place
         (meaning p.hir) p.end) }
 {
     let words = code.items();
+    let _length = words.len(); // a slice has few items, so no place overflows
     let mut all: Vec<Hir> = Vec::new(alloc);
     let mut at = place + 1;
-    'alternative: while word(words, at) != 0 {
-        let behind = at + word(words, at) as usize;
-        let part = sequence(alloc, code, kind, lazy, at + 1, behind - 2, depth)?;
+    'alternative: while word(code, at) != 0 {
+        let behind = at + word(code, at) as usize;
+        let part = sequence(alloc, code, encoding, order, at + 1, behind - 2, depth)?;
         all.push(part.hir)?;
         at = behind;
     }

@@ -1,6 +1,6 @@
 -- Positions between characters, seen as places between bytes: where a position's condition holds an assertion does.
 use Rattle.std.proofs.Common.{◌≡◌, ℕ, zero, suc, ◌+◌, ◌-◌, ◌<◌, ◌≤◌, Bool, true, false, cond, not, ◌&&◌, ◌||◌, ◌==◌}
-use Rattle.std.proofs.Common.{nat_eq, nat_lt, List, length, Option, Some, None, is_some, slice_get, refl, sym, ap, ap₂}
+use Rattle.std.proofs.Common.{nat_eq, nat_lt, List, length, Some, is_some, slice_get, refl, sym, ap, ap₂}
 use Rattle.std.proofs.Common.{◌∙◌, subst, arith}
 use Rattle.std.proofs.lemmas.Bool.{and_parts}
 use Rattle.std.proofs.lemmas.Bool.Decides.{nat_tests}
@@ -23,22 +23,8 @@ use Rattle.sre_model.specs.Tree.{At}
 use Rattle.sre_model.specs.Subject.{Subject, char_at, before, after, holds_at, is_boundary, is_on_nothing}
 use Rattle.sre_model.specs.Subject.{bars_non_boundary}
 use Rattle.sre_shape.specs.Covers.{View, CoversItem, InBytes}
+use Rattle.sre_shape.specs.Looks.{look_of}
 use Rattle.sre_shape.proofs.Matched.{at-matched}
-
--- the assertion that a position's condition is at most
-abbrev pub look_of : SreAtCode → Option Look
-look_of BEGINNING = Some Start
-look_of BEGINNING_LINE = Some StartLf
-look_of BEGINNING_STRING = Some Start
-look_of BOUNDARY = Some WordAscii
-look_of NON_BOUNDARY = Some WordAsciiNegate
-look_of END = Some EndLf
-look_of END_LINE = Some EndLf
-look_of END_STRING = Some End
-look_of LOC_BOUNDARY = Some WordAscii
-look_of LOC_NON_BOUNDARY = Some WordAsciiNegate
-look_of UNI_BOUNDARY = None
-look_of UNI_NON_BOUNDARY = None
 
 same_word : (c : ℕ) → is_word_byte c ≡ is_word c
 same_word c = grind (arith, nat_tests)

@@ -1,19 +1,18 @@
 -- Where a pattern is exact it tries the ways of its tree in their order, so its first match is their first.
 use Rattle.std.proofs.Common.{◌≡◌, ℕ, zero, suc, ◌+◌, ◌-◌, ◌<◌, ◌≤◌, Bool, true, false, cond, ◌&&◌, ◌||◌, not, nat_lt}
-use Rattle.std.proofs.Common.{nat_eq}
-use Rattle.std.proofs.Common.{List, [], ◌∷◌, ◌++◌, length, Option, Some, None, refl, sym, ap, ap₂, ◌∙◌, arith}
+use Rattle.std.proofs.Common.{nat_eq, List, [], ◌∷◌, ◌++◌, length, Option, Some, None, refl, sym, ap, ap₂, ◌∙◌, arith}
 use Rattle.std.proofs.Common.{slice_get, true≢false}
 use Rattle.std.specs.List.{flat_map, AllByRecursion}
 use Rattle.std.specs.Option.{option_or}
 use Rattle.std.proofs.lemmas.Bool.{cond-true}
 use Rattle.std.proofs.lemmas.Bool.Decides.{nat_tests}
+use Rattle.std.proofs.lemmas.Option.{slice_get_past}
+use Rattle.regex_class.specs.Ranges.{in_ranges}
 use Rattle.regex_hir.specs.Re.{Re, empty, cat, alt, plus, Trace, Rest, accept, prefer, more_rounds, attempt, byte_in}
 use Rattle.regex_hir.specs.Text.{is_some_and}
-use Rattle.regex_class.specs.Ranges.{in_ranges}
-use Rattle.std.proofs.lemmas.Option.{slice_get_past}
-use Rattle.sre_model.specs.Characters.{holds}
 use Rattle.regex_hir.specs.Meaning.{optional, copies, up_to, at_least, repeat}
 use Rattle.regex_hir.proofs.AttemptLemmas.{more_rounds_unfold}
+use Rattle.sre_model.specs.Characters.{holds}
 use Rattle.sre_model.specs.Tree.{Tree, Empty, Then, Item, Mark, Trees, Or, Order, Greedy, Lazy, One, Test}
 use Rattle.sre_model.specs.Marks.{Marks}
 use Rattle.sre_model.specs.Subject.{Subject, char_at}
@@ -23,7 +22,8 @@ use Rattle.sre_model.specs.Loops.{loop_from}
 use Rattle.sre_model.proofs.Each.{each-both}
 use Rattle.sre_model.proofs.Bounds.{Between, Bounded, item-bounded}
 use Rattle.sre_model.proofs.LoopCases.{loop-below-all, loop-beyond-all, loop-ways}
-use Rattle.sre_shape.specs.Shape.{is_greedy}
+use Rattle.sre_shape.specs.Exact as exact
+use Rattle.sre_shape.specs.Repeated.{is_greedy}
 
 or-none : {A : Type 0} (a : Option A) → option_or a None ≡ a
 or-none None = refl
@@ -34,14 +34,11 @@ or-assoc None b c = refl
 or-assoc (Some x) b c = refl
 
 module _ (s : Subject) (hay : List ℕ) (off : ℕ → ℕ) where
-  -- what follows, tried from the end of each of some ways in turn
-  abbrev pub tried : Rest → List Way → Option Trace
-  tried k [] = None
-  tried k (w ∷ ws) = option_or (k (off w.stop)) (tried k ws)
+  abbrev tried : Rest → List Way → Option Trace
+  tried = exact.tried off
 
-  -- the pattern tries the ways of a body in their order
-  abbrev pub Exact : Re → Body → Type 0
-  Exact re body = (k : Rest) (p : ℕ) (m : Marks) → p ≤ s.end → attempt hay re k (off p) ≡ tried k (body p m)
+  abbrev Exact : Re → Body → Type 0
+  Exact = exact.Exact s hay off
 
   tried-append : (k : Rest) (xs ys : List Way) → tried k (xs ++ ys) ≡ option_or (tried k xs) (tried k ys)
   tried-append k [] ys = refl

@@ -1,15 +1,13 @@
 -- Ways that go along a relation: those of loops, runs, regions and looks.
-use Rattle.std.proofs.Common.{◌≡◌, ℕ, zero, suc, ◌+◌, ◌-◌, ◌<◌, ◌≤◌, max, Bool, true, false, cond, ◌&&◌}
-use Rattle.std.proofs.Common.{nat_lt, nat_le, List, [], ◌∷◌, map, Option, Some, None, refl, arith}
+use Rattle.std.proofs.Common.{◌≡◌, ℕ, zero, suc, ◌+◌, ◌-◌, ◌<◌, ◌≤◌, max, Bool, true, false, cond, ◌&&◌, nat_lt, nat_le}
+use Rattle.std.proofs.Common.{List, [], ◌∷◌, map, Option, Some, None, refl, arith}
 use Rattle.std.specs.List.{flat_map, AllByRecursion}
 use Rattle.std.proofs.lemmas.Bool.Decides.{nat_tests}
-use Rattle.sre_model.specs.Tree.{Order, Greedy, Lazy, Sign}
-use Rattle.sre_model.specs.Tree.{Positive, Negative}
+use Rattle.sre_model.specs.Tree.{Order, Greedy, Lazy, Sign, Positive, Negative}
 use Rattle.sre_model.specs.Marks.{Marks}
 use Rattle.sre_model.specs.Subject.{Subject}
-use Rattle.sre_model.specs.Ways.{Way, Body, first, here, unlimited}
-use Rattle.sre_model.specs.Ways.{within, ordered, may_repeat, more, least, possessive_more, look_ways}
-use Rattle.sre_model.specs.Ways.{loop_ways, possessive_ways}
+use Rattle.sre_model.specs.Ways.{Way, Body, first, here, unlimited, within, ordered, may_repeat, more, least}
+use Rattle.sre_model.specs.Ways.{possessive_more, look_ways, loop_ways, possessive_ways}
 use Rattle.sre_model.proofs.Each.{each-append, each-flat_map, each-weaken, each-first, each-filtered, each-cond}
 use Rattle.sre_shape.specs.Covers.{Along}
 use Rattle.sre_shape.proofs.Times.{Times, times-append}

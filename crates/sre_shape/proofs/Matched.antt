@@ -1,23 +1,22 @@
 -- Wherever a tree has a way its pattern has a match.
-use Rattle.std.proofs.Common.{◌≡◌, ℕ, zero, suc, ◌+◌, ◌<◌, ◌≤◌, Bool, true, nat_lt}
-use Rattle.std.proofs.Common.{List, [], None, refl, ap, inl, inr, arith}
+use Rattle.std.proofs.Common.{◌≡◌, ℕ, zero, suc, ◌+◌, ◌<◌, ◌≤◌, Bool, true, nat_lt, List, [], None, refl, ap, inl, inr}
+use Rattle.std.proofs.Common.{arith}
 use Rattle.std.proofs.lemmas.Bool.{and_parts}
 use Rattle.std.proofs.lemmas.Option.{none-some}
 use Rattle.regex_hir.specs.Re.{Re, empty, cat, alt}
 use Rattle.regex_hir.specs.Meaning.{repeat}
 use Rattle.regex_hir.specs.Matches.{Matches}
-use Rattle.sre_model.specs.Tree.{Tree, Empty, Then, Item, Fail, One, At, Mark, Loop, Run, PossessiveLoop}
-use Rattle.sre_model.specs.Tree.{Atomic, Look, Reference, ExistsElse, Trees, Or, Test, AnyAll, Order}
-use Rattle.sre_model.specs.Tree.{RunKind, Sign, Fold}
+use Rattle.sre_model.specs.Tree.{Tree, Empty, Then, Item, Fail, One, At, Mark, Loop, Run, PossessiveLoop, Atomic, Look}
+use Rattle.sre_model.specs.Tree.{Reference, ExistsElse, Trees, Or, Test, AnyAll, Order, RunKind, Sign, Fold}
 use Rattle.sre_model.specs.Marks.{group}
 use Rattle.sre_model.specs.Characters.{holds}
 use Rattle.sre_model.specs.Subject.{Subject, passes, holds_at, char_at}
-use Rattle.sre_model.specs.Ways.{Body, here, unlimited, run_ways, loop_ways, possessive_ways}
-use Rattle.sre_model.specs.Ways.{reference_ways, ways, item_ways, branch_ways}
+use Rattle.sre_model.specs.Ways.{Body, here, unlimited, run_ways, loop_ways, possessive_ways, reference_ways, ways}
+use Rattle.sre_model.specs.Ways.{item_ways, branch_ways}
 use Rattle.sre_model.proofs.Each.{each-append, each-cond}
 use Rattle.sre_model.proofs.Bounds.{passes-below}
 use Rattle.sre_shape.specs.Covers.{Leads, Along, TakesAll}
-use Rattle.sre_shape.specs.Shape.{repeated}
+use Rattle.sre_shape.specs.Repeated.{repeated}
 use Rattle.sre_shape.proofs.Times.{Times, repeat-times, repeated-times}
 use Rattle.sre_shape.proofs.Journeys.{Leg, Counted, on-along, weaken-along, first-along, here-along, loop-along}
 use Rattle.sre_shape.proofs.Journeys.{possessive-along, look-along, present-along}

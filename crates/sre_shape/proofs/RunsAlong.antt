@@ -7,8 +7,8 @@ use Rattle.std.proofs.lemmas.Bool.Decides.{nat_tests}
 use Rattle.sre_model.specs.Tree.{Test, RunKind, GreedyRun, LazyRun, PossessiveRun, Fold}
 use Rattle.sre_model.specs.Marks.{group}
 use Rattle.sre_model.specs.Subject.{Subject, passes, same_folded}
-use Rattle.sre_model.specs.Ways.{here, unlimited, run_length, most_from, longest_run, rising, falling}
-use Rattle.sre_model.specs.Ways.{counts, run_ways, reference_ways}
+use Rattle.sre_model.specs.Ways.{here, unlimited, run_length, most_from, longest_run, rising, falling, counts, run_ways}
+use Rattle.sre_model.specs.Ways.{reference_ways}
 use Rattle.sre_model.proofs.Each.{each-weaken, each-map, each-cond}
 use Rattle.sre_model.proofs.Bounds.{longest_run-fits}
 use Rattle.sre_shape.specs.Covers.{Along}

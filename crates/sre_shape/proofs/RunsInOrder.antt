@@ -1,8 +1,7 @@
 -- A run is a loop over one character.
 use Rattle.std.proofs.Common.{◌≡◌, ℕ, zero, suc, ◌+◌, ◌-◌, ◌<◌, ◌≤◌, Bool, true, false, cond, ◌&&◌, ◌||◌, nat_lt}
-use Rattle.std.proofs.Common.{nat_eq}
-use Rattle.std.proofs.Common.{List, [], ◌∷◌, ◌++◌, map, Option, Some, None, refl, sym, ap, ap₂, ◌∙◌, arith, true≢false}
-use Rattle.std.proofs.Common.{min, not}
+use Rattle.std.proofs.Common.{nat_eq, List, [], ◌∷◌, ◌++◌, map, Option, Some, None, refl, sym, ap, ap₂, ◌∙◌, arith}
+use Rattle.std.proofs.Common.{true≢false, min, not}
 use Rattle.std.specs.List.{flat_map}
 use Rattle.std.proofs.lemmas.List.{append-nil}
 use Rattle.std.proofs.lemmas.Bool.Decides.{nat_tests}
@@ -10,8 +9,7 @@ use Rattle.sre_model.specs.Tree.{Test, Order, Greedy, Lazy, RunKind, GreedyRun, 
 use Rattle.sre_model.specs.Marks.{Marks}
 use Rattle.sre_model.specs.Subject.{Subject, passes}
 use Rattle.sre_model.specs.Ways.{Way, Body, here, unlimited, run_length, most_from, longest_run, rising, falling}
-use Rattle.sre_model.specs.Ways.{counts}
-use Rattle.sre_model.specs.Ways.{ordered, may_repeat, run_ways, loop_ways, item_ways}
+use Rattle.sre_model.specs.Ways.{counts, ordered, may_repeat, run_ways, loop_ways, item_ways}
 use Rattle.sre_model.specs.Loops.{loop_from}
 use Rattle.sre_model.proofs.Bounds.{Bounded, item-bounded, passes-below}
 use Rattle.sre_model.proofs.LoopCases.{loop-below-all, loop-beyond-all, loop-ways}

@@ -7,7 +7,7 @@ use Rattle.regex_hir.specs.Re.{Re, cat, plus}
 use Rattle.regex_hir.specs.Meaning.{optional, copies, up_to, at_least, repeat}
 use Rattle.regex_hir.specs.Matches.{Rounds, one_round, next_round, Matches}
 use Rattle.sre_model.specs.Ways.{unlimited}
-use Rattle.sre_shape.specs.Shape.{repeated}
+use Rattle.sre_shape.specs.Repeated.{repeated}
 
 -- n rounds of R lead from i to j
 abbrev pub Times : (ℕ → ℕ → Type 0) → ℕ → ℕ → ℕ → Type 0

@@ -1,5 +1,5 @@
 -- When a pattern of bytes has a match wherever a tree has a way.
-use Rattle.std.specs.Prelude.{ℕ, ◌≡◌, ◌+◌, ◌≤◌, ◌<◌, true, List, length, take, Some, slice_get}
+use Rattle.std.specs.Prelude.{ℕ, ◌≡◌, ◌+◌, ◌≤◌, ◌<◌, true, List, [], length, take, Some, slice_get}
 use Rattle.std.specs.List.{AllByRecursion}
 use Rattle.std.specs.Char.{len_utf8}
 use Rattle.regex_hir.specs.Re.{Re}
@@ -60,6 +60,16 @@ pub record CoversBranch (V : View) (table : Table) (re : Re) (ts : Trees) : Type
 
 pub record CoversTest (V : View) (table : Table) (re : Re) (t : Test) : Type 0 where
   pub takes : (s : Subject) (hay : List ℕ) (off : ℕ → ℕ) → V s hay off → s.table ≡ table → TakesAll s hay off re t
+
+-- from a position without a match of the pattern a body has no way
+abbrev pub Fronts : Subject → List ℕ → (ℕ → ℕ) → Re → Body → Type 0
+Fronts s hay off re body =
+    (p : ℕ) (m : Marks) → p ≤ s.end → ((j : ℕ) → ¬ (Matches hay re (off p) j)) → body p m ≡ []
+
+-- on each text that is seen so no way of the tree begins where the pattern has no match
+pub record CoversStart (V : View) (table : Table) (re : Re) (t : Tree) : Type 0 where
+  pub covers : (s : Subject) (hay : List ℕ) (off : ℕ → ℕ) → V s hay off → s.table ≡ table
+      → Fronts s hay off re (ways s t)
 
 -- a position of a text of bytes is a byte's place
 abbrev pub place : ℕ → ℕ

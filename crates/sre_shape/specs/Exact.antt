@@ -1,41 +1,46 @@
--- Trees whose pattern tries their ways in order.
-use Rattle.std.specs.Prelude.{ℕ, ◌≡◌, ◌≤◌, ◌⊎◌}
-use Rattle.sre_model.specs.Tree.{Tree, Empty, Then, Item, Fail, One, At, Mark, Branch, Loop, Run, PossessiveLoop}
-use Rattle.sre_model.specs.Tree.{Atomic, Look, Reference, Exists, ExistsElse, Trees, Only, Or, RunKind, GreedyRun}
-use Rattle.sre_model.specs.Tree.{LazyRun, PossessiveRun}
-use Rattle.sre_model.specs.Ways.{unlimited}
-use Rattle.sre_model.specs.Width.{width}
+-- When a pattern of bytes tries the ways of a tree in their order.
+use Rattle.std.specs.Prelude.{ℕ, ◌≡◌, ◌<◌, ◌≤◌, ◌⊎◌, List, [], ◌∷◌, Option, None}
+use Rattle.std.specs.Option.{option_or}
+use Rattle.regex_hir.specs.Re.{Re, Rest, Trace, attempt}
+use Rattle.sre_chars.specs.Tables.{Table}
+use Rattle.sre_model.specs.Tree.{Tree, Item, One, Trees, Test}
+use Rattle.sre_model.specs.Marks.{Marks}
+use Rattle.sre_model.specs.Subject.{Subject}
+use Rattle.sre_model.specs.Ways.{Way, Body, unlimited, ways, item_ways, branch_ways}
+use Rattle.sre_shape.specs.Covers.{View}
+
+-- what follows, tried from the end of each of some ways in turn
+abbrev pub tried : (ℕ → ℕ) → Rest → List Way → Option Trace
+tried off k [] = None
+tried off k (w ∷ ws) = option_or (k (off w.stop)) (tried off k ws)
+
+-- whatever follows, the pattern goes on to it from the end of each way of a body in turn, and from nowhere else
+abbrev pub Exact : Subject → List ℕ → (ℕ → ℕ) → Re → Body → Type 0
+Exact s hay off re body =
+    (k : Rest) (p : ℕ) (m : Marks) → p ≤ s.end → attempt hay re k (off p) ≡ tried off k (body p m)
+
+-- on each text that is seen so
+pub record ExactTree (V : View) (table : Table) (re : Re) (t : Tree) : Type 0 where
+  pub tries : (s : Subject) (hay : List ℕ) (off : ℕ → ℕ) → V s hay off → s.table ≡ table
+      → Exact s hay off re (ways s t)
+
+pub record ExactItem (V : View) (table : Table) (re : Re) (item : Item) : Type 0 where
+  pub tries : (s : Subject) (hay : List ℕ) (off : ℕ → ℕ) → V s hay off → s.table ≡ table
+      → Exact s hay off re (item_ways s item)
+
+pub record ExactBranch (V : View) (table : Table) (re : Re) (ts : Trees) : Type 0 where
+  pub tries : (s : Subject) (hay : List ℕ) (off : ℕ → ℕ) → V s hay off → s.table ≡ table
+      → Exact s hay off re (branch_ways s ts)
+
+pub record ExactTest (V : View) (table : Table) (re : Re) (t : Test) : Type 0 where
+  pub tries : (s : Subject) (hay : List ℕ) (off : ℕ → ℕ) → V s hay off → s.table ≡ table
+      → Exact s hay off re (item_ways s (One t))
+
+-- a later position stands at a later byte
+abbrev pub Rises : View → Type 0
+Rises V =
+    (s : Subject) (hay : List ℕ) (off : ℕ → ℕ) → V s hay off → (p q : ℕ) → p < q → q ≤ s.end → off p < off q
 
 -- counts in order that are all kept, the greatest one unless there is no limit
 abbrev pub AreKept : ℕ → ℕ → ℕ → Type 0
 AreKept kept low high = (low ≤ high) × (low ≤ kept) × ((high ≤ kept) ⊎ (high ≡ unlimited))
-
-abbrev pub GivesBack : RunKind → Type 0
-GivesBack GreedyRun = Unit {0}
-GivesBack LazyRun = Unit {0}
-GivesBack PossessiveRun = ⊥
-
--- no positions, regions, looks, references and conditions, and each loop's body reads a character
-abbrev mutual
-  pub InOrder : ℕ → Tree → Type 0
-  InOrder kept Empty = Unit {0}
-  InOrder kept (Then item rest) = ItemInOrder kept item × InOrder kept rest
-
-  pub ItemInOrder : ℕ → Item → Type 0
-  ItemInOrder kept Fail = Unit {0}
-  ItemInOrder kept (One t) = Unit {0}
-  ItemInOrder kept (At a) = ⊥
-  ItemInOrder kept (Mark n) = Unit {0}
-  ItemInOrder kept (Branch ts) = BranchInOrder kept ts
-  ItemInOrder kept (Loop o low high body) = AreKept kept low high × (1 ≤ width body) × InOrder kept body
-  ItemInOrder kept (Run kind low high t) = AreKept kept low high × GivesBack kind
-  ItemInOrder kept (PossessiveLoop low high body) = ⊥
-  ItemInOrder kept (Atomic body) = ⊥
-  ItemInOrder kept (Look sign back body) = ⊥
-  ItemInOrder kept (Reference f g) = ⊥
-  ItemInOrder kept (Exists g there) = ⊥
-  ItemInOrder kept (ExistsElse g there absent) = ⊥
-
-  pub BranchInOrder : ℕ → Trees → Type 0
-  BranchInOrder kept (Only t) = InOrder kept t
-  BranchInOrder kept (Or t ts) = InOrder kept t × BranchInOrder kept ts

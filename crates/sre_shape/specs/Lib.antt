@@ -1,3 +1,4 @@
 pub mod Covers
-pub mod Shape
+pub mod Repeated
 pub mod Exact
+pub mod Looks

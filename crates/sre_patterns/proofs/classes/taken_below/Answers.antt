@@ -1,7 +1,7 @@
 use Rattle.std.proofs.Common.{◌∙◌, ◌≡◌, sym, subst, false}
-use Rattle.sre_code.specs.Codes.{uni_of, items_of}
 use Rattle.sre_model.specs.Characters.{holds}
 use Rattle.sre_model.specs.Standing.{TestStands}
+use Rattle.sre_code.specs.Codes.{uni_of, items_of}
 use Rattle.sre_patterns.proofs.Tests.{one-more, none-more}
 use Rattle.sre_patterns.proofs.classes.taken_below.Goals.{then-takes+in_ok-push, else-takes}
 use Rattle.sre_patterns.proofs.classes.taken_below.Goals as goal

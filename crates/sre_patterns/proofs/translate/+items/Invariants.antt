@@ -27,14 +27,14 @@ decreases-condition l = l.depth * 3 + 2
 
 abbrev pub invariant-sequence-each : goal.invariant-sequence-each
 invariant-sequence-each l =
-    SoFar (view_of l.kind) (uni_of l.code) (items_of l.code) l.start l.end l.place (map meaning l.parts.items)
+    SoFar (view_of l.encoding) (uni_of l.code) (items_of l.code) l.start l.end l.place (map meaning l.parts.items)
 
 abbrev pub decreases-sequence-each : goal.decreases-sequence-each
 decreases-sequence-each l = l.end - l.place
 
 abbrev pub decreases-branch-alternative : goal.decreases-branch-alternative
-decreases-branch-alternative l = length l.words - l.at
+decreases-branch-alternative l = length (items_of l.code) - l.at
 
 abbrev pub invariant-branch-alternative : goal.invariant-branch-alternative
 invariant-branch-alternative l =
-    BranchSoFar (view_of l.kind) (uni_of l.code) (items_of l.code) (l.place + 1) l.at (map meaning l.all.items)
+    BranchSoFar (view_of l.encoding) (uni_of l.code) (items_of l.code) (l.place + 1) l.at (map meaning l.all.items)

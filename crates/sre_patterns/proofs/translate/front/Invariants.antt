@@ -7,7 +7,7 @@ use Rattle.sre_patterns.proofs.translate.front.Given as goal
 
 abbrev pub invariant-each : goal.invariant-each
 invariant-each l =
-    FrontSoFar (view_of l.kind) (uni_of l.code) (items_of l.code) 0 l.end l.place (map meaning l.parts.items)
+    FrontSoFar (view_of l.encoding) (uni_of l.code) (items_of l.code) 0 l.end l.place (map meaning l.parts.items)
 
 abbrev pub decreases-each : goal.decreases-each
 decreases-each l = l.end - l.place

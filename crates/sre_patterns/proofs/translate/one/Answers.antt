@@ -1,11 +1,10 @@
+use Rattle.regex_hir.specs.Meaning.{meaning}
 use Rattle.sre_code.specs.Codes.{items_of, uni_of}
 use Rattle.sre_patterns.specs.Patterns.{view_of}
-use Rattle.regex_hir.specs.Meaning.{meaning}
 use Rattle.sre_patterns.proofs.Items.{one_item}
 use Rattle.sre_patterns.proofs.translate.one.Goals as goal
 
 pub returns : goal.returns
 returns c =
-    one_item (view_of c.args.kind) (uni_of c.args.code.now) (items_of c.args.code.now) c.args.place
-    (meaning c.in_ok-hir.hir)
-    c.end_of_test.result c.args.opcode c.requires.opcode c.requires.test c.in_ok-hir.ensures c.end_of_test.ensures
+    one_item (view_of c.args.encoding) (uni_of c.args.code.now) (items_of c.args.code.now) c.args.place
+    (meaning c.in_ok-hir.hir) c.end_of_test.result c.requires c.in_ok-hir.ensures c.end_of_test.ensures

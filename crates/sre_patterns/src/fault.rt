@@ -1,18 +1,11 @@
 use std::alloc::{AllocError, AllocFailed};
 
-/// How the text is seen as bytes: bytes as they are, text that is ASCII, text in UTF-8.
-#[derive(Clone, Copy, PartialEq, Eq, Debug)]
-pub enum Kind {
-    Bytes,
-    Ascii,
-    Utf8,
-}
-
 /// Why there is no pattern.
 #[derive(Clone, Copy, Debug)]
 pub(crate) enum Fault {
     /// Parts nest too deep.
     TooDeep,
+    /// A request for memory was refused.
     Memory,
 }
 

@@ -1,0 +1,77 @@
+//! The words of a code, read where a tree says what stands there.
+
+ghost use Rattle.std.specs.Prelude.{◌≡◌, ◌+◌, ◌<◌, ◌^◌, length};
+ghost use Rattle.sre_chars.specs.Numbers.{at_number};
+ghost use Rattle.sre_model.specs.Grammar.{Word, Opcode};
+ghost use Rattle.sre_model.specs.Grammar as grammar;
+ghost use Rattle.sre_model.specs.Standing.{HasTest};
+ghost use Rattle.sre_code.specs.Codes.{items_of};
+ghost use Rattle.sre_patterns.specs.Patterns.{HasItem};
+
+use sre_chars::constants::{SreAtCode, SreOpcode};
+use sre_code::{Code, operands};
+use sre_reading::one_character::opcode;
+use sre_request::Request;
+use std::convert::TryFrom;
+
+/// The word at a place.
+pub(crate) fn word(code: &Code<'_>, place: usize) -> u32
+    requires { place < length (items_of code.now) }
+    ensures word { Word (items_of code.now) place result }
+    ensures room { place + 2 ^ 33 < 2 ^ 64 }
+{
+    operands::word(code.items(), place)
+}
+
+/// The word some places on.
+pub(crate) fn operand(code: &Code<'_>, place: usize, offset: usize) -> u32
+    requires { place + offset < length (items_of code.now) }
+    ensures word { Word (items_of code.now) (place + offset) result }
+    ensures room { place + 2 ^ 33 < 2 ^ 64 }
+{
+    operands::operand(code.items(), place, offset)
+}
+
+/// Where a skip word some places on leads, which stands behind the opcode and other operands: it is counted from the
+/// word behind the opcode.
+pub(crate) fn skip(code: &Code<'_>, place: usize, offset: usize) -> usize
+    requires { place + offset < length (items_of code.now) }
+    ensures to { result ≡ place + 1 + grammar.word (items_of code.now) (place + offset) }
+    ensures room { place + 2 ^ 33 < 2 ^ 64 }
+{
+    let skip = operand(code, place, offset) as usize;
+    place + 1 + skip
+}
+
+/// The opcode of the item at a place.
+pub(crate) fn item_opcode(code: &Code<'_>, place: usize) -> SreOpcode
+    requires { HasItem (items_of code.now) place }
+    ensures word { Opcode (items_of code.now) place result }
+    ensures room { place + 2 ^ 33 < 2 ^ 64 }
+{
+    match SreOpcode::try_from(word(code, place)) {
+        Ok(opcode) => opcode,
+        Err(_) => unreachable!(),
+    }
+}
+
+/// The opcode of the test at a place.
+pub(crate) fn test_opcode(code: &Code<'_>, place: usize) -> SreOpcode
+    requires { HasTest (items_of code.now) place }
+    ensures { Opcode (items_of code.now) place result }
+{
+    opcode(&Request::new(b"".as_slice(), 0, 0, *code, false), place)
+}
+
+/// The code of the position at a place.
+pub(crate) fn at_code(code: &Code<'_>, place: usize) -> SreAtCode
+    requires opcode { Opcode (items_of code.now) place SreOpcode.AT }
+    requires item { HasItem (items_of code.now) place }
+    ensures word { Word (items_of code.now) (place + 1) (at_number result) }
+    ensures room { place + 2 ^ 33 < 2 ^ 64 }
+{
+    match SreAtCode::try_from(operand(code, place, 1)) {
+        Ok(code) => code,
+        Err(_) => unreachable!(),
+    }
+}

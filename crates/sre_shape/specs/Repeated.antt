@@ -1,0 +1,17 @@
+-- Repetitions, whose counts are kept as far as they are small.
+use Rattle.std.specs.Prelude.{ℕ, min, Bool, true, false, ◌||◌, cond, Option, Some, None, nat_lt}
+use Rattle.regex_hir.specs.Re.{Re}
+use Rattle.regex_hir.specs.Meaning.{repeat}
+use Rattle.sre_model.specs.Tree.{Order, Greedy, Lazy}
+
+-- the greatest count of a repetition, unless it or the least one is more than is kept
+abbrev pub most_kept : ℕ → ℕ → ℕ → Option ℕ
+most_kept kept low high = cond (nat_lt kept low || nat_lt kept high) None (Some high)
+
+-- a pattern as often as the counts say, as far as these are kept
+abbrev pub repeated : ℕ → ℕ → ℕ → Bool → Re → Re
+repeated kept low high greedy a = repeat (min low kept) (most_kept kept low high) greedy a
+
+abbrev pub is_greedy : Order → Bool
+is_greedy Greedy = true
+is_greedy Lazy = false

@@ -1,0 +1,200 @@
+//! Patterns that come of codes in use. A clause says that they cover the code; these rows show that they are tight.
+
+use regex_class::Class;
+use regex_hir::{Hir, Look};
+use sre_chars::string::UniTable;
+use sre_code::Code;
+use sre_patterns::{Encoding, hir_of, starts_of};
+use std::alloc::{AllocError, Global};
+
+// Writes a class as its ranges.
+fn write_class(alloc: Global, class: &Class, text: &mut String) -> Result<(), AllocError> {
+    text.push('[')?;
+    for (low, high) in &class.ranges {
+        let range = format!(in alloc; "{low}-{high};")?;
+        text.push_str(range.as_str())?;
+    }
+    text.push(']')
+}
+
+// The assertion's name.
+fn named(look: Look) -> &'static str {
+    match look {
+        Look::Start => "start",
+        Look::End => "end",
+        Look::StartLf => "line start",
+        Look::EndLf => "line end",
+        Look::WordAscii => "boundary",
+        Look::WordAsciiNegate => "no boundary",
+        _ => "another",
+    }
+}
+
+// Writes a pattern: literals in quotes, classes by their numbers, and each pattern of parts in parentheses.
+#[cycle(written)]
+fn write_pattern(alloc: Global, hir: &Hir, text: &mut String) -> Result<(), AllocError> {
+    match hir {
+        Hir::Empty => text.push_str("empty"),
+        Hir::Literal(bytes) => {
+            for byte in bytes {
+                text.push(*byte as char)?;
+            }
+            Ok(())
+        }
+        Hir::Bytes(class) => write_class(alloc, class, text),
+        Hir::Chars(class) => write_class(alloc, class, text),
+        Hir::Look(look) => text.push_str(named(*look)),
+        Hir::Repetition {
+            min,
+            max,
+            greedy,
+            sub,
+        } => {
+            write_pattern(alloc, sub, text)?;
+            let most = match max {
+                Some(max) => format!(in alloc; "{max}")?,
+                None => String::new(alloc),
+            };
+            let lazy = if *greedy { "" } else { "?" };
+            let counts = format!(in alloc; "{{{min},{most}}}{lazy}")?;
+            text.push_str(counts.as_str())
+        }
+        Hir::Capture { index: _, sub } => write_pattern(alloc, sub, text),
+        Hir::Concat(parts) => write_parts(alloc, parts, ' ', text),
+        Hir::Alternation(parts) => write_parts(alloc, parts, '|', text),
+    }
+}
+
+#[cycle(written)]
+fn write_parts(
+    alloc: Global,
+    parts: &[Hir],
+    between: char,
+    text: &mut String,
+) -> Result<(), AllocError> {
+    text.push('(')?;
+    for i in 0..parts.len() {
+        write_pattern(alloc, &parts[i], text)?;
+        text.push(between)?;
+    }
+    text.push(')')
+}
+
+// Whether a pattern is written so.
+fn is_written(alloc: Global, hir: Result<Option<Hir>, AllocError>, wanted: &str) -> bool {
+    let mut text = String::new(alloc);
+    match hir {
+        Ok(Some(hir)) => write_pattern(alloc, &hir, &mut text).is_ok() && text.as_str() == wanted,
+        _ => false,
+    }
+}
+
+// Whether the pattern of some words over a kind of text is the one, and that for starts the other.
+fn are(alloc: Global, words: &[u32], encoding: Encoding, whole: &str, starts: &str) -> bool {
+    let uni = UniTable::ascii(alloc);
+    match Code::check(alloc, words, &uni) {
+        Ok(code) => {
+            is_written(alloc, hir_of(alloc, &code, encoding), whole)
+                && is_written(alloc, starts_of(alloc, &code, encoding), starts)
+        }
+        Err(_) => false,
+    }
+}
+
+#[test]
+fn patterns_of_literals_are_tight(rt: HostRuntime) {
+    let alloc = rt.alloc();
+    // (?:a|bc)*d
+    let words = [
+        23, 17, 0, 4294967295, 7, 5, 16, 97, 15, 9, 7, 16, 98, 16, 99, 15, 2, 0, 18, 16, 100, 1,
+    ];
+    assert!(rt;
+        are(
+            alloc,
+            &words,
+            Encoding::Bytes,
+            "((a|bc|){0,} d )",
+            "((a|bc|){0,}? d )"
+        )
+    );
+    // (a)\1b
+    let words = [17, 0, 16, 97, 17, 1, 11, 0, 16, 98, 1];
+    assert!(rt; are(alloc, &words, Encoding::Bytes, "(a [0-255;]{0,} b )", "a"));
+    // a{2000}
+    let words = [24, 6, 2000, 2000, 16, 97, 1, 1];
+    assert!(rt; are(alloc, &words, Encoding::Bytes, "a{1000,}", "a{1000,}?"));
+    // (a)?(?(1)b|c)
+    let words = [
+        23, 9, 0, 1, 17, 0, 16, 97, 17, 1, 18, 12, 0, 6, 16, 98, 15, 3, 16, 99, 1,
+    ];
+    assert!(rt;
+        are(
+            alloc,
+            &words,
+            Encoding::Bytes,
+            "(a{0,1} (b|c|) )",
+            "(a{0,1}? (b|c|) )"
+        )
+    );
+    // (?>ab|c)+?
+    let words = [
+        23, 20, 1, 4294967295, 27, 16, 7, 7, 16, 97, 16, 98, 15, 7, 5, 16, 99, 15, 2, 0, 1, 19, 1,
+    ];
+    assert!(rt;
+        are(
+            alloc,
+            &words,
+            Encoding::Bytes,
+            "(ab|c|){1,}?",
+            "(ab|c|){1,}?"
+        )
+    );
+}
+
+#[test]
+fn patterns_of_classes_and_positions_are_tight(rt: HostRuntime) {
+    let alloc = rt.alloc();
+    // [a-c]+x
+    let words = [24, 10, 1, 4294967295, 13, 5, 22, 97, 99, 0, 1, 16, 120, 1];
+    assert!(rt;
+        are(
+            alloc,
+            &words,
+            Encoding::Ascii,
+            "([97-99;]{1,} x )",
+            "([97-99;]{1,}? x )"
+        )
+    );
+    assert!(rt;
+        are(
+            alloc,
+            &words,
+            Encoding::Utf8,
+            "([97-99;128-1114111;]{1,} x )",
+            "([97-99;128-1114111;]{1,}? x )"
+        )
+    );
+    // \bfoo(?=x)$, whose boundary is by the table's words
+    let words = [
+        6, 10, 16, 102, 16, 111, 16, 111, 4, 5, 0, 16, 120, 1, 6, 5, 1,
+    ];
+    assert!(rt;
+        are(
+            alloc,
+            &words,
+            Encoding::Bytes,
+            "(foo line end )",
+            "(foo line end )"
+        )
+    );
+    // (?i)a
+    assert!(rt;
+        are(
+            alloc,
+            &[40, 97, 1],
+            Encoding::Bytes,
+            "[65-65;97-97;]",
+            "[65-65;97-97;]"
+        )
+    );
+}
