@@ -1,13 +1,13 @@
 -- How bytes and UTF-8 are seen, and in which order positions stand there.
-use Rattle.std.proofs.Common.{◌≡◌, ◌≤◌, ◌<◌, ◌+◌, ◌-◌, ℕ, List, length, take, drop, count_by, refl, sym, ap, ◌∙◌, subst}
+use Rattle.std.proofs.Common.{◌≡◌, ◌≤◌, ◌<◌, ◌+◌, ◌-◌, ℕ, List, length, take, refl, sym, ap, ◌∙◌, subst}
 use Rattle.std.proofs.Common.{arith, inl, inr, Fits, w8, get_or}
 use Rattle.std.proofs.lemmas.Bool.{cases_lt}
 use Rattle.std.proofs.lemmas.List.{length-take-le}
 use Rattle.std.specs.Str.{chars, IsUtf8}
-use Rattle.sre_chars.specs.Texts.{offset_of, begun, begins_char}
+use Rattle.sre_chars.specs.Texts.{offset_of, begun}
 use Rattle.sre_chars.proofs.Beginnings.{place_in, begun_block}
-use Rattle.sre_model.specs.Subject.{Subject, char_at}
-use Rattle.sre_patterns.specs.declared.kind.Kind.TheVariants.{Bytes, Utf8}
+use Rattle.sre_model.specs.Subject.{char_at}
+use Rattle.sre_patterns.specs.declared.encoding.Encoding.TheVariants.{Bytes, Utf8}
 use Rattle.sre_shape.specs.Covers.{InBytes, InUtf8, read_utf8}
 use Rattle.sre_shape.proofs.OverBytes.{bytes-seen}
 use Rattle.sre_shape.proofs.OverUtf8.{utf8-seen}

@@ -3,10 +3,10 @@
 use Rattle.std.specs.Prelude.{ℕ, ◌≡◌, ◌≤◌, List, length}
 use Rattle.sre_model.specs.Subject.{Subject}
 use Rattle.sre_patterns.specs.Patterns.{view_of}
-use Rattle.sre_patterns.specs.declared.kind.Kind.{Kind}
+use Rattle.sre_patterns.specs.declared.encoding.Encoding.{Encoding}
 
 -- the bytes up to a position of a text, where `place` tells at which byte a position stands
-pub record SeenAs (kind : Kind) (text : List ℕ) (place : ℕ → ℕ) (end : ℕ) (hay : List ℕ) : Type 0 where
-  pub seen : (s : Subject) → s.text ≡ text → s.end ≡ end → view_of kind s hay place
+pub record SeenAs (encoding : Encoding) (text : List ℕ) (place : ℕ → ℕ) (end : ℕ) (hay : List ℕ) : Type 0 where
+  pub seen : (s : Subject) → s.text ≡ text → s.end ≡ end → view_of encoding s hay place
   pub order : (p q : ℕ) → p ≤ q → q ≤ end → place p ≤ place q
   pub whole : place end ≡ length hay

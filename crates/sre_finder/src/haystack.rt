@@ -3,23 +3,23 @@
 ghost use Rattle.std.specs.Prelude.{◌≡◌, ◌≤◌, ◌<◌, ℕ, length};
 ghost use Rattle.std.specs.Str.{chars};
 ghost use Rattle.sre_chars.specs.Texts.{StandsInText, offset_of};
-ghost use Rattle.sre_patterns.specs.declared.kind.Kind as kind;
-ghost use Rattle.sre_patterns.specs.declared.kind.Kind.TheVariants.{Bytes, Utf8};
+ghost use Rattle.sre_patterns.specs.declared.encoding.Encoding as encoding;
+ghost use Rattle.sre_patterns.specs.declared.encoding.Encoding.TheVariants.{Bytes, Utf8};
 ghost use Rattle.sre_finder.specs.Views.{SeenAs};
 
 use sre_chars::string::{StrDrive, StringCursor, cursor_at};
-use sre_patterns::Kind;
+use sre_patterns::Encoding;
 
 /// A text whose bytes automata can read.
 pub trait Haystack: StrDrive {
     // How its characters are seen as bytes.
-    ghost seen_as: { Self → kind.Kind };
+    ghost seen_as: { Self → encoding.Encoding };
 
     // The byte at which a position stands.
     ghost place: { Self → ℕ → ℕ };
 
     /// How its characters are seen as bytes.
-    fn kind(&self) -> Kind
+    fn encoding(&self) -> Encoding
         ensures { result ≡ seen_as self.now };
 
     /// The bytes up to a cursor.
@@ -90,8 +90,8 @@ impl<'a> Haystack for &'a [u8] {
     ghost place = { λ _ p. p };
 
     #[inline(always)]
-    fn kind(&self) -> Kind {
-        Kind::Bytes
+    fn encoding(&self) -> Encoding {
+        Encoding::Bytes
     }
 
     #[inline(always)]
@@ -116,8 +116,8 @@ impl<'a> Haystack for &'a str {
     ghost place = { λ s p. offset_of s.now p };
 
     #[inline(always)]
-    fn kind(&self) -> Kind {
-        Kind::Utf8
+    fn encoding(&self) -> Encoding {
+        Encoding::Utf8
     }
 
     #[inline(always)]

@@ -1,4 +1,4 @@
-use Rattle.std.proofs.Common.{◌≡◌, ◌≤◌, ◌<◌, ◌∙◌, refl, sym, ap, subst, arith}
+use Rattle.std.proofs.Common.{arith}
 use Rattle.sre_finder.proofs.Places.{offset_order, offset_less, offset_inside}
 use Rattle.sre_finder.proofs.haystack.text_cursor.Goals as goal
 

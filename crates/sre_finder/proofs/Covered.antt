@@ -1,0 +1,62 @@
+-- What automata that cover a code tell of its matches.
+use Rattle.std.proofs.Common.{◌≡◌, ◌≤◌, ◌<◌, ◌+◌, ℕ, List, [], length, Option, Some, None, refl, ap, sym, subst, arith}
+use Rattle.std.specs.Option.{IfSome}
+use Rattle.regex_hir.specs.Re.{Re}
+use Rattle.regex_hir.specs.Matches.{Matches}
+use Rattle.regex_nfa.specs.declared.nfa.Nfa.{Nfa}
+use Rattle.regex_compile.specs.Implements.{HasPaths}
+use Rattle.sre_model.specs.Tree.{Tree}
+use Rattle.sre_model.specs.Grammar.{WholeItems}
+use Rattle.sre_model.specs.Marks.{no_marks}
+use Rattle.sre_model.specs.Ways.{ways}
+use Rattle.sre_model.specs.Found.{Asked, subject_of, at_start, first_accepted}
+use Rattle.sre_code.specs.Codes.{items_of, uni_of}
+use Rattle.sre_code.specs.declared.code.Code.{Code}
+use Rattle.sre_shape.specs.Covers.{CoversStart}
+use Rattle.sre_patterns.specs.Patterns.{view_of}
+use Rattle.sre_patterns.specs.declared.encoding.Encoding.{Encoding}
+use Rattle.sre_automata.specs.Told.{NoneLeft, NoneUpTo}
+use Rattle.sre_engine.specs.Starts.{NoneBetween}
+use Rattle.sre_finder.specs.Views.{SeenAs}
+use Rattle.sre_finder.specs.Finders.{Covering, CoveringAny}
+
+-- automata of a pattern that covers each start of a code
+pub covered : (encoding : Encoding) (code : Code) (o : Option Nfa) (re : Re) → IfSome o (λ nfa. HasPaths nfa re)
+    → ((t : Tree) → WholeItems (items_of code) t → CoversStart (view_of encoding) (uni_of code) re t)
+    → CoveringAny encoding code o
+covered encoding code None re paths covers = tt
+covered encoding code (Some nfa) re paths covers = record { pattern = re; paths = paths; covers = covers }
+
+module _ (encoding : Encoding) (a : Asked) (t : Tree) (re : Re) (place : ℕ → ℕ) (hay : List ℕ)
+    (covers : CoversStart (view_of encoding) a.table re t) (seen : SeenAs encoding a.text place a.end hay) where
+  -- where no match of the pattern begins, none of the code does
+  none_at : (s : ℕ) → s ≤ a.end → ((j : ℕ) → Matches hay re (place s) j → ⊥) → at_start a t s ≡ None
+  none_at s inside none =
+      let no_way : ways (subject_of a) t s no_marks ≡ [] =
+      covers.covers (subject_of a) hay place (seen.seen (subject_of a) refl refl) refl s no_marks inside none in
+      ap (first_accepted a s) no_way
+
+  within : (s : ℕ) → s ≤ a.end → place s ≤ length hay
+  within s inside = omega (arith, seen.order s a.end inside (omega arith), seen.whole)
+
+  -- where no match of the pattern is left, none of the code is
+  pub none_left : (p : ℕ) → NoneLeft hay re (place p) → NoneBetween a t p (a.end + 1)
+  none_left p none = λ s from to.
+      let inside : s ≤ a.end = omega (arith, to) in
+      none_at s inside (λ j match. none.none (place s) j (seen.order p s from inside) (within s inside) match)
+
+  -- where none begins below a place, none of the code does before the positions that stand there
+  pub none_below : (p next offset : ℕ) → NoneUpTo hay re (place p) offset → next ≤ a.end
+      → ((q : ℕ) → p ≤ q → q < next → place q < offset) → NoneBetween a t p next
+  none_below p next offset none inside passed = λ s from to.
+      let here : s ≤ a.end = omega (arith, to, inside) in
+      none_at s here (λ j match. none.none (place s) j (seen.order p s from here) (passed s from to) match)
+
+-- what covers a code covers it under another name
+pub covers_same : (encoding other : Encoding) (code own : Code) (nfa : Nfa) (c : Covering encoding code nfa)
+    → encoding ≡ other → code ≡ own → (t : Tree) → WholeItems (items_of own) t
+    → CoversStart (view_of other) (uni_of own) c.pattern t
+covers_same encoding other code own nfa c e f t whole =
+    subst (λ k. CoversStart (view_of k) (uni_of own) c.pattern t) e
+    (subst (λ d. CoversStart (view_of encoding) (uni_of d) c.pattern t) f
+    (c.covers t (subst (λ d. WholeItems (items_of d) t) (sym f) whole)))

@@ -1,0 +1,36 @@
+-- What a finder knows of its code.
+-- Words of this crate's contracts.
+use Rattle.std.specs.Prelude.{⊤, ℕ, Option, Some, None}
+use Rattle.regex_hir.specs.Re.{Re}
+use Rattle.regex_nfa.specs.declared.nfa.Nfa.{Nfa}
+use Rattle.regex_compile.specs.Implements.{HasPaths}
+use Rattle.sre_chars.specs.declared.string.StringCursor.{StringCursor}
+use Rattle.sre_model.specs.Tree.{Tree}
+use Rattle.sre_model.specs.Grammar.{WholeItems}
+use Rattle.sre_code.specs.Codes.{items_of, uni_of}
+use Rattle.sre_code.specs.declared.code.Code.{Code}
+use Rattle.sre_shape.specs.Covers.{CoversStart}
+use Rattle.sre_patterns.specs.Patterns.{view_of}
+use Rattle.sre_patterns.specs.declared.encoding.Encoding.{Encoding}
+
+-- automata have a path for each match of some pattern, which covers each start of a code's tree
+pub record Covering (encoding : Encoding) (code : Code) (nfa : Nfa) : Type 0 where
+  pub pattern : Re
+  pub paths : HasPaths nfa pattern
+  pub covers : (t : Tree) → WholeItems (items_of code) t → CoversStart (view_of encoding) (uni_of code) pattern t
+
+-- the same of automata that there may be
+abbrev pub CoveringAny : Encoding → Code → Option Nfa → Type 0
+CoveringAny encoding code None = ⊤
+CoveringAny encoding code (Some nfa) = Covering encoding code nfa
+
+-- the code, how the texts are seen as bytes, and the end of the window that was last asked about
+pub record Finding : Type 0 where
+  pub code : Code
+  pub encoding : Encoding
+  pub end : Option StringCursor
+
+-- the window's end that is known stands in a text
+abbrev pub EndStands : (StringCursor → ℕ → Type 0) → Option StringCursor → Type 0
+EndStands stands None = ⊤
+EndStands stands (Some end) = stands end end.position

@@ -1,0 +1,202 @@
+//! A finder: what tells the searches of a code where the next match can begin.
+
+ghost use Rattle.std.specs.Prelude.{◌≡◌, ◌≤◌, ◌+◌, map, IfOk, OnErr, true, false, None};
+ghost use Rattle.std.specs.Vec.{vec_len};
+ghost use Rattle.sre_growth.specs.Refusal.{Refused};
+ghost use Rattle.sre_model.specs.Tree.{Tree};
+ghost use Rattle.sre_model.specs.Grammar.{Whole};
+ghost use Rattle.sre_model.specs.Anchors.{is_anchored};
+ghost use Rattle.sre_model.specs.Marks.{no_marks};
+ghost use Rattle.sre_model.specs.Found.{found, walk};
+ghost use Rattle.sre_model.specs.WalkBounds.{most_matches, AreInOrder};
+ghost use Rattle.sre_code.specs.Codes.{words_of, hints_of};
+ghost use Rattle.sre_request.specs.Requests.{string_of, start_of, end_of, code_of, asked_of, stands_in};
+ghost use Rattle.sre_engine.specs.Answers.{Answers, AnswersAlike, Spans};
+ghost use Rattle.sre_engine.specs.Counts.{CountsUpTo};
+ghost use Rattle.sre_engine.specs.Listed.{match_of};
+ghost use Rattle.sre_request.specs.Runs.{Standing};
+ghost use Rattle.sre_finder.specs.Finders.{EndStands, CoveringAny};
+
+use crate::haystack::Haystack;
+use crate::pace::Pace;
+use sre_automata::{Automata, Told};
+use sre_chars::string::{StrDrive, StringCursor};
+use sre_code::Code;
+use sre_engine::engine::{Found, SreError, Starts, State, all_matches_by};
+use sre_patterns::{Encoding, starts_of};
+use sre_request::Request;
+use std::alloc::{Allocator, Global};
+use std::marker::Model;
+
+/// How many bytes the tables of automata take at most.
+const SIZE_LIMIT: usize = 1 << 16;
+
+/// The automata of a code, where they are worth what they take.
+#[derive(Drop)]
+pub struct Finder<'c> {
+    code: Code<'c>,
+    encoding: Encoding,
+    automata: Option<Automata>,
+    end: Option<StringCursor>,
+    pace: Pace,
+}
+
+impl<'c> Model for Finder<'c> {
+    ghost use Rattle.sre_finder.specs.Finders.{Finding, CoveringAny};
+
+    ghost Value = { Finding };
+
+    ghost view = { λ f. record { code = f.code; encoding = f.encoding; end = f.end } };
+
+    ghost invariant = { λ f. CoveringAny f.encoding f.code f.automata };
+}
+
+impl<'c> Finder<'c> {
+    /// The finder of a code, for texts that are seen so as bytes.
+    ///
+    /// It never fails: where automata would not pay, as under a confirmed prefix or where a match may be empty, where
+    /// their tables would be too large, or where memory was refused, it has none and tells nothing.
+    pub fn new(alloc: Global, code: Code<'c>, encoding: Encoding) -> Finder<'c>
+        ensures code { result.code ≡ code.entry }
+        ensures encoding { result.encoding ≡ encoding }
+        ensures end { result.end ≡ None }
+    {
+        Finder {
+            code,
+            encoding,
+            automata: automata_of(alloc, code, encoding),
+            end: None,
+            pace: Pace::new(),
+        }
+    }
+
+    /// Whether it has automata.
+    pub fn has_automata(&self) -> bool {
+        self.automata.is_some()
+    }
+
+    /// Forgets the text of before.
+    pub fn reset(&mut self)
+        ensures code { self.new.code ≡ self.old.code }
+        ensures encoding { self.new.encoding ≡ self.old.encoding }
+        ensures end { self.new.end ≡ None }
+    {
+        self.end = None;
+    }
+}
+
+// The automata of a pattern that covers the starts of a code, where they are worth what they take.
+fn automata_of(alloc: Global, code: Code<'_>, encoding: Encoding) -> Option<Automata>
+    ensures { CoveringAny encoding code.entry result }
+{
+    if code.hints().prefix.is_some() {
+        return None; // the search along its places is as fast
+    }
+    let Ok(Some(hir)) = starts_of(alloc, &code, encoding) else {
+        return None;
+    };
+    if hir.min_len() == 0 {
+        return None; // it may begin anywhere
+    }
+    Automata::new(alloc, &hir, SIZE_LIMIT)
+}
+
+impl<'c> Finder<'c> {
+    // The end of a request's window, which is found once for a text.
+    #[inline(always)]
+    fn end_in<S: StrDrive>(&mut self, req: &Request<'_, S>) -> StringCursor
+        requires { EndStands (S.stands (string_of req.now)) self.old.end }
+        ensures end { result.position ≡ end_of req.now }
+        ensures stands { Standing req.now result }
+        ensures code { self.new.code ≡ self.old.code }
+        ensures encoding { self.new.encoding ≡ self.old.encoding }
+        ensures known { EndStands (S.stands (string_of req.now)) self.new.end }
+    {
+        if let Some(end) = self.end {
+            if end.position() == req.end() {
+                return end;
+            }
+        }
+        let end = req.string().create_cursor(req.end());
+        self.end = Some(end);
+        end
+    }
+}
+
+impl<'c, S: Haystack> Starts<S> for Finder<'c> {
+    ghost suits = { λ f string code. (f.code ≡ code) × EndStands (S.stands string) f.end };
+
+    fn beyond(&mut self, req: &Request<'_, S>, from: StringCursor) -> Option<StringCursor> {
+        let text = req.string();
+        if text.encoding() != self.encoding || !self.pace.asks() {
+            return Some(from);
+        }
+        let end = self.end_in(req);
+        let Some(automata) = &mut self.automata else {
+            return Some(from);
+        };
+        match automata.next_from(text.hay(end), text.place_of(from)) {
+            Told::Nothing => None,
+            Told::From(offset) => Some(text.cursor_up_to(from, offset, end)),
+        }
+    }
+
+    #[inline(always)]
+    fn note_failed(&mut self) {
+        self.pace.note_failed();
+    }
+}
+
+impl<'c> Finder<'c> {
+    /// Searches the window as `State::search` does, with the same answer; the starts of which the automata tell that
+    /// they have no match are passed.
+    pub fn search<S: Haystack, A: Allocator + Copy>(
+        &mut self,
+        req: Request<'_, S>,
+        state: &mut State<A>,
+    ) -> Result<bool, SreError>
+        requires { self.old.code ≡ code_of req }
+        ensures ok { (t : Tree) → Whole (words_of (code_of req.entry)) t
+            → IfOk result (λ b. Answers (stands_in req.entry) (found (asked_of req.entry) t) b state.new) }
+        ensures alike { (t : Tree) → Whole (words_of (code_of req.entry)) t
+            → IfOk result (λ b. AnswersAlike (λ asked. found asked t) (asked_of req.entry) b state.new) }
+        ensures span { IfOk result (λ b. b ≡ true
+            → (start_of req.entry ≤ state.new.start) × Spans state.new.start (end_of req.entry) state.new) }
+        ensures no { IfOk result (λ b. b ≡ false → state.new.marks ≡ no_marks) }
+        ensures err { OnErr result (state.new.marks ≡ no_marks) }
+        ensures refused { OnErr result Refused }
+        ensures counts { CountsUpTo (asked_of req.entry) (code_of req.entry) (end_of req.entry + 1)
+            (end_of req.entry) state.new }
+        ensures up_to_match { IfOk result (λ b. b ≡ true → CountsUpTo (asked_of req.entry) (code_of req.entry)
+            (state.new.start + 1) state.new.cursor.position state.new) }
+        ensures anchored { (t : Tree) → Whole (words_of (code_of req.entry)) t
+            → is_anchored t ≡ true → state.new.started ≤ 1 }
+        ensures once { state.new.restarted ≡ 0 }
+        ensures literal { (hints_of (code_of req.entry)).literal ≡ true → OnErr result ⊥ }
+        ensures code { self.new.code ≡ self.old.code }
+    {
+        self.reset();
+        self.pace.ask_first();
+        state.search_by(req, self)
+    }
+
+    /// All matches of a window as `all_matches` gives them; the starts of which the automata tell that they have no
+    /// match are passed.
+    pub fn all_matches<S: Haystack, A: Allocator + Copy>(
+        &mut self,
+        req: Request<'_, S>,
+        state: &mut State<A>,
+    ) -> Result<Vec<Found<A>, A>, SreError>
+        requires { self.old.code ≡ code_of req }
+        ensures ok { (t : Tree) → Whole (words_of (code_of req.entry)) t
+            → IfOk result (λ all. map match_of all.items ≡ walk (asked_of req.entry) t) }
+        ensures bound { IfOk result (λ all. vec_len all ≤ most_matches (asked_of req.entry)) }
+        ensures order { IfOk result (λ all. AreInOrder (start_of req.entry) (map match_of all.items)) }
+        ensures after { state.new.marks ≡ no_marks }
+        ensures refused { OnErr result Refused }
+        ensures code { self.new.code ≡ self.old.code }
+    {
+        self.reset();
+        all_matches_by(req, state, self)
+    }
+}
