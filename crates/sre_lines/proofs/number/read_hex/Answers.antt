@@ -1,8 +1,18 @@
 -- A pair that is refused is not what a byte is written as.
-use Rattle.std.proofs.Common.{arith}
-use Rattle.sre_lines.proofs.Pairs.{no_pair_is_no_text}
+use Rattle.std.proofs.Common.{◌<◌, arith, rules}
+use Rattle.std.proofs.lemmas.List.Elements.{All-push}
+use Rattle.sre_lines.proofs.Pairs.{no_pair_is_no_text, one_pair_more}
 use Rattle.sre_lines.proofs.number.read_hex.Goals as goal
 
 pub returns-in_default-clause-refused : goal.returns-in_default-clause-refused
 returns-in_default-clause-refused g c _ =
     no_pair_is_no_text c.args.digits.now c.loop-i.i (omega arith) c.in_default.ensures.refused
+
+pub loop-i-preserved : goal.loop-i-preserved
+loop-i-preserved g c =
+    rw c.in_ok-push.ensures.items (record {
+      pairs =
+          one_pair_more c.loop-i.bytes.items c.args.digits.now c.in-Some.byte c.loop-i.i c.loop-i.invariant.pairs
+          (omega arith) c.in-Some.ensures.read.0 c.in-Some.ensures.read.1;
+      fit = All-push (λ b. b < 256) c.loop-i.bytes.items c.in-Some.byte c.loop-i.invariant.fit (search rules);
+    })
