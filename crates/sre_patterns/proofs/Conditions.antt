@@ -10,9 +10,9 @@ use Rattle.sre_model.specs.Grammar.{word, skip, item_opcode, ReadsItem}
 use Rattle.sre_model.proofs.Words.{word_past}
 use Rattle.sre_model.proofs.Families.{role_here, is_exists}
 use Rattle.sre_model.proofs.Places.{reads_within}
-use Rattle.sre_shape.specs.Covers.{View, CoversItem}
+use Rattle.sre_shape.specs.Covers.{View, CoversItem, IsWider}
 use Rattle.sre_shape.proofs.Composed.{covers-exists, covers-either, item-wider}
-use Rattle.sre_patterns.specs.Patterns.{IsWider, CoversItemAt, CoversItemsAt, HasItems, HasCondition}
+use Rattle.sre_patterns.specs.Patterns.{CoversItemAt, CoversItemsAt, HasItems, HasCondition}
 use Rattle.sre_patterns.proofs.Items.{items-to}
 
 -- a word that a sum needs is there

@@ -5,9 +5,9 @@ use Rattle.sre_chars.specs.Tables.{Table}
 use Rattle.sre_chars.specs.declared.constants.SreOpcode.TheVariants as opcode
 use Rattle.sre_model.specs.Tree.{Tree}
 use Rattle.sre_model.specs.Grammar.{Word, Opcode, Reads}
-use Rattle.sre_shape.specs.Covers.{View, CoversStart}
+use Rattle.sre_shape.specs.Covers.{View, CoversStart, IsWider}
 use Rattle.sre_shape.proofs.Fronts.{start-empty, start-wider, start-then}
-use Rattle.sre_patterns.specs.Patterns.{IsWider, cat_onto, HasItems, HasItem, CoversFrontAt, CoversItemAt, Stops}
+use Rattle.sre_patterns.specs.Patterns.{cat_onto, HasItems, HasItem, CoversFrontAt, CoversItemAt, Stops}
 use Rattle.sre_patterns.proofs.Sequences.{no-jump, inside, next}
 
 module _ (V : View) (table : Table) (ws : List ℕ) (start end : ℕ) where

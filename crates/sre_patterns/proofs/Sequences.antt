@@ -8,9 +8,9 @@ use Rattle.sre_model.specs.Grammar.{Word, Opcode, Reads, ReadsItem}
 use Rattle.sre_model.proofs.Words.{opcode_moved, opcode_within, same_word}
 use Rattle.sre_model.proofs.Families.{no_item}
 use Rattle.sre_model.proofs.Places.{reads_within, operands_past}
-use Rattle.sre_shape.specs.Covers.{View, Covers}
+use Rattle.sre_shape.specs.Covers.{View, Covers, IsWider}
 use Rattle.sre_shape.proofs.Composed.{covers-empty, covers-then, covers-wider}
-use Rattle.sre_patterns.specs.Patterns.{IsWider, cat_onto, HasItems, HasItem, CoversItemsAt, CoversItemAt, Stops}
+use Rattle.sre_patterns.specs.Patterns.{cat_onto, HasItems, HasItem, CoversItemsAt, CoversItemAt, Stops}
 
 pub no-jump : (ws : List ℕ) (i v : ℕ) → Word ws i v → (v ≡ 15 → ⊥) → Opcode ws i opcode.JUMP → ⊥
 no-jump ws i v w other o = other (same_word ws i v 15 w o)

@@ -2,7 +2,6 @@
 use Rattle.std.specs.Prelude.{ℕ, ◌≡◌, ◌<◌, ◌≤◌, ◌⊎◌, Bool, true, List, [], ◌∷◌}
 use Rattle.regex_class.specs.Ranges.{in_ranges}
 use Rattle.regex_hir.specs.Re.{Re, cat, alt}
-use Rattle.regex_hir.specs.Matches.{Matches}
 use Rattle.sre_chars.specs.Tables.{Table}
 use Rattle.sre_chars.specs.declared.constants.SreOpcode.TheVariants as opcode
 use Rattle.sre_model.specs.Tree.{Tree, Item, Branch, Run, Atomic, Trees, Test, RunKind}
@@ -17,10 +16,6 @@ abbrev pub view_of : encoding_type.Encoding → View
 view_of encoding.Bytes = InBytes 256
 view_of encoding.Ascii = InBytes 128
 view_of encoding.Utf8 = InUtf8
-
--- the second pattern leads wherever the first does
-abbrev pub IsWider : Re → Re → Type 0
-IsWider a b = (hay : List ℕ) (i j : ℕ) → Matches hay a i j → Matches hay b i j
 
 -- patterns one after the other, and then another one
 abbrev pub cat_onto : List Re → Re → Re

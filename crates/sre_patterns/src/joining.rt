@@ -3,7 +3,8 @@
 ghost use Rattle.std.specs.Prelude.{◌≡◌, ℕ, map, OnOk, IfOk};
 ghost use Rattle.regex_hir.specs.Re.{Re, cat, alt, empty, literal};
 ghost use Rattle.regex_hir.specs.Meaning.{meaning};
-ghost use Rattle.sre_patterns.specs.Patterns.{cat_onto, IsWider};
+ghost use Rattle.sre_shape.specs.Covers.{IsWider};
+ghost use Rattle.sre_patterns.specs.Patterns.{cat_onto};
 
 use regex_hir::Hir;
 use std::alloc::{AllocError, Global};

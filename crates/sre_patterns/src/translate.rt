@@ -24,7 +24,7 @@ use sre_chars::constants::SreOpcode;
 use sre_code::Code;
 use std::alloc::{AllocError, Global};
 
-/// How many items a part may lie in, itself among them.
+/// In how many items an item may lie, itself among them.
 pub const DEPTH: u32 = 64;
 
 /// A part: its pattern, and where its words end.
@@ -34,9 +34,8 @@ pub(crate) struct Part {
     pub(crate) end: usize,
 }
 
-/// A pattern that has a match wherever a tree of the words has a way, from the same place to the same, whatever is
-/// asked beside. An error means that memory was refused. `None` is for parts that lie in more than `DEPTH` items; no
-/// clause says when it comes.
+/// A pattern that has a match wherever the tree of the words has a way, from the same place to the same. `None` is for
+/// items that lie in more than `DEPTH`, and an error for refused memory; no clause says when either comes.
 pub fn hir_of(alloc: Global, code: &Code<'_>, encoding: Encoding) -> Result<Option<Hir>, AllocError>
     ensures { IfOk result (λ o. (h : Hir) → o ≡ Some h → (t : Tree) → WholeItems (items_of code.now) t
         → Covers (view_of encoding) (uni_of code.now) (meaning h) t) }
@@ -49,8 +48,8 @@ pub fn hir_of(alloc: Global, code: &Code<'_>, encoding: Encoding) -> Result<Opti
     }
 }
 
-/// A pattern that has a match from wherever a tree of the words has a way. It tells nothing of where that ends: it is
-/// lazy, and what stands behind the first reference is left out. An error and `None` are those of `hir_of`.
+/// A pattern that has a match from wherever the tree of the words has a way. It tells nothing of where that ends: it is
+/// lazy, and what stands from the first reference on is left out. `None` and an error are those of `hir_of`.
 pub fn starts_of(
     alloc: Global,
     code: &Code<'_>,

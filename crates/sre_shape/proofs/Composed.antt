@@ -1,15 +1,14 @@
 -- Patterns that cover the parts of a tree, put together to one that covers it.
-use Rattle.std.proofs.Common.{ℕ, ◌<◌, Bool, List, None, refl}
+use Rattle.std.proofs.Common.{ℕ, ◌<◌, Bool, None, refl}
 use Rattle.regex_hir.specs.Re.{Re, empty, cat, alt}
 use Rattle.regex_hir.specs.Meaning.{repeat}
-use Rattle.regex_hir.specs.Matches.{Matches}
 use Rattle.sre_chars.specs.declared.constants.SreAtCode.{SreAtCode}
 use Rattle.sre_chars.specs.Tables.{Table}
 use Rattle.sre_model.specs.Tree.{Tree, Empty, Then, Item, Fail, One, At, Mark, Branch, Loop, Run, PossessiveLoop}
 use Rattle.sre_model.specs.Tree.{Atomic, Look, Reference, Exists, ExistsElse, Trees, Only, Or, Test, AnyAll, Order}
 use Rattle.sre_model.specs.Tree.{RunKind, Sign, Fold}
 use Rattle.sre_model.specs.Ways.{unlimited, ways, item_ways}
-use Rattle.sre_shape.specs.Covers.{Leads, View, Covers, CoversItem, CoversBranch, CoversTest}
+use Rattle.sre_shape.specs.Covers.{Leads, IsWider, View, Covers, CoversItem, CoversBranch, CoversTest}
 use Rattle.sre_shape.specs.Repeated.{repeated}
 use Rattle.sre_shape.proofs.Journeys.{weaken-along}
 use Rattle.sre_shape.proofs.Matched.{nothing-matched, then-matched, fail-matched, one-matched, mark-matched, at-matched}
@@ -32,17 +31,14 @@ module _ (V : View) (table : Table) where
         then-matched s hay off a b item rest (f.covers s hay off v same) (g.covers s hay off v same);
   }
 
-  -- a pattern that leads wherever another one does
-  pub covers-wider : (a b : Re) (t : Tree) → ((hay : List ℕ) (i j : ℕ) → Matches hay a i j → Matches hay b i j) → C a t
-      → C b t
+  pub covers-wider : (a b : Re) (t : Tree) → IsWider a b → C a t → C b t
   covers-wider a b t wider f = record {
     covers = λ s hay off v same.
         weaken-along s (Leads hay off a) (Leads hay off b) (λ p q. wider hay (off p) (off q)) (ways s t)
         (f.covers s hay off v same);
   }
 
-  pub item-wider : (a b : Re) (item : Item) → ((hay : List ℕ) (i j : ℕ) → Matches hay a i j → Matches hay b i j)
-      → I a item → I b item
+  pub item-wider : (a b : Re) (item : Item) → IsWider a b → I a item → I b item
   item-wider a b item wider f = record {
     covers = λ s hay off v same.
         weaken-along s (Leads hay off a) (Leads hay off b) (λ p q. wider hay (off p) (off q)) (item_ways s item)

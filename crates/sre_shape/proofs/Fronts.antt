@@ -7,7 +7,7 @@ use Rattle.sre_chars.specs.Tables.{Table}
 use Rattle.sre_model.specs.Tree.{Tree, Then, Item}
 use Rattle.sre_model.specs.Subject.{Subject}
 use Rattle.sre_model.specs.Ways.{Way, Body, ways, item_ways}
-use Rattle.sre_shape.specs.Covers.{Leads, Along, View, Covers, CoversItem, Fronts, CoversStart}
+use Rattle.sre_shape.specs.Covers.{Leads, IsWider, Along, View, Covers, CoversItem, Fronts, CoversStart}
 use Rattle.sre_shape.proofs.Journeys.{Leg}
 
 module _ (s : Subject) (hay : List ℕ) (off : ℕ → ℕ) where
@@ -43,9 +43,7 @@ module _ (V : View) (table : Table) where
   pub start-empty : (t : Tree) → CoversStart V table empty t
   start-empty t = record { covers = λ s hay off v same p m l none. absurd (none (off p) refl) }
 
-  -- a pattern that leads wherever another one does
-  pub start-wider : (a b : Re) (t : Tree) → ((hay : List ℕ) (i j : ℕ) → Matches hay a i j → Matches hay b i j)
-      → CoversStart V table a t → CoversStart V table b t
+  pub start-wider : (a b : Re) (t : Tree) → IsWider a b → CoversStart V table a t → CoversStart V table b t
   start-wider a b t wider f = record {
     covers = λ s hay off v same p m l none. f.covers s hay off v same p m l (λ j k. none j (wider hay (off p) j k));
   }

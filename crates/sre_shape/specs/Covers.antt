@@ -17,6 +17,10 @@ use Rattle.sre_model.specs.Ways.{Body, ways, item_ways, branch_ways}
 abbrev pub Leads : List ℕ → (ℕ → ℕ) → Re → ℕ → ℕ → Type 0
 Leads hay off re p q = Matches hay re (off p) (off q)
 
+-- the second pattern leads wherever the first does
+abbrev pub IsWider : Re → Re → Type 0
+IsWider a b = (hay : List ℕ) (i j : ℕ) → Matches hay a i j → Matches hay b i j
+
 -- from within the window each way of a body goes along a relation, and ends within the window
 abbrev pub Along : Subject → (ℕ → ℕ → Type 0) → Body → Type 0
 Along s R body = (p : ℕ) (m : Marks) → p ≤ s.end → AllByRecursion (λ w. R p w.stop × (w.stop ≤ s.end)) (body p m)

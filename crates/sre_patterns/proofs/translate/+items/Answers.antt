@@ -7,7 +7,8 @@ use Rattle.regex_hir.proofs.MeaningLemmas.{meaning-Empty, meaning-Alternation}
 use Rattle.sre_model.specs.Grammar.{Word, skip}
 use Rattle.sre_model.proofs.Words.{word_of, same_word}
 use Rattle.sre_code.specs.Codes.{items_of, uni_of}
-use Rattle.sre_patterns.specs.Patterns.{view_of, HasItems, CoversItemsAt, CoversItemAt, IsWider}
+use Rattle.sre_shape.specs.Covers.{IsWider}
+use Rattle.sre_patterns.specs.Patterns.{view_of, HasItems, CoversItemsAt, CoversItemAt}
 use Rattle.sre_patterns.proofs.Onto.{alt-all}
 use Rattle.sre_patterns.proofs.Items.{items-to, loop-read, atomic-read, loops, atomics, looks, references, run-kind}
 use Rattle.sre_patterns.proofs.Items.{look-sign, refers, has-run}
