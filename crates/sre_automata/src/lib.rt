@@ -88,7 +88,9 @@ impl Automata {
         let end = self
             .forward
             .find_end(&self.dfa, hay, start, hay.len(), anchored, earliest);
-        self.read = self.read.saturating_add(self.forward.reached().saturating_sub(start));
+        self.read = self
+            .read
+            .saturating_add(self.forward.reached().saturating_sub(start));
         match end {
             End::NoMatch => Told::Nothing,
             End::At(end) => {

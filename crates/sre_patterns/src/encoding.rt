@@ -1,3 +1,5 @@
+//! How the characters of a text stand in its bytes.
+
 /// How a text is seen as bytes.
 #[derive(Clone, Copy, PartialEq, Eq, Debug)]
 pub enum Encoding {

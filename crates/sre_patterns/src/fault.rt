@@ -1,3 +1,5 @@
+//! Why there is no pattern.
+
 use std::alloc::{AllocError, AllocFailed};
 
 /// Why there is no pattern.
