@@ -82,6 +82,7 @@ impl<'c> Finder<'c> {
         ensures end { self.new.end ≡ None }
     {
         self.end = None;
+        self.pace.begin_text();
     }
 }
 
@@ -135,7 +136,11 @@ impl<'c, S: Haystack> Starts<S> for Finder<'c> {
         let Some(automata) = &mut self.automata else {
             return Some(from);
         };
-        match automata.next_from(text.hay(end), text.place_of(from)) {
+        let start = text.place_of(from);
+        if !self.pace.may_read(start, automata.read()) {
+            return Some(from);
+        }
+        match automata.next_from(text.hay(end), start) {
             Told::Nothing => None,
             Told::From(offset) => Some(text.cursor_up_to(from, offset, end)),
         }

@@ -2,7 +2,9 @@
 //!
 //! Most steps of a walk end at the first start that is tried, so the automata are asked behind a run in vain. Where that
 //! comes again and again they are asked first, for some steps. Where they tell of starts in vain, they are left alone
-//! for a while, each time twice as long.
+//! for a while, each time twice as long. To tell one start they may read far beyond it, so in each text they are left
+//! alone for good once they have read much more of it than was passed: a search then takes a time that grows with the
+//! text's length, where the machine's does.
 
 /// How many starts may be told in vain, less those that had a match.
 const VAIN: u32 = 24;
@@ -10,20 +12,30 @@ const VAIN: u32 = 24;
 /// For how many steps the automata are asked first, before that is tried without them again.
 const STEPS: u32 = 64;
 
+/// How many bytes they may read for each that was passed, and how many more.
+const READ: usize = 8;
+
+const MORE: usize = 8192;
+
+/// How far steps whose first start was in vain may outweigh the others: each counts twice.
+const FAILING: u32 = 4;
+
 /// When the automata are asked.
 #[derive(Clone, Copy, Debug)]
 pub(crate) struct Pace {
     // how many steps more they are asked first
     first: u32,
-    // how many steps in a row began with a run in vain
     failing: u32,
     vain: u32,
+    // for how many questions they are left alone, and for how many the next time
     rest: u32,
     pause: u32,
-    // whether a start was told of which nothing is known yet
-    is_told: bool,
-    // whether the step's first start is still to be tried
+    // of the last question: whether it was a step's first, whether a start was told, and whether it was in vain
     is_first: bool,
+    is_told: bool,
+    has_failed: bool,
+    // in this text: where they were first asked, and how much they had read by then
+    begun: Option<(usize, usize)>,
 }
 
 impl Pace {
@@ -34,48 +46,83 @@ impl Pace {
             vain: 0,
             rest: 0,
             pause: 16,
+            is_first: false,
             is_told: false,
-            is_first: true,
+            has_failed: false,
+            begun: None,
         }
     }
 
-    /// The next step asks first.
+    /// Another text comes.
+    pub(crate) fn begin_text(&mut self) {
+        self.begun = None;
+    }
+
+    /// The next steps ask first.
     pub(crate) fn ask_first(&mut self) {
         self.first = STEPS;
+    }
+
+    // Notes what came of the last question where another one comes: a run in vain was told before.
+    #[inline(always)]
+    fn note_last(&mut self) {
+        if self.has_failed {
+            return;
+        }
+        if self.is_told {
+            self.vain = self.vain.saturating_sub(2);
+        }
+        if self.is_first {
+            self.failing = self.failing.saturating_sub(1);
+        }
     }
 
     /// Whether the automata are asked for the next start.
     #[inline(always)]
     pub(crate) fn asks(&mut self) -> bool {
-        if self.is_told {
-            self.vain = self.vain.saturating_sub(2); // the start that was told had a match
-        }
+        self.note_last();
+        let is_first = !self.has_failed;
+        self.has_failed = false;
+        self.is_first = is_first;
         self.is_told = false;
         if self.rest > 0 {
             self.rest -= 1;
             return false;
         }
-        if self.is_first && self.first == 0 {
-            return false;
+        if is_first {
+            if self.first == 0 {
+                return false;
+            }
+            self.first -= 1;
         }
-        self.first = self.first.saturating_sub(u32::from(self.is_first));
         self.is_told = true;
         true
     }
 
-    /// Notes a run in vain, behind which the automata are asked.
+    /// Whether the automata may be asked for a start at a place, where they have read so much.
+    #[inline(always)]
+    pub(crate) fn may_read(&mut self, place: usize, read: usize) -> bool {
+        let (origin, before) = match self.begun {
+            Some(begun) => begun,
+            None => (place, read),
+        };
+        self.begun = Some((origin, before));
+        let passed = place.saturating_sub(origin);
+        read.saturating_sub(before) / READ <= passed.saturating_add(MORE)
+    }
+
+    /// Notes a run in vain.
     #[inline(always)]
     pub(crate) fn note_failed(&mut self) {
+        self.has_failed = true;
         if self.is_first {
-            self.is_first = false;
-            self.failing = self.failing.saturating_add(1);
-            if self.failing >= 2 {
+            self.failing = self.failing.saturating_add(2);
+            if self.failing > FAILING {
                 self.failing = 0;
                 self.first = STEPS;
             }
         }
         if self.is_told {
-            self.is_told = false;
             self.vain = self.vain.saturating_add(1);
             if self.vain > VAIN {
                 self.vain = 0;

@@ -23,7 +23,7 @@ returns-clause-none g c = λ t whole.
     let seen = subst (λ n. SeenAs (g.S.Haystack.seen_as text) a.text place n hay) c.end_in-end.ensures.end
     (subst (λ l. SeenAs (g.S.Haystack.seen_as text) l place c.end_in-end.result.position hay)
     (ap g.S.StrDrive.text c.string-text.ensures) c.hay.ensures) in
-    let told = subst (λ n. Tells hay own.pattern n c.next_from.result) c.place_of.ensures
+    let told = subst (λ n. Tells hay own.pattern n c.next_from.result) c.place_of-start.ensures
     (c.next_from.ensures.told own.pattern own.paths) in
     elim c.match-next_from.branch [
       | in-Nothing w ↦
