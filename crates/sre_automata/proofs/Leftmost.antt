@@ -37,7 +37,8 @@ some_match (Some m) end e = (m, refl, cc e)
 module _ (nfa : Nfa) (re : Re) (hay : List ℕ) (paths : HasPaths nfa re) (bytes : All (λ b. b < 256) hay) (from : ℕ)
     (inside : from ≤ length hay) where
   searched : end_from nfa hay (length hay) nfa.unanchored from ≡ ends (find_in nfa hay (length hay) from)
-  searched = ap (option_map (λ (t : Trace). t.end)) (run_unanchored nfa hay (length hay) from bytes (omega arith) inside)
+  searched =
+      ap (option_map (λ (t : Trace). t.end)) (run_unanchored nfa hay (length hay) from bytes (omega arith) inside)
 
   -- where no match ends, none is left
   pub none_left : end_from nfa hay (length hay) nfa.unanchored from ≡ None → NoneLeft hay re from
@@ -46,7 +47,8 @@ module _ (nfa : Nfa) (re : Re) (hay : List ℕ) (paths : HasPaths nfa re) (bytes
       let nothing = no_match (find_in nfa hay (length hay) from) (sym searched ∙ e) in
       record {
         none = λ i j l within m.
-            let stays = none_of_first_between (run nfa hay (length hay) nfa.start) from (length hay) nothing i l within in
+            let stays = none_of_first_between (run nfa hay (length hay) nfa.start) from (length hay) nothing i l
+            within in
             no_path_of_run_none nfa hay (length hay) j nfa.start i stays (paths hay i j m);
       }
 

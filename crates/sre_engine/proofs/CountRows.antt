@@ -65,6 +65,6 @@ no_run_by_all_of_the_code :
 no_run_by_all_of_the_code = refl
 
 runs_by_the_first_set :
-    how_many (may_start text words (record plain { width = Some 1; first_set = true }) (Single 120 ∷ Single 98 ∷ [])) 0 6
-    ≡ 3
+    how_many
+    (may_start text words (record plain { width = Some 1; first_set = true }) (Single 120 ∷ Single 98 ∷ [])) 0 6 ≡ 3
 runs_by_the_first_set = refl

@@ -1,10 +1,10 @@
 //! When automata are asked: where that is likely to be worth what it takes.
 //!
-//! Most steps of a walk end at the first start that is tried, so the automata are asked behind a run in vain. Where that
-//! comes again and again they are asked first, for some steps. Where they tell of starts in vain, they are left alone
-//! for a while, each time twice as long. To tell one start they may read far beyond it, so in each text they are left
-//! alone for good once they have read much more of it than was passed: a search then takes a time that grows with the
-//! text's length, where the machine's does.
+//! Most steps of a walk end at the first start that is tried, so the automata are asked behind a run in vain. Where
+//! that comes again and again they are asked first, for some steps. Where they tell of starts in vain, they are left
+//! alone for a while, each time twice as long. To tell one start they may read far beyond it, so in each text they are
+//! left alone for good once they have read much more of it than was passed: a search then takes a time that grows with
+//! the text's length, where the machine's does.
 
 /// How many starts may be told in vain, less those that had a match.
 const VAIN: u32 = 24;

@@ -450,7 +450,8 @@ impl<A: Allocator + Copy> State<A> {
             (code_of req.entry) (self.new.start + 1) self.new.cursor.position self.new) }
         ensures anchored { (t : Tree) → Whole (words_of (code_of req.entry)) t
             → is_anchored t ≡ true → self.new.started ≤ 1 }
-        ensures literal { (hints_of (code_of req.entry)).literal ≡ true → (OnErr result ⊥) × IfOk result (λ told. told ≢ None) }
+        ensures literal { (hints_of (code_of req.entry)).literal ≡ true
+            → (OnErr result ⊥) × IfOk result (λ told. told ≢ None) }
     {
         let start = req.string().create_cursor(req.start());
         let limited = true;

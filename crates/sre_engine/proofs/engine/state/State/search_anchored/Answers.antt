@@ -76,7 +76,8 @@ returns-in_err-end-clause-counts g c =
     let ran = ran_first (asked_of asked) (code_of asked) c.last_start.result _ _ c.args.from.position
     c.last_start.ensures fits (omega (arith, at)) c.none.ensures.started c.attempt.ensures.counted c.requires.plain
     c.requires.no_set in
-    counts_plain (asked_of asked) (code_of asked) _ (c.args.from.position + 1) _ _ ran (omega (arith, at, asked.in_window.0)) refl
+    counts_plain (asked_of asked) (code_of asked) _ (c.args.from.position + 1) _ _ ran
+    (omega (arith, at, asked.in_window.0)) refl
 
 pub returns-in-Some-clause-counts : goal.returns-in-Some-clause-counts
 returns-in-Some-clause-counts g c =
@@ -87,7 +88,8 @@ returns-in-Some-clause-counts g c =
     let ran = ran_first (asked_of asked) (code_of asked) c.last_start.result _ _ c.args.from.position
     c.last_start.ensures fits (omega (arith, at)) c.none.ensures.started c.attempt.ensures.counted c.requires.plain
     c.requires.no_set in
-    counts_plain (asked_of asked) (code_of asked) _ (c.args.from.position + 1) _ _ ran (omega (arith, at, asked.in_window.0)) refl
+    counts_plain (asked_of asked) (code_of asked) _ (c.args.from.position + 1) _ _ ran
+    (omega (arith, at, asked.in_window.0)) refl
 
 pub returns-clause-counts : goal.returns-clause-counts
 returns-clause-counts g c =
@@ -98,7 +100,8 @@ returns-clause-counts g c =
     let ran = ran_first (asked_of asked) (code_of asked) c.last_start.result _ _ c.args.from.position
     c.last_start.ensures fits (omega (arith, at)) c.none.ensures.started c.attempt.ensures.counted c.requires.plain
     c.requires.no_set in
-    counts_plain (asked_of asked) (code_of asked) _ (c.args.from.position + 1) _ _ ran (omega (arith, at, asked.in_window.0)) refl
+    counts_plain (asked_of asked) (code_of asked) _ (c.args.from.position + 1) _ _ ran
+    (omega (arith, at, asked.in_window.0)) refl
 
 pub returns-in-Some-clause-up_to_match : goal.returns-in-Some-clause-up_to_match
 returns-in-Some-clause-up_to_match g c = λ _.
@@ -109,4 +112,5 @@ returns-in-Some-clause-up_to_match g c = λ _.
     let ran = ran_first (asked_of asked) (code_of asked) c.last_start.result _ _ c.args.from.position
     c.last_start.ensures fits (omega (arith, at)) c.none.ensures.started c.attempt.ensures.counted c.requires.plain
     c.requires.no_set in
-    counts_plain (asked_of asked) (code_of asked) _ (c.args.from.position + 1) _ _ ran (omega (arith, c.position-in-Some.ensures)) refl
+    counts_plain (asked_of asked) (code_of asked) _ (c.args.from.position + 1) _ _ ran
+    (omega (arith, c.position-in-Some.ensures)) refl
