@@ -14,6 +14,8 @@ import os
 import re
 import sys
 
+import faults
+
 ROOT = os.path.dirname(os.path.dirname(os.path.realpath(__file__)))
 PAGE = f"{ROOT}/docs/ADDING.md"
 BEGIN, END = "<!-- the table begins -->\n", "<!-- the table ends -->\n"
@@ -122,19 +124,12 @@ def stale():
     return [*([] if is_new else ["docs/ADDING.md: its table is stale, `tools/adding.py --write` renews it"]), *astray()]
 
 
-def main(words):
-    if words == ["--write"]:
-        page = renewed(read(PAGE))
-        with open(PAGE, "w", encoding="utf-8") as file:
-            file.write(page)
-        return 0
-    if words:
-        print(__doc__.strip())
-        return 2
-    for line in stale():
-        print(line)
-    return 1 if stale() else 0
+def write():
+    """Renews what the page lists."""
+    page = renewed(read(PAGE))
+    with open(PAGE, "w", encoding="utf-8") as file:
+        file.write(page)
 
 
 if __name__ == "__main__":
-    sys.exit(main(sys.argv[1:]))
+    sys.exit(faults.told(sys.argv[1:], __doc__, write, stale))

@@ -13,6 +13,7 @@ import os
 import re
 import sys
 
+import faults
 from functions import FUNCTION, extent
 
 ROOT = os.path.dirname(os.path.dirname(os.path.realpath(__file__)))
@@ -143,19 +144,12 @@ def stale():
     return [*lost, *astray()]
 
 
-def main(words):
-    if words == ["--write"]:
-        page = renewed(read(PAGE))
-        with open(PAGE, "w", encoding="utf-8") as file:
-            file.write(page)
-    elif words:
-        print(__doc__.strip())
-        return 2
-    lines = stale()
-    for line in lines:
-        print(line)
-    return 1 if lines else 0
+def write():
+    """Renews what the page lists."""
+    page = renewed(read(PAGE))
+    with open(PAGE, "w", encoding="utf-8") as file:
+        file.write(page)
 
 
 if __name__ == "__main__":
-    sys.exit(main(sys.argv[1:]))
+    sys.exit(faults.told(sys.argv[1:], __doc__, write, stale))

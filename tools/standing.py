@@ -19,6 +19,7 @@ import subprocess
 import sys
 
 import adding
+import faults
 import kit
 import map as code_map
 import pictures
@@ -221,18 +222,5 @@ def write():
             file.write(f"{what} {numbers.get(what, 0)}{reasons.get(what, '')}\n")
 
 
-def main(words):
-    if words == ["--write"]:
-        write()
-        return 0
-    if words:
-        print(__doc__.strip())
-        return 2
-    lines = fallen()
-    for line in lines:
-        print(line)
-    return 1 if lines else 0
-
-
 if __name__ == "__main__":
-    sys.exit(main(sys.argv[1:]))
+    sys.exit(faults.told(sys.argv[1:], __doc__, write, fallen))

@@ -72,8 +72,8 @@ module _ (nfa : Nfa) (re : Re) (hay : List ℕ) (paths : HasPaths nfa re) (bytes
       }
 
 -- nothing is passed
-pub none_yet : (hay : List ℕ) (re : Re) (from : ℕ) → from ≤ length hay → NoneUpTo hay re from from
-none_yet hay re from inside = record {
+pub nothing_passed : (hay : List ℕ) (re : Re) (from : ℕ) → from ≤ length hay → NoneUpTo hay re from from
+nothing_passed hay re from inside = record {
   after = omega arith;
   inside = inside;
   none = λ i j low high. absurd (omega (arith, low, high));

@@ -40,15 +40,15 @@ module _ (encoding : Encoding) (a : Asked) (t : Tree) (re : Re) (place : ℕ →
   within s inside = omega (arith, seen.order s a.end inside (omega arith), seen.whole)
 
   -- where no match of the pattern is left, none of the code is
-  pub none_left : (p : ℕ) → NoneLeft hay re (place p) → NoneBetween a t p (a.end + 1)
-  none_left p none = λ s from to.
+  pub no_start_left : (p : ℕ) → NoneLeft hay re (place p) → NoneBetween a t p (a.end + 1)
+  no_start_left p none = λ s from to.
       let inside : s ≤ a.end = omega (arith, to) in
       none_at s inside (λ j match. none.none (place s) j (seen.order p s from inside) (within s inside) match)
 
   -- where none begins below a place, none of the code does before the positions that stand there
-  pub none_below : (p next offset : ℕ) → NoneUpTo hay re (place p) offset → next ≤ a.end
+  pub no_start_below : (p next offset : ℕ) → NoneUpTo hay re (place p) offset → next ≤ a.end
       → ((q : ℕ) → p ≤ q → q < next → place q < offset) → NoneBetween a t p next
-  none_below p next offset none inside passed = λ s from to.
+  no_start_below p next offset none inside passed = λ s from to.
       let here : s ≤ a.end = omega (arith, to, inside) in
       none_at s here (λ j match. none.none (place s) j (seen.order p s from here) (passed s from to) match)
 

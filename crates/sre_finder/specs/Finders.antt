@@ -25,7 +25,7 @@ CoveringAny encoding code None = ⊤
 CoveringAny encoding code (Some nfa) = Covering encoding code nfa
 
 -- the code, how the texts are seen as bytes, and the end of the window that was last asked about
-pub record Finding : Type 0 where
+pub record FinderValue : Type 0 where
   pub code : Code
   pub encoding : Encoding
   pub end : Option StringCursor

@@ -42,9 +42,9 @@ pub struct Finder<'c> {
 }
 
 impl<'c> Model for Finder<'c> {
-    ghost use Rattle.sre_finder.specs.Finders.{Finding, CoveringAny};
+    ghost use Rattle.sre_finder.specs.Finders.{FinderValue, CoveringAny};
 
-    ghost Value = { Finding };
+    ghost Value = { FinderValue };
 
     ghost view = { λ f. record { code = f.code; encoding = f.encoding; end = f.end } };
 
@@ -52,7 +52,8 @@ impl<'c> Model for Finder<'c> {
 }
 
 impl<'c> Finder<'c> {
-    /// The finder of a code, for texts that are seen so as bytes.
+    /// The finder of a code, for texts that are seen so as bytes: `Encoding::Bytes` for a text of bytes and
+    /// `Encoding::Utf8` for a `str`. To texts that are seen otherwise it tells nothing.
     ///
     /// It never fails: where automata would not pay, as under a confirmed prefix or where a match may be empty, where
     /// their tables would be too large, or where memory was refused, it has none and tells nothing.
@@ -103,10 +104,12 @@ fn automata_of(alloc: Global, code: Code<'_>, encoding: Encoding) -> Option<Auto
 }
 
 impl<'c> Finder<'c> {
-    // The end of a request's window, which is found once for a text.
+    // The end of a request's window, which is found once for a text, from a cursor that stands before it.
     #[inline(always)]
-    fn end_in<S: StrDrive>(&mut self, req: &Request<'_, S>) -> StringCursor
-        requires { EndStands (S.stands (string_of req.now)) self.old.end }
+    fn end_in<S: StrDrive>(&mut self, req: &Request<'_, S>, from: StringCursor) -> StringCursor
+        requires known { EndStands (S.stands (string_of req.now)) self.old.end }
+        requires stands { Standing req.now from }
+        requires inside { from.position ≤ end_of req.now }
         ensures end { result.position ≡ end_of req.now }
         ensures stands { Standing req.now result }
         ensures code { self.new.code ≡ self.old.code }
@@ -118,7 +121,8 @@ impl<'c> Finder<'c> {
                 return end;
             }
         }
-        let end = req.string().create_cursor(req.end());
+        let mut end = from;
+        req.string().skip(&mut end, req.end() - from.position());
         self.end = Some(end);
         end
     }
@@ -129,10 +133,10 @@ impl<'c, S: Haystack> Starts<S> for Finder<'c> {
 
     fn beyond(&mut self, req: &Request<'_, S>, from: StringCursor) -> Option<StringCursor> {
         let text = req.string();
-        if text.encoding() != self.encoding || !self.pace.asks() {
+        if self.automata.is_none() || text.encoding() != self.encoding || !self.pace.asks() {
             return Some(from);
         }
-        let end = self.end_in(req);
+        let end = self.end_in(req, from);
         let Some(automata) = &mut self.automata else {
             return Some(from);
         };

@@ -48,7 +48,8 @@ module _ {S : Type 0} {text : Ghosts S} (r : Request S text) (place count : ℕ)
 
     -- the others wait
     pub others_wait : (b b' : BoardValue) (later : StringCursor) → o.least ≤ 1
-        → BeginsLater r place o.least end.position later → b' ≡ record b { choices = Else (Instruction place) b.frames later b.marks ∷ b.choices }
+        → BeginsLater r place o.least end.position later
+        → b' ≡ record b { choices = Else (Instruction place) b.frames later b.marks ∷ b.choices }
         → (all : List Way) (limit : Limit) → Goes (run_of r) all limit (Longer place count) start b
         → Later (run_of r) all limit (next.At o.tail end) b'
     others_wait b b' later few e saved all limit g =

@@ -1,9 +1,9 @@
 //! From the words of a code to a pattern of bytes that matches wherever the code does.
 //!
 //! The pattern is the `Hir` of the kit's crate `regex_hir`, from which other crates of the kit make automata. `hir_of`
-//! gives one that has a match wherever the tree of the words has a way, from the same place to the same, and `starts_of`
-//! one that tells of the starts alone. What a pattern cannot say is left wide: a mark and a look ask nothing, and a
-//! reference takes any characters. So where a search for the pattern finds nothing there is nothing
+//! gives one that has a match wherever the tree of the words has a way, from the same place to the same, and
+//! `starts_of` one that tells of the starts alone. What a pattern cannot say is left wide: a mark and a look ask
+//! nothing, and a reference takes any characters. So where a search for the pattern finds nothing there is nothing
 //! (`sre_shape/proofs/Skipped`), and what it finds is to be looked at by the machine.
 #![tactic(auto)]
 

@@ -4,7 +4,7 @@ use Rattle.sre_request.specs.Requests.{code_of, asked_of}
 use Rattle.sre_automata.specs.Told.{Tells, NoneLeft, NoneUpTo}
 use Rattle.sre_finder.specs.Views.{SeenAs}
 use Rattle.sre_finder.specs.Finders.{Covering}
-use Rattle.sre_finder.proofs.Covered.{covers_same, none_left, none_below}
+use Rattle.sre_finder.proofs.Covered.{covers_same, no_start_left, no_start_below}
 use Rattle.sre_finder.proofs.finder.FinderStarts.beyond.Goals.{in-Nothing, in-From}
 use Rattle.sre_finder.proofs.finder.FinderStarts.beyond.Goals as goal
 
@@ -29,13 +29,13 @@ returns-clause-none g c = λ t whole.
       | in-Nothing w ↦
           let none : NoneLeft hay own.pattern (place c.args.from.position) = rw w.in-Nothing.is at told in
           rw w.result-is
-          (none_left (g.S.Haystack.seen_as text) a t own.pattern place hay covers seen c.args.from.position none)
+          (no_start_left (g.S.Haystack.seen_as text) a t own.pattern place hay covers seen c.args.from.position none)
       | in-From w ↦
           let none : NoneUpTo hay own.pattern (place c.args.from.position) w.in-From.offset =
           rw w.in-From.is at told in
           let next = w.cursor_up_to.ensures in
           rw w.result-is
-          (none_below (g.S.Haystack.seen_as text) a t own.pattern place hay covers seen c.args.from.position
+          (no_start_below (g.S.Haystack.seen_as text) a t own.pattern place hay covers seen c.args.from.position
           w.cursor_up_to.result.position w.in-From.offset none
           (omega (arith, next.inside, c.end_in-end.ensures.end)) next.passed)
     ]
