@@ -53,8 +53,9 @@ def minutes(seconds):
 
 
 def fields_of(pid):
-    """What the system tells of a process, from its state on."""
-    return wrong_bodies.read(f"/proc/{pid}/stat").rpartition(")")[2].split()
+    """What the system tells of a process, from its state on. The name before it may be cut within a character."""
+    with open(f"/proc/{pid}/stat", encoding="utf-8", errors="replace") as file:
+        return file.read().rpartition(")")[2].split()
 
 
 def processor_seconds(fields):
