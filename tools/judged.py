@@ -15,7 +15,7 @@ import os
 import stat
 import tempfile
 
-TOOLS = ("gate.py", "wrong_bodies.py", "functions.py", "judged.py")
+TOOLS = ("gate.py", "wrong_bodies.py", "tries.py", "functions.py", "judged.py")
 
 
 def sum_of(parts):

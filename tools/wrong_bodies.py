@@ -29,6 +29,7 @@ import subprocess
 import sys
 import tempfile
 
+import tries
 from functions import emptied, functions, name_around, sources
 
 ROOT = os.path.dirname(os.path.dirname(os.path.realpath(__file__)))
@@ -122,12 +123,14 @@ class Body:
         self.name, end = os.path.splitext(os.path.basename(path))
         self.is_wrong = end == ".edit"
         self.function, self.goal, self.cycle, self.pairs, file, old = "", "", "", [], "", ""
+        self.goals = []  # of a right body, those that wrong ones of its function make false
+        self.searches = None  # where each goal that tells has a search of its own
         for row in read(path).split("\n"):
             word, _, text = row.partition(": ")
             if word == "fn":
                 self.function = text
             elif word == "goal":
-                self.goal = text
+                self.goal, self.goals = text, [text]
             elif word == "cycle":
                 self.cycle = text
             elif word == "file":
@@ -146,6 +149,11 @@ class Body:
         """Those of the goals that are told with its function that are its own."""
         name = self.function.rpartition("::")[2]
         return [it for it in goals or () if not self.cycle or it.startswith(f"{name}-")]
+
+    def left_open(self, goals):
+        """Those of its own goals that stay open, of the ones that are told with its function. Where the goals that tell
+        have searches of their own, no other goal has one, and says nothing."""
+        return self.searches.left_open(self.own(goals)) if self.searches else self.own(goals)
 
     def label(self, crate):
         return f"{'wrong' if self.is_wrong else 'right'} body {crate.name}/{self.name}"
@@ -187,7 +195,7 @@ class Body:
     def righted(self):
         """The body that the function has."""
         body = copy.copy(self)
-        body.name, body.is_wrong, body.pairs = f"{self.function}, as it is", False, []
+        body.name, body.is_wrong, body.pairs, body.goals = f"{self.function}, as it is", False, [], []
         return body
 
     def renamed(self, names):
@@ -223,8 +231,13 @@ def bodies_of(crate, part="wrong"):
 
 
 def righted(bodies):
-    """The functions of these bodies as they are, each once: the control of the bundles."""
-    return list({it.function: it.righted() for it in bodies if it.function}.values())
+    """The functions of these bodies as they are, each once, with the goals that these make false: the control of the
+    bundles."""
+    made = {it.function: it.righted() for it in bodies if it.function}
+    for it in bodies:
+        if it.is_wrong and it.function:
+            made[it.function].goals.append(it.goal)
+    return list(made.values())
 
 
 def control(bodies, texts):
@@ -309,7 +322,8 @@ def refusals(said, crate):
     for path, goal, why in re.findall(answers, "\n".join(lines_of(said))):
         # the answers of a cycle tell the function by the goal
         name = re.sub(r"\+\w+$", goal.partition("-")[0], path).replace("/", "::")
-        if name in open_goals and not TAKEN_AWAY.search(why):
+        tells = tries.found_nothing(why) if tries.is_try(goal) else not TAKEN_AWAY.search(why)
+        if name in open_goals and tells:
             open_goals[name].append(goal)
     return open_goals
 
@@ -330,7 +344,7 @@ def judged(bundle, crate, said):
     changed = {body.function for body in bundle.bodies}
     others = ", ".join(it for it, goals in open_goals.items() if goals and it not in changed)
     for body in bundle.bodies:
-        goals = body.own(open_goals.get(body.function))
+        goals = body.left_open(open_goals.get(body.function))
         if not has_ended(said):
             first = next((it for it in lines if "error" in it), lines[-1])
             is_well, told = False, f"BAD: the check did not reach its end: {first[:200]}"
@@ -368,7 +382,19 @@ class Trial:
         for proof in own:
             answers = f"proofs/{proof}/Answers.antt"
             texts[answers] = texts.get(answers, "") + NO_OFFERS
-        return texts
+        return self.searched(texts, bundle)
+
+    def searched(self, texts, bundle):
+        """These texts, but of each body's function the goals that tell alone are searched for, where that can be
+        written: not for methods of traits and cycles."""
+        listed, paths = functions(texts), []
+        for body in bundle.bodies:
+            function, answers = listed.get(body.function), f"proofs/{body.proof()}/Answers.antt"
+            if function and not function.cycle and tries.can_try(body.goals, texts[answers]):
+                body.searches = tries.Tries(function, texts, body.goals, texts[answers])
+                texts[answers] = body.searches.answers(texts[answers], self.crate.name, body.proof())
+                paths.append(body.function)
+        return tries.under_none(texts, paths)
 
     def place(self, name, bundle):
         """A folder with these texts."""
