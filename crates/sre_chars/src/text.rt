@@ -3,11 +3,11 @@
 //! A `str` is always well-formed, so a step finds a whole character at the offset of a cursor and never
 //! searches for its edge.
 
-ghost use Rattle.std.specs.Prelude.{◌≡◌, ◌+◌, ◌-◌, ◌^◌, ◌<◌, ◌≤◌, length, slice_index, count_by, true};
-ghost use Rattle.std.specs.Prelude.{IfSome, MatchOption};
+ghost use Rattle.std.specs.Prelude.{◌≡◌, ◌+◌, ◌-◌, ◌^◌, ◌<◌, ◌≤◌, length, slice_index, count_by};
+ghost use Rattle.std.specs.Prelude.{IfSome, None};
 ghost use Rattle.std.specs.Str.{chars, IsCharBoundary};
 ghost use Rattle.std.proofs.Props.{props};
-ghost use Rattle.sre_chars.specs.Texts.{StandsInText, offset_of, begins_char, begun, NoneIs, Sought};
+ghost use Rattle.sre_chars.specs.Texts.{StandsInText, offset_of, begins_char, begun, Sought};
 
 use crate::bytes::first_byte;
 use crate::string::{StrDrive, StringCursor};
@@ -192,6 +192,7 @@ pub fn cursor_at(text: &str, from: StringCursor, offset: usize) -> Option<String
     requires within { offset ≤ length text.now }
     ensures stands { IfSome result (λ there. StandsInText text.now there there.position) }
     ensures offset { IfSome result (λ there. there.offset ≡ offset) }
+    ensures none { result ≡ None → ¬ (IsCharBoundary text.now offset) }
 {
     if !text.is_char_boundary(offset) {
         return None;
