@@ -1,10 +1,10 @@
 -- Where characters begin in bytes, and how many begin before a place.
 use Rattle.std.proofs.Common.{◌≡◌, ℕ, ◌+◌, ◌-◌, ◌/◌, ◌<◌, ◌≤◌, true, false, cond, inl, inr, refl, ap, sym, ◌∙◌, subst}
 use Rattle.std.proofs.Common.{arith}
-use Rattle.std.proofs.Common.{List, [], ◌∷◌, ◌++◌, length, take, drop, count_by, length-append}
+use Rattle.std.proofs.Common.{List, [], ◌∷◌, ◌++◌, length, take, drop, get_or, count_by, length-append}
 use Rattle.std.proofs.Math.Seq.{take-add}
 use Rattle.std.proofs.lemmas.List.{take-take}
-use Rattle.std.proofs.lemmas.List.Sums.{sum_by-append, sum_by-take-drop}
+use Rattle.std.proofs.lemmas.List.Sums.{sum_by-append, sum_by-take-drop, count_by_more_yes}
 use Rattle.std.proofs.Math.Seq.{take-append_seam}
 use Rattle.std.proofs.lemmas.Bool.{cases_lt, lt-ltb, le-ltb}
 use Rattle.std.proofs.lemmas.Bool.Decides.{nat_tests}
@@ -132,3 +132,50 @@ place_behind text bs from p to n same u at l on boundary counted =
     let there = place_at text bs to (p + n) same own (subst (λ b. IsCharBoundary b to) (sym same) boundary)
     (omega (arith, passed, place.begun_before, counted)) in
     (there.0, there.1, place.few)
+
+-- no fewer begin before a later offset, and no more than in all bytes
+pub begun_grows : (bs : List ℕ) (i j : ℕ) → i ≤ j → begun bs i ≤ begun bs j
+begun_grows bs i j h =
+    let there : i + (j - i) ≡ j = omega (arith, h) in
+    omega (arith, begun_block bs i (j - i), ap (begun bs) there)
+
+begun_of_all : (bs : List ℕ) (i : ℕ) → begun bs i ≤ count_by begins_char bs
+begun_of_all bs i = omega (arith, first_block bs i)
+
+-- a character begins where a cut is before the end
+begins_at : (bs : List ℕ) (o : ℕ) → IsCharBoundary bs o → o < length bs → begins_char (get_or bs o 0) ≡ true
+begins_at bs o b h = elim (cases_lt (get_or bs o 0) 128) [
+  | inl l ↦ ascii_byte (get_or bs o 0) l
+  | inr later ↦ first_byte (get_or bs o 0) (b.1 h later)
+]
+
+pub some_begin : (bs : List ℕ) (o n : ℕ) → IsCharBoundary bs o → 0 < n → o + n ≤ length bs
+    → begun bs o < begun bs (o + n)
+some_begin bs o n b h within =
+    let one = count_by_more_yes begins_char bs o 0 (omega arith) (begins_at bs o b (omega arith)) in
+    omega (arith, one, begun_grows bs (o + 1) (o + n) (omega arith))
+
+-- what begins in the n bytes behind a place p
+pub record BeginBehind (text bs : List ℕ) (o p n count : ℕ) : Type 0 where
+  pub some : 0 < count
+  pub begun_is : begun bs (o + n) ≡ p + count
+  pub begun_there : begun text (offset_of text p + n) ≡ p + count
+  pub within : p + count ≤ length (chars text)
+  pub few : length (chars text) ≤ length bs
+
+pub begin_behind : (text bs : List ℕ) (o p n count : ℕ) → bs ≡ text → IsUtf8 bs → o ≡ offset_of text p
+    → p ≤ length (chars text) → 0 < n → o + n ≤ length bs
+    → count ≡ count_by begins_char (take (o + n - o) (drop o bs)) → BeginBehind text bs o p n count
+begin_behind text bs o p n count same u at l h inside counted =
+    let place = place_in text bs o p same u at l in
+    let n_is : o + n - o ≡ n = omega arith in
+    let count_is = counted ∙ ap (λ k. count_by begins_char (take k (drop o bs))) n_is in
+    let all : begun bs (o + n) ≡ p + count =
+    begun_block bs o n ∙ omega (arith, place.begun_before, count_is)
+    in record {
+      some = omega (arith, all, some_begin bs o n place.boundary h inside, place.begun_before);
+      begun_is = all;
+      begun_there = sym (ap (λ t. begun t (o + n)) same ∙ ap (λ i. begun text (i + n)) at) ∙ all;
+      within = omega (arith, begun_of_all bs (o + n), place.begun_in_all, all);
+      few = place.few;
+    }

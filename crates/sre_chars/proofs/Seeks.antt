@@ -1,26 +1,21 @@
 -- A character is looked for among bytes. Where an ASCII one stands its byte does, and no other character has that byte.
-use Rattle.std.proofs.Common.{◌≡◌, ◌≢◌, ℕ, suc, ◌+◌, ◌-◌, ◌*◌, ◌<◌, ◌≤◌, refl, ap, sym, ◌∙◌, true, arith}
-use Rattle.std.proofs.Common.{List, [], ◌∷◌, ◌++◌, length, take, drop, get_or, count_by, length-append}
+use Rattle.std.proofs.Common.{◌≡◌, ◌≢◌, ℕ, suc, ◌+◌, ◌-◌, ◌<◌, ◌≤◌, inl, inr, refl, ap, sym, ◌∙◌, true, arith}
+use Rattle.std.proofs.Common.{List, ◌∷◌, ◌++◌, length, take, drop, get_or, count_by, length-append}
 use Rattle.std.proofs.Math.Seq.{take-add, drop-cons}
+use Rattle.std.proofs.lemmas.Bool.{cases_lt}
 use Rattle.std.proofs.lemmas.List.{get_or-drop, get_or-take, length-drop, length-take-le}
-use Rattle.std.proofs.lemmas.Str.{encode_ascii, encodes-append, length-encode, len_utf8_bounds, length-le-encodes}
+use Rattle.std.proofs.lemmas.List.Sums.{count_by-le-length}
+use Rattle.std.proofs.lemmas.Str.{encode_ascii, encodes-append, length-le-encodes}
 use Rattle.std.proofs.lemmas.Str.{IsCharBoundary-before_ascii}
 use Rattle.std.specs.Str.{chars, IsUtf8}
 use lib.Utf8.{encodes, encode}
 use Rattle.sre_chars.specs.Texts.{begins_char, begun, offset_of, NoneIs, Sought}
-use Rattle.sre_chars.proofs.AsciiSteps.{ascii_after, byte_after}
-use Rattle.sre_chars.proofs.Beginnings.{begun_block, place_at, place_in}
-use Rattle.sre_chars.proofs.TextPlaces.{drop_offset}
+use Rattle.sre_chars.proofs.AsciiSteps.{ascii_after}
+use Rattle.sre_chars.proofs.Beginnings.{begun_block, begun_grows, place_at, place_in, some_begin}
+use Rattle.sre_chars.proofs.TextPlaces.{drop_offset, offset_boundary}
 
--- a character takes four bytes at most
-four_each : (cs : List ℕ) → length (encodes cs) ≤ 4 * length cs
-four_each [] = omega arith
-four_each (c ∷ cs) =
-    omega (arith, length-append (encode c) (encodes cs), length-encode c, len_utf8_bounds c, four_each cs)
-
--- so n characters on are from n to 4n bytes on
-offset_ahead : (bs : List ℕ) (p n : ℕ) → p + n ≤ length (chars bs)
-    → (offset_of bs p + n ≤ offset_of bs (p + n)) × (offset_of bs (p + n) ≤ offset_of bs p + 4 * n)
+-- n characters on are no less than n bytes on
+offset_ahead : (bs : List ℕ) (p n : ℕ) → p + n ≤ length (chars bs) → offset_of bs p + n ≤ offset_of bs (p + n)
 offset_ahead bs p n h =
     let some = take n (drop p (chars bs)) in
     let whole : offset_of bs (p + n) ≡ offset_of bs p + length (encodes some) =
@@ -31,7 +26,11 @@ offset_ahead bs p n h =
     let long : length some ≡ n =
     length-take-le n (drop p (chars bs)) (omega (arith, length-drop p (chars bs)))
     in
-    (omega (arith, whole, length-le-encodes some, long), omega (arith, whole, four_each some, long))
+    omega (arith, whole, length-le-encodes some, long)
+
+-- and there are as many bytes
+pub room_ahead : (bs : List ℕ) (p n : ℕ) → IsUtf8 bs → p + n ≤ length (chars bs) → offset_of bs p + n ≤ length bs
+room_ahead bs p n u h = omega (arith, offset_ahead bs p n h, (offset_boundary bs (p + n) u).0)
 
 -- where an ASCII character stands, its byte does
 ascii_at : (bs : List ℕ) (q c : ℕ) → IsUtf8 bs → q < length (chars bs) → get_or (chars bs) q 0 ≡ c → c < 128
@@ -92,59 +91,89 @@ none_there : (bs : List ℕ) (c p end near n : ℕ) → IsUtf8 bs → c < 128 �
 none_there bs c p end near n u l h few none before = λ q from to is.
     let ahead = offset_ahead bs p (q - p) (omega arith) in
     let same : p + (q - p) ≡ q = omega arith in
-    let at : offset_of bs p ≤ offset_of bs q = omega (arith, ap (offset_of bs) same, ahead.0) in
+    let at : offset_of bs p ≤ offset_of bs q = omega (arith, ap (offset_of bs) same, ahead) in
     not_at bs c (offset_of bs p) near n (offset_of bs q) few none at (before q from to)
     (ascii_at bs q c u (omega arith) is l)
 
--- where the next bytes, as many as the characters up to `end` can take, do not have the character, none of these is it
-pub none_near : (bs rest : List ℕ) (c p end near : ℕ) → IsUtf8 bs → c < 128 → end ≤ length (chars bs)
-    → rest ≡ drop (offset_of bs p) bs → near ≤ length rest
-    → ((k : ℕ) → k < length rest → k + 4 ≤ 4 * (end - p) → k < near)
-    → NoneIs (take near rest) c 0 (length (take near rest)) → NoneIs (chars bs) c p end
-none_near bs rest c p end near u l h cut few wide none =
+-- none up to a position, and none from there on
+pub none_on : (text : List ℕ) (c from mid to : ℕ) → NoneIs text c from mid → NoneIs text c mid to → NoneIs text c from to
+none_on text c from mid to before behind = λ q lo hi. elim (cases_lt q mid) [
+  | inl l ↦ before q lo l
+  | inr h ↦ behind q h hi
+]
+
+-- where as many bytes as there are characters up to `end` do not have the character, none of those is it that begin
+-- there, which are some, and no more than up to `end`
+pub none_begins : (bs rest : List ℕ) (c p end left : ℕ) → IsUtf8 bs → c < 128 → p < end → end ≤ length (chars bs)
+    → rest ≡ drop (offset_of bs p) bs → left ≡ end - p → NoneIs (take left rest) c 0 (length (take left rest))
+    → (p < begun bs (offset_of bs p + left))
+    × (begun bs (offset_of bs p + left) ≤ end)
+    × NoneIs (chars bs) c p (begun bs (offset_of bs p + left))
+none_begins bs rest c p end left u l some h cut left_is none =
     let o = offset_of bs p in
-    let long : length (take near rest) ≡ near = length-take-le near rest few in
-    let all : length rest ≡ length bs - o = ap length cut ∙ length-drop o bs in
-    let part : NoneIs (take near (drop o bs)) c 0 near =
-    rw (← cut) (λ q from to. none q from (omega (arith, long, to)))
+    let from = place_in bs bs o p refl u refl (omega (arith, some, h)) in
+    let room = room_ahead bs p left u (omega (arith, left_is, some, h)) in
+    let long : length (take left rest) ≡ left =
+    length-take-le left rest (omega (arith, ap length cut, length-drop o bs, room))
     in
-    none_there bs c p end near near u l h (omega arith) part (λ q from to.
-    let ahead = offset_ahead bs p (q - p) (omega arith) in
-    let same : p + (q - p) ≡ q = omega arith in
-    let at = ap (offset_of bs) same in
-    let inside = byte_after bs q u (omega arith) in
-    let less = wide (offset_of bs q - o) (omega (arith, at, ahead.0, inside, all)) (omega (arith, at, ahead.1)) in
-    omega (arith, less))
+    let part : NoneIs (take left (drop o bs)) c 0 left =
+    rw (← cut) (λ q lo hi. none q lo (omega (arith, long, hi)))
+    in
+    let few = count_by-le-length begins_char (take left (drop o bs)) in
+    let most = ap (λ r. length (take left r)) cut in
+    let upto : begun bs (o + left) ≤ end =
+    omega (arith, begun_block bs o left, from.begun_before, few, most, long, left_is)
+    in (
+      omega (arith, some_begin bs o left from.boundary (omega (arith, left_is, some)) room, from.begun_before),
+      upto,
+      none_there bs c p (begun bs (o + left)) left left u l (omega (arith, upto, h)) (omega arith) part
+          (λ q _ to. elim (cases_lt (offset_of bs q) (o + left)) [
+            | inl less ↦ less
+            | inr past ↦
+                let there = place_in bs bs (offset_of bs q) q refl u refl (omega (arith, to, upto, h)) in
+                absurd (omega (arith, begun_grows bs (o + left) (offset_of bs q) past, there.begun_before, to))
+          ]),
+    )
 
 -- the first of these bytes that is the character's is that of the first such character, behind as many as begin before
-pub first_near : (bs rest : List ℕ) (c p near passed count : ℕ) → IsUtf8 bs → c < 128 → p ≤ length (chars bs)
-    → rest ≡ drop (offset_of bs p) bs → near ≤ length rest → passed < near → get_or (take near rest) passed 0 ≡ c
-    → NoneIs (take near rest) c 0 passed → count ≡ count_by begins_char (take passed rest)
-    → NoneIs (chars bs) c p (p + count)
-    × (p + count < length (chars bs)
-    → (get_or (chars bs) (p + count) 0 ≡ c) × (offset_of bs p + passed + 1 ≡ offset_of bs (p + count + 1)))
-first_near bs rest c p near passed count u l h cut few less is none many =
+pub first_begins : (bs rest : List ℕ) (c p end left passed count : ℕ) → IsUtf8 bs → c < 128 → p < end
+    → end ≤ length (chars bs) → rest ≡ drop (offset_of bs p) bs → left ≡ end - p → passed < length (take left rest)
+    → get_or (take left rest) passed 0 ≡ c → NoneIs (take left rest) c 0 passed
+    → count ≡ count_by begins_char (take passed rest)
+    → (p + count < end)
+    × (get_or (chars bs) (p + count) 0 ≡ c)
+    × (offset_of bs p + passed + 1 ≡ offset_of bs (p + count + 1))
+    × NoneIs (chars bs) c p (p + count)
+first_begins bs rest c p end left passed count u l some h cut left_is inside is none many =
     let o = offset_of bs p in
-    let from = place_in bs bs o p refl u refl h in
-    let long : length rest ≡ length bs - o = ap length cut ∙ length-drop o bs in
-    let inside : o + passed < length bs = omega (arith, long, from.in_bounds) in
+    let from = place_in bs bs o p refl u refl (omega (arith, some, h)) in
+    let room = room_ahead bs p left u (omega (arith, left_is, some, h)) in
+    let long : length (take left rest) ≡ left =
+    length-take-le left rest (omega (arith, ap length cut, length-drop o bs, room))
+    in
+    let less : passed < left = omega (arith, inside, long) in
     let byte : c ≡ get_or bs (o + passed) 0 =
     sym is
-    ∙ ap (λ r. get_or (take near r) passed 0) cut
-    ∙ in_part bs o near passed less
+    ∙ ap (λ r. get_or (take left r) passed 0) cut
+    ∙ in_part bs o left passed less
     in
     let begun_there : begun bs (o + passed) ≡ p + count =
     begun_block bs o passed
     ∙ omega (arith, from.begun_before, many, ap (λ r. count_by begins_char (take passed r)) cut)
     in
-    let boundary = IsCharBoundary-before_ascii bs (o + passed) inside (rw (← byte) l) in
+    let boundary = IsCharBoundary-before_ascii bs (o + passed) (omega (arith, less, room)) (rw (← byte) l) in
     let place = place_at bs bs (o + passed) (p + count) refl u boundary begun_there in
-    let part : NoneIs (take near (drop o bs)) c 0 passed = rw (← cut) none in (
-      none_there bs c p (p + count) near passed u l place.1 (omega arith) part (λ q _ to.
+    let part : NoneIs (take left (drop o bs)) c 0 passed = rw (← cut) none in
+    let few = count_by-le-length begins_char (take passed rest) in
+    let before : p + count < end =
+    omega (arith, many, few, length-take-le passed rest (omega (arith, less, long, ap length cut, length-drop o bs, room)), less, left_is)
+    in
+    let step = ascii_after bs (p + count) c u (omega (arith, before, h)) (byte ∙ ap (λ i. get_or bs i 0) place.0) l in (
+      before,
+      sym step.0,
+      omega (arith, place.0, step.1),
+      none_there bs c p (p + count) left passed u l place.1 (omega arith) part (λ q _ to.
           let ahead = offset_ahead bs q (p + count - q) (omega (arith, place.1)) in
           let same : q + (p + count - q) ≡ p + count = omega arith in
-          omega (arith, ap (offset_of bs) same, ahead.0, place.0)),
-      λ more.
-          let step = ascii_after bs (p + count) c u more (byte ∙ ap (λ i. get_or bs i 0) place.0) l in
-          (sym step.0, omega (arith, place.0, step.1)),
+          omega (arith, ap (offset_of bs) same, ahead, place.0)),
     )

@@ -3,11 +3,11 @@
 //! A `str` is always well-formed, so a step finds a whole character at the offset of a cursor and never
 //! searches for its edge.
 
-ghost use Rattle.std.specs.Prelude.{◌≡◌, ◌+◌, ◌-◌, ◌^◌, ◌<◌, ◌≤◌, length, slice_index, count_by, true};
-ghost use Rattle.std.specs.Prelude.{IfSome, MatchOption};
+ghost use Rattle.std.specs.Prelude.{◌≡◌, ◌+◌, ◌-◌, ◌^◌, ◌<◌, ◌≤◌, length, slice_index, count_by};
+ghost use Rattle.std.specs.Prelude.{IfSome, None};
 ghost use Rattle.std.specs.Str.{chars, IsCharBoundary};
 ghost use Rattle.std.proofs.Props.{props};
-ghost use Rattle.sre_chars.specs.Texts.{StandsInText, offset_of, begins_char, begun, NoneIs, Sought};
+ghost use Rattle.sre_chars.specs.Texts.{StandsInText, offset_of, begins_char, begun, Sought};
 
 use crate::bytes::first_byte;
 use crate::string::{StrDrive, StringCursor};
@@ -192,6 +192,7 @@ pub fn cursor_at(text: &str, from: StringCursor, offset: usize) -> Option<String
     requires within { offset ≤ length text.now }
     ensures stands { IfSome result (λ there. StandsInText text.now there there.position) }
     ensures offset { IfSome result (λ there. there.offset ≡ offset) }
+    ensures none { result ≡ None → ¬ (IsCharBoundary text.now offset) }
 {
     if !text.is_char_boundary(offset) {
         return None;
@@ -200,50 +201,67 @@ pub fn cursor_at(text: &str, from: StringCursor, offset: usize) -> Option<String
     Some(StringCursor::new(from.position() + between, offset))
 }
 
-// The cursor behind the next such character that stands before `end`. An ASCII character is a byte that no other
-// character has (RFC 3629, section 3), so it is looked for among the bytes that the characters up to `end` can take.
-#[inline(always)]
-fn behind_ascii(s: &str, cursor: &StringCursor, character: u32, end: usize) -> Option<StringCursor>
-    requires ascii { character < 128 }
+// The cursor behind the characters that begin in the next `n` bytes. The last one is read from its first byte on, so
+// that no byte behind it is.
+fn behind_begun(s: &str, cursor: &StringCursor, n: usize) -> StringCursor
     requires at { StandsInText s.now cursor.now cursor.now.position }
-    requires before { cursor.now.position ≤ end }
-    requires within { end ≤ length (chars s.now) }
-    ensures { MatchOption result (NoneIs (chars s.now) character cursor.now.position end)
-        (λ behind. StandsInText s.now behind behind.position
-        × Sought (chars s.now) character cursor.now.position end true behind.position) }
+    requires some { 0 < n }
+    requires within { cursor.now.offset + n ≤ length s.now }
+    ensures at { StandsInText s.now result result.position }
+    ensures begun { result.position ≡ begun s.now (cursor.now.offset + n) }
 {
-    let left = end - cursor.position();
-    let offset = cursor.offset();
-    let bytes = s[offset..].as_bytes();
-    let near = bytes.len().min(left.saturating_mul(4));
-    let passed = first_byte(&bytes[..near], character)?;
-    let characters = beginnings(&bytes[..passed]);
-    if characters < left {
-        let position = cursor.position() + characters + 1;
-        Some(StringCursor::new(position, offset + passed + 1))
-    } else {
-        None
-    }
+    let bytes = s.as_bytes();
+    let from = cursor.offset();
+    let position = cursor.position() + beginnings(&bytes[from..from + n]);
+    let last = StringCursor::new(position - 1, pass_bytes_back(bytes, from + n, 1));
+    let (_, offset) = char_after(s, &last);
+    StringCursor::new(position, offset)
 }
 
-// The same of any character, one after the other.
-fn behind_other(s: &str, cursor: &StringCursor, character: u32, end: usize) -> Option<StringCursor>
-    requires at { StandsInText s.now cursor.now cursor.now.position }
-    requires before { cursor.now.position ≤ end }
+// Seeks an ASCII character, which is a byte that no other character has (RFC 3629, section 3). As many bytes as there
+// are characters before `end` do not reach behind `end`. Where it is not among these it is sought behind the
+// characters that begin there.
+#[inline(always)]
+fn seek_ascii(s: &str, cursor: &mut StringCursor, character: u32, end: usize) -> bool
+    requires ascii { character < 128 }
+    requires at { StandsInText s.now cursor.old cursor.old.position }
+    requires before { cursor.old.position ≤ end }
     requires within { end ≤ length (chars s.now) }
-    ensures { MatchOption result (NoneIs (chars s.now) character cursor.now.position end)
-        (λ behind. StandsInText s.now behind behind.position
-        × Sought (chars s.now) character cursor.now.position end true behind.position) }
+    ensures after { StandsInText s.now cursor.new cursor.new.position }
+    ensures sought { Sought (chars s.now) character cursor.old.position end result cursor.new.position }
 {
-    let mut next = *cursor;
-    'character: while next.position() < end {
-        let (passed, offset) = char_after(s, &next);
-        next = StringCursor::new(next.position() + 1, offset);
-        if u32::from(passed) == character {
-            return Some(next);
+    'round: while cursor.position() < end {
+        let offset = cursor.offset();
+        let left = end - cursor.position();
+        let rest = s[offset..].as_bytes();
+        match first_byte(&rest[..left], character) {
+            Some(passed) => {
+                let position = cursor.position() + beginnings(&rest[..passed]);
+                *cursor = StringCursor::new(position + 1, offset + passed + 1);
+                return true;
+            }
+            None => *cursor = behind_begun(s, cursor, left),
         }
     }
-    None
+    false
+}
+
+// Seeks any other character, one after the other.
+fn seek_other(s: &str, cursor: &mut StringCursor, character: u32, end: usize) -> bool
+    requires at { StandsInText s.now cursor.old cursor.old.position }
+    requires before { cursor.old.position ≤ end }
+    requires within { end ≤ length (chars s.now) }
+    ensures after { StandsInText s.now cursor.new cursor.new.position }
+    ensures sought { Sought (chars s.now) character cursor.old.position end result cursor.new.position }
+{
+    'character: while cursor.position() < end {
+        let (passed, behind) = char_after(s, cursor);
+        *cursor = StringCursor::new(cursor.position() + 1, behind);
+        if u32::from(passed) == character {
+            return true;
+        }
+    }
+    false
 }
 
 impl<'a> StrDrive for &'a str {
@@ -316,20 +334,10 @@ impl<'a> StrDrive for &'a str {
 
     #[inline]
     fn seek(&self, cursor: &mut StringCursor, character: u32, end: usize) -> bool {
-        let next = if character < 0x80 {
-            behind_ascii(self, cursor, character, end)
+        if character < 0x80 {
+            seek_ascii(self, cursor, character, end)
         } else {
-            behind_other(self, cursor, character, end)
-        };
-        match next {
-            Some(behind) => {
-                *cursor = behind;
-                true
-            }
-            None => {
-                self.skip(cursor, end - cursor.position());
-                false
-            }
+            seek_other(self, cursor, character, end)
         }
     }
 }

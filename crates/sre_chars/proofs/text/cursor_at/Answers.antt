@@ -1,4 +1,4 @@
-use Rattle.std.proofs.Common.{◌≡◌, ◌+◌, ◌≤◌, length, refl, sym, ◌∙◌, subst, arith}
+use Rattle.std.proofs.Common.{◌≡◌, ◌+◌, refl, ◌∙◌, arith}
 use Rattle.sre_chars.proofs.Beginnings.{place_behind}
 use Rattle.sre_chars.proofs.text.cursor_at.Goals as goal
 
