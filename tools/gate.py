@@ -55,8 +55,9 @@ def minutes(seconds):
 
 
 def fields_of(pid):
-    """What the system tells of a process, from its state on."""
-    return wrong_bodies.read(f"/proc/{pid}/stat").rpartition(")")[2].split()
+    """What the system tells of a process, from its state on. Its name, which stands before that, may be of any bytes."""
+    with open(f"/proc/{pid}/stat", "rb") as file:
+        return file.read().rpartition(b")")[2].decode().split()
 
 
 def processor_seconds(fields):
