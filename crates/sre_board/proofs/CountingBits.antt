@@ -1,13 +1,13 @@
 -- How many bits are set: one more where one is set that was not, and none more where words of noughts follow.
-use Rattle.std.proofs.Common.{◌≡◌, ℕ, zero, suc, ◌+◌, ◌*◌, ◌^◌, ◌%◌, ◌<◌, ◌≤◌, List, [], ◌∷◌, ◌++◌, length, replicate}
+use Rattle.std.proofs.Common.{◌≡◌, ℕ, zero, suc, ◌+◌, ◌*◌, ◌^◌, ◌%◌, ◌<◌, ◌≤◌, List, ◌++◌, length, replicate}
 use Rattle.std.proofs.Common.{get_or, slice_set, refl, ap, ◌∙◌, arith, w64, ◌≢◌, inl, inr}
 use Rattle.std.specs.Prelude.{bit_or}
 use Rattle.std.specs.Int.{bit_at}
 use Rattle.std.specs.List.{sum_by}
 use Rattle.std.proofs.lemmas.Bool.{cases_eq}
 use Rattle.std.proofs.lemmas.List.Sums.{sum_by-append, sum_by-set, sum_by-cons}
-use Rattle.std.proofs.lemmas.Nat.Bits.{bit_at_set_same, bit_at_set_other, bit_at-zero, bit_at-lt}
-use Rattle.sre_board.specs.Failures.{Kept, ones, ones_below}
+use Rattle.std.proofs.lemmas.Nat.Bits.{bit_at_set_same, bit_at_set_other, bit_at-zero}
+use Rattle.sre_board.specs.Failures.{ones_below}
 
 same_below : (n v w : ℕ) → ((i : ℕ) → i < n → bit_at v i ≡ bit_at w i) → ones_below n v ≡ ones_below n w
 unfolding ones_below
@@ -59,18 +59,3 @@ sum_filled f xs n e = omega (arith, sum_by-append f xs (replicate n 0), sum_zero
 
 pub none_in_zero : ones_below 64 0 ≡ 0
 none_in_zero = zero_below 64
-
-few_below : (n w : ℕ) → ones_below n w ≤ n
-unfolding ones_below
-few_below zero w = omega arith
-few_below (suc n) w = omega (arith, few_below n w, bit_at-lt w n)
-
-most_sum : (f : ℕ → ℕ) (m : ℕ) (xs : List ℕ) → ((x : ℕ) → f x ≤ m) → sum_by f xs ≤ m * length xs
-most_sum f m [] h = omega arith
-most_sum f m (x ∷ xs) h =
-    let one : m * length (x ∷ xs) ≡ m * length xs + m = grind arith in
-    omega (arith, most_sum f m xs h, h x, sum_by-cons f x xs, one)
-
--- no more bits are set than there are
-pub ones_most : (k : Kept) → ones k ≤ 64 * length k.bits
-ones_most k = most_sum (ones_below 64) 64 k.bits (few_below 64)

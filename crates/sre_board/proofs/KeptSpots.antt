@@ -6,7 +6,7 @@ use Rattle.std.specs.Prelude.{bit_or}
 use Rattle.std.specs.Int.{bit_at}
 use Rattle.std.proofs.lemmas.Bool.{cases_order, cases_eq}
 use Rattle.std.proofs.lemmas.List.{get_or-set_same, get_or-set_other, get_or_append_left, get_or-append_right}
-use Rattle.std.proofs.lemmas.List.{length-replicate, length-set, get_or_read}
+use Rattle.std.proofs.lemmas.List.{length-replicate, get_or_read}
 use Rattle.std.proofs.lemmas.Nat.{same_from_place}
 use Rattle.std.proofs.lemmas.Nat.Bits.{bit_at_set_other, bit_at-zero}
 use Rattle.sre_turns.specs.Alike.{LoopsAlike, Alike, least_from}
@@ -186,18 +186,6 @@ shapes_no_more k more laid = λ ws inside x h.
       };
     }
 
--- more bits, all of them not set
-abbrev pub with_bits : Kept → ℕ → Kept
-with_bits k n = record k { bits = k.bits ++ replicate n 0 }
-
-pub laid_bits : (k : Kept) (n : ℕ) → Laid k → length k.bits + n ≤ 2 ^ 32 → Laid (with_bits k n)
-laid_bits k n laid few = record {
-  within = λ m r e. (omega (arith, length-append k.bits (replicate n 0), (laid.within m r e).0), (laid.within m r e).1);
-  apart = laid.apart;
-  alone = laid.alone;
-  few = omega (arith, few, length-append k.bits (replicate n 0), length-replicate {A = ℕ} n 0);
-}
-
 -- past the bits there were, none is set
 pub bits_after : (bits : List ℕ) (n at bit : ℕ) → length bits ≤ at
     → bit_at (slice_index (bits ++ replicate n 0) at) bit ≡ 1 → ⊥
@@ -216,18 +204,6 @@ bits_before : (bits : List ℕ) (n at bit : ℕ) → at < length bits
     → bit_at (slice_index (bits ++ replicate n 0) at) bit ≡ 1 → bit_at (slice_index bits at) bit ≡ 1
 bits_before bits n at bit h is_set =
     ap (λ w. bit_at w bit) (sym (get_or_append_left bits (replicate n 0) 0 at h)) ∙ is_set
-
-pub bits_no_more : (k : Kept) (n : ℕ) → Laid k → HoldsNoMore k (with_bits k n)
-bits_no_more k n laid = λ ws inside x h.
-    let e = h.entry in
-    let before : h.at < length k.bits =
-    omega (arith, (laid.within e.number e.row e.there).0, e.at_is, e.within) in
-    record {
-      at = h.at;
-      bit = h.bit;
-      is_set = bits_before k.bits n h.at h.bit before h.is_set;
-      entry = entry_below k (with_bits k n) ws inside x h.at h.bit refl refl e;
-    }
 
 -- a row more, with bits of its own
 abbrev pub with_row : Kept → Row → ℕ → Kept
@@ -330,17 +306,6 @@ kept_written k rows shapes bits ws inside x at bit v is laid small there e ev =
     (λ (y : Kept). HoldsOneMore ws inside x y
     (kept_of rows shapes (slice_set bits at (bit_or v ((1 * 2 ^ bit) % 2 ^ 64))))) is
     (rw read more)
-
-pub laid_written : (rows : List Row) (shapes bits : List ℕ) (at v : ℕ) → Laid (kept_of rows shapes bits)
-    → Laid (kept_of rows shapes (slice_set bits at v))
-laid_written rows shapes bits at v laid =
-    let same = length-set bits at v in
-    record {
-      within = λ n r e. (omega (arith, same, (laid.within n r e).0), (laid.within n r e).1);
-      apart = laid.apart;
-      alone = laid.alone;
-      few = omega (arith, same, laid.few);
-    }
 
 -- the row of a number
 pub row_at : (k : Kept) (rows : List Row) (shapes bits : List ℕ) (n : ℕ) (r : Row) → kept_of rows shapes bits ≡ k

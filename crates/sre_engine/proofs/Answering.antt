@@ -1,5 +1,5 @@
 -- The first accepted outcome of a run is the match.
-use Rattle.std.specs.Prelude.{⊤}
+
 use Rattle.std.proofs.Common.{[], ◌≡◌, ◌≤◌, ℕ, Bool, true, false, arith, Option, Some, None, refl}
 use Rattle.std.proofs.Common.{sym, ap, ◌∙◌, subst}
 use Rattle.sre_chars.specs.declared.string.StringCursor.{StringCursor}
@@ -10,7 +10,7 @@ use Rattle.sre_model.specs.Found.{Asked, Match, subject_of, is_accepted, at_star
 use Rattle.sre_turns.specs.Machine.{Decides, outcomes}
 use Rattle.sre_model.specs.Runs.{Run}
 use Rattle.sre_engine.specs.Starts.{NoneBetween}
-use Rattle.sre_engine.specs.Answers.{Shown, Answers, AnswersAnywhere, answer_of, AnswersAlike}
+use Rattle.sre_engine.specs.Answers.{Shown, Answers, AnswersAnywhere, answer_of}
 use Rattle.sre_model.proofs.FoundLaws.{match_of_first, first_accepted-filter, at_start-is, least-found}
 
 -- what a run for a request decides about; the words are those of its tree, whatever they are
@@ -60,16 +60,6 @@ pub given-answer : (stands : StringCursor → ℕ → Type 0) (match : Option Ma
     → Answers stands match b shown → answer_of b shown ≡ match
 given-answer stands None b shown none = rw none refl
 given-answer stands (Some m) b shown some = rw (some.0, some.1.start, some.1.at, some.1.marks) refl
-
--- and so it is that of each other request that asks the same
-pub answers_alike : (model : Asked → Option Match) (asked : Asked)
-    (stands : StringCursor → ℕ → Type 0) (b : Bool) (shown : Shown)
-    → Answers stands (model asked) b shown → AnswersAlike model asked b shown
-answers_alike model asked stands b shown answer = record {
-  alike = λ other c u same told.
-      given-answer (λ _ _. ⊤) (model other) c u told ∙ ap model same
-      ∙ sym (given-answer stands (model asked) b shown answer);
-}
 
 -- an answer tells its match
 pub told : (stands : StringCursor → ℕ → Type 0) (match : Option Match) (b : Bool) (shown : Shown)

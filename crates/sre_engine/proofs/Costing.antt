@@ -134,13 +134,6 @@ module _ {S : Type 0} {text : Ghosts S} (r : Request S text) where
     ];
   }
 
-  -- the same for a search with one memo
-  pub costs_given_up : (begun m : MemoValue) (start : StringCursor) (given left after k : ℕ)
-      → CostsUpTo r begun m given left k → begun.waits ≤ most_waits r → RunGivenUp r start m left after
-      → start_of r ≤ start.position → SearchGivenUp r given after (k + 1)
-  costs_given_up begun m start given left after k old waits run from =
-      given_up_once given after (k + 1) (costs_once begun m start given left after k old waits run from)
-
   -- a first run with no outcome, from where a memo began
   pub costs_first : (m m' : MemoValue) (start : StringCursor) (left after : ℕ) → m.waits ≤ most_waits r
       → m.is_open ≡ false → RunSettles r start m m' left after → start_of r ≤ start.position

@@ -13,14 +13,6 @@ use Rattle.sre_machine.specs.declared.turns.Halt.TheVariants as halt
 use Rattle.sre_engine.specs.Counts.{SpentUpTo}
 use Rattle.sre_engine.specs.Halts.{Halted}
 
--- before any run
-pub none_spent : (a : Asked) (code : Code) (given : ℕ) → SpentUpTo a code given given 0
-none_spent a code given = record { each = λ t whole most within. omega arith }
-
--- where nothing is taken
-pub nothing_spent : (a : Asked) (code : Code) (given started : ℕ) → SpentUpTo a code given given started
-nothing_spent a code given started = record { each = λ t whole most within. omega arith }
-
 -- a run, and those that begin again where it began
 pub once_spent : (a : Asked) (code : Code) (n p given left runs : ℕ) → p ≤ a.end
     → ((t : Tree) → Whole (words_of code) t
@@ -43,14 +35,6 @@ run_spent a code given left after started restarted started' restarted' old one 
       let n = one.each t whole most within in
       let runs : started' + restarted' ≡ (started + restarted) + (1 + restarted' - restarted) = omega (arith, e, l) in
       rw runs (omega (arith, o, n, add-mul (started + restarted) (1 + restarted' - restarted) most));
-}
-
--- where there were no more runs
-pub spent_by : (a : Asked) (code : Code) (given left few runs : ℕ) → SpentUpTo a code given left few → few ≤ runs
-    → SpentUpTo a code given left runs
-spent_by a code given left few runs spent l = record {
-  each = λ t whole most within.
-      omega (arith, spent.each t whole most within, mul-le-mul_right most l);
 }
 
 -- why a run is given up

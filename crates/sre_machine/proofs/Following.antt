@@ -67,12 +67,6 @@ stands_there r all l n n' b b' next board x =
 
 module _ {S : Type 0} {text : Ghosts S} (r : Request S text) (all : List Way) (first : Next) (b : BoardValue)
     (m : MemoValue) (before : ℕ) where
-  -- at first
-  pub follows_first : Follows r all first first b b m m before before
-  follows_first = record {
-    each = λ limit x. (limit, x, refl, refl, refl, pays_nothing r m m limit limit refl (λ h. h) refl refl);
-  }
-
   -- a memo that waits less keeps what it kept
   pays_waited : (m' m₁ : MemoValue) (l : Limit) → m₁ ≡ record m' { waits = m₁.waits } → Pays r m' l m₁ l
   pays_waited m' m₁ l same =
@@ -217,11 +211,6 @@ same_memo m m' e = (ap (λ (k : MemoValue). k.is_open) e, ap (λ (k : MemoValue)
 pub kept_memo : (m m' : MemoValue) → m' ≡ record m { kept = m'.kept }
     → (m'.is_open ≡ m.is_open) × (m'.waits ≡ m.waits)
 kept_memo m m' e = (ap (λ (k : MemoValue). k.is_open) e, ap (λ (k : MemoValue). k.waits) e)
-
--- before any turn
-pub counts_first : {S : Type 0} {text : Ghosts S} (r : Request S text) (m : MemoValue) (left turned : ℕ)
-    → Counts r m m left left turned
-counts_first r m left turned = record { spent = λ keeps. inr (keeps, λ pl. omega arith) }
 
 -- a run from its first instruction on
 module _ {S : Type 0} {text : Ghosts S} (r : Request S text) (all : List Way) (i : ℕ) (t : Tree) (start : StringCursor)

@@ -1,7 +1,7 @@
 -- Loops that are alike: how long they stay so, and that they decide alike on a further body. So the memory of failures
 -- keeps of a loop its count, as far as it is told, and one bit of its last body.
 use Rattle.std.proofs.Common.{◌≡◌, ℕ, ◌+◌, ◌≤◌, Bool, true, false, not, ◌&&◌, ◌||◌, List, [], ◌∷◌, min, max, drop}
-use Rattle.std.proofs.Common.{nat_eq, nat_lt, Option, Some, None, IfSome, refl, sym, ap, ◌∙◌, subst, arith}
+use Rattle.std.proofs.Common.{nat_eq, nat_lt, Option, Some, None, refl, sym, ap, ◌∙◌, subst, arith}
 use Rattle.std.proofs.lemmas.Bool.Decides.{nat_tests}
 use Rattle.sre_model.specs.Ways.{unlimited, may_repeat}
 use Rattle.sre_model.specs.Grammar.{Word}
@@ -51,14 +51,6 @@ loop_beside ws p f outer fs gs e h = go gs (subst (λ x. LoopsAlike ws p x gs) e
     go : (gs : List Frame) → LoopsAlike ws p (f ∷ outer) gs → Beside ws p f outer gs
     go [] h = absurd h
     go (g ∷ gs) h = record { frame = g; others = gs; inside = refl; alike = h.0; around = h.1 }
-
--- of the last body it is enough to know whether it began here, where none began later
-pub last-alike : (a b : Option ℕ) (p : ℕ) → IfSome a (λ last. last ≤ p) → IfSome b (λ last. last ≤ p)
-    → is_last a p ≡ is_last b p → (q : ℕ) → p ≤ q → is_last a q ≡ is_last b q
-last-alike None None p l k same q at = refl
-last-alike None (Some b) p l k same q at = grind (arith, nat_tests)
-last-alike (Some a) None p l k same q at = grind (arith, nat_tests)
-last-alike (Some a) (Some b) p l k same q at = grind (arith, nat_tests)
 
 -- a further body leaves them alike
 held-alike : (a b cap : ℕ) → min a cap ≡ min b cap

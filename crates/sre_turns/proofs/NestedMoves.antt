@@ -23,7 +23,7 @@ use Rattle.sre_turns.specs.declared.Region.TheVariants.{AtomicGroup, Ahead, NotA
 use Rattle.sre_turns.specs.declared.Region.{Region}
 use Rattle.sre_turns.specs.declared.Point.TheVariants.{Instruction, Alternatives, Shorter, Longer, Again}
 use Rattle.sre_turns.specs.declared.Point.{Point}
-use Rattle.sre_turns.specs.Moves.{Spot, to_place, into_region, Move, Stop, End, Go, Split, Enter, closing_move}
+use Rattle.sre_turns.specs.Moves.{Spot, to_place, into_region, Move, Stop, Go, Enter, closing_move}
 use Rattle.sre_turns.specs.Moves.{AlternativesMove}
 use Rattle.sre_turns.specs.MovesInRuns.{run_turn, ShorterMove, LongerMove}
 use Rattle.sre_turns.specs.MovesInLoops.{at_body, behind, in_order, next_frame, AgainMove}
@@ -402,11 +402,3 @@ lies_moves ws s t w x mv y h =
     let P : Point → List ℕ → Type 0 = λ pt ks. LiesIn ws 0 (length ws - 1) t w.0 [] pt ks in
     tree_leads ws s x mv h P 0 (length ws - 1) t w.0 [] (λ pt ks z. z)
     (λ z. success_leads ws s x mv h P (length ws - 1) [] z w.1) y
-
--- what a region closes with is a turn
-pub onto_leads : (ws : List ℕ) (s : Subject) (P : Spot → Type 0) (mv : Move) → Onto P mv → Leads ws s P mv
-onto_leads ws s P Stop h = h
-onto_leads ws s P End h = h
-onto_leads ws s P (Go y) h = h
-onto_leads ws s P (Split y z) h = h
-onto_leads ws s P (Enter g y z) h = absurd h

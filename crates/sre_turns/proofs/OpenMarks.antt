@@ -8,10 +8,9 @@ use Rattle.sre_model.specs.Runs.{Run}
 use Rattle.sre_turns.specs.Board.{Choice, Else, Keep, Trying, BoardValue}
 use Rattle.sre_turns.specs.Moves.{Spot}
 use Rattle.sre_turns.specs.MovesAtReferences.{HasReference}
-use Rattle.sre_turns.specs.declared.Point.TheVariants.{Instruction}
 use Rattle.sre_turns.specs.declared.Point.{Point}
 use Rattle.sre_turns.specs.Limits.{Limit}
-use Rattle.sre_turns.specs.Machine.{Runs, Waits, otherwise, tried, Arrives, Stands, spot}
+use Rattle.sre_turns.specs.Machine.{Runs, Waits, otherwise, tried, Arrives, spot}
 use Rattle.sre_turns.specs.declared.Next.TheVariants as next
 use Rattle.std.specs.List.{AllByRecursion}
 use Rattle.sre_turns.specs.Alike.{Alike}
@@ -36,13 +35,6 @@ pub none_open : (r : Run) → (HasReference r.words → ⊥)
     → (all : List Way) (limit : Limit) (pt : Point) (c : StringCursor)
     (b : BoardValue) → Arrives r all limit pt c b → NoneOpen r.words (spot pt c b) b.choices
 none_open r none all limit pt c b g = apart r none (spot pt c b) g.now g.turns g.runs b.choices (omega arith) g.waits
-
--- so none is alike to an instruction at which the machine stands
-pub none_alike_open : (r : Run) → (HasReference r.words → ⊥)
-    → (all : List Way) (limit : Limit) (i : ℕ) (c : StringCursor)
-    (b : BoardValue) → Stands r all limit (next.At i c) b
-    → NoneOpen r.words (spot (Instruction i) c b) b.choices
-none_alike_open r none all limit i c b g = none_open r none all limit (Instruction i) c b g
 
 -- so none of the spots that are tried is alike, where no region is in progress
 pub none_tried : (ws : List ℕ) (P : Spot → Type 0) (x : Spot) (cs : List Choice) → EachChoice P cs → NoneOpen ws x cs

@@ -13,7 +13,6 @@ use Rattle.sre_turns.specs.declared.Next.TheVariants as next
 use Rattle.sre_turns.specs.Limits.{Limit, with_tried, without_tried, Stage, Going, Splitting, spare, Fares}
 use Rattle.sre_turns.specs.Settled.{Regionless}
 use Rattle.sre_turns.specs.Machine.{Runs, Waits, tried, GoesWith, Goes, Arrives, Tries, Backs, Later, spot}
-use Rattle.sre_turns.specs.Machine.{IsAt}
 use Rattle.sre_turns.specs.Fruit.{Fruitless, SameFruit, is_inside}
 use Rattle.sre_turns.specs.Alike.{Alike, LoopsAlike, least_from}
 use Rattle.sre_turns.specs.Hopeless.{Hopeless, AcceptsByStop}
@@ -109,16 +108,6 @@ tried_came r i c b b' e all limit g = go (subst (λ x. Waits r x 0 [] all g.late
         → CameToNothing r (is_inside b'.choices) (spot (Instruction i) c b')
     go (tried {n = n} {os = os} there placed d most same wt) =
         record { outcomes = os; turns = n; runs = d; fruitless = tried_fruitless r (is_inside b'.choices) os same }
-
--- the machine may stand at it again
-pub tried_at : (r : Run) (i : ℕ) (c : StringCursor) (b b' : BoardValue)
-    → b.choices ≡ Trying i b'.frames c b'.marks ∷ b'.choices → (all : List Way) (limit : Limit) → Backs r all limit b
-    → IsAt r (Instruction i) c b'
-tried_at r i c b b' e all limit g = go (subst (λ x. Waits r x 0 [] all g.later) e g.waits)
-  where
-    go : {k : ℕ} → Waits r (Trying i b'.frames c b'.marks ∷ b'.choices) 0 [] all k → IsAt r (Instruction i) c b'
-    go (tried {n = n} {os = os} there placed d most same wt) =
-        record { outcomes = os; turns = n; stands = there; placed = placed; runs = d }
 
 -- so it is hopeless
 pub tried_hopeless : (r : Run) → AcceptsByStop r → (HasReference r.words → ⊥) → (i : ℕ) (c : StringCursor)
