@@ -1,4 +1,4 @@
-"""Words item by item, with their places, and why words are refused (docs/WORDS.md).
+"""Words item by item, with their places, why words are refused (docs/WORDS.md), and of what they ask the table.
 
 A `Listing` looks at the same words as `Code::check` and in the same order, so both name the same cause and place.
 """
@@ -354,3 +354,35 @@ class Listing:
         r'CHARSET': charset,
         r'BIGCHARSET': bigcharset,
     }
+
+
+# The program's table
+
+# The names of opcodes, positions and categories that ask the table about characters past ASCII, and for which of these
+# characters Python knows what a table of ASCII alone doesn't.
+ASKING = {
+    'UNI_(NOT_)?DIGIT': str.isdecimal,
+    'UNI_(NOT_)?WORD|UNI_(NON_)?BOUNDARY': str.isalnum,
+    '(GROUPREF|IN|(NOT_)?LITERAL)_UNI_IGNORE': lambda letter: letter.lower() != letter,
+    'RANGE_UNI_IGNORE': lambda letter: letter.lower() != letter or letter.upper() != letter,
+}
+
+
+def unknown_letters(listing, asked):
+    """A line on characters past ASCII of which words ask the table; None where there are none.
+
+    They are the text's. Of a check, which has none, they are those of the literals.
+    """
+    text = asked.text.decode('latin-1') if isinstance(asked.text, bytes) else asked.text
+    if asked.verb == 'check':
+        text = ''.join(chr(value) for value in listing.literals if value <= sys.maxunicode)
+        text += text.swapcase()
+    found = [(name, letter) for family, is_unknown in ASKING.items()
+             for name in sorted(listing.used) if re.fullmatch(family, name)
+             for letter in dict.fromkeys(text) if letter > '\x7f' and is_unknown(letter)]
+    if not found:
+        return None
+    names, letters = (list(dict.fromkeys(each)) for each in zip(*found))
+    shown = ' '.join(map(repr, letters[:8])) + ' ...' * (len(letters) > 8)
+    return (f"the program's table knows ASCII alone, so its answer may differ from Python's: "
+            f'{", ".join(names)} asked of {shown}')

@@ -4,27 +4,31 @@
     words.py VERB PATTERN [TEXT]        writes the case; the verb is match, search, walk or check
     words.py --raw VERB WORDS [TEXT]    does so for words in place of a pattern
     words.py --cases FILE NAME          writes NAME.txt and NAME.expected from a file of patterns
+    words.py --rust NAME PATTERN ..     writes each pattern's words as a constant, and the numbers of its named groups
     words.py --tree PATTERN             writes the pattern's tree as a Rust expression of `Part`
 
 With --explain a case's words are listed item by item, and with --run the program answers it. The
 words of a pattern are those that CPython's own compiler makes, and the answers those of CPython's
 `re`. Where a text has letters past ASCII, which the program's table doesn't know, and the words ask
-about such letters, a line on standard error says so.
+about such letters, a line on standard error says so. Flags are joined: `-f im` is `-f i -f m`.
 
 It runs under CPython 3.11 to 3.13 and needs nothing else. The status is 0; or 1 where --run finds
 that the answers differ, or --explain that the words are refused; or 2 behind a line on standard
-error.
+error for each fault.
 """
 
 import argparse
+import contextlib
 import os
 import re
 import shutil
+import signal
 import subprocess
 import sys
 import tempfile
 import textwrap
 import typing
+import warnings
 
 # An older Python ends here with a line, if it can read so far: this file and those that import it have no syntax that
 # Python 3.6 lacks, and import what has such a syntax, or is not there, below.
@@ -38,8 +42,9 @@ except ImportError:
           file=sys.stderr)
     sys.exit(2)
 
+import constants
 import trees
-from listing import CATEGORIES, NUMBER, OPCODES, POSITIONS, UNLIMITED, Listing
+from listing import CATEGORIES, NUMBER, OPCODES, POSITIONS, UNLIMITED, Listing, unknown_letters
 
 # CPython 3.11, 3.12 and 3.13: the layouts of their words were compared.
 MAGICS = (20220615, 20221023, 20230612)
@@ -49,7 +54,7 @@ KEYS = ('name', 'flags', 'verb', 'window', 'pattern', 'text', 'bytes')
 
 
 class Fault(Exception):
-    """What ends the program with one line and status 2."""
+    """What ends the program with a line for each of its arguments, and status 2."""
 
 
 def require_known_numbers():
@@ -71,12 +76,21 @@ def require_program(path):
 
 
 def status_of(main):
-    """The status that `main` gives, or 2 behind one line where it ends by a fault."""
+    """The status that `main` gives, or 2 behind the lines of a fault that ends it."""
+    # what Python says of patterns that a later one may read otherwise is no matter of the words
+    warnings.simplefilter('ignore')
     try:
         return main()
-    except (Fault, OSError, UnicodeError, subprocess.SubprocessError) as fault:
-        print(f'{COMMAND}: {fault}', file=sys.stderr)
-        return 2
+    except Fault as fault:
+        lines = fault.args
+    except RecursionError:
+        lines = ['the pattern is nested too deeply for this Python']
+    except (OSError, UnicodeError, subprocess.SubprocessError) as error:
+        lines = [str(error)]
+    for line in lines:
+        shown = ''.join(it if it.isprintable() else ascii(it)[1:-1] for it in line)
+        print(f'{COMMAND}: {shown}', file=sys.stderr)
+    return 2
 
 
 # Patterns, and what is asked of them
@@ -173,38 +187,6 @@ def case_line(words, asked):
                    '{}..{}'.format(*asked.window) if asked.window else 'all',
                    'f' * asked.match_all + 'a' * asked.must_advance or '-']
     return ' '.join(fields)
-
-
-# The program's table
-
-# The names of opcodes, positions and categories that ask the table about characters past ASCII, and for which of these
-# characters Python knows what a table of ASCII alone doesn't.
-ASKING = {
-    'UNI_(NOT_)?DIGIT': str.isdecimal,
-    'UNI_(NOT_)?WORD|UNI_(NON_)?BOUNDARY': str.isalnum,
-    '(GROUPREF|IN|(NOT_)?LITERAL)_UNI_IGNORE': lambda letter: letter.lower() != letter,
-    'RANGE_UNI_IGNORE': lambda letter: letter.lower() != letter or letter.upper() != letter,
-}
-
-
-def unknown_letters(listing, asked):
-    """A line on characters past ASCII of which words ask the table; None where there are none.
-
-    They are the text's. Of a check, which has none, they are those of the literals.
-    """
-    text = asked.text.decode('latin-1') if isinstance(asked.text, bytes) else asked.text
-    if asked.verb == 'check':
-        text = ''.join(chr(value) for value in listing.literals if value <= sys.maxunicode)
-        text += text.swapcase()
-    found = [(name, letter) for family, is_unknown in ASKING.items()
-             for name in sorted(listing.used) if re.fullmatch(family, name)
-             for letter in dict.fromkeys(text) if letter > '\x7f' and is_unknown(letter)]
-    if not found:
-        return None
-    names, letters = (list(dict.fromkeys(each)) for each in zip(*found))
-    shown = ' '.join(map(repr, letters[:8])) + ' ...' * (len(letters) > 8)
-    return (f"the program's table knows ASCII alone, so its answer may differ from Python's: "
-            f'{", ".join(names)} asked of {shown}')
 
 
 # Python's answers
@@ -335,15 +317,30 @@ def write_lines(path, lines):
 # The command
 
 
-def compare(program, line, names, expected):
+@contextlib.contextmanager
+def limited(seconds, what):
+    """Ends what is done here by a fault where it takes longer."""
+
+    def give_up(*_):
+        raise Fault(f'{what} has no answer after {seconds} s; --seconds N gives it more')
+
+    signal.signal(signal.SIGALRM, give_up)
+    signal.alarm(seconds)
+    try:
+        yield
+    finally:
+        signal.alarm(0)
+
+
+def compare(options, line, names, expected):
     """Writes the case, the names of groups and both answers, and gives the status: 0 where they are the same.
 
     Words without a pattern have no answer of Python's.
     """
-    with tempfile.TemporaryDirectory() as room:
+    with tempfile.TemporaryDirectory() as room, limited(options.seconds, options.run):
         path = os.path.join(room, 'cases')
         write_lines(path, [line])
-        done = subprocess.run([program, path], capture_output=True, text=True, check=False)
+        done = subprocess.run([options.run, path], capture_output=True, text=True, check=False)
     ours = (done.stdout + done.stderr).strip() or f'nothing, and status {done.returncode}'
     print(f'case    {line}')
     if names:
@@ -365,13 +362,37 @@ class Arguments(argparse.ArgumentParser):
         raise Fault(f'{message}; --help tells the arguments')
 
 
+def with_values(given):
+    """Arguments where the value of an option hangs on it, since one that begins with a dash is an option otherwise."""
+    long = {'-f': '--flags', '-w': '--window'}
+    joined, given = [], iter(given)
+    for word in given:
+        option = long.get(word, word)
+        value = next(given, None) if option in ('--flags', '--window', '--run', '--seconds', '--tree') else None
+        joined.append(word if value is None else f'{option}={value}')
+    return joined
+
+
+def options_of(given):
+    """The options that are given, and the other words, among them all behind --."""
+    end = given.index('--') if '--' in given else len(given)
+    options = arguments().parse_intermixed_args(with_values(given[:end]))
+    options.words += given[end + 1:]
+    return options
+
+
+def seconds_of(written):
+    if not re.fullmatch('[1-9][0-9]{0,5}', written):
+        raise Fault(f'{written} is no number of seconds: write one from 1 to 999999')
+    return int(written)
+
+
 def arguments():
-    parser = Arguments(description=__doc__, formatter_class=argparse.RawDescriptionHelpFormatter)
+    parser = Arguments(description=__doc__, formatter_class=argparse.RawDescriptionHelpFormatter, allow_abbrev=False)
     add = parser.add_argument
-    add('verb', nargs='?', metavar='VERB', help=', '.join(VERBS))
-    add('pattern', nargs='?', metavar='PATTERN', help='behind -- where it begins with a dash')
-    add('text', nargs='?', metavar='TEXT', help='for every verb but check')
-    add('-f', '--flags', default='', metavar='LETTERS', help=f'of {"".join(FLAGS)}, as in re')
+    add('words', nargs='*', metavar='VERB PATTERN TEXT',
+        help=f'{", ".join(VERBS)}; a pattern; a text for every verb but check; behind -- where one begins with a dash')
+    add('-f', '--flags', action='append', default=[], metavar='LETTERS', help=f'of {"".join(FLAGS)}, as in re')
     add('-w', '--window', default='all', metavar='I..J', help='the window in the text, or all')
     add('--match-all', action='store_true', help="a match has to end at the window's end")
     add('--must-advance', action='store_true', help="a match may not end at the window's start")
@@ -381,33 +402,44 @@ def arguments():
     add('--raw', action='store_true', help='in place of a pattern there are words, as a case has them')
     add('--explain', action='store_true', help='list the words, item by item, or up to where they are refused')
     add('--run', metavar='PROGRAM', help="run sre_cases, and compare its answer with Python's")
+    add('--seconds', type=seconds_of, default=20, metavar='N', help='what --run gives the program, and Python (20)')
     add = parser.add_mutually_exclusive_group().add_argument
     add('--cases', nargs=2, metavar=('FILE', 'NAME'), help='write a case file from patterns')
+    add('--rust', action='store_true', help='write words as constants: NAME PATTERN, or several such pairs')
     add('--tree', metavar='PATTERN', help='write the tree of a pattern as a Rust expression')
     return parser
 
 
-def listed(options):
+def pattern_of(source, options):
+    """The pattern that is given, with the flags of the options."""
+    return compiled(characters(source, options.bytes, False), flags_of(''.join(options.flags)))
+
+
+def words_for(pattern, options):
+    """The words of a pattern, cut as the options say."""
+    return without_block(pattern.words) if options.no_block else pattern.words
+
+
+def listed(source, options):
     """The listing of the words, and the pattern that they are of, if there is one."""
     if options.raw:
         if options.flags or options.no_block:
             raise Fault('--raw takes words as they are, and neither --flags nor --no-block beside')
-        return Listing(words_of(options.pattern)), None
-    pattern = compiled(characters(options.pattern, options.bytes, False), flags_of(options.flags))
-    words = without_block(pattern.words) if options.no_block else pattern.words
-    return Listing(words, pattern.names()), pattern
+        return Listing(words_of(source)), None
+    pattern = pattern_of(source, options)
+    return Listing(words_for(pattern, options), pattern.names()), pattern
 
 
 def one_case(options):
     """Does what the options say of one pattern, and gives the status."""
-    if (options.verb not in VERBS or options.pattern is None
-            or (options.text is None) != (options.verb == 'check')):
+    verb = options.words[0] if options.words else None
+    if verb not in VERBS or len(options.words) != (2 if verb == 'check' else 3):
         raise Fault('write match, search or walk, a pattern and a text, or check and a pattern; '
                     '--help tells the options')
     if options.run is not None:
         require_program(options.run)
-    listing, pattern = listed(options)
-    asked = Asked(options.verb, characters(options.text or '', options.bytes, options.escapes),
+    listing, pattern = listed(options.words[1], options)
+    asked = Asked(verb, characters(''.join(options.words[2:]), options.bytes, options.escapes),
                   window_of(options.window), options.match_all, options.must_advance)
     note = unknown_letters(listing, asked)
     if note:
@@ -419,24 +451,44 @@ def one_case(options):
         print(line)
     status = 1 if options.explain and not listing.is_code else 0
     if options.run is not None:
-        status |= compare(options.run, line, listing.groups, pattern and answer(pattern, asked))
+        with limited(options.seconds, 'Python'):
+            expected = pattern and answer(pattern, asked)
+        status |= compare(options, line, listing.groups, expected)
     return status
 
 
 def show_tree(options):
     """Writes a pattern's tree as a Rust expression."""
-    pattern = compiled(characters(options.tree, options.bytes, False), flags_of(options.flags))
+    pattern = pattern_of(options.tree, options)
     print(trees.expression(without_block(pattern.words), OPCODES, POSITIONS, CATEGORIES))
+
+
+def show_constants(options):
+    """Writes patterns' words as constants; where one of them can't be, nothing but a line for each fault."""
+    if not options.words or len(options.words) % 2:
+        raise Fault('--rust takes pairs, a name and a pattern each; --help tells the options')
+    named, faults = [], []
+    for name, source in zip(options.words[::2], options.words[1::2]):
+        try:
+            named.append((name, pattern_of(source, options)))
+        except Fault as fault:
+            faults.append(f'{name}: {fault}')
+    faults += constants.faults(named)
+    if faults:
+        raise Fault(*faults)
+    print(constants.file_of(named, lambda it: words_for(it, options), FLAGS))
 
 
 def main():
     require_known_numbers()
-    options = arguments().parse_intermixed_args()
-    if options.tree is None and options.cases is None:
+    options = options_of(sys.argv[1:])
+    if options.tree is None and options.cases is None and not options.rust:
         return one_case(options)
-    if options.verb or options.run or options.explain or options.raw:
-        raise Fault('--cases and --tree take no verb, and none of --run, --explain and --raw beside')
-    if options.tree is not None:
+    if options.run or options.explain or options.raw or options.words and not options.rust:
+        raise Fault('--cases, --rust and --tree take no verb, and none of --run, --explain and --raw beside')
+    if options.rust:
+        show_constants(options)
+    elif options.tree is not None:
         show_tree(options)
     else:
         write_cases(*options.cases, options.no_block)

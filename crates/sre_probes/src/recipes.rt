@@ -140,7 +140,7 @@ fn push_groups<A: Allocator + Copy>(
         return answer.push_str("no");
     };
     write!(answer, "[{whole}]")?;
-    for group in 0..4 {
+    for group in 1..5 {
         match group_text(text, state, group) {
             Some(part) => write!(answer, " {group}[{part}]")?,
             None => write!(answer, " {group}-")?,

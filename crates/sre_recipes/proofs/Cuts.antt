@@ -1,5 +1,5 @@
 -- Where a text is cut: the bytes between the offsets of two places are the characters between these.
-use Rattle.std.proofs.Common.{◌≡◌, ℕ, ◌+◌, ◌-◌, ◌<◌, ◌≤◌, List, ◌++◌, length, take, drop, ap, sym, ◌∙◌, arith}
+use Rattle.std.proofs.Common.{◌≡◌, ℕ, ◌+◌, ◌-◌, ◌<◌, ◌≤◌, List, [], ◌++◌, length, take, drop, ap, sym, ◌∙◌, arith}
 use Rattle.std.proofs.Common.{◌≢◌, inl, inr, length-append}
 use Rattle.std.proofs.Math.Seq.{take-add, take-append_seam, take-length, drop-length}
 use Rattle.std.proofs.lemmas.List.{take-append-drop}
@@ -62,3 +62,9 @@ some_before_end bs p u h e = elim (cases_lt p (length (chars bs))) [
       ∙ ap (λ cs. length (encodes cs)) (take-length (chars bs))
       ∙ ap length (encodes-chars bs u)))
 ]
+
+-- where the end is before the start there is nothing between
+pub nothing_between : (cs : List ℕ) (from to : ℕ) → to < from → [] ≡ slice_range cs from to
+nothing_between cs from to behind =
+    let none : to - from ≡ 0 = omega arith in
+    ap (λ (n : ℕ). take n (drop from cs)) (sym none)

@@ -2,3 +2,4 @@ pub mod Cuts
 pub mod Steps
 pub mod Adjoining
 pub mod Written
+pub mod Bounding

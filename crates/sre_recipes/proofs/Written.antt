@@ -1,24 +1,29 @@
 -- What a step over a match adds to pieces, to tokens and to a text.
-use Rattle.std.proofs.Common.{◌≡◌, ℕ, List, [], ◌∷◌, ◌++◌, map, ap, sym, ◌∙◌, append_assoc}
+use Rattle.std.proofs.Common.{◌≡◌, ℕ, List, [], ◌∷◌, ◌++◌, map, ap, sym, ◌∙◌, append_assoc, ◌+◌, arith}
 use Rattle.std.proofs.lemmas.List.{append-nil, map-append}
-use Rattle.std.specs.List.{slice_range}
+use Rattle.std.proofs.lemmas.List.FromFn.{map-range_with_len_more}
+use Rattle.std.specs.List.{slice_range, range_with_len}
 use Rattle.sre_engine.specs.Found.{Match}
-use Rattle.sre_recipes.specs.Slices.{slice_of}
 use Rattle.sre_recipes.specs.Pieces.{pieces_between}
 use Rattle.sre_recipes.specs.Templates.{replaced}
 use Rattle.sre_recipes.specs.Lexed.{Lexeme, reached, lexeme_of}
 use Rattle.sre_recipes.specs.Adjoining.{adjoining, unless_empty}
 use Rattle.sre_recipes.proofs.Adjoining.{adjoining_step, reached_step}
 
--- the text of a match
-pub texts_step : (text : List ℕ) (xs ys : List (List ℕ)) (m : Match) (left ms : List Match) (all : List (List ℕ))
-    → left ≡ m ∷ ms → ys ≡ xs ++ slice_of text m ∷ []
-    → xs ++ map (slice_of text) left ≡ all → ys ++ map (slice_of text) ms ≡ all
-texts_step text xs ys m left ms all step is kept =
-    rw is
-    (append_assoc xs (slice_of text m ∷ []) (map (slice_of text) ms)
-    ∙ ap (λ l. xs ++ map (slice_of text) l) (sym step)
-    ∙ kept)
+-- what a match adds to a list of something for each
+pub listed_step : {X : Type 0} (f : Match → X) (xs ys : List X) (m : Match) (left ms : List Match) (all : List X)
+    → left ≡ m ∷ ms → ys ≡ xs ++ f m ∷ [] → xs ++ map f left ≡ all → ys ++ map f ms ≡ all
+listed_step f xs ys m left ms all step is kept =
+    rw is (append_assoc xs (f m ∷ []) (map f ms) ∙ ap (λ l. xs ++ map f l) (sym step) ∙ kept)
+
+-- one more of what a function gives at each number
+pub counted_step : {X : Type 0} (f : ℕ → X) (old xs ys : List X) (n : ℕ) → ys ≡ xs ++ f n ∷ []
+    → xs ≡ old ++ map f (range_with_len 0 n) → ys ≡ old ++ map f (range_with_len 0 (n + 1))
+counted_step f old xs ys n is so_far =
+    is
+    ∙ ap (λ l. l ++ f n ∷ []) so_far
+    ∙ append_assoc old (map f (range_with_len 0 n)) (f n ∷ [])
+    ∙ ap (λ l. old ++ l) (sym (map-range_with_len_more f 0 n n (omega arith)))
 
 -- the piece before a match
 pub pieces_step : (text : List ℕ) (xs ys : List (List ℕ)) (m : Match) (left ms : List Match) (p q stop : ℕ)

@@ -1,7 +1,10 @@
 pub mod Slices
+pub mod Captured
+pub mod Bounded
 pub mod Pieces
 pub mod Templates
 pub mod Lexed
 pub mod Spans
+pub mod Limits
 pub mod Adjoining
 pub mod Rows

@@ -5,7 +5,7 @@ use Rattle.sre_model.specs.Ways.{unlimited}
 use Rattle.sre_model.specs.Found.{walk}
 use Rattle.sre_model.specs.Shown.{items, is_a, a, b, whole, window, span, marked}
 use Rattle.sre_recipes.specs.declared.replace.Piece.TheVariants.{Match, Group}
-use Rattle.sre_recipes.specs.Slices.{slice_of, group_of}
+use Rattle.sre_recipes.specs.Slices.{slice_of, group_of, captured}
 use Rattle.sre_recipes.specs.Pieces.{pieces_between}
 use Rattle.sre_recipes.specs.Templates.{written, replaced}
 use Rattle.sre_recipes.specs.Lexed.{token_matches, reached}
@@ -36,9 +36,16 @@ replaced_by_a_dash : replaced (codes "bab") (λ m. codes "-") 0 3 (walk (whole (
 replaced_by_a_dash = refl
 
 -- a group that took no part gives nothing
-replaced_by_groups : replaced (codes "abc") (written (codes "abc") (Group 0 ∷ Match ∷ Group 1 ∷ Group 1 ∷ [])) 0 3
-    (walk (whole (codes "abc")) either_letter) ≡ codes "aabbbc"
+replaced_by_groups : replaced (codes "abc") (written (codes "abc") (Group 1 ∷ Match ∷ Group 2 ∷ Group 0 ∷ [])) 0 3
+    (walk (whole (codes "abc")) either_letter) ≡ codes "aaabbbc"
 replaced_by_groups = refl
+
+-- the match stands in front, and a group that the marks do not reach is left out
+captured_groups : map (captured (codes "abc")) (walk (whole (codes "abc")) either_letter)
+    ≡ (Some (codes "a") ∷ Some (codes "a") ∷ [])
+    ∷ (Some (codes "b") ∷ None ∷ Some (codes "b") ∷ [])
+    ∷ []
+captured_groups = refl
 
 group_past_the_text : group_of (codes "ab") (marked 0 1 (Some 1 ∷ Some 3 ∷ []) (pos 1)).marks 0 ≡ None
 group_past_the_text = refl

@@ -6,13 +6,13 @@ use Rattle.std.specs.Str.{chars}
 use Rattle.sre_engine.specs.Found as model
 use Rattle.sre_recipes.specs.declared.replace.Piece.{Piece}
 use Rattle.sre_recipes.specs.declared.replace.Piece.TheVariants.{Text, Match, Group}
-use Rattle.sre_recipes.specs.Slices.{slice_of, group_of}
+use Rattle.sre_recipes.specs.Slices.{slice_of, numbered_group}
 
 -- the characters that a piece stands for; a group that took no part stands for none
 abbrev pub piece_of : List ℕ → model.Match → Piece → List ℕ
 piece_of text m (Text literal) = chars literal.now
 piece_of text m Match = slice_of text m
-piece_of text m (Group g) = unwrap_or (group_of text m.marks g) []
+piece_of text m (Group number) = unwrap_or (numbered_group text m number) []
 
 -- a template's pieces, one after the other
 abbrev pub written : List ℕ → List Piece → model.Match → List ℕ

@@ -79,6 +79,13 @@ fn add_all_pieces<'t, A: Allocator + Copy>(
 /// The pieces of a window between its matches, as Python's `split` gives them for a pattern without groups: one more
 /// than there are matches, empty ones among them. An empty match divides, too.
 ///
+/// ```
+/// // The words of `,`.
+/// let code = Code::check(alloc, &[16, 44, 1], &uni)?;
+/// let pieces = split(alloc, Request::new("é,,b", 0, usize::MAX, code, false))?;
+/// assert!(pieces.as_slice() == ["é", "", "b"].as_slice());
+/// ```
+///
 /// # Errors
 ///
 /// [`SreError::Memory`], where a growth was refused.

@@ -8,15 +8,15 @@ ghost use Rattle.sre_engine.specs.Tree.{Tree};
 ghost use Rattle.sre_engine.specs.Grammar.{Whole};
 ghost use Rattle.sre_engine.specs.Found.{matched, found, walk};
 ghost use Rattle.sre_engine.specs.Codes.{words_of};
-ghost use Rattle.sre_engine.specs.Requests.{string_of, code_of, asked_of, stands_in};
-ghost use Rattle.sre_engine.specs.Answers.{Answers};
+ghost use Rattle.sre_engine.specs.Requests.{string_of, start_of, end_of, code_of, asked_of, stands_in};
+ghost use Rattle.sre_engine.specs.Answers.{Answers, Spans};
 ghost use Rattle.sre_engine.specs.Iterators.{request_of, left_of};
 ghost use Rattle.sre_growth.specs.Refusal.{Refused};
-ghost use Rattle.sre_recipes.specs.Slices.{slice_of};
+ghost use Rattle.sre_recipes.specs.Slices.{slice_of, to_the_end};
 
 use crate::slice::{between, matched_text};
 use crate::span::{Span, next_span};
-use sre_engine::{Request, SearchIter, SreError, State};
+use sre_engine::{Request, SearchIter, SreError, State, StrDrive};
 use std::alloc::Allocator;
 
 // Appends the text of a match.
@@ -72,6 +72,13 @@ fn add_all_texts<'t, A: Allocator + Copy>(
 }
 
 /// The texts of all matches of a window, in order, as Python's `findall` gives them for a pattern without groups.
+///
+/// ```
+/// // The words of `a`.
+/// let code = Code::check(alloc, &[16, 97, 1], &uni)?;
+/// let all = find_all(alloc, Request::new("éaba", 0, usize::MAX, code, false))?;
+/// assert!(all.as_slice() == ["a", "a"].as_slice());
+/// ```
 ///
 /// # Errors
 ///
@@ -150,4 +157,46 @@ pub fn search_text<'t, A: Allocator + Copy>(
     let text = req.string();
     let found = state.search(req)?;
     Ok(text_if(found, text, state))
+}
+
+/// Whether a window has a match, as `State::search` finds it; a text of any type.
+///
+/// ```
+/// // The words of `b`.
+/// let code = Code::check(alloc, &[16, 98, 1], &uni)?;
+/// assert!(is_match(alloc, Request::new("abc", 0, usize::MAX, code, false))?);
+/// ```
+///
+/// # Errors
+///
+/// [`SreError::Memory`], where a growth was refused.
+pub fn is_match<S: StrDrive, A: Allocator + Copy>(
+    alloc: A,
+    req: Request<'_, S>,
+) -> Result<bool, SreError>
+    ensures ok { (t : Tree) → Whole (words_of (code_of req.entry)) t
+        → IfOk result (λ b. b ≡ is_some (found (asked_of req.entry) t)) }
+    ensures refused { OnErr result Refused }
+{
+    let mut state = State::new(alloc);
+    state.search(req)
+}
+
+/// Matches the whole window, as Python's `fullmatch`: whether a match goes from the window's start to its end, which
+/// the state then shows; a text of any type. The request's own `match_all` does not matter.
+///
+/// # Errors
+///
+/// [`SreError::Memory`], where a growth was refused.
+pub fn full_match<S: StrDrive, A: Allocator + Copy>(
+    mut req: Request<'_, S>,
+    state: &mut State<A>,
+) -> Result<bool, SreError>
+    ensures ok { (t : Tree) → Whole (words_of (code_of req.entry)) t → IfOk result
+        (λ b. Answers (stands_in req.entry) (matched (to_the_end (asked_of req.entry)) t) b state.new) }
+    ensures span { IfOk result (λ b. b ≡ true → Spans (start_of req.entry) (end_of req.entry) state.new) }
+    ensures refused { OnErr result Refused }
+{
+    req.set_match_all(true);
+    state.pymatch(&req)
 }

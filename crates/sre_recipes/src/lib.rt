@@ -12,20 +12,25 @@
 //! let whole = Request::new("xaéb", 0, usize::MAX, code, false);
 //! assert!(find_all(alloc, whole)?.as_slice() == ["a", "b"].as_slice());
 //! assert!(split(alloc, whole)?.as_slice() == ["x", "é", ""].as_slice());
-//! let template = [Piece::Text("<"), Piece::Group(0), Piece::Text(">")];
+//! let template = [Piece::Text("<"), Piece::Group(1), Piece::Text(">")];
 //! assert!(replace_all(alloc, whole, &template)?.as_str() == "x<a>é<>");
+//! assert!(is_match(alloc, whole)? && all_captures(alloc, whole)?.len() == 2);
 //! ```
 #![tactic(auto)]
 
+mod bounds;
 mod divide;
 mod find;
+mod groups;
 mod lexer;
 mod replace;
 mod slice;
 mod span;
 
+pub use bounds::Bounds;
 pub use divide::split;
-pub use find::{find_all, match_text, search_text};
+pub use find::{find_all, full_match, is_match, match_text, search_text};
+pub use groups::{Captures, all_captures, captures_bounded, match_captures, search_captures};
 pub use lexer::{Token, Tokens, tokens_of};
 pub use replace::{Piece, replace_all};
 pub use slice::{group_text, matched_text};

@@ -27,7 +27,7 @@ pub enum Piece<'a> {
     Text(&'a str),
     /// The match.
     Match,
-    /// A group, counted from 0 as `Marks::get` counts; nothing where it took no part.
+    /// A group as Python counts, where number 0 is the match and number 1 the first group; nothing where it took no part.
     Group(usize),
 }
 
@@ -189,6 +189,14 @@ fn append_all<A: Allocator + Copy>(
 
 /// The text of a window in which each match is replaced by what a template makes of it, as Python's `sub` replaces:
 /// empty matches, too.
+///
+/// ```
+/// // The words of `(a)`.
+/// let code = Code::check(alloc, &[17, 0, 16, 97, 17, 1, 1], &uni)?;
+/// let template = [Piece::Text("<"), Piece::Group(1), Piece::Text(">")];
+/// let new = replace_all(alloc, Request::new("éab", 0, usize::MAX, code, false), &template)?;
+/// assert!(new.as_str() == "é<a>b");
+/// ```
 ///
 /// # Errors
 ///

@@ -4,7 +4,8 @@ ghost use Rattle.std.specs.Prelude.{◌≡◌, ◌+◌, ◌<◌, ◌≤◌, leng
 ghost use Rattle.std.specs.Option.{option_map};
 ghost use Rattle.std.specs.Str.{chars};
 ghost use Rattle.sre_chars.specs.Texts.{StandsInText};
-ghost use Rattle.sre_recipes.specs.Slices.{group_of};
+ghost use Rattle.sre_engine.specs.Walks.{match_shown};
+ghost use Rattle.sre_recipes.specs.Slices.{slice_of, group_of, numbered_group};
 
 use crate::span::span_of;
 use sre_engine::{State, StrDrive, StringCursor};
@@ -62,9 +63,8 @@ pub fn matched_text<'t, A: Allocator + Copy>(text: &'t str, state: &State<A>) ->
     between(text, &span.start, &span.end)
 }
 
-/// The text of group `group` of the match that a state shows, counted from 0 as `Marks::get` counts: `None` where it
-/// took no part. A group of a look may lie before the match, or behind it.
-pub fn group_text<'t, A: Allocator + Copy>(
+// The text of the group of marks 2 `group` and 2 `group` + 1, where they are set, in order, in the text.
+fn marked_text<'t, A: Allocator + Copy>(
     text: &'t str,
     state: &State<A>,
     group: usize,
@@ -82,4 +82,41 @@ pub fn group_text<'t, A: Allocator + Copy>(
     let mut start = end;
     text.back_skip(&mut start, to - from);
     Some(between(text, &start, &end))
+}
+
+// The text of the match that a state shows; none where its start were behind its end.
+fn whole_text<'t, A: Allocator + Copy>(text: &'t str, state: &State<A>) -> &'t str
+    requires { StandsInText text.now state.now.cursor state.now.cursor.position }
+    ensures { chars result.now ≡ slice_of (chars text.now) (match_shown state.now) }
+{
+    if state.start() <= state.cursor().position() {
+        matched_text(text, state)
+    } else {
+        ""
+    }
+}
+
+/// The text of a group of the match that a state shows, as Python counts: number 0 is the match itself, number 1 the
+/// first group. `None` where the group took no part. A group of a look may lie before the match, or behind it.
+///
+/// **`Marks::get` counts otherwise**: its number 0 is the first group.
+///
+/// ```
+/// // The words of `(\w)=(\w)`, in `x=y`.
+/// assert!(group_text(text, &state, 0) == Some("x=y"));
+/// assert!(group_text(text, &state, 2) == Some("y"));
+/// ```
+pub fn group_text<'t, A: Allocator + Copy>(
+    text: &'t str,
+    state: &State<A>,
+    number: usize,
+) -> Option<&'t str>
+    requires { StandsInText text.now state.now.cursor state.now.cursor.position }
+    ensures { option_map (λ s. chars s.now) result ≡ numbered_group (chars text.now) (match_shown state.now) number }
+{
+    if number == 0 {
+        Some(whole_text(text, state))
+    } else {
+        marked_text(text, state, number - 1)
+    }
 }

@@ -20,7 +20,7 @@ fn a_walk_shows_texts(rt: HostRuntime) -> Result<(), Fail> {
         item?;
         let text = walk.req().string();
         assert!(rt; matched_text(text, walk.state()) == "b");
-        assert!(rt; group_text(text, walk.state(), 0) == Some("é"));
+        assert!(rt; group_text(text, walk.state(), 1) == Some("é"));
     }
     Ok(())
 }
@@ -35,7 +35,7 @@ fn the_example_at_the_root_runs(rt: HostRuntime) -> Result<(), Fail> {
     let whole = Request::new("xaéb", 0, usize::MAX, code, false);
     assert!(rt; find_all(alloc, whole)?.as_slice() == ["a", "b"].as_slice());
     assert!(rt; split(alloc, whole)?.as_slice() == ["x", "é", ""].as_slice());
-    let template = [Piece::Text("<"), Piece::Group(0), Piece::Text(">")];
+    let template = [Piece::Text("<"), Piece::Group(1), Piece::Text(">")];
     assert!(rt; replace_all(alloc, whole, &template)?.as_str() == "x<a>é<>");
     Ok(())
 }

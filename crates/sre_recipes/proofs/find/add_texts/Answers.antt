@@ -8,7 +8,7 @@ use Rattle.sre_engine.specs.Walks.{match_shown}
 use Rattle.sre_recipes.specs.Slices.{slice_of}
 use Rattle.sre_recipes.specs.Spans.{IsSpan}
 use Rattle.sre_recipes.proofs.Steps.{walk_step, walk_over, span_slice}
-use Rattle.sre_recipes.proofs.Written.{texts_step, none_left}
+use Rattle.sre_recipes.proofs.Written.{listed_step, none_left}
 use Rattle.sre_recipes.proofs.find.add_texts.Goals as goal
 
 pub walk-preserved : goal.walk-preserved
@@ -33,7 +33,7 @@ walk-preserved g c =
       string = gives.0.request.string ∙ c.walk.invariant.string;
       code = gives.0.request.pattern_codes ∙ c.walk.invariant.code;
       left = λ t tree.
-          texts_step (chars whole.now) texts (map shown c.add_text.new.all.items) found (left_of before t)
+          listed_step (slice_of (chars whole.now)) texts (map shown c.add_text.new.all.items) found (left_of before t)
           (left_of after t)
           (map shown c.args.all.now.items ++ map (slice_of (chars whole.now)) (left_of c.args.walk.now t))
           (walk_step before after (words_of (code_of asked)) t gives.0 (ap words_of c.walk.invariant.code) tree) added

@@ -1,0 +1,59 @@
+use Rattle.std.proofs.Common.{◌≡◌, ◌++◌, ◌∷◌, [], ℕ, List, Option, Bor, map, ap, sym, ◌∙◌, subst}
+use Rattle.std.specs.Str.{chars}
+use Rattle.sre_engine.specs.Found.{Match}
+use Rattle.sre_engine.specs.Codes.{words_of}
+use Rattle.sre_engine.specs.Grammar.{Whole}
+use Rattle.sre_engine.specs.Requests.{string_of, code_of}
+use Rattle.sre_engine.specs.Iterators.{request_of, shown_of, left_of}
+use Rattle.sre_engine.specs.Walks.{match_shown}
+use Rattle.sre_recipes.specs.Slices.{captured}
+use Rattle.sre_recipes.specs.Captured.{captures_shown}
+use Rattle.sre_recipes.specs.Bounded.{first_of}
+use Rattle.sre_recipes.proofs.Steps.{walk_step}
+use Rattle.sre_recipes.proofs.Written.{listed_step, none_left}
+use Rattle.sre_recipes.proofs.groups.add_each.Goals as goal
+
+pub walk-preserved : goal.walk-preserved
+walk-preserved g c =
+    let told = rw c.in-Some.is at c.in_ok-span.ensures.gives in
+    let gives = told.0 in
+    let takes = told.2 in
+    let asked = request_of c.args.walk.now in
+    let whole = string_of asked in
+    let before = c.walk.walk in
+    let after = c.next_bounded.new.walk in
+    let found = match_shown (shown_of after) in
+    let shown = captured (chars whole.now) in
+    let all = map captures_shown c.walk.all.items in
+    let added : map captures_shown c.add_captures.new.all.items ≡ all ++ shown found ∷ [] =
+    c.in_ok-add_captures.ensures.ok
+    ∙ ap (λ (x : Bor (List ℕ)). all ++ captured (chars x.now) (match_shown c.state.result.now) ∷ [])
+    (c.string-text.ensures ∙ ap string_of c.req.ensures)
+    ∙ ap (λ s. all ++ shown (match_shown s) ∷ []) c.state.ensures in
+    record {
+      string = gives.request.string ∙ c.walk.invariant.string;
+      code = gives.request.pattern_codes ∙ c.walk.invariant.code;
+      going = takes.going;
+      unlimited = λ free. takes.unlimited (c.walk.invariant.unlimited free);
+      left = λ t tree.
+          listed_step shown all (map captures_shown c.add_captures.new.all.items) found
+          (first_of c.walk.bounds.most (left_of before t))
+          (first_of c.next_bounded.new.bounds.most (left_of after t))
+          (map captures_shown c.args.all.now.items
+          ++ map shown (first_of c.args.bounds.now.most (left_of c.args.walk.now t)))
+          (ap (first_of c.walk.bounds.most)
+          (walk_step before after (words_of (code_of asked)) t gives (ap words_of c.walk.invariant.code) tree)
+          ∙ takes.one found (left_of after t))
+          added (c.walk.invariant.left t tree);
+    }
+
+pub returns-clause-ok : goal.returns-clause-ok
+returns-clause-ok g c = λ t tree going.
+    let stops = rw c.in_default.is at c.in_ok-span.ensures.gives in
+    let asked = request_of c.args.walk.now in
+    let shown = captured (chars (string_of asked).now) in
+    none_left shown (map captures_shown c.walk.all.items) (first_of c.walk.bounds.most (left_of c.walk.walk t))
+    (map captures_shown c.args.all.now.items
+    ++ map shown (first_of c.args.bounds.now.most (left_of c.args.walk.now t)))
+    (stops.none going t (subst (λ ws. Whole ws t) (sym (ap words_of c.walk.invariant.code)) tree))
+    (c.walk.invariant.left t tree)

@@ -1,0 +1,19 @@
+use Rattle.std.proofs.Common.{◌≡◌, ◌≤◌, ◌+◌, ◌-◌, ◌/◌, ◌++◌, map, length}
+use Rattle.std.specs.Str.{chars}
+use Rattle.std.specs.List.{range_with_len}
+use Rattle.sre_engine.specs.Walks.{match_shown}
+use Rattle.sre_recipes.specs.Slices.{numbered_group}
+use Rattle.sre_recipes.specs.Captured.{group_shown}
+use Rattle.sre_recipes.proofs.groups.add_groups.Given as goal
+
+abbrev pub invariant-group : goal.invariant-group
+invariant-group g l = record {
+  few : l.number ≤ l.several;
+  size : l.several ≡ length l.state.marks.raw / 2 + 1;
+  so_far : map group_shown l.groups.items
+      ≡ map group_shown l.fn.groups.items
+      ++ map (numbered_group (chars l.text) (match_shown l.state)) (range_with_len 0 l.number);
+}
+
+abbrev pub decreases-group : goal.decreases-group
+decreases-group g l = l.several - l.number

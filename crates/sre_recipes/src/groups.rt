@@ -1,0 +1,245 @@
+//! A match with its groups, by their numbers.
+
+ghost use Rattle.std.specs.Prelude.{◌≡◌, ◌++◌, ◌∷◌, [], true, false, None, Some, length, map, slice_index_or};
+ghost use Rattle.std.specs.Prelude.{IfOk, IfSome, OnErr, IsSome};
+ghost use Rattle.std.specs.Option.{option_map};
+ghost use Rattle.std.specs.Str.{chars};
+ghost use Rattle.sre_chars.specs.Texts.{StandsInText};
+ghost use Rattle.sre_engine.specs.Tree.{Tree};
+ghost use Rattle.sre_engine.specs.Grammar.{Whole};
+ghost use Rattle.sre_engine.specs.Found.{matched, found, walk};
+ghost use Rattle.sre_engine.specs.Codes.{words_of};
+ghost use Rattle.sre_engine.specs.Requests.{string_of, code_of, asked_of};
+ghost use Rattle.sre_engine.specs.Walks.{match_shown};
+ghost use Rattle.sre_engine.specs.Iterators.{request_of, left_of};
+ghost use Rattle.sre_growth.specs.Refusal.{Refused};
+ghost use Rattle.sre_recipes.specs.Slices.{captured};
+ghost use Rattle.sre_recipes.specs.Captured.{group_shown, captures_shown};
+ghost use Rattle.sre_recipes.specs.Bounded.{first_of};
+
+use crate::bounds::{Bounds, next_bounded};
+use crate::find::{match_text, search_text};
+use crate::slice::group_text;
+use sre_engine::{Request, SearchIter, SreError, State};
+use std::alloc::Allocator;
+
+/// A match and its groups as Python counts them: number 0 is the match, number 1 the first group.
+#[derive(Drop)]
+pub struct Captures<'t, A: Allocator> {
+    /// The text of each, up to the last group that took part; `None` where one before it took none.
+    pub groups: Vec<Option<&'t str>, A>,
+}
+
+impl<'t, A: Allocator> Captures<'t, A> {
+    /// How many there are: the match, and the groups up to the last that took part.
+    pub fn len(&self) -> usize
+        ensures { result ≡ length self.now.groups.items }
+    {
+        self.groups.as_slice().len()
+    }
+
+    /// The text of a group by its number, 0 for the match; `None` where it took no part, or there is no such group.
+    pub fn get(&self, number: usize) -> Option<&'t str>
+        ensures { result ≡ slice_index_or self.now.groups.items number None }
+    {
+        let groups = self.groups.as_slice();
+        if number < groups.len() {
+            groups[number]
+        } else {
+            None
+        }
+    }
+}
+
+// Appends the match that a state shows, and its groups.
+fn add_groups<'t, A: Allocator + Copy>(
+    groups: &mut Vec<Option<&'t str>, A>,
+    text: &'t str,
+    state: &State<A>,
+) -> Result<(), SreError>
+    requires { StandsInText text.now state.now.cursor state.now.cursor.position }
+    ensures ok { IfOk result (λ _. map group_shown groups.new.items
+        ≡ map group_shown groups.old.items ++ captured (chars text.now) (match_shown state.now)) }
+    ensures refused { OnErr result Refused }
+{
+    let several = state.marks().raw().len() / 2 + 1;
+    let mut number = 0;
+    'group: while number < several {
+        sre_growth::push(groups, group_text(text, state, number))?;
+        number += 1;
+    }
+    Ok(())
+}
+
+// The match that a state shows, with its groups.
+fn shown_captures<'t, A: Allocator + Copy>(
+    alloc: A,
+    text: &'t str,
+    state: &State<A>,
+) -> Result<Captures<'t, A>, SreError>
+    requires { StandsInText text.now state.now.cursor state.now.cursor.position }
+    ensures ok { IfOk result (λ all. captures_shown all ≡ captured (chars text.now) (match_shown state.now)) }
+    ensures refused { OnErr result Refused }
+{
+    let mut groups = Vec::new(alloc);
+    add_groups(&mut groups, text, state)?;
+    Ok(Captures { groups })
+}
+
+/// Searches the window, as `State::search`: the match of the least start and its groups, which the state then shows.
+///
+/// # Errors
+///
+/// [`SreError::Memory`], where a growth was refused.
+pub fn search_captures<'t, A: Allocator + Copy>(
+    alloc: A,
+    req: Request<'_, &'t str>,
+    state: &mut State<A>,
+) -> Result<Option<Captures<'t, A>>, SreError>
+    ensures ok { (t : Tree) → Whole (words_of (code_of req.entry)) t → IfOk result (λ all.
+        option_map captures_shown all
+        ≡ option_map (captured (chars (string_of req.entry).now)) (found (asked_of req.entry) t)) }
+    ensures refused { OnErr result Refused }
+{
+    let text = req.string();
+    match search_text(req, state)? {
+        None => Ok(None),
+        Some(_) => Ok(Some(shown_captures(alloc, text, state)?)),
+    }
+}
+
+/// Matches at the window's start, as `State::pymatch`: the match and its groups, which the state then shows.
+///
+/// # Errors
+///
+/// [`SreError::Memory`], where a growth was refused.
+pub fn match_captures<'t, A: Allocator + Copy>(
+    alloc: A,
+    req: &Request<'_, &'t str>,
+    state: &mut State<A>,
+) -> Result<Option<Captures<'t, A>>, SreError>
+    ensures ok { (t : Tree) → Whole (words_of (code_of req.now)) t → IfOk result (λ all.
+        option_map captures_shown all
+        ≡ option_map (captured (chars (string_of req.now).now)) (matched (asked_of req.now) t)) }
+    ensures refused { OnErr result Refused }
+{
+    match match_text(req, state)? {
+        None => Ok(None),
+        Some(_) => Ok(Some(shown_captures(alloc, req.string(), state)?)),
+    }
+}
+
+// Appends the match that a state shows, with its groups.
+fn add_captures<'t, A: Allocator + Copy>(
+    alloc: A,
+    all: &mut Vec<Captures<'t, A>, A>,
+    text: &'t str,
+    state: &State<A>,
+) -> Result<(), SreError>
+    requires { StandsInText text.now state.now.cursor state.now.cursor.position }
+    ensures ok { IfOk result (λ _. map captures_shown all.new.items
+        ≡ map captures_shown all.old.items ++ captured (chars text.now) (match_shown state.now) ∷ []) }
+    ensures refused { OnErr result Refused }
+{
+    let captures = shown_captures(alloc, text, state)?;
+    sre_growth::push(all, captures)?;
+    Ok(())
+}
+
+// Appends the matches that are left of a walk, with their groups.
+fn add_each<'t, A: Allocator + Copy>(
+    alloc: A,
+    walk: &mut SearchIter<'_, &'t str, A>,
+    bounds: &mut Bounds,
+    all: &mut Vec<Captures<'t, A>, A>,
+) -> Result<(), SreError>
+    requires { bounds.old.used_up ≡ false }
+    ensures ok { (t : Tree) → Whole (words_of (code_of (request_of walk.old))) t → IfOk result (λ _.
+        bounds.new.used_up ≡ false → map captures_shown all.new.items
+        ≡ map captures_shown all.old.items
+        ++ map (captured (chars (string_of (request_of walk.old)).now)) (first_of bounds.old.most (left_of walk.old t))) }
+    ensures used { IfOk result (λ _. bounds.new.used_up ≡ true → bounds.new.turns ≡ Some 0) }
+    ensures unlimited { bounds.old.turns ≡ None → IfOk result (λ _. bounds.new.turns ≡ None) }
+    ensures refused { OnErr result Refused }
+{
+    let text = walk.req().string();
+    'walk: while let Some(span) = next_bounded(walk, bounds)? {
+        add_captures(alloc, all, text, walk.state())?;
+    }
+    Ok(())
+}
+
+// Appends the matches of a window, with their groups.
+fn add_all_captures<'t, A: Allocator + Copy>(
+    alloc: A,
+    req: Request<'_, &'t str>,
+    bounds: &mut Bounds,
+    all: &mut Vec<Captures<'t, A>, A>,
+) -> Result<(), SreError>
+    ensures ok { (t : Tree) → Whole (words_of (code_of req.entry)) t → IfOk result (λ _.
+        bounds.new.used_up ≡ false → map captures_shown all.new.items
+        ≡ map captures_shown all.old.items
+        ++ map (captured (chars (string_of req.entry).now)) (first_of bounds.old.most (walk (asked_of req.entry) t))) }
+    ensures used { IfOk result (λ _. bounds.new.used_up ≡ true → bounds.new.turns ≡ Some 0) }
+    ensures unlimited { bounds.old.turns ≡ None → IfOk result (λ _. bounds.new.turns ≡ None) }
+    ensures refused { OnErr result Refused }
+{
+    bounds.used_up = false;
+    let mut walk = SearchIter::new(req, State::new(alloc));
+    add_each(alloc, &mut walk, bounds, all)
+}
+
+/// All matches of a window with their groups, in order, as Python's `finditer` gives them.
+///
+/// ```
+/// // The words of `(a)|b`.
+/// let words = [7, 9, 17, 0, 16, 97, 17, 1, 15, 7, 5, 16, 98, 15, 2, 0, 1];
+/// let code = Code::check(alloc, &words, &uni)?;
+/// for found in &all_captures(alloc, Request::new("éab", 0, usize::MAX, code, false))? {
+///     println!(rt; "{:?}", (found.get(0), found.get(1)))?; // (Some("a"), Some("a")), and (Some("b"), None)
+/// }
+/// ```
+///
+/// # Errors
+///
+/// [`SreError::Memory`], where a growth was refused.
+pub fn all_captures<'t, A: Allocator + Copy>(
+    alloc: A,
+    req: Request<'_, &'t str>,
+) -> Result<Vec<Captures<'t, A>, A>, SreError>
+    ensures ok { (t : Tree) → Whole (words_of (code_of req.entry)) t → IfOk result (λ all.
+        map captures_shown all.items
+        ≡ map (captured (chars (string_of req.entry).now)) (walk (asked_of req.entry) t)) }
+    ensures refused { OnErr result Refused }
+{
+    let mut all = Vec::new(alloc);
+    let mut bounds = Bounds::none();
+    add_all_captures(alloc, req, &mut bounds, &mut all)?;
+    Ok(all)
+}
+
+/// The same within bounds: the first matches, or `None` where the turns were used up before they were known.
+///
+/// # Errors
+///
+/// [`SreError::Memory`], where a growth was refused.
+pub fn captures_bounded<'t, A: Allocator + Copy>(
+    alloc: A,
+    req: Request<'_, &'t str>,
+    bounds: &mut Bounds,
+) -> Result<Option<Vec<Captures<'t, A>, A>>, SreError>
+    ensures ok { (t : Tree) → Whole (words_of (code_of req.entry)) t → IfOk result (λ told. IfSome told (λ all.
+        map captures_shown all.items
+        ≡ map (captured (chars (string_of req.entry).now)) (first_of bounds.old.most (walk (asked_of req.entry) t)))) }
+    ensures used { IfOk result (λ told. told ≡ None → bounds.new.turns ≡ Some 0) }
+    ensures unlimited { bounds.old.turns ≡ None → IfOk result IsSome }
+    ensures refused { OnErr result Refused }
+{
+    let mut all = Vec::new(alloc);
+    add_all_captures(alloc, req, bounds, &mut all)?;
+    if bounds.used_up {
+        Ok(None)
+    } else {
+        Ok(Some(all))
+    }
+}
