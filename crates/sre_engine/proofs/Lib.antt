@@ -18,3 +18,4 @@ pub mod Costing
 pub mod MayStart
 pub mod CountLaws
 pub mod CountRows
+pub mod WalkCounts

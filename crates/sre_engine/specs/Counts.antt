@@ -42,6 +42,19 @@ pub record CountsUpTo (a : Asked) (code : Code) (to seen : ℕ) (s : Shown) : Ty
   pub compared : s.compared ≤ 2 * (seen - a.start)
   pub uncompared : (hints_of code).prefix ≡ None → s.compared ≡ 0
 
+-- of the steps of a walk together, which looked at starts before `to`, and at characters before `seen`, and gave so
+-- many matches: they began no more runs than there are starts at which one may begin, and one more for each match,
+-- since where it was empty the next step begins at its start; and comparisons are bounded as those of one search are
+pub record StepsCount (a : Asked) (code : Code) (to seen matches started compared : ℕ) : Type 0 where
+  pub runs : (set : List SetItem) → ((hints_of code).first_set ≡ true → IsFirstSet (words_of code) set)
+      → started ≤ how_many (may_start a (words_of code) (hints_of code) set) a.start (to - a.start) + matches
+  pub comparisons : compared ≤ 2 * (seen - a.start)
+  pub uncompared : (hints_of code).prefix ≡ None → compared ≡ 0
+
+-- what a state shows of the counts of a whole walk
+abbrev pub CountsOfWalk : Asked → Code → ℕ → Shown → Type 0
+CountsOfWalk a code matches s = StepsCount a code (a.end + 1) a.end matches s.started s.compared
+
 -- how many runs of the machine a search began
 abbrev pub runs_of : Shown → ℕ
 runs_of s = s.started + s.restarted

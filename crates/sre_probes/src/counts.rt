@@ -2,9 +2,9 @@
 
 use crate::counted::Counted;
 use crate::probe::{Desk, number_of, request};
-use crate::shown::push_answer;
+use crate::shown::{push_answer, push_list};
 use sre_engine::{Code, Request, State, StrDrive, UniTable};
-use sre_lines::line::{Case, read_case, split_once};
+use sre_lines::line::{Case, Finding, read_case, split_once};
 use std::alloc::{AllocError, Allocator, Global};
 use std::cell::Cell;
 
@@ -42,10 +42,11 @@ pub(crate) fn push_count(
     write!(answer, " {what} {count}")
 }
 
-/// Appends what a search finds, and how many runs it began and how often it compared, where that lies outside the
-/// bounds that a field writes.
+/// Appends what a search finds, or all matches of a walk, and how many runs were begun and how often was compared, where
+/// that lies outside the bounds that a field writes.
 pub(crate) fn push_counts<S: StrDrive, A: Allocator + Copy>(
     state: &mut State<A>,
+    finding: Finding,
     req: Request<'_, S>,
     field: &[u8],
     answer: &mut String,
@@ -53,8 +54,13 @@ pub(crate) fn push_counts<S: StrDrive, A: Allocator + Copy>(
     let Some((runs, comparisons)) = two_bounds_of(field) else {
         return answer.push_str("no bounds");
     };
-    let found = state.search(req);
-    push_answer(state, found, answer)?;
+    match finding {
+        Finding::Walk => push_list(state, req, answer)?,
+        Finding::Match | Finding::Search => {
+            let found = state.search(req);
+            push_answer(state, found, answer)?;
+        }
+    }
     push_count("started", state.started(), runs, answer)?;
     push_count("compared", state.compared(), comparisons, answer)
 }

@@ -234,7 +234,7 @@ fn push_found<S: StrDrive, A: Allocator + Copy>(
         Asked::Listed => push_list(state, req, answer),
         Asked::Within(turns) => push_within(state, finding, req, turns, answer),
         Asked::Fewest => push_fewest(heap, state, finding, req, answer),
-        Asked::Counted(bounds) => push_counts(state, req, bounds, answer),
+        Asked::Counted(bounds) => push_counts(state, finding, req, bounds, answer),
         Asked::Recipe(_) => answer.push_str("no text"),
     }
 }

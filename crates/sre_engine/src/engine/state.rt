@@ -195,7 +195,7 @@ impl<A: Allocator + Copy> State<A> {
     }
 
     /// How many comparisons of a character with a word of a confirmed prefix the last search made, one that was given
-    /// up among them. Only a search counts.
+    /// up among them. Only a search counts, and `all_matches` adds up what its steps count.
     pub fn compared(&self) -> u64
         ensures { result ≡ self.now.compared }
     {
@@ -203,7 +203,7 @@ impl<A: Allocator + Copy> State<A> {
     }
 
     /// At how many starts the last search began a run of the machine, one that was given up among them. Only a search
-    /// counts.
+    /// counts, and `all_matches` adds up what its steps count, of which two may begin at one start.
     pub fn started(&self) -> u64
         ensures { result ≡ self.now.started }
     {
@@ -469,8 +469,21 @@ impl<A: Allocator + Copy> State<A> {
 
     // Takes the marks away; the memory is kept.
     pub(crate) fn forget(&mut self)
-        ensures { self.new.marks ≡ no_marks }
+        ensures marks { self.new.marks ≡ no_marks }
+        ensures compared { self.new.compared ≡ self.old.compared }
+        ensures started { self.new.started ≡ self.old.started }
+        ensures restarted { self.new.restarted ≡ self.old.restarted }
     {
         self.board.clear();
+    }
+
+    // Shows such counts in place of those of the last search.
+    pub(crate) fn show_counts(&mut self, started: u64, compared: u64)
+        ensures marks { self.new.marks ≡ self.old.marks }
+        ensures compared { self.new.compared ≡ compared }
+        ensures started { self.new.started ≡ started }
+        ensures restarted { self.new.restarted ≡ self.old.restarted }
+    {
+        (self.compared, self.begun.started) = (compared, started);
     }
 }

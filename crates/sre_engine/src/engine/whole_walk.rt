@@ -1,6 +1,6 @@
 //! The walk over all matches, as a list.
 
-ghost use Rattle.std.specs.Prelude.{◌≡◌, ◌≤◌, ◌++◌, map, IfOk, OnErr};
+ghost use Rattle.std.specs.Prelude.{◌≡◌, ◌<◌, ◌≤◌, ◌+◌, ◌-◌, ◌++◌, map, IfOk, OnErr, true, false};
 ghost use Rattle.std.specs.Vec.{vec_len};
 ghost use Rattle.sre_model.specs.Tree.{Tree};
 ghost use Rattle.sre_model.specs.Grammar.{Whole};
@@ -8,15 +8,17 @@ ghost use Rattle.sre_model.specs.Marks.{no_marks};
 ghost use Rattle.sre_model.specs.Found.{walk};
 ghost use Rattle.sre_model.specs.WalkBounds.{most_matches, AreInOrder};
 ghost use Rattle.sre_code.specs.Codes.{words_of};
-ghost use Rattle.sre_request.specs.Requests.{string_of, start_of, code_of, asked_of};
-ghost use Rattle.sre_engine.specs.Walks.{match_shown};
+ghost use Rattle.sre_request.specs.Requests.{string_of, start_of, end_of, code_of, asked_of, stands_in};
+ghost use Rattle.sre_engine.specs.Counts.{StepsCount, CountsOfWalk};
+ghost use Rattle.sre_engine.specs.Searches.{WalksOn, CountsInside, CountsToMatch};
+ghost use Rattle.sre_engine.specs.Walks.{match_shown, GoesOn};
 ghost use Rattle.sre_engine.specs.Listed.{match_of};
 ghost use Rattle.sre_growth.specs.Refusal.{Refused};
 
 use crate::engine::state::{SreError, State};
 use crate::engine::told::{Nobody, Starts};
 use crate::engine::walk::step_by;
-use sre_chars::string::StrDrive;
+use sre_chars::string::{StrDrive, StringCursor};
 use sre_growth::Refusal;
 use sre_request::Request;
 use std::alloc::Allocator;
@@ -44,22 +46,68 @@ fn found_in<A: Allocator + Copy>(state: &State<A>) -> Result<Found<A>, Refusal>
     })
 }
 
-// Appends the matches of the walk.
+// What the steps of a walk count together.
+#[derive(Drop)]
+struct Tally {
+    started: u64,
+    compared: u64,
+}
+
+// A step of the walk, whose counts are added.
+fn counted_step<S: StrDrive, A: Allocator + Copy, F: Starts<S>>(
+    req: &mut Request<'_, S>,
+    state: &mut State<A>,
+    cursor: &mut StringCursor,
+    starts: &mut F,
+    tally: &mut Tally,
+) -> Result<bool, SreError>
+    requires stands { stands_in req.old cursor.old (start_of req.old) }
+    requires suits { F.suits starts.old (string_of req.old) (code_of req.old) }
+    ensures suits { F.suits starts.new (string_of req.new) (code_of req.new) }
+    ensures ok { IfOk result (λ b. WalksOn req.old b state.new req.new) }
+    ensures yes { IfOk result (λ b. b ≡ true → GoesOn req.old state.new req.new) }
+    ensures falls { IfOk result (λ b. b ≡ true → most_matches (asked_of req.new) < most_matches (asked_of req.old)) }
+    ensures no { IfOk result (λ b. b ≡ false → (req.new ≡ req.old) × (state.new.marks ≡ no_marks)) }
+    ensures here { stands_in req.new cursor.new (start_of req.new) }
+    ensures err { OnErr result ((req.new ≡ req.old) × (state.new.marks ≡ no_marks)) }
+    ensures refused { OnErr result Refused }
+    ensures counts { CountsInside req.old state.new }
+    ensures up_to_match { IfOk result (λ b. CountsToMatch req.old b state.new) }
+    ensures once { state.new.restarted ≡ 0 }
+    ensures started { tally.new.started ≤ tally.old.started + state.new.started }
+    ensures compared { tally.new.compared ≤ tally.old.compared + state.new.compared }
+{
+    let found = step_by(req, state, cursor, starts);
+    tally.started = tally.started.saturating_add(state.started());
+    tally.compared = tally.compared.saturating_add(state.compared());
+    found
+}
+
+// Appends the matches of the walk, and counts what its steps do.
 fn add_matches<S: StrDrive, A: Allocator + Copy, F: Starts<S>>(
     mut req: Request<'_, S>,
     state: &mut State<A>,
     all: &mut Vec<Found<A>, A>,
     starts: &mut F,
+    tally: &mut Tally,
 ) -> Result<(), SreError>
     requires suits { F.suits starts.old (string_of req) (code_of req) }
+    requires unstarted { tally.old.started ≡ 0 }
+    requires uncompared { tally.old.compared ≡ 0 }
     ensures suits { F.suits starts.new (string_of req.entry) (code_of req.entry) }
     ensures ok { (t : Tree) → Whole (words_of (code_of req.entry)) t → IfOk result
         (λ _. map match_of all.new.items ≡ map match_of all.old.items ++ walk (asked_of req.entry) t) }
     ensures after { IfOk result (λ _. state.new.marks ≡ no_marks) }
     ensures refused { OnErr result Refused }
+    ensures counts { StepsCount (asked_of req.entry) (code_of req.entry) (end_of req.entry + 1) (end_of req.entry)
+        (most_matches (asked_of req.entry)) tally.new.started tally.new.compared }
+    ensures by_matches { IfOk result (λ _. StepsCount (asked_of req.entry) (code_of req.entry)
+        (end_of req.entry + 1) (end_of req.entry) (vec_len all.new - vec_len all.old) tally.new.started
+        tally.new.compared) }
+    ensures once { state.new.restarted ≡ 0 }
 {
     let mut cursor = req.string().create_cursor(req.start());
-    'step: while step_by(&mut req, state, &mut cursor, starts)? {
+    'step: while counted_step(&mut req, state, &mut cursor, starts, tally)? {
         let found = found_in(state)?;
         sre_growth::push(all, found)?;
     }
@@ -71,6 +119,9 @@ fn add_matches<S: StrDrive, A: Allocator + Copy, F: Starts<S>>(
 /// Its memory is taken from the state's allocator. A window of n characters has at most 2n + 1 matches, and 2n where
 /// it must advance at first; each starts no earlier than the one before ends.
 ///
+/// The state then counts all steps together, on an error too: they begin no more runs than there are starts at which one
+/// may begin, and one more for each match, and compare no character more than twice on average.
+///
 /// An error means that a growth was refused. After it, as after `Ok`, there are no marks in the state, start and cursor
 /// are open, and the state serves again, with a text of any type.
 pub fn all_matches<S: StrDrive, A: Allocator + Copy>(
@@ -81,6 +132,10 @@ pub fn all_matches<S: StrDrive, A: Allocator + Copy>(
         → IfOk result (λ all. map match_of all.items ≡ walk (asked_of req.entry) t) }
     ensures bound { IfOk result (λ all. vec_len all ≤ most_matches (asked_of req.entry)) }
     ensures order { IfOk result (λ all. AreInOrder (start_of req.entry) (map match_of all.items)) }
+    ensures counts { CountsOfWalk (asked_of req.entry) (code_of req.entry) (most_matches (asked_of req.entry)) state.new }
+    ensures by_matches { IfOk result
+        (λ all. CountsOfWalk (asked_of req.entry) (code_of req.entry) (vec_len all) state.new) }
+    ensures once { state.new.restarted ≡ 0 }
     ensures after { state.new.marks ≡ no_marks }
     ensures refused { OnErr result Refused }
 {
@@ -99,11 +154,21 @@ pub fn all_matches_by<S: StrDrive, A: Allocator + Copy, F: Starts<S>>(
         → IfOk result (λ all. map match_of all.items ≡ walk (asked_of req.entry) t) }
     ensures bound { IfOk result (λ all. vec_len all ≤ most_matches (asked_of req.entry)) }
     ensures order { IfOk result (λ all. AreInOrder (start_of req.entry) (map match_of all.items)) }
+    ensures counts { CountsOfWalk (asked_of req.entry) (code_of req.entry) (most_matches (asked_of req.entry)) state.new }
+    ensures by_matches { IfOk result
+        (λ all. CountsOfWalk (asked_of req.entry) (code_of req.entry) (vec_len all) state.new) }
+    ensures once { state.new.restarted ≡ 0 }
     ensures after { state.new.marks ≡ no_marks }
     ensures refused { OnErr result Refused }
 {
     let mut all = Vec::new(state.allocator());
-    match add_matches(req, state, &mut all, starts) {
+    let mut tally = Tally {
+        started: 0,
+        compared: 0,
+    };
+    let added = add_matches(req, state, &mut all, starts, &mut tally);
+    state.show_counts(tally.started, tally.compared);
+    match added {
         Ok(()) => Ok(all),
         Err(error) => {
             state.forget(); // a match that could not be kept

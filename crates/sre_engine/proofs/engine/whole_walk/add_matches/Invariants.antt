@@ -1,11 +1,13 @@
-use Rattle.std.proofs.Common.{◌≡◌, ◌++◌, map}
+use Rattle.std.proofs.Common.{◌≡◌, ◌≤◌, ◌+◌, ◌-◌, ◌++◌, map, vec_len}
 use Rattle.sre_model.specs.Tree.{Tree}
 use Rattle.sre_model.specs.Grammar.{Whole}
 use Rattle.sre_model.specs.Found.{walk}
 use Rattle.sre_model.specs.WalkBounds.{most_matches}
 use Rattle.sre_code.specs.Codes.{words_of}
-use Rattle.sre_request.specs.Requests.{string_of, start_of, code_of, asked_of, stands_in}
+use Rattle.sre_request.specs.Requests.{string_of, start_of, end_of, code_of, must_advance_of, asked_of, stands_in}
+use Rattle.sre_engine.specs.Counts.{StepsCount}
 use Rattle.sre_engine.specs.Listed.{match_of}
+use Rattle.sre_engine.proofs.WalkCounts.{step_of}
 use Rattle.sre_engine.proofs.engine.whole_walk.add_matches.Given as goal
 
 abbrev pub invariant-step : goal.invariant-step
@@ -16,6 +18,13 @@ invariant-step g l = record {
   suits : g.F.Starts.suits l.starts (string_of l.req) (code_of l.req);
   left : (t : Tree) → Whole (words_of (code_of l.fn.req)) t
       → map match_of l.all.items ++ walk (asked_of l.req) t ≡ map match_of l.fn.all.items ++ walk (asked_of l.fn.req) t;
+  asked : asked_of l.req ≡ step_of (asked_of l.fn.req) (start_of l.req) (must_advance_of l.req);
+  from : start_of l.fn.req ≤ start_of l.req;
+  inside : start_of l.req ≤ end_of l.fn.req;
+  longer : vec_len l.fn.all ≤ vec_len l.all;
+  few : vec_len l.all - vec_len l.fn.all + most_matches (asked_of l.req) ≤ most_matches (asked_of l.fn.req);
+  counted : StepsCount (asked_of l.fn.req) (code_of l.fn.req) (start_of l.req) (start_of l.req)
+      (vec_len l.all - vec_len l.fn.all) l.tally.started l.tally.compared;
 }
 
 abbrev pub decreases-step : goal.decreases-step

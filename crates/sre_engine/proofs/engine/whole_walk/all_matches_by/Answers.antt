@@ -12,7 +12,7 @@ use Rattle.sre_engine.proofs.engine.whole_walk.all_matches_by.Goals as goal
 pub returns-in-Ok-clause-bound : goal.returns-in-Ok-clause-bound
 returns-in-Ok-clause-bound g c =
     let asked = c.args.req in
-    let all = c.add_matches.new.all in
+    let all = c.add_matches-added.new.all in
     let tree = code_tree (words_of (code_of asked)) (hints_of (code_of asked)) (code_of asked).checked in
     let matches = map match_of all.items in
     let same : matches ≡ walk (asked_of asked) tree.0 =
@@ -24,7 +24,7 @@ returns-in-Ok-clause-bound g c =
 pub returns-in-Ok-clause-order : goal.returns-in-Ok-clause-order
 returns-in-Ok-clause-order g c =
     let asked = c.args.req in
-    let all = c.add_matches.new.all in
+    let all = c.add_matches-added.new.all in
     let tree = code_tree (words_of (code_of asked)) (hints_of (code_of asked)) (code_of asked).checked in
     let same : map match_of all.items ≡ walk (asked_of asked) tree.0 =
     c.in-Ok.ensures.ok tree.0 tree.1

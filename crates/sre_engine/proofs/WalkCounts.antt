@@ -1,0 +1,167 @@
+-- What the steps of a walk count together.
+use Rattle.std.proofs.Common.{◌≡◌, ◌≤◌, ◌+◌, ◌-◌, ◌*◌, ◌&&◌, ◌||◌, ℕ, zero, suc, List, Bool, true, false, not, cond, nat_eq}
+use Rattle.std.proofs.Common.{[], ◌∷◌, ◌++◌, map}
+use mathlib.Core.List.{append_assoc, map-append}
+use Rattle.std.proofs.Common.{Option, Some, None, refl, sym, ap, ◌∙◌, subst, arith}
+use Rattle.sre_model.specs.Tree.{SetItem}
+use Rattle.sre_model.specs.Found.{Asked, asked_after}
+use Rattle.sre_model.specs.Prefixes.{how_many}
+use Rattle.sre_code.specs.Codes.{words_of, hints_of}
+use Rattle.sre_code.specs.declared.code.Code.{Code}
+use Rattle.sre_chars.specs.declared.string.StrDrive.{Ghosts}
+use Rattle.sre_request.specs.declared.request.Request.{Request}
+use Rattle.sre_request.specs.Requests.{start_of, end_of, code_of, must_advance_of, asked_of}
+use Rattle.sre_engine.specs.Answers.{Shown}
+use Rattle.sre_engine.specs.Counts.{CountsUpTo, StepsCount, width_fits, prefix_stands}
+use Rattle.sre_engine.specs.Searches.{CountsInside}
+use Rattle.sre_engine.specs.Walks.{match_shown, GoesOn}
+use Rattle.sre_engine.proofs.MayStart.{may_run}
+use Rattle.sre_engine.proofs.PrefixWays.{how_many_grows}
+use Rattle.sre_engine.proofs.Walking.{asked_next}
+
+-- two stretches, one behind the other
+how_many_add : (test : ℕ → Bool) (p n k : ℕ) → how_many test p (n + k) ≡ how_many test p n + how_many test (p + n) k
+how_many_add test p n zero =
+    let e : n + 0 ≡ n = omega arith in ap (how_many test p) e ∙ omega arith
+how_many_add test p n (suc k) =
+    let e : n + suc k ≡ suc (n + k) = omega arith in
+    let at : p + (n + k) ≡ p + n + k = omega arith in
+    let bit : ℕ → ℕ = λ q. cond (test q) 1 0 in
+    let last : bit (p + (n + k)) ≡ bit (p + n + k) = ap bit at in
+    ap (how_many test p) e ∙ omega (arith, how_many_add test p n k, last)
+
+how_many_same : (test same : ℕ → Bool) (p n : ℕ) → ((q : ℕ) → test q ≡ same q) → how_many test p n ≡ how_many same p n
+how_many_same test same p zero each = refl
+how_many_same test same p (suc n) each =
+    let bit : Bool → ℕ = λ b. cond b 1 0 in
+    let last : bit (test (p + n)) ≡ bit (same (p + n)) = ap bit (each (p + n)) in
+    omega (arith, how_many_same test same p n each, last)
+
+-- one more position is one more at most
+how_many_next : (test : ℕ → Bool) (p n : ℕ) → how_many test p (n + 1) ≤ how_many test p n + 1
+how_many_next test p n =
+    let e : n + 1 ≡ suc n = omega arith in
+    omega (arith, ap (how_many test p) e, at_most_one (test (p + n)))
+  where
+    at_most_one : (b : Bool) → cond b 1 0 ≤ 1
+    at_most_one true = omega arith
+    at_most_one false = omega arith
+
+-- what is asked of a step differs from what is asked of the walk in the window's start alone, and where an empty match
+-- is refused
+abbrev pub step_of : Asked → ℕ → Bool → Asked
+step_of a at must = record a { start = at; must_advance = must }
+
+module _ (a : Asked) (code : Code) (at : ℕ) (must : Bool) where
+  fits_same : (w : Option ℕ) (q : ℕ) → width_fits (step_of a at must) w q ≡ width_fits a w q
+  fits_same None q = refl
+  fits_same (Some w) q = refl
+
+  stands_same : (hint : Option (ℕ × ℕ)) (q : ℕ)
+      → prefix_stands (step_of a at must) (words_of code) hint q ≡ prefix_stands a (words_of code) hint q
+  stands_same None q = refl
+  stands_same (Some (l, k)) q = refl
+
+  may_same : (set : List SetItem) (q : ℕ) → may_run (step_of a at must) code set q ≡ may_run a code set q
+  may_same set q = rw (fits_same (hints_of code).width q, stands_same (hints_of code).prefix q) refl
+
+  -- a step, whose counts are added to those before it
+  pub counts_on : (n started compared : ℕ) → a.start ≤ at → StepsCount a code at at n started compared
+      → (s : Shown) (to seen begun cost : ℕ) → CountsUpTo (step_of a at must) code to seen s → at ≤ to → at ≤ seen
+      → begun ≤ started + s.started → cost ≤ compared + s.compared → StepsCount a code to seen n begun cost
+  counts_on n started compared from before s to seen begun cost own up far sum total = record {
+    runs = λ set member.
+        let test = may_run a code set in
+        let same = how_many_same (may_run (step_of a at must) code set) test at (to - at) (may_same set) in
+        let there : a.start + (at - a.start) ≡ at = omega (arith, from) in
+        let all : at - a.start + (to - at) ≡ to - a.start = omega (arith, from, up) in
+        let both = how_many_add test a.start (at - a.start) (to - at) in
+        omega (arith, sum, before.runs set member, own.started set member, same, both,
+        ap (λ p. how_many test p (to - at)) there, ap (how_many test a.start) all);
+    comparisons = omega (arith, total, before.comparisons, own.compared, from, far);
+    uncompared = λ plain. omega (arith, total, before.uncompared plain, own.uncompared plain);
+  }
+
+-- behind a match the next step begins at its end: at its start, at the least, which was counted
+pub counts_match : (a : Asked) (code : Code) (start end n started compared : ℕ) → a.start ≤ start → start ≤ end
+    → StepsCount a code (start + 1) end n started compared → StepsCount a code end end (n + 1) started compared
+counts_match a code start end n started compared from forward counted = record {
+  runs = λ set member.
+      let test = may_run a code set in
+      let up : start + 1 - a.start ≡ start - a.start + 1 = omega (arith, from) in
+      let grown = how_many_grows test a.start (start - a.start) (end - a.start) (omega (arith, forward)) in
+      omega (arith, counted.runs set member, ap (how_many test a.start) up, how_many_next test a.start (start - a.start),
+      grown);
+  comparisons = counted.comparisons;
+  uncompared = counted.uncompared;
+}
+
+-- of more matches
+pub counts_more : (a : Asked) (code : Code) (to seen n m started compared : ℕ) → n ≤ m
+    → StepsCount a code to seen n started compared → StepsCount a code to seen m started compared
+counts_more a code to seen n m started compared l counted = record {
+  runs = λ set member. omega (arith, counted.runs set member, l);
+  comparisons = counted.comparisons;
+  uncompared = counted.uncompared;
+}
+
+-- no step yet
+pub counts_none : (a : Asked) (code : Code) (n started compared : ℕ) → started ≡ 0 → compared ≡ 0
+    → StepsCount a code a.start a.start n started compared
+counts_none a code n started compared none nothing = record {
+  runs = λ set member. omega (arith, none);
+  comparisons = omega (arith, nothing);
+  uncompared = λ plain. nothing;
+}
+
+-- a step of a walk over the window of one request, which asks another one
+module _ {S : Type 0} {text : Ghosts S} (q r : Request S text) (n started compared begun cost : ℕ) (s : Shown)
+    (code : code_of r ≡ code_of q) (asked : asked_of r ≡ step_of (asked_of q) (start_of r) (must_advance_of r))
+    (from : start_of q ≤ start_of r) (inside : start_of r ≤ end_of q)
+    (before : StepsCount (asked_of q) (code_of q) (start_of r) (start_of r) n started compared)
+    (sum : begun ≤ started + s.started) (total : cost ≤ compared + s.compared) where
+  own : (to seen : ℕ) → CountsUpTo (asked_of r) (code_of r) to seen s
+      → CountsUpTo (step_of (asked_of q) (start_of r) (must_advance_of r)) (code_of q) to seen s
+  own to seen counted =
+      subst (λ x. CountsUpTo x (code_of q) to seen s) asked
+      (subst (λ x. CountsUpTo (asked_of r) x to seen s) code counted)
+
+  -- without a match
+  pub inside_on : CountsInside r s → StepsCount (asked_of q) (code_of q) (end_of q + 1) (end_of q) n begun cost
+  inside_on counted =
+      let same : end_of r ≡ end_of q = ap (λ x. x.end) asked in
+      let here = own (end_of q + 1) (end_of q)
+      (subst (λ e. CountsUpTo (asked_of r) (code_of r) (e + 1) e s) same counted) in
+      counts_on (asked_of q) (code_of q) (start_of r) (must_advance_of r) n started compared from before s
+      (end_of q + 1) (end_of q) begun cost here (omega (arith, inside)) inside sum total
+
+  -- and with one
+  pub match_on : (u : Request S text) → GoesOn r s u
+      → CountsUpTo (asked_of r) (code_of r) (s.start + 1) s.cursor.position s
+      → StepsCount (asked_of q) (code_of q) (start_of u) (start_of u) (n + 1) begun cost
+  match_on u goes counted =
+      let on = counts_on (asked_of q) (code_of q) (start_of r) (must_advance_of r) n started compared from before s
+      (s.start + 1) s.cursor.position begun cost (own (s.start + 1) s.cursor.position counted)
+      (omega (arith, goes.from)) (omega (arith, goes.from, goes.span.forward)) sum total in
+      subst (λ e. StepsCount (asked_of q) (code_of q) e e (n + 1) begun cost) (sym goes.start)
+      (counts_match (asked_of q) (code_of q) s.start s.cursor.position n begun cost (omega (arith, from, goes.from))
+      goes.span.forward on)
+
+  -- what is asked next
+  pub asked_on : (u : Request S text) → GoesOn r s u → asked_of u ≡ step_of (asked_of q) (start_of u) (must_advance_of u)
+  asked_on u goes =
+      asked_next r s u goes
+      ∙ ap (λ x. asked_after x (match_shown s)) asked
+      ∙ ap (λ p. step_of (asked_of q) p (nat_eq s.cursor.position s.start)) (sym goes.start)
+      ∙ ap (step_of (asked_of q) (start_of u)) (sym goes.must_advance)
+
+-- a list that has the walk up to a step has it up to the next one, with that step's match
+pub list_on : {A B : Type 0} (f : A → B) (xs ys : List A) (x : A) (m : B) (left next all : List B) → ys ≡ xs ++ x ∷ []
+    → f x ≡ m → left ≡ m ∷ next → map f xs ++ left ≡ all → map f ys ++ next ≡ all
+list_on f xs ys x m left next all longer same first before =
+    ap (λ l. map f l ++ next) longer
+    ∙ ap (λ l. l ++ next) (map-append f xs (x ∷ []))
+    ∙ append_assoc (map f xs) (f x ∷ []) next
+    ∙ ap (λ y. map f xs ++ y ∷ next) same
+    ∙ ap (λ l. map f xs ++ l) (sym first)
+    ∙ before
