@@ -1,0 +1,306 @@
+/* Callers that hand over nonsense within the types: each has to get a status, and no memory may be touched that is not
+ * theirs, which valgrind watches. Link with -Wl,--wrap=malloc,--wrap=realloc, by which memory is refused here. */
+#include <stdio.h>
+#include <stdlib.h>
+#include <string.h>
+
+#include "sre.h"
+
+static int failures;
+
+#define CHECK(holds)                                                                                                   \
+  do {                                                                                                                 \
+    if (!(holds)) {                                                                                                    \
+      printf("line %d: %s\n", __LINE__, #holds);                                                                       \
+      failures++;                                                                                                      \
+    }                                                                                                                  \
+  } while (0)
+
+#define COUNT(array) (sizeof(array) / sizeof *(array))
+
+/* ---- an allocator that refuses ---- */
+
+static long until_refusal = -1; /* so many requests are met, and then none; below 0 all are */
+static long requests;
+
+/* More than this no caller here can want: words may name a group of a great number, whose marks take that much. */
+#define MOST_BYTES ((size_t)1 << 26)
+
+static bool is_refused(size_t size) {
+  requests++;
+  return size > MOST_BYTES || (until_refusal >= 0 && requests > until_refusal);
+}
+
+void *__real_malloc(size_t);
+void *__real_realloc(void *, size_t);
+void *__wrap_malloc(size_t size);
+void *__wrap_realloc(void *old, size_t size);
+
+void *__wrap_malloc(size_t size) { return is_refused(size) ? NULL : __real_malloc(size); }
+void *__wrap_realloc(void *old, size_t size) { return is_refused(size) ? NULL : __real_realloc(old, size); }
+
+/* ---- what is asked ---- */
+
+/* (\w+)=(\d+) */
+static const uint32_t setting[] = {14, 4, 0,  3,  4294967295, 17, 0, 24, 9, 1, 4294967295, 13, 4, 8, 14, 0, 1, 17,
+                                   1,  16, 61, 17, 2,          24, 9, 1,  4294967295, 13, 4, 8, 10, 0, 1, 17, 3, 1};
+/* (?:x+x+)+y */
+static const uint32_t running[] = {14, 4, 0, 3, 4294967295, 23, 17, 1, 4294967295, 24, 6, 1, 4294967295, 16, 120,
+                                   1,  24, 6, 1, 4294967295, 16, 120, 1, 18, 16, 121, 1};
+/* (a|b)*\1 */
+static const uint32_t referring[] = {14, 4, 0, 1, 4294967295, 23, 13, 0, 4294967295, 17, 0, 13,
+                                     5,  22, 97, 98, 0, 17, 1, 18, 11, 0, 1};
+
+static sre_table ascii = SRE_ASCII;
+
+/* Words in memory of just their size, so that a read past them is seen; the caller frees them. */
+static sre_code code_of(const uint32_t *words, size_t count) {
+  uint32_t *copy = __real_malloc(count * sizeof *copy + !count * sizeof *copy);
+  memcpy(copy, words, count * sizeof *copy);
+  return (sre_code){.words = copy, .words_count = count, .table = &ascii};
+}
+
+static void let_go(sre_code *code) { free((void *)code->words); }
+
+static const sre_asked anywhere = {.end = SIZE_MAX, .turns = UINT64_MAX, .search = true};
+
+static uint32_t answer(const sre_code *code, const char *text, const sre_asked *asked, sre_found *found, size_t *marks,
+                       size_t room) {
+  return sre_answer_bytes(code, (const uint8_t *)text, strlen(text), asked, found, marks, room);
+}
+
+/* ---- windows and turns ---- */
+
+static void windows(void) {
+  static const size_t places[] = {0, 1, 5, 6, 7, SIZE_MAX / 2, SIZE_MAX - 1, SIZE_MAX};
+  const char *text = "ab=123";
+  sre_code code = code_of(setting, COUNT(setting));
+  for (size_t s = 0; s < COUNT(places); s++)
+    for (size_t e = 0; e < COUNT(places); e++)
+      for (int flags = 0; flags < 16; flags++) {
+        sre_asked asked = {places[s], places[e], UINT64_MAX, flags & 1, flags & 2, flags & 4, flags & 8};
+        sre_found found = {0};
+        size_t marks[4], rows[7];
+        sre_walked walked = {0};
+        uint32_t told = answer(&code, text, &asked, &found, marks, 4);
+        CHECK(told == SRE_YES || told == SRE_NO);
+        /* by the model: the runs of letters end at 2, those of digits at 6; no window but these has a match */
+        bool begins = places[s] == 0 || places[s] == 1, ends = places[e] >= 5;
+        CHECK((told == SRE_YES) == (begins && ends));
+        CHECK(told == SRE_NO || (found.start == places[s] && found.end == (places[e] < 6 ? places[e] : 6)));
+        told = sre_walk_bytes(&code, (const uint8_t *)text, 6, &asked, 7, rows, 7, &walked);
+        CHECK(told == SRE_NO || told == SRE_NO_ROOM);
+        CHECK(walked.count == (begins && ends));
+      }
+  let_go(&code);
+}
+
+static void no_turns(void) {
+  sre_code code = code_of(setting, COUNT(setting));
+  sre_asked asked = anywhere;
+  asked.turns = 0;
+  sre_found found = {0};
+  size_t marks[4], rows[7];
+  sre_walked walked = {.count = 9};
+  CHECK(answer(&code, "a=1", &asked, &found, marks, 4) == SRE_USED_UP);
+  CHECK(found.turns == 0);
+  CHECK(sre_walk_bytes(&code, (const uint8_t *)"a=1", 3, &asked, 7, rows, 7, &walked) == SRE_USED_UP);
+  CHECK(walked.count == 0 && walked.turns == 0 && walked.start == 0);
+  let_go(&code);
+}
+
+/* ---- no room ---- */
+
+static void no_room(void) {
+  sre_code code = code_of(setting, COUNT(setting));
+  for (size_t room = 0; room < 4; room++) {
+    size_t *marks = __real_malloc(room * sizeof *marks + !room);
+    sre_found found = {0};
+    CHECK(answer(&code, "a=1", &anywhere, &found, marks, room) == SRE_NO_ROOM);
+    CHECK(found.start == 0 && found.end == 3 && found.marks == 4);
+    free(marks);
+  }
+  static const size_t widths[] = {0, 1, 2, 3, 4, 7, 8, 100, SIZE_MAX};
+  for (size_t at = 0; at < COUNT(widths); at++) {
+    size_t width = widths[at], rows[8] = {9, 9, 9, 9, 9, 9, 9, 9}, room = COUNT(rows);
+    sre_walked walked = {.count = 9};
+    uint32_t told = sre_walk_bytes(&code, (const uint8_t *)"a=1", 3, &anywhere, width, rows, room, &walked);
+    bool fits = width > 0 && width <= room;
+    CHECK(walked.count == fits);
+    CHECK(told == (fits && 2 * width <= room ? SRE_NO : SRE_NO_ROOM));
+    CHECK(rows[0] == (fits ? 0 : 9));
+  }
+  let_go(&code);
+}
+
+/* ---- words ---- */
+
+/* A check and an answer agree on words, whatever these are. */
+static uint32_t agreed(sre_code *code) {
+  sre_found found;
+  size_t marks[8], room = COUNT(marks);
+  sre_asked asked = anywhere;
+  asked.turns = 10000;
+  uint32_t checked = sre_check_code(code), told;
+  CHECK(checked == SRE_YES || (checked == SRE_NO_CODE && code->place <= code->words_count && code->error > 1));
+  code->checked = false;
+  told = answer(code, "xxab=12y", &asked, &found, marks, room);
+  CHECK((told == SRE_NO_CODE) == (checked == SRE_NO_CODE));
+  CHECK(told <= SRE_NO_ROOM);
+  return checked;
+}
+
+static void cut_short(const uint32_t *words, size_t count) {
+  for (size_t length = 0; length < count; length++) {
+    sre_code code = code_of(words, length);
+    CHECK(agreed(&code) == SRE_NO_CODE);
+    let_go(&code);
+  }
+}
+
+static void changed(const uint32_t *words, size_t count) {
+  static const uint32_t values[] = {0, 1, 2, 13, 14, 17, 23, 24, 255, 256, INT32_MAX, UINT32_MAX - 1, UINT32_MAX};
+  for (size_t at = 0; at < count; at++)
+    for (size_t it = 0; it < COUNT(values); it++) {
+      sre_code code = code_of(words, count);
+      ((uint32_t *)code.words)[at] = values[it];
+      agreed(&code);
+      let_go(&code);
+    }
+}
+
+static void no_code(void) {
+  cut_short(setting, COUNT(setting));
+  cut_short(running, COUNT(running));
+  cut_short(referring, COUNT(referring));
+  changed(setting, COUNT(setting));
+  changed(running, COUNT(running));
+  changed(referring, COUNT(referring));
+  uint32_t word = 1;
+  for (int round = 0; round < 2000; round++) {
+    uint32_t words[12];
+    for (size_t at = 0; at < COUNT(words); at++)
+      words[at] = (word = word * 1664525 + 1013904223) >> 16 & (round & 1 ? 31 : 0xFFFF);
+    sre_code code = code_of(words, COUNT(words));
+    agreed(&code);
+    let_go(&code);
+  }
+}
+
+/* ---- texts and tables ---- */
+
+static void no_utf8(void) {
+  static const char *texts[] = {"\x80",         "a=1\xC3",     "\xC0\x80",         "\xED\xA0\x80",    "\xE2\x82",
+                                "\xF0\x9D\x94", "\xF4\x90\x80\x80", "\xF8\x88\x80\x80\x80", "a=1 \xFF b=2", "\xFE"};
+  sre_code code = code_of(setting, COUNT(setting));
+  for (size_t at = 0; at < COUNT(texts); at++) {
+    size_t length = strlen(texts[at]), marks[4], rows[7];
+    uint8_t *text = __real_malloc(length);
+    memcpy(text, texts[at], length);
+    sre_found found;
+    sre_walked walked = {.count = 9};
+    CHECK(sre_answer_utf8(&code, text, length, &anywhere, &found, marks, 4) == SRE_NOT_UTF8);
+    CHECK(sre_walk_utf8(&code, text, length, &anywhere, 7, rows, 7, &walked) == SRE_NOT_UTF8 && walked.count == 0);
+    free(text);
+  }
+  let_go(&code);
+}
+
+/* Code points that are none, and surrogates, are characters as any other. */
+static void no_points(void) {
+  static const uint32_t points[] = {0xD800, 0xDFFF, 0x110000, UINT32_MAX, 'a', '=', '1'};
+  static const uint16_t units[] = {0xD800, 0xDFFF, 0xFFFF, 'a', '=', '1'};
+  sre_code code = code_of(setting, COUNT(setting));
+  sre_found found;
+  size_t marks[4];
+  CHECK(sre_answer_points(&code, points, COUNT(points), &anywhere, &found, marks, 4) == SRE_YES && found.start == 4);
+  CHECK(sre_answer_units(&code, units, COUNT(units), &anywhere, &found, marks, 4) == SRE_YES && found.start == 3);
+  let_go(&code);
+}
+
+static void faulty_tables(void) {
+  static const sre_pair unsorted[] = {{300, 310}, {200, 210}}, backwards[] = {{310, 300}}, low[] = {{65, 97}},
+                        surrogates[] = {{0xD800, 0xD801}}, high[] = {{0x110000, UINT32_MAX}}, most[] = {{UINT32_MAX, 0}};
+  static const struct {
+    const sre_pair *pairs;
+    size_t count;
+  } lists[] = {{unsorted, 2}, {backwards, 1}, {low, 1}, {surrogates, 1}, {high, 1}, {most, 1}};
+  sre_code code = code_of(setting, COUNT(setting));
+  for (size_t at = 0; at < COUNT(lists); at++) {
+    sre_table table = SRE_ASCII;
+    table.alnum = lists[at].pairs;
+    table.alnum_count = lists[at].count;
+    sre_found found;
+    size_t marks[4], rows[7];
+    sre_walked walked = {.count = 9};
+    code.table = &table;
+    CHECK(sre_check_table(&table) == SRE_FAULTY_TABLE && table.error >= 2 && table.error <= 4 && !table.checked);
+    CHECK(sre_check_code(&code) == SRE_FAULTY_TABLE && !code.checked);
+    CHECK(answer(&code, "a=1", &anywhere, &found, marks, 4) == SRE_FAULTY_TABLE);
+    CHECK(sre_walk_bytes(&code, (const uint8_t *)"a=1", 3, &anywhere, 7, rows, 7, &walked) == SRE_FAULTY_TABLE);
+    CHECK(walked.count == 0);
+  }
+  let_go(&code);
+}
+
+/* ---- memory ---- */
+
+/* Each request in turn is refused, with all behind it: the call says so, or answers as it does with all of them. */
+static void refused(const uint32_t *words, size_t count, const char *text, bool is_checked) {
+  sre_code code = code_of(words, count);
+  if (is_checked)
+    CHECK(sre_check_code(&code) == SRE_YES);
+  sre_found found, wanted;
+  size_t marks[8], rows[14], room = COUNT(marks);
+  sre_walked walked;
+  uint32_t plain = answer(&code, text, &anywhere, &wanted, marks, room);
+  CHECK(plain == SRE_YES || plain == SRE_NO);
+  long met = 0, told = 0;
+  for (bool is_refused = true; is_refused; met++) {
+    requests = 0;
+    until_refusal = met;
+    uint32_t status = answer(&code, text, &anywhere, &found, marks, room);
+    is_refused = requests > met;
+    until_refusal = -1;
+    told += status == SRE_MEMORY;
+    CHECK(status == plain || (is_refused && status == SRE_MEMORY));
+    CHECK(status != SRE_YES || (found.start == wanted.start && found.end == wanted.end));
+  }
+  CHECK(told > 0);
+  requests = 0;
+  until_refusal = 0;
+  uint32_t status = sre_walk_bytes(&code, (const uint8_t *)text, strlen(text), &anywhere, 7, rows, 14, &walked);
+  until_refusal = -1;
+  CHECK(status == SRE_MEMORY && walked.count == 0);
+  let_go(&code);
+}
+
+static void no_memory(void) {
+  char text[101];
+  memset(text, 'x', 100);
+  text[100] = 0;
+  for (int is_checked = 0; is_checked < 2; is_checked++) {
+    refused(setting, COUNT(setting), "  ab=12", is_checked);
+    refused(running, COUNT(running), text, is_checked);
+    refused(referring, COUNT(referring), "ababbb", is_checked);
+  }
+  until_refusal = requests = 0;
+  sre_code code = code_of(setting, COUNT(setting));
+  CHECK(sre_check_code(&code) == SRE_MEMORY && !code.checked);
+  until_refusal = -1;
+  let_go(&code);
+}
+
+int main(void) {
+  CHECK(sre_check_table(&ascii) == SRE_YES);
+  windows();
+  no_turns();
+  no_room();
+  no_code();
+  no_utf8();
+  no_points();
+  faulty_tables();
+  no_memory();
+  printf("bad callers: %d failures\n", failures);
+  return failures != 0;
+}

@@ -1,0 +1,432 @@
+"""Pattern and Match over the library by ctypes, for a Python without the extension in C: the same answers, but slower."""
+from __future__ import annotations
+
+import operator
+import sys
+import types
+from ctypes import byref, c_size_t, c_uint32
+from typing import Any, Iterator, List, Optional, Tuple
+
+from gaffsilver import _library as library
+from gaffsilver._shared import TooLong, parts_of, repr_of
+
+Row = List[int]
+
+_twins: List[Any] = [None, None]
+
+
+def set_twins(pattern: Any, match: Any) -> None:
+    """The types whose instances count as Pattern and Match, or None."""
+    _twins[:] = pattern, match
+
+
+class _Fixed(type):
+    """A class that is not changed, nor made by a call, nor stood on, as those of `_sre`."""
+
+    def __new__(cls, name: str, bases: Tuple[Any, ...], body: Any) -> Any:
+        if bases:
+            raise TypeError(f"type 're.{bases[0].__name__}' is not an acceptable base type")
+        return super().__new__(cls, name, bases, body)
+
+    def __instancecheck__(cls, instance: Any) -> bool:
+        twin = {"Pattern": _twins[0], "Match": _twins[1]}.get(cls.__name__)
+        return type(instance) is cls or (twin is not None and type(instance) is twin)
+
+    def __setattr__(cls, name: str, value: Any) -> None:
+        raise TypeError(f"cannot set {name!r} attribute of immutable type 're.{cls.__name__}'")
+
+    def __call__(cls, *args: Any, **kwargs: Any) -> Any:
+        raise TypeError(f"cannot create '{cls.__module__}.{cls.__name__}' instances")
+
+
+def _size(number: Any) -> int:
+    """A number of characters or matches."""
+    number = operator.index(number)
+    if not -sys.maxsize - 1 <= number <= sys.maxsize:
+        raise OverflowError("Python int too large to convert to C ssize_t")
+    return number
+
+
+def _turns(given: Any, otherwise: int) -> int:
+    if given is None:
+        return otherwise
+    number = operator.index(given)
+    if not 0 <= number <= library.FOREVER:
+        raise OverflowError("can't convert this number of turns to 64 bits")
+    return number
+
+
+def _fail(status: int) -> None:
+    if status == library.USED_UP:
+        raise TooLong("the turns were used up before the answer was known")
+    if status == library.MEMORY:
+        raise MemoryError
+    if status == library.NO_CODE:
+        raise RuntimeError("invalid SRE code")
+    raise SystemError(f"the engine answered {status}")
+
+
+class _Text:
+    """A str or bytes-like object as the library reads it."""
+
+    def __init__(self, pattern: Any, string: Any) -> None:
+        self.string = string
+        if isinstance(string, str):
+            if isinstance(pattern, bytes):
+                raise TypeError("cannot use a bytes pattern on a string-like object")
+            self.plain: Any = string if type(string) is str else str.__str__(string)[:]
+            try:
+                self.data, self.which = self.plain.encode("latin-1"), 0
+            except UnicodeEncodeError:
+                self.data, self.which = self.plain.encode("utf-32-le", "surrogatepass"), 1
+        else:
+            self.view, self.plain = _buffer(string)  # the view keeps the buffer's size
+            if isinstance(pattern, str):
+                raise TypeError("cannot use a string pattern on a bytes-like object")
+            self.data, self.which = self.plain, 0
+        self.length = len(self.plain)
+        self.is_fixed = isinstance(string, str) or type(string) is bytes
+
+    def look_again(self) -> None:
+        """Reads what a buffer has now."""
+        if not self.is_fixed:
+            self.data = self.plain = _buffer(self.string)[1]
+
+
+def _buffer(string: Any) -> Tuple[Any, bytes]:
+    """A view of a bytes-like object, and its bytes as they now are."""
+    if type(string) is bytes:
+        return None, string
+    try:
+        view = memoryview(string)
+        return view, bytes(view.cast("B")) if view.nbytes else b""
+    except (TypeError, BufferError):
+        raise TypeError(f"expected string or bytes-like object, got '{type(string).__name__}'") from None
+
+
+def _span(row: Row, group: int) -> Tuple[int, int]:
+    """The span of a group, (-1, -1) where it took no part."""
+    at = 1 + 2 * group if group else 0
+    start, end = row[at : at + 2]
+    return (start, end) if start <= end != library.UNSET else (-1, -1)
+
+
+def _slice(plain: Any, row: Row, group: int, otherwise: Any) -> Any:
+    """The text of a group; `otherwise` where it took no part."""
+    start, end = _span(row, group)
+    return otherwise if start < 0 else plain[start:end]
+
+
+def _fill(pieces: List[Any], parts: Any, plain: Any, row: Row) -> None:
+    """Appends the parts of a template."""
+    for part in parts if isinstance(parts, list) else [parts]:
+        if isinstance(part, int):
+            part = _slice(plain, row, part, None)
+        if part is not None:
+            pieces.append(part)
+
+
+class Pattern(metaclass=_Fixed):
+    """Compiled regular expression object."""
+
+    __module__, __qualname__ = "re", "Pattern"
+    __slots__ = ("pattern", "flags", "groups", "_words", "_code", "_names", "_indexgroup", "_turns", "__weakref__")
+    __class_getitem__ = classmethod(types.GenericAlias)
+
+    @property
+    def groupindex(self) -> Any:
+        return types.MappingProxyType(self._names)
+
+    @property
+    def timeout(self) -> Optional[int]:
+        return None if self._turns == library.FOREVER else self._turns
+
+    def _asked(self, text: _Text, pos: Any, endpos: Any, timeout: Any) -> Any:
+        start, end = (min(max(it, 0), text.length) for it in (pos, endpos))
+        turns = _turns(timeout, self._turns)
+        return library.Asked(start, end, turns, True, False, False, sys.version_info >= (3, 14))
+
+    def _row(self, text: _Text, asked: Any) -> Optional[Row]:
+        """The match as a row: start, end, the group that was closed last, and the marks."""
+        if asked.start > asked.end:
+            return None
+        found, room = library.Found(), 2 * self.groups
+        marks = (c_size_t * (room or 1))()
+        status = library.answers[text.which](
+            byref(self._code), text.data, text.length, byref(asked), byref(found), marks, room
+        )
+        if status == library.NO:
+            return None
+        if status != library.YES:
+            _fail(status)
+        unset = [library.UNSET] * (room - found.marks)
+        return [found.start, found.end, found.last_index % 2**64, *marks[: found.marks], *unset]
+
+    def _rows(self, text: _Text, asked: Any) -> Iterator[Row]:
+        """The rows of a walk, read in batches, or one at a time where the text may change."""
+        width, walked, status = 3 + 2 * self.groups, library.Walked(), library.NO_ROOM
+        room = 8 if text.is_fixed else 1
+        while status == library.NO_ROOM and asked.start <= asked.end:
+            text.look_again()
+            rows = (c_size_t * (width * room))()
+            status = library.walks[text.which](
+                byref(self._code), text.data, text.length, byref(asked), width, rows, width * room, byref(walked)
+            )
+            numbers = rows[: walked.count * width]
+            for at in range(0, len(numbers), width):
+                yield numbers[at : at + width]
+            asked.start, asked.must_advance, asked.turns = walked.start, walked.must_advance, walked.turns
+            room = min(4 * room, 2048) if text.is_fixed else 1
+        if status not in (library.NO, library.NO_ROOM):
+            _fail(status)
+
+    def _one(self, string: Any, pos: Any, endpos: Any, timeout: Any, search: bool, match_all: bool) -> Any:
+        pos, endpos = _size(pos), _size(endpos)
+        text = _Text(self.pattern, string)
+        asked = self._asked(text, pos, endpos, timeout)
+        asked.search, asked.match_all = search, match_all
+        row = self._row(text, asked)
+        return row and _match(self, text, (asked.start, asked.end), row)
+
+    def match(self, string: Any, pos: int = 0, endpos: int = sys.maxsize, *, timeout: Optional[int] = None) -> Any:
+        """The match at the beginning of the window, or None."""
+        return self._one(string, pos, endpos, timeout, False, False)
+
+    def fullmatch(self, string: Any, pos: int = 0, endpos: int = sys.maxsize, *, timeout: Optional[int] = None) -> Any:
+        """The match that is all of the window, or None."""
+        return self._one(string, pos, endpos, timeout, False, True)
+
+    def search(self, string: Any, pos: int = 0, endpos: int = sys.maxsize, *, timeout: Optional[int] = None) -> Any:
+        """The match that starts first in the window, or None."""
+        return self._one(string, pos, endpos, timeout, True, False)
+
+    def scanner(self, string: Any, pos: int = 0, endpos: int = sys.maxsize, *, timeout: Optional[int] = None) -> Any:
+        """What is asked for one match after the other."""
+        made: Any = object.__new__(Scanner)
+        pos, endpos = _size(pos), _size(endpos)
+        made.pattern, made._text, made._has_ended = self, _Text(self.pattern, string), False
+        made._asked = self._asked(made._text, pos, endpos, timeout)
+        made._window = made._asked.start, made._asked.end
+        return made
+
+    def finditer(self, string: Any, pos: int = 0, endpos: int = sys.maxsize, *, timeout: Optional[int] = None) -> Any:
+        """An iterator over all matches."""
+        pos, endpos = _size(pos), _size(endpos)
+        text = _Text(self.pattern, string)
+        asked = self._asked(text, pos, endpos, timeout)
+        window = asked.start, asked.end
+        return (_match(self, text, window, row) for row in self._rows(text, asked))
+
+    def findall(
+        self, string: Any, pos: int = 0, endpos: int = sys.maxsize, *, timeout: Optional[int] = None
+    ) -> List[Any]:
+        """The texts of all matches, or of their groups."""
+        pos, endpos = _size(pos), _size(endpos)
+        text = _Text(self.pattern, string)
+        rows, empty = self._rows(text, self._asked(text, pos, endpos, timeout)), text.plain[:0]
+        if self.groups < 2:
+            return [_slice(text.plain, row, self.groups, empty) for row in rows]
+        numbers = range(1, self.groups + 1)
+        return [tuple(_slice(text.plain, row, it, empty) for it in numbers) for row in rows]
+
+    def split(self, string: Any, maxsplit: int = 0, *, timeout: Optional[int] = None) -> List[Any]:
+        """The pieces between matches, and the groups of those."""
+        maxsplit = _size(maxsplit)
+        text = _Text(self.pattern, string)
+        pieces: List[Any] = []
+        last = 0
+        for row in self._first(text, maxsplit, timeout):
+            pieces.append(text.plain[last : row[0]])
+            pieces += [_slice(text.plain, row, it, None) for it in range(1, self.groups + 1)]
+            last = row[1]
+        return [*pieces, text.plain[last:]]
+
+    def _first(self, text: _Text, most: int, timeout: Any) -> Iterator[Row]:
+        """The rows of the first matches: of all, where `most` is 0."""
+        if most < 0:
+            return
+        for number, row in enumerate(self._rows(text, self._asked(text, 0, sys.maxsize, timeout)), 1):
+            yield row
+            if number == most:
+                return
+
+    def subn(self, repl: Any, string: Any, count: int = 0, *, timeout: Optional[int] = None) -> Tuple[Any, int]:
+        """The tuple (new_string, number_of_subs_made)."""
+        count = _size(count)
+        is_literal = isinstance(repl, (str, bytes)) and ("\\" if isinstance(repl, str) else b"\\") not in repl
+        parts = repl if callable(repl) or is_literal else parts_of(self, repl)
+        text = _Text(self.pattern, string)
+        pieces: List[Any] = []
+        last = made = 0
+        for row in self._first(text, count, timeout):
+            if last < row[0]:
+                pieces.append(text.plain[last : row[0]])
+            if callable(parts):
+                given = parts(_match(self, text, (0, text.length), row))
+                pieces += [] if given is None else [given]
+            else:
+                _fill(pieces, parts, text.plain, row)
+            last, made = row[1], made + 1
+        if not made:
+            return text.plain, 0
+        if last < text.length:
+            pieces.append(text.plain[last:])
+        return text.plain[:0].join(pieces), made
+
+    def sub(self, repl: Any, string: Any, count: int = 0, *, timeout: Optional[int] = None) -> Any:
+        """The string with each match replaced by repl."""
+        return self.subn(repl, string, count, timeout=timeout)[0]
+
+    def within(self, timeout: Any, /) -> Any:
+        """The same pattern, each call of which has so many turns where it names none."""
+        made: Any = object.__new__(Pattern)
+        for name in Pattern.__slots__[:-1]:
+            setattr(made, name, getattr(self, name))
+        made._turns = _turns(timeout, library.FOREVER)
+        return made
+
+    def __copy__(self) -> Any:
+        return self
+
+    def __deepcopy__(self, memo: Any, /) -> Any:
+        return self
+
+    def _key(self) -> Tuple[Any, ...]:
+        return self.flags, self.groups, self._turns, type(self.pattern), self._words, self.pattern
+
+    def __eq__(self, other: object) -> Any:
+        return self._key() == other._key() if type(other) is Pattern else NotImplemented
+
+    def __hash__(self) -> int:
+        return hash(self._key())
+
+    def __repr__(self) -> str:
+        return repr_of(self)
+
+
+class Match(metaclass=_Fixed):
+    """The result of re.match() and re.search().
+    Match objects always have a boolean value of True."""
+
+    __module__, __qualname__ = "re", "Match"
+    __slots__ = ("re", "string", "pos", "endpos", "_row", "_str")
+    __class_getitem__ = classmethod(types.GenericAlias)
+
+    @property
+    def regs(self) -> Tuple[Tuple[int, int], ...]:
+        return tuple(_span(self._row, group) for group in range(self.re.groups + 1))
+
+    @property
+    def lastindex(self) -> Optional[int]:
+        return self._row[2] if 0 < self._row[2] != library.UNSET else None
+
+    @property
+    def lastgroup(self) -> Optional[str]:
+        last, names = self.lastindex, self.re._indexgroup
+        return names[last] if last is not None and last < len(names) else None
+
+    def _number(self, group: Any) -> int:
+        number = group.__index__() if hasattr(group, "__index__") else self.re._names.get(group, -1)
+        if not 0 <= number <= self.re.groups:
+            raise IndexError("no such group")
+        return number
+
+    @property
+    def _plain(self) -> Any:
+        """The text, or what a buffer has now."""
+        return _buffer(self.string)[1] if self._str is None else self._str
+
+    def _of(self, group: int, otherwise: Any) -> Any:
+        return _slice(self._plain, self._row, group, otherwise)
+
+    def __getitem__(self, group: Any, /) -> Any:
+        return self._of(self._number(group), None)
+
+    def group(self, *groups: Any) -> Any:
+        """The texts of groups by number or name; with none, that of the match."""
+        return self[groups[0] if groups else 0] if len(groups) < 2 else tuple(self[it] for it in groups)
+
+    def groups(self, default: Any = None) -> Tuple[Any, ...]:
+        """The texts of all groups; default for those that took no part."""
+        return tuple(self._of(group, default) for group in range(1, self.re.groups + 1))
+
+    def groupdict(self, default: Any = None) -> Any:
+        """The texts of all named groups by name."""
+        return {name: self._of(group, default) for name, group in self.re._names.items()}
+
+    def span(self, group: Any = 0, /) -> Tuple[int, int]:
+        """Where a group starts and ends; (-1, -1) where it took no part."""
+        return _span(self._row, self._number(group))
+
+    def start(self, group: Any = 0, /) -> int:
+        """Where a group starts; -1 where it took no part."""
+        return self.span(group)[0]
+
+    def end(self, group: Any = 0, /) -> int:
+        """Where a group ends; -1 where it took no part."""
+        return self.span(group)[1]
+
+    def expand(self, template: Any) -> Any:
+        """A template with the texts of its groups, as sub() does it."""
+        pieces: List[Any] = []
+        _fill(pieces, parts_of(self.re, template), self._plain, self._row)
+        return template[:0].join(pieces)
+
+    def __copy__(self) -> Any:
+        return self
+
+    def __deepcopy__(self, memo: Any, /) -> Any:
+        return self
+
+    def __reduce__(self) -> Any:
+        raise TypeError("cannot pickle 're.Match' object")
+
+    def __repr__(self) -> str:
+        return f"<re.Match object; span={self.span()!r}, match={self.group()!r}>"
+
+
+class Scanner(metaclass=_Fixed):
+    """What is asked for one match after the other."""
+
+    __module__, __qualname__ = "_sre", "SRE_Scanner"
+    __slots__ = ("pattern", "_text", "_asked", "_window", "_has_ended")
+
+    def _step(self, search: bool) -> Any:
+        self._asked.search = search
+        self._text.look_again()
+        row = None if self._has_ended else self.pattern._row(self._text, self._asked)
+        if row is None:
+            self._has_ended = True
+            return None
+        self._asked.start, self._asked.must_advance = row[1], row[0] == row[1]
+        return _match(self.pattern, self._text, self._window, row)
+
+    def match(self) -> Any:
+        """The match where the last one ended, or None."""
+        return self._step(False)
+
+    def search(self) -> Any:
+        """The next match, or None."""
+        return self._step(True)
+
+
+def _match(pattern: Any, text: _Text, window: Tuple[int, int], row: Row) -> Any:
+    made: Any = object.__new__(Match)
+    made.re, made.string, made._row = pattern, text.string, row
+    made._str = text.plain if isinstance(text.string, str) else None
+    made.pos, made.endpos = window
+    return made
+
+
+def compile(pattern: Any, flags: int, code: List[int], groups: int, groupindex: Any, indexgroup: Any) -> Any:
+    """A pattern of compiled words, as `_sre.compile` gives one."""
+    made: Any = object.__new__(Pattern)
+    made.pattern = pattern if pattern is None or isinstance(pattern, (str, bytes)) else bytes(memoryview(pattern))
+    made.flags, made.groups, made._names, made._indexgroup = int(flags), groups, groupindex, indexgroup
+    made._turns, made._words = library.FOREVER, bytes((c_uint32 * len(code))(*code))
+    table = library.table(not isinstance(made.pattern, bytes))
+    made._code = library.Code(library.bytes_of(made._words), len(code), library.pointer_to(table))
+    status = library.check_code(byref(made._code))
+    if status != library.YES:
+        _fail(status)
+    return made

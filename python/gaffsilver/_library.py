@@ -1,0 +1,154 @@
+"""The library `libsre_c.so` by ctypes: the structs of `sre.h`, and a call for each kind of text."""
+from __future__ import annotations
+
+import ctypes
+import os
+from ctypes import POINTER, Structure, byref, c_bool, c_size_t, c_ssize_t, c_uint32, c_uint64, c_void_p
+from typing import Any, List, Optional, Tuple
+
+import _sre
+
+NO, YES, USED_UP, MEMORY, NO_CODE, NO_ROOM = range(6)
+UNSET = FOREVER = 2**64 - 1
+
+
+class Pair(Structure):
+    _fields_ = [("low", c_uint32), ("high", c_uint32)]
+
+
+class Table(Structure):
+    _fields_ = [
+        *((name, kind) for it in ("lower", "upper", "alnum", "digits") for name, kind in
+          ((it, POINTER(Pair)), (f"{it}_count", c_size_t))),
+        ("error", c_uint32),
+        ("checked", c_bool),
+    ]
+
+
+class Hints(Structure):
+    _fields_ = [
+        *((name, c_uint32) for name in ("width", "prefix", "prefix_skip", "most_counts")),
+        *((name, c_bool) for name in ("has_width", "has_prefix", "literal", "first_set", "refers")),
+    ]
+
+
+class Code(Structure):
+    _fields_ = [
+        ("words", c_void_p),
+        ("words_count", c_size_t),
+        ("table", POINTER(Table)),
+        ("place", c_size_t),
+        ("error", c_uint32),
+        ("hints", Hints),
+        ("checked", c_bool),
+    ]
+
+
+class Asked(Structure):
+    _fields_ = [
+        ("start", c_size_t),
+        ("end", c_size_t),
+        ("turns", c_uint64),
+        *((name, c_bool) for name in ("search", "match_all", "must_advance", "non_boundary")),
+    ]
+
+
+class Found(Structure):
+    _fields_ = [
+        ("start", c_size_t),
+        ("end", c_size_t),
+        ("last_index", c_ssize_t),
+        ("marks", c_size_t),
+        ("turns", c_uint64),
+    ]
+
+
+class Walked(Structure):
+    _fields_ = [
+        ("count", c_size_t),
+        ("start", c_size_t),
+        ("turns", c_uint64),
+        ("step_turns", c_uint64),
+        ("must_advance", c_bool),
+    ]
+
+
+_library = ctypes.CDLL(os.path.join(os.path.dirname(os.path.abspath(__file__)), "libsre_c.so"))
+
+
+def _function(name: str, *arguments: Any) -> Any:
+    function = getattr(_library, name)
+    function.argtypes, function.restype = arguments, c_uint32
+    return function
+
+
+def _of_text(what: str, *arguments: Any) -> Tuple[Any, Any]:
+    """The function for characters of one byte, and that for those of four."""
+    before = POINTER(Code), c_void_p, c_size_t, POINTER(Asked)
+    return tuple(_function(f"sre_{what}_{text}", *before, *arguments) for text in ("bytes", "points"))  # type: ignore
+
+
+check_table = _function("sre_check_table", POINTER(Table))
+check_code = _function("sre_check_code", POINTER(Code))
+answers = _of_text("answer", POINTER(Found), c_void_p, c_size_t)
+walks = _of_text("walk", c_size_t, c_void_p, c_size_t, POINTER(Walked))
+
+_to_upper = ctypes.pythonapi._PyUnicode_ToUppercase
+_to_upper.argtypes, _to_upper.restype = [c_uint32], c_uint32
+
+
+def _extend(ranges: List[List[int]], character: int) -> None:
+    if ranges and ranges[-1][1] == character - 1:
+        ranges[-1][1] = character
+    else:
+        ranges.append([character, character])
+
+
+def _lists_of_unicode() -> Tuple[List[Any], List[Any], List[Any], List[Any]]:
+    """Lower and upper cases, letters and digits past ASCII, of this Python's Unicode data."""
+    lower: List[Any] = []
+    upper: List[Any] = []
+    alnum: List[Any] = []
+    digits: List[Any] = []
+    for number in range(128, 0x110000):
+        letter = chr(number)
+        if 0xD800 <= number < 0xE000:
+            continue
+        if _sre.unicode_tolower(number) != number:
+            lower.append((number, _sre.unicode_tolower(number)))
+        if letter.upper() != letter and _to_upper(number) != number:
+            upper.append((number, _to_upper(number)))
+        if letter.isalnum():
+            _extend(alnum, number)
+        if letter.isdecimal():
+            _extend(digits, number)
+    return lower, upper, alnum, digits
+
+
+def _table(*lists: List[Any]) -> Table:
+    """The checked table of lists. It holds the arrays that it points to."""
+    table = Table()
+    for name, pairs in zip(("lower", "upper", "alnum", "digits"), lists):
+        setattr(table, name, (Pair * (len(pairs) or 1))(*map(tuple, pairs)))
+        setattr(table, f"{name}_count", len(pairs))
+    status = check_table(byref(table))
+    if status != YES:
+        raise MemoryError if status == MEMORY else SystemError(f"the engine answered {status}")
+    return table
+
+
+_tables: List[Optional[Table]] = [None, None]
+
+
+def table(is_unicode: bool) -> Table:
+    """The table of this Python's Unicode data, or that of ASCII. It is made once."""
+    made = _tables[is_unicode] = _tables[is_unicode] or _table(*(_lists_of_unicode() if is_unicode else ([],) * 4))
+    return made
+
+
+def bytes_of(text: bytes) -> Any:
+    """The address of bytes, which stays good for as long as they are held."""
+    return ctypes.cast(text, c_void_p)
+
+
+pointer_to = ctypes.pointer

@@ -1,0 +1,56 @@
+/* What a call is given: arguments by position and by name, sizes and turns. */
+#include "native.h"
+
+static bool put_named(const Signature *signature, PyObject *name, PyObject *value, PyObject **into) {
+  for (int at = 0; signature->names[at]; at++) {
+    if (PyUnicode_CompareWithASCIIString(name, signature->names[at]))
+      continue;
+    if (into[at]) {
+      PyErr_Format(PyExc_TypeError, "%s() got multiple values for argument '%U'", signature->function, name);
+      return false;
+    }
+    into[at] = value;
+    return true;
+  }
+  PyErr_Format(PyExc_TypeError, "%s() got an unexpected keyword argument '%U'", signature->function, name);
+  return false;
+}
+
+bool arguments_read(const Signature *signature, PyObject *const *args, Py_ssize_t count, PyObject *names,
+                    PyObject **into) {
+  if (count > signature->positional) {
+    PyErr_Format(PyExc_TypeError, "%s() takes at most %d positional arguments (%zd given)", signature->function,
+                 signature->positional, count);
+    return false;
+  }
+  for (Py_ssize_t at = 0; at < count; at++)
+    into[at] = args[at];
+  for (Py_ssize_t at = 0; names && at < PyTuple_GET_SIZE(names); at++)
+    if (!put_named(signature, PyTuple_GET_ITEM(names, at), args[count + at], into))
+      return false;
+  for (int at = 0; at < signature->needed; at++) {
+    if (!into[at]) {
+      PyErr_Format(PyExc_TypeError, "%s() missing required argument '%s' (pos %d)", signature->function,
+                   signature->names[at], at + 1);
+      return false;
+    }
+  }
+  return true;
+}
+
+bool arguments_size(PyObject *given, Py_ssize_t otherwise, Py_ssize_t *into) {
+  *into = given ? PyNumber_AsSsize_t(given, PyExc_OverflowError) : otherwise;
+  return *into != -1 || !PyErr_Occurred();
+}
+
+bool arguments_turns(PyObject *given, uint64_t otherwise, uint64_t *into) {
+  *into = otherwise;
+  if (!given || given == Py_None)
+    return true;
+  PyObject *number = PyNumber_Index(given);
+  if (!number)
+    return false;
+  *into = PyLong_AsUnsignedLongLong(number);
+  Py_DECREF(number);
+  return *into != UINT64_MAX || !PyErr_Occurred();
+}

@@ -1,0 +1,177 @@
+/* The calls of the engine: its tables, a match, and the rows of a walk. */
+#include "native.h"
+
+/* A text of so many characters or more is worth letting other threads run. */
+#define LONG_TEXT 4096
+
+/* ---- tables ---- */
+
+/* A list of pairs that grows. */
+typedef struct {
+  sre_pair *pairs;
+  size_t count, room;
+} List;
+
+static bool list_add(List *list, uint32_t low, uint32_t high) {
+  if (list->count == list->room) {
+    size_t room = list->room ? 2 * list->room : 256;
+    sre_pair *pairs = PyMem_RawRealloc(list->pairs, room * sizeof *pairs);
+    if (!pairs)
+      return false;
+    list->pairs = pairs;
+    list->room = room;
+  }
+  list->pairs[list->count++] = (sre_pair){low, high};
+  return true;
+}
+
+/* Takes a character into the ranges of a list. */
+static bool list_extend(List *list, uint32_t character) {
+  if (list->count && list->pairs[list->count - 1].high + 1 == character) {
+    list->pairs[list->count - 1].high = character;
+    return true;
+  }
+  return list_add(list, character, character);
+}
+
+/* The lists of this Python's Unicode data, the one that its own `_sre` reads. */
+static bool lists_of_unicode(List *lower, List *upper, List *alnum, List *digits) {
+  for (Py_UCS4 c = 128; c < 0x110000; c++) {
+    if (Py_UNICODE_IS_SURROGATE(c))
+      continue;
+    if (Py_UNICODE_TOLOWER(c) != c && !list_add(lower, c, Py_UNICODE_TOLOWER(c)))
+      return false;
+    if (Py_UNICODE_TOUPPER(c) != c && !list_add(upper, c, Py_UNICODE_TOUPPER(c)))
+      return false;
+    if (Py_UNICODE_ISALNUM(c) && !list_extend(alnum, c))
+      return false;
+    if (Py_UNICODE_ISDECIMAL(c) && !list_extend(digits, c))
+      return false;
+  }
+  return true;
+}
+
+/* Fills in and checks the table of Unicode, which then stays for as long as the process runs. */
+static bool fill_unicode(sre_table *table) {
+  List lower = {0}, upper = {0}, alnum = {0}, digits = {0};
+  if (lists_of_unicode(&lower, &upper, &alnum, &digits)) {
+    *table = (sre_table){lower.pairs, lower.count, upper.pairs,  upper.count, alnum.pairs,
+                         alnum.count, digits.pairs, digits.count, 0,           false};
+    uint32_t status = sre_check_table(table);
+    if (status == SRE_YES)
+      return true;
+    engine_fail(status);
+  } else {
+    PyErr_NoMemory();
+  }
+  PyMem_RawFree(lower.pairs);
+  PyMem_RawFree(upper.pairs);
+  PyMem_RawFree(alnum.pairs);
+  PyMem_RawFree(digits.pairs);
+  return false;
+}
+
+/* Fills in and checks the table of ASCII. */
+static bool fill_ascii(sre_table *table) {
+  *table = (sre_table)SRE_ASCII;
+  uint32_t status = sre_check_table(table);
+  if (status != SRE_YES)
+    engine_fail(status);
+  return status == SRE_YES;
+}
+
+const sre_table *engine_table(bool is_unicode) {
+  static sre_table unicode, ascii;
+  sre_table *table = is_unicode ? &unicode : &ascii;
+  if (table->checked)
+    return table;
+  return (is_unicode ? fill_unicode(table) : fill_ascii(table)) ? table : NULL;
+}
+
+/* ---- calls ---- */
+
+void engine_fail(uint32_t status) {
+  if (status == SRE_USED_UP)
+    PyErr_SetString(shared.too_long, "the turns were used up before the answer was known");
+  else if (status == SRE_MEMORY)
+    PyErr_NoMemory();
+  else if (status == SRE_NO_CODE)
+    PyErr_SetString(PyExc_RuntimeError, "invalid SRE code");
+  else
+    PyErr_Format(PyExc_SystemError, "the engine answered %u", (unsigned)status);
+}
+
+static Py_ssize_t held(Py_ssize_t position, Py_ssize_t length) {
+  return position < 0 ? 0 : position > length ? length : position;
+}
+
+sre_asked engine_asked(const Text *text, Py_ssize_t pos, Py_ssize_t endpos, uint64_t turns) {
+  return (sre_asked){
+      .start = (size_t)held(pos, text->length),
+      .end = (size_t)held(endpos, text->length),
+      .turns = turns,
+      .search = true,
+      .non_boundary = PY_VERSION_HEX >= 0x030E0000,
+  };
+}
+
+/* Lets other threads run, where nothing can change the text meanwhile and that is worth while. */
+static PyThreadState *let_others_run(const Text *text) {
+  return text->is_fixed && text->length >= LONG_TEXT ? PyEval_SaveThread() : NULL;
+}
+
+static void run_alone(PyThreadState *saved) {
+  if (saved)
+    PyEval_RestoreThread(saved);
+}
+
+static uint32_t answer(const Pattern *pattern, const Text *text, const sre_asked *asked, sre_found *found,
+                       size_t *marks) {
+  size_t length = (size_t)text->length, room = 2 * (size_t)pattern->groups;
+  switch (text->size) {
+  case 1:
+    return sre_answer_bytes(&pattern->code, text->data, length, asked, found, marks, room);
+  case 2:
+    return sre_answer_units(&pattern->code, text->data, length, asked, found, marks, room);
+  default:
+    return sre_answer_points(&pattern->code, text->data, length, asked, found, marks, room);
+  }
+}
+
+int engine_match(const Pattern *pattern, const Text *text, const sre_asked *asked, size_t *row) {
+  sre_found found;
+  PyThreadState *saved = let_others_run(text);
+  uint32_t status = answer(pattern, text, asked, &found, row + 3);
+  run_alone(saved);
+  if (status == SRE_NO)
+    return 0;
+  if (status != SRE_YES) {
+    engine_fail(status);
+    return -1;
+  }
+  row[0] = found.start;
+  row[1] = found.end;
+  row[2] = (size_t)found.last_index;
+  for (size_t at = 3 + found.marks; at < ROW_WIDTH(pattern); at++)
+    row[at] = SRE_UNSET;
+  return 1;
+}
+
+uint32_t engine_walk(const Pattern *pattern, const Text *text, const sre_asked *asked, size_t *rows, size_t room,
+                     sre_walked *walked) {
+  size_t length = (size_t)text->length, width = ROW_WIDTH(pattern), numbers = width * room;
+  PyThreadState *saved = let_others_run(text);
+  uint32_t status;
+  switch (text->size) {
+  case 1:
+    status = sre_walk_bytes(&pattern->code, text->data, length, asked, width, rows, numbers, walked);
+    break;
+  case 2:
+    status = sre_walk_units(&pattern->code, text->data, length, asked, width, rows, numbers, walked);
+    break;
+  default:
+    status = sre_walk_points(&pattern->code, text->data, length, asked, width, rows, numbers, walked);
+  }
+  run_alone(saved);
+  return status;
+}

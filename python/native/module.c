@@ -1,0 +1,82 @@
+/* The module gaffsilver._native: Pattern and Match over the proved engine, for calls that cost little more than it. */
+#include "native.h"
+
+Shared shared;
+
+/* ---- the type of Pattern and Match ---- */
+
+/* What `re` itself calls Pattern and Match, while the engine stands in its place: an instance of those is one of ours,
+ * too, since a pattern that was compiled before is still good. */
+static PyObject *twins[2];
+
+static PyObject *is_instance(PyObject *type, PyObject *object) {
+  PyObject *twin = twins[type == (PyObject *)&MatchType];
+  return PyBool_FromLong((PyObject *)Py_TYPE(object) == type || (twin && (PyObject *)Py_TYPE(object) == twin));
+}
+
+static PyMethodDef type_methods[] = {
+    {"__instancecheck__", is_instance, METH_O, "Whether an object is of this type, or of that for which it stands."},
+    {NULL},
+};
+
+static PyTypeObject Type = {
+    PyVarObject_HEAD_INIT(NULL, 0).tp_name = "gaffsilver.Type",
+    .tp_doc = "The type of Pattern and Match.",
+    .tp_flags = Py_TPFLAGS_DEFAULT | Py_TPFLAGS_DISALLOW_INSTANTIATION,
+    .tp_methods = type_methods,
+};
+
+/* ---- the module ---- */
+
+static PyObject *set_twins(PyObject *module, PyObject *args) {
+  PyObject *pattern, *match;
+  if (!PyArg_ParseTuple(args, "OO:set_twins", &pattern, &match))
+    return NULL;
+  Py_XSETREF(twins[0], pattern == Py_None ? NULL : Py_NewRef(pattern));
+  Py_XSETREF(twins[1], match == Py_None ? NULL : Py_NewRef(match));
+  Py_RETURN_NONE;
+}
+
+static PyMethodDef functions[] = {
+    {"compile", pattern_compile, METH_VARARGS,
+     "compile($module, pattern, flags, code, groups, groupindex, indexgroup, /)\n--\n\n"
+     "A pattern of compiled words, as _sre.compile gives one."},
+    {"set_twins", set_twins, METH_VARARGS,
+     "set_twins($module, pattern, match, /)\n--\n\nThe types whose instances count as Pattern and Match, or None."},
+    {NULL},
+};
+
+static struct PyModuleDef definition = {
+    PyModuleDef_HEAD_INIT, "gaffsilver._native", "Pattern and Match over the proved engine.", -1, functions,
+};
+
+static bool read_shared(void) {
+  PyObject *module = PyImport_ImportModule("gaffsilver._shared");
+  if (!module)
+    return false;
+  shared.too_long = PyObject_GetAttrString(module, "TooLong");
+  shared.parts_of = PyObject_GetAttrString(module, "parts_of");
+  shared.repr_of = PyObject_GetAttrString(module, "repr_of");
+  Py_DECREF(module);
+  return shared.too_long && shared.parts_of && shared.repr_of;
+}
+
+static bool ready_types(void) {
+  Type.tp_base = &PyType_Type;
+  if (PyType_Ready(&Type) < 0)
+    return false;
+  Py_SET_TYPE(&PatternType, &Type);
+  Py_SET_TYPE(&MatchType, &Type);
+  return PyType_Ready(&PatternType) == 0 && PyType_Ready(&MatchType) == 0 && PyType_Ready(&MatchesType) == 0 &&
+         PyType_Ready(&ScannerType) == 0;
+}
+
+PyMODINIT_FUNC PyInit__native(void) {
+  if (!ready_types() || !read_shared())
+    return NULL;
+  PyObject *module = PyModule_Create(&definition);
+  if (module && (PyModule_AddObjectRef(module, "Pattern", (PyObject *)&PatternType) < 0 ||
+                 PyModule_AddObjectRef(module, "Match", (PyObject *)&MatchType) < 0))
+    Py_CLEAR(module);
+  return module;
+}

@@ -1,0 +1,252 @@
+/* Patterns: a compiled pattern's words with what `re` tells of it, and the calls that ask for one match. */
+#include "native.h"
+
+/* ---- making one ---- */
+
+/* The words of a list of numbers as bytes, 32 bits each. */
+static PyObject *words_of(PyObject *list) {
+  Py_ssize_t count = PyList_GET_SIZE(list);
+  PyObject *words = PyBytes_FromStringAndSize(NULL, count * (Py_ssize_t)sizeof(uint32_t));
+  for (Py_ssize_t at = 0; words && at < count; at++) {
+    unsigned long word = PyLong_AsUnsignedLong(PyList_GET_ITEM(list, at));
+    if (!PyErr_Occurred() && word > UINT32_MAX)
+      PyErr_SetString(PyExc_OverflowError, "regular expression code size limit exceeded");
+    if (PyErr_Occurred())
+      Py_CLEAR(words);
+    else
+      ((uint32_t *)PyBytes_AS_STRING(words))[at] = (uint32_t)word;
+  }
+  return words;
+}
+
+/* The pattern itself as it is kept: a str, bytes of a buffer, or None. */
+static PyObject *source_of(PyObject *pattern) {
+  return pattern == Py_None || PyUnicode_Check(pattern) || PyBytes_Check(pattern) ? Py_NewRef(pattern)
+                                                                                  : PyBytes_FromObject(pattern);
+}
+
+/* Has the engine check the words. */
+static bool check(Pattern *self) {
+  self->code = (sre_code){
+      .words = (const uint32_t *)PyBytes_AS_STRING(self->words),
+      .words_count = (size_t)PyBytes_GET_SIZE(self->words) / sizeof(uint32_t),
+      .table = engine_table(!PyBytes_Check(self->pattern)),
+  };
+  if (!self->code.table)
+    return false;
+  uint32_t status = sre_check_code(&self->code);
+  if (status != SRE_YES)
+    engine_fail(status);
+  return status == SRE_YES;
+}
+
+PyObject *pattern_compile(PyObject *module, PyObject *args) {
+  PyObject *pattern, *list, *groupindex, *indexgroup;
+  int flags;
+  Py_ssize_t groups;
+  if (!PyArg_ParseTuple(args, "OiO!nO!O!:compile", &pattern, &flags, &PyList_Type, &list, &groups, &PyDict_Type,
+                        &groupindex, &PyTuple_Type, &indexgroup))
+    return NULL;
+  if (groups < 0 || groups > INT32_MAX) {
+    PyErr_SetString(PyExc_ValueError, "no such number of groups");
+    return NULL;
+  }
+  Pattern *self = PyObject_GC_New(Pattern, &PatternType);
+  if (!self)
+    return NULL;
+  self->weak_references = NULL;
+  self->groups = groups;
+  self->flags = flags;
+  self->turns = UINT64_MAX;
+  self->groupindex = Py_NewRef(groupindex);
+  self->indexgroup = Py_NewRef(indexgroup);
+  self->pattern = source_of(pattern);
+  self->words = words_of(list);
+  PyObject_GC_Track(self);
+  if (!self->pattern || !self->words || !check(self))
+    Py_CLEAR(self);
+  return (PyObject *)self;
+}
+
+static int traverse(Pattern *self, visitproc visit, void *arg) {
+  Py_VISIT(self->pattern);
+  Py_VISIT(self->groupindex);
+  Py_VISIT(self->indexgroup);
+  return 0;
+}
+
+static void dealloc(Pattern *self) {
+  PyObject_GC_UnTrack(self);
+  if (self->weak_references)
+    PyObject_ClearWeakRefs((PyObject *)self);
+  Py_XDECREF(self->pattern);
+  Py_XDECREF(self->words);
+  Py_XDECREF(self->groupindex);
+  Py_XDECREF(self->indexgroup);
+  PyObject_GC_Del(self);
+}
+
+/* The same pattern, each call of which has so many turns where it names none. */
+static PyObject *within(Pattern *self, PyObject *given) {
+  uint64_t turns;
+  if (!arguments_turns(given, UINT64_MAX, &turns))
+    return NULL;
+  Pattern *made = PyObject_GC_New(Pattern, &PatternType);
+  if (!made)
+    return NULL;
+  made->pattern = Py_NewRef(self->pattern);
+  made->words = Py_NewRef(self->words);
+  made->groupindex = Py_NewRef(self->groupindex);
+  made->indexgroup = Py_NewRef(self->indexgroup);
+  made->weak_references = NULL;
+  made->groups = self->groups;
+  made->flags = self->flags;
+  made->turns = turns;
+  made->code = self->code;
+  PyObject_GC_Track(made);
+  return (PyObject *)made;
+}
+
+/* ---- one match ---- */
+
+static const Signature of_match = {"match", 1, 3, {"string", "pos", "endpos", "timeout"}};
+static const Signature of_fullmatch = {"fullmatch", 1, 3, {"string", "pos", "endpos", "timeout"}};
+static const Signature of_search = {"search", 1, 3, {"string", "pos", "endpos", "timeout"}};
+
+/* The match of what is asked, or None. */
+static PyObject *answer(const Pattern *self, const Text *text, const sre_asked *asked) {
+  size_t few[3 + 2 * 12], *row = few, width = ROW_WIDTH(self);
+  if (asked->start > asked->end)
+    Py_RETURN_NONE;
+  if (width > sizeof few / sizeof *few && !(row = PyMem_Malloc(width * sizeof *row)))
+    return PyErr_NoMemory();
+  int told = engine_match(self, text, asked, row);
+  PyObject *match = NULL;
+  if (told > 0)
+    match = match_new(self, text->string, (Window){(Py_ssize_t)asked->start, (Py_ssize_t)asked->end}, row);
+  else if (told == 0)
+    match = Py_NewRef(Py_None);
+  if (row != few)
+    PyMem_Free(row);
+  return match;
+}
+
+static PyObject *ask(Pattern *self, const Signature *signature, PyObject *const *args, Py_ssize_t count,
+                     PyObject *names, bool search, bool match_all) {
+  PyObject *given[4] = {NULL};
+  Py_ssize_t pos, endpos;
+  uint64_t turns;
+  Text text;
+  if (!arguments_read(signature, args, count, names, given) || !arguments_size(given[1], 0, &pos) ||
+      !arguments_size(given[2], PY_SSIZE_T_MAX, &endpos) || !arguments_turns(given[3], self->turns, &turns) ||
+      !text_open(&text, self, given[0]))
+    return NULL;
+  sre_asked asked = engine_asked(&text, pos, endpos, turns);
+  asked.search = search;
+  asked.match_all = match_all;
+  PyObject *match = answer(self, &text, &asked);
+  text_close(&text);
+  return match;
+}
+
+static PyObject *match(Pattern *self, PyObject *const *args, Py_ssize_t count, PyObject *names) {
+  return ask(self, &of_match, args, count, names, false, false);
+}
+
+static PyObject *fullmatch(Pattern *self, PyObject *const *args, Py_ssize_t count, PyObject *names) {
+  return ask(self, &of_fullmatch, args, count, names, false, true);
+}
+
+static PyObject *search(Pattern *self, PyObject *const *args, Py_ssize_t count, PyObject *names) {
+  return ask(self, &of_search, args, count, names, true, false);
+}
+
+/* ---- what it is ---- */
+
+static PyObject *repr(PyObject *self) { return PyObject_CallOneArg(shared.repr_of, self); }
+
+static Py_hash_t hash(Pattern *self) {
+  Py_hash_t of_words = PyObject_Hash(self->words), of_pattern = PyObject_Hash(self->pattern);
+  if (of_words == -1 || of_pattern == -1)
+    return -1;
+  Py_hash_t both = of_words ^ of_pattern ^ self->flags;
+  return both == -1 ? -2 : both;
+}
+
+static PyObject *compare(PyObject *one, PyObject *two, int how) {
+  if ((how != Py_EQ && how != Py_NE) || Py_TYPE(two) != &PatternType)
+    Py_RETURN_NOTIMPLEMENTED;
+  Pattern *left = (Pattern *)one, *right = (Pattern *)two;
+  int same = left->flags == right->flags && left->groups == right->groups && left->turns == right->turns &&
+             Py_TYPE(left->pattern) == Py_TYPE(right->pattern);
+  if (same)
+    same = PyObject_RichCompareBool(left->words, right->words, Py_EQ);
+  if (same > 0)
+    same = PyObject_RichCompareBool(left->pattern, right->pattern, Py_EQ);
+  return same < 0 ? NULL : PyBool_FromLong(same == (how == Py_EQ));
+}
+
+static PyObject *itself(PyObject *self, PyObject *unused) { return Py_NewRef(self); }
+
+static PyObject *get_pattern(Pattern *self, void *unused) { return Py_NewRef(self->pattern); }
+static PyObject *get_flags(Pattern *self, void *unused) { return PyLong_FromLong(self->flags); }
+static PyObject *get_groups(Pattern *self, void *unused) { return PyLong_FromSsize_t(self->groups); }
+static PyObject *get_groupindex(Pattern *self, void *unused) { return PyDictProxy_New(self->groupindex); }
+
+static PyObject *get_timeout(Pattern *self, void *unused) {
+  return self->turns == UINT64_MAX ? Py_NewRef(Py_None) : PyLong_FromUnsignedLongLong(self->turns);
+}
+
+static PyGetSetDef attributes[] = {
+    {"pattern", (getter)get_pattern, NULL, "The pattern string from which the RE object was compiled.", NULL},
+    {"flags", (getter)get_flags, NULL, "The regex matching flags.", NULL},
+    {"groups", (getter)get_groups, NULL, "The number of capturing groups in the pattern.", NULL},
+    {"groupindex", (getter)get_groupindex, NULL, "A dictionary mapping group names to group numbers.", NULL},
+    {"timeout", (getter)get_timeout, NULL, "The turns of a call that names none, or None.", NULL},
+    {NULL},
+};
+
+#define WINDOWED "string, pos=0, endpos=sys.maxsize, *, timeout=None"
+
+#define BY_NAME METH_FASTCALL | METH_KEYWORDS
+
+static PyMethodDef methods[] = {
+    {"match", (PyCFunction)(void *)match, BY_NAME,
+     "match($self, /, " WINDOWED ")\n--\n\nThe match at the beginning of the window, or None."},
+    {"fullmatch", (PyCFunction)(void *)fullmatch, BY_NAME,
+     "fullmatch($self, /, " WINDOWED ")\n--\n\nThe match that is all of the window, or None."},
+    {"search", (PyCFunction)(void *)search, BY_NAME,
+     "search($self, /, " WINDOWED ")\n--\n\nThe match that starts first in the window, or None."},
+    {"findall", (PyCFunction)(void *)pattern_findall, BY_NAME,
+     "findall($self, /, " WINDOWED ")\n--\n\nThe texts of all matches, or of their groups."},
+    {"finditer", (PyCFunction)(void *)pattern_finditer, BY_NAME,
+     "finditer($self, /, " WINDOWED ")\n--\n\nAn iterator over all matches."},
+    {"scanner", (PyCFunction)(void *)pattern_scanner, BY_NAME, "scanner($self, /, " WINDOWED ")\n--\n\n"},
+    {"split", (PyCFunction)(void *)pattern_split, BY_NAME,
+     "split($self, /, string, maxsplit=0, *, timeout=None)\n--\n\nThe pieces between matches, and the groups of those."},
+    {"sub", (PyCFunction)(void *)pattern_sub, BY_NAME,
+     "sub($self, /, repl, string, count=0, *, timeout=None)\n--\n\nThe string with each match replaced by repl."},
+    {"subn", (PyCFunction)(void *)pattern_subn, BY_NAME,
+     "subn($self, /, repl, string, count=0, *, timeout=None)\n--\n\nThe tuple (new_string, number_of_subs_made)."},
+    {"within", (PyCFunction)within, METH_O,
+     "within($self, timeout, /)\n--\n\nThe same pattern, each call of which has so many turns where it names none."},
+    {"__copy__", itself, METH_NOARGS, "__copy__($self, /)\n--\n\n"},
+    {"__deepcopy__", itself, METH_O, "__deepcopy__($self, memo, /)\n--\n\n"},
+    {"__class_getitem__", Py_GenericAlias, METH_O | METH_CLASS, "See PEP 585"},
+    {NULL},
+};
+
+PyTypeObject PatternType = {
+    PyVarObject_HEAD_INIT(NULL, 0).tp_name = "re.Pattern",
+    .tp_doc = "Compiled regular expression object.",
+    .tp_basicsize = sizeof(Pattern),
+    .tp_flags = Py_TPFLAGS_DEFAULT | Py_TPFLAGS_HAVE_GC | Py_TPFLAGS_DISALLOW_INSTANTIATION,
+    .tp_dealloc = (destructor)dealloc,
+    .tp_traverse = (traverseproc)traverse,
+    .tp_repr = repr,
+    .tp_hash = (hashfunc)hash,
+    .tp_richcompare = compare,
+    .tp_weaklistoffset = offsetof(Pattern, weak_references),
+    .tp_methods = methods,
+    .tp_getset = attributes,
+};

@@ -1,0 +1,151 @@
+/* One match after the other: the iterator of finditer, and the scanner that is asked for each. */
+#include "native.h"
+
+static const Signature of_finditer = {"finditer", 1, 3, {"string", "pos", "endpos", "timeout"}};
+static const Signature of_scanner = {"scanner", 1, 3, {"string", "pos", "endpos", "timeout"}};
+
+/* What both keep: the pattern, the text, and its string, which they hold. */
+typedef struct {
+  PyObject_HEAD
+  Pattern *pattern;
+  PyObject *string;
+  Text text;
+  Window window;
+} Reader;
+
+/* A new object of a type that begins as a reader, over the window that a call names; what is asked of it first. */
+static Reader *reader_new(PyTypeObject *type, Pattern *pattern, const Signature *signature, PyObject *const *args,
+                          Py_ssize_t count, PyObject *names, sre_asked *asked) {
+  PyObject *given[4] = {NULL};
+  Py_ssize_t pos, endpos;
+  uint64_t turns;
+  if (!arguments_read(signature, args, count, names, given) || !arguments_size(given[1], 0, &pos) ||
+      !arguments_size(given[2], PY_SSIZE_T_MAX, &endpos) || !arguments_turns(given[3], pattern->turns, &turns))
+    return NULL;
+  Reader *self = (Reader *)type->tp_alloc(type, 0);
+  if (!self)
+    return NULL;
+  if (!text_open(&self->text, pattern, given[0])) {
+    Py_DECREF(self);
+    return NULL;
+  }
+  self->pattern = (Pattern *)Py_NewRef((PyObject *)pattern);
+  self->string = Py_NewRef(given[0]);
+  *asked = engine_asked(&self->text, pos, endpos, turns);
+  self->window = (Window){(Py_ssize_t)asked->start, (Py_ssize_t)asked->end};
+  return self;
+}
+
+static int traverse(Reader *self, visitproc visit, void *arg) {
+  Py_VISIT(self->pattern);
+  Py_VISIT(self->string);
+  return 0;
+}
+
+static void let_go(Reader *self) {
+  PyObject_GC_UnTrack(self);
+  text_close(&self->text);
+  Py_XDECREF(self->pattern);
+  Py_XDECREF(self->string);
+  PyObject_GC_Del(self);
+}
+
+/* ---- finditer ---- */
+
+typedef struct {
+  Reader reader;
+  Walk walk;
+} Matches;
+
+PyObject *pattern_finditer(Pattern *pattern, PyObject *const *args, Py_ssize_t count, PyObject *names) {
+  sre_asked asked;
+  Matches *self = (Matches *)reader_new(&MatchesType, pattern, &of_finditer, args, count, names, &asked);
+  if (self)
+    walk_begin(&self->walk, pattern, &self->reader.text, &asked, 0);
+  return (PyObject *)self;
+}
+
+static PyObject *matches_next(Matches *self) {
+  const size_t *row = walk_next(&self->walk);
+  if (row)
+    return match_new(self->reader.pattern, self->reader.string, self->reader.window, row);
+  if (!PyErr_Occurred())
+    text_close(&self->reader.text); /* at its end it is read no more */
+  return NULL;
+}
+
+static void matches_dealloc(Matches *self) {
+  walk_end(&self->walk);
+  let_go(&self->reader);
+}
+
+PyTypeObject MatchesType = {
+    PyVarObject_HEAD_INIT(NULL, 0).tp_name = "gaffsilver.Matches",
+    .tp_doc = "An iterator over the matches of a text.",
+    .tp_basicsize = sizeof(Matches),
+    .tp_flags = Py_TPFLAGS_DEFAULT | Py_TPFLAGS_HAVE_GC | Py_TPFLAGS_DISALLOW_INSTANTIATION,
+    .tp_dealloc = (destructor)matches_dealloc,
+    .tp_traverse = (traverseproc)traverse,
+    .tp_iter = PyObject_SelfIter,
+    .tp_iternext = (iternextfunc)matches_next,
+};
+
+/* ---- the scanner ---- */
+
+typedef struct {
+  Reader reader;
+  sre_asked asked;
+  bool has_ended;
+} Scanner;
+
+PyObject *pattern_scanner(Pattern *pattern, PyObject *const *args, Py_ssize_t count, PyObject *names) {
+  sre_asked asked;
+  Scanner *self = (Scanner *)reader_new(&ScannerType, pattern, &of_scanner, args, count, names, &asked);
+  if (self)
+    self->asked = asked;
+  return (PyObject *)self;
+}
+
+static PyObject *step(Scanner *self, bool search) {
+  size_t few[3 + 2 * 12], *row = few, width = ROW_WIDTH(self->reader.pattern);
+  PyObject *match = NULL;
+  if (self->has_ended || self->asked.start > self->asked.end)
+    Py_RETURN_NONE;
+  if (width > sizeof few / sizeof *few && !(row = PyMem_Malloc(width * sizeof *row)))
+    return PyErr_NoMemory();
+  self->asked.search = search;
+  int told = engine_match(self->reader.pattern, &self->reader.text, &self->asked, row);
+  if (told > 0) {
+    self->asked.start = row[1];
+    self->asked.must_advance = row[0] == row[1];
+    match = match_new(self->reader.pattern, self->reader.string, self->reader.window, row);
+  } else if (told == 0) {
+    self->has_ended = true;
+    match = Py_NewRef(Py_None);
+  }
+  if (row != few)
+    PyMem_Free(row);
+  return match;
+}
+
+static PyObject *scanner_match(Scanner *self, PyObject *unused) { return step(self, false); }
+static PyObject *scanner_search(Scanner *self, PyObject *unused) { return step(self, true); }
+static PyObject *get_pattern(Scanner *self, void *unused) { return Py_NewRef((PyObject *)self->reader.pattern); }
+
+static PyMethodDef methods[] = {
+    {"match", (PyCFunction)scanner_match, METH_NOARGS, "match($self, /)\n--\n\n"},
+    {"search", (PyCFunction)scanner_search, METH_NOARGS, "search($self, /)\n--\n\n"},
+    {NULL},
+};
+
+static PyGetSetDef attributes[] = {{"pattern", (getter)get_pattern, NULL, NULL, NULL}, {NULL}};
+
+PyTypeObject ScannerType = {
+    PyVarObject_HEAD_INIT(NULL, 0).tp_name = "_sre.SRE_Scanner",
+    .tp_basicsize = sizeof(Scanner),
+    .tp_flags = Py_TPFLAGS_DEFAULT | Py_TPFLAGS_HAVE_GC | Py_TPFLAGS_DISALLOW_INSTANTIATION,
+    .tp_dealloc = (destructor)let_go,
+    .tp_traverse = (traverseproc)traverse,
+    .tp_methods = methods,
+    .tp_getset = attributes,
+};

@@ -1,0 +1,186 @@
+/* What a pattern does along a walk: findall, split, sub and subn. */
+#include "native.h"
+
+/* A call that walks: what it was given, the text, and the walk. */
+typedef struct {
+  PyObject *given[5];
+  Text text;
+  Walk walk;
+} Call;
+
+/* Opens the text and begins the walk over a window of it. */
+static bool begin(Call *call, Pattern *self, PyObject *string, Py_ssize_t pos, Py_ssize_t endpos, PyObject *timeout,
+                  Py_ssize_t most) {
+  uint64_t turns;
+  if (!arguments_turns(timeout, self->turns, &turns) || !text_open(&call->text, self, string))
+    return false;
+  sre_asked asked = engine_asked(&call->text, pos, endpos, turns);
+  walk_begin(&call->walk, self, &call->text, &asked, most);
+  return true;
+}
+
+/* Ends the call: what it made, or null where that failed or the walk did. */
+static PyObject *end(Call *call, PyObject *made, bool is_well) {
+  walk_end(&call->walk);
+  text_close(&call->text);
+  if (is_well && !PyErr_Occurred())
+    return made;
+  Py_XDECREF(made);
+  return NULL;
+}
+
+static bool append(PyObject *list, PyObject *made) {
+  int failed = !made || PyList_Append(list, made) < 0;
+  Py_XDECREF(made);
+  return !failed;
+}
+
+/* ---- findall ---- */
+
+static const Signature of_findall = {"findall", 1, 3, {"string", "pos", "endpos", "timeout"}};
+
+/* What findall has of a match: its text, that of its one group, or those of its groups. */
+static PyObject *item_of(const Text *text, const size_t *row, Py_ssize_t groups, PyObject *empty) {
+  if (groups < 2)
+    return row_group(text, row, groups, empty);
+  PyObject *item = PyTuple_New(groups);
+  for (Py_ssize_t at = 0; item && at < groups; at++) {
+    PyObject *group = row_group(text, row, at + 1, empty);
+    if (!group)
+      Py_CLEAR(item);
+    else
+      PyTuple_SET_ITEM(item, at, group);
+  }
+  return item;
+}
+
+PyObject *pattern_findall(Pattern *self, PyObject *const *args, Py_ssize_t count, PyObject *names) {
+  Call call = {{NULL}};
+  Py_ssize_t pos, endpos;
+  if (!arguments_read(&of_findall, args, count, names, call.given) || !arguments_size(call.given[1], 0, &pos) ||
+      !arguments_size(call.given[2], PY_SSIZE_T_MAX, &endpos) ||
+      !begin(&call, self, call.given[0], pos, endpos, call.given[3], 0))
+    return NULL;
+  PyObject *all = PyList_New(0), *empty = text_slice(&call.text, 0, 0);
+  const size_t *row;
+  bool is_well = all && empty;
+  while (is_well && (row = walk_next(&call.walk)))
+    is_well = append(all, item_of(&call.text, row, self->groups, empty));
+  Py_XDECREF(empty);
+  return end(&call, all, is_well);
+}
+
+/* ---- split ---- */
+
+static const Signature of_split = {"split", 1, 2, {"string", "maxsplit", "timeout"}};
+
+/* Appends the piece in front of a match, and its groups. */
+static bool split_at(PyObject *pieces, const Text *text, Py_ssize_t from, const size_t *row, Py_ssize_t groups) {
+  bool is_well = append(pieces, text_slice(text, from, (Py_ssize_t)row[0]));
+  for (Py_ssize_t group = 1; is_well && group <= groups; group++)
+    is_well = append(pieces, row_group(text, row, group, Py_None));
+  return is_well;
+}
+
+PyObject *pattern_split(Pattern *self, PyObject *const *args, Py_ssize_t count, PyObject *names) {
+  Call call = {{NULL}};
+  Py_ssize_t most, last = 0;
+  if (!arguments_read(&of_split, args, count, names, call.given) || !arguments_size(call.given[1], 0, &most) ||
+      !begin(&call, self, call.given[0], 0, PY_SSIZE_T_MAX, call.given[2], most))
+    return NULL;
+  PyObject *pieces = PyList_New(0);
+  const size_t *row;
+  bool is_well = pieces;
+  for (Py_ssize_t made = 0; is_well && (!most || made < most) && (row = walk_next(&call.walk)); made++) {
+    is_well = split_at(pieces, &call.text, last, row, self->groups);
+    last = (Py_ssize_t)row[1];
+  }
+  is_well = is_well && !PyErr_Occurred() && append(pieces, text_slice(&call.text, last, call.text.length));
+  return end(&call, pieces, is_well);
+}
+
+/* ---- sub and subn ---- */
+
+static const Signature of_sub = {"sub", 2, 3, {"repl", "string", "count", "timeout"}};
+static const Signature of_subn = {"subn", 2, 3, {"repl", "string", "count", "timeout"}};
+
+/* Whether a template has no backslash, so that it stands for itself. */
+static bool is_literal(PyObject *repl) {
+  if (PyUnicode_Check(repl))
+    return PyUnicode_FindChar(repl, '\\', 0, PyUnicode_GET_LENGTH(repl), 1) == -1;
+  return PyBytes_Check(repl) && !memchr(PyBytes_AS_STRING(repl), '\\', (size_t)PyBytes_GET_SIZE(repl));
+}
+
+/* What stands in place of a match: a function as it is, and else the parts of a template. */
+static PyObject *replacement_of(Pattern *self, PyObject *repl) {
+  if (PyCallable_Check(repl) || is_literal(repl))
+    return Py_NewRef(repl);
+  return PyObject_CallFunctionObjArgs(shared.parts_of, self, repl, NULL);
+}
+
+/* Appends what a function gives for a match. */
+static bool call_append(PyObject *pieces, PyObject *function, const Walk *walk, const size_t *row) {
+  PyObject *match = match_new(walk->pattern, walk->text->string, (Window){0, walk->text->length}, row);
+  if (!match)
+    return false;
+  PyObject *made = PyObject_CallOneArg(function, match);
+  Py_DECREF(match);
+  if (made != Py_None)
+    return append(pieces, made);
+  Py_DECREF(made);
+  return true;
+}
+
+/* The pieces and replacements of a text in order, and how many matches were replaced. */
+static bool replace(Call *call, PyObject *pieces, PyObject *replacement, Py_ssize_t most, Py_ssize_t *made) {
+  const Text *text = &call->text;
+  const size_t *row;
+  Py_ssize_t last = 0;
+  bool calls = PyCallable_Check(replacement), is_well = true;
+  for (; is_well && (!most || *made < most) && (row = walk_next(&call->walk)); ++*made) {
+    if (last < (Py_ssize_t)row[0])
+      is_well = append(pieces, text_slice(text, last, (Py_ssize_t)row[0]));
+    last = (Py_ssize_t)row[1];
+    if (is_well)
+      is_well = calls ? call_append(pieces, replacement, &call->walk, row)
+                      : parts_append(pieces, replacement, text, row);
+  }
+  if (!is_well || PyErr_Occurred())
+    return false;
+  return last == text->length || append(pieces, text_slice(text, last, text->length));
+}
+
+/* The new text, and how many matches were replaced. */
+static PyObject *substituted(Pattern *self, const Signature *signature, PyObject *const *args, Py_ssize_t count,
+                             PyObject *names, Py_ssize_t *made) {
+  Call call = {{NULL}};
+  Py_ssize_t most;
+  *made = 0;
+  if (!arguments_read(signature, args, count, names, call.given) || !arguments_size(call.given[2], 0, &most))
+    return NULL;
+  PyObject *replacement = replacement_of(self, call.given[0]);
+  if (!replacement)
+    return NULL;
+  PyObject *joined = NULL;
+  if (begin(&call, self, call.given[1], 0, PY_SSIZE_T_MAX, call.given[3], most)) {
+    PyObject *pieces = PyList_New(0);
+    bool is_well = pieces && replace(&call, pieces, replacement, most, made);
+    if (is_well)
+      joined = pieces_joined(&call.text, pieces);
+    Py_XDECREF(pieces);
+    joined = end(&call, joined, is_well);
+  }
+  Py_DECREF(replacement);
+  return joined;
+}
+
+PyObject *pattern_sub(Pattern *self, PyObject *const *args, Py_ssize_t count, PyObject *names) {
+  Py_ssize_t made;
+  return substituted(self, &of_sub, args, count, names, &made);
+}
+
+PyObject *pattern_subn(Pattern *self, PyObject *const *args, Py_ssize_t count, PyObject *names) {
+  Py_ssize_t made;
+  PyObject *joined = substituted(self, &of_subn, args, count, names, &made);
+  return joined ? Py_BuildValue("(Nn)", joined, made) : NULL;
+}
