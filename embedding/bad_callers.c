@@ -220,7 +220,8 @@ static void no_points(void) {
 
 static void faulty_tables(void) {
   static const sre_pair unsorted[] = {{300, 310}, {200, 210}}, backwards[] = {{310, 300}}, low[] = {{65, 97}},
-                        surrogates[] = {{0xD800, 0xD801}}, high[] = {{0x110000, UINT32_MAX}}, most[] = {{UINT32_MAX, 0}};
+                        surrogates[] = {{0xD800, 0xD801}}, high[] = {{0x110000, UINT32_MAX}},
+                        most[] = {{UINT32_MAX, 0}};
   static const struct {
     const sre_pair *pairs;
     size_t count;

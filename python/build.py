@@ -7,9 +7,9 @@
 
 `library` proves and builds the crate `sre_c` by `rt lib`, or takes the archive that is named, and joins the kit's heap
 file to it: whoever has DIR needs no kit any more. `package` and `wheel` take such a DIR, or make one. They are for the
-Python that runs this, or for those that are named, CPython 3.11 to 3.13. The extension in C wants a C compiler (`cc`, or
-what CC names) and the Python's headers. Where one of them is missing, a line says so, and the package asks the library
-by ctypes: the same answers, but slower.
+Python that runs this, or for those that are named, CPython 3.11 to 3.13. The extension in C wants a C compiler (`cc`,
+or what CC names) and the Python's headers. Where one of them is missing, a line says so, and the package asks the
+library by ctypes: the same answers, but slower.
 """
 import argparse
 import base64
@@ -122,9 +122,10 @@ def lack_of_extension(facts):
 
 def build_extension(facts, library, into):
     sources = sorted(f"{HERE}/native/{it}" for it in os.listdir(f"{HERE}/native") if it.endswith(".c"))
+    made = f"{into}/_native{facts['suffix']}"
     run(
-        *COMPILER, *FLAGS, f"-I{library}", f"-I{facts['include']}", *sources, f"{library}/libsre_c.a",
-        f"-Wl,--version-script={HERE}/native/exports.map", "-Wl,--gc-sections", "-o", f"{into}/_native{facts['suffix']}",
+        *COMPILER, *FLAGS, f"-I{library}", f"-I{facts['include']}", *sources, f"{library}/libsre_c.a", "-o", made,
+        f"-Wl,--version-script={HERE}/native/exports.map", "-Wl,--gc-sections",
     )
 
 

@@ -8,6 +8,7 @@ takes over what an earlier run on this machine proved of the same files, tries t
 and the stored runs: each test that the sources count, and each program as both compilers build it. Once the crates
 below a crate are proved, its wrong bodies are tried (`wrong_bodies.py`), and beside them one function as it is, where
 cores are idle; one that an earlier run judged of the same texts stays judged (`judged.py`), but for GATE_ANEW=1.
+Over the crates that were proved the engine is built as C, Rust and Python take it, and tried there (`embedding.py`).
 In the end the programs answer the case files and made lines (`cases.py`); with `cases` they do that alone, over what an
 earlier run or `rt run` left. The gate tells what it ran on and what it took over, the minutes of each phase, by the
 clock and of processors, the dearest checks, and the dearest functions of the bundles, right or wrong (those of a crate
@@ -25,6 +26,7 @@ import time
 from concurrent.futures import ThreadPoolExecutor
 
 import cases
+import embedding
 import judged
 import standing
 import wrong_bodies
@@ -337,18 +339,29 @@ class Bundles:
             tell(f"dearest: {seconds:5.1f} s {name}")
 
 
+def embedded(prover, trials):
+    """Tries the engine inside C, Rust and Python, once the crates below its library are proved."""
+    if prover.are_proved([it.name for it in wrong_bodies.crates()[embedding.CRATE].below()]):
+        trials.run(lambda it: f"{prover.rlibs}/{it.name}")
+    else:
+        trials.count(False, "not tried, since a crate below the library is not proved")
+
+
 def proved(room):
     """Runs all but the case files, and gives how many passed and failed."""
-    phases = Phases()
+    phases, trials = Phases(), embedding.Embedding(tell)
+    pool = ThreadPoolExecutor(1)
     prover = Prover(phases, f"{room}/rlibs")
     try:
         bundles = Bundles(prover, phases, room)
         others = [threading.Thread(target=it) for it in (prover.follow, prover.checks.watch)]
         for it in others:
             it.start()
+        tried = pool.submit(embedded, prover, trials)
         bundles.run()
         for it in others:
             it.join()
+        tried.result()
     finally:
         prover.rt.terminate()
     passed, failed = prover.counts()
@@ -359,7 +372,7 @@ def proved(room):
     tell(f"taken over from earlier runs: {prover.taken_over} of {prover.crates} crates, {bundles.taken_over} bodies")
     tests, programs = sum(prover.ran.tests.values()), len(prover.ran.by_both())
     tell(f"{tests} tests, {programs} programs by both compilers, {bundles.passed} bodies in bundles")
-    return passed + bundles.passed, failed + bundles.failed
+    return passed + bundles.passed + trials.passed, failed + bundles.failed + trials.failed
 
 
 def stands():

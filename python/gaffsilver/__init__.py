@@ -1,9 +1,9 @@
 """Python's `re` over a regex engine whose answers are proved.
 
 The functions, patterns and matches are those of `re`: `compile`, `search`, `match`, `fullmatch`, `findall`, `finditer`,
-`split`, `sub`, `subn`, `escape`, `purge`. Patterns are compiled by CPython's own compiler, and letters, digits and cases
-are this Python's own. Each call takes a `timeout` beside, a number of turns of the engine: a call that has made them
-raises `TooLong` in place of hanging. `install()` puts the engine below the module `re` itself.
+`split`, `sub`, `subn`, `escape`, `purge`. Patterns are compiled by CPython's own compiler, and letters, digits and
+cases are this Python's own. Each call takes a `timeout` beside, a number of turns of the engine: a call that has made
+them raises `TooLong` in place of hanging. `install()` puts the engine below the module `re` itself.
 
     >>> import gaffsilver
     >>> gaffsilver.search(r"(\\w+)=", "let size=12")[1]
@@ -13,8 +13,8 @@ from __future__ import annotations
 
 import re as _re
 from re import (
-    A, ASCII, DEBUG, DOTALL, I, IGNORECASE, L, LOCALE, M, MULTILINE, NOFLAG, S, U, UNICODE, VERBOSE, X, RegexFlag, error,
-    escape,
+    A, ASCII, DEBUG, DOTALL, I, IGNORECASE, L, LOCALE, M, MULTILINE, NOFLAG, RegexFlag, S, U, UNICODE, VERBOSE, X,
+    error, escape,
 )
 from typing import Any, AnyStr, Callable, Dict, Iterator, List, Optional, Tuple, Union
 

@@ -1,4 +1,4 @@
-"""Pattern and Match over the library by ctypes, for a Python without the extension in C: the same answers, but slower."""
+"""Pattern and Match over the library by ctypes, for a Python without the extension in C: as good, but slower."""
 from __future__ import annotations
 
 import operator

@@ -60,7 +60,8 @@ def tiny():
 
 def large():
     text = " ".join(f"key{it}=value{it * 7};" for it in range(20000))[:400000]
-    for name, letters in (("", text), (", Latin-1", text.replace("value", "wérth")), (", Cyrillic", text.replace("a", "а"))):
+    texts = {"": text, ", Latin-1": text.replace("value", "wérth"), ", Cyrillic": text.replace("a", "а")}
+    for name, letters in texts.items():
         row(f"findall \\w+{name}", of_pattern(r"\w+", "findall", letters), 1)
         row(f"findall (\\w+)=(\\w+){name}", of_pattern(r"(\w+)=(\w+)", "findall", letters), 1)
 
@@ -83,7 +84,8 @@ def large():
 def long_runs():
     row("search (?:x+x+)+y, 22 letters", of_pattern("(?:x+x+)+y", "search", 22 * "x"), 1, 3)
     method = gaffsilver.compile("(?:x+x+)+y").search
-    print(f"search (?:x+x+)+y, 100 letters, of gaffsilver alone: {least(lambda: method(100 * 'x'), 20, 9) * 1e6:.0f} us")
+    taken = least(lambda: method(100 * "x"), 20, 9)
+    print(f"search (?:x+x+)+y, 100 letters: gaffsilver {taken * 1e6:.0f} us")
 
 
 if __name__ == "__main__":

@@ -237,7 +237,8 @@ static PyObject *repr(Match *self) {
   PyObject *whole = group_at(self, 0, Py_None);
   if (!whole)
     return NULL;
-  PyObject *made = PyUnicode_FromFormat("<re.Match object; span=(%zd, %zd), match=%R>", self->row[0], self->row[1], whole);
+  const char *form = "<re.Match object; span=(%zd, %zd), match=%R>";
+  PyObject *made = PyUnicode_FromFormat(form, self->row[0], self->row[1], whole);
   Py_DECREF(whole);
   return made;
 }

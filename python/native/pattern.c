@@ -223,7 +223,7 @@ static PyMethodDef methods[] = {
      "finditer($self, /, " WINDOWED ")\n--\n\nAn iterator over all matches."},
     {"scanner", (PyCFunction)(void *)pattern_scanner, BY_NAME, "scanner($self, /, " WINDOWED ")\n--\n\n"},
     {"split", (PyCFunction)(void *)pattern_split, BY_NAME,
-     "split($self, /, string, maxsplit=0, *, timeout=None)\n--\n\nThe pieces between matches, and the groups of those."},
+     "split($self, /, string, maxsplit=0, *, timeout=None)\n--\n\nThe pieces between matches, and their groups."},
     {"sub", (PyCFunction)(void *)pattern_sub, BY_NAME,
      "sub($self, /, repl, string, count=0, *, timeout=None)\n--\n\nThe string with each match replaced by repl."},
     {"subn", (PyCFunction)(void *)pattern_subn, BY_NAME,

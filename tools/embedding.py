@@ -1,0 +1,236 @@
+#!/usr/bin/env python3
+"""The engine inside C, Rust and Python, built and called as users do.
+
+    embedding.py [LIBRARY]     over a folder that `python/build.py library` has made, or one that is made now
+
+The programs of docs/EMBEDDING.md are compiled and run, and have to write what the page says. The callers of
+embedding/bad_callers.c have to get a status for all that they hand over, under valgrind, too. And the package of
+python/ is built for each Python that is found, and its own tests run by both of its engines, and CPython's `test_re`
+with the engine in place of `_sre`. Whatever is made stands in a folder that is taken away. A line tells of each
+compiler and Python that was not found: that fails nothing. The status is 1 where something fails.
+"""
+import glob
+import os
+import re
+import shutil
+import subprocess
+import sys
+import tempfile
+
+import judged
+import wrong_bodies
+
+ROOT = os.path.dirname(os.path.dirname(os.path.realpath(__file__)))
+PAGE = "docs/EMBEDDING.md"
+BLOCK = re.compile(r"(?ms)^```(\w*)\n(.*?)^```$")
+PYTHONS = ("3.11", "3.12", "3.13")
+CRATE = "sre_c"
+
+# Which tests of its library a Python has, and which version it is.
+ASKED = "import importlib.util as u, sys; print('%d.%d' % sys.version_info[:2], bool(u.find_spec('test.test_re')))"
+
+
+def read(path):
+    with open(f"{ROOT}/{path}", encoding="utf-8") as file:
+        return file.read()
+
+
+# ---- the library ----
+
+
+class Library:
+    """The crate's archive, proved and built over crates that are proved, apart from the work tree. One that an earlier
+    run built of the very same texts and crates is taken, as judged bodies are (judged.py)."""
+
+    def __init__(self, rlibs):
+        self.kit, self.crate, self.rlibs = wrong_bodies.kit(), wrong_bodies.crates()[CRATE], rlibs
+        self.kept = judged.Judged(self.kit, os.path.dirname(os.path.realpath(__file__)))
+
+    def name(self):
+        texts = [read(f"tools/{it}") for it in ("embedding.py",)]
+        for part in wrong_bodies.PARTS:
+            texts.append(judged.sum_of_folder(f"{self.crate.folder}/{part}"))
+        return judged.sum_of([self.kept.of_all, self.kept.of_below(self.crate, self.rlibs), *texts])
+
+    def build(self, folder, archive):
+        """Proves and builds the crate in a folder; what it said, where it failed."""
+        for part in wrong_bodies.PARTS:
+            if os.path.isdir(f"{self.crate.folder}/{part}"):
+                shutil.copytree(f"{self.crate.folder}/{part}", f"{folder}/{part}")
+        words = [f"{self.kit}/bin/rattle", "build", *self.crate.words(self.kit, self.rlibs)]
+        words += ["--crate-type", "staticlib", "--backend", "llvm", "--toolchain", f"{self.kit}/toolchain"]
+        how = {"stdin": subprocess.DEVNULL, "stdout": subprocess.PIPE, "stderr": subprocess.STDOUT, "errors": "replace"}
+        ran = subprocess.run([*words, "-o", archive], cwd=folder, **how)
+        return ran.stdout if ran.returncode else None
+
+    def archive(self, room):
+        """The archive's path and whether it was taken over; or None and what the build said."""
+        kept = f"{self.kept.at}/{self.name()}.a"
+        if self.kept.is_used and os.path.isfile(kept):
+            return kept, True
+        os.makedirs(f"{room}/{CRATE}")
+        made = f"{room}/lib{CRATE}.a"
+        fault = self.build(f"{room}/{CRATE}", made)
+        if fault is not None:
+            return None, fault
+        if self.kept.is_used:
+            shutil.copyfile(made, f"{kept}.new")
+            os.replace(f"{kept}.new", kept)
+        return made, False
+
+
+# ---- what is tried ----
+
+
+def found_pythons():
+    """For each version a Python that has its library's tests, or else any; and the versions that there are not."""
+    pythons, lacking = {}, []
+    for version in PYTHONS:
+        of_pyenv = glob.glob(os.path.expanduser(f"~/.pyenv/versions/{version}.*/bin/python"))
+        asked = [(path, told(path)) for path in filter(None, [shutil.which(f"python{version}"), *sorted(of_pyenv)])]
+        fitting = [path for path, said in asked if said == [version, "True"]]
+        fitting += [path for path, said in asked if said == [version, "False"]]
+        if fitting:
+            pythons[version] = fitting[0]
+        else:
+            lacking.append(version)
+    return pythons, lacking
+
+
+def told(python):
+    """The version of a Python, and whether it has its library's tests; nothing where it does not run."""
+    return subprocess.run([python, "-c", ASKED], capture_output=True, text=True).stdout.split()
+
+
+def programs():
+    """The whole programs of the page: the language, the source, and what each has to write."""
+    blocks = BLOCK.findall(read(PAGE))
+    for (language, source), (_, written) in zip(blocks, blocks[1:]):
+        if language in ("c", "rust") and "main(" in source:
+            yield language, source, written
+
+
+class Embedding:
+    """The trials of a library, with a count of those that passed and failed."""
+
+    def __init__(self, tell):
+        self.tell, self.passed, self.failed = tell, 0, 0
+        self.room = None
+
+    def count(self, is_well, line):
+        self.tell(f"embedding: {line}{'' if is_well else ': FAILED'}")
+        self.passed += is_well
+        self.failed += not is_well
+        return is_well
+
+    def ran(self, what, *words, writes=None, **named):
+        """Runs a command, and counts it: it has to end well, and to write what is given."""
+        how = {"stdin": subprocess.DEVNULL, "stdout": subprocess.PIPE, "stderr": subprocess.STDOUT, "errors": "replace"}
+        done = subprocess.run(words, cwd=self.room, env={**os.environ, **named}, **how)
+        is_well = done.returncode == 0 and writes in (None, done.stdout)
+        last = done.stdout.strip().rpartition("\n")[2][:120] if writes is None else ""
+        if not self.count(is_well, f"{what}{f': {last}' if last and is_well else ''}"):
+            self.tell(done.stdout.rstrip("\n")[-3000:])
+        return is_well
+
+    def lacks(self, program, what):
+        """Whether a program is not there, which is told."""
+        if shutil.which(program):
+            return False
+        self.tell(f"embedding: {what} not tried: there is no {program}")
+        return True
+
+    def try_programs(self, library):
+        archive = f"{library}/libsre_c.a"
+        compilers = {
+            "c": ("settings.c", ["cc", "-std=c11", "-Wall", f"-I{library}", "settings.c", archive, "-o", "settings"]),
+            "rust": ("settings.rs", ["rustc", "--edition", "2021", "-C", f"link-arg={archive}", "settings.rs"]),
+        }
+        found = list(programs())
+        self.count(sorted(it[0] for it in found) == sorted(compilers), f"{PAGE} has a program in C and one in Rust")
+        for language, source, written in found:
+            name, words = compilers[language]
+            if self.lacks(words[0], f"the program in {language}"):
+                continue
+            with open(f"{self.room}/{name}", "w", encoding="utf-8") as file:
+                file.write(source)
+            # a warning is no example
+            if self.ran(f"the program in {language} is compiled", *words, writes=""):
+                self.ran(f"the program in {language}", f"{self.room}/settings", writes=written)
+
+    def try_bad_callers(self, library):
+        if self.lacks("cc", "bad callers"):
+            return
+        source, made = f"{ROOT}/embedding/bad_callers.c", f"{self.room}/bad_callers"
+        words = ["cc", "-std=c11", "-g", "-Wall", f"-I{library}", source, f"{library}/libsre_c.a"]
+        if not self.ran("bad callers are compiled", *words, "-Wl,--wrap=malloc,--wrap=realloc", "-o", made):
+            return
+        self.ran("bad callers", made, writes="bad callers: 0 failures\n")
+        if not self.lacks("valgrind", "bad callers under valgrind"):
+            watch = ["valgrind", "-q", "--error-exitcode=9", "--leak-check=full", "--errors-for-leak-kinds=all"]
+            self.ran("bad callers under valgrind", *watch, made, writes="bad callers: 0 failures\n")
+
+    def try_python(self, library, version, python, is_first):
+        """Builds the package for a Python, and runs its tests and CPython's."""
+        site = f"{self.room}/site-{version}"
+        build = [sys.executable, f"{ROOT}/python/build.py", "package", site, "--library", library, python]
+        if not self.ran(f"the package for Python {version} is built", *build):
+            return
+        path = {"PYTHONPATH": site, "PYTHONDONTWRITEBYTECODE": "1"}
+        tests = [python, "-W", "error", "-m", "unittest", "discover", "-s", f"{ROOT}/python/tests"]
+        has_extension = bool(glob.glob(f"{site}/gaffsilver/_native*"))
+        if has_extension:
+            self.ran(f"the package's tests, Python {version}", *tests, **path)
+        if is_first or not has_extension:
+            self.ran(f"the package's tests by ctypes, Python {version}", *tests, **path, GAFFSILVER_ENGINE="ctypes")
+        if told(python) == [version, "True"]:
+            judge = f"{ROOT}/python/judges/test_modules.py"
+            self.ran(f"CPython's own tests, Python {version}", python, judge, "test_re", **path)
+        else:
+            self.tell(f"embedding: CPython's own tests not tried: {python} has none")
+
+    def try_pythons(self, library):
+        pythons, lacking = found_pythons()
+        for version in lacking:
+            self.tell(f"embedding: not tried: there is no Python {version}")
+        for version, python in pythons.items():
+            self.try_python(library, version, python, python == list(pythons.values())[-1])
+
+    def over(self, library):
+        """Tries all over a folder that has the library."""
+        with tempfile.TemporaryDirectory(prefix="embedding-") as self.room:
+            self.try_programs(library)
+            self.try_bad_callers(library)
+            self.try_pythons(library)
+
+    def run(self, rlibs):
+        """Builds the library over proved crates, and tries all. `rlibs` gives the folder of a crate's rlib."""
+        with tempfile.TemporaryDirectory(prefix="library-") as room:
+            made, said = Library(rlibs).archive(room)
+            taken_over = " (by an earlier run)" if said is True else ""
+            if not self.count(made is not None, f"lib{CRATE}.a is built{taken_over}"):
+                self.tell(said.rstrip("\n")[-3000:])
+                return
+            words = [sys.executable, f"{ROOT}/python/build.py", "library", f"{room}/library", "--archive", made]
+            self.room = room
+            if self.lacks("cc", "the library in C, Rust and Python"):
+                return
+            if self.ran("the library is put together", *words):
+                self.over(f"{room}/library")
+
+
+def main(words):
+    if len(words) > 1 or words[:1] == ["--help"]:
+        print(__doc__.strip())
+        return 2
+    trials = Embedding(lambda line: print(line, flush=True))
+    with tempfile.TemporaryDirectory(prefix="library-") as room:
+        if not words:
+            subprocess.run([sys.executable, f"{ROOT}/python/build.py", "library", room], check=True)
+        trials.over(os.path.realpath(words[0]) if words else room)
+    print(f"{trials.passed} passed, {trials.failed} failed")
+    return 0 if trials.passed and not trials.failed else 1
+
+
+if __name__ == "__main__":
+    sys.exit(main(sys.argv[1:]))
