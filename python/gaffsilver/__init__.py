@@ -16,13 +16,17 @@ from re import (
     A, ASCII, DEBUG, DOTALL, I, IGNORECASE, L, LOCALE, M, MULTILINE, NOFLAG, RegexFlag, S, U, UNICODE, VERBOSE, X,
     error, escape,
 )
-from typing import Any, AnyStr, Callable, Dict, Iterator, List, Optional, Tuple, Union
 
 from gaffsilver import _shared
 from gaffsilver._engine import Match, Pattern
 from gaffsilver._install import install, is_installed, uninstall
 from gaffsilver._shared import TooLong
 from gaffsilver._words import compiler as _compiler, scanner_init as _scanner_init
+
+# What `typing` takes from `re` is what stands there when it is imported: so nothing here imports it but a type checker.
+TYPE_CHECKING = False
+if TYPE_CHECKING:
+    from typing import Any, AnyStr, Callable, Iterator
 
 __all__ = [
     "A", "ASCII", "DEBUG", "DOTALL", "I", "IGNORECASE", "L", "LOCALE", "M", "MULTILINE", "Match", "NOFLAG", "Pattern",
@@ -32,7 +36,7 @@ __all__ = [
 
 # As many patterns as `re` keeps; the one that was compiled first goes first.
 _MOST_KEPT = 512
-_kept: Dict[Tuple[type, Any, int], Any] = {}
+_kept: dict[tuple[type, Any, int], Any] = {}
 
 _CPythons_pattern = _re.Pattern
 
@@ -58,7 +62,7 @@ def _compiled(pattern: Any, flags: int) -> Any:
 
 
 def compile(
-    pattern: Union[AnyStr, Pattern[AnyStr]], flags: Union[int, RegexFlag] = 0, *, timeout: Optional[int] = None
+    pattern: AnyStr | Pattern[AnyStr], flags: int | RegexFlag = 0, *, timeout: int | None = None
 ) -> Pattern[AnyStr]:
     """The pattern, compiled. With a `timeout` each of its calls has so many turns where it names none.
 
@@ -69,94 +73,94 @@ def compile(
 
 
 def search(
-    pattern: Union[AnyStr, Pattern[AnyStr]],
+    pattern: AnyStr | Pattern[AnyStr],
     string: AnyStr,
-    flags: Union[int, RegexFlag] = 0,
+    flags: int | RegexFlag = 0,
     *,
-    timeout: Optional[int] = None,
-) -> Optional[Match[AnyStr]]:
+    timeout: int | None = None,
+) -> Match[AnyStr] | None:
     """The match that starts first in the string, or None."""
     return _compiled(pattern, flags).search(string, timeout=timeout)
 
 
 def match(
-    pattern: Union[AnyStr, Pattern[AnyStr]],
+    pattern: AnyStr | Pattern[AnyStr],
     string: AnyStr,
-    flags: Union[int, RegexFlag] = 0,
+    flags: int | RegexFlag = 0,
     *,
-    timeout: Optional[int] = None,
-) -> Optional[Match[AnyStr]]:
+    timeout: int | None = None,
+) -> Match[AnyStr] | None:
     """The match at the beginning of the string, or None."""
     return _compiled(pattern, flags).match(string, timeout=timeout)
 
 
 def fullmatch(
-    pattern: Union[AnyStr, Pattern[AnyStr]],
+    pattern: AnyStr | Pattern[AnyStr],
     string: AnyStr,
-    flags: Union[int, RegexFlag] = 0,
+    flags: int | RegexFlag = 0,
     *,
-    timeout: Optional[int] = None,
-) -> Optional[Match[AnyStr]]:
+    timeout: int | None = None,
+) -> Match[AnyStr] | None:
     """The match that is all of the string, or None."""
     return _compiled(pattern, flags).fullmatch(string, timeout=timeout)
 
 
 def findall(
-    pattern: Union[AnyStr, Pattern[AnyStr]],
+    pattern: AnyStr | Pattern[AnyStr],
     string: AnyStr,
-    flags: Union[int, RegexFlag] = 0,
+    flags: int | RegexFlag = 0,
     *,
-    timeout: Optional[int] = None,
-) -> List[Any]:
+    timeout: int | None = None,
+) -> list[Any]:
     """The texts of all matches; those of the group where there is one, and tuples where there are more."""
     return _compiled(pattern, flags).findall(string, timeout=timeout)
 
 
 def finditer(
-    pattern: Union[AnyStr, Pattern[AnyStr]],
+    pattern: AnyStr | Pattern[AnyStr],
     string: AnyStr,
-    flags: Union[int, RegexFlag] = 0,
+    flags: int | RegexFlag = 0,
     *,
-    timeout: Optional[int] = None,
+    timeout: int | None = None,
 ) -> Iterator[Match[AnyStr]]:
     """An iterator over all matches. The turns are those of all its steps together."""
     return _compiled(pattern, flags).finditer(string, timeout=timeout)
 
 
 def split(
-    pattern: Union[AnyStr, Pattern[AnyStr]],
+    pattern: AnyStr | Pattern[AnyStr],
     string: AnyStr,
     maxsplit: int = 0,
-    flags: Union[int, RegexFlag] = 0,
+    flags: int | RegexFlag = 0,
     *,
-    timeout: Optional[int] = None,
-) -> List[Any]:
+    timeout: int | None = None,
+) -> list[Any]:
     """The pieces between matches, and behind each piece the groups of the match; at most `maxsplit`, if not 0."""
     return _compiled(pattern, flags).split(string, maxsplit, timeout=timeout)
 
 
 def sub(
-    pattern: Union[AnyStr, Pattern[AnyStr]],
-    repl: Union[AnyStr, Callable[[Match[AnyStr]], AnyStr]],
+    pattern: AnyStr | Pattern[AnyStr],
+    repl: AnyStr | Callable[[Match[AnyStr]], AnyStr],
     string: AnyStr,
     count: int = 0,
-    flags: Union[int, RegexFlag] = 0,
+    flags: int | RegexFlag = 0,
     *,
-    timeout: Optional[int] = None,
+    timeout: int | None = None,
 ) -> AnyStr:
     """The string with each match, or the first `count`, replaced by a template, or by what a function gives for it."""
     return _compiled(pattern, flags).sub(repl, string, count, timeout=timeout)
 
 
 def subn(
-    pattern: Union[AnyStr, Pattern[AnyStr]],
-    repl: Union[AnyStr, Callable[[Match[AnyStr]], AnyStr]],
+    pattern: AnyStr | Pattern[AnyStr],
+    repl: AnyStr | Callable[[Match[AnyStr]], AnyStr],
     string: AnyStr,
     count: int = 0,
-    flags: Union[int, RegexFlag] = 0,
+    flags: int | RegexFlag = 0,
     *,
-    timeout: Optional[int] = None,
-) -> Tuple[AnyStr, int]:
+    timeout: int | None = None,
+) -> tuple[AnyStr, int]:
     """What `sub` gives, and how many matches were replaced."""
     return _compiled(pattern, flags).subn(repl, string, count, timeout=timeout)
 

@@ -7,7 +7,10 @@ from __future__ import annotations
 import importlib
 import importlib.util
 import os
-from typing import Any
+
+TYPE_CHECKING = False
+if TYPE_CHECKING:
+    from typing import Any
 
 
 def _name() -> str:

@@ -5,14 +5,17 @@ import operator
 import sys
 import types
 from ctypes import byref, c_size_t, c_uint32
-from typing import Any, Iterator, List, Optional, Tuple
 
 from gaffsilver import _library as library
 from gaffsilver._shared import TooLong, parts_of, repr_of
 
-Row = List[int]
+TYPE_CHECKING = False
+if TYPE_CHECKING:
+    from typing import Any, Iterator
 
-_twins: List[Any] = [None, None]
+Row = list[int]
+
+_twins: list[Any] = [None, None]
 
 
 def set_twins(pattern: Any, match: Any) -> None:
@@ -23,7 +26,7 @@ def set_twins(pattern: Any, match: Any) -> None:
 class _Fixed(type):
     """A class that is not changed, nor made by a call, nor stood on, as those of `_sre`."""
 
-    def __new__(cls, name: str, bases: Tuple[Any, ...], body: Any) -> Any:
+    def __new__(cls, name: str, bases: tuple[Any, ...], body: Any) -> Any:
         if bases:
             raise TypeError(f"type 're.{bases[0].__name__}' is not an acceptable base type")
         return super().__new__(cls, name, bases, body)
@@ -93,7 +96,7 @@ class _Text:
             self.data = self.plain = _buffer(self.string)[1]
 
 
-def _buffer(string: Any) -> Tuple[Any, bytes]:
+def _buffer(string: Any) -> tuple[Any, bytes]:
     """A view of a bytes-like object, and its bytes as they now are."""
     if type(string) is bytes:
         return None, string
@@ -104,7 +107,7 @@ def _buffer(string: Any) -> Tuple[Any, bytes]:
         raise TypeError(f"expected string or bytes-like object, got '{type(string).__name__}'") from None
 
 
-def _span(row: Row, group: int) -> Tuple[int, int]:
+def _span(row: Row, group: int) -> tuple[int, int]:
     """The span of a group, (-1, -1) where it took no part."""
     at = 1 + 2 * group if group else 0
     start, end = row[at : at + 2]
@@ -117,7 +120,7 @@ def _slice(plain: Any, row: Row, group: int, otherwise: Any) -> Any:
     return otherwise if start < 0 else plain[start:end]
 
 
-def _fill(pieces: List[Any], parts: Any, plain: Any, row: Row) -> None:
+def _fill(pieces: list[Any], parts: Any, plain: Any, row: Row) -> None:
     """Appends the parts of a template."""
     for part in parts if isinstance(parts, list) else [parts]:
         if isinstance(part, int):
@@ -138,7 +141,7 @@ class Pattern(metaclass=_Fixed):
         return types.MappingProxyType(self._names)
 
     @property
-    def timeout(self) -> Optional[int]:
+    def timeout(self) -> int | None:
         return None if self._turns == library.FOREVER else self._turns
 
     def _asked(self, text: _Text, pos: Any, endpos: Any, timeout: Any) -> Any:
@@ -146,7 +149,7 @@ class Pattern(metaclass=_Fixed):
         turns = _turns(timeout, self._turns)
         return library.Asked(start, end, turns, True, False, False, sys.version_info >= (3, 14))
 
-    def _row(self, text: _Text, asked: Any) -> Optional[Row]:
+    def _row(self, text: _Text, asked: Any) -> Row | None:
         """The match as a row: start, end, the group that was closed last, and the marks."""
         if asked.start > asked.end:
             return None
@@ -188,19 +191,19 @@ class Pattern(metaclass=_Fixed):
         row = self._row(text, asked)
         return row and _match(self, text, (asked.start, asked.end), row)
 
-    def match(self, string: Any, pos: int = 0, endpos: int = sys.maxsize, *, timeout: Optional[int] = None) -> Any:
+    def match(self, string: Any, pos: int = 0, endpos: int = sys.maxsize, *, timeout: int | None = None) -> Any:
         """The match at the beginning of the window, or None."""
         return self._one(string, pos, endpos, timeout, False, False)
 
-    def fullmatch(self, string: Any, pos: int = 0, endpos: int = sys.maxsize, *, timeout: Optional[int] = None) -> Any:
+    def fullmatch(self, string: Any, pos: int = 0, endpos: int = sys.maxsize, *, timeout: int | None = None) -> Any:
         """The match that is all of the window, or None."""
         return self._one(string, pos, endpos, timeout, False, True)
 
-    def search(self, string: Any, pos: int = 0, endpos: int = sys.maxsize, *, timeout: Optional[int] = None) -> Any:
+    def search(self, string: Any, pos: int = 0, endpos: int = sys.maxsize, *, timeout: int | None = None) -> Any:
         """The match that starts first in the window, or None."""
         return self._one(string, pos, endpos, timeout, True, False)
 
-    def scanner(self, string: Any, pos: int = 0, endpos: int = sys.maxsize, *, timeout: Optional[int] = None) -> Any:
+    def scanner(self, string: Any, pos: int = 0, endpos: int = sys.maxsize, *, timeout: int | None = None) -> Any:
         """What is asked for one match after the other."""
         made: Any = object.__new__(Scanner)
         pos, endpos = _size(pos), _size(endpos)
@@ -209,7 +212,7 @@ class Pattern(metaclass=_Fixed):
         made._window = made._asked.start, made._asked.end
         return made
 
-    def finditer(self, string: Any, pos: int = 0, endpos: int = sys.maxsize, *, timeout: Optional[int] = None) -> Any:
+    def finditer(self, string: Any, pos: int = 0, endpos: int = sys.maxsize, *, timeout: int | None = None) -> Any:
         """An iterator over all matches."""
         pos, endpos = _size(pos), _size(endpos)
         text = _Text(self.pattern, string)
@@ -218,8 +221,8 @@ class Pattern(metaclass=_Fixed):
         return (_match(self, text, window, row) for row in self._rows(text, asked))
 
     def findall(
-        self, string: Any, pos: int = 0, endpos: int = sys.maxsize, *, timeout: Optional[int] = None
-    ) -> List[Any]:
+        self, string: Any, pos: int = 0, endpos: int = sys.maxsize, *, timeout: int | None = None
+    ) -> list[Any]:
         """The texts of all matches, or of their groups."""
         pos, endpos = _size(pos), _size(endpos)
         text = _Text(self.pattern, string)
@@ -229,11 +232,11 @@ class Pattern(metaclass=_Fixed):
         numbers = range(1, self.groups + 1)
         return [tuple(_slice(text.plain, row, it, empty) for it in numbers) for row in rows]
 
-    def split(self, string: Any, maxsplit: int = 0, *, timeout: Optional[int] = None) -> List[Any]:
+    def split(self, string: Any, maxsplit: int = 0, *, timeout: int | None = None) -> list[Any]:
         """The pieces between matches, and the groups of those."""
         maxsplit = _size(maxsplit)
         text = _Text(self.pattern, string)
-        pieces: List[Any] = []
+        pieces: list[Any] = []
         last = 0
         for row in self._first(text, maxsplit, timeout):
             pieces.append(text.plain[last : row[0]])
@@ -250,13 +253,13 @@ class Pattern(metaclass=_Fixed):
             if number == most:
                 return
 
-    def subn(self, repl: Any, string: Any, count: int = 0, *, timeout: Optional[int] = None) -> Tuple[Any, int]:
+    def subn(self, repl: Any, string: Any, count: int = 0, *, timeout: int | None = None) -> tuple[Any, int]:
         """The tuple (new_string, number_of_subs_made)."""
         count = _size(count)
         is_literal = isinstance(repl, (str, bytes)) and ("\\" if isinstance(repl, str) else b"\\") not in repl
         parts = repl if callable(repl) or is_literal else parts_of(self, repl)
         text = _Text(self.pattern, string)
-        pieces: List[Any] = []
+        pieces: list[Any] = []
         last = made = 0
         for row in self._first(text, count, timeout):
             if last < row[0]:
@@ -273,7 +276,7 @@ class Pattern(metaclass=_Fixed):
             pieces.append(text.plain[last:])
         return text.plain[:0].join(pieces), made
 
-    def sub(self, repl: Any, string: Any, count: int = 0, *, timeout: Optional[int] = None) -> Any:
+    def sub(self, repl: Any, string: Any, count: int = 0, *, timeout: int | None = None) -> Any:
         """The string with each match replaced by repl."""
         return self.subn(repl, string, count, timeout=timeout)[0]
 
@@ -291,7 +294,7 @@ class Pattern(metaclass=_Fixed):
     def __deepcopy__(self, memo: Any, /) -> Any:
         return self
 
-    def _key(self) -> Tuple[Any, ...]:
+    def _key(self) -> tuple[Any, ...]:
         return self.flags, self.groups, self._turns, type(self.pattern), self._words, self.pattern
 
     def __eq__(self, other: object) -> Any:
@@ -313,15 +316,15 @@ class Match(metaclass=_Fixed):
     __class_getitem__ = classmethod(types.GenericAlias)
 
     @property
-    def regs(self) -> Tuple[Tuple[int, int], ...]:
+    def regs(self) -> tuple[tuple[int, int], ...]:
         return tuple(_span(self._row, group) for group in range(self.re.groups + 1))
 
     @property
-    def lastindex(self) -> Optional[int]:
+    def lastindex(self) -> int | None:
         return self._row[2] if 0 < self._row[2] != library.UNSET else None
 
     @property
-    def lastgroup(self) -> Optional[str]:
+    def lastgroup(self) -> str | None:
         last, names = self.lastindex, self.re._indexgroup
         return names[last] if last is not None and last < len(names) else None
 
@@ -346,7 +349,7 @@ class Match(metaclass=_Fixed):
         """The texts of groups by number or name; with none, that of the match."""
         return self[groups[0] if groups else 0] if len(groups) < 2 else tuple(self[it] for it in groups)
 
-    def groups(self, default: Any = None) -> Tuple[Any, ...]:
+    def groups(self, default: Any = None) -> tuple[Any, ...]:
         """The texts of all groups; default for those that took no part."""
         return tuple(self._of(group, default) for group in range(1, self.re.groups + 1))
 
@@ -354,7 +357,7 @@ class Match(metaclass=_Fixed):
         """The texts of all named groups by name."""
         return {name: self._of(group, default) for name, group in self.re._names.items()}
 
-    def span(self, group: Any = 0, /) -> Tuple[int, int]:
+    def span(self, group: Any = 0, /) -> tuple[int, int]:
         """Where a group starts and ends; (-1, -1) where it took no part."""
         return _span(self._row, self._number(group))
 
@@ -368,7 +371,7 @@ class Match(metaclass=_Fixed):
 
     def expand(self, template: Any) -> Any:
         """A template with the texts of its groups, as sub() does it."""
-        pieces: List[Any] = []
+        pieces: list[Any] = []
         _fill(pieces, parts_of(self.re, template), self._plain, self._row)
         return template[:0].join(pieces)
 
@@ -410,7 +413,7 @@ class Scanner(metaclass=_Fixed):
         return self._step(True)
 
 
-def _match(pattern: Any, text: _Text, window: Tuple[int, int], row: Row) -> Any:
+def _match(pattern: Any, text: _Text, window: tuple[int, int], row: Row) -> Any:
     made: Any = object.__new__(Match)
     made.re, made.string, made._row = pattern, text.string, row
     made._str = text.plain if isinstance(text.string, str) else None
@@ -418,7 +421,7 @@ def _match(pattern: Any, text: _Text, window: Tuple[int, int], row: Row) -> Any:
     return made
 
 
-def compile(pattern: Any, flags: int, code: List[int], groups: int, groupindex: Any, indexgroup: Any) -> Any:
+def compile(pattern: Any, flags: int, code: list[int], groups: int, groupindex: Any, indexgroup: Any) -> Any:
     """A pattern of compiled words, as `_sre.compile` gives one."""
     made: Any = object.__new__(Pattern)
     made.pattern = pattern if pattern is None or isinstance(pattern, (str, bytes)) else bytes(memoryview(pattern))

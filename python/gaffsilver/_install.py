@@ -3,10 +3,13 @@ from __future__ import annotations
 
 import copyreg
 import re
-from typing import Any, Optional, Tuple
 
 from gaffsilver._engine import engine
 from gaffsilver._words import compiler, sre
+
+TYPE_CHECKING = False
+if TYPE_CHECKING:
+    from typing import Any
 
 _theirs = (re._compiler._sre, re.Pattern, re.Match)  # type: ignore[attr-defined]
 
@@ -37,11 +40,11 @@ def uninstall() -> None:
     engine.set_twins(None, None)
 
 
-def _compile_anew(pattern: Any, flags: int, timeout: Optional[int]) -> Any:
+def _compile_anew(pattern: Any, flags: int, timeout: int | None) -> Any:
     return compiler.compile(pattern, flags).within(timeout)
 
 
-def _reduced(pattern: Any) -> Tuple[Any, Tuple[Any, ...]]:
+def _reduced(pattern: Any) -> tuple[Any, tuple[Any, ...]]:
     """A pickled pattern is one of `re` while the engine stands in its place, and else one of this package."""
     if is_installed() and pattern.timeout is None:
         return re._compile, (pattern.pattern, pattern.flags)  # type: ignore[attr-defined]

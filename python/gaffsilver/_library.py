@@ -4,9 +4,12 @@ from __future__ import annotations
 import ctypes
 import os
 from ctypes import POINTER, Structure, byref, c_bool, c_size_t, c_ssize_t, c_uint32, c_uint64, c_void_p
-from typing import Any, List, Optional, Tuple
 
 import _sre
+
+TYPE_CHECKING = False
+if TYPE_CHECKING:
+    from typing import Any
 
 NO, YES, USED_UP, MEMORY, NO_CODE, NO_ROOM = range(6)
 UNSET = FOREVER = 2**64 - 1
@@ -82,7 +85,7 @@ def _function(name: str, *arguments: Any) -> Any:
     return function
 
 
-def _of_text(what: str, *arguments: Any) -> Tuple[Any, Any]:
+def _of_text(what: str, *arguments: Any) -> tuple[Any, Any]:
     """The function for characters of one byte, and that for those of four."""
     before = POINTER(Code), c_void_p, c_size_t, POINTER(Asked)
     return tuple(_function(f"sre_{what}_{text}", *before, *arguments) for text in ("bytes", "points"))  # type: ignore
@@ -97,19 +100,19 @@ _to_upper = ctypes.pythonapi._PyUnicode_ToUppercase
 _to_upper.argtypes, _to_upper.restype = [c_uint32], c_uint32
 
 
-def _extend(ranges: List[List[int]], character: int) -> None:
+def _extend(ranges: list[list[int]], character: int) -> None:
     if ranges and ranges[-1][1] == character - 1:
         ranges[-1][1] = character
     else:
         ranges.append([character, character])
 
 
-def _lists_of_unicode() -> Tuple[List[Any], List[Any], List[Any], List[Any]]:
+def _lists_of_unicode() -> tuple[list[Any], list[Any], list[Any], list[Any]]:
     """Lower and upper cases, letters and digits past ASCII, of this Python's Unicode data."""
-    lower: List[Any] = []
-    upper: List[Any] = []
-    alnum: List[Any] = []
-    digits: List[Any] = []
+    lower: list[Any] = []
+    upper: list[Any] = []
+    alnum: list[Any] = []
+    digits: list[Any] = []
     for number in range(128, 0x110000):
         letter = chr(number)
         if 0xD800 <= number < 0xE000:
@@ -125,7 +128,7 @@ def _lists_of_unicode() -> Tuple[List[Any], List[Any], List[Any], List[Any]]:
     return lower, upper, alnum, digits
 
 
-def _table(*lists: List[Any]) -> Table:
+def _table(*lists: list[Any]) -> Table:
     """The checked table of lists. It holds the arrays that it points to."""
     table = Table()
     for name, pairs in zip(("lower", "upper", "alnum", "digits"), lists):
@@ -137,7 +140,7 @@ def _table(*lists: List[Any]) -> Table:
     return table
 
 
-_tables: List[Optional[Table]] = [None, None]
+_tables: list[Table | None] = [None, None]
 
 
 def table(is_unicode: bool) -> Table:

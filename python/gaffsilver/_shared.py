@@ -3,12 +3,15 @@ from __future__ import annotations
 
 import functools
 import re
-from typing import Any, List, Union
+
+TYPE_CHECKING = False
+if TYPE_CHECKING:
+    from typing import Any
 
 _parser = re._parser  # type: ignore[attr-defined]
 _constants = re._constants  # type: ignore[attr-defined]
 
-Part = Union[str, bytes, int]
+Part = str | bytes | int
 
 # Flags in the order in which a pattern prints them.
 _FLAGS = ("TEMPLATE", "IGNORECASE", "LOCALE", "MULTILINE", "DOTALL", "UNICODE", "VERBOSE", "DEBUG", "ASCII")
@@ -18,7 +21,7 @@ class TooLong(RuntimeError):
     """The turns of a call were used up before its answer was known."""
 
 
-def _alternating(parsed: Any) -> List[Part]:
+def _alternating(parsed: Any) -> list[Part]:
     """Literals and numbers of groups in order, of what this Python's parser of templates gives."""
     if isinstance(parsed, list):
         return parsed
@@ -29,14 +32,14 @@ def _alternating(parsed: Any) -> List[Part]:
 
 
 @functools.lru_cache(512)
-def _parts(pattern: Any, template: Union[str, bytes]) -> Union[str, bytes, List[Part]]:
+def _parts(pattern: Any, template: str | bytes) -> str | bytes | list[Part]:
     # the parser's warnings count calls up to whoever called `sub`, so it is asked right here
     parsed = _parser.parse_template(template, pattern)
     parts = [it for it in _alternating(parsed) if isinstance(it, int) or it]
     return parts if any(isinstance(it, int) for it in parts) else template[:0].join(parts)
 
 
-def parts_of(pattern: Any, template: Any) -> Union[str, bytes, List[Part]]:
+def parts_of(pattern: Any, template: Any) -> str | bytes | list[Part]:
     """A template as a literal, or as a list of literals and the numbers of groups.
 
     Raises `re.error` where it is no template of the pattern, and IndexError where it names a group that there is not.

@@ -4,11 +4,14 @@ from __future__ import annotations
 import importlib.util
 import re
 import types
-from typing import Any
 
 import _sre
 
 from gaffsilver._engine import engine
+
+TYPE_CHECKING = False
+if TYPE_CHECKING:
+    from typing import Any
 
 # `_sre` as a compiler sees it, but for the function that makes a pattern of words.
 sre = types.SimpleNamespace(**{name: getattr(_sre, name) for name in dir(_sre) if not name.startswith("__")})

@@ -9,9 +9,13 @@ Shared shared;
  * too, since a pattern that was compiled before is still good. */
 static PyObject *twins[2];
 
+static PyObject *twin_of(PyObject *type) {
+  return type == (PyObject *)&PatternType ? twins[0] : type == (PyObject *)&MatchType ? twins[1] : NULL;
+}
+
 static PyObject *is_instance(PyObject *type, PyObject *object) {
-  PyObject *twin = twins[type == (PyObject *)&MatchType];
-  return PyBool_FromLong((PyObject *)Py_TYPE(object) == type || (twin && (PyObject *)Py_TYPE(object) == twin));
+  bool is_own = PyObject_TypeCheck(object, (PyTypeObject *)type);
+  return PyBool_FromLong(is_own || (PyObject *)Py_TYPE(object) == twin_of(type));
 }
 
 static PyMethodDef type_methods[] = {
@@ -22,7 +26,7 @@ static PyMethodDef type_methods[] = {
 static PyTypeObject Type = {
     PyVarObject_HEAD_INIT(NULL, 0).tp_name = "gaffsilver.Type",
     .tp_doc = "The type of Pattern and Match.",
-    .tp_flags = Py_TPFLAGS_DEFAULT | Py_TPFLAGS_DISALLOW_INSTANTIATION,
+    .tp_flags = Py_TPFLAGS_DEFAULT,
     .tp_methods = type_methods,
 };
 
