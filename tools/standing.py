@@ -98,6 +98,9 @@ def counted():
     found["examples answers"] = lines_in(listed(f"{ROOT}/examples", ".expected"))
     lines = read(f"{ROOT}/examples/patterns.txt").split("\n")
     found["examples patterns"] = sum(it.startswith("pattern:") for it in lines)
+    tests = listed(f"{ROOT}/python/tests", ".py")
+    found["python test methods"] = sum(read(it).count("\n    def test_") for it in tests)
+    found["embedding checks"] = sum(read(it).count(" CHECK(") for it in listed(f"{ROOT}/embedding", ".c"))
     return {what: number for what, number in found.items() if number}
 
 
