@@ -47,10 +47,9 @@ class Library:
         self.kept = judged.Judged(self.kit, os.path.dirname(os.path.realpath(__file__)))
 
     def name(self):
-        texts = [read(f"tools/{it}") for it in ("embedding.py",)]
-        for part in wrong_bodies.PARTS:
-            texts.append(judged.sum_of_folder(f"{self.crate.folder}/{part}"))
-        return judged.sum_of([self.kept.of_all, self.kept.of_below(self.crate, self.rlibs), *texts])
+        texts = [judged.sum_of_folder(f"{self.crate.folder}/{part}") for part in wrong_bodies.PARTS]
+        below = self.kept.of_below(self.crate, self.rlibs)
+        return judged.sum_of([self.kept.of_all, below, read("tools/embedding.py"), *texts])
 
     def build(self, folder, archive):
         """Proves and builds the crate in a folder; what it said, where it failed."""
@@ -74,9 +73,15 @@ class Library:
         if fault is not None:
             return None, fault
         if self.kept.is_used:
-            shutil.copyfile(made, f"{kept}.new")
-            os.replace(f"{kept}.new", kept)
+            self.keep(made, kept)
         return made, False
+
+    def keep(self, made, kept):
+        """Keeps an archive, and of those that are kept the newest ones."""
+        shutil.copyfile(made, f"{kept}.new")
+        os.replace(f"{kept}.new", kept)
+        for old in sorted(glob.glob(f"{self.kept.at}/*.a"), key=os.path.getmtime)[:-8]:
+            os.remove(old)
 
 
 # ---- what is tried ----

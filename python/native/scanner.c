@@ -11,7 +11,22 @@ typedef struct {
   PyObject *string;
   Text text;
   Window window;
+  bool is_running; /* in a step, during which another thread may run */
 } Reader;
+
+/* Begins a step, of which there is one at a time. */
+static bool step_begin(Reader *self) {
+  if (self->is_running)
+    PyErr_SetString(PyExc_ValueError, "regular expression scanner already executing");
+  else
+    self->is_running = true;
+  return !PyErr_Occurred();
+}
+
+static PyObject *step_end(Reader *self, PyObject *match) {
+  self->is_running = false;
+  return match;
+}
 
 /* A new object of a type that begins as a reader, over the window that a call names; what is asked of it first. */
 static Reader *reader_new(PyTypeObject *type, Pattern *pattern, const Signature *signature, PyObject *const *args,
@@ -66,12 +81,15 @@ PyObject *pattern_finditer(Pattern *pattern, PyObject *const *args, Py_ssize_t c
 }
 
 static PyObject *matches_next(Matches *self) {
+  PyObject *match = NULL;
+  if (!step_begin(&self->reader))
+    return NULL;
   const size_t *row = walk_next(&self->walk);
   if (row)
-    return match_new(self->reader.pattern, self->reader.string, self->reader.window, row);
-  if (!PyErr_Occurred())
+    match = match_new(self->reader.pattern, self->reader.string, self->reader.window, row);
+  else if (!PyErr_Occurred())
     text_close(&self->reader.text); /* at its end it is read no more */
-  return NULL;
+  return step_end(&self->reader, match);
 }
 
 static void matches_dealloc(Matches *self) {
@@ -106,14 +124,9 @@ PyObject *pattern_scanner(Pattern *pattern, PyObject *const *args, Py_ssize_t co
   return (PyObject *)self;
 }
 
-static PyObject *step(Scanner *self, bool search) {
-  size_t few[3 + 2 * 12], *row = few, width = ROW_WIDTH(self->reader.pattern);
+/* The next match by a row of so many numbers, or None. */
+static PyObject *next_by(Scanner *self, size_t *row) {
   PyObject *match = NULL;
-  if (self->has_ended || self->asked.start > self->asked.end)
-    Py_RETURN_NONE;
-  if (width > sizeof few / sizeof *few && !(row = PyMem_Malloc(width * sizeof *row)))
-    return PyErr_NoMemory();
-  self->asked.search = search;
   int told = engine_match(self->reader.pattern, &self->reader.text, &self->asked, row);
   if (told > 0) {
     self->asked.start = row[1];
@@ -122,6 +135,20 @@ static PyObject *step(Scanner *self, bool search) {
   } else if (told == 0) {
     self->has_ended = true;
     match = Py_NewRef(Py_None);
+  }
+  return match;
+}
+
+static PyObject *step(Scanner *self, bool search) {
+  size_t few[3 + 2 * 12], *row = few, width = ROW_WIDTH(self->reader.pattern);
+  if (self->has_ended || self->asked.start > self->asked.end)
+    Py_RETURN_NONE;
+  if (width > sizeof few / sizeof *few && !(row = PyMem_Malloc(width * sizeof *row)))
+    return PyErr_NoMemory();
+  PyObject *match = NULL;
+  if (step_begin(&self->reader)) {
+    self->asked.search = search;
+    match = step_end(&self->reader, next_by(self, row));
   }
   if (row != few)
     PyMem_Free(row);
