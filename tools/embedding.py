@@ -57,7 +57,7 @@ class Library:
             if os.path.isdir(f"{self.crate.folder}/{part}"):
                 shutil.copytree(f"{self.crate.folder}/{part}", f"{folder}/{part}")
         words = [f"{self.kit}/bin/rattle", "build", *self.crate.words(self.kit, self.rlibs)]
-        words += ["--crate-type", "staticlib", "--backend", "llvm", "--toolchain", f"{self.kit}/toolchain"]
+        words += ["--backend", "llvm", "--toolchain", f"{self.kit}/toolchain"]
         how = {"stdin": subprocess.DEVNULL, "stdout": subprocess.PIPE, "stderr": subprocess.STDOUT, "errors": "replace"}
         ran = subprocess.run([*words, "-o", archive], cwd=folder, **how)
         return ran.stdout if ran.returncode else None
