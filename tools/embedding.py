@@ -5,9 +5,10 @@
 
 The programs of docs/EMBEDDING.md are compiled and run, and have to write what the page says. The callers of
 embedding/bad_callers.c have to get a status for all that they hand over, under valgrind, too. And the package of
-python/ is built for each Python that is found, and its own tests run by both of its engines, and CPython's `test_re`
-with the engine in place of `_sre`. Whatever is made stands in a folder that is taken away. A line tells of each
-compiler and Python that was not found: that fails nothing. The status is 1 where something fails.
+python/ is built for each Python that is found: the examples of docs/PYTHON.md, the package's own tests, and CPython's
+`test_re` with the engine in place of `_sre` are run over it; with one Python the tests run by ctypes, too. Whatever is
+made stands in a folder that is taken away. A line tells of each compiler and Python that was not found: that fails
+nothing. The status is 1 where something fails.
 """
 import glob
 import os
@@ -22,6 +23,7 @@ import wrong_bodies
 
 ROOT = os.path.dirname(os.path.dirname(os.path.realpath(__file__)))
 PAGE = "docs/EMBEDDING.md"
+EXAMPLES = "docs/PYTHON.md"
 BLOCK = re.compile(r"(?ms)^```(\w*)\n(.*?)^```$")
 PYTHONS = ("3.11", "3.12", "3.13")
 CRATE = "sre_c"
@@ -57,7 +59,7 @@ class Library:
             if os.path.isdir(f"{self.crate.folder}/{part}"):
                 shutil.copytree(f"{self.crate.folder}/{part}", f"{folder}/{part}")
         words = [f"{self.kit}/bin/rattle", "build", *self.crate.words(self.kit, self.rlibs)]
-        words += ["--crate-type", "staticlib", "--backend", "llvm", "--toolchain", f"{self.kit}/toolchain"]
+        words += ["--backend", "llvm", "--toolchain", f"{self.kit}/toolchain"]
         how = {"stdin": subprocess.DEVNULL, "stdout": subprocess.PIPE, "stderr": subprocess.STDOUT, "errors": "replace"}
         ran = subprocess.run([*words, "-o", archive], cwd=folder, **how)
         return ran.stdout if ran.returncode else None
@@ -182,6 +184,10 @@ class Embedding:
         if not self.ran(f"the package for Python {version} is built", *build):
             return
         path = {"PYTHONPATH": site, "PYTHONDONTWRITEBYTECODE": "1"}
+        examples = f"{self.room}/examples.txt"
+        with open(examples, "w", encoding="utf-8") as file:
+            file.write("\n".join(it[1] for it in BLOCK.findall(read(EXAMPLES)) if it[0] == "python"))
+        self.ran(f"the examples of {EXAMPLES}, Python {version}", python, "-m", "doctest", examples, **path, writes="")
         tests = [python, "-W", "error", "-m", "unittest", "discover", "-s", f"{ROOT}/python/tests"]
         has_extension = bool(glob.glob(f"{site}/gaffsilver/_native*"))
         if has_extension:

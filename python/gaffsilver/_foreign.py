@@ -88,6 +88,7 @@ class _Text:
                 raise TypeError("cannot use a string pattern on a bytes-like object")
             self.data, self.which = self.plain, 0
         self.length = len(self.plain)
+        self.is_ascii = isinstance(string, str) and self.plain.isascii()
         self.is_fixed = isinstance(string, str) or type(string) is bytes
 
     def look_again(self) -> None:
@@ -133,7 +134,7 @@ class Pattern(metaclass=_Fixed):
     """Compiled regular expression object."""
 
     __module__, __qualname__ = "re", "Pattern"
-    __slots__ = ("pattern", "flags", "groups", "_words", "_code", "_names", "_indexgroup", "_turns", "__weakref__")
+    __slots__ = ("pattern", "flags", "groups", "_words", "_codes", "_names", "_indexgroup", "_turns", "__weakref__")
     __class_getitem__ = classmethod(types.GenericAlias)
 
     @property
@@ -149,15 +150,17 @@ class Pattern(metaclass=_Fixed):
         turns = _turns(timeout, self._turns)
         return library.Asked(start, end, turns, True, False, False, sys.version_info >= (3, 14))
 
+    def _over(self, text: _Text) -> tuple[Any, ...]:
+        """The code and the text, as the library takes them."""
+        return byref(self._codes[text.is_ascii]), text.data, text.length
+
     def _row(self, text: _Text, asked: Any) -> Row | None:
         """The match as a row: start, end, the group that was closed last, and the marks."""
         if asked.start > asked.end:
             return None
         found, room = library.Found(), 2 * self.groups
         marks = (c_size_t * (room or 1))()
-        status = library.answers[text.which](
-            byref(self._code), text.data, text.length, byref(asked), byref(found), marks, room
-        )
+        status = library.answers[text.which](*self._over(text), byref(asked), byref(found), marks, room)
         if status == library.NO:
             return None
         if status != library.YES:
@@ -172,9 +175,8 @@ class Pattern(metaclass=_Fixed):
         while status == library.NO_ROOM and asked.start <= asked.end:
             text.look_again()
             rows = (c_size_t * (width * room))()
-            status = library.walks[text.which](
-                byref(self._code), text.data, text.length, byref(asked), width, rows, width * room, byref(walked)
-            )
+            into = byref(asked), width, rows, width * room, byref(walked)
+            status = library.walks[text.which](*self._over(text), *into)
             numbers = rows[: walked.count * width]
             for at in range(0, len(numbers), width):
                 yield numbers[at : at + width]
@@ -427,9 +429,11 @@ def compile(pattern: Any, flags: int, code: list[int], groups: int, groupindex: 
     made.pattern = pattern if pattern is None or isinstance(pattern, (str, bytes)) else bytes(memoryview(pattern))
     made.flags, made.groups, made._names, made._indexgroup = int(flags), groups, groupindex, indexgroup
     made._turns, made._words = library.FOREVER, bytes((c_uint32 * len(code))(*code))
-    table = library.table(not isinstance(made.pattern, bytes))
-    made._code = library.Code(library.bytes_of(made._words), len(code), library.pointer_to(table))
-    status = library.check_code(byref(made._code))
-    if status != library.YES:
-        _fail(status)
+    # a text in ASCII asks for no table past it, and each call copies the table's lists (`code_for` of the extension)
+    tables = library.table(not isinstance(made.pattern, bytes)), library.table(False)
+    made._codes = tuple(library.Code(library.bytes_of(made._words), len(code), library.pointer_to(it)) for it in tables)
+    for it in made._codes:
+        status = library.check_code(byref(it))
+        if status != library.YES:
+            _fail(status)
     return made

@@ -20,6 +20,8 @@ _FLAGS = ("TEMPLATE", "IGNORECASE", "LOCALE", "MULTILINE", "DOTALL", "UNICODE", 
 class TooLong(RuntimeError):
     """The turns of a call were used up before its answer was known."""
 
+    __module__ = "gaffsilver"
+
 
 def _alternating(parsed: Any) -> list[Part]:
     """Literals and numbers of groups in order, of what this Python's parser of templates gives."""
