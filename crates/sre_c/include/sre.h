@@ -16,10 +16,12 @@
  *
  * What a caller owes, since nothing checks it:
  * - Each pointer is not null and aligned, also that of an empty list or text (SRE_NO_PAIRS is one for a list), and as
- *   many numbers are there as its count says. A bool is 0 or 1. What is written to overlaps nothing else that is passed.
+ *   many numbers are there as its count says. A bool is 0 or 1. What is written to overlaps nothing else that is
+ *   passed.
  * - All that is pointed to stays as it is during a call. What a checked table or code points to stays as it is for as
  *   long as that is used.
- * - `checked` is false when a caller fills in a struct; a check alone sets it, and after it the caller changes no field.
+ * - `checked` is false when a caller fills in a struct; a check alone sets it, and after it the caller changes no
+ *   field. Today an answer and a walk check words and lists again all the same, so nothing rests on it yet.
  * - No function is called from a signal handler, nor in the forked child of a process with threads.
  *
  * Positions count characters. A character is a byte, a code point of UTF-8, a number of 32 bits or one of 16 bits.
@@ -48,7 +50,7 @@ extern "C" {
 /* In place of a position: a mark that is not set, or no group that was closed last. */
 #define SRE_UNSET SIZE_MAX
 
-/* An entry of a table's list: (from, to) of a map of cases, or (low, high) of a range, both ends of which belong to it. */
+/* An entry of a table's list: (from, to) of a map of cases, or (low, high) of a range, whose ends belong to it. */
 typedef struct sre_pair {
   uint32_t low;
   uint32_t high;
@@ -66,7 +68,7 @@ typedef struct sre_table {
   size_t alnum_count;
   const sre_pair *digits;
   size_t digits_count;
-  uint32_t error; /* why the check refused a list: 2 unsorted, 3 an entry in ASCII, 4 no scalar value; 0 else */
+  uint32_t error; /* after SRE_FAULTY_TABLE why: 2 unsorted, 3 an entry in ASCII, 4 no scalar value; 0 after SRE_YES */
   bool checked;   /* set by sre_check_table alone */
 } sre_table;
 
@@ -93,9 +95,9 @@ typedef struct sre_code {
   const uint32_t *words;
   size_t words_count;
   const sre_table *table;
-  size_t place;    /* where the check saw the fault of words that it refused: at most their number */
-  uint32_t error;  /* why it refused them: the number of the error, 2 to 11; 0 else */
-  sre_hints hints; /* of words that are a code */
+  size_t place;    /* after SRE_NO_CODE where the check saw the fault: at most the number of words */
+  uint32_t error;  /* after SRE_NO_CODE why: the number of the error, 2 to 11; 0 after SRE_YES */
+  sre_hints hints; /* after SRE_YES */
   bool checked;    /* set by sre_check_code alone */
 } sre_code;
 
@@ -132,7 +134,7 @@ typedef struct sre_walked {
 uint32_t sre_check_table(sre_table *table);
 
 /* Checks words: SRE_YES, SRE_NO_CODE, SRE_FAULTY_TABLE, SRE_MEMORY. Nobody needs to call it first: an answer and a walk
- * check what is not checked. */
+ * check the words and the lists, too. */
 uint32_t sre_check_code(sre_code *code);
 
 /* The match: SRE_YES and all of `found` and its marks; SRE_NO; SRE_USED_UP; SRE_MEMORY; SRE_NO_CODE; SRE_NO_ROOM, with

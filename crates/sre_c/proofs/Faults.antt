@@ -1,5 +1,5 @@
 -- The faults of lists: memory is none of them.
-use Rattle.std.proofs.Common.{◌≡◌, ◌≢◌, ◌∙◌, ℕ, List, [], ◌∷◌, Bool, true, false, Option, Some, None, ◌+◌, refl, sym, ap, subst}
+use Rattle.std.proofs.Common.{◌≡◌, ◌≢◌, ◌∙◌, ℕ, List, [], ◌∷◌, Bool, true, false, Option, Some, None, ◌+◌, refl, ap}
 use Rattle.std.proofs.Common.{not, nat_lt, ◌||◌, if◌then◌else◌}
 use Rattle.std.specs.Option.{option_or}
 use Rattle.sre_chars.specs.declared.table.UniError.{UniError}

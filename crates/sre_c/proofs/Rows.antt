@@ -1,5 +1,5 @@
 -- Rows of matches: one more behind those that are there, and a walk that is written up to some request.
-use Rattle.std.proofs.Common.{◌≡◌, ◌∙◌, ◌<◌, ◌≤◌, ◌+◌, ◌*◌, ℕ, List, [], ◌∷◌, ◌++◌, length, slice_index, cond, nat_eq}
+use Rattle.std.proofs.Common.{◌≡◌, ◌∙◌, ◌<◌, ◌+◌, ◌*◌, ℕ, List, [], ◌∷◌, ◌++◌, length, slice_index, cond, nat_eq}
 use Rattle.std.proofs.Common.{Bool, true, false, Option, Some, None, Ok, sym, ap, subst, arith, append_assoc}
 use Rattle.std.proofs.Common.{length-append}
 use Rattle.sre_chars.specs.declared.string.StrDrive.{Ghosts}
@@ -48,8 +48,8 @@ one_written all left m width place w u old new before is more row kept = record 
       let there : place ≡ 0 + length before.written * width =
       is ∙ ap (λ n. n * width) before.count ∙ omega arith in
       row_added before.written m 0 width place new there
-      (rows_kept before.written 0 width old new (λ i small. kept i (subst (λ n. i < n) (sym there) small)) before.in_rows)
-      row;
+      (rows_kept before.written 0 width old new (λ i small. kept i (subst (λ n. i < n) (sym there) small))
+      before.in_rows) row;
 }
 
 -- the next item is a match

@@ -1,13 +1,14 @@
 -- What an export says of a match.
 -- Public clauses rest on it.
-use Rattle.std.specs.Prelude.{ℕ, ◌≡◌, ◌<◌, ◌≤◌, ◌-◌, ◌^◌, List, length, slice_index, Option, Some, None}
+use Rattle.std.specs.Prelude.{ℕ, ◌≡◌, ◌<◌, ◌-◌, ◌^◌, List, length, slice_index, Option, Some, None}
 use Rattle.sre_model.specs.Tree.{Tree}
 use Rattle.sre_model.specs.Grammar.{Whole, IsCode}
 use Rattle.sre_model.specs.Marks.{mark_at}
 use Rattle.sre_model.specs.Found.{Match}
 use Rattle.sre_growth.specs.Refusal.{Refused}
 use Rattle.sre_c.specs.declared.status.Status.{Status}
-use Rattle.sre_c.specs.declared.status.Status.TheVariants.{No, Yes, UsedUp, Memory, NoCode, NoRoom, NotUtf8, FaultyTable}
+use Rattle.sre_c.specs.declared.status.Status.TheVariants.{No, Yes, UsedUp, Memory, NoCode, NoRoom}
+use Rattle.sre_c.specs.declared.status.Status.TheVariants.{NotUtf8, FaultyTable}
 use Rattle.sre_c.specs.declared.types.SreCode.{SreCode}
 use Rattle.sre_c.specs.declared.types.SreAsked.{SreAsked}
 use Rattle.sre_c.specs.declared.types.SreFound.{SreFound}

@@ -15,7 +15,8 @@ use Rattle.sre_code.specs.declared.code.Hints.{Hints}
 use Rattle.sre_code.specs.declared.code.error.CodeError.{CodeError}
 use Rattle.sre_code.specs.declared.code.error.CodeError.TheVariants as code_error
 use Rattle.sre_c.specs.declared.status.Status.{Status}
-use Rattle.sre_c.specs.declared.status.Status.TheVariants.{No, Yes, UsedUp, Memory, NoCode, NoRoom, NotUtf8, FaultyTable}
+use Rattle.sre_c.specs.declared.status.Status.TheVariants.{No, Yes, UsedUp, Memory, NoCode, NoRoom}
+use Rattle.sre_c.specs.declared.status.Status.TheVariants.{NotUtf8, FaultyTable}
 use Rattle.sre_c.specs.declared.types.SreTable.{SreTable}
 use Rattle.sre_c.specs.declared.types.SreHints.{SreHints}
 use Rattle.sre_c.specs.declared.types.SreCode.{SreCode}

@@ -1,6 +1,6 @@
 -- What a caller hands over, in the words of the model.
 -- Public clauses rest on it.
-use Rattle.std.specs.Prelude.{ℕ, ◌≡◌, ◌<◌, ◌⊎◌, List, [], map, length, min, cond, Option, Some, None}
+use Rattle.std.specs.Prelude.{ℕ, ◌≡◌, ◌<◌, ◌⊎◌, List, [], map, length, min, cond, Option}
 use Rattle.std.specs.Str.{chars, IsUtf8}
 use Rattle.std.specs.Option.{option_or}
 use Rattle.sre_chars.specs.declared.constants.EmptyRule.TheVariants.{Never, NonBoundary}

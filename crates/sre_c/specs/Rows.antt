@@ -11,7 +11,8 @@ use Rattle.sre_engine.specs.Requests.{end_of, code_of, asked_of}
 use Rattle.sre_engine.specs.Counts.{AreEnough}
 use Rattle.sre_request.specs.declared.request.Request.{Request}
 use Rattle.sre_c.specs.declared.status.Status.{Status}
-use Rattle.sre_c.specs.declared.status.Status.TheVariants.{No, Yes, UsedUp, Memory, NoCode, NoRoom, NotUtf8, FaultyTable}
+use Rattle.sre_c.specs.declared.status.Status.TheVariants.{No, Yes, UsedUp, Memory, NoCode, NoRoom}
+use Rattle.sre_c.specs.declared.status.Status.TheVariants.{NotUtf8, FaultyTable}
 use Rattle.sre_c.specs.declared.types.SreWalked.{SreWalked}
 use Rattle.sre_c.specs.Walked.{IsWritten}
 

@@ -76,7 +76,8 @@ pub extern "C" fn sre_answer_utf8(
     marks: &mut [usize],
 ) -> u32
     ensures answers { Tells result (λ status.
-        InUtf8 status text.now (λ text. Answers status code.now text asked.now (length marks.old) found.new marks.new)) }
+        InUtf8 status text.now (λ chars.
+        Answers status code.now chars asked.now (length marks.old) found.new marks.new)) }
     ensures turns { found.new.turns ≤ asked.now.turns }
 {
     let status = match str::from_utf8(text) {
@@ -153,7 +154,7 @@ pub extern "C" fn sre_walk_utf8(
     walked: &mut SreWalked,
 ) -> u32
     ensures walks { Tells result (λ status.
-        InUtf8 status text.now (λ text. Walks status code.now text asked.now width walked.new rows.new)) }
+        InUtf8 status text.now (λ chars. Walks status code.now chars asked.now width walked.new rows.new)) }
     ensures turns { walked.new.turns ≤ asked.now.turns }
 {
     let status = match str::from_utf8(text) {

@@ -1,7 +1,5 @@
 //! The structs that cross to C, field by field as `include/sre.h` writes them.
 
-ghost use Rattle.std.specs.Prelude.{◌≡◌};
-
 /// An entry of a list: (from, to) of a map of cases, or (low, high) of a range, both ends of which belong to it.
 #[repr(C)]
 #[derive(Clone, Copy)]
@@ -18,7 +16,7 @@ pub struct SreTable<'a> {
     pub upper: &'a [SrePair],
     pub alnum: &'a [SrePair],
     pub digits: &'a [SrePair],
-    /// The number of the first fault that the check saw, 0 where it saw none.
+    /// The number of the first fault, where the check saw one; 0 where it passed the lists.
     pub error: u32,
     /// Whether the check has passed the lists.
     pub checked: bool,
@@ -52,9 +50,9 @@ pub struct SreHints {
 pub struct SreCode<'a> {
     pub words: &'a [u32],
     pub table: &'a SreTable<'a>,
-    /// Where the check saw the fault of words that it refused: at most their number.
+    /// Where the check saw the fault of words that are no code: at most their number.
     pub place: usize,
-    /// The number of the refusal, 0 where there is none.
+    /// The number of that refusal; 0 where the check passed the words.
     pub error: u32,
     pub hints: SreHints,
     /// Whether the check has passed the words.

@@ -72,7 +72,8 @@ fn write_rows<S: StrDrive>(
 ) -> Status
     requires open { has_ended walk.old ≡ false }
     requires none { walked.old.count ≡ 0 }
-    ensures rows { WritesRows result (request_of walk.old) (request_of walk.new) walked.old.turns width walked.new rows.new }
+    ensures rows { WritesRows result (request_of walk.old) (request_of walk.new) walked.old.turns width walked.new
+        rows.new }
     ensures turns { walked.new.turns ≤ walked.old.turns }
 {
     let mut at = 0;
