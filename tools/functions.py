@@ -5,7 +5,7 @@ Methods of traits, functions that macros write and those that stand in another a
 import os
 import re
 
-FUNCTION = re.compile(r"( *)(?:pub(?:\([\w:]+\))? )?(?:const )?fn (\w+)")
+FUNCTION = re.compile(r'( *)(?:pub(?:\([\w:]+\))? )?(?:const )?(?:extern "C" )?fn (\w+)')
 TYPE = re.compile(r"(?:pub(?:\([\w:]+\))? )?(?:struct|enum) (\w+)")
 OWN_METHODS = re.compile(r"impl(?:<.*?>)? (\w+)(?:<.*>)? \{")
 

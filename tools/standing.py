@@ -11,7 +11,8 @@ bodies make the same text. HANDLES allows nothing. And every clause on memory re
 say that a growth was refused could pass on any error. Only sre_growth stands on the crate that has the fact, one line
 of one spec hands on the fact without its lemma, and the lemma is cited by the answers of the three growths alone. And
 what tools draw goes stale without a sign: the pictures of docs/ (`pictures.py`), a table (`adding.py`) and the map of
-the code (`map.py`); and so does the kit's name on a page (`kit.py`). The status is 1 where something does not stand.
+the code (`map.py`); and so does the kit's name on a page (`kit.py`), and the header of what C calls (`header.py`). The
+status is 1 where something does not stand.
 """
 import os
 import re
@@ -20,6 +21,7 @@ import sys
 
 import adding
 import faults
+import header
 import kit
 import map as code_map
 import pictures
@@ -181,10 +183,9 @@ def widened():
 
 def unsealed():
     """What lets a crate say that a growth was refused where none was."""
-    for row in read(f"{ROOT}/crates.txt").split("\n"):
-        name, _, listed = row.partition("#")[0].partition(":")
-        if "sre_refusal_seal" in listed.split() and name.strip() != "sre_growth":
-            yield f"crates.txt: {name.strip()} lists sre_refusal_seal"
+    for name, _, listed in wrong_bodies.rows():
+        if "sre_refusal_seal" in listed and name != "sre_growth":
+            yield f"crates.txt: {name} lists sre_refusal_seal"
     named, crates = {}, f"{ROOT}/crates/"
     for path in files(crates, ".rt", ".antt"):
         short = path[len(crates):]
@@ -213,7 +214,7 @@ def stale():
 def fallen():
     """All that does not stand."""
     kept = [*missed(), *lowered(), *unread(), *alike(), *widened()]
-    return [*kept, *unsealed(), *adding.stale(), *code_map.stale(), *kit.unnamed(), *stale()]
+    return [*kept, *unsealed(), *header.unlike(), *adding.stale(), *code_map.stale(), *kit.unnamed(), *stale()]
 
 
 def write():

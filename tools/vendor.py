@@ -51,25 +51,24 @@ class Taken:
         self.path, self.own, self.names = f"{target}/crates.txt", [], []
         is_ours = False
         for line in read(self.path).decode().splitlines() if os.path.isfile(self.path) else []:
-            name, colon, _ = line.partition("#")[0].partition(":")
+            name, _, _ = wrong_bodies.row_of(line)
             if line.startswith((BEGIN, END)):
                 is_ours = line.startswith(BEGIN)
             elif not is_ours:
                 self.own.append(line)
-            elif colon:
-                self.names.append(name.strip())
+            elif name:
+                self.names.append(name)
 
     def listed(self, name):
         """What a line of its own says that a crate lists, where there is one."""
-        for line in self.own:
-            own, colon, listed = line.partition("#")[0].partition(":")
-            if colon and own.strip() == name:
-                return listed.split()
+        for own, _, listed in map(wrong_bodies.row_of, self.own):
+            if own == name:
+                return listed
         return None
 
     def write(self, crates):
         """Writes the lines of these crates behind its own, in place of those that stand for them now."""
-        own = [it for it in self.own if it.partition("#")[0].partition(":")[0].strip() not in crates]
+        own = [it for it in self.own if wrong_bodies.row_of(it)[0] not in crates]
         lines = [f"{name}: {' '.join(libraries_of(crate))}".rstrip() for name, crate in crates.items()]
         with open(self.path, "w", encoding="utf-8") as file:
             file.write("\n".join([*own, f"{BEGIN}: commit {commit()}; {SEAL}", *lines, END]) + "\n")

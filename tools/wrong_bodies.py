@@ -67,7 +67,8 @@ def kit():
 class Crate:
     """A crate of the repository, and those of the repository and of the kit that it lists."""
 
-    def __init__(self, name, listed, known):
+    def __init__(self, row, known):
+        name, self.is_static, listed = row
         self.name, self.folder = name, f"{ROOT}/crates/{name}"
         self.own = [known[it] for it in listed if it in known]
         self.of_kit = ["std", *(it for it in listed if it not in known)]
@@ -89,17 +90,29 @@ class Crate:
             words += ["--extern", f"{crate.name}={rlibs(crate)}/{crate.name}.rlib"]
         for crate in self.below():
             words += ["-L", f"dependency={rlibs(crate)}"]
+        words += ["--crate-type", "staticlib"] if self.is_static else []
         words += ["--antt-project", f"{kit}/rattle/logic/antt-project.json"]
         return [*words, "--logic-built", f"{kit}/logic_built", "--jobs", "1"]
+
+
+def row_of(line):
+    """What a line of crates.txt says: a crate's name, whether it is a static library, and what it lists. Another line
+    has no name."""
+    said, colon, listed = line.partition("#")[0].partition(":")
+    name, *kind = said.split() if colon else [""]
+    return name, kind == ["staticlib"], listed.split()
+
+
+def rows():
+    """The lines of the repository's crates.txt that name a crate, lowest first."""
+    return [it for it in map(row_of, read(f"{ROOT}/crates.txt").split("\n")) if it[0]]
 
 
 def crates():
     """The repository's crates by name, lowest first."""
     known = {}
-    for row in read(f"{ROOT}/crates.txt").split("\n"):
-        name, colon, listed = row.partition("#")[0].partition(":")
-        if colon:
-            known[name.strip()] = Crate(name.strip(), listed.split(), known)
+    for row in rows():
+        known[row[0]] = Crate(row, known)
     return known
 
 

@@ -1,0 +1,98 @@
+-- Rows of matches: one more behind those that are there, and a walk that is written up to some request.
+use Rattle.std.proofs.Common.{◌≡◌, ◌∙◌, ◌<◌, ◌+◌, ◌*◌, ℕ, List, [], ◌∷◌, ◌++◌, length, slice_index, cond, nat_eq}
+use Rattle.std.proofs.Common.{Bool, true, false, Option, Some, None, Ok, sym, ap, subst, arith, append_assoc}
+use Rattle.std.proofs.Common.{length-append}
+use Rattle.sre_chars.specs.declared.string.StrDrive.{Ghosts}
+use Rattle.sre_model.specs.Tree.{Tree}
+use Rattle.sre_model.specs.Grammar.{Whole}
+use Rattle.sre_model.specs.Found.{Asked, Match, walk}
+use Rattle.sre_code.specs.Codes.{words_of}
+use Rattle.sre_request.specs.declared.request.Request.{Request}
+use Rattle.sre_engine.specs.Requests.{start_of, code_of, asked_of, must_advance_of}
+use Rattle.sre_engine.specs.Walks.{match_shown}
+use Rattle.sre_engine.specs.declared.engine.search_iter.SearchIter.{SearchIter}
+use Rattle.sre_engine.specs.Iterators.{request_of, shown_of, Gives, NextWithin}
+use Rattle.sre_engine.proofs.Walking.{asked_next}
+use Rattle.sre_c.specs.declared.types.SreWalked.{SreWalked}
+use Rattle.sre_c.specs.Walked.{IsRow, AreRows, IsWritten}
+use Rattle.sre_c.specs.Rows.{IsSoFar}
+
+-- rows stay where their numbers do
+rows_kept : (ms : List Match) (at width : ℕ) (old new : List ℕ)
+    → ((i : ℕ) → i < at + length ms * width → slice_index new i ≡ slice_index old i)
+    → AreRows ms at width old → AreRows ms at width new
+rows_kept [] at width old new same rows = tt
+rows_kept (m ∷ ms) at width old new same rows = (
+  record { each = λ q small. same (at + q) (omega arith) ∙ rows.0.each q small },
+  rows_kept ms (at + width) width old new (λ i small. same i (omega arith)) rows.1,
+)
+
+-- a row more stands behind rows
+row_added : (ms : List Match) (m : Match) (at width place : ℕ) (rows : List ℕ) → place ≡ at + length ms * width
+    → AreRows ms at width rows → IsRow m place width rows → AreRows (ms ++ m ∷ []) at width rows
+row_added [] m at width place rows is before row =
+    (subst (λ p. IsRow m p width rows) (is ∙ omega arith) row, tt)
+row_added (n ∷ ms) m at width place rows is before row =
+    (before.0, row_added ms m (at + width) width place rows (is ∙ omega arith) before.1 row)
+
+-- a match more is written
+pub one_written : (all left : List Match) (m : Match) (width place : ℕ) (w u : SreWalked) (old new : List ℕ)
+    → IsWritten all (m ∷ left) width w old → place ≡ w.count * width → u.count ≡ w.count + 1
+    → IsRow m place width new → ((i : ℕ) → i < place → slice_index new i ≡ slice_index old i)
+    → IsWritten all left width u new
+one_written all left m width place w u old new before is more row kept = record {
+  written = before.written ++ m ∷ [];
+  both = before.both ∙ sym (append_assoc before.written (m ∷ []) left);
+  count = more ∙ ap (λ n. n + 1) before.count ∙ sym (length-append before.written (m ∷ []));
+  in_rows =
+      let there : place ≡ 0 + length before.written * width =
+      is ∙ ap (λ n. n * width) before.count ∙ omega arith in
+      row_added before.written m 0 width place new there
+      (rows_kept before.written 0 width old new (λ i small. kept i (subst (λ n. i < n) (sym there) small))
+      before.in_rows) row;
+}
+
+-- the next item is a match
+pub match_given : {S A : Type 0} {text : Ghosts S} (it next : SearchIter S A text) (told : Option Bool)
+    → NextWithin it (Ok told) next → told ≡ Some true → Gives it next
+match_given it next (Some true) said is = said
+match_given it next (Some false) said is = absurd (cc)
+match_given it next None said is = absurd (cc)
+
+-- a step of a walk that is written so far gives one match more
+module _ {S A : Type 0} {text : Ghosts S} (first : Request S text) (it next : SearchIter S A text) (width : ℕ)
+    (w u : SreWalked) (old new : List ℕ) (before : IsSoFar first (request_of it) width w old) (gives : Gives it next)
+    (start : u.start ≡ start_of (request_of next)) (advance : u.must_advance ≡ must_advance_of (request_of next)) where
+  asked_then : asked_of (request_of next)
+      ≡ record (asked_of (request_of it)) { start = u.start; must_advance = u.must_advance }
+  asked_then =
+      asked_next (request_of it) (shown_of next) (request_of next) gives.request
+      ∙ ap (λ p. record (asked_of (request_of it)) {
+        start = p;
+        must_advance = nat_eq (shown_of next).cursor.position (shown_of next).start;
+      }) (sym (start ∙ gives.request.start))
+      ∙ ap (λ b. record (asked_of (request_of it)) { start = u.start; must_advance = b })
+      (sym (advance ∙ gives.request.must_advance))
+
+  left_then : (t : Tree) → Whole (words_of (code_of (request_of it))) t
+      → walk (asked_of (request_of it)) t ≡ match_shown (shown_of next) ∷ walk (asked_of (request_of next)) t
+  left_then t whole =
+      ap (λ b. cond b [] (walk (asked_of (request_of it)) t)) (sym gives.before) ∙ gives.first t whole
+      ∙ ap (λ b. match_shown (shown_of next) ∷ cond b [] (walk (asked_of (request_of next)) t)) gives.after
+
+  pub step_written : (place : ℕ) → place ≡ w.count * width → u.count ≡ w.count + 1
+      → IsRow (match_shown (shown_of next)) place width new
+      → ((i : ℕ) → i < place → slice_index new i ≡ slice_index old i) → IsSoFar first (request_of next) width u new
+  step_written place is more row kept = record {
+    written = λ t whole.
+        one_written (walk (asked_of first) t) (walk (asked_of (request_of next)) t) (match_shown (shown_of next)) width
+        place w u old new
+        (subst (λ ms. IsWritten (walk (asked_of first) t) ms width w old)
+        (left_then t (subst (λ code. Whole (words_of code) t) (sym before.code) whole)) (before.written t whole))
+        is more row kept;
+    code = gives.request.pattern_codes ∙ before.code;
+    same = asked_then ∙ ap (λ (a : Asked). record a { start = u.start; must_advance = u.must_advance }) before.same;
+    inside =
+        let last = ap (λ (a : Asked). a.end) before.same in
+        omega (arith, start, gives.request.start, gives.request.span.inside, last);
+  }

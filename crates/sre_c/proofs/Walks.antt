@@ -1,0 +1,61 @@
+-- What is written of a walk's request, in the words of C.
+use Rattle.std.proofs.Common.{◌≡◌, ◌∙◌, ◌≤◌, ℕ, List, [], length, min, arith, sym, ap, subst}
+use Rattle.sre_chars.specs.declared.string.StrDrive.{Ghosts}
+use Rattle.sre_model.specs.Grammar.{Whole, IsCode}
+use Rattle.sre_model.specs.Found.{Asked, walk}
+use Rattle.sre_code.specs.Codes.{words_of}
+use Rattle.sre_request.specs.declared.request.Request.{Request}
+use Rattle.sre_engine.specs.Requests.{code_of, asked_of}
+use Rattle.sre_c.specs.declared.status.Status.{Status}
+use Rattle.sre_c.specs.declared.status.Status.TheVariants.{No, Yes, UsedUp, Memory, NoCode, NoRoom}
+use Rattle.sre_c.specs.declared.status.Status.TheVariants.{NotUtf8, FaultyTable}
+use Rattle.sre_c.specs.declared.types.SreCode.{SreCode}
+use Rattle.sre_c.specs.declared.types.SreAsked.{SreAsked}
+use Rattle.sre_c.specs.declared.types.SreWalked.{SreWalked}
+use Rattle.sre_c.specs.Given.{table_in, asked_in, IsEnough}
+use Rattle.sre_c.specs.Walked.{IsWritten, asked_next, IsUpTo, Walks}
+use Rattle.sre_c.specs.Rows.{IsSoFar, WritesRows}
+use Rattle.sre_c.proofs.Telling.{enough_of}
+
+module _ {S : Type 0} {text : Ghosts S} (first next : Request S text) (c : SreCode) (chars : List ℕ) (a : SreAsked)
+    (width : ℕ) (w : SreWalked) (rows : List ℕ) (words : words_of (code_of first) ≡ c.words.now)
+    (asked : asked_of first ≡ asked_in a (table_in c.table.now) chars) (code : IsCode c.words.now) where
+  -- what is asked next, as the request has it
+  next_is : IsSoFar first next width w rows
+      → asked_of next ≡ asked_in (asked_next a w) (table_in c.table.now) chars
+  next_is so_far =
+      let inside : w.start ≤ min a.end (length chars) =
+      subst (λ n. w.start ≤ n) (ap (λ (b : Asked). b.end) asked) so_far.inside in
+      let held : w.start ≡ min w.start (min a.end (length chars)) = omega arith in
+      so_far.same ∙ ap (λ (b : Asked). record b { start = w.start; must_advance = w.must_advance }) asked
+      ∙ ap (λ s. record (asked_in (asked_next a w) (table_in c.table.now) chars) { start = s }) held
+
+  up_to : IsSoFar first next width w rows → IsUpTo c chars a width w rows
+  up_to so_far t whole =
+      subst (λ b. IsWritten (walk (asked_in a (table_in c.table.now) chars) t) (walk b t) width w rows) (next_is so_far)
+      (subst (λ b. IsWritten (walk b t) (walk (asked_of next) t) width w rows) asked
+      (so_far.written t (subst (λ ws. Whole ws t) (sym words) whole)))
+
+  -- what the status says
+  pub walks_of : (status : Status) → WritesRows status first next a.turns width w rows
+      → Walks status c chars a width w rows
+  walks_of No said = (
+    code,
+    λ t whole. subst (λ b. IsWritten (walk b t) [] width w rows) asked
+        (said t (subst (λ ws. Whole ws t) (sym words) whole)),
+  )
+  walks_of NoRoom said = (code, up_to said.0, said.1)
+  walks_of UsedUp said = (
+    code,
+    up_to said.0,
+    said.1,
+    λ enough. said.2 (enough_of (code_of next) (asked_of next) w.step_turns
+        (subst (λ ws. IsEnough ws (asked_of next) w.step_turns) (sym (ap words_of said.0.code ∙ words))
+        (subst (λ b. IsEnough c.words.now b w.step_turns) (sym (next_is said.0)) enough))),
+    said.3,
+  )
+  walks_of Memory said = (said.0, up_to said.1)
+  walks_of Yes said = said
+  walks_of NoCode said = absurd said
+  walks_of NotUtf8 said = said
+  walks_of FaultyTable said = absurd said

@@ -1,0 +1,56 @@
+-- What an export says of a match.
+-- Public clauses rest on it.
+use Rattle.std.specs.Prelude.{ℕ, ◌≡◌, ◌<◌, ◌-◌, ◌^◌, List, length, slice_index, Option, Some, None}
+use Rattle.sre_model.specs.Tree.{Tree}
+use Rattle.sre_model.specs.Grammar.{Whole, IsCode}
+use Rattle.sre_model.specs.Marks.{mark_at}
+use Rattle.sre_model.specs.Found.{Match}
+use Rattle.sre_growth.specs.Refusal.{Refused}
+use Rattle.sre_c.specs.declared.status.Status.{Status}
+use Rattle.sre_c.specs.declared.status.Status.TheVariants.{No, Yes, UsedUp, Memory, NoCode, NoRoom}
+use Rattle.sre_c.specs.declared.status.Status.TheVariants.{NotUtf8, FaultyTable}
+use Rattle.sre_c.specs.declared.types.SreCode.{SreCode}
+use Rattle.sre_c.specs.declared.types.SreAsked.{SreAsked}
+use Rattle.sre_c.specs.declared.types.SreFound.{SreFound}
+use Rattle.sre_c.specs.Given.{table_in, asked_in, model_of, OfTree, IsEnough}
+use Rattle.sre_c.specs.Checked.{IsFaulty}
+
+-- a mark as a number: the greatest of 64 bits where it is not set
+abbrev pub mark_number : Option ℕ → ℕ
+mark_number (Some p) = p
+mark_number None = 2 ^ 64 - 1
+
+-- the numbers that tell of a match
+pub record IsFound (m : Match) (f : SreFound) : Type 0 where
+  pub start : f.start ≡ m.start
+  pub end : f.end ≡ m.end
+  pub last : f.last_index ≡ m.marks.last
+  pub count : f.marks ≡ length m.marks.raw
+
+-- and its marks, which stand in front
+pub record IsTold (m : Match) (f : SreFound) (marks : List ℕ) : Type 0 where
+  pub found : IsFound m f
+  pub each : (q : ℕ) → q < length m.marks.raw → slice_index marks q ≡ mark_number (mark_at m.marks q)
+
+-- the match that there is
+pub record HasMatch (o : Option Match) (says : Match → Type 0) : Type 0 where
+  pub match : Match
+  pub there : o ≡ Some match
+  pub said : says match
+
+-- the answer for the characters of a text, with room for so many marks; used up are the turns only where they are gone,
+-- and not where they are enough, unless memory was refused
+abbrev pub Answers : Status → SreCode → List ℕ → SreAsked → ℕ → SreFound → List ℕ → Type 0
+Answers No c text a room f marks = IsCode c.words.now × OfTree c a text (λ asked t. model_of a asked t ≡ None)
+Answers Yes c text a room f marks =
+    IsCode c.words.now × OfTree c a text (λ asked t. HasMatch (model_of a asked t) (λ m. IsTold m f marks))
+Answers NoRoom c text a room f marks =
+    IsCode c.words.now × OfTree c a text (λ asked t. HasMatch (model_of a asked t) (λ m. IsFound m f))
+    × (room < f.marks)
+Answers UsedUp c text a room f marks =
+    IsCode c.words.now × (f.turns ≡ 0)
+    × (IsEnough c.words.now (asked_in a (table_in c.table.now) text) a.turns → Refused)
+Answers Memory c text a room f marks = Refused
+Answers NoCode c text a room f marks = (t : Tree) → (Whole c.words.now t → ⊥)
+Answers FaultyTable c text a room f marks = IsFaulty c.table.now
+Answers NotUtf8 c text a room f marks = ⊥

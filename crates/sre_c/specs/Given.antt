@@ -1,0 +1,65 @@
+-- What a caller hands over, in the words of the model.
+-- Public clauses rest on it.
+use Rattle.std.specs.Prelude.{ℕ, ◌≡◌, ◌<◌, ◌⊎◌, List, [], map, length, min, cond, Option}
+use Rattle.std.specs.Str.{chars, IsUtf8}
+use Rattle.std.specs.Option.{option_or}
+use Rattle.sre_chars.specs.declared.constants.EmptyRule.TheVariants.{Never, NonBoundary}
+use Rattle.sre_chars.specs.declared.table.UniError.{UniError}
+use Rattle.sre_chars.specs.Tables.{Table, table_of}
+use Rattle.sre_chars.specs.Errors.{table_fault}
+use Rattle.sre_model.specs.Tree.{Tree}
+use Rattle.sre_model.specs.Grammar.{Whole, behind_block}
+use Rattle.sre_model.specs.Found.{Asked, Match, matched, found}
+use Rattle.sre_model.specs.Remembered.{IsRemembered, enough_turns}
+use Rattle.sre_c.specs.declared.status.Status.{Status}
+use Rattle.sre_c.specs.declared.status.Status.TheVariants.{NotUtf8}
+use Rattle.sre_c.specs.declared.types.SrePair.{SrePair}
+use Rattle.sre_c.specs.declared.types.SreTable.{SreTable}
+use Rattle.sre_c.specs.declared.types.SreCode.{SreCode}
+use Rattle.sre_c.specs.declared.types.SreAsked.{SreAsked}
+
+-- the entries of a list
+abbrev pub entries_of : List SrePair → List (ℕ × ℕ)
+entries_of pairs = map (λ pair. (pair.low, pair.high)) pairs
+
+-- the table of the lists
+abbrev pub table_in : SreTable → Table
+table_in t = record (table_of (entries_of t.lower.now) (entries_of t.upper.now) (entries_of t.alnum.now))
+    { digits = entries_of t.digits.now }
+
+-- the first fault of the lists, if they have one; digits are ranges as alphanumerics are
+abbrev pub lists_fault : SreTable → Option UniError
+lists_fault t =
+    option_or (table_fault (table_of (entries_of t.lower.now) (entries_of t.upper.now) (entries_of t.alnum.now)))
+    (table_fault (table_of [] [] (entries_of t.digits.now)))
+
+-- what is asked of a table and the characters of a text
+abbrev pub asked_in : SreAsked → Table → List ℕ → Asked
+asked_in a table text = record {
+  text = text;
+  table = table;
+  start = min a.start (min a.end (length text));
+  end = min a.end (length text);
+  match_all = a.match_all;
+  must_advance = a.must_advance;
+  empty_rule = cond a.non_boundary NonBoundary Never;
+}
+
+-- the match of the model: the first way of the window's least start, or of its start alone
+abbrev pub model_of : SreAsked → Asked → Tree → Option Match
+model_of a asked t = cond a.search (found asked t) (matched asked t)
+
+-- a fact of what is asked of a code and the characters of a text, and of the tree of the words
+abbrev pub OfTree : SreCode → SreAsked → List ℕ → (Asked → Tree → Type 0) → Type 0
+OfTree c a text says = (t : Tree) → Whole c.words.now t → says (asked_in a (table_in c.table.now) text) t
+
+-- so many turns are enough to know an answer, unless memory is refused
+pub record IsEnough (words : List ℕ) (a : Asked) (turns : ℕ) : Type 0 where
+  pub tree : Tree
+  pub whole : Whole words tree
+  pub remembered : IsRemembered (length (behind_block words)) tree a
+  pub more : enough_turns (length (behind_block words)) tree a < turns
+
+-- a fact of the characters of bytes that are UTF-8, or the status of bytes that are not
+abbrev pub InUtf8 : Status → List ℕ → (List ℕ → Type 0) → Type 0
+InUtf8 s bytes says = (IsUtf8 bytes × says (chars bytes)) ⊎ ((s ≡ NotUtf8) × (IsUtf8 bytes → ⊥))

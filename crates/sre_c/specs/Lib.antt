@@ -1,0 +1,6 @@
+pub mod Statuses
+pub mod Given
+pub mod Checked
+pub mod Answered
+pub mod Walked
+pub mod Rows

@@ -1,0 +1,74 @@
+-- What an export says of a walk.
+-- Public clauses rest on it.
+use Rattle.std.specs.Prelude.{ℕ, ◌≡◌, ◌<◌, ◌+◌, ◌-◌, ◌*◌, ◌^◌, ◌⊎◌, ◌==◌, if◌then◌else◌, ℤ, pos, negsuc}
+use Rattle.std.specs.Prelude.{List, [], ◌∷◌, ◌++◌, length, slice_index}
+use Rattle.sre_model.specs.Tree.{Tree}
+use Rattle.sre_model.specs.Grammar.{Whole, IsCode}
+use Rattle.sre_model.specs.Marks.{mark_at}
+use Rattle.sre_model.specs.Found.{Match, walk}
+use Rattle.sre_growth.specs.Refusal.{Refused}
+use Rattle.sre_c.specs.declared.status.Status.{Status}
+use Rattle.sre_c.specs.declared.status.Status.TheVariants.{No, Yes, UsedUp, Memory, NoCode, NoRoom}
+use Rattle.sre_c.specs.declared.status.Status.TheVariants.{NotUtf8, FaultyTable}
+use Rattle.sre_c.specs.declared.types.SreCode.{SreCode}
+use Rattle.sre_c.specs.declared.types.SreAsked.{SreAsked}
+use Rattle.sre_c.specs.declared.types.SreWalked.{SreWalked}
+use Rattle.sre_c.specs.Given.{table_in, asked_in, OfTree, IsEnough}
+use Rattle.sre_c.specs.Checked.{IsFaulty}
+use Rattle.sre_c.specs.Answered.{mark_number}
+
+-- a last index as a number: the greatest of 64 bits where there is none
+abbrev pub index_number : ℤ → ℕ
+index_number (pos n) = n
+index_number (negsuc n) = 2 ^ 64 - 1
+
+-- the numbers of a row: start, end, last index, and then the marks
+abbrev pub entry_of : Match → ℕ → ℕ
+entry_of m q =
+    if q == 0 then m.start
+    else if q == 1 then m.end
+    else if q == 2 then index_number m.marks.last
+    else mark_number (mark_at m.marks (q - 3))
+
+-- a match is a row of so many numbers, from a place on
+pub record IsRow (m : Match) (at width : ℕ) (rows : List ℕ) : Type 0 where
+  pub each : (q : ℕ) → q < width → slice_index rows (at + q) ≡ entry_of m q
+
+-- matches are rows of so many numbers each, one after the other from a place on
+abbrev pub AreRows : List Match → ℕ → ℕ → List ℕ → Type 0
+AreRows [] at width rows = Unit {0}
+AreRows (m ∷ ms) at width rows = IsRow m at width rows × AreRows ms (at + width) width rows
+
+-- some matches are those that are written, and those that are left
+pub record IsWritten (all left : List Match) (width : ℕ) (w : SreWalked) (rows : List ℕ) : Type 0 where
+  pub written : List Match
+  pub both : all ≡ written ++ left
+  pub count : w.count ≡ length written
+  pub in_rows : AreRows written 0 width rows
+
+-- what is asked next
+abbrev pub asked_next : SreAsked → SreWalked → SreAsked
+asked_next a w = record a { start = w.start; must_advance = w.must_advance }
+
+-- the matches of the walk are those that are written, and those of what is asked next
+abbrev pub IsUpTo : SreCode → List ℕ → SreAsked → ℕ → SreWalked → List ℕ → Type 0
+IsUpTo c text a width w rows = OfTree c a text (λ asked t.
+    IsWritten (walk asked t) (walk (asked_in (asked_next a w) (table_in c.table.now) text) t) width w rows)
+
+-- the walk over the characters of a text, in rows of so many numbers; used up are the turns only where they are gone,
+-- and not where those of the last step were enough for it, unless memory was refused
+abbrev pub Walks : Status → SreCode → List ℕ → SreAsked → ℕ → SreWalked → List ℕ → Type 0
+Walks No c text a width w rows =
+    IsCode c.words.now × OfTree c a text (λ asked t. IsWritten (walk asked t) [] width w rows)
+Walks NoRoom c text a width w rows =
+    IsCode c.words.now × IsUpTo c text a width w rows
+    × ((width ≡ 0) ⊎ (length rows < w.count * width + width))
+Walks UsedUp c text a width w rows =
+    IsCode c.words.now × IsUpTo c text a width w rows × (w.turns ≡ 0)
+    × (IsEnough c.words.now (asked_in (asked_next a w) (table_in c.table.now) text) w.step_turns → Refused)
+    × (w.count ≡ 0 → w.step_turns ≡ a.turns)
+Walks Memory c text a width w rows = Refused × IsUpTo c text a width w rows
+Walks NoCode c text a width w rows = ((t : Tree) → (Whole c.words.now t → ⊥)) × (w.count ≡ 0)
+Walks FaultyTable c text a width w rows = IsFaulty c.table.now × (w.count ≡ 0)
+Walks Yes c text a width w rows = ⊥
+Walks NotUtf8 c text a width w rows = ⊥

@@ -1,0 +1,139 @@
+//! The answer for a code, what is asked, and a text of any type.
+
+ghost use Rattle.std.specs.Prelude.{◌≡◌, ◌<◌, ◌≤◌, ℕ, length, slice_index, slice_index_or, None, true, false, cond};
+ghost use Rattle.std.specs.Prelude.{IfOk, IfSome, OnErr};
+ghost use Rattle.sre_model.specs.Tree.{Tree};
+ghost use Rattle.sre_model.specs.Grammar.{Whole};
+ghost use Rattle.sre_model.specs.Found.{found, matched};
+ghost use Rattle.sre_growth.specs.Refusal.{Refused};
+ghost use Rattle.sre_engine.specs.Codes.{words_of, uni_of};
+ghost use Rattle.sre_engine.specs.Requests.{asked_of, code_of, stands_in};
+ghost use Rattle.sre_engine.specs.Answers as Shown;
+ghost use Rattle.sre_engine.specs.Walks.{match_shown};
+ghost use Rattle.sre_c.specs.Given.{asked_in, IsEnough};
+ghost use Rattle.sre_c.specs.Answered.{mark_number, IsFound, IsTold, Answers};
+
+use crate::status::Status;
+use crate::table::table;
+use crate::types::{SreAsked, SreCode, SreFound};
+use sre_engine::{Code, CodeError, EmptyRule, Request, SreError, State, StrDrive, UniError};
+use std::alloc::Global;
+
+/// The request for a code in a text.
+pub fn request<'a, S: StrDrive>(text: S, asked: &SreAsked, code: Code<'a>) -> Request<'a, S>
+    ensures asked { asked_of result ≡ asked_in asked.now (uni_of code.entry) (S.text text) }
+    ensures code { code_of result ≡ code.entry }
+{
+    let mut request = Request::new(text, asked.start, asked.end, code, asked.match_all);
+    request.set_must_advance(asked.must_advance);
+    if asked.non_boundary {
+        request.set_empty_rule(EmptyRule::NonBoundary);
+    }
+    request
+}
+
+/// A mark as a number.
+#[inline(always)]
+pub fn mark_number(mark: Option<usize>) -> usize
+    ensures { result ≡ mark_number mark }
+{
+    match mark {
+        Some(position) => position,
+        None => usize::MAX,
+    }
+}
+
+// Copies marks: whether they fit.
+fn copy_marks(from: &[Option<usize>], marks: &mut [usize]) -> bool
+    ensures room { result ≡ false → length marks.old < length from.now }
+    ensures copied { result ≡ true → (q : ℕ) → q < length from.now
+        → slice_index marks.new q ≡ mark_number (slice_index_or from.now q None) }
+{
+    if marks.len() < from.len() {
+        return false;
+    }
+    for i in 0..from.len() {
+        marks[i] = mark_number(from[i]);
+    }
+    true
+}
+
+// Asks a state: whether there is a match at the window's start, or at the least start where `search` says so.
+#[tactic(auto, using(crate::proofs::Telling::enough_of))]
+fn ask<S: StrDrive>(
+    state: &mut State<Global>,
+    request: Request<'_, S>,
+    search: bool,
+    turns: &mut u64,
+) -> Result<Option<bool>, SreError>
+    ensures answers { (t : Tree) → Whole (words_of (code_of request.entry)) t → IfOk result (λ told. IfSome told
+        (λ b. Shown.Answers (stands_in request.entry)
+        (cond search (found (asked_of request.entry) t) (matched (asked_of request.entry) t)) b state.new)) }
+    ensures used { IfOk result (λ told. told ≡ None → turns.new ≡ 0) }
+    ensures fewer { turns.new ≤ turns.old }
+    ensures enough { IsEnough (words_of (code_of request.entry)) (asked_of request.entry) turns.old
+        → IfOk result (λ told. told ≡ None → Refused) }
+    ensures memory { OnErr result Refused }
+{
+    if search {
+        state.search_within(request, turns)
+    } else {
+        state.match_within(&request, turns)
+    }
+}
+
+// Copies the match that a state shows: whether its marks fit.
+fn show(state: &State<Global>, found: &mut SreFound, marks: &mut [usize]) -> bool
+    ensures found { IsFound (match_shown state.now) found.new }
+    ensures told { result ≡ true → IsTold (match_shown state.now) found.new marks.new }
+    ensures room { result ≡ false → length marks.old < found.new.marks }
+    ensures turns { found.new.turns ≡ found.old.turns }
+{
+    found.start = state.start();
+    found.end = state.cursor().position();
+    found.last_index = state.marks().last_index();
+    found.marks = state.marks().raw().len();
+    copy_marks(state.marks().raw(), marks)
+}
+
+/// The match, its marks where there is room for them, and what is left of the turns.
+pub fn answer<S: StrDrive>(
+    alloc: Global,
+    code: &SreCode<'_>,
+    text: S,
+    asked: &SreAsked,
+    found: &mut SreFound,
+    marks: &mut [usize],
+) -> Status
+    ensures answers { Answers result code.now (S.text text) asked.now (length marks.old) found.new marks.new }
+    ensures turns { found.new.turns ≤ asked.now.turns }
+{
+    found.turns = asked.turns;
+    let uni = match table(alloc, code.table) {
+        Ok(uni) => uni,
+        Err(UniError::Memory) => return Status::Memory,
+        Err(_) => return Status::FaultyTable,
+    };
+    let checked = match Code::check(alloc, code.words, &uni) {
+        Ok(checked) => checked,
+        Err(CodeError::Memory) => return Status::Memory,
+        Err(_) => return Status::NoCode,
+    };
+    let mut state = State::new(alloc);
+    let request = request(text, asked, checked);
+    let mut turns = asked.turns;
+    let told = ask(&mut state, request, asked.search, &mut turns);
+    found.turns = turns;
+    match told {
+        Ok(Some(true)) => {
+            if show(&state, found, marks) {
+                Status::Yes
+            } else {
+                Status::NoRoom
+            }
+        }
+        Ok(Some(false)) => Status::No,
+        Ok(None) => Status::UsedUp,
+        Err(SreError::Memory) => Status::Memory,
+    }
+}

@@ -1,0 +1,222 @@
+//! The engine for callers in C: each export answers for words, a table and a text that the caller keeps.
+//!
+//! `include/sre.h` declares what is exported here, and says what a caller owes. No export has a `requires`: whatever
+//! numbers a caller hands over, the answer is one of the statuses, and says what its clause says. Answers and walks
+//! check the words and lists that they are given.
+#![tactic(auto)]
+
+ghost use Rattle.std.specs.Prelude.{◌≡◌, ◌≤◌, length};
+ghost use Rattle.sre_c.specs.Statuses.{Tells};
+ghost use Rattle.sre_c.specs.Given.{table_in, InUtf8};
+ghost use Rattle.sre_c.specs.Checked.{TableChecked, CodeChecked};
+ghost use Rattle.sre_c.specs.Answered.{Answers};
+ghost use Rattle.sre_c.specs.Walked.{Walks};
+
+mod answer;
+mod check;
+mod numbers;
+mod status;
+mod table;
+mod types;
+mod walk;
+
+use answer::answer;
+use check::check_code;
+use numbers::{Points, Units};
+use status::Status;
+use std::alloc::Global;
+use table::check_table;
+use types::{SreAsked, SreCode, SreFound, SreTable, SreWalked};
+use walk::{begun, walk};
+
+/// Checks the lists of a table.
+#[unsafe(no_mangle)]
+pub extern "C" fn sre_check_table(alloc: Global, table: &mut SreTable<'_>) -> u32
+    ensures checked { Tells result (λ status. TableChecked status table.new) }
+    ensures table { table_in table.new ≡ table_in table.old }
+{
+    check_table(alloc, table).number()
+}
+
+/// Checks words, with the hints of a code.
+#[unsafe(no_mangle)]
+pub extern "C" fn sre_check_code(alloc: Global, code: &mut SreCode<'_>) -> u32
+    ensures checked { Tells result (λ status. CodeChecked status code.new) }
+    ensures words { code.new.words.now ≡ code.old.words.now }
+    ensures table { code.new.table.now ≡ code.old.table.now }
+{
+    check_code(alloc, code).number()
+}
+
+/// The match in bytes, each of which is a character.
+#[unsafe(no_mangle)]
+pub extern "C" fn sre_answer_bytes(
+    alloc: Global,
+    code: &SreCode<'_>,
+    text: &[u8],
+    asked: &SreAsked,
+    found: &mut SreFound,
+    marks: &mut [usize],
+) -> u32
+    ensures answers { Tells result (λ status.
+        Answers status code.now text.now asked.now (length marks.old) found.new marks.new) }
+    ensures turns { found.new.turns ≤ asked.now.turns }
+{
+    answer(alloc, code, text, asked, found, marks).number()
+}
+
+/// The match in UTF-8, each code point of which is a character.
+#[unsafe(no_mangle)]
+pub extern "C" fn sre_answer_utf8(
+    alloc: Global,
+    code: &SreCode<'_>,
+    text: &[u8],
+    asked: &SreAsked,
+    found: &mut SreFound,
+    marks: &mut [usize],
+) -> u32
+    ensures answers { Tells result (λ status.
+        InUtf8 status text.now (λ chars.
+        Answers status code.now chars asked.now (length marks.old) found.new marks.new)) }
+    ensures turns { found.new.turns ≤ asked.now.turns }
+{
+    let status = match str::from_utf8(text) {
+        Ok(text) => answer(alloc, code, text, asked, found, marks),
+        Err(_) => {
+            found.turns = asked.turns;
+            Status::NotUtf8
+        }
+    };
+    status.number()
+}
+
+/// The match in code points, surrogates among them.
+#[unsafe(no_mangle)]
+pub extern "C" fn sre_answer_points(
+    alloc: Global,
+    code: &SreCode<'_>,
+    text: &[u32],
+    asked: &SreAsked,
+    found: &mut SreFound,
+    marks: &mut [usize],
+) -> u32
+    ensures answers { Tells result (λ status.
+        Answers status code.now text.now asked.now (length marks.old) found.new marks.new) }
+    ensures turns { found.new.turns ≤ asked.now.turns }
+{
+    answer(alloc, code, Points { points: text }, asked, found, marks).number()
+}
+
+/// The match in numbers of 16 bits, each of which is a character.
+#[unsafe(no_mangle)]
+pub extern "C" fn sre_answer_units(
+    alloc: Global,
+    code: &SreCode<'_>,
+    text: &[u16],
+    asked: &SreAsked,
+    found: &mut SreFound,
+    marks: &mut [usize],
+) -> u32
+    ensures answers { Tells result (λ status.
+        Answers status code.now text.now asked.now (length marks.old) found.new marks.new) }
+    ensures turns { found.new.turns ≤ asked.now.turns }
+{
+    answer(alloc, code, Units { units: text }, asked, found, marks).number()
+}
+
+/// The matches in bytes, each of which is a character, row by row.
+#[unsafe(no_mangle)]
+pub extern "C" fn sre_walk_bytes(
+    alloc: Global,
+    code: &SreCode<'_>,
+    text: &[u8],
+    asked: &SreAsked,
+    width: usize,
+    rows: &mut [usize],
+    walked: &mut SreWalked,
+) -> u32
+    ensures walks { Tells result (λ status.
+        Walks status code.now text.now asked.now width walked.new rows.new) }
+    ensures turns { walked.new.turns ≤ asked.now.turns }
+{
+    walk(alloc, code, text, asked, width, rows, walked).number()
+}
+
+/// The matches in UTF-8, each code point of which is a character, row by row.
+#[unsafe(no_mangle)]
+pub extern "C" fn sre_walk_utf8(
+    alloc: Global,
+    code: &SreCode<'_>,
+    text: &[u8],
+    asked: &SreAsked,
+    width: usize,
+    rows: &mut [usize],
+    walked: &mut SreWalked,
+) -> u32
+    ensures walks { Tells result (λ status.
+        InUtf8 status text.now (λ chars. Walks status code.now chars asked.now width walked.new rows.new)) }
+    ensures turns { walked.new.turns ≤ asked.now.turns }
+{
+    let status = match str::from_utf8(text) {
+        Ok(text) => walk(alloc, code, text, asked, width, rows, walked),
+        Err(_) => {
+            *walked = begun(asked);
+            Status::NotUtf8
+        }
+    };
+    status.number()
+}
+
+/// The matches in code points, surrogates among them, row by row.
+#[unsafe(no_mangle)]
+pub extern "C" fn sre_walk_points(
+    alloc: Global,
+    code: &SreCode<'_>,
+    text: &[u32],
+    asked: &SreAsked,
+    width: usize,
+    rows: &mut [usize],
+    walked: &mut SreWalked,
+) -> u32
+    ensures walks { Tells result (λ status.
+        Walks status code.now text.now asked.now width walked.new rows.new) }
+    ensures turns { walked.new.turns ≤ asked.now.turns }
+{
+    walk(
+        alloc,
+        code,
+        Points { points: text },
+        asked,
+        width,
+        rows,
+        walked,
+    )
+    .number()
+}
+
+/// The matches in numbers of 16 bits, each of which is a character, row by row.
+#[unsafe(no_mangle)]
+pub extern "C" fn sre_walk_units(
+    alloc: Global,
+    code: &SreCode<'_>,
+    text: &[u16],
+    asked: &SreAsked,
+    width: usize,
+    rows: &mut [usize],
+    walked: &mut SreWalked,
+) -> u32
+    ensures walks { Tells result (λ status.
+        Walks status code.now text.now asked.now width walked.new rows.new) }
+    ensures turns { walked.new.turns ≤ asked.now.turns }
+{
+    walk(
+        alloc,
+        code,
+        Units { units: text },
+        asked,
+        width,
+        rows,
+        walked,
+    )
+    .number()
+}

@@ -1,0 +1,99 @@
+//! The structs that cross to C, field by field as `include/sre.h` writes them.
+
+/// An entry of a list: (from, to) of a map of cases, or (low, high) of a range, both ends of which belong to it.
+#[repr(C)]
+#[derive(Clone, Copy)]
+pub struct SrePair {
+    pub low: u32,
+    pub high: u32,
+}
+
+/// The lists of a table of cases, alphanumerics and digits past ASCII. Where all are empty, it is that of ASCII.
+#[repr(C)]
+#[derive(Clone, Copy)]
+pub struct SreTable<'a> {
+    pub lower: &'a [SrePair],
+    pub upper: &'a [SrePair],
+    pub alnum: &'a [SrePair],
+    pub digits: &'a [SrePair],
+    /// The number of the first fault, where the check saw one; 0 where it passed the lists.
+    pub error: u32,
+    /// Whether the check has passed the lists.
+    pub checked: bool,
+}
+
+/// What the words claim and their tree confirms, and two numbers of the tree.
+#[repr(C)]
+#[derive(Clone, Copy)]
+pub struct SreHints {
+    /// No match is shorter than this number of characters, where `has_width`.
+    pub width: u32,
+    /// Each match begins with this number of literal characters, where `has_prefix`.
+    pub prefix: u32,
+    /// So many of them need not be matched again.
+    pub prefix_skip: u32,
+    /// Up to which number the characters of a run make a difference, where nothing refers.
+    pub most_counts: u32,
+    pub has_width: bool,
+    pub has_prefix: bool,
+    /// The prefix is all that a match has.
+    pub literal: bool,
+    /// Each match begins with a character of the set that the words begin with.
+    pub first_set: bool,
+    /// Whether a reference or a condition is among the items.
+    pub refers: bool,
+}
+
+/// Words, the table by which they are read, and what the check leaves.
+#[repr(C)]
+#[derive(Clone, Copy)]
+pub struct SreCode<'a> {
+    pub words: &'a [u32],
+    pub table: &'a SreTable<'a>,
+    /// Where the check saw the fault of words that are no code: at most their number.
+    pub place: usize,
+    /// The number of that refusal; 0 where the check passed the words.
+    pub error: u32,
+    pub hints: SreHints,
+    /// Whether the check has passed the words.
+    pub checked: bool,
+}
+
+/// What is asked: a window of characters, how many turns the answer may take, and flags.
+#[repr(C)]
+#[derive(Clone, Copy)]
+pub struct SreAsked {
+    pub start: usize,
+    pub end: usize,
+    pub turns: u64,
+    /// Whether the least start of the window is looked for, or its start alone.
+    pub search: bool,
+    pub match_all: bool,
+    pub must_advance: bool,
+    /// Whether a non-boundary is on nothing.
+    pub non_boundary: bool,
+}
+
+/// A match: where it starts and ends, the group that was closed last, and how many marks there are; and the turns that
+/// are left.
+#[repr(C)]
+#[derive(Clone, Copy)]
+pub struct SreFound {
+    pub start: usize,
+    pub end: usize,
+    pub last_index: isize,
+    pub marks: usize,
+    pub turns: u64,
+}
+
+/// How far a walk came: how many matches are written, the turns that are left and those that the last step had, and
+/// where and how it goes on.
+#[repr(C)]
+#[derive(Clone, Copy)]
+pub struct SreWalked {
+    pub count: usize,
+    pub start: usize,
+    pub turns: u64,
+    pub step_turns: u64,
+    pub must_advance: bool,
+}

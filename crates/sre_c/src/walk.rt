@@ -1,0 +1,142 @@
+//! The walk from match to match, whose matches are written in rows.
+
+ghost use Rattle.std.specs.Prelude.{◌≡◌, ◌<◌, ◌≤◌, ◌+◌, ℕ, length, slice_index, false};
+ghost use Rattle.sre_engine.specs.Requests.{start_of, end_of, must_advance_of};
+ghost use Rattle.sre_engine.specs.Iterators.{request_of, has_ended};
+ghost use Rattle.sre_engine.specs.Walks.{match_shown};
+ghost use Rattle.sre_c.specs.Walked.{index_number, entry_of, IsRow, Walks};
+ghost use Rattle.sre_c.specs.Rows.{WritesRows};
+
+use crate::answer::{mark_number, request};
+use crate::status::Status;
+use crate::table::table;
+use crate::types::{SreAsked, SreCode, SreWalked};
+use sre_engine::{Code, CodeError, SearchIter, SreError, State, StrDrive, UniError};
+use std::alloc::Global;
+
+// A last index as a number.
+fn index_number(last: isize) -> usize
+    ensures { result ≡ index_number last }
+{
+    if last < 0 { usize::MAX } else { last as usize }
+}
+
+// The number at a place of the row of the match that a state shows.
+fn entry(state: &State<Global>, place: usize) -> usize
+    ensures { result ≡ entry_of (match_shown state.now) place }
+{
+    match place {
+        0 => state.start(),
+        1 => state.cursor().position(),
+        2 => index_number(state.marks().last_index()),
+        _ => {
+            let marks = state.marks().raw();
+            if place - 3 < marks.len() {
+                mark_number(marks[place - 3])
+            } else {
+                usize::MAX
+            }
+        }
+    }
+}
+
+// Writes the row of the match that a state shows.
+fn write_row(state: &State<Global>, rows: &mut [usize], at: usize, width: usize)
+    requires { at + width ≤ length rows.old }
+    ensures row { IsRow (match_shown state.now) at width rows.new }
+    ensures before { (i : ℕ) → i < at → slice_index rows.new i ≡ slice_index rows.old i }
+{
+    for place in 0..width {
+        rows[at + place] = entry(state, place);
+    }
+}
+
+// Notes where and how a walk goes on.
+fn note_next<S: StrDrive>(walk: &SearchIter<'_, S, Global>, walked: &mut SreWalked)
+    ensures next { walked.new ≡ record walked.old {
+      start = start_of (request_of walk.now);
+      must_advance = must_advance_of (request_of walk.now);
+    } }
+    ensures inside { start_of (request_of walk.now) ≤ end_of (request_of walk.now) }
+{
+    walked.start = walk.req().start();
+    walked.must_advance = walk.req().must_advance();
+}
+
+// Writes the matches of a walk, row by row, until there is no room for one more, or no match.
+fn write_rows<S: StrDrive>(
+    walk: &mut SearchIter<'_, S, Global>,
+    width: usize,
+    rows: &mut [usize],
+    walked: &mut SreWalked,
+) -> Status
+    requires open { has_ended walk.old ≡ false }
+    requires none { walked.old.count ≡ 0 }
+    ensures rows { WritesRows result (request_of walk.old) (request_of walk.new) walked.old.turns width walked.new
+        rows.new }
+    ensures turns { walked.new.turns ≤ walked.old.turns }
+{
+    let mut at = 0;
+    note_next(walk, walked);
+    'matches: while width > 0 && width <= rows.len() - at {
+        walked.step_turns = walked.turns;
+        match walk.next_within(&mut walked.turns) {
+            Ok(Some(true)) => {}
+            Ok(Some(false)) => return Status::No,
+            Ok(None) => return Status::UsedUp,
+            Err(SreError::Memory) => return Status::Memory,
+        }
+        write_row(walk.state(), rows, at, width);
+        at += width;
+        walked.count += 1;
+        note_next(walk, walked);
+    }
+    Status::NoRoom
+}
+
+/// Writes the matches of a walk, each in `width` numbers, and how it goes on.
+pub fn walk<S: StrDrive>(
+    alloc: Global,
+    code: &SreCode<'_>,
+    text: S,
+    asked: &SreAsked,
+    width: usize,
+    rows: &mut [usize],
+    walked: &mut SreWalked,
+) -> Status
+    ensures walks { Walks result code.now (S.text text) asked.now width walked.new rows.new }
+    ensures turns { walked.new.turns ≤ asked.now.turns }
+{
+    *walked = begun(asked);
+    let uni = match table(alloc, code.table) {
+        Ok(uni) => uni,
+        Err(UniError::Memory) => return Status::Memory,
+        Err(_) => return Status::FaultyTable,
+    };
+    let checked = match Code::check(alloc, code.words, &uni) {
+        Ok(checked) => checked,
+        Err(CodeError::Memory) => return Status::Memory,
+        Err(_) => return Status::NoCode,
+    };
+    let mut walk = SearchIter::new(request(text, asked, checked), State::new(alloc));
+    write_rows(&mut walk, width, rows, walked)
+}
+
+/// A walk of which nothing is written.
+pub fn begun(asked: &SreAsked) -> SreWalked
+    ensures { result ≡ record {
+      count = 0;
+      start = asked.now.start;
+      turns = asked.now.turns;
+      step_turns = asked.now.turns;
+      must_advance = asked.now.must_advance;
+    } }
+{
+    SreWalked {
+        count: 0,
+        start: asked.start,
+        turns: asked.turns,
+        step_turns: asked.turns,
+        must_advance: asked.must_advance,
+    }
+}

@@ -1,0 +1,115 @@
+#!/usr/bin/env python3
+"""Whether the header of sre_c declares what the crate exports: its statuses, its structs and its functions.
+
+    header.py    tells what one of them has and the other has not
+
+A caller in C compiles against include/sre.h alone, and nothing else compares it with the crate. So what the sources
+have is written here as C declares it, and compared with the header, declaration by declaration: each status by its
+number, each struct by its fields in order, each function by its parameters. A slice is a pointer and a count, and a
+`Global` is nothing. The gate asks for it (`standing.py`). The status is 1 where something differs.
+"""
+import os
+import re
+import sys
+
+ROOT = os.path.dirname(os.path.dirname(os.path.realpath(__file__)))
+CRATE = f"{ROOT}/crates/sre_c"
+HEADER = "crates/sre_c/include/sre.h"
+
+NUMBERS = {"u8": "uint8_t", "u16": "uint16_t", "u32": "uint32_t", "u64": "uint64_t", "usize": "size_t",
+           "isize": "ptrdiff_t", "bool": "bool"}
+SLICE = re.compile(r"&(?:'a )?(mut )?\[(\w+)\]")
+REFERENCE = re.compile(r"&(?:'a )?(mut )?(\w+)(?:<'\w+>)?")
+
+STATUS = re.compile(r"Status::(\w+) => (\d+),")
+STRUCT = re.compile(r"#\[repr\(C\)\]\n(?:#\[[^\n]*\]\n)*pub struct (\w+)(?:<'a>)? \{\n(.*?)\n\}", re.S)
+FIELD = re.compile(r"    (?:pub )?(\w+): (.*),")
+EXPORT = re.compile(r'#\[unsafe\(no_mangle\)\]\npub extern "C" fn (\w+)\((.*?)\) -> (\w+)\n', re.S)
+PARAMETER = re.compile(r"(\w+): ([^,]+)")
+
+COMMENT = re.compile(r"/\*.*?\*/|//[^\n]*", re.S)
+DEFINED = re.compile(r"(?m)^#define (SRE_\w+) (\d+)\b")
+C_STRUCT = re.compile(r"typedef struct (\w+) \{(.*?)\} (\w+);", re.S)
+C_FUNCTION = re.compile(r"(?m)^(\w+) (\w+)\(([^;{}]*)\);")
+
+
+def read(path):
+    with open(path, encoding="utf-8") as file:
+        return file.read()
+
+
+def in_words(name, end="_"):
+    """A name such as NoRoom, with its words apart: no_room."""
+    return re.sub(r"(?<=[a-z0-9])(?=[A-Z])", end, name).lower()
+
+
+def type_of(written):
+    """How C writes a type: a number's, or a struct's."""
+    return NUMBERS.get(written) or in_words(written)
+
+
+def declared(name, written):
+    """How C declares a field or a parameter of a type: in one part, a slice in two, and a `Global` in none."""
+    if written == "Global":
+        return []
+    for form, rest in ((SLICE, [f"size_t {name}_count"]), (REFERENCE, [])):
+        found = form.fullmatch(written)
+        if found:
+            return [f"{'' if found[1] else 'const '}{type_of(found[2])} *{name}", *rest]
+    return [f"{type_of(written.partition('<')[0])} {name}"]
+
+
+def joined(pairs):
+    return ", ".join(it for name, written in pairs for it in declared(name, written))
+
+
+def exported():
+    """What the crate exports, as C declares it, by the name."""
+    status, types, root = (read(f"{CRATE}/src/{it}.rt") for it in ("status", "types", "lib"))
+    found = {f"SRE_{in_words(name).upper()}": number for name, number in STATUS.findall(status)}
+    found.update({in_words(name): joined(FIELD.findall(body)) for name, body in STRUCT.findall(types)})
+    for name, parameters, result in EXPORT.findall(root):
+        found[name] = f"{type_of(result)} ({joined(PARAMETER.findall(parameters))})"
+    return found
+
+
+def in_header():
+    """What the header declares, by the name."""
+    text = COMMENT.sub("", read(f"{ROOT}/{HEADER}"))
+    found = dict(DEFINED.findall(text))
+    for name, body, same in C_STRUCT.findall(text):
+        found[name] = ", ".join(" ".join(it.split()) for it in body.split(";") if it.strip())
+        if name != same:
+            found[same] = f"another name of {name}"
+    for result, name, parameters in C_FUNCTION.findall(text):
+        found[name] = f"{result} ({' '.join(parameters.split())})"
+    return found
+
+
+def unlike():
+    """What differs between the header and the crate."""
+    own, there = exported(), in_header()
+    for name in sorted({*own, *there}):
+        if name not in there:
+            yield f"{HEADER} lacks {name}, which sre_c has: {own[name]}"
+        elif name not in own:
+            yield f"{HEADER} has {name}, which sre_c has not"
+        elif own[name] != there[name]:
+            yield f"{HEADER} has {name} as {there[name]}, and sre_c as {own[name]}"
+    marked = read(f"{CRATE}/src/lib.rt").count("no_mangle")
+    if marked != sum(it.startswith("uint32_t (") for it in own.values()):
+        yield f"crates/sre_c/src/lib.rt marks {marked} functions, and not all of them are read"
+
+
+def main(words):
+    if words:
+        print(__doc__.strip())
+        return 2
+    lines = list(unlike())
+    for line in lines:
+        print(line)
+    return 1 if lines else 0
+
+
+if __name__ == "__main__":
+    sys.exit(main(sys.argv[1:]))
