@@ -1,23 +1,24 @@
 -- What the ends and the starts of an automaton's matches tell of a pattern's.
 use Rattle.std.proofs.Common.{◌≡◌, ◌≤◌, ◌<◌, ℕ, List, length, All, Option, Some, None, option_map, refl, sym, ap, ◌∙◌}
 use Rattle.std.proofs.Common.{subst, arith, inl, inr, Fits, w8, get_or}
+use Rattle.std.proofs.Math.Logic.{∥∥₁_elim}
 use Rattle.std.proofs.lemmas.Bool.{cases_lt}
 use Rattle.std.proofs.lemmas.List.Elements.{All-from_get_or}
 use Rattle.regex_hir.specs.Re.{Re, Trace}
-use Rattle.regex_hir.specs.Find.{Match}
+use Rattle.regex_hir.specs.Find.{Match, find}
 use Rattle.regex_hir.specs.Matches.{Matches}
-use Rattle.regex_hir.proofs.FindLemmas.{none_of_first_between}
+use Rattle.regex_hir.proofs.FindLemmas.{none_of_first_between, first_between_cong}
 use Rattle.regex_nfa.specs.Run.{run, find_in}
 use Rattle.regex_nfa.specs.Paths.{Accepts}
 use Rattle.regex_nfa.specs.declared.nfa.Nfa.{Nfa}
 use Rattle.regex_nfa.proofs.PathsLemmas.{no_path_of_run_none}
 use Rattle.regex_nfa.proofs.SearchLemmas.{run_unanchored, find_in_paths}
-use Rattle.regex_nfa.proofs.StopLemmas.{Accepts_stop}
-use Rattle.regex_compile.specs.Implements.{HasPaths}
+use Rattle.regex_nfa.proofs.StopLemmas.{Accepts_stop, Accepts_wider}
+use Rattle.regex_compile.specs.Implements.{Implements, HasPaths}
 use Rattle.regex_dfa.specs.Search.{end_from, IsLeast}
 use Rattle.regex_dfa.specs.declared.reverse.Start.{Start}
 use Rattle.regex_dfa.specs.declared.reverse.Start.TheVariants as start
-use Rattle.sre_automata.specs.Told.{NoneLeft, NoneUpTo}
+use Rattle.sre_automata.specs.Told.{NoneLeft, NoneUpTo, IsBetween}
 
 pub are_bytes : (hay : List ℕ) → ((i : ℕ) → Fits w8 (get_or hay i 0)) → All (λ b. b < 256) hay
 are_bytes hay h = All-from_get_or (λ b. b < 256) hay 0 (λ i _. omega (arith, h i))
@@ -69,6 +70,42 @@ module _ (nfa : Nfa) (re : Re) (hay : List ℕ) (paths : HasPaths nfa re) (bytes
           | (inl less) ↦ is.3 m.start found.0 less path
           | (inr more) ↦ found.3 i j low (omega (arith, high, more)) (paths hay i j match)
         ];
+      }
+
+-- the match that is found has the end of the leftmost, and begins at the least start of a path to there
+module _ (nfa : Nfa) (re : Re) (hay : List ℕ) (is : Implements nfa re) (bytes : All (λ b. b < 256) hay) (from : ℕ)
+    (inside : from ≤ length hay) where
+  same_find : find_in nfa hay (length hay) from ≡ find re hay from
+  unfolding find_in find
+  same_find = first_between_cong _ _ from (length hay) (λ i p q. is hay i)
+
+  ended : end_from nfa hay (length hay) nfa.unanchored from ≡ ends (find_in nfa hay (length hay) from)
+  ended = ap (option_map (λ (t : Trace). t.end)) (run_unanchored nfa hay (length hay) from bytes (omega arith) inside)
+
+  pub nothing_found : end_from nfa hay (length hay) nfa.unanchored from ≡ None → find re hay from ≡ None
+  nothing_found e = sym same_find ∙ no_match (find_in nfa hay (length hay) from) (sym ended ∙ e)
+
+  pub first_found : (end least : ℕ) → end_from nfa hay (length hay) nfa.unanchored from ≡ Some end → end ≤ length hay
+      → IsLeast (Accepts nfa hay end end nfa.start) from end (start.At least) → IsBetween hay re from least end
+  first_found end least e l is =
+      let some = some_match (find_in nfa hay (length hay) from) end (sym ended ∙ e) in
+      let m = some.0 in
+      let found = find_in_paths nfa hay (length hay) from m some.1 in
+      let path : Accepts nfa hay end end nfa.start m.start =
+      subst (λ n. Accepts nfa hay n n nfa.start m.start) some.2
+      (Accepts_stop nfa hay (length hay) m.trace.end m.trace.end nfa.start m.start (omega arith) found.2) in
+      record {
+        match = m;
+        found = sym same_find ∙ some.1;
+        begins = elim (cases_lt m.start least) [
+          | (inl below) ↦ absurd (is.3 m.start found.0 below path)
+          | (inr past) ↦ elim (cases_lt least m.start) [
+            | (inl before) ↦ absurd (∥∥₁_elim is.2 (λ p q. absurd p)
+                (λ way. found.3 least end is.0 before (Accepts_wider nfa hay end (length hay) end nfa.start least l way)))
+            | (inr at) ↦ omega (arith, past, at)
+          ]
+        ];
+        ends = some.2;
       }
 
 -- nothing is passed

@@ -1,10 +1,13 @@
 -- What automata tell of the matches of a pattern.
 -- Words of this crate's contracts.
-use Rattle.std.specs.Prelude.{ℕ, ◌≤◌, ◌<◌, List, length}
+use Rattle.std.specs.Prelude.{◌≡◌, ⊤, ℕ, ◌≤◌, ◌<◌, List, length, Some, None}
 use Rattle.regex_hir.specs.Re.{Re}
 use Rattle.regex_hir.specs.Matches.{Matches}
+use Rattle.regex_hir.specs.Find.{Match, find}
 use Rattle.sre_automata.specs.declared.Told.{Told}
 use Rattle.sre_automata.specs.declared.Told.TheVariants.{Nothing, From}
+use Rattle.sre_automata.specs.declared.FirstMatch.{FirstMatch}
+use Rattle.sre_automata.specs.declared.FirstMatch.TheVariants as first_match
 
 -- no match begins at a place or behind it
 pub record NoneLeft (hay : List ℕ) (re : Re) (start : ℕ) : Type 0 where
@@ -20,3 +23,16 @@ pub record NoneUpTo (hay : List ℕ) (re : Re) (start from : ℕ) : Type 0 where
 abbrev pub Tells : List ℕ → Re → ℕ → Told → Type 0
 Tells hay re start Nothing = NoneLeft hay re start
 Tells hay re start (From from) = NoneUpTo hay re start from
+
+-- the first match is found between two places
+pub record IsBetween (hay : List ℕ) (re : Re) (start from end : ℕ) : Type 0 where
+  pub match : Match
+  pub found : find re hay start ≡ Some match
+  pub begins : match.start ≡ from
+  pub ends : match.trace.end ≡ end
+
+-- what a search for the pattern finds
+abbrev pub FindsFirst : List ℕ → Re → ℕ → FirstMatch → Type 0
+FindsFirst hay re start first_match.Nothing = find re hay start ≡ None
+FindsFirst hay re start (first_match.Between from end) = IsBetween hay re start from end
+FindsFirst hay re start first_match.Unknown = ⊤

@@ -1,4 +1,4 @@
-//! The automata of a pattern of bytes: from where on its next match can begin.
+//! The automata of a pattern of bytes: from where on its next match can begin, and which match that is.
 //!
 //! They are the kit's: a forward automaton tells where the leftmost match ends, and a backward one the least place at
 //! which a match begins that ends there. Both are built as they read, within a bound on their memory; where that does
@@ -8,8 +8,8 @@
 ghost use Rattle.std.specs.Prelude.{ℕ, ◌≡◌, ◌≤◌, IfSome, length};
 ghost use Rattle.regex_hir.specs.Re.{Re};
 ghost use Rattle.regex_hir.specs.Meaning.{meaning};
-ghost use Rattle.regex_compile.specs.Implements.{HasPaths};
-ghost use Rattle.sre_automata.specs.Told.{Tells};
+ghost use Rattle.regex_compile.specs.Implements.{Implements, HasPaths};
+ghost use Rattle.sre_automata.specs.Told.{Tells, FindsFirst};
 
 use regex_compile::compile;
 use regex_dfa::{Dfa, End, Forward, Reverse, Start};
@@ -24,6 +24,17 @@ pub enum Told {
     Nothing,
     /// None begins below this place.
     From(usize),
+}
+
+/// The first match of a pattern, as far as its automata know.
+#[derive(Clone, Copy, PartialEq, Eq, Debug)]
+pub enum FirstMatch {
+    /// There is none.
+    Nothing,
+    /// From one place up to another.
+    Between(usize, usize),
+    /// They do not know.
+    Unknown,
 }
 
 /// The automata of a pattern, and what they have built so far.
@@ -47,10 +58,15 @@ impl Model for Automata {
 }
 
 impl Automata {
+    ghost use Rattle.std.specs.Prelude.{false};
+    ghost use Rattle.regex_nfa.specs.Paths.{Accepts};
+    ghost use Rattle.regex_dfa.specs.Search.{IsEnd, IsLeast, end_from};
+
     /// The automata of a pattern, whose tables take at most so many bytes; none where they would take more, or where
     /// memory was refused.
     pub fn new(alloc: Global, hir: &Hir, size_limit: usize) -> Option<Automata>
-        ensures { IfSome result (λ automata. HasPaths automata (meaning hir.now)) }
+        ensures paths { IfSome result (λ automata. HasPaths automata (meaning hir.now)) }
+        ensures matches { IfSome result (λ automata. Implements automata (meaning hir.now)) }
     {
         let Ok(nfa) = compile(alloc, hir, 1, size_limit) else {
             return None;
@@ -78,10 +94,11 @@ impl Automata {
         self.read
     }
 
-    /// From where on the next match can begin that begins at a place or behind it.
-    pub fn next_from(&mut self, hay: &[u8], start: usize) -> Told
+    /// Where the leftmost match ends that begins at a place or behind it.
+    fn leftmost_end(&mut self, hay: &[u8], start: usize) -> End
         requires { start ≤ length hay.now }
-        ensures told { (re : Re) → HasPaths self.old re → Tells hay.now re start result }
+        ensures end { IsEnd self.old hay.now start (length hay.now) false false
+            (end_from self.old hay.now (length hay.now) self.old.unanchored start) result }
         ensures same { self.new ≡ self.old }
     {
         let (anchored, earliest) = (false, false);
@@ -91,17 +108,53 @@ impl Automata {
         self.read = self
             .read
             .saturating_add(self.forward.reached().saturating_sub(start));
-        match end {
+        end
+    }
+
+    /// The least place from one on at which a match begins that ends at another one.
+    fn least_start(&mut self, hay: &[u8], start: usize, end: usize) -> Start
+        requires ordered { start ≤ end }
+        requires within { end ≤ length hay.now }
+        ensures least { IsLeast (Accepts self.old hay.now end end self.old.start) start end result }
+        ensures same { self.new ≡ self.old }
+    {
+        let found = self.reverse.find_start(&self.dfa, hay, start, end);
+        self.read = self.read.saturating_add(end - start);
+        found
+    }
+
+    /// From where on the next match can begin that begins at a place or behind it.
+    pub fn next_from(&mut self, hay: &[u8], start: usize) -> Told
+        requires { start ≤ length hay.now }
+        ensures told { (re : Re) → HasPaths self.old re → Tells hay.now re start result }
+        ensures same { self.new ≡ self.old }
+    {
+        match self.leftmost_end(hay, start) {
             End::NoMatch => Told::Nothing,
-            End::At(end) => {
-                let found = self.reverse.find_start(&self.dfa, hay, start, end);
-                self.read = self.read.saturating_add(end - start);
-                match found {
-                    Start::At(from) => Told::From(from),
-                    _ => Told::From(start),
-                }
-            }
+            End::At(end) => match self.least_start(hay, start, end) {
+                Start::At(from) => Told::From(from),
+                _ => Told::From(start),
+            },
             _ => Told::From(start),
+        }
+    }
+
+    /// The first match of those that begin at a place or behind it, which is the leftmost one: of a pattern that the
+    /// automata implement, and not one of whose matches they merely have.
+    ///
+    /// Nothing calls it yet: it waits for a finder that tells spans.
+    pub fn first_match(&mut self, hay: &[u8], start: usize) -> FirstMatch
+        requires { start ≤ length hay.now }
+        ensures finds { (re : Re) → Implements self.old re → FindsFirst hay.now re start result }
+        ensures same { self.new ≡ self.old }
+    {
+        match self.leftmost_end(hay, start) {
+            End::NoMatch => FirstMatch::Nothing,
+            End::At(end) => match self.least_start(hay, start, end) {
+                Start::At(from) => FirstMatch::Between(from, end),
+                _ => FirstMatch::Unknown,
+            },
+            _ => FirstMatch::Unknown,
         }
     }
 }

@@ -6,3 +6,6 @@ pub mod Sequences
 pub mod Branches
 pub mod Conditions
 pub mod FrontItems
+pub mod OrderedTests
+pub mod OrderedItems
+pub mod OrderedBranches

@@ -49,18 +49,6 @@ added (x ∷ xs) low high c l h = by_test (in_range x c) (added xs low high c l 
     by_test true h = refl
     by_test false h = h
 
--- a step over one more number
-pub one-more : (test : ℕ → Bool) (xs : List (ℕ × ℕ)) (i : ℕ) → HasBelow i test xs
-    → HasBelow (i + 1) test (xs ++ (i, i) ∷ [])
-one-more test xs i h c l t =
-    ⊎_elim (λ below. kept xs ((i, i) ∷ []) c (h c below t)) (λ at. added xs i i c at (omega arith)) (cases_lt c i)
-
-pub none-more : (test : ℕ → Bool) (xs : List (ℕ × ℕ)) (i : ℕ) → HasBelow i test xs → test i ≡ false
-    → HasBelow (i + 1) test xs
-none-more test xs i h refused c l t =
-    ⊎_elim (λ below. h c below t)
-    (λ at. let same : c ≡ i = omega arith in absurd (true≢false (sym t ∙ ap test same ∙ refused))) (cases_lt c i)
-
 pub bytes-class : (bound : ℕ) (table : Table) (t : Test) (xs ranges : List (ℕ × ℕ)) → bound ≤ 256
     → HasBelow bound (holds table t) xs → HasExactly ranges (in_ranges xs)
     → CoversTest (InBytes bound) table (byte_in ranges) t

@@ -1,5 +1,5 @@
 -- What is said of a pattern for the words at a place.
-use Rattle.std.specs.Prelude.{ℕ, ◌≡◌, ◌<◌, ◌≤◌, ◌⊎◌, Bool, true, List, [], ◌∷◌}
+use Rattle.std.specs.Prelude.{ℕ, ◌≡◌, ◌<◌, ◌≤◌, ◌⊎◌, Bool, true, ◌&&◌, nat_lt, List, [], ◌∷◌}
 use Rattle.regex_class.specs.Ranges.{in_ranges}
 use Rattle.regex_hir.specs.Re.{Re, cat, alt}
 use Rattle.sre_chars.specs.Tables.{Table}
@@ -30,6 +30,10 @@ alt_onto (a ∷ rest) b = alt a (alt_onto rest b)
 -- the ranges have each number below the bound that passes the test
 abbrev pub HasBelow : ℕ → (ℕ → Bool) → List (ℕ × ℕ) → Type 0
 HasBelow bound test ranges = (c : ℕ) → c < bound → test c ≡ true → in_ranges ranges c ≡ true
+
+-- the ranges have just the numbers below the bound that pass the test
+abbrev pub HasJust : ℕ → (ℕ → Bool) → List (ℕ × ℕ) → Type 0
+HasJust bound test ranges = (c : ℕ) → in_ranges ranges c ≡ (nat_lt c bound && test c)
 
 -- the pattern covers each test that is read at a place
 abbrev pub CoversTestAt : View → Table → List ℕ → ℕ → Re → Type 0

@@ -10,7 +10,7 @@ ghost use Rattle.sre_code.specs.Codes.{items_of, uni_of};
 ghost use Rattle.sre_shape.specs.Covers.{CoversTest};
 ghost use Rattle.sre_model.specs.Characters.{holds};
 ghost use Rattle.sre_chars.specs.Tables.{Table};
-ghost use Rattle.sre_patterns.specs.Patterns.{view_of, CoversTestAt, HasBelow};
+ghost use Rattle.sre_patterns.specs.Patterns.{view_of, CoversTestAt, HasJust};
 
 use crate::encoding::Encoding;
 use crate::words::{operand, test_opcode};
@@ -111,8 +111,8 @@ fn class_of(
     }
 }
 
-// The numbers below a bound that the test at a place takes, each as a range.
-fn taken_below(
+/// The numbers below a bound that the test at a place takes, each as a range.
+pub(crate) fn taken_below(
     alloc: Global,
     code: &Code<'_>,
     place: usize,
@@ -122,7 +122,7 @@ fn taken_below(
     requires code { Opcode (items_of code.now) place opcode }
     requires stands { HasTest (items_of code.now) place }
     ensures { IfOk result (λ r. (j : ℕ) (t : Test) → TestStands (items_of code.now) place j t
-        → HasBelow bound (holds (uni_of code.now) t) r.items) }
+        → HasJust bound (holds (uni_of code.now) t) r.items) }
 {
     let req = Request::new(b"".as_slice(), 0, 0, *code, false);
     let mut ranges: Vec<(u32, u32)> = Vec::new(alloc);

@@ -7,6 +7,8 @@ use std::alloc::{AllocError, AllocFailed};
 pub(crate) enum Fault {
     /// Parts nest too deep.
     TooDeep,
+    /// A pattern can't try the ways of a part in their order.
+    OutOfOrder,
     /// A request for memory was refused.
     Memory,
 }

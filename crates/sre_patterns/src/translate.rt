@@ -37,7 +37,7 @@ pub(crate) struct Part {
 /// A pattern that has a match wherever the tree of the words has a way, from the same place to the same. `None` is for
 /// items that lie in more than `DEPTH`, and an error for refused memory; no clause says when either comes.
 ///
-/// Nothing calls it yet: it waits for spans that automata tell.
+/// Nothing calls it yet.
 pub fn hir_of(alloc: Global, code: &Code<'_>, encoding: Encoding) -> Result<Option<Hir>, AllocError>
     ensures { IfOk result (λ o. (h : Hir) → o ≡ Some h → (t : Tree) → WholeItems (items_of code.now) t
         → Covers (view_of encoding) (uni_of code.now) (meaning h) t) }
@@ -45,8 +45,8 @@ pub fn hir_of(alloc: Global, code: &Code<'_>, encoding: Encoding) -> Result<Opti
     let end = code.items().len() - 1;
     match sequence(alloc, code, encoding, Order::AsWritten, 0, end, DEPTH) {
         Ok(part) => Ok(Some(part.hir)),
-        Err(Fault::TooDeep) => Ok(None),
         Err(Fault::Memory) => Err(AllocError),
+        Err(_) => Ok(None),
     }
 }
 
@@ -63,8 +63,8 @@ pub fn starts_of(
     let end = code.items().len() - 1;
     match front(alloc, code, encoding, end) {
         Ok(hir) => Ok(Some(hir)),
-        Err(Fault::TooDeep) => Ok(None),
         Err(Fault::Memory) => Err(AllocError),
+        Err(_) => Ok(None),
     }
 }
 

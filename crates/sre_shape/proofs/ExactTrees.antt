@@ -2,12 +2,15 @@
 use Rattle.std.proofs.Common.{◌≡◌, ℕ, zero, suc, ◌+◌, ◌-◌, ◌<◌, ◌≤◌, min, true, false, cond, ◌||◌, nat_lt, nat_eq}
 use Rattle.std.proofs.Common.{List, [], Option, Some, None, slice_get, refl, sym, ap, ap₂, ◌∙◌, subst, ⊎_elim, arith}
 use Rattle.std.specs.List.{AllByRecursion}
+use Rattle.std.specs.Option.{option_or}
 use Rattle.std.proofs.lemmas.Bool.Decides.{nat_tests}
 use Rattle.std.proofs.lemmas.Str.{len_utf8_bounds}
 use Rattle.regex_class.specs.Ranges.{in_ranges}
 use Rattle.regex_hir.specs.Re.{Re, empty, byte_in, cat, alt, attempt}
 use Rattle.regex_hir.specs.Text.{is_some_and}
 use Rattle.regex_hir.specs.Meaning.{repeat}
+use Rattle.regex_hir.specs.Matches.{IsMinLen}
+use Rattle.regex_hir.proofs.OptionLemmas.{option_or-None}
 use Rattle.sre_chars.specs.Tables.{Table}
 use Rattle.sre_model.specs.Tree.{Tree, Empty, Then, Item, Fail, One, Mark, Branch, Loop, Run, Trees, Only, Or, Test}
 use Rattle.sre_model.specs.Tree.{Order}
@@ -15,16 +18,15 @@ use Rattle.sre_model.specs.Marks.{Marks}
 use Rattle.sre_model.specs.Characters.{holds}
 use Rattle.sre_model.specs.Subject.{Subject, char_at, passes}
 use Rattle.sre_model.specs.Ways.{Body, here, unlimited, ways, item_ways, run_ways, loop_ways}
-use Rattle.sre_model.specs.Width.{width}
-use Rattle.sre_model.proofs.Each.{each-weaken, each-cond}
+use Rattle.sre_model.proofs.Each.{each-cond}
 use Rattle.sre_model.proofs.Bounds.{ways-bounded, item-bounded}
-use Rattle.sre_model.proofs.WideWays.{ways-far}
 use Rattle.sre_shape.specs.Covers.{View, InBytes, InUtf8}
 use Rattle.sre_shape.specs.Exact.{tried, Exact, ExactTree, ExactItem, ExactBranch, ExactTest, Rises, AreKept}
-use Rattle.sre_shape.specs.Repeated.{most_kept, repeated, is_greedy}
+use Rattle.sre_shape.specs.Repeated.{most_kept, repeated, is_greedy, kind_of}
 use Rattle.sre_shape.proofs.InOrder.{empty-exact, then-exact, or-exact, one-exact, mark-exact, counted-exact}
 use Rattle.sre_shape.proofs.InOrder.{endless-exact}
-use Rattle.sre_shape.proofs.RunsInOrder.{kind_of, run-loop}
+use Rattle.sre_shape.proofs.ExactLeads.{exact-moves}
+use Rattle.sre_shape.proofs.RunsInOrder.{run-loop}
 
 module _ (s : Subject) (hay : List ℕ) (off : ℕ → ℕ) (up : (p q : ℕ) → p < q → q ≤ s.end → off p < off q) (kept : ℕ)
     (few : kept < unlimited) where
@@ -60,11 +62,11 @@ module _ (s : Subject) (hay : List ℕ) (off : ℕ → ℕ) (up : (p q : ℕ) �
           (sym low_kept)
           (subst (λ m. X (repeat low m (is_greedy o) a) (loop_ways s o low high body)) (sym most) (g z))
 
-  loop-exact : (o : Order) (low high : ℕ) (body : Tree) (a : Re) → AreKept kept low high → 1 ≤ width body
+  loop-exact : (o : Order) (low high : ℕ) (body : Tree) (a : Re) → AreKept kept low high → IsMinLen a 1
       → X a (ways s body) → X (repeated kept low high (is_greedy o) a) (loop_ways s o low high (ways s body))
-  loop-exact o low high body a k w x =
+  loop-exact o low high body a k least x =
       let moves : (p : ℕ) (m : Marks) → p ≤ s.end → AllByRecursion (λ v. p < v.stop) (ways s body p m) =
-      λ p m h. each-weaken _ (λ v. p < v.stop) (λ v f. omega (arith, f)) (ways s body p m) (ways-far s body p m) in
+      exact-moves s hay off a (ways s body) x least (ways-bounded s body) in
       repeated-exact o low high (ways s body) a k
       (λ u. counted-exact s hay off up o low high (ways s body) a x (ways-bounded s body) moves k.0 u)
       (λ e. endless-exact s hay off up o low high (ways s body) a x (ways-bounded s body) moves e)
@@ -90,6 +92,13 @@ fail-exact s hay off k p m h = by_byte (slice_get hay (off p))
     by_byte : (b : Option ℕ) → cond (is_some_and b (in_ranges [])) (k (off p + 1)) None ≡ None
     by_byte None = refl
     by_byte (Some b) = refl
+
+-- an alternative after which there is none
+last-exact : (s : Subject) (hay : List ℕ) (off : ℕ → ℕ) (a : Re) (body : Body) → Exact s hay off a body
+    → Exact s hay off (alt a (byte_in [])) body
+unfolding attempt
+last-exact s hay off a body f k p m h =
+    ap₂ option_or (f k p m h) (fail-exact s hay off k p m h) ∙ option_or-None (tried off k (body p m))
 
 module _ (V : View) (table : Table) where
   abbrev T : Re → Tree → Type 0
@@ -119,8 +128,8 @@ module _ (V : View) (table : Table) where
   pub exact-branch : (re : Re) (ts : Trees) → ExactBranch V table re ts → I re (Branch ts)
   exact-branch re ts f = record { tries = f.tries }
 
-  pub exact-only : (re : Re) (t : Tree) → T re t → ExactBranch V table re (Only t)
-  exact-only re t f = record { tries = f.tries }
+  pub exact-last : (re : Re) (t : Tree) → T re t → ExactBranch V table (alt re (byte_in [])) (Only t)
+  exact-last re t f = record { tries = λ s hay off v same. last-exact s hay off re (ways s t) (f.tries s hay off v same) }
 
   pub exact-or : (a b : Re) (t : Tree) (ts : Trees) → T a t → ExactBranch V table b ts
       → ExactBranch V table (alt a b) (Or t ts)
@@ -129,12 +138,12 @@ module _ (V : View) (table : Table) where
   }
 
   module _ (rises : Rises V) (kept : ℕ) (few : kept < unlimited) where
-    -- a loop whose body reads a character
-    pub exact-loop : (low high : ℕ) (o : Order) (re : Re) (body : Tree) → AreKept kept low high → 1 ≤ width body
+    -- a loop whose body reads a byte
+    pub exact-loop : (low high : ℕ) (o : Order) (re : Re) (body : Tree) → AreKept kept low high → IsMinLen re 1
         → T re body → I (repeated kept low high (is_greedy o) re) (Loop o low high body)
-    exact-loop low high o re body k w f = record {
+    exact-loop low high o re body k least f = record {
       tries = λ s hay off v same.
-          loop-exact s hay off (rises s hay off v) kept few o low high body re k w (f.tries s hay off v same);
+          loop-exact s hay off (rises s hay off v) kept few o low high body re k least (f.tries s hay off v same);
     }
 
     pub exact-run : (low high : ℕ) (o : Order) (re : Re) (t : Test) → AreKept kept low high → ExactTest V table re t

@@ -5,7 +5,7 @@ use Rattle.std.proofs.Common.{true≢false, min, not}
 use Rattle.std.specs.List.{flat_map}
 use Rattle.std.proofs.lemmas.List.{append-nil}
 use Rattle.std.proofs.lemmas.Bool.Decides.{nat_tests}
-use Rattle.sre_model.specs.Tree.{Test, Order, Greedy, Lazy, RunKind, GreedyRun, LazyRun, One}
+use Rattle.sre_model.specs.Tree.{Test, Order, Greedy, Lazy, GreedyRun, LazyRun, One}
 use Rattle.sre_model.specs.Marks.{Marks}
 use Rattle.sre_model.specs.Subject.{Subject, passes}
 use Rattle.sre_model.specs.Ways.{Way, Body, here, unlimited, run_length, most_from, longest_run, rising, falling}
@@ -13,10 +13,7 @@ use Rattle.sre_model.specs.Ways.{counts, ordered, may_repeat, run_ways, loop_way
 use Rattle.sre_model.specs.Loops.{loop_from}
 use Rattle.sre_model.proofs.Bounds.{Bounded, item-bounded, passes-below}
 use Rattle.sre_model.proofs.LoopCases.{loop-below-all, loop-beyond-all, loop-ways}
-
-abbrev pub kind_of : Order → RunKind
-kind_of Greedy = GreedyRun
-kind_of Lazy = LazyRun
+use Rattle.sre_shape.specs.Repeated.{kind_of}
 
 falling-suc : (l n : ℕ) → falling (suc l) n ≡ map (λ c. suc c) (falling l n)
 falling-suc l zero = refl

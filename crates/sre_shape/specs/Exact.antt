@@ -1,5 +1,4 @@
 -- When a pattern of bytes tries the ways of a tree in their order.
--- No contract names it yet: it waits for spans that automata tell.
 use Rattle.std.specs.Prelude.{ℕ, ◌≡◌, ◌<◌, ◌≤◌, ◌⊎◌, List, [], ◌∷◌, Option, None}
 use Rattle.std.specs.Option.{option_or}
 use Rattle.regex_hir.specs.Re.{Re, Rest, Trace, attempt}

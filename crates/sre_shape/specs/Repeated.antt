@@ -2,7 +2,7 @@
 use Rattle.std.specs.Prelude.{ℕ, min, Bool, true, false, ◌||◌, cond, Option, Some, None, nat_lt}
 use Rattle.regex_hir.specs.Re.{Re}
 use Rattle.regex_hir.specs.Meaning.{repeat}
-use Rattle.sre_model.specs.Tree.{Order, Greedy, Lazy}
+use Rattle.sre_model.specs.Tree.{Order, Greedy, Lazy, RunKind, GreedyRun, LazyRun}
 
 -- the greatest count of a repetition, unless it or the least one is more than is kept
 abbrev pub most_kept : ℕ → ℕ → ℕ → Option ℕ
@@ -15,3 +15,8 @@ repeated kept low high greedy a = repeat (min low kept) (most_kept kept low high
 abbrev pub is_greedy : Order → Bool
 is_greedy Greedy = true
 is_greedy Lazy = false
+
+-- the runs that try their counts so
+abbrev pub kind_of : Order → RunKind
+kind_of Greedy = GreedyRun
+kind_of Lazy = LazyRun

@@ -1,21 +1,23 @@
-use Rattle.std.proofs.Common.{◌≡◌, ◌∙◌, refl, sym, subst, arith}
-use Rattle.regex_compile.specs.Implements.{HasPaths}
-use Rattle.sre_automata.proofs.Leftmost.{are_bytes, none_left, none_below, nothing_passed}
-use Rattle.sre_automata.proofs.Automata.next_from.Goals.{in-At-found, in_default-found}
+use Rattle.std.proofs.Common.{sym, subst, refl}
+use Rattle.regex_nfa.specs.Paths.{Accepts}
+use Rattle.regex_nfa.specs.declared.nfa.Nfa.{Nfa}
+use Rattle.regex_dfa.specs.Search.{IsLeast}
+use Rattle.regex_dfa.specs.declared.reverse.Start.TheVariants as start
+use Rattle.sre_automata.proofs.Leftmost.{are_bytes, none_left, none_below}
 use Rattle.sre_automata.proofs.Automata.next_from.Goals as goal
 
 pub returns-in-NoMatch-clause-told : goal.returns-in-NoMatch-clause-told
 returns-in-NoMatch-clause-told c = λ re paths.
-    let own = subst (λ nfa. HasPaths nfa re) (sym c.self.view_is) paths in
-    none_left c.self.inside.dfa.nfa re c.args.hay.now own (are_bytes c.args.hay.now c.type_inv.hay) c.args.start
+    none_left c.args.self.now re c.args.hay.now paths (are_bytes c.args.hay.now c.type_inv.hay) c.args.start
     c.requires c.in-NoMatch.ensures.end
 
-pub returns-after-found-clause-told : goal.returns-after-found-clause-told
-returns-after-found-clause-told c = λ re paths. elim c.match-found.branch [
-  | in-At-found w ↦
-      let own = subst (λ nfa. HasPaths nfa re) (sym c.self.view_is) paths in
-      rw w.result-is (none_below c.self.inside.dfa.nfa re c.args.hay.now own
-      (are_bytes c.args.hay.now c.type_inv.hay) c.args.start c.requires c.in-At.end w.in-At-found.from
-      (c.in-At.ensures.end.1 refl) c.in-At.ensures.end.3 w.in-At-found.ensures.least)
-  | in_default-found w ↦ rw w.result-is (nothing_passed c.args.hay.now re c.args.start c.requires)
-]
+pub returns-in-At-least_start-clause-told : goal.returns-in-At-least_start-clause-told
+returns-in-At-least_start-clause-told c = λ re paths.
+    let hay = c.args.hay.now in
+    let end = c.in-At.end in
+    let from = c.in-At-least_start.from in
+    let least =
+    subst (λ (n : Nfa). IsLeast (Accepts n hay end end n.start) c.args.start end (start.At from)) c.in-At.ensures.same
+    c.in-At-least_start.ensures.least in
+    none_below c.args.self.now re hay paths (are_bytes hay c.type_inv.hay) c.args.start c.requires end from
+    (c.in-At.ensures.end.1 refl) c.in-At.ensures.end.3 least

@@ -1,8 +1,9 @@
-use Rattle.std.proofs.Common.{◌∙◌, ◌≡◌, sym, subst, false}
+use Rattle.std.proofs.Common.{◌∙◌, ◌≡◌, sym, subst, true, false, arith}
 use Rattle.sre_model.specs.Characters.{holds}
 use Rattle.sre_model.specs.Standing.{TestStands}
 use Rattle.sre_code.specs.Codes.{uni_of, items_of}
-use Rattle.sre_patterns.proofs.Tests.{one-more, none-more}
+use Rattle.sre_patterns.specs.Patterns.{HasJust}
+use Rattle.sre_patterns.proofs.OrderedTests.{just-begun, just-more, just-none}
 use Rattle.sre_patterns.proofs.classes.taken_below.Goals.{then-takes+in_ok-push, else-takes}
 use Rattle.sre_patterns.proofs.classes.taken_below.Goals as goal
 
@@ -15,7 +16,17 @@ loop-character-preserved c j t s =
     let there = subst (λ k. TestStands (items_of k) c.args.place j t) (sym same) s in
     elim c.if-takes.branch [
       | then-takes+in_ok-push w ↦
-          rw (w.ranges-is, w.in_ok-push.ensures.items) (one-more test before i (c.loop-character.invariant j t s))
-      | else-takes w ↦ rw w.ranges-is (none-more test before i (c.loop-character.invariant j t s)
+          rw (w.ranges-is, w.in_ok-push.ensures.items) (just-more test before i (c.loop-character.invariant j t s)
+          (subst (λ k. holds (uni_of k) t i ≡ true) same (sym (c.takes.ensures j t there) ∙ w.if-takes.true)))
+      | else-takes w ↦ rw w.ranges-is (just-none test before i (c.loop-character.invariant j t s)
           (subst (λ k. holds (uni_of k) t i ≡ false) same (sym (c.takes.ensures j t there) ∙ w.if-takes.false)))
     ]
+
+pub loop-character-init : goal.loop-character-init
+loop-character-init c j t s = rw c.new-ranges.ensures.items (just-begun (holds (uni_of c.args.code.now) t))
+
+pub returns : goal.returns
+returns c j t s =
+    let same : c.loop-character.character ≡ c.args.bound = omega arith in
+    subst (λ n. HasJust n (holds (uni_of c.args.code.now) t) c.loop-character.ranges.items) same
+    (c.loop-character.invariant j t s)

@@ -1,0 +1,284 @@
+//! The pattern of a code that tries the ways of its tree in their order, where there is one.
+//!
+//! Then the first match of the pattern is the first way, so automata tell spans and not only starts. A pattern has no
+//! word for what looks, refers, asks for a position or gives nothing back; nor for a loop whose body may read nothing,
+//! which SRE ends otherwise. Counts have to be kept as they are, and each character has to stand in one byte.
+
+ghost use Rattle.std.specs.Prelude.{◌≡◌, ◌≤◌, ◌<◌, ◌+◌, ◌^◌, ℕ, IfOk, Some, true};
+ghost use Rattle.regex_hir.specs.Meaning.{meaning};
+ghost use Rattle.sre_model.specs.Tree.{Tree, Order, Test};
+ghost use Rattle.sre_model.specs.Grammar.{Opcode, WholeItems, until_opcode};
+ghost use Rattle.sre_model.specs.Standing.{HasTest, TestStands};
+ghost use Rattle.sre_model.specs.Characters.{holds};
+ghost use Rattle.sre_code.specs.Codes.{items_of, uni_of};
+ghost use Rattle.sre_shape.specs.Covers.{InBytes};
+ghost use Rattle.sre_shape.specs.Exact.{ExactTree, AreKept};
+ghost use Rattle.sre_shape.specs.Repeated as repetitions;
+ghost use Rattle.sre_patterns.specs.Patterns.{view_of, HasItem, HasBranch, HasJust};
+ghost use Rattle.sre_patterns.specs.Ordered.{HasTree, HasCounted, HasGiving, TriesItems, TriesItem, TriesTest};
+
+use crate::classes::{end_of_test, taken_below};
+use crate::encoding::Encoding;
+use crate::fault::Fault;
+use crate::repeats::{KEPT, repeated};
+use crate::translate::{DEPTH, Part};
+use crate::words::{item_opcode, operand, skip, test_opcode, word};
+use regex_class::Class;
+use regex_hir::Hir;
+use sre_chars::constants::SreOpcode;
+use sre_code::Code;
+use std::alloc::{AllocError, Global};
+
+/// A pattern that tries the ways of the words' tree in their order, over texts whose characters are bytes: what follows
+/// it is tried from the end of each way in turn, and from nowhere else. `None` is for words of which no such pattern is
+/// known, and for items that lie in more than `DEPTH`; an error is for refused memory. No clause says when they come.
+///
+/// Nothing calls it yet: it waits for a finder that tells spans.
+pub fn ways_of(
+    alloc: Global,
+    code: &Code<'_>,
+    encoding: Encoding,
+) -> Result<Option<Hir>, AllocError>
+    ensures { IfOk result (λ o. (h : Hir) → o ≡ Some h → (t : Tree) → WholeItems (items_of code.now) t
+        → ExactTree (view_of encoding) (uni_of code.now) (meaning h) t) }
+{
+    match encoding {
+        Encoding::Bytes => ways_below(alloc, code, 256),
+        Encoding::Ascii => ways_below(alloc, code, 128),
+        Encoding::Utf8 => Ok(None),
+    }
+}
+
+// The same over texts whose characters are bytes below a bound.
+fn ways_below(alloc: Global, code: &Code<'_>, bound: u32) -> Result<Option<Hir>, AllocError>
+    requires { bound ≤ 256 }
+    ensures { IfOk result (λ o. (h : Hir) → o ≡ Some h → (t : Tree) → WholeItems (items_of code.now) t
+        → ExactTree (InBytes bound) (uni_of code.now) (meaning h) t) }
+{
+    let end = code.items().len() - 1;
+    match sequence(alloc, code, bound, 0, end, DEPTH) {
+        Ok(part) => Ok(Some(part.hir)),
+        Err(Fault::Memory) => Err(AllocError),
+        Err(_) => Ok(None),
+    }
+}
+
+// The items from a place up to an end.
+#[cycle(in_order)]
+fn sequence(
+    alloc: Global,
+    code: &Code<'_>,
+    bound: u32,
+    start: usize,
+    end: usize,
+    depth: u32,
+) -> Result<Part, Fault>
+    requires few { bound ≤ 256 }
+    requires items { HasTree (items_of code.now) start end }
+    ensures { IfOk result (λ p. TriesItems (InBytes bound) (uni_of code.now) (items_of code.now) start end
+        (meaning p.hir)) }
+{
+    let mut parts: Vec<Hir> = Vec::new(alloc);
+    let mut place = start;
+    'each: while place < end {
+        let Part { hir, end: behind } = item(alloc, code, bound, place, depth)?;
+        place = behind;
+        parts.push(hir)?;
+    }
+    Ok(Part {
+        hir: Hir::Concat(parts),
+        end,
+    })
+}
+
+// The item at a place.
+#[cycle(in_order)]
+fn item(alloc: Global, code: &Code<'_>, bound: u32, place: usize, depth: u32) -> Result<Part, Fault>
+    requires few { bound ≤ 256 }
+    requires item { HasItem (items_of code.now) place }
+    ensures { IfOk result (λ p. TriesItem (InBytes bound) (uni_of code.now) (items_of code.now) place
+        (meaning p.hir) p.end) }
+{
+    if depth == 0 {
+        return Err(Fault::TooDeep);
+    }
+    let depth = depth - 1;
+    let opcode = item_opcode(code, place);
+    match opcode {
+        SreOpcode::FAILURE => Ok(Part {
+            hir: Hir::Bytes(Class::empty(alloc)),
+            end: place + 1,
+        }),
+        SreOpcode::MARK => Ok(Part {
+            hir: Hir::Empty,
+            end: place + 2,
+        }),
+        SreOpcode::BRANCH => branch(alloc, code, bound, place, depth),
+        SreOpcode::REPEAT => counted(alloc, code, bound, place, depth),
+        SreOpcode::REPEAT_ONE => run(alloc, code, bound, place, true),
+        SreOpcode::MIN_REPEAT_ONE => run(alloc, code, bound, place, false),
+        SreOpcode::AT
+        | SreOpcode::POSSESSIVE_REPEAT
+        | SreOpcode::POSSESSIVE_REPEAT_ONE
+        | SreOpcode::ATOMIC_GROUP
+        | SreOpcode::ASSERT
+        | SreOpcode::ASSERT_NOT
+        | SreOpcode::GROUPREF
+        | SreOpcode::GROUPREF_IGNORE
+        | SreOpcode::GROUPREF_LOC_IGNORE
+        | SreOpcode::GROUPREF_UNI_IGNORE
+        | SreOpcode::GROUPREF_EXISTS => Err(Fault::OutOfOrder),
+        _ => one(alloc, code, bound, place),
+    }
+}
+
+// The class of the bytes that the test at a place takes.
+fn class_at(alloc: Global, code: &Code<'_>, bound: u32, place: usize) -> Result<Hir, AllocError>
+    requires few { bound ≤ 256 }
+    requires test { HasTest (items_of code.now) place }
+    ensures { IfOk result (λ h. TriesTest (InBytes bound) (uni_of code.now) (items_of code.now) place (meaning h)) }
+{
+    let ranges = taken_at(alloc, code, bound, place)?;
+    Ok(Hir::Bytes(Class::new(ranges)?))
+}
+
+// The numbers below a bound that the test at a place takes, each as a range.
+fn taken_at(
+    alloc: Global,
+    code: &Code<'_>,
+    bound: u32,
+    place: usize,
+) -> Result<Vec<(u32, u32)>, AllocError>
+    requires { HasTest (items_of code.now) place }
+    ensures { IfOk result (λ r. (j : ℕ) (t : Test) → TestStands (items_of code.now) place j t
+        → HasJust bound (holds (uni_of code.now) t) r.items) }
+{
+    let opcode = test_opcode(code, place);
+    let SreOpcode::LITERAL = opcode else {
+        return taken_below(alloc, code, place, opcode, bound);
+    };
+    let value = operand(code, place, 1);
+    let mut ranges: Vec<(u32, u32)> = Vec::new(alloc);
+    if value < bound {
+        ranges.push((value, value))?;
+    }
+    Ok(ranges)
+}
+
+// The test of one character at a place.
+fn one(alloc: Global, code: &Code<'_>, bound: u32, place: usize) -> Result<Part, Fault>
+    requires few { bound ≤ 256 }
+    requires test { HasTest (items_of code.now) place }
+    ensures { IfOk result (λ p. TriesItem (InBytes bound) (uni_of code.now) (items_of code.now) place
+        (meaning p.hir) p.end) }
+{
+    let hir = class_at(alloc, code, bound, place)?;
+    Ok(Part {
+        hir,
+        end: end_of_test(code, place),
+    })
+}
+
+// Whether a pattern keeps the counts of a repetition as they are.
+fn are_kept(low: u32, high: u32) -> bool
+    ensures { result ≡ true → low ≤ high → AreKept KEPT low high }
+{
+    low <= KEPT && (high <= KEPT || high == u32::MAX)
+}
+
+// The run of a test at a place, which gives characters back.
+fn run(
+    alloc: Global,
+    code: &Code<'_>,
+    bound: u32,
+    place: usize,
+    greedy: bool,
+) -> Result<Part, Fault>
+    requires few { bound ≤ 256 }
+    requires run { HasGiving (items_of code.now) place greedy }
+    ensures { IfOk result (λ p. TriesItem (InBytes bound) (uni_of code.now) (items_of code.now) place
+        (meaning p.hir) p.end) }
+{
+    let end = skip(code, place, 1);
+    let low = operand(code, place, 2);
+    let high = operand(code, place, 3);
+    if !are_kept(low, high) {
+        return Err(Fault::OutOfOrder);
+    }
+    let hir = class_at(alloc, code, bound, place + 4)?;
+    Ok(Part {
+        hir: repeated(alloc, low, high, greedy, hir)?,
+        end,
+    })
+}
+
+// Whether the loop whose body ends at a place tries the most rounds first.
+fn is_greedy_loop(code: &Code<'_>, until: usize) -> bool
+    requires { (o : Order) × Opcode (items_of code.now) until (until_opcode o) }
+    ensures greedy { (o : Order) → Opcode (items_of code.now) until (until_opcode o)
+        → result ≡ repetitions.is_greedy o }
+    ensures room { until + 2 ^ 33 < 2 ^ 64 }
+{
+    word(code, until) != SreOpcode::MIN_UNTIL as u32
+}
+
+// The loop at a place.
+#[cycle(in_order)]
+fn counted(
+    alloc: Global,
+    code: &Code<'_>,
+    bound: u32,
+    place: usize,
+    depth: u32,
+) -> Result<Part, Fault>
+    requires few { bound ≤ 256 }
+    requires counted { HasCounted (items_of code.now) place }
+    ensures { IfOk result (λ p. TriesItem (InBytes bound) (uni_of code.now) (items_of code.now) place
+        (meaning p.hir) p.end) }
+{
+    let until = skip(code, place, 1);
+    let low = operand(code, place, 2);
+    let high = operand(code, place, 3);
+    if !are_kept(low, high) {
+        return Err(Fault::OutOfOrder);
+    }
+    let body = sequence(alloc, code, bound, place + 4, until, depth)?;
+    if body.hir.min_len() == 0 {
+        return Err(Fault::OutOfOrder);
+    }
+    let greedy = is_greedy_loop(code, until);
+    Ok(Part {
+        hir: repeated(alloc, low, high, greedy, body.hir)?,
+        end: until + 1,
+    })
+}
+
+// The branch at a place.
+#[cycle(in_order)]
+fn branch(
+    alloc: Global,
+    code: &Code<'_>,
+    bound: u32,
+    place: usize,
+    depth: u32,
+) -> Result<Part, Fault>
+    requires few { bound ≤ 256 }
+    requires branch { HasBranch (items_of code.now) place }
+    ensures { IfOk result (λ p. TriesItem (InBytes bound) (uni_of code.now) (items_of code.now) place
+        (meaning p.hir) p.end) }
+{
+    let words = code.items();
+    let _length = words.len(); // a slice has few items, so no place overflows
+    let mut all: Vec<Hir> = Vec::new(alloc);
+    let mut at = place + 1;
+    'alternative: while word(code, at) != 0 {
+        let behind = at + word(code, at) as usize;
+        let part = sequence(alloc, code, bound, at + 1, behind - 2, depth)?;
+        all.push(part.hir)?;
+        at = behind;
+    }
+    Ok(Part {
+        hir: Hir::Alternation(all),
+        end: at + 1,
+    })
+}
