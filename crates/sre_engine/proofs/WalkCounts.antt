@@ -76,8 +76,16 @@ module _ (a : Asked) (code : Code) (at : ℕ) (must : Bool) where
         let there : a.start + (at - a.start) ≡ at = omega (arith, from) in
         let all : at - a.start + (to - at) ≡ to - a.start = omega (arith, from, up) in
         let both = how_many_add test a.start (at - a.start) (to - at) in
-        omega (arith, sum, before.runs set member, own.started set member, same, both,
-        ap (λ p. how_many test p (to - at)) there, ap (how_many test a.start) all);
+        omega (
+          arith,
+          sum,
+          before.runs set member,
+          own.started set member,
+          same,
+          both,
+          ap (λ p. how_many test p (to - at)) there,
+          ap (how_many test a.start) all,
+        );
     comparisons = omega (arith, total, before.comparisons, own.compared, from, far);
     uncompared = λ plain. omega (arith, total, before.uncompared plain, own.uncompared plain);
   }
@@ -90,8 +98,13 @@ counts_match a code start end n started compared from forward counted = record {
       let test = may_run a code set in
       let up : start + 1 - a.start ≡ start - a.start + 1 = omega (arith, from) in
       let grown = how_many_grows test a.start (start - a.start) (end - a.start) (omega (arith, forward)) in
-      omega (arith, counted.runs set member, ap (how_many test a.start) up, how_many_next test a.start (start - a.start),
-      grown);
+      omega (
+        arith,
+        counted.runs set member,
+        ap (how_many test a.start) up,
+        how_many_next test a.start (start - a.start),
+        grown,
+      );
   comparisons = counted.comparisons;
   uncompared = counted.uncompared;
 }

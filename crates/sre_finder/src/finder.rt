@@ -12,7 +12,7 @@ ghost use Rattle.sre_model.specs.WalkBounds.{most_matches, AreInOrder};
 ghost use Rattle.sre_code.specs.Codes.{words_of, hints_of};
 ghost use Rattle.sre_request.specs.Requests.{string_of, start_of, end_of, code_of, asked_of, stands_in};
 ghost use Rattle.sre_engine.specs.Answers.{Answers, AnswersAlike, Spans};
-ghost use Rattle.sre_engine.specs.Counts.{CountsUpTo};
+ghost use Rattle.sre_engine.specs.Counts.{CountsUpTo, CountsOfWalk};
 ghost use Rattle.sre_engine.specs.Listed.{match_of};
 ghost use Rattle.sre_request.specs.Runs.{Standing};
 ghost use Rattle.sre_finder.specs.Finders.{EndStands, CoveringAny};
@@ -201,6 +201,10 @@ impl<'c> Finder<'c> {
             → IfOk result (λ all. map match_of all.items ≡ walk (asked_of req.entry) t) }
         ensures bound { IfOk result (λ all. vec_len all ≤ most_matches (asked_of req.entry)) }
         ensures order { IfOk result (λ all. AreInOrder (start_of req.entry) (map match_of all.items)) }
+        ensures counts { CountsOfWalk (asked_of req.entry) (code_of req.entry) (most_matches (asked_of req.entry)) state.new }
+        ensures by_matches { IfOk result
+            (λ all. CountsOfWalk (asked_of req.entry) (code_of req.entry) (vec_len all) state.new) }
+        ensures once { state.new.restarted ≡ 0 }
         ensures after { state.new.marks ≡ no_marks }
         ensures refused { OnErr result Refused }
         ensures code { self.new.code ≡ self.old.code }
