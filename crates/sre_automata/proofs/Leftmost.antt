@@ -100,8 +100,9 @@ module _ (nfa : Nfa) (re : Re) (hay : List ℕ) (is : Implements nfa re) (bytes 
         begins = elim (cases_lt m.start least) [
           | (inl below) ↦ absurd (is.3 m.start found.0 below path)
           | (inr past) ↦ elim (cases_lt least m.start) [
-            | (inl before) ↦ absurd (∥∥₁_elim is.2 (λ p q. absurd p)
-                (λ way. found.3 least end is.0 before (Accepts_wider nfa hay end (length hay) end nfa.start least l way)))
+            | (inl before) ↦
+                let wider = Accepts_wider nfa hay end (length hay) end nfa.start least l in
+                absurd (∥∥₁_elim is.2 (λ p q. absurd p) (λ way. found.3 least end is.0 before (wider way)))
             | (inr at) ↦ omega (arith, past, at)
           ]
         ];

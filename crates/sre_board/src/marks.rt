@@ -133,7 +133,9 @@ impl<A: Allocator> Marks<A> {
         }
     }
 
-    /// The start and the end of group `group`, counted from 0: two `None` where its end lies past the list.
+    /// The start and the end of group `group`: two `None` where its end lies past the list.
+    ///
+    /// **Groups count from 0 here**: number 0 is the pattern's first group, which Python and `last_index` number 1.
     pub fn get(&self, group: usize) -> (Option<usize>, Option<usize>)
         ensures there { 2 * group + 1 < length self.now.raw
             → (result.0 ≡ slice_index_or self.now.raw (2 * group) None)

@@ -96,7 +96,8 @@ none_there bs c p end near n u l h few none before = λ q from to is.
     (ascii_at bs q c u (omega arith) is l)
 
 -- none up to a position, and none from there on
-pub none_on : (text : List ℕ) (c from mid to : ℕ) → NoneIs text c from mid → NoneIs text c mid to → NoneIs text c from to
+pub none_on : (text : List ℕ) (c from mid to : ℕ) → NoneIs text c from mid → NoneIs text c mid to
+    → NoneIs text c from to
 none_on text c from mid to before behind = λ q lo hi. elim (cases_lt q mid) [
   | inl l ↦ before q lo l
   | inr h ↦ behind q h hi
@@ -165,9 +166,8 @@ first_begins bs rest c p end left passed count u l some h cut left_is inside is 
     let place = place_at bs bs (o + passed) (p + count) refl u boundary begun_there in
     let part : NoneIs (take left (drop o bs)) c 0 passed = rw (← cut) none in
     let few = count_by-le-length begins_char (take passed rest) in
-    let before : p + count < end =
-    omega (arith, many, few, length-take-le passed rest (omega (arith, less, long, ap length cut, length-drop o bs, room)), less, left_is)
-    in
+    let within : passed ≤ length rest = omega (arith, less, long, ap length cut, length-drop o bs, room) in
+    let before : p + count < end = omega (arith, many, few, length-take-le passed rest within, less, left_is) in
     let step = ascii_after bs (p + count) c u (omega (arith, before, h)) (byte ∙ ap (λ i. get_or bs i 0) place.0) l in (
       before,
       sym step.0,

@@ -161,7 +161,8 @@ module _ {S : Type 0} {text : Ghosts S} (q r : Request S text) (n started compar
       goes.span.forward on)
 
   -- what is asked next
-  pub asked_on : (u : Request S text) → GoesOn r s u → asked_of u ≡ step_of (asked_of q) (start_of u) (must_advance_of u)
+  pub asked_on : (u : Request S text) → GoesOn r s u
+      → asked_of u ≡ step_of (asked_of q) (start_of u) (must_advance_of u)
   asked_on u goes =
       asked_next r s u goes
       ∙ ap (λ x. asked_after x (match_shown s)) asked

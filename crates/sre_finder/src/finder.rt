@@ -201,7 +201,8 @@ impl<'c> Finder<'c> {
             → IfOk result (λ all. map match_of all.items ≡ walk (asked_of req.entry) t) }
         ensures bound { IfOk result (λ all. vec_len all ≤ most_matches (asked_of req.entry)) }
         ensures order { IfOk result (λ all. AreInOrder (start_of req.entry) (map match_of all.items)) }
-        ensures counts { CountsOfWalk (asked_of req.entry) (code_of req.entry) (most_matches (asked_of req.entry)) state.new }
+        ensures counts { CountsOfWalk (asked_of req.entry) (code_of req.entry)
+            (most_matches (asked_of req.entry)) state.new }
         ensures by_matches { IfOk result
             (λ all. CountsOfWalk (asked_of req.entry) (code_of req.entry) (vec_len all) state.new) }
         ensures once { state.new.restarted ≡ 0 }

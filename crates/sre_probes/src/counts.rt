@@ -42,8 +42,8 @@ pub(crate) fn push_count(
     write!(answer, " {what} {count}")
 }
 
-/// Appends what a search finds, or all matches of a walk, and how many runs were begun and how often was compared, where
-/// that lies outside the bounds that a field writes.
+/// Appends what a search finds, or all matches of a walk, and how many runs were begun and how often was compared,
+/// where that lies outside the bounds that a field writes.
 pub(crate) fn push_counts<S: StrDrive, A: Allocator + Copy>(
     state: &mut State<A>,
     finding: Finding,

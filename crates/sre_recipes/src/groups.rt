@@ -157,7 +157,8 @@ fn add_each<'t, A: Allocator + Copy>(
     ensures ok { (t : Tree) → Whole (words_of (code_of (request_of walk.old))) t → IfOk result (λ _.
         bounds.new.used_up ≡ false → map captures_shown all.new.items
         ≡ map captures_shown all.old.items
-        ++ map (captured (chars (string_of (request_of walk.old)).now)) (first_of bounds.old.most (left_of walk.old t))) }
+        ++ map (captured (chars (string_of (request_of walk.old)).now))
+        (first_of bounds.old.most (left_of walk.old t))) }
     ensures used { IfOk result (λ _. bounds.new.used_up ≡ true → bounds.new.turns ≡ Some 0) }
     ensures unlimited { bounds.old.turns ≡ None → IfOk result (λ _. bounds.new.turns ≡ None) }
     ensures refused { OnErr result Refused }

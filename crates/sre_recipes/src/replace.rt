@@ -27,7 +27,8 @@ pub enum Piece<'a> {
     Text(&'a str),
     /// The match.
     Match,
-    /// A group as Python counts, where number 0 is the match and number 1 the first group; nothing where it took no part.
+    /// A group as Python counts, where number 0 is the match and number 1 the first group; nothing where it took no
+    /// part.
     Group(usize),
 }
 

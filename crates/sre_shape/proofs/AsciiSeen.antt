@@ -49,7 +49,8 @@ module _ (s : Subject) (hay : List ℕ) (off : ℕ → ℕ) (v : InUtf8 s hay of
       let e = (char_at_parts hay (off p) c (v.char p inside)).1 in
       let at : off p + 0 ≡ off p = omega arith in
       let first : get_or hay (off p) 0 ≡ c =
-      ap (λ n. get_or hay n 0) (sym at) ∙ sym (get_or-drop (off p) hay 0 0) ∙ byte_from_char (drop (off p) hay) _ c e (small p inside) in
+      ap (λ n. get_or hay n 0) (sym at) ∙ sym (get_or-drop (off p) hay 0 0)
+      ∙ byte_from_char (drop (off p) hay) _ c e (small p inside) in
       let fits = char_at_fits hay (off p) c (v.char p inside) in
       slice_get-get_or hay (off p) 0 (omega (arith, fits, len_utf8_bounds c)) ∙ ap (λ b. Some b) first
 

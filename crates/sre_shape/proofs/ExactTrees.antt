@@ -129,7 +129,9 @@ module _ (V : View) (table : Table) where
   exact-branch re ts f = record { tries = f.tries }
 
   pub exact-last : (re : Re) (t : Tree) → T re t → ExactBranch V table (alt re (byte_in [])) (Only t)
-  exact-last re t f = record { tries = λ s hay off v same. last-exact s hay off re (ways s t) (f.tries s hay off v same) }
+  exact-last re t f = record {
+    tries = λ s hay off v same. last-exact s hay off re (ways s t) (f.tries s hay off v same);
+  }
 
   pub exact-or : (a b : Re) (t : Tree) (ts : Trees) → T a t → ExactBranch V table b ts
       → ExactBranch V table (alt a b) (Or t ts)

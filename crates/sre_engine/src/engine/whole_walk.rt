@@ -119,8 +119,8 @@ fn add_matches<S: StrDrive, A: Allocator + Copy, F: Starts<S>>(
 /// Its memory is taken from the state's allocator. A window of n characters has at most 2n + 1 matches, and 2n where
 /// it must advance at first; each starts no earlier than the one before ends.
 ///
-/// The state then counts all steps together, on an error too: they begin no more runs than there are starts at which one
-/// may begin, and one more for each match, and compare no character more than twice on average.
+/// The state then counts all steps together, on an error too: they begin no more runs than there are starts at which
+/// one may begin, and one more for each match, and compare no character more than twice on average.
 ///
 /// An error means that a growth was refused. After it, as after `Ok`, there are no marks in the state, start and cursor
 /// are open, and the state serves again, with a text of any type.
@@ -132,7 +132,8 @@ pub fn all_matches<S: StrDrive, A: Allocator + Copy>(
         → IfOk result (λ all. map match_of all.items ≡ walk (asked_of req.entry) t) }
     ensures bound { IfOk result (λ all. vec_len all ≤ most_matches (asked_of req.entry)) }
     ensures order { IfOk result (λ all. AreInOrder (start_of req.entry) (map match_of all.items)) }
-    ensures counts { CountsOfWalk (asked_of req.entry) (code_of req.entry) (most_matches (asked_of req.entry)) state.new }
+    ensures counts { CountsOfWalk (asked_of req.entry) (code_of req.entry)
+        (most_matches (asked_of req.entry)) state.new }
     ensures by_matches { IfOk result
         (λ all. CountsOfWalk (asked_of req.entry) (code_of req.entry) (vec_len all) state.new) }
     ensures once { state.new.restarted ≡ 0 }
@@ -154,7 +155,8 @@ pub fn all_matches_by<S: StrDrive, A: Allocator + Copy, F: Starts<S>>(
         → IfOk result (λ all. map match_of all.items ≡ walk (asked_of req.entry) t) }
     ensures bound { IfOk result (λ all. vec_len all ≤ most_matches (asked_of req.entry)) }
     ensures order { IfOk result (λ all. AreInOrder (start_of req.entry) (map match_of all.items)) }
-    ensures counts { CountsOfWalk (asked_of req.entry) (code_of req.entry) (most_matches (asked_of req.entry)) state.new }
+    ensures counts { CountsOfWalk (asked_of req.entry) (code_of req.entry)
+        (most_matches (asked_of req.entry)) state.new }
     ensures by_matches { IfOk result
         (λ all. CountsOfWalk (asked_of req.entry) (code_of req.entry) (vec_len all) state.new) }
     ensures once { state.new.restarted ≡ 0 }

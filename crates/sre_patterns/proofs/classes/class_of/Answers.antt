@@ -9,14 +9,14 @@ use Rattle.sre_patterns.proofs.classes.class_of.Goals as goal
 pub returns-in_ok-new-in-Bytes : goal.returns-in_ok-new-in-Bytes
 returns-in_ok-new-in-Bytes c j t s =
     rw (c.in-Bytes.is, meaning-Bytes)
-    (bytes-class 256 (uni_of c.args.code.now) t _ _ (omega arith) (just-below 256 _ _ (c.in_ok-ranges-in-Bytes.ensures j t s))
-    c.in_ok-new-in-Bytes.ensures)
+    (bytes-class 256 (uni_of c.args.code.now) t _ _ (omega arith)
+    (just-below 256 _ _ (c.in_ok-ranges-in-Bytes.ensures j t s)) c.in_ok-new-in-Bytes.ensures)
 
 pub returns-in_ok-new-in-Ascii : goal.returns-in_ok-new-in-Ascii
 returns-in_ok-new-in-Ascii c j t s =
     rw (c.in-Ascii.is, meaning-Bytes)
-    (bytes-class 128 (uni_of c.args.code.now) t _ _ (omega arith) (just-below 128 _ _ (c.in_ok-ranges-in-Ascii.ensures j t s))
-    c.in_ok-new-in-Ascii.ensures)
+    (bytes-class 128 (uni_of c.args.code.now) t _ _ (omega arith)
+    (just-below 128 _ _ (c.in_ok-ranges-in-Ascii.ensures j t s)) c.in_ok-new-in-Ascii.ensures)
 
 pub returns-in_ok-new-in-Utf8 : goal.returns-in_ok-new-in-Utf8
 returns-in_ok-new-in-Utf8 c j t s =

@@ -81,8 +81,8 @@ counted-returns t c =
     (bytes-rise c.args.bound) 1000 c.operand-low.result c.operand-high.result (omega arith)
     c.operand-low.ensures.word c.operand-high.ensures.word (c.are_kept.ensures c.if-not-are_kept.false)
     c.requires.counted c.is_greedy_loop-greedy.result re (meaning c.in_ok-repeated.field-0) c.skip-until.result
-    (c.skip-until.result + 1) c.skip-until.ensures.to refl c.is_greedy_loop-greedy.ensures.greedy least c.in_ok-body.ensures
-    c.in_ok-repeated.ensures
+    (c.skip-until.result + 1) c.skip-until.ensures.to refl c.is_greedy_loop-greedy.ensures.greedy least
+    c.in_ok-body.ensures c.in_ok-repeated.ensures
 
 pub branch-word-requires : goal.branch-word-requires
 branch-word-requires t c =

@@ -58,8 +58,8 @@ step-preserved g c =
     let long : vec_len c.push.new.list ≡ vec_len c.step.all + 1 = c.in_ok-push.ensures.len in
     let same : vec_len c.push.new.list - vec_len c.args.all.now ≡ vec_len c.step.all - vec_len c.args.all.now + 1 =
     omega (arith, long, inv.longer) in
-    let counted = match_on c.args.req c.step.req _ _ _ _ _ c.counted_step.new.state inv.code inv.asked inv.from inv.inside
-    inv.counted step.started step.compared c.counted_step.new.req goes (step.up_to_match c.if-branch.true) in
+    let counted = match_on c.args.req c.step.req _ _ _ _ _ c.counted_step.new.state inv.code inv.asked inv.from
+    inv.inside inv.counted step.started step.compared c.counted_step.new.req goes (step.up_to_match c.if-branch.true) in
     record {
       here = step.here;
       code = goes.pattern_codes ∙ inv.code;
