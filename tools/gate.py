@@ -6,10 +6,10 @@
 It looks whether tests, cases, seal and pictures stand (`standing.py`). `rt ci` proves each crate and its tests, or
 takes over what an earlier run on this machine proved of the same files, tries the must-fail edits, and runs the tests
 and the stored runs: each test that the sources count, and each program as both compilers build it. Once the crates
-below a crate are proved, its wrong bodies are tried (`wrong_bodies.py`), and beside them one function as it is, where
-cores are idle; one that an earlier run judged of the same texts stays judged (`judged.py`), but for GATE_ANEW=1.
-Over the crates that were proved the engine is built as C, Rust and Python take it, and tried there (`embedding.py`).
-In the end the programs answer the case files and made lines (`cases.py`); with `cases` they do that alone, over what an
+below a crate are proved, its wrong bodies are tried (`wrong_bodies.py`), and beside them their functions as they are,
+where cores are idle; one that an earlier run judged of the same texts stays judged (`judged.py`), but for GATE_ANEW=1.
+Over the crates that were proved the engine is built as C, Rust and Python take it, and tried there (`embedding.py`). In
+the end the programs answer the case files and made lines (`cases.py`); with `cases` they do that alone, over what an
 earlier run or `rt run` left. The gate tells what it ran on and what it took over, the minutes of each phase, by the
 clock and of processors, the dearest checks, and the dearest functions of the bundles, right or wrong (those of a crate
 or its tests: `dearest.py`). The last line counts what passed.
@@ -29,6 +29,7 @@ import cases
 import embedding
 import judged
 import standing
+import tries
 import wrong_bodies
 
 ROOT = wrong_bodies.ROOT
@@ -304,7 +305,9 @@ class Bundles:
         """The bodies that no earlier run has judged, and the name of each body for those that do."""
         left, names, texts = [], {}, wrong_bodies.sources(trial.crate.folder)
         bodies = wrong_bodies.bodies_of(trial.crate)
-        for body in [*bodies, *wrong_bodies.control(bodies, texts)]:
+        control = tries.control(trial.crate, bodies, texts)
+        # so that one is in the first bundle
+        for body in [*control[:1], *bodies, *control[1:]]:
             alone = wrong_bodies.Bundle(texts)
             # a body that cannot be tried is told of where the bundles are made
             if not body.fault(texts) and alone.take(body):

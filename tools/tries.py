@@ -4,7 +4,8 @@ Under `#[tactic(auto)]` a check searches for every goal of a function that has n
 alone tells. So its function is checked under `#[tactic(none)]`, which leaves such goals open, and its answers get a
 lemma for each search that the check would make for that one goal, in the check's own words: `search rules`,
 `grind (arith, common_steps)`, and where the function names lemmas, `grind (arith, ..)` with these. The goal is open
-where each of them finds nothing.
+where each of them finds nothing. So that this says something, they have to find the goal of the function as it is:
+each such function stands beside its wrong bodies, and one whose goal they do not find is searched for whole.
 """
 import re
 
@@ -103,6 +104,24 @@ def is_answered(goal, answers):
 def can_try(goals, answers):
     """Whether each of these goals has an answer, or is one for which the searches can be written."""
     return bool(goals) and all(is_answered(it, answers) or it.startswith("returns") for it in goals)
+
+
+def righted(crate, bodies):
+    """The functions of these bodies as they are, each once, with those of the goals that these make false for which
+    there are searches."""
+    made = {it.function: it.righted() for it in bodies if it.function}
+    for it in bodies:
+        if it.is_wrong and it.function and can_try(it.goals, crate.answers(it)):
+            made[it.function].goals += [goal for goal in it.goals if goal not in made[it.function].goals]
+    return list(made.values())
+
+
+def control(crate, bodies, texts):
+    """Those of them that have such goals, or else the shortest, where the texts have it by its name."""
+    listed = functions(texts)
+    found = [it for it in righted(crate, bodies) if it.function in listed and not listed[it.function].cycle]
+    found.sort(key=lambda it: len(listed[it.function].text(texts)))
+    return [it for it in found if it.goals] or found[:1]
 
 
 def under_none(texts, paths):

@@ -6,7 +6,8 @@
 A wrong body is a file crates/CRATE/wrong/NAME.edit, written as a must-fail edit is: lines 'file: src/..', and pairs of
 lines 'old: TEXT' and 'new: TEXT'. A line 'fn: PATH' names the function that has to be refused, as a check names it
 below its crate, and each TEXT stands once in that function, or else once in its file. No edit changes a contract or an
-attribute. A line 'goal: NAME' names the goal that has to stay open; without it any goal of the function may.
+attribute. A line 'goal: NAME' names the goal that has to stay open; without it any goal of the function may. A line
+'search: whole' is for a goal that a check finds by more than the searches of tries.py.
 
 A function is proved from the contracts of those that it calls, so what stays open in it is its own. So wrong bodies
 are written into one copy of the crate and checked at once, and the proofs of the functions that they call are holes. A
@@ -45,6 +46,9 @@ PROMISE = re.compile(r"\b(?:ensures|requires|ghost)\b[^{;]*[{;]")
 # for them. Its offers take a second pass, as long as a third of the first.
 NO_OFFERS = "\nno_offers : no_such_type\nno_offers = ?\n"
 
+# A check of more bodies than these would be the gate's end by the clock.
+MOST_BODIES = 52
+
 # The proof of a function that a wrong body may call. Its contract is what it is in any case.
 HOLE = """use Rattle.{crate}.proofs.{path}.Statement as stated
 
@@ -73,6 +77,11 @@ class Crate:
         self.own = [known[it] for it in listed if it in known]
         self.of_kit = ["std", *(it for it in listed if it not in known)]
         self.is_program = os.path.isfile(f"{self.folder}/src/main.rt")
+
+    def answers(self, body):
+        """The answers of a body's function, if it has any."""
+        path = f"{self.folder}/proofs/{body.proof()}/Answers.antt"
+        return read(path) if os.path.isfile(path) else ""
 
     def below(self):
         found = {}
@@ -136,14 +145,17 @@ class Body:
         self.name, end = os.path.splitext(os.path.basename(path))
         self.is_wrong = end == ".edit"
         self.function, self.goal, self.cycle, self.pairs, file, old = "", "", "", [], "", ""
-        self.goals = []  # of a right body, those that wrong ones of its function make false
-        self.searches = None  # where each goal that tells has a search of its own
+        self.is_whole = False  # whether each goal of its function is searched for
+        self.goals = []  # those that tell; of a right body, those that wrong ones of its function make false
+        self.searches = None  # where each of these has searches of its own
         for row in read(path).split("\n"):
             word, _, text = row.partition(": ")
             if word == "fn":
                 self.function = text
             elif word == "goal":
-                self.goal, self.goals = text, [text]
+                self.goal = text
+            elif word == "search":
+                self.is_whole = text == "whole"
             elif word == "cycle":
                 self.cycle = text
             elif word == "file":
@@ -152,6 +164,7 @@ class Body:
                 old = text
             elif word in ("new", "new:"):
                 self.pairs.append((file, old, text))
+        self.goals = [self.goal] if self.goal and not self.is_whole else []
 
     def proof(self):
         """The folder of the function's proof, below `proofs/`."""
@@ -243,23 +256,6 @@ def bodies_of(crate, part="wrong"):
     return [Body(f"{folder}/{it}") for it in names if it.endswith((".edit", ".right"))]
 
 
-def righted(bodies):
-    """The functions of these bodies as they are, each once, with the goals that these make false: the control of the
-    bundles."""
-    made = {it.function: it.righted() for it in bodies if it.function}
-    for it in bodies:
-        if it.is_wrong and it.function:
-            made[it.function].goals.append(it.goal)
-    return list(made.values())
-
-
-def control(bodies, texts):
-    """The shortest of these functions, as it is, where the texts have one by its name."""
-    listed = functions(texts)
-    found = [it for it in righted(bodies) if it.function in listed]
-    return sorted(found, key=lambda it: len(listed[it.function].text(texts)))[:1]
-
-
 class Bundle:
     """Bodies that are tried in one check, each of a function of its own name, and the texts that they make."""
 
@@ -271,7 +267,7 @@ class Bundle:
         """Takes a body in, in its function or, where that is another by now, in a copy of it: whether it could. One
         that changes more than its function stands alone."""
         is_inside = body.is_inside(self.before)
-        if self.bodies and not (is_inside and self.is_open):
+        if self.bodies and not (is_inside and self.is_open and len(self.bodies) < MOST_BODIES):
             return False
         self.is_open = is_inside
         names = {it.function for it in self.bodies}
@@ -458,7 +454,7 @@ def by_hand(crate, picked, is_alone, is_right):
         return f"{below.folder}/out/rlib"
 
     bodies = [it for it in bodies_of(crate) if not picked or it.name in picked]
-    bodies = righted(bodies) if is_right else bodies
+    bodies = tries.righted(crate, bodies) if is_right else bodies
     made, bad = bundles(bodies, crate, is_alone)
     failed = len(bad)
     for line in bad:
