@@ -5,6 +5,7 @@ use Rattle.regex_hir.specs.Re.{Re}
 use Rattle.regex_hir.specs.Matches.{Matches}
 use Rattle.regex_nfa.specs.declared.nfa.Nfa.{Nfa}
 use Rattle.regex_compile.specs.Implements.{HasPaths}
+use Rattle.sre_chars.specs.declared.string.StringCursor.{StringCursor}
 use Rattle.sre_model.specs.Tree.{Tree}
 use Rattle.sre_model.specs.Grammar.{WholeItems}
 use Rattle.sre_model.specs.Marks.{no_marks}
@@ -18,7 +19,7 @@ use Rattle.sre_patterns.specs.declared.encoding.Encoding.{Encoding}
 use Rattle.sre_automata.specs.Told.{NoneLeft, NoneUpTo}
 use Rattle.sre_engine.specs.Starts.{NoneBetween}
 use Rattle.sre_finder.specs.Views.{SeenAs}
-use Rattle.sre_finder.specs.Finders.{Covering, CoveringAny}
+use Rattle.sre_finder.specs.Finders.{Covering, CoveringAny, EndStands}
 
 -- automata of a pattern that covers each start of a code
 pub covered : (encoding : Encoding) (code : Code) (o : Option Nfa) (re : Re) → IfSome o (λ nfa. HasPaths nfa re)
@@ -60,3 +61,9 @@ covers_same encoding other code own nfa c e f t whole =
     subst (λ k. CoversStart (view_of k) (uni_of own) c.pattern t) e
     (subst (λ d. CoversStart (view_of encoding) (uni_of d) c.pattern t) f
     (c.covers t (subst (λ d. WholeItems (items_of d) t) (sym f) whole)))
+
+-- a window's end stands in a text in one way
+pub end_once : (stands : StringCursor → ℕ → Type 0) → ((c : StringCursor) (p : ℕ) → IsProp (stands c p))
+    → (o : Option StringCursor) → IsProp (EndStands stands o)
+end_once stands once None = λ x y. refl
+end_once stands once (Some end) = once end end.position

@@ -1,2 +1,3 @@
 pub mod Views
 pub mod Finders
+pub mod FinderIters

@@ -1,0 +1,8 @@
+-- What a walk with a finder shows.
+use Rattle.sre_chars.specs.declared.string.StrDrive.{Ghosts}
+use Rattle.sre_engine.specs.declared.engine.search_iter.SearchIter.{SearchIter}
+use Rattle.sre_finder.specs.declared.finder_iter.FinderIter.{FinderIter}
+
+-- its walk, which asks the finder
+abbrev pub walk_of : {S A : Type 0} {text : Ghosts S} → FinderIter S A text → SearchIter S A text
+walk_of it = it.walk

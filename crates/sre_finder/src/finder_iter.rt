@@ -1,0 +1,92 @@
+//! The walk over all matches, one after the other, of a finder's code.
+
+ghost use Rattle.std.specs.Prelude.{◌≡◌, false};
+ghost use Rattle.sre_request.specs.Requests.{string_of, code_of};
+ghost use Rattle.sre_engine.specs.Iterators.{request_of};
+ghost use Rattle.sre_finder.specs.Finders.{EndStands};
+
+use crate::finder::Finder;
+use crate::haystack::Haystack;
+use sre_chars::string::StrDrive;
+use sre_engine::engine::{SearchIter, SreError, State};
+use sre_request::Request;
+use std::alloc::Allocator;
+
+/// The matches of a window as a `SearchIter` gives them; the starts of which the automata tell that they have no match
+/// are passed.
+#[derive(Drop)]
+pub struct FinderIter<'c, 'a, S: StrDrive, A: Allocator + Copy> {
+    finder: Finder<'c>,
+    walk: SearchIter<'a, S, A>,
+    ghost own: { finder.code ≡ code_of (request_of walk) },
+    ghost known: { ∥ EndStands (S.stands (string_of (request_of walk))) finder.end ∥₁ },
+}
+
+impl<'c> Finder<'c> {
+    ghost use Rattle.sre_request.specs.Requests.{code_of};
+    ghost use Rattle.sre_engine.specs.Iterators.{request_of, shown_of, has_ended};
+    ghost use Rattle.sre_finder.specs.FinderIters.{walk_of};
+
+    /// The walk over a request's window. The state shows what it showed until the first item comes.
+    pub fn walk<'a, S: Haystack, A: Allocator + Copy>(
+        self,
+        req: Request<'a, S>,
+        state: State<A>,
+    ) -> FinderIter<'c, 'a, S, A>
+        requires { self.code ≡ code_of req }
+        ensures req { request_of (walk_of result) ≡ req.entry }
+        ensures state { shown_of (walk_of result) ≡ state }
+        ensures open { has_ended (walk_of result) ≡ false }
+    {
+        let mut finder = self;
+        finder.reset();
+        FinderIter {
+            finder,
+            walk: SearchIter::new(req, state),
+        }
+    }
+}
+
+impl<'c, 'a, S: StrDrive, A: Allocator + Copy> FinderIter<'c, 'a, S, A> {
+    ghost use Rattle.sre_engine.specs.Iterators.{request_of, shown_of};
+    ghost use Rattle.sre_finder.specs.FinderIters.{walk_of};
+
+    /// What is asked next, as `SearchIter::req` tells it.
+    pub fn req(&self) -> &Request<'a, S>
+        ensures { result.now ≡ request_of (walk_of self.now) }
+    {
+        self.walk.req()
+    }
+
+    /// The state, which shows the match of the last item.
+    pub fn state(&self) -> &State<A>
+        ensures { result.now ≡ shown_of (walk_of self.now) }
+    {
+        self.walk.state()
+    }
+
+    /// The finder, for another text.
+    pub fn into_finder(self) -> Finder<'c>
+        ensures { result.code ≡ code_of (request_of (walk_of self.entry)) }
+    {
+        let FinderIter { finder, walk } = self;
+        drop(walk);
+        finder
+    }
+}
+
+impl<'c, 'a, S: Haystack, A: Allocator + Copy> Iterator for FinderIter<'c, 'a, S, A> {
+    ghost use Rattle.std.specs.Iterator.{at_most};
+    ghost use Rattle.sre_engine.specs.Iterators.{NextGives, most_items};
+    ghost use Rattle.sre_finder.specs.FinderIters.{walk_of};
+
+    type Item = Result<(), SreError>;
+
+    ghost next_gives = { λ it result next. NextGives (walk_of it) result (walk_of next) };
+
+    ghost remaining = { λ it. at_most (most_items (walk_of it)) };
+
+    fn next(&mut self) -> Option<Result<(), SreError>> {
+        self.walk.next_by(&mut self.finder)
+    }
+}
