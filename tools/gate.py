@@ -51,6 +51,14 @@ def tell(line):
         print(line, flush=True)
 
 
+def linked(source, target):
+    """Makes a file stand at a second place, or a copy of it where that cannot be."""
+    try:
+        os.link(source, target)
+    except OSError:
+        shutil.copy2(source, target)
+
+
 def minutes(seconds):
     return f"{int(seconds) // 60}:{int(seconds) % 60:02}"
 
@@ -177,7 +185,7 @@ class Prover:
         self.rlibs, self.proved, self.idle_edits, self.last = rlibs, {}, 0, ""
         self.ran = Ran()
         self.taken_over, self.crates = 0, len(wrong_bodies.crates())
-        self.changed = threading.Condition()
+        self.changed, self.has_ended = threading.Condition(), False
         self.rt = subprocess.Popen(
             ["rt", "ci"], cwd=ROOT, text=True, errors="replace",
             stdin=subprocess.DEVNULL, stdout=subprocess.PIPE, stderr=subprocess.STDOUT,
@@ -196,13 +204,14 @@ class Prover:
                 self.end(ended[1], ended[2] != "NOT PROVED")
         self.rt.wait()
         with self.changed:
+            self.has_ended = True
             self.changed.notify_all()
 
     def end(self, name, is_proved):
         made = f"{ROOT}/crates/{name}/out/rlib/{name}.rlib"
         if is_proved and os.path.isdir(made):
-            # in the end rt ci puts back what stood there
-            shutil.copytree(made, f"{self.rlibs}/{name}/{name}.rlib")
+            # in the end rt ci puts back what stood there, and where it takes all over that is soon
+            shutil.copytree(made, f"{self.rlibs}/{name}/{name}.rlib", copy_function=linked)
         with self.changed:
             self.proved[name] = is_proved
             self.changed.notify_all()
@@ -215,7 +224,7 @@ class Prover:
         """Waits until these crates are proved, or one of them cannot be any more: whether they are."""
         with self.changed:
             self.changed.wait_for(
-                lambda: self.rt.poll() is not None
+                lambda: self.has_ended
                 or all(it in self.proved for it in names)
                 or not all(self.proved.get(it, True) for it in names)
             )
