@@ -12,6 +12,8 @@ import os
 import re
 import sys
 
+import faults
+
 ROOT = os.path.dirname(os.path.dirname(os.path.realpath(__file__)))
 CRATE = f"{ROOT}/crates/sre_c"
 HEADER = "crates/sre_c/include/sre.h"
@@ -101,15 +103,5 @@ def unlike():
         yield f"crates/sre_c/src/lib.rt marks {marked} functions, and not all of them are read"
 
 
-def main(words):
-    if words:
-        print(__doc__.strip())
-        return 2
-    lines = list(unlike())
-    for line in lines:
-        print(line)
-    return 1 if lines else 0
-
-
 if __name__ == "__main__":
-    sys.exit(main(sys.argv[1:]))
+    sys.exit(faults.told(sys.argv[1:], __doc__, None, unlike))
