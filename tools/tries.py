@@ -108,11 +108,13 @@ def can_try(goals, answers):
 
 def righted(crate, bodies):
     """The functions of these bodies as they are, each once, with those of the goals that these make false for which
-    there are searches."""
+    there are searches. A goal with an answer has none: that the answer is its proof the crate's own check shows."""
     made = {it.function: it.righted() for it in bodies if it.function}
     for it in bodies:
-        if it.is_wrong and it.function and can_try(it.goals, crate.answers(it)):
-            made[it.function].goals += [goal for goal in it.goals if goal not in made[it.function].goals]
+        answers = crate.answers(it)
+        if it.is_wrong and it.function and can_try(it.goals, answers):
+            goals = made[it.function].goals
+            goals += [goal for goal in it.goals if goal not in goals and not is_answered(goal, answers)]
     return list(made.values())
 
 
