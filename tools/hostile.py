@@ -1,10 +1,10 @@
 #!/usr/bin/env python3
 """Random and changed words, as `check` lines for the program `sre_cases`, and whether they are a code.
 
-    hostile.py [--lists N] [--seed N] PROGRAM     holds the program to a plain reader of the grammar
+    hostile.py [--lists N] [--seed N] PROGRAM     holds the program to the reader of `listing.py`
     hostile.py [--lists N] [--seed N]             writes the lines, and behind each one whether it is a code
 
-The reader is written from docs/WORDS.md and calls itself for parts. Most random lists are codes in which a few words
+The reader is written from docs/WORDS.md, and calls itself for parts. Most random lists are codes in which a few words
 were changed, since words that are drawn one by one are hardly ever a code. The same seed gives the same lists. The
 status is 1 where the program and the reader differ, or where less than a fifth of the lists are codes, or are none.
 
@@ -20,6 +20,8 @@ import subprocess
 import sys
 import tempfile
 
+from listing import Listing
+
 FAILURE, SUCCESS, ANY, ANY_ALL, ASSERT, ASSERT_NOT, AT, BRANCH, CATEGORY, CHARSET, BIGCHARSET, GROUPREF = range(12)
 GROUPREF_EXISTS, IN, INFO, JUMP, LITERAL, MARK, MAX_UNTIL, MIN_UNTIL, NOT_LITERAL, NEGATE, RANGE, REPEAT = range(12, 24)
 REPEAT_ONE, _SUBPATTERN, MIN_REPEAT_ONE, ATOMIC_GROUP, POSSESSIVE_REPEAT, POSSESSIVE_REPEAT_ONE = range(24, 30)
@@ -33,161 +35,8 @@ RUNS = [REPEAT_ONE, MIN_REPEAT_ONE, POSSESSIVE_REPEAT_ONE]
 POSITIONS, CATEGORIES, OPCODES, GREATEST = 12, 18, 43, 2**32 - 1
 
 
-class NoCode(Exception):
-    """What the reader says of words that are no code."""
-
-
-def demand(holds):
-    if not holds:
-        raise NoCode
-
-
-class Reader:
-    """Reads words as a code. Each method reads what is at a place, and gives the place behind it."""
-
-    def __init__(self, words):
-        self.words = words
-
-    def word(self, place):
-        demand(0 <= place < len(self.words))
-        return self.words[place]
-
-    def skip(self, place):
-        return place + self.word(place)
-
-    def stands(self, word, place):
-        demand(self.word(place) == word)
-
-    def code(self):
-        """A block, if there is one, items, and SUCCESS as the last word."""
-        start = 0
-        if self.word(0) == INFO:
-            demand(self.word(1) >= 4)
-            start = self.skip(1)
-        self.stands(SUCCESS, len(self.words) - 1)
-        self.items(start, len(self.words) - 1)
-
-    def items(self, place, end):
-        """Items that fill the words from a place up to an end."""
-        while place < end:
-            place = self.item(place)
-        demand(place == end)
-
-    def item(self, place):
-        opcode = self.word(place)
-        if opcode == FAILURE:
-            return place + 1
-        if opcode == AT:
-            demand(self.word(place + 1) < POSITIONS)
-            return place + 2
-        if opcode == MARK or opcode in REFERENCES:
-            self.word(place + 1)
-            return place + 2
-        others = {
-            BRANCH: self.branch, REPEAT: self.loop, POSSESSIVE_REPEAT: self.loop, ATOMIC_GROUP: self.atomic_group,
-            ASSERT: self.look, ASSERT_NOT: self.look, GROUPREF_EXISTS: self.condition, **{it: self.run for it in RUNS},
-        }
-        return others.get(opcode, self.test)(place)
-
-    def test(self, place):
-        """A test of one character."""
-        opcode = self.word(place)
-        if opcode in (ANY, ANY_ALL):
-            return place + 1
-        if opcode == CATEGORY:
-            demand(self.word(place + 1) < CATEGORIES)
-            return place + 2
-        if opcode in LITERALS:
-            self.word(place + 1)
-            return place + 2
-        demand(opcode in SETS)
-        end = self.skip(place + 1) - 1
-        demand(place + 2 <= end)
-        self.stands(FAILURE, end)
-        place += 2
-        while place < end:
-            place = self.set_item(place)
-        demand(place == end)
-        return end + 1
-
-    def set_item(self, place):
-        opcode = self.word(place)
-        if opcode == NEGATE:
-            return place + 1
-        if opcode == BIGCHARSET:
-            count = self.word(place + 1)
-            for at in range(place + 2, place + 66):
-                demand(max(self.word(at).to_bytes(4, "little")) < count)
-            behind = place + 66 + 8 * count
-        else:
-            lengths = {LITERAL: 2, RANGE: 3, RANGE_UNI_IGNORE: 3, CATEGORY: 2, CHARSET: 9}
-            demand(opcode in lengths)
-            demand(opcode != CATEGORY or self.word(place + 1) < CATEGORIES)
-            behind = place + lengths[opcode]
-        self.word(behind - 1)
-        return behind
-
-    def branch(self, place):
-        lengths = [place + 1]
-        while self.word(lengths[-1]):
-            lengths.append(self.skip(lengths[-1]))
-        demand(len(lengths) > 1)
-        behind = lengths[-1] + 1
-        for at, following in zip(lengths, lengths[1:]):
-            self.items(at + 1, following - 2)
-            self.stands(JUMP, following - 2)
-            demand(self.skip(following - 1) == behind)
-        return behind
-
-    def counts(self, place):
-        demand(self.word(place + 2) <= self.word(place + 3))
-
-    def run(self, place):
-        self.counts(place)
-        end = self.test(place + 4)
-        self.stands(SUCCESS, end)
-        demand(self.skip(place + 1) == end + 1)
-        return end + 1
-
-    def loop(self, place):
-        self.counts(place)
-        end = self.skip(place + 1)
-        self.items(place + 4, end)
-        demand(self.word(end) in ((MAX_UNTIL, MIN_UNTIL) if self.word(place) == REPEAT else (SUCCESS,)))
-        return end + 1
-
-    def region(self, start, behind):
-        """Items and SUCCESS."""
-        self.items(start, behind - 1)
-        self.stands(SUCCESS, behind - 1)
-        return behind
-
-    def atomic_group(self, place):
-        return self.region(place + 2, self.skip(place + 1))
-
-    def look(self, place):
-        return self.region(place + 3, self.skip(place + 1))
-
-    def condition(self, place):
-        # the skip counts from the group
-        end = place + 1 + self.word(place + 2)
-        try:
-            self.items(place + 3, end - 2)
-            self.stands(JUMP, end - 2)
-        except NoCode:
-            self.items(place + 3, end)
-            return end
-        behind = self.skip(end - 1)
-        self.items(end, behind)
-        return behind
-
-
 def is_code(words):
-    try:
-        Reader(words).code()
-    except NoCode:
-        return False
-    return True
+    return Listing(words).is_code
 
 
 class Writer:
