@@ -1,10 +1,12 @@
 -- Lists without a fault rise, and so a character is looked up at the last entry that begins at it or below.
 use Rattle.std.proofs.Common.{◌≡◌, ℕ, zero, suc, ◌+◌, ◌==◌, ◌<◌, ◌≤◌, Bool, true, false, ◌&&◌, ◌||◌, if◌then◌else◌}
-use Rattle.std.proofs.Common.{Option, Some, None, unwrap_or, List, [], ◌∷◌, length, get_or, refl, arith}
+use Rattle.std.proofs.Common.{Option, Some, None, unwrap_or, List, [], ◌∷◌, length, get_or, map, refl, arith}
 use Rattle.std.specs.Prelude.{nat_le, nat_lt}
 use Rattle.std.specs.Option.{option_or}
 use Rattle.std.specs.List.Sorted.{IsNonDecreasingBy}
 use Rattle.std.proofs.lemmas.Bool.Decides.{nat_tests}
+use Rattle.std.proofs.lemmas.List.{length-map}
+use Rattle.std.proofs.Math.ListN.{get_or-map}
 use Rattle.sre_chars.specs.Tables.{Table, is_scalar, is_between, is_in_ranges, is_alphanumeric, mapped, last_up_to}
 use Rattle.sre_chars.specs.Errors.{last_of, is_scalar_entry, entry_fault, list_fault, table_fault}
 use Rattle.sre_chars.specs.declared.table.Listing.{Listing}
@@ -64,26 +66,33 @@ none_up_to kind next [] c h l = refl
 none_up_to kind next (e ∷ es) c h l = let above = (head_of kind next e es h).0.above in grind (arith, nat_tests)
 
 -- where every entry begins above c there is none
-pub last_up_to-none : (es : List (ℕ × ℕ)) (c : ℕ) (d : ℕ × ℕ)
-    → ((k : ℕ) → k < length es → nat_le (get_or es k d).0 c ≡ false) → last_up_to es c ≡ None
-last_up_to-none [] c d above = refl
-last_up_to-none (e ∷ es) c d above = rw (above 0 (omega arith)) refl
+pub last_up_to-none : {X : Type 0} (pair : X → ℕ × ℕ) (es : List X) (c : ℕ)
+    → ((k : ℕ) (d : X) → k < length es → nat_le (pair (get_or es k d)).0 c ≡ false) → last_up_to (map pair es) c ≡ None
+last_up_to-none pair [] c above = refl
+last_up_to-none pair (e ∷ es) c above = rw (above 0 e (omega arith)) refl
 
 -- where the entries up to place i begin at c or below, and the others above it, it is the one at i
-pub last_up_to-at : (es : List (ℕ × ℕ)) (c i : ℕ) (d : ℕ × ℕ) → i < length es
-    → ((k : ℕ) → k ≤ i → nat_le (get_or es k d).0 c ≡ true)
-    → ((k : ℕ) → i < k → k < length es → nat_le (get_or es k d).0 c ≡ false)
-    → last_up_to es c ≡ Some (get_or es i d)
-last_up_to-at [] c i d l below above = absurd (omega arith)
-last_up_to-at (e ∷ es) c zero d l below above =
-    let rest = last_up_to-none es c d (λ k h. above (suc k) (omega arith) (omega arith)) in
+pub last_up_to-at : {X : Type 0} (pair : X → ℕ × ℕ) (es : List X) (c i : ℕ) (d : X) → i < length es
+    → ((k : ℕ) → k ≤ i → nat_le (pair (get_or es k d)).0 c ≡ true)
+    → ((k : ℕ) (x : X) → i < k → k < length es → nat_le (pair (get_or es k x)).0 c ≡ false)
+    → last_up_to (map pair es) c ≡ Some (pair (get_or es i d))
+last_up_to-at pair [] c i d l below above = absurd (omega arith)
+last_up_to-at pair (e ∷ es) c zero d l below above =
+    let rest = last_up_to-none pair es c (λ k x h. above (suc k) x (omega arith) (omega arith)) in
     rw (below 0 (omega arith), rest) refl
-last_up_to-at (e ∷ es) c (suc i) d l below above =
+last_up_to-at pair (e ∷ es) c (suc i) d l below above =
     let rest =
-    last_up_to-at es c i d (omega arith) (λ k h. below (suc k) (omega arith))
-    (λ k h m. above (suc k) (omega arith) (omega arith))
+    last_up_to-at pair es c i d (omega arith) (λ k h. below (suc k) (omega arith))
+    (λ k x h m. above (suc k) x (omega arith) (omega arith))
     in
     rw (below 0 (omega arith), rest) refl
+
+-- pairs rise as what they are of does
+pub non_decreasing-of_pairs : {X : Type 0} (pair : X → ℕ × ℕ) (es : List X)
+    → IsNonDecreasingBy (λ e. e.0) (map pair es) → IsNonDecreasingBy (λ e. (pair e).0) es
+non_decreasing-of_pairs pair es rises i j d le l =
+    let at = rises i j (pair d) le (rw (length-map es pair) l) in
+    rw (← get_or-map pair es i d, ← get_or-map pair es j d) at
 
 -- what a character is mapped to by the entry where it is looked up
 abbrev pub image_by : Option (ℕ × ℕ) → ℕ → ℕ

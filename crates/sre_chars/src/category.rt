@@ -10,14 +10,14 @@ ghost use Rattle.sre_chars.specs.Categories.{is_unicode_digit, is_unicode_space,
 ghost use Rattle.sre_chars.specs.Categories.{is_unicode_linebreak};
 
 use crate::constants::SreCatCode;
-use crate::table::{UniTable, is_ascii_alphanumeric};
+use crate::table::{LentTable, is_ascii_alphanumeric};
 
 /// Whether a character is in a category.
 ///
 /// A `NOT` form has the characters that its plain form lacks. The lists are those of CPython's
 /// `_sre`, with the table's alphanumerics and digits in place of its database.
 #[inline(always)]
-pub fn category(table: &UniTable, code: SreCatCode, ch: u32) -> bool
+pub fn category(table: &LentTable, code: SreCatCode, ch: u32) -> bool
     ensures { result ≡ category table.now (category_number code) ch }
 {
     match code {
@@ -47,7 +47,7 @@ fn is_digit(ch: u32) -> bool
     matches!(ch, 48..=57)
 }
 
-fn is_unicode_digit(table: &UniTable, ch: u32) -> bool
+fn is_unicode_digit(table: &LentTable, ch: u32) -> bool
     ensures { result ≡ is_unicode_digit table.now ch }
 {
     if ch < 128 {
@@ -84,7 +84,7 @@ fn is_unicode_space(ch: u32) -> bool
     matches!(ch, 9..=13 | 28..=32 | 133 | 160 | 5760 | 8192..=8202 | 8232..=8233 | 8239 | 8287 | 12288)
 }
 
-fn is_unicode_word(table: &UniTable, ch: u32) -> bool
+fn is_unicode_word(table: &LentTable, ch: u32) -> bool
     ensures { result ≡ is_unicode_word table.now ch }
 {
     ch == 95 || table.is_alphanumeric(ch)

@@ -10,7 +10,7 @@ ghost use Rattle.sre_chars.specs.Texts.{Sought};
 
 pub use crate::category::category;
 pub use crate::table::{
-    UniError, UniTable, lower_ascii, lower_unicode, upper_ascii, upper_unicode,
+    LentTable, UniError, UniPair, UniTable, lower_ascii, lower_unicode, upper_ascii, upper_unicode,
 };
 pub use crate::text::cursor_at;
 use std::marker::Model;

@@ -3,17 +3,20 @@
 //! ASCII is fixed in the code. Past it a table holds four rising lists, two of (from, to) and two
 //! of (low, high), and a character is looked up by halving.
 
-ghost use Rattle.std.specs.Prelude.{◌≡◌, ◌==◌, nat_le, [], None, Some, IfOk, OnOk, IfErr, IsOkUnless, OnErr};
+ghost use Rattle.std.specs.Prelude.{◌≡◌, [], None, Some, IfOk, OnOk, IfErr, IsOkUnless, OnErr};
 ghost use Rattle.std.specs.Option.{option_or};
 ghost use Rattle.sre_chars.specs.Tables.{ascii_table, table_of, lower_ascii, upper_ascii, lower_of, upper_of};
-ghost use Rattle.sre_chars.specs.Tables.{is_alphanumeric, is_ascii_alphanumeric, is_in_ranges, last_up_to, mapped};
+ghost use Rattle.sre_chars.specs.Tables.{is_alphanumeric, is_ascii_alphanumeric, is_in_ranges, mapped};
 ghost use Rattle.sre_chars.specs.Errors.{list_fault, table_fault};
-ghost use Rattle.std.specs.List.Sorted.{IsNonDecreasingBy};
+ghost use Rattle.sre_chars.specs.Lists.{entries_in, lent_table, lists_fault};
 ghost use Rattle.sre_growth.specs.Refusal.{Refused};
 
+mod entries;
 pub mod lists;
 
-use lists::{Lists, checked_lists, checked_ranges, std_lists};
+use entries::Entries;
+pub use entries::UniPair;
+use lists::{Lists, check_lent, checked_lists, checked_ranges, std_lists};
 use sre_growth::Refusal;
 use std::alloc::Global;
 use std::marker::Model;
@@ -76,38 +79,48 @@ enum Listing {
 /// ASCII is fixed: A to Z and a to z are each other's cases, letters and digits are alphanumeric, and 0 to 9
 /// are digits. Past ASCII a character without an entry is its own lower and upper case, one that lies in
 /// no range of the alphanumerics is not alphanumeric, and one in no range of the digits is no digit.
+///
+/// It keeps its lists itself, as [`UniTable`] always does, or a caller lends them for as long as `'t`.
 #[derive(Drop)]
-pub struct UniTable {
-    lower: Vec<(u32, u32)>,
-    upper: Vec<(u32, u32)>,
-    alnum: Vec<(u32, u32)>,
-    digits: Vec<(u32, u32)>,
+pub struct LentTable<'t> {
+    lower: Entries<'t>,
+    upper: Entries<'t>,
+    alnum: Entries<'t>,
+    digits: Entries<'t>,
+    alloc: Global,
 }
 
-impl Model for UniTable {
+/// A table that keeps its lists itself, and so lives as long as its owner wants.
+pub type UniTable = LentTable<'static>;
+
+impl<'t> Model for LentTable<'t> {
     ghost use Rattle.std.specs.Prelude.{◌≡◌, None};
     ghost use Rattle.sre_chars.specs.Tables.{Table, table_of};
     ghost use Rattle.sre_chars.specs.Errors.{table_fault, list_fault};
+    ghost use Rattle.sre_chars.specs.Lists.{entries_in, table_with};
     ghost use Rattle.sre_chars.specs.declared.table.Listing.TheVariants.{Ranges};
 
     ghost Value = { Table };
 
-    ghost view = { λ t. record (table_of t.lower.items t.upper.items t.alnum.items) { digits = t.digits.items } };
+    ghost view = { λ t.
+        table_with (entries_in t.lower) (entries_in t.upper) (entries_in t.alnum) (entries_in t.digits) };
 
-    ghost invariant = { λ t. (table_fault (table_of t.lower.items t.upper.items t.alnum.items) ≡ None)
-        × (list_fault Ranges 0 t.digits.items ≡ None) };
+    ghost invariant = { λ t.
+        (table_fault (table_of (entries_in t.lower) (entries_in t.upper) (entries_in t.alnum)) ≡ None)
+        × (list_fault Ranges 0 (entries_in t.digits) ≡ None) };
 }
 
-impl UniTable {
+impl<'t> LentTable<'t> {
     /// The table that knows ASCII alone. It takes no memory.
-    pub fn ascii(alloc: Global) -> UniTable
+    pub fn ascii(alloc: Global) -> LentTable<'t>
         ensures { result ≡ ascii_table }
     {
-        UniTable {
-            lower: Vec::new(alloc),
-            upper: Vec::new(alloc),
-            alnum: Vec::new(alloc),
-            digits: Vec::new(alloc),
+        LentTable {
+            lower: Entries::Lent(&[]),
+            upper: Entries::Lent(&[]),
+            alnum: Entries::Lent(&[]),
+            digits: Entries::Lent(&[]),
+            alloc,
         }
     }
 
@@ -130,7 +143,7 @@ impl UniTable {
         lower: &[(u32, u32)],
         upper: &[(u32, u32)],
         alnum: &[(u32, u32)],
-    ) -> Result<UniTable, UniError>
+    ) -> Result<LentTable<'t>, UniError>
         ensures table { IfOk result (λ table. table ≡ table_of lower.now upper.now alnum.now) }
         ensures lawful { OnOk result (table_fault (table_of lower.now upper.now alnum.now) ≡ None) }
         ensures refused { IfErr result (λ error.
@@ -142,11 +155,12 @@ impl UniTable {
             upper,
             alnum,
         } = checked_lists(alloc, lower, upper, alnum)?;
-        Ok(UniTable {
-            lower,
-            upper,
-            alnum,
-            digits: Vec::new(alloc),
+        Ok(LentTable {
+            lower: Entries::Kept(lower),
+            upper: Entries::Kept(upper),
+            alnum: Entries::Kept(alnum),
+            digits: Entries::Lent(&[]),
+            alloc,
         })
     }
 
@@ -161,7 +175,7 @@ impl UniTable {
     /// # Errors
     ///
     /// Only [`UniError::Memory`], where a growth of a list was refused.
-    pub fn from_std(alloc: Global) -> Result<UniTable, UniError>
+    pub fn from_std(alloc: Global) -> Result<LentTable<'t>, UniError>
         ensures digits { IfOk result (λ table. table.digits ≡ []) }
         ensures refused { IsOkUnless result UniError.Memory }
         ensures grows { OnErr result Refused }
@@ -171,23 +185,72 @@ impl UniTable {
             upper,
             alnum,
         } = std_lists(alloc)?;
-        Ok(UniTable {
-            lower,
-            upper,
-            alnum,
-            digits: Vec::new(alloc),
+        Ok(LentTable {
+            lower: Entries::Kept(lower),
+            upper: Entries::Kept(upper),
+            alnum: Entries::Kept(alnum),
+            digits: Entries::Lent(&[]),
+            alloc,
         })
+    }
+
+    /// The table of four lists that a caller lends. It takes no memory.
+    ///
+    /// The lists are as those of [`LentTable::new`] and [`LentTable::set_digits`]. They are read once from end to end, so
+    /// a caller who keeps them keeps the table, or knows that they have no fault and calls
+    /// [`LentTable::lent_faultless`].
+    ///
+    /// # Errors
+    ///
+    /// The first fault of the lists, in the order of the parameters, as [`LentTable::new`] has them. Never
+    /// [`UniError::Memory`].
+    pub fn lent(
+        alloc: Global,
+        lower: &'t [UniPair],
+        upper: &'t [UniPair],
+        alnum: &'t [UniPair],
+        digits: &'t [UniPair],
+    ) -> Result<LentTable<'t>, UniError>
+        ensures table { IfOk result (λ table. table ≡ lent_table lower.now upper.now alnum.now digits.now) }
+        ensures lawful { OnOk result (lists_fault (lent_table lower.now upper.now alnum.now digits.now) ≡ None) }
+        ensures refused { IfErr result (λ error.
+            lists_fault (lent_table lower.now upper.now alnum.now digits.now) ≡ Some error) }
+    {
+        check_lent(lower, upper, alnum, digits)?;
+        Ok(LentTable::lent_faultless(alloc, lower, upper, alnum, digits))
+    }
+
+    /// The table of four lists that a caller lends, and that are known to have no fault. It takes no memory, and the
+    /// time does not grow with the lists.
+    #[inline(always)]
+    pub fn lent_faultless(
+        alloc: Global,
+        lower: &'t [UniPair],
+        upper: &'t [UniPair],
+        alnum: &'t [UniPair],
+        digits: &'t [UniPair],
+    ) -> LentTable<'t>
+        requires lawful { lists_fault (lent_table lower.now upper.now alnum.now digits.now) ≡ None }
+        ensures { result ≡ lent_table lower.now upper.now alnum.now digits.now }
+    {
+        LentTable {
+            lower: Entries::Lent(lower),
+            upper: Entries::Lent(upper),
+            alnum: Entries::Lent(alnum),
+            digits: Entries::Lent(digits),
+            alloc,
+        }
     }
 
     /// Replaces the decimal digits past ASCII by those of some ranges, which it copies. 0 to 9 are always digits.
     ///
-    /// `digits` holds pairs (low, high) as the alphanumerics of [`UniTable::new`] do. The other lists stay: a
+    /// `digits` holds pairs (low, high) as the alphanumerics of [`LentTable::new`] do. The other lists stay: a
     /// digit is alphanumeric only where they say so. With the ranges of Unicode's general category Nd a UNI_DIGIT
     /// is what `\d` is in Python's `re`. The memory comes from the allocator that the table was made with.
     ///
     /// # Errors
     ///
-    /// The first fault of the ranges, as [`UniTable::new`] has them, and only then [`UniError::Memory`], where a
+    /// The first fault of the ranges, as [`LentTable::new`] has them, and only then [`UniError::Memory`], where a
     /// request was refused. After an error the table is as it was.
     pub fn set_digits(&mut self, digits: &[(u32, u32)]) -> Result<(), UniError>
         ensures table { OnOk result (self.new ≡ record self.old { digits = digits.now }) }
@@ -197,7 +260,7 @@ impl UniTable {
             option_or (list_fault Listing.Ranges 0 digits.now) (Some UniError.Memory) ≡ Some error) }
         ensures grows { list_fault Listing.Ranges 0 digits.now ≡ None → OnErr result Refused }
     {
-        self.digits = checked_ranges(*self.digits.allocator(), digits)?;
+        self.digits = Entries::Kept(checked_ranges(self.alloc, digits)?);
         Ok(())
     }
 
@@ -238,7 +301,7 @@ pub fn upper_ascii(ch: u32) -> u32
 
 /// A character in lower case, by the table past ASCII.
 #[inline]
-pub fn lower_unicode(table: &UniTable, ch: u32) -> u32
+pub fn lower_unicode(table: &LentTable, ch: u32) -> u32
     ensures { result ≡ lower_of table.now ch }
 {
     if ch < 128 {
@@ -250,7 +313,7 @@ pub fn lower_unicode(table: &UniTable, ch: u32) -> u32
 
 /// A character in upper case, by the table past ASCII.
 #[inline]
-pub fn upper_unicode(table: &UniTable, ch: u32) -> u32
+pub fn upper_unicode(table: &LentTable, ch: u32) -> u32
     ensures { result ≡ upper_of table.now ch }
 {
     if ch < 128 {
@@ -269,40 +332,23 @@ pub(crate) fn is_ascii_alphanumeric(ch: u32) -> bool
 }
 
 // What a map takes a character to.
-fn mapped(entries: &[(u32, u32)], ch: u32) -> u32
-    requires { list_fault Listing.Map 0 entries.now ≡ None }
-    ensures { result ≡ mapped entries.now ch }
+fn mapped(entries: &Entries<'_>, ch: u32) -> u32
+    requires { list_fault Listing.Map 0 (entries_in entries.now) ≡ None }
+    ensures { result ≡ mapped (entries_in entries.now) ch }
 {
-    match last_up_to(entries, ch) {
+    match entries.last_up_to(ch) {
         Some((from, to)) => if from == ch { to } else { ch },
         None => ch,
     }
 }
 
 // Whether a character lies in one of the ranges.
-fn is_in_ranges(entries: &[(u32, u32)], ch: u32) -> bool
-    requires { list_fault Listing.Ranges 0 entries.now ≡ None }
-    ensures { result ≡ is_in_ranges entries.now ch }
+fn is_in_ranges(entries: &Entries<'_>, ch: u32) -> bool
+    requires { list_fault Listing.Ranges 0 (entries_in entries.now) ≡ None }
+    ensures { result ≡ is_in_ranges (entries_in entries.now) ch }
 {
-    match last_up_to(entries, ch) {
+    match entries.last_up_to(ch) {
         Some((_, high)) => ch <= high,
         None => false,
-    }
-}
-
-// The last entry that begins at a character or below.
-fn last_up_to(entries: &[(u32, u32)], ch: u32) -> Option<(u32, u32)>
-    requires { IsNonDecreasingBy (λ e. e.0) entries.now }
-    ensures { result ≡ last_up_to entries.now ch }
-{
-    let count = entries.partition_point(
-        |entry: &(u32, u32)| -> bool
-            ensures { result ≡ nat_le entry.now.0 ch }
-        { entry.0 <= ch },
-    );
-    if count == 0 {
-        None
-    } else {
-        Some(entries[count - 1])
     }
 }

@@ -39,7 +39,7 @@ mod words;
 
 use check::check_in;
 pub use error::CodeError;
-use sre_chars::string::UniTable;
+use sre_chars::string::LentTable;
 use std::alloc::Global;
 
 /// What the information block claims and the tree confirms; each is there exactly where it is confirmed.
@@ -60,7 +60,7 @@ pub struct Hints {
 pub struct Code<'a> {
     words: &'a [u32],
     items: &'a [u32],
-    uni: &'a UniTable,
+    uni: &'a LentTable<'a>,
     hints: Hints,
     has_reference: bool,
     longest: u32,
@@ -77,7 +77,11 @@ impl<'a> Code<'a> {
     ///
     /// The words are refused exactly where the grammar relates no tree to them, or where memory was refused:
     /// then a growth of the check's stack was. Which cause is named where several stand is open.
-    pub fn check(alloc: Global, words: &'a [u32], uni: &'a UniTable) -> Result<Code<'a>, CodeError>
+    pub fn check(
+        alloc: Global,
+        words: &'a [u32],
+        uni: &'a LentTable<'a>,
+    ) -> Result<Code<'a>, CodeError>
         ensures words { IfOk result (λ code. words_of code ≡ words.now) }
         ensures uni { IfOk result (λ code. uni_of code ≡ uni.now) }
         ensures tree { OnOk result (IsCode words.now) }
@@ -86,6 +90,40 @@ impl<'a> Code<'a> {
         ensures grows { IfErr result (λ e. e ≡ CodeError.Memory → Refused) }
     {
         check_in(alloc, words, uni)
+    }
+
+    /// The view of words that a check passed before, from what was told of them then. Nothing is checked anew, and the
+    /// time does not grow with the words.
+    ///
+    /// `hints`, `has_reference` and `longest` are what [`Code::hints`], [`Code::refers`] and [`Code::most_counts`] told
+    /// of a code of the same words and a table of the same characters.
+    #[inline]
+    pub fn from_checked(
+        words: &'a [u32],
+        uni: &'a LentTable<'a>,
+        hints: Hints,
+        has_reference: bool,
+        longest: u32,
+    ) -> Code<'a>
+        requires checked { ∥ ((tree : Tree) × Whole words.now tree × Confirmed words.now uni.now tree hints) ∥₁ }
+        requires scanned { (tree : Tree) → Whole words.now tree → has_reference ≡ refers tree }
+        requires counted { (tree : Tree) → Whole words.now tree → refers tree ≡ false → longest ≡ most_counts tree }
+        ensures words { words_of result ≡ words.now }
+        ensures uni { uni_of result ≡ uni.now }
+        ensures hints { hints_of result ≡ hints }
+    {
+        let items = match block::length(words) {
+            Ok(length) => words.split_at(length).1,
+            Err(_) => words,
+        };
+        Code {
+            words,
+            items,
+            uni,
+            hints,
+            has_reference,
+            longest,
+        }
     }
 
     /// The words, to which the grammar relates exactly one tree.
@@ -111,7 +149,7 @@ impl<'a> Code<'a> {
 
     /// The table.
     #[inline(always)]
-    pub fn uni(&self) -> &'a UniTable
+    pub fn uni(&self) -> &'a LentTable<'a>
         ensures { result.now ≡ uni_of self.now }
     {
         self.uni

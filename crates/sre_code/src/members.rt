@@ -16,7 +16,7 @@ ghost use Rattle.sre_model.specs.Standing.{SetStands, HasSet, ItemSays};
 
 use crate::operands::{category_code, operand, word};
 use sre_chars::constants::{SreCatCode, SreOpcode};
-use sre_chars::string::{UniTable, category, upper_unicode};
+use sre_chars::string::{LentTable, category, upper_unicode};
 use std::convert::TryFrom;
 
 // An item of a set: whether it holds for the character, and where the next one begins.
@@ -57,7 +57,7 @@ fn bit(word: u32, k: u32) -> bool
 
 /// `LITERAL value`: holds for the value.
 #[inline(always)]
-fn literal(words: &[u32], uni: &UniTable, place: usize, character: u32) -> Item
+fn literal(words: &[u32], uni: &LentTable, place: usize, character: u32) -> Item
     requires opcode { Opcode words.now place SreOpcode.LITERAL }
     requires stands { HasSet words.now place }
     ensures { ItemSays words.now uni.now place character result.holds result.next }
@@ -71,7 +71,7 @@ fn literal(words: &[u32], uni: &UniTable, place: usize, character: u32) -> Item
 
 /// `RANGE low high`: holds from low to high.
 #[inline(always)]
-fn range(words: &[u32], uni: &UniTable, place: usize, character: u32) -> Item
+fn range(words: &[u32], uni: &LentTable, place: usize, character: u32) -> Item
     requires opcode { Opcode words.now place SreOpcode.RANGE }
     requires stands { HasSet words.now place }
     ensures { ItemSays words.now uni.now place character result.holds result.next }
@@ -87,7 +87,7 @@ fn range(words: &[u32], uni: &UniTable, place: usize, character: u32) -> Item
 // Whether a character or its upper case is one of those from low to high. It is out of line, since it would take
 // registers from the loop over the items.
 #[inline(never)]
-fn is_between_ignoring_case(uni: &UniTable, low: u32, high: u32, character: u32) -> bool
+fn is_between_ignoring_case(uni: &LentTable, low: u32, high: u32, character: u32) -> bool
     ensures { result ≡ item_holds uni.now (RangeUniIgnore low high) character }
 {
     is_between(low, high, character) || is_between(low, high, upper_unicode(uni, character))
@@ -95,7 +95,7 @@ fn is_between_ignoring_case(uni: &UniTable, low: u32, high: u32, character: u32)
 
 /// `RANGE_UNI_IGNORE low high`: holds where the character or its upper case is from low to high.
 #[inline(always)]
-fn range_ignoring_case(words: &[u32], uni: &UniTable, place: usize, character: u32) -> Item
+fn range_ignoring_case(words: &[u32], uni: &LentTable, place: usize, character: u32) -> Item
     requires opcode { Opcode words.now place SreOpcode.RANGE_UNI_IGNORE }
     requires stands { HasSet words.now place }
     ensures { ItemSays words.now uni.now place character result.holds result.next }
@@ -110,7 +110,7 @@ fn range_ignoring_case(words: &[u32], uni: &UniTable, place: usize, character: u
 
 /// Whether a character is in a category. It is out of line for the same reason.
 #[inline(never)]
-pub fn is_in_category(uni: &UniTable, code: SreCatCode, character: u32) -> bool
+pub fn is_in_category(uni: &LentTable, code: SreCatCode, character: u32) -> bool
     ensures { result ≡ category uni.now (category_number code) character }
 {
     category(uni, code, character)
@@ -118,7 +118,7 @@ pub fn is_in_category(uni: &UniTable, code: SreCatCode, character: u32) -> bool
 
 /// `CATEGORY code`: holds in the category.
 #[inline(always)]
-fn in_category(words: &[u32], uni: &UniTable, place: usize, character: u32) -> Item
+fn in_category(words: &[u32], uni: &LentTable, place: usize, character: u32) -> Item
     requires opcode { Opcode words.now place SreOpcode.CATEGORY }
     requires stands { HasSet words.now place }
     ensures { ItemSays words.now uni.now place character result.holds result.next }
@@ -146,7 +146,7 @@ pub fn has_bit(words: &[u32], place: usize, character: u32) -> bool
 
 /// `CHARSET`, then eight words: holds below 256 where the character's bit is set.
 #[inline(always)]
-fn charset(words: &[u32], uni: &UniTable, place: usize, character: u32) -> Item
+fn charset(words: &[u32], uni: &LentTable, place: usize, character: u32) -> Item
     requires opcode { Opcode words.now place SreOpcode.CHARSET }
     requires stands { HasSet words.now place }
     ensures { ItemSays words.now uni.now place character result.holds result.next }
@@ -193,7 +193,7 @@ fn has_bit_in_block(words: &[u32], place: usize, character: u32) -> bool
 /// `BIGCHARSET count`, 64 words of block numbers, then eight words a block: holds below 65536 where the character's bit
 /// is set in its block.
 #[inline(always)]
-fn big_charset(words: &[u32], uni: &UniTable, place: usize, character: u32) -> Item
+fn big_charset(words: &[u32], uni: &LentTable, place: usize, character: u32) -> Item
     requires opcode { Opcode words.now place SreOpcode.BIGCHARSET }
     requires stands { HasSet words.now place }
     ensures { ItemSays words.now uni.now place character result.holds result.next }
@@ -207,7 +207,7 @@ fn big_charset(words: &[u32], uni: &UniTable, place: usize, character: u32) -> I
 
 // An item that may hold.
 #[inline(always)]
-fn one_item(words: &[u32], uni: &UniTable, place: usize, opcode: SreOpcode, character: u32) -> Item
+fn one_item(words: &[u32], uni: &LentTable, place: usize, opcode: SreOpcode, character: u32) -> Item
     requires opcode { Opcode words.now place opcode }
     requires stands { HasSet words.now place }
     requires holds { opcode ≢ SreOpcode.FAILURE }
@@ -227,7 +227,7 @@ fn one_item(words: &[u32], uni: &UniTable, place: usize, opcode: SreOpcode, char
 
 /// Whether the set whose items begin at `start` takes a character. It is out of line, since many tests call it.
 #[inline(never)]
-pub fn is_member(words: &[u32], uni: &UniTable, start: usize, character: u32) -> bool
+pub fn is_member(words: &[u32], uni: &LentTable, start: usize, character: u32) -> bool
     requires { HasSet words.now start }
     ensures { (j : ℕ) (set : List SetItem) → SetStands words.now start j set
         → result ≡ is_member uni.now set character }

@@ -25,7 +25,7 @@ pub use sre_chars::constants::{
     CODESIZE, EmptyRule, MAXGROUPS, MAXREPEAT, SRE_MAGIC, SreAtCode, SreCatCode, SreFlag, SreInfo,
     SreOpcode,
 };
-pub use sre_chars::string::{StrDrive, StringCursor, UniError, UniTable};
+pub use sre_chars::string::{LentTable, StrDrive, StringCursor, UniError, UniPair, UniTable};
 pub use sre_chars::{constants, string};
 pub use sre_code::code::{CodeError, Hints};
 pub use sre_code::{Code, code};

@@ -10,7 +10,7 @@ ghost use Rattle.sre_request.specs.Runs.{run_of, OpcodeAt, TestAt};
 
 use crate::words::word;
 use sre_chars::constants::SreOpcode;
-use sre_chars::string::{StrDrive, UniTable, category, lower_ascii, lower_unicode, upper_ascii};
+use sre_chars::string::{LentTable, StrDrive, category, lower_ascii, lower_unicode, upper_ascii};
 use sre_code::members::is_member;
 use sre_code::operands::{category_code, operand};
 use sre_request::Request;
@@ -18,7 +18,7 @@ use std::convert::TryFrom;
 
 // Whether a value is a character or one of its ASCII cases.
 #[inline(always)]
-fn is_any_case(uni: &UniTable, value: u32, character: u32) -> bool
+fn is_any_case(uni: &LentTable, value: u32, character: u32) -> bool
     ensures { result ≡ is_literal uni.now Locale value character }
 {
     value == character || value == lower_ascii(character) || value == upper_ascii(character)
@@ -26,7 +26,7 @@ fn is_any_case(uni: &UniTable, value: u32, character: u32) -> bool
 
 // Whether a set takes one of a character's ASCII cases.
 #[inline(always)]
-fn takes_a_case(words: &[u32], uni: &UniTable, place: usize, character: u32) -> bool
+fn takes_a_case(words: &[u32], uni: &LentTable, place: usize, character: u32) -> bool
     requires { HasSet words.now place }
     ensures { (j : ℕ) (set : List SetItem) → SetStands words.now place j set
         → result ≡ in_set uni.now Locale set character }

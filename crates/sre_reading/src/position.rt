@@ -10,13 +10,13 @@ ghost use Rattle.sre_request.specs.Requests.{end_of};
 ghost use Rattle.sre_request.specs.Runs.{run_of, Standing};
 
 use sre_chars::constants::{EmptyRule, SreAtCode, SreCatCode};
-use sre_chars::string::{StrDrive, StringCursor, UniTable, category};
+use sre_chars::string::{LentTable, StrDrive, StringCursor, category};
 use sre_code::ascii_set::AsciiSet;
 use sre_request::Request;
 
 // Whether a character is in a category: a bit tells of an ASCII one, where it is cheaper than to compare.
 #[inline(always)]
-fn is_in(uni: &UniTable, code: SreCatCode, character: u32) -> bool
+fn is_in(uni: &LentTable, code: SreCatCode, character: u32) -> bool
     ensures { result ≡ category uni.now (category_number code) character }
 {
     if character < 128 && code != SreCatCode::LINEBREAK {

@@ -13,12 +13,12 @@ ghost use Rattle.sre_request.specs.Runs.{run_of, Standing};
 
 use crate::text::{read, read_in_text};
 use sre_chars::constants::SreOpcode;
-use sre_chars::string::{StrDrive, StringCursor, UniTable, lower_ascii, lower_unicode};
+use sre_chars::string::{LentTable, StrDrive, StringCursor, lower_ascii, lower_unicode};
 use sre_request::Request;
 
 /// A character as the folding of a reference's opcode shows it.
 #[inline(always)]
-pub fn folded(uni: &UniTable, opcode: SreOpcode, character: u32) -> u32
+pub fn folded(uni: &LentTable, opcode: SreOpcode, character: u32) -> u32
     requires { role opcode ≡ ToRefer }
     ensures { (fold : Fold) → opcode ≡ reference_opcode fold → result ≡ folded uni.now fold character }
 {

@@ -21,7 +21,7 @@ ghost use Rattle.sre_reading.specs.Stretches.{IsLongest};
 use crate::one_character::{opcode, takes};
 use crate::text::read;
 use sre_chars::constants::{MAXREPEAT, SreCatCode, SreOpcode};
-use sre_chars::string::{StrDrive, StringCursor, UniTable};
+use sre_chars::string::{LentTable, StrDrive, StringCursor};
 use sre_code::ascii_members::ascii_members;
 use sre_code::ascii_set::AsciiSet;
 use sre_code::members::{has_bit, is_between, is_in_category, is_member};
@@ -156,7 +156,7 @@ impl<'a> Taker for Bits<'a> {
 // Takes the characters of a category, of which the ASCII ones are at hand.
 #[derive(Clone, Copy)]
 struct OfCategory<'a> {
-    uni: &'a UniTable,
+    uni: &'a LentTable<'a>,
     code: SreCatCode,
     ascii: AsciiSet,
 }
@@ -179,7 +179,7 @@ impl<'a> Taker for OfCategory<'a> {
 #[derive(Clone, Copy)]
 struct OfSet<'a> {
     words: &'a [u32],
-    uni: &'a UniTable,
+    uni: &'a LentTable<'a>,
     set: usize,
     ascii: AsciiSet,
 }

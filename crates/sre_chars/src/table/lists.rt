@@ -3,13 +3,15 @@
 //! A caller's lists are checked whole before any memory is asked for. std's are written in rising
 //! order, so that they have no fault.
 
-ghost use Rattle.std.specs.Prelude.{◌≡◌, true, IsTrue, None, Some, IfSome, IfNone};
+ghost use Rattle.std.specs.Prelude.{◌≡◌, true, IsTrue, None, Some, IfSome, IfNone, map};
 ghost use Rattle.std.specs.Prelude.{IfOk, OnOk, IfErr, OnErr, IsOkUnless};
 ghost use Rattle.std.specs.Option.{option_or};
 ghost use Rattle.sre_chars.specs.Tables.{table_of, is_scalar};
 ghost use Rattle.sre_growth.specs.Refusal.{Refused};
+ghost use Rattle.sre_chars.specs.Lists.{lent_table, lists_fault};
 ghost use Rattle.sre_chars.specs.Errors.{last_of, is_scalar_entry, entry_fault, list_fault, table_fault};
 
+use super::entries::{Entry, UniPair};
 use super::{Listing, UniError};
 use std::alloc::Allocator;
 
@@ -67,6 +69,23 @@ pub fn checked_ranges<A: Allocator>(
     Ok(sre_growth::from_slice(alloc, ranges)?)
 }
 
+/// Refuses four lists that a caller lends by their first fault.
+pub fn check_lent(
+    lower: &[UniPair],
+    upper: &[UniPair],
+    alnum: &[UniPair],
+    digits: &[UniPair],
+) -> Result<(), UniError>
+    ensures lawful { OnOk result (lists_fault (lent_table lower.now upper.now alnum.now digits.now) ≡ None) }
+    ensures refused { IfErr result (λ error.
+        lists_fault (lent_table lower.now upper.now alnum.now digits.now) ≡ Some error) }
+{
+    check(Listing::Map, lower)?;
+    check(Listing::Map, upper)?;
+    check(Listing::Ranges, alnum)?;
+    check(Listing::Ranges, digits)
+}
+
 /// The lists of std: both ways into the other case, and its alphanumerics, past ASCII.
 pub fn std_lists<A: Allocator + Copy>(alloc: A) -> Result<Lists<A>, UniError>
     ensures lawful { IfOk result (λ lists.
@@ -82,12 +101,13 @@ pub fn std_lists<A: Allocator + Copy>(alloc: A) -> Result<Lists<A>, UniError>
 }
 
 // Refuses a list by its first fault.
-fn check(kind: Listing, entries: &[(u32, u32)]) -> Result<(), UniError>
-    ensures lawful { OnOk result (list_fault kind 0 entries.now ≡ None) }
-    ensures refused { IfErr result (λ error. list_fault kind 0 entries.now ≡ Some error) }
+fn check<E: Entry>(kind: Listing, entries: &[E]) -> Result<(), UniError>
+    ensures lawful { OnOk result (list_fault kind 0 (map E.pair entries.now) ≡ None) }
+    ensures refused { IfErr result (λ error. list_fault kind 0 (map E.pair entries.now) ≡ Some error) }
 {
     let mut next = 0;
-    for &entry in entries {
+    for item in entries {
+        let entry = item.pair();
         if let Some(fault) = entry_fault(kind, next, entry) {
             return Err(fault);
         }

@@ -9,7 +9,7 @@ ghost use Rattle.sre_growth.specs.Refusal.{Refused};
 
 use crate::code::descent::descend;
 use crate::code::{Code, CodeError, block, claims, references};
-use sre_chars::string::UniTable;
+use sre_chars::string::LentTable;
 use std::alloc::Allocator;
 
 /// What [`Code::check`] says, with the stack in memory that `alloc` gives: for tests that refuse it.
@@ -17,7 +17,7 @@ use std::alloc::Allocator;
 pub fn check_in<'a, A: Allocator + Copy>(
     alloc: A,
     words: &'a [u32],
-    uni: &'a UniTable,
+    uni: &'a LentTable<'a>,
 ) -> Result<Code<'a>, CodeError>
     ensures words { IfOk result (λ code. words_of code ≡ words.now) }
     ensures uni { IfOk result (λ code. uni_of code ≡ uni.now) }

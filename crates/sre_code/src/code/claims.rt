@@ -12,7 +12,7 @@ ghost use Rattle.sre_code.specs.Prefixes.{Ends, LeftAt};
 ghost use Rattle.sre_code.specs.Hinted.{Confirmed};
 
 use crate::code::{Hints, first_set, prefix};
-use sre_chars::string::UniTable;
+use sre_chars::string::LentTable;
 
 /// The least width that the block claims, where the items have at least that.
 fn width(words: &[u32], length: usize, least: u32) -> Option<u32>
@@ -43,7 +43,7 @@ fn is_literal(words: &[u32], length: usize, items: &[u32], place: usize) -> bool
 
 /// The hints, where the first words are the block and `least` is the least width of the items behind it.
 #[tactic(auto, using(crate::proofs::Claimed::hints_laws))]
-pub fn confirmed(words: &[u32], length: usize, uni: &UniTable, items: &[u32], least: u32) -> Hints
+pub fn confirmed(words: &[u32], length: usize, uni: &LentTable, items: &[u32], least: u32) -> Hints
     requires front { Fronts words.now length }
     requires ends { Ends items.now }
     ensures { (tree : Tree) → WholeItems items.now tree → least ≡ width tree

@@ -20,14 +20,14 @@ use crate::code::{set, words};
 use crate::members;
 use crate::operands::know_words;
 use sre_chars::constants::SreOpcode;
-use sre_chars::string::UniTable;
+use sre_chars::string::LentTable;
 
 /// The set that stands in a block, which ends at `end`, and its ASCII characters where its items tell them at once.
 #[derive(Clone, Copy)]
 pub(crate) struct BlockSet<'a> {
     words: &'a [u32],
     end: usize,
-    uni: &'a UniTable,
+    uni: &'a LentTable<'a>,
     ascii: Option<AsciiSet>,
 }
 
@@ -133,7 +133,7 @@ fn first_in(block: &BlockSet<'_>, items: &[u32], place: usize) -> bool
 
 /// Whether the block has a set, and each match begins with a character of it.
 #[tactic(auto, using(crate::proofs::FirstSets::set_laws))]
-pub fn is_confirmed(words: &[u32], end: usize, uni: &UniTable, items: &[u32]) -> bool
+pub fn is_confirmed(words: &[u32], end: usize, uni: &LentTable, items: &[u32]) -> bool
     requires block { HasBlock words.now end }
     requires ends { Ends items.now }
     ensures { (tree : Tree) → WholeItems items.now tree → Decides result (HasFirstSet words.now uni.now tree) }

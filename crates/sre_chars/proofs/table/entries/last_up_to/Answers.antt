@@ -1,0 +1,36 @@
+use Rattle.std.proofs.Common.{rules, ◌≡◌, ℕ, List, ◌-◌, true, false, sym, arith}
+use Rattle.std.specs.Prelude.{nat_le}
+use Rattle.std.specs.List.Sorted.{IsPartitionPoint}
+use Rattle.std.proofs.lemmas.List.Sorted.{IsPartitionPoint-from_clause, IsPartitionedBy-leb}
+use Rattle.sre_chars.proofs.RisingLists.{last_up_to-none, last_up_to-at}
+use Rattle.sre_chars.proofs.table.entries.last_up_to.Goals as goal
+
+-- the entries before the place begin at c or below, and the others above it
+abbrev IsSplitAt : {X : Type 0} → (X → ℕ × ℕ) → List X → ℕ → ℕ → Type 0
+IsSplitAt pair es c place = IsPartitionPoint (λ e. nat_le (pair e).0 c ≡ true) (λ e. nat_le (pair e).0 c ≡ false) es place
+
+pub returns-then-count-eq0 : goal.returns-then-count-eq0
+returns-then-count-eq0 g c =
+    let pair = g.E.Entry.pair in
+    let parts : IsSplitAt pair c.args.entries.now c.args.ch c.partition_point-count.result =
+    IsPartitionPoint-from_clause (λ e. nat_le (pair e).0 c.args.ch) c.args.entries.now c.partition_point-count.result
+    c.partition_point-count.ensures.partitioned
+    (IsPartitionedBy-leb (λ e. (pair e).0) c.args.entries.now c.args.ch c.requires)
+    (λ a r f' k. search rules)
+    in
+    sym (last_up_to-none pair c.args.entries.now c.args.ch (λ k d l. parts.1 k d (omega arith) l))
+
+pub returns-else-count-eq0 : goal.returns-else-count-eq0
+returns-else-count-eq0 g c =
+    let pair = g.E.Entry.pair in
+    let parts : IsSplitAt pair c.args.entries.now c.args.ch c.partition_point-count.result =
+    IsPartitionPoint-from_clause (λ e. nat_le (pair e).0 c.args.ch) c.args.entries.now c.partition_point-count.result
+    c.partition_point-count.ensures.partitioned
+    (IsPartitionedBy-leb (λ e. (pair e).0) c.args.entries.now c.args.ch c.requires)
+    (λ a r f' k. search rules)
+    in
+    let last = c.index-entries-count.result in
+    rw (c.pair.ensures, c.index-entries-count.is)
+    (sym (last_up_to-at pair c.args.entries.now c.args.ch (c.partition_point-count.result - 1) last (omega arith)
+    (λ k l. parts.0 k last (omega arith) (omega arith))
+    (λ k x l m. parts.1 k x (omega arith) m)))

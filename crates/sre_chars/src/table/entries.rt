@@ -1,0 +1,80 @@
+//! The lists of a table: those that it keeps itself, and those that a caller lends it.
+
+ghost use Rattle.std.specs.Prelude.{◌≡◌, ℕ, map, nat_le};
+ghost use Rattle.std.specs.List.Sorted.{IsNonDecreasingBy};
+ghost use Rattle.sre_chars.specs.Tables.{last_up_to};
+ghost use Rattle.sre_chars.specs.Lists.{entries_in};
+
+/// An entry of a list that a caller keeps: (from, to) of a map of cases, or (low, high) of a range, both ends of which
+/// belong to it. It lies in memory as a struct of C does.
+#[repr(C)]
+#[derive(Clone, Copy, PartialEq, Eq, Debug)]
+pub struct UniPair {
+    pub low: u32,
+    pub high: u32,
+}
+
+/// What can be an entry of a list.
+pub trait Entry: Copy {
+    // Its two numbers.
+    ghost pair: { Self → ℕ × ℕ };
+
+    /// Its two numbers.
+    fn pair(self) -> (u32, u32)
+        ensures { result ≡ pair self };
+}
+
+impl Entry for (u32, u32) {
+    ghost pair = { λ e. e };
+
+    #[inline(always)]
+    fn pair(self) -> (u32, u32) {
+        self
+    }
+}
+
+impl Entry for UniPair {
+    ghost pair = { λ e. (e.low, e.high) };
+
+    #[inline(always)]
+    fn pair(self) -> (u32, u32) {
+        (self.low, self.high)
+    }
+}
+
+/// A list of a table.
+#[derive(Drop)]
+pub enum Entries<'t> {
+    Kept(Vec<(u32, u32)>),
+    Lent(&'t [UniPair]),
+}
+
+impl<'t> Entries<'t> {
+    /// The last entry that begins at a character or below.
+    pub fn last_up_to(&self, ch: u32) -> Option<(u32, u32)>
+        requires { IsNonDecreasingBy (λ e. e.0) (entries_in self.now) }
+        ensures { result ≡ last_up_to (entries_in self.now) ch }
+    {
+        match self {
+            Entries::Kept(entries) => last_up_to(entries.as_slice(), ch),
+            Entries::Lent(entries) => last_up_to(entries, ch),
+        }
+    }
+}
+
+// The last of some entries that begins at a character or below.
+fn last_up_to<E: Entry>(entries: &[E], ch: u32) -> Option<(u32, u32)>
+    requires { IsNonDecreasingBy (λ e. (E.pair e).0) entries.now }
+    ensures { result ≡ last_up_to (map E.pair entries.now) ch }
+{
+    let count = entries.partition_point(
+        |entry: &E| -> bool
+            ensures { result ≡ nat_le (E.pair entry.now).0 ch }
+        { entry.pair().0 <= ch },
+    );
+    if count == 0 {
+        None
+    } else {
+        Some(entries[count - 1].pair())
+    }
+}
