@@ -135,18 +135,25 @@ static void no_room(void) {
 
 /* ---- words ---- */
 
-/* A check and an answer agree on words, whatever these are. */
+/* A check and an answer agree on words, whatever these are, and so do an answer that rests on the check and one that
+ * checks the words itself. */
 static uint32_t agreed(sre_code *code) {
-  sre_found found;
-  size_t marks[8], room = COUNT(marks);
+  sre_found found, again;
+  size_t marks[8], marks_again[8], room = COUNT(marks);
   sre_asked asked = anywhere;
   asked.turns = 10000;
   uint32_t checked = sre_check_code(code), told;
   CHECK(checked == SRE_YES || (checked == SRE_NO_CODE && code->place <= code->words_count && code->error > 1));
-  code->checked = false;
+  CHECK(code->checked == (checked == SRE_YES));
   told = answer(code, "xxab=12y", &asked, &found, marks, room);
   CHECK((told == SRE_NO_CODE) == (checked == SRE_NO_CODE));
   CHECK(told <= SRE_NO_ROOM);
+  code->checked = false;
+  CHECK(answer(code, "xxab=12y", &asked, &again, marks_again, room) == told);
+  if (told == SRE_YES) {
+    CHECK(found.start == again.start && found.end == again.end && found.turns == again.turns);
+    CHECK(memcmp(marks, marks_again, found.marks * sizeof *marks) == 0);
+  }
   return checked;
 }
 

@@ -18,6 +18,10 @@ ROOT = os.path.dirname(os.path.dirname(os.path.realpath(__file__)))
 CRATE = f"{ROOT}/crates/sre_c"
 HEADER = "crates/sre_c/include/sre.h"
 
+# what the crate takes from sre_chars: the file, and what C calls the struct
+PAIRS = "crates/sre_chars/src/table/entries.rt"
+CALLED = {"UniPair": "sre_pair"}
+
 NUMBERS = {"u8": "uint8_t", "u16": "uint16_t", "u32": "uint32_t", "u64": "uint64_t", "usize": "size_t",
            "isize": "ptrdiff_t", "bool": "bool"}
 SLICE = re.compile(r"&(?:'a )?(mut )?\[(\w+)\]")
@@ -47,7 +51,7 @@ def in_words(name, end="_"):
 
 def type_of(written):
     """How C writes a type: a number's, or a struct's."""
-    return NUMBERS.get(written) or in_words(written)
+    return NUMBERS.get(written) or CALLED.get(written) or in_words(written)
 
 
 def declared(name, written):
@@ -67,9 +71,10 @@ def joined(pairs):
 
 def exported():
     """What the crate exports, as C declares it, by the name."""
-    status, types, root = (read(f"{CRATE}/src/{it}.rt") for it in ("status", "types", "lib"))
+    status, types, code, root = (read(f"{CRATE}/src/{it}.rt") for it in ("status", "types", "code", "lib"))
     found = {f"SRE_{in_words(name).upper()}": number for name, number in STATUS.findall(status)}
-    found.update({in_words(name): joined(FIELD.findall(body)) for name, body in STRUCT.findall(types)})
+    structs = STRUCT.findall(types + code + read(f"{ROOT}/{PAIRS}"))
+    found.update({type_of(name): joined(FIELD.findall(body)) for name, body in structs})
     for name, parameters, result in EXPORT.findall(root):
         found[name] = f"{type_of(result)} ({joined(PARAMETER.findall(parameters))})"
     return found

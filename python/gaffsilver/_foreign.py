@@ -88,7 +88,6 @@ class _Text:
                 raise TypeError("cannot use a string pattern on a bytes-like object")
             self.data, self.which = self.plain, 0
         self.length = len(self.plain)
-        self.is_ascii = isinstance(string, str) and self.plain.isascii()
         self.is_fixed = isinstance(string, str) or type(string) is bytes
 
     def look_again(self) -> None:
@@ -134,7 +133,7 @@ class Pattern(metaclass=_Fixed):
     """Compiled regular expression object."""
 
     __module__, __qualname__ = "re", "Pattern"
-    __slots__ = ("pattern", "flags", "groups", "_words", "_codes", "_names", "_indexgroup", "_turns", "__weakref__")
+    __slots__ = ("pattern", "flags", "groups", "_words", "_code", "_names", "_indexgroup", "_turns", "__weakref__")
     __class_getitem__ = classmethod(types.GenericAlias)
 
     @property
@@ -152,7 +151,7 @@ class Pattern(metaclass=_Fixed):
 
     def _over(self, text: _Text) -> tuple[Any, ...]:
         """The code and the text, as the library takes them."""
-        return byref(self._codes[text.is_ascii]), text.data, text.length
+        return byref(self._code), text.data, text.length
 
     def _row(self, text: _Text, asked: Any) -> Row | None:
         """The match as a row: start, end, the group that was closed last, and the marks."""
@@ -429,11 +428,9 @@ def compile(pattern: Any, flags: int, code: list[int], groups: int, groupindex: 
     made.pattern = pattern if pattern is None or isinstance(pattern, (str, bytes)) else bytes(memoryview(pattern))
     made.flags, made.groups, made._names, made._indexgroup = int(flags), groups, groupindex, indexgroup
     made._turns, made._words = library.FOREVER, bytes((c_uint32 * len(code))(*code))
-    # a text in ASCII asks for no table past it, and each call copies the table's lists (`code_for` of the extension)
-    tables = library.table(not isinstance(made.pattern, bytes)), library.table(False)
-    made._codes = tuple(library.Code(library.bytes_of(made._words), len(code), library.pointer_to(it)) for it in tables)
-    for it in made._codes:
-        status = library.check_code(byref(it))
-        if status != library.YES:
-            _fail(status)
+    table = library.table(not isinstance(made.pattern, bytes))
+    made._code = library.Code(library.bytes_of(made._words), len(code), library.pointer_to(table))
+    status = library.check_code(byref(made._code))
+    if status != library.YES:
+        _fail(status)
     return made

@@ -125,33 +125,21 @@ static void run_alone(PyThreadState *saved) {
     PyEval_RestoreThread(saved);
 }
 
-/* The code by which a text is read. A text in ASCII asks for nothing past it, and so is read by the table of ASCII,
- * since each call copies and checks the lists of its table. This waits for an `sre_c` that takes a checked table and
- * code as they are: then the pattern's own code serves every text. */
-static sre_code code_for(const Pattern *pattern, const Text *text) {
-  sre_code code = pattern->code;
-  if (!text->is_bytes && PyUnicode_IS_ASCII(text->string)) {
-    code.table = engine_table(false); /* which the module has made */
-    code.checked = false;
-  }
-  return code;
-}
-
 static uint32_t answer(const Pattern *pattern, const Text *text, const sre_asked *asked, sre_found *found,
                        size_t *marks) {
-  sre_code code = code_for(pattern, text);
+  const sre_code *code = &pattern->code;
   size_t length = (size_t)text->length, room = 2 * (size_t)pattern->groups;
   PyThreadState *saved = let_others_run(text);
   uint32_t status;
   switch (text->size) {
   case 1:
-    status = sre_answer_bytes(&code, text->data, length, asked, found, marks, room);
+    status = sre_answer_bytes(code, text->data, length, asked, found, marks, room);
     break;
   case 2:
-    status = sre_answer_units(&code, text->data, length, asked, found, marks, room);
+    status = sre_answer_units(code, text->data, length, asked, found, marks, room);
     break;
   default:
-    status = sre_answer_points(&code, text->data, length, asked, found, marks, room);
+    status = sre_answer_points(code, text->data, length, asked, found, marks, room);
   }
   run_alone(saved);
   return status;
@@ -176,19 +164,19 @@ int engine_match(const Pattern *pattern, const Text *text, const sre_asked *aske
 
 uint32_t engine_walk(const Pattern *pattern, const Text *text, const sre_asked *asked, size_t *rows, size_t room,
                      sre_walked *walked) {
-  sre_code code = code_for(pattern, text);
+  const sre_code *code = &pattern->code;
   size_t length = (size_t)text->length, width = ROW_WIDTH(pattern), numbers = width * room;
   PyThreadState *saved = let_others_run(text);
   uint32_t status;
   switch (text->size) {
   case 1:
-    status = sre_walk_bytes(&code, text->data, length, asked, width, rows, numbers, walked);
+    status = sre_walk_bytes(code, text->data, length, asked, width, rows, numbers, walked);
     break;
   case 2:
-    status = sre_walk_units(&code, text->data, length, asked, width, rows, numbers, walked);
+    status = sre_walk_units(code, text->data, length, asked, width, rows, numbers, walked);
     break;
   default:
-    status = sre_walk_points(&code, text->data, length, asked, width, rows, numbers, walked);
+    status = sre_walk_points(code, text->data, length, asked, width, rows, numbers, walked);
   }
   run_alone(saved);
   return status;

@@ -76,7 +76,7 @@ static bool ready_types(void) {
 }
 
 PyMODINIT_FUNC PyInit__native(void) {
-  if (!ready_types() || !read_shared() || !engine_table(false))
+  if (!ready_types() || !read_shared())
     return NULL;
   PyObject *module = PyModule_Create(&definition);
   if (module && (PyModule_AddObjectRef(module, "Pattern", (PyObject *)&PatternType) < 0 ||

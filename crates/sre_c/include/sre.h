@@ -20,8 +20,9 @@
  *   passed.
  * - All that is pointed to stays as it is during a call. What a checked table or code points to stays as it is for as
  *   long as that is used.
- * - `checked` is false when a caller fills in a struct; a check alone sets it, and after it the caller changes no
- *   field. Today an answer and a walk check words and lists again all the same, so nothing rests on it yet.
+ * - `checked` is false when a caller fills in a struct, and a check alone sets it. From then on answers and walks rest
+ *   on it: they read neither the lists nor the words again to see whether they are right. So a caller who changes a
+ *   field, or anything that the struct points to, sets `checked` to false first, or checks again.
  * - No function is called from a signal handler, nor in the forked child of a process with threads.
  *
  * Positions count characters. A character is a byte, a code point of UTF-8, a number of 32 bits or one of 16 bits.
@@ -130,11 +131,11 @@ typedef struct sre_walked {
   bool must_advance;
 } sre_walked;
 
-/* Checks a table's lists: SRE_YES, SRE_FAULTY_TABLE, SRE_MEMORY. */
+/* Checks a table's lists: SRE_YES, SRE_FAULTY_TABLE. */
 uint32_t sre_check_table(sre_table *table);
 
-/* Checks words: SRE_YES, SRE_NO_CODE, SRE_FAULTY_TABLE, SRE_MEMORY. Nobody needs to call it first: an answer and a walk
- * check the words and the lists, too. */
+/* Checks words: SRE_YES, SRE_NO_CODE, SRE_FAULTY_TABLE, SRE_MEMORY. Nobody needs to call it first, since an answer and a
+ * walk check words and lists that no check has passed. A check spares them that at each call. */
 uint32_t sre_check_code(sre_code *code);
 
 /* The match: SRE_YES and all of `found` and its marks; SRE_NO; SRE_USED_UP; SRE_MEMORY; SRE_NO_CODE; SRE_NO_ROOM, with

@@ -1,4 +1,4 @@
-pub mod Faults
 pub mod Telling
 pub mod Rows
 pub mod Walks
+pub mod Knowing

@@ -9,10 +9,11 @@ use Rattle.sre_engine.specs.Requests.{code_of, asked_of}
 use Rattle.sre_c.specs.declared.status.Status.{Status}
 use Rattle.sre_c.specs.declared.status.Status.TheVariants.{No, Yes, UsedUp, Memory, NoCode, NoRoom}
 use Rattle.sre_c.specs.declared.status.Status.TheVariants.{NotUtf8, FaultyTable}
-use Rattle.sre_c.specs.declared.types.SreCode.{SreCode}
+use Rattle.sre_c.specs.declared.code.SreCode.{SreCode}
 use Rattle.sre_c.specs.declared.types.SreAsked.{SreAsked}
 use Rattle.sre_c.specs.declared.types.SreWalked.{SreWalked}
-use Rattle.sre_c.specs.Given.{table_in, asked_in, IsEnough}
+use Rattle.sre_c.specs.Known.{table_in}
+use Rattle.sre_c.specs.Given.{asked_in, IsEnough}
 use Rattle.sre_c.specs.Walked.{IsWritten, asked_next, IsUpTo, Walks}
 use Rattle.sre_c.specs.Rows.{IsSoFar, WritesRows}
 use Rattle.sre_c.proofs.Telling.{enough_of}

@@ -9,10 +9,11 @@ use Rattle.sre_growth.specs.Refusal.{Refused}
 use Rattle.sre_c.specs.declared.status.Status.{Status}
 use Rattle.sre_c.specs.declared.status.Status.TheVariants.{No, Yes, UsedUp, Memory, NoCode, NoRoom}
 use Rattle.sre_c.specs.declared.status.Status.TheVariants.{NotUtf8, FaultyTable}
-use Rattle.sre_c.specs.declared.types.SreCode.{SreCode}
+use Rattle.sre_c.specs.declared.code.SreCode.{SreCode}
 use Rattle.sre_c.specs.declared.types.SreAsked.{SreAsked}
 use Rattle.sre_c.specs.declared.types.SreFound.{SreFound}
-use Rattle.sre_c.specs.Given.{table_in, asked_in, model_of, OfTree, IsEnough}
+use Rattle.sre_c.specs.Known.{table_in}
+use Rattle.sre_c.specs.Given.{asked_in, model_of, OfTree, IsEnough}
 use Rattle.sre_c.specs.Checked.{IsFaulty}
 
 -- a mark as a number: the greatest of 64 bits where it is not set

@@ -1,57 +1,37 @@
 -- What a check leaves.
 -- Public clauses rest on it.
-use Rattle.std.specs.Prelude.{ℕ, ◌≡◌, ◌≢◌, ◌≤◌, true, false, List, length, cond, Some, None}
+use Rattle.std.specs.Prelude.{◌≡◌, ◌≢◌, ◌≤◌, true, false, length, Some, None}
 use Rattle.sre_chars.specs.declared.table.UniError.{UniError}
-use Rattle.sre_chars.specs.Tables.{Table}
 use Rattle.sre_chars.specs.Errors.{uni_error_number}
+use Rattle.sre_chars.specs.Lists.{lists_fault}
 use Rattle.sre_model.specs.Tree.{Tree}
 use Rattle.sre_model.specs.Grammar.{Whole, IsCode}
-use Rattle.sre_model.specs.References.{refers}
-use Rattle.sre_model.specs.RunCounts.{most_counts}
 use Rattle.sre_growth.specs.Refusal.{Refused}
 use Rattle.sre_code.specs.Refusals.{refusal_number, place_of}
-use Rattle.sre_code.specs.Hinted.{Confirmed}
-use Rattle.sre_code.specs.declared.code.Hints.{Hints}
 use Rattle.sre_code.specs.declared.code.error.CodeError.{CodeError}
 use Rattle.sre_code.specs.declared.code.error.CodeError.TheVariants as code_error
 use Rattle.sre_c.specs.declared.status.Status.{Status}
 use Rattle.sre_c.specs.declared.status.Status.TheVariants.{No, Yes, UsedUp, Memory, NoCode, NoRoom}
 use Rattle.sre_c.specs.declared.status.Status.TheVariants.{NotUtf8, FaultyTable}
 use Rattle.sre_c.specs.declared.types.SreTable.{SreTable}
-use Rattle.sre_c.specs.declared.types.SreHints.{SreHints}
-use Rattle.sre_c.specs.declared.types.SreCode.{SreCode}
-use Rattle.sre_c.specs.Given.{table_in, lists_fault}
+use Rattle.sre_c.specs.declared.code.SreCode.{SreCode}
+use Rattle.sre_c.specs.Known.{table_in, AreHints}
 
 -- a list of a table has a fault
 abbrev pub IsFaulty : SreTable → Type 0
-IsFaulty t = lists_fault t ≢ None
+IsFaulty t = lists_fault (table_in t) ≢ None
 
 -- the check of a table
 abbrev pub TableChecked : Status → SreTable → Type 0
-TableChecked Yes t = (lists_fault t ≡ None) × (t.error ≡ 0) × (t.checked ≡ true)
+TableChecked Yes t = (lists_fault (table_in t) ≡ None) × (t.error ≡ 0) × (t.checked ≡ true)
 TableChecked FaultyTable t =
-    ((error : UniError) × (lists_fault t ≡ Some error) × (t.error ≡ uni_error_number error)) × (t.checked ≡ false)
-TableChecked Memory t = Refused
+    ((error : UniError) × (lists_fault (table_in t) ≡ Some error) × (t.error ≡ uni_error_number error)) × (t.checked ≡ false)
+TableChecked Memory t = ⊥
 TableChecked No t = ⊥
 TableChecked UsedUp t = ⊥
 TableChecked NoCode t = ⊥
 TableChecked NoRoom t = ⊥
 TableChecked NotUtf8 t = ⊥
-
--- the hints of a code, from those that cross to C
-abbrev pub hints_told : SreHints → Hints
-hints_told h = record {
-  width = cond h.has_width (Some h.width) None;
-  prefix = cond h.has_prefix (Some (h.prefix, h.prefix_skip)) None;
-  literal = h.literal;
-  first_set = h.first_set;
-}
-
--- each hint is there exactly where the tree confirms it, and the numbers are the tree's
-pub record AreHints (words : List ℕ) (table : Table) (t : Tree) (h : SreHints) : Type 0 where
-  pub confirmed : Confirmed words table t (hints_told h)
-  pub reference : h.refers ≡ refers t
-  pub counts : refers t ≡ false → h.most_counts ≡ most_counts t
 
 -- why words were refused, and where the fault was seen
 pub record IsRefusal (c : SreCode) : Type 0 where

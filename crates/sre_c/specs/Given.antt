@@ -1,37 +1,18 @@
 -- What a caller hands over, in the words of the model.
 -- Public clauses rest on it.
-use Rattle.std.specs.Prelude.{ℕ, ◌≡◌, ◌<◌, ◌⊎◌, List, [], map, length, min, cond, Option}
+use Rattle.std.specs.Prelude.{ℕ, ◌≡◌, ◌<◌, ◌⊎◌, List, length, min, cond, Option}
 use Rattle.std.specs.Str.{chars, IsUtf8}
-use Rattle.std.specs.Option.{option_or}
 use Rattle.sre_chars.specs.declared.constants.EmptyRule.TheVariants.{Never, NonBoundary}
-use Rattle.sre_chars.specs.declared.table.UniError.{UniError}
-use Rattle.sre_chars.specs.Tables.{Table, table_of}
-use Rattle.sre_chars.specs.Errors.{table_fault}
+use Rattle.sre_chars.specs.Tables.{Table}
 use Rattle.sre_model.specs.Tree.{Tree}
 use Rattle.sre_model.specs.Grammar.{Whole, behind_block}
 use Rattle.sre_model.specs.Found.{Asked, Match, matched, found}
 use Rattle.sre_model.specs.Remembered.{IsRemembered, enough_turns}
 use Rattle.sre_c.specs.declared.status.Status.{Status}
 use Rattle.sre_c.specs.declared.status.Status.TheVariants.{NotUtf8}
-use Rattle.sre_c.specs.declared.types.SrePair.{SrePair}
-use Rattle.sre_c.specs.declared.types.SreTable.{SreTable}
-use Rattle.sre_c.specs.declared.types.SreCode.{SreCode}
+use Rattle.sre_c.specs.declared.code.SreCode.{SreCode}
 use Rattle.sre_c.specs.declared.types.SreAsked.{SreAsked}
-
--- the entries of a list
-abbrev pub entries_of : List SrePair → List (ℕ × ℕ)
-entries_of pairs = map (λ pair. (pair.low, pair.high)) pairs
-
--- the table of the lists
-abbrev pub table_in : SreTable → Table
-table_in t = record (table_of (entries_of t.lower.now) (entries_of t.upper.now) (entries_of t.alnum.now))
-    { digits = entries_of t.digits.now }
-
--- the first fault of the lists, if they have one; digits are ranges as alphanumerics are
-abbrev pub lists_fault : SreTable → Option UniError
-lists_fault t =
-    option_or (table_fault (table_of (entries_of t.lower.now) (entries_of t.upper.now) (entries_of t.alnum.now)))
-    (table_fault (table_of [] [] (entries_of t.digits.now)))
+use Rattle.sre_c.specs.Known.{table_in}
 
 -- what is asked of a table and the characters of a text
 abbrev pub asked_in : SreAsked → Table → List ℕ → Asked

@@ -1,5 +1,6 @@
 pub mod Statuses
 pub mod Given
+pub mod Known
 pub mod Checked
 pub mod Answered
 pub mod Walked

@@ -10,10 +10,11 @@ use Rattle.sre_growth.specs.Refusal.{Refused}
 use Rattle.sre_c.specs.declared.status.Status.{Status}
 use Rattle.sre_c.specs.declared.status.Status.TheVariants.{No, Yes, UsedUp, Memory, NoCode, NoRoom}
 use Rattle.sre_c.specs.declared.status.Status.TheVariants.{NotUtf8, FaultyTable}
-use Rattle.sre_c.specs.declared.types.SreCode.{SreCode}
+use Rattle.sre_c.specs.declared.code.SreCode.{SreCode}
 use Rattle.sre_c.specs.declared.types.SreAsked.{SreAsked}
 use Rattle.sre_c.specs.declared.types.SreWalked.{SreWalked}
-use Rattle.sre_c.specs.Given.{table_in, asked_in, OfTree, IsEnough}
+use Rattle.sre_c.specs.Known.{table_in}
+use Rattle.sre_c.specs.Given.{asked_in, OfTree, IsEnough}
 use Rattle.sre_c.specs.Checked.{IsFaulty}
 use Rattle.sre_c.specs.Answered.{mark_number}
 
@@ -54,6 +55,16 @@ asked_next a w = record a { start = w.start; must_advance = w.must_advance }
 abbrev pub IsUpTo : SreCode → List ℕ → SreAsked → ℕ → SreWalked → List ℕ → Type 0
 IsUpTo c text a width w rows = OfTree c a text (λ asked t.
     IsWritten (walk asked t) (walk (asked_in (asked_next a w) (table_in c.table.now) text) t) width w rows)
+
+-- a walk of which nothing is written
+abbrev pub begun_of : SreAsked → SreWalked
+begun_of a = record {
+  count = 0;
+  start = a.start;
+  turns = a.turns;
+  step_turns = a.turns;
+  must_advance = a.must_advance;
+}
 
 -- the walk over the characters of a text, in rows of so many numbers; used up are the turns only where they are gone,
 -- and not where those of the last step were enough for it, unless memory was refused

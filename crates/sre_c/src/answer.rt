@@ -10,13 +10,16 @@ ghost use Rattle.sre_engine.specs.Codes.{words_of, uni_of};
 ghost use Rattle.sre_engine.specs.Requests.{asked_of, code_of, stands_in};
 ghost use Rattle.sre_engine.specs.Answers as Shown;
 ghost use Rattle.sre_engine.specs.Walks.{match_shown};
+ghost use Rattle.sre_c.specs.Known.{table_in};
 ghost use Rattle.sre_c.specs.Given.{asked_in, IsEnough};
 ghost use Rattle.sre_c.specs.Answered.{mark_number, IsFound, IsTold, Answers};
 
+use crate::check;
+use crate::code::SreCode;
 use crate::status::Status;
 use crate::table::table;
-use crate::types::{SreAsked, SreCode, SreFound};
-use sre_engine::{Code, CodeError, EmptyRule, Request, SreError, State, StrDrive, UniError};
+use crate::types::{SreAsked, SreFound};
+use sre_engine::{Code, CodeError, EmptyRule, LentTable, Request, SreError, State, StrDrive};
 use std::alloc::Global;
 
 /// The request for a code in a text.
@@ -96,31 +99,28 @@ fn show(state: &State<Global>, found: &mut SreFound, marks: &mut [usize]) -> boo
     copy_marks(state.marks().raw(), marks)
 }
 
-/// The match, its marks where there is room for them, and what is left of the turns.
-pub fn answer<S: StrDrive>(
+// The match of a code that is read by a table, as `answer` tells it.
+fn answer_by<'a, S: StrDrive>(
     alloc: Global,
-    code: &SreCode<'_>,
+    code: &'a SreCode<'a>,
+    uni: &'a LentTable<'a>,
     text: S,
     asked: &SreAsked,
     found: &mut SreFound,
     marks: &mut [usize],
 ) -> Status
+    requires table { uni.now ≡ table_in code.now.table.now }
+    requires turns { found.old.turns ≡ asked.now.turns }
     ensures answers { Answers result code.now (S.text text) asked.now (length marks.old) found.new marks.new }
     ensures turns { found.new.turns ≤ asked.now.turns }
 {
-    found.turns = asked.turns;
-    let uni = match table(alloc, code.table) {
-        Ok(uni) => uni,
-        Err(UniError::Memory) => return Status::Memory,
-        Err(_) => return Status::FaultyTable,
-    };
-    let checked = match Code::check(alloc, code.words, &uni) {
-        Ok(checked) => checked,
+    let code = match check::code(alloc, code, uni) {
+        Ok(code) => code,
         Err(CodeError::Memory) => return Status::Memory,
         Err(_) => return Status::NoCode,
     };
     let mut state = State::new(alloc);
-    let request = request(text, asked, checked);
+    let request = request(text, asked, code);
     let mut turns = asked.turns;
     let told = ask(&mut state, request, asked.search, &mut turns);
     found.turns = turns;
@@ -135,5 +135,24 @@ pub fn answer<S: StrDrive>(
         Ok(Some(false)) => Status::No,
         Ok(None) => Status::UsedUp,
         Err(SreError::Memory) => Status::Memory,
+    }
+}
+
+/// The match, its marks where there is room for them, and what is left of the turns.
+pub fn answer<'c, S: StrDrive>(
+    alloc: Global,
+    code: &'c SreCode<'c>,
+    text: S,
+    asked: &SreAsked,
+    found: &mut SreFound,
+    marks: &mut [usize],
+) -> Status
+    ensures answers { Answers result code.now (S.text text) asked.now (length marks.old) found.new marks.new }
+    ensures turns { found.new.turns ≤ asked.now.turns }
+{
+    found.turns = asked.turns;
+    match table(alloc, code.table) {
+        Some(uni) => answer_by(alloc, code, &uni, text, asked, found, marks),
+        None => Status::FaultyTable,
     }
 }

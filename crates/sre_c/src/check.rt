@@ -1,16 +1,19 @@
 //! The check of a caller's words.
 
-ghost use Rattle.std.specs.Prelude.{◌≡◌};
+ghost use Rattle.std.specs.Prelude.{◌≡◌, ◌≢◌, IfOk, IfErr, OnOk};
 ghost use Rattle.sre_model.specs.Tree.{Tree};
-ghost use Rattle.sre_model.specs.Grammar.{Whole};
+ghost use Rattle.sre_model.specs.Grammar.{Whole, IsCode};
+ghost use Rattle.sre_growth.specs.Refusal.{Refused};
 ghost use Rattle.sre_code.specs.Codes.{words_of, uni_of};
 ghost use Rattle.sre_code.specs.Refusals.{place_of};
-ghost use Rattle.sre_c.specs.Checked.{AreHints, CodeChecked};
+ghost use Rattle.sre_c.specs.Known.{table_in, hints_told, AreHints};
+ghost use Rattle.sre_c.specs.Checked.{CodeChecked};
 
+use crate::code::SreCode;
 use crate::status::Status;
 use crate::table::table;
-use crate::types::{SreCode, SreHints};
-use sre_engine::{Code, CodeError, UniError};
+use crate::types::SreHints;
+use sre_engine::{Code, CodeError, Hints, LentTable};
 use std::alloc::Global;
 
 // The hints of a code, as they cross to C.
@@ -51,6 +54,58 @@ fn place(error: CodeError) -> usize
     }
 }
 
+// The hints of a code, from those that cross to C.
+#[inline]
+fn hints_told(hints: SreHints) -> Hints
+    ensures { result ≡ hints_told hints }
+{
+    Hints {
+        width: if hints.has_width {
+            Some(hints.width)
+        } else {
+            None
+        },
+        prefix: if hints.has_prefix {
+            Some((hints.prefix, hints.prefix_skip))
+        } else {
+            None
+        },
+        literal: hints.literal,
+        first_set: hints.first_set,
+    }
+}
+
+/// The code of a caller's words, which are read only where they were not checked before.
+///
+/// # Errors
+///
+/// As [`Code::check`] has them, and only where the words were not checked before.
+#[inline]
+pub fn code<'a>(
+    alloc: Global,
+    given: &SreCode<'a>,
+    uni: &'a LentTable<'a>,
+) -> Result<Code<'a>, CodeError>
+    requires table { uni.now ≡ table_in given.now.table.now }
+    ensures words { IfOk result (λ code. words_of code ≡ given.now.words.now) }
+    ensures uni { IfOk result (λ code. uni_of code ≡ table_in given.now.table.now) }
+    ensures tree { OnOk result (IsCode given.now.words.now) }
+    ensures refused { IfErr result (λ e. e ≢ CodeError.Memory → (t : Tree) → ¬ (Whole given.now.words.now t)) }
+    ensures grows { IfErr result (λ e. e ≡ CodeError.Memory → Refused) }
+{
+    if given.checked {
+        let hints = given.hints;
+        return Ok(Code::from_checked(
+            given.words,
+            uni,
+            hints_told(hints),
+            hints.refers,
+            hints.most_counts,
+        ));
+    }
+    Code::check(alloc, given.words, uni)
+}
+
 /// Checks words, with the hints of a code.
 pub fn check_code(alloc: Global, code: &mut SreCode<'_>) -> Status
     ensures checked { CodeChecked result code.new }
@@ -58,16 +113,19 @@ pub fn check_code(alloc: Global, code: &mut SreCode<'_>) -> Status
     ensures table { code.new.table.now ≡ code.old.table.now }
 {
     code.checked = false;
-    let uni = match table(alloc, code.table) {
-        Ok(uni) => uni,
-        Err(UniError::Memory) => return Status::Memory,
-        Err(_) => return Status::FaultyTable,
+    let Some(uni) = table(alloc, code.table) else {
+        return Status::FaultyTable;
     };
     match Code::check(alloc, code.words, &uni) {
         Ok(checked) => {
-            code.hints = hints(&checked);
-            code.error = 0;
-            code.checked = true;
+            *code = SreCode {
+                words: code.words,
+                table: code.table,
+                place: code.place,
+                error: 0,
+                hints: hints(&checked),
+                checked: true,
+            };
             Status::Yes
         }
         Err(CodeError::Memory) => Status::Memory,

@@ -2,18 +2,20 @@
 //!
 //! `include/sre.h` declares what is exported here, and says what a caller owes. No export has a `requires`: whatever
 //! numbers a caller hands over, the answer is one of the statuses, and says what its clause says. Answers and walks
-//! check the words and lists that they are given.
+//! check the words and lists that no check has passed before; what one has passed carries that as a fact.
 #![tactic(auto)]
 
 ghost use Rattle.std.specs.Prelude.{◌≡◌, ◌≤◌, length};
 ghost use Rattle.sre_c.specs.Statuses.{Tells};
-ghost use Rattle.sre_c.specs.Given.{table_in, InUtf8};
+ghost use Rattle.sre_c.specs.Known.{table_in};
+ghost use Rattle.sre_c.specs.Given.{InUtf8};
 ghost use Rattle.sre_c.specs.Checked.{TableChecked, CodeChecked};
 ghost use Rattle.sre_c.specs.Answered.{Answers};
 ghost use Rattle.sre_c.specs.Walked.{Walks};
 
 mod answer;
 mod check;
+mod code;
 mod numbers;
 mod status;
 mod table;
@@ -22,11 +24,12 @@ mod walk;
 
 use answer::answer;
 use check::check_code;
+use code::SreCode;
 use numbers::{Points, Units};
 use status::Status;
 use std::alloc::Global;
 use table::check_table;
-use types::{SreAsked, SreCode, SreFound, SreTable, SreWalked};
+use types::{SreAsked, SreFound, SreTable, SreWalked};
 use walk::{begun, walk};
 
 /// Checks the lists of a table.

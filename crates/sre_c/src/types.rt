@@ -1,25 +1,27 @@
 //! The structs that cross to C, field by field as `include/sre.h` writes them.
+//!
+//! What a check has passed says so in its `checked`, and carries the fact. A caller in C hands it back with the struct,
+//! and so owes that the fact still holds.
 
-/// An entry of a list: (from, to) of a map of cases, or (low, high) of a range, both ends of which belong to it.
-#[repr(C)]
-#[derive(Clone, Copy)]
-pub struct SrePair {
-    pub low: u32,
-    pub high: u32,
-}
+ghost use Rattle.std.specs.Prelude.{◌≡◌, true, None};
+ghost use Rattle.sre_chars.specs.Lists.{lent_table, lists_fault};
+
+use sre_engine::UniPair;
 
 /// The lists of a table of cases, alphanumerics and digits past ASCII. Where all are empty, it is that of ASCII.
 #[repr(C)]
 #[derive(Clone, Copy)]
 pub struct SreTable<'a> {
-    pub lower: &'a [SrePair],
-    pub upper: &'a [SrePair],
-    pub alnum: &'a [SrePair],
-    pub digits: &'a [SrePair],
+    pub lower: &'a [UniPair],
+    pub upper: &'a [UniPair],
+    pub alnum: &'a [UniPair],
+    pub digits: &'a [UniPair],
     /// The number of the first fault, where the check saw one; 0 where it passed the lists.
     pub error: u32,
     /// Whether the check has passed the lists.
     pub checked: bool,
+    ghost lawful: { checked ≡ true
+        → lists_fault (lent_table lower.now upper.now alnum.now digits.now) ≡ None },
 }
 
 /// What the words claim and their tree confirms, and two numbers of the tree.
@@ -42,21 +44,6 @@ pub struct SreHints {
     pub first_set: bool,
     /// Whether a reference or a condition is among the items.
     pub refers: bool,
-}
-
-/// Words, the table by which they are read, and what the check leaves.
-#[repr(C)]
-#[derive(Clone, Copy)]
-pub struct SreCode<'a> {
-    pub words: &'a [u32],
-    pub table: &'a SreTable<'a>,
-    /// Where the check saw the fault of words that are no code: at most their number.
-    pub place: usize,
-    /// The number of that refusal; 0 where the check passed the words.
-    pub error: u32,
-    pub hints: SreHints,
-    /// Whether the check has passed the words.
-    pub checked: bool,
 }
 
 /// What is asked: a window of characters, how many turns the answer may take, and flags.

@@ -4,14 +4,17 @@ ghost use Rattle.std.specs.Prelude.{◌≡◌, ◌<◌, ◌≤◌, ◌+◌, ℕ,
 ghost use Rattle.sre_engine.specs.Requests.{start_of, end_of, must_advance_of};
 ghost use Rattle.sre_engine.specs.Iterators.{request_of, has_ended};
 ghost use Rattle.sre_engine.specs.Walks.{match_shown};
-ghost use Rattle.sre_c.specs.Walked.{index_number, entry_of, IsRow, Walks};
+ghost use Rattle.sre_c.specs.Known.{table_in};
+ghost use Rattle.sre_c.specs.Walked.{index_number, entry_of, begun_of, IsRow, Walks};
 ghost use Rattle.sre_c.specs.Rows.{WritesRows};
 
 use crate::answer::{mark_number, request};
+use crate::check;
+use crate::code::SreCode;
 use crate::status::Status;
 use crate::table::table;
-use crate::types::{SreAsked, SreCode, SreWalked};
-use sre_engine::{Code, CodeError, SearchIter, SreError, State, StrDrive, UniError};
+use crate::types::{SreAsked, SreWalked};
+use sre_engine::{CodeError, LentTable, SearchIter, SreError, State, StrDrive};
 use std::alloc::Global;
 
 // A last index as a number.
@@ -94,10 +97,35 @@ fn write_rows<S: StrDrive>(
     Status::NoRoom
 }
 
-/// Writes the matches of a walk, each in `width` numbers, and how it goes on.
-pub fn walk<S: StrDrive>(
+// Writes the matches of a walk over a code that is read by a table.
+fn walk_by<'a, S: StrDrive>(
     alloc: Global,
-    code: &SreCode<'_>,
+    code: &'a SreCode<'a>,
+    uni: &'a LentTable<'a>,
+    text: S,
+    asked: &SreAsked,
+    width: usize,
+    rows: &mut [usize],
+    walked: &mut SreWalked,
+) -> Status
+    requires table { uni.now ≡ table_in code.now.table.now }
+    requires begun { walked.old ≡ begun_of asked.now }
+    ensures walks { Walks result code.now (S.text text) asked.now width walked.new rows.new }
+    ensures turns { walked.new.turns ≤ asked.now.turns }
+{
+    let code = match check::code(alloc, code, uni) {
+        Ok(code) => code,
+        Err(CodeError::Memory) => return Status::Memory,
+        Err(_) => return Status::NoCode,
+    };
+    let mut walk = SearchIter::new(request(text, asked, code), State::new(alloc));
+    write_rows(&mut walk, width, rows, walked)
+}
+
+/// Writes the matches of a walk, each in `width` numbers, and how it goes on.
+pub fn walk<'c, S: StrDrive>(
+    alloc: Global,
+    code: &'c SreCode<'c>,
     text: S,
     asked: &SreAsked,
     width: usize,
@@ -108,29 +136,15 @@ pub fn walk<S: StrDrive>(
     ensures turns { walked.new.turns ≤ asked.now.turns }
 {
     *walked = begun(asked);
-    let uni = match table(alloc, code.table) {
-        Ok(uni) => uni,
-        Err(UniError::Memory) => return Status::Memory,
-        Err(_) => return Status::FaultyTable,
-    };
-    let checked = match Code::check(alloc, code.words, &uni) {
-        Ok(checked) => checked,
-        Err(CodeError::Memory) => return Status::Memory,
-        Err(_) => return Status::NoCode,
-    };
-    let mut walk = SearchIter::new(request(text, asked, checked), State::new(alloc));
-    write_rows(&mut walk, width, rows, walked)
+    match table(alloc, code.table) {
+        Some(uni) => walk_by(alloc, code, &uni, text, asked, width, rows, walked),
+        None => Status::FaultyTable,
+    }
 }
 
 /// A walk of which nothing is written.
 pub fn begun(asked: &SreAsked) -> SreWalked
-    ensures { result ≡ record {
-      count = 0;
-      start = asked.now.start;
-      turns = asked.now.turns;
-      step_turns = asked.now.turns;
-      must_advance = asked.now.must_advance;
-    } }
+    ensures { result ≡ begun_of asked.now }
 {
     SreWalked {
         count: 0,

@@ -1,0 +1,32 @@
+-- What follows of what a check has told of words.
+use Rattle.std.proofs.Common.{ℕ, ◌≡◌, ◌∙◌, List, false, ap, sym}
+use Rattle.std.proofs.Props.{props}
+use Rattle.std.proofs.Math.Logic.{∥∥₁_map, ∥∥₁_elim}
+use Rattle.sre_chars.specs.Tables.{Table}
+use Rattle.sre_model.specs.Tree.{Tree}
+use Rattle.sre_model.specs.Grammar.{Whole, IsCode}
+use Rattle.sre_model.specs.References.{refers}
+use Rattle.sre_model.specs.RunCounts.{most_counts}
+use Rattle.sre_model.proofs.Unique.{whole_same}
+use Rattle.sre_model.proofs.Props.{kept_tree}
+use Rattle.sre_code.specs.Hinted.{Confirmed}
+use Rattle.sre_c.specs.declared.types.SreHints.{SreHints}
+use Rattle.sre_c.specs.Known.{hints_told, IsKnown}
+
+module _ (words : List ℕ) (table : Table) (h : SreHints) (known : ∥ IsKnown words table h ∥₁) where
+  pub known_code : IsCode words
+  known_code = kept_tree words (∥∥₁_map known (λ k. (k.tree, k.whole)))
+
+  pub known_confirmed : ∥ ((t : Tree) × Whole words t × Confirmed words table t (hints_told h)) ∥₁
+  known_confirmed = ∥∥₁_map known (λ k. (k.tree, k.whole, k.hints.confirmed))
+
+  pub known_references : (t : Tree) → Whole words t → h.refers ≡ refers t
+  known_references t whole =
+      ∥∥₁_elim known (hlevel props)
+      (λ k. k.hints.reference ∙ ap refers (whole_same words k.tree t k.whole whole))
+
+  pub known_counts : (t : Tree) → Whole words t → refers t ≡ false → h.most_counts ≡ most_counts t
+  known_counts t whole none =
+      ∥∥₁_elim known (hlevel props)
+      (λ k. let same = whole_same words k.tree t k.whole whole in
+      k.hints.counts (ap refers same ∙ none) ∙ ap most_counts same)
