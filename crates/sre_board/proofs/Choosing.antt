@@ -1,14 +1,17 @@
 -- Laws of the choices that share one trail and one table of chains.
-use Rattle.std.proofs.Common.{◌≡◌, ℕ, ◌+◌, ◌<◌, ◌≤◌, List, [], ◌∷◌, ◌++◌, length, map, reverse, take, drop}
-use Rattle.std.proofs.Common.{slice_index_or, refl, sym, ap, ◌∙◌, subst, arith, length-append}
+use Rattle.std.proofs.Common.{◌≡◌, ℕ, ◌+◌, ◌-◌, ◌<◌, ◌≤◌, List, [], ◌∷◌, ◌++◌, length, map, reverse, take, drop}
+use Rattle.std.proofs.Common.{Option, Some, slice_index_or, refl, sym, ap, ◌∙◌, subst, arith, length-append}
+use Rattle.std.specs.Option.{option_to_list}
 use Rattle.std.proofs.lemmas.List.{get_or-take, reverse-append, length-take-le}
 use Rattle.std.proofs.Math.ListN.{get_or-append}
 use Rattle.std.proofs.Math.Seq.{get_or-append_seam}
 use Rattle.sre_model.specs.Marks.{Marks, no_marks, set_mark}
 use Rattle.sre_board.specs.Trail.{Trail, states}
-use Rattle.sre_turns.specs.Board.{choice, BoardValue}
+use Rattle.sre_turns.specs.Board.{Else, choice, BoardValue}
+use Rattle.sre_turns.specs.declared.Point.TheVariants.{Instruction}
+use Rattle.sre_chars.specs.declared.string.StringCursor.{StringCursor}
 use Rattle.sre_turns.specs.declared.Frame.{Frame}
-use Rattle.sre_board.specs.Choices.{choice_of, board_of, Fits}
+use Rattle.sre_board.specs.Choices.{choice_of, board_of, Fits, regions_of, regions_in}
 use Rattle.sre_board.specs.declared.board.Saved.{Saved}
 
 abbrev pub Table : Type 0
@@ -129,3 +132,34 @@ back_held b t t' chains chains' frame old new s e f eo et ec =
       same_choices (reverse new) chains (take (s.chains + 1) chains) (states t) (states t') (s.chains + 1) s.changes
           fits.3 cut same,
     ) refl
+
+-- the newest choice goes, which is to go on with the loops and the marks as they are now
+pub dropped_held : (b b' : BoardValue) (t : Trail) (chains : Table) (frame place : ℕ) (cursor : StringCursor)
+    (old new : List Saved) (s : Saved)
+    → board_of t chains frame old ≡ b → board_of t chains frame new ≡ b' → old ≡ new ++ s ∷ []
+    → s.point ≡ Instruction place → s.cursor ≡ cursor → s.frame ≡ frame → s.changes ≡ length t.past
+    → b ≡ record b' { choices = Else (Instruction place) b'.frames cursor b'.marks ∷ b'.choices }
+dropped_held b b' t chains frame place cursor old new s e e' eo point at loops marks =
+    let now : slice_index_or (states t) (length t.past) no_marks ≡ t.now = get_or-append_seam t.past t.now [] no_marks in
+    let one : choice_of chains (states t) s ≡ Else (Instruction place) (slice_index_or chains frame []) cursor t.now =
+    rw (point, at, loops, marks, now) refl in
+    rw (← e, ← e', reversed old new s eo, one) refl
+
+-- what was taken off a list is its last item
+pub last_off : (old new : List Saved) (taken : Option Saved) (s : Saved) (m n : ℕ) → old ≡ new ++ option_to_list taken
+    → ((d : Saved) → 0 < n → taken ≡ Some (slice_index_or old (n - 1) d)) → s ≡ slice_index_or old (m - 1) s → m ≡ n
+    → 0 < n → old ≡ new ++ s ∷ []
+last_off old new taken s m n e value is same some =
+    let here : s ≡ slice_index_or old (n - 1) s = rw same at is in
+    let found : taken ≡ Some s = value s some ∙ ap (λ x. Some x) (sym here) in
+    e ∙ rw found refl
+
+-- the choices that are left fit, and have no region less
+pub dropped_fits : (old new : List Saved) (s : Saved) (place : ℕ) (n changes : ℕ) → old ≡ new ++ s ∷ []
+    → s.point ≡ Instruction place → Fits (reverse old) n changes
+    → Fits (reverse new) n changes × (regions_in (reverse old) ≡ regions_in (reverse new))
+dropped_fits old new s place n changes e point f =
+    let fits = fits_newest old new s n changes e f in (
+      fits-more (reverse new) (s.chains + 1) n s.changes changes (omega (arith, fits.0)) fits.1 fits.3,
+      omega (arith, ap (λ ss. regions_in ss) (reversed old new s e), ap (λ pt. regions_of pt) point),
+    )

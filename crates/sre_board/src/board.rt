@@ -7,9 +7,9 @@ ghost use Rattle.std.specs.Prelude.{◌≡◌, ℕ, ◌<◌, [], ◌∷◌, drop
 ghost use Rattle.std.specs.Prelude.{true, false};
 ghost use Rattle.sre_model.specs.Marks.{no_marks, set_mark, group};
 ghost use Rattle.sre_growth.specs.Refusal.{Refused};
-ghost use Rattle.sre_turns.specs.Board.{Keep, Trying, choice, from_region, Cuts, bare};
+ghost use Rattle.sre_turns.specs.Board.{Keep, Trying, choice, from_region, Cuts, Dropped, bare};
 ghost use Rattle.sre_turns.specs.Fruit.{is_inside};
-ghost use Rattle.sre_turns.specs.declared.Point.TheVariants.{Inside};
+ghost use Rattle.sre_turns.specs.declared.Point.TheVariants.{Instruction, Inside};
 ghost use Rattle.sre_board.specs.Choices.{Fits, regions_of, down_to_region};
 
 use crate::chains::{Chains, frame_of};
@@ -80,6 +80,24 @@ fn regions_of(point: Point) -> usize
         Point::Inside(_) => 1,
         _ => 0,
     }
+}
+
+// Whether a choice is to go on at an instruction and a cursor, with the loops of a chain, after so many changes.
+#[inline(always)]
+fn goes_on_at(
+    saved: Saved,
+    place: usize,
+    cursor: StringCursor,
+    frame: usize,
+    changes: usize,
+) -> bool
+    ensures { result ≡ true → (saved.point ≡ Instruction place) × (saved.cursor ≡ cursor)
+        × (saved.frame ≡ frame) × (saved.changes ≡ changes) }
+{
+    saved.point == Point::Instruction(place)
+        && saved.cursor == cursor
+        && saved.frame == frame
+        && saved.changes == changes
 }
 
 // Takes choices down to the newest region, and that too.
@@ -267,6 +285,22 @@ impl<A: Allocator> Board<A> {
         self.chains.cut(saved.chains);
         self.frame = saved.frame;
         Some((saved.point, saved.cursor))
+    }
+
+    /// Takes the newest choice away if it is to go on right here: at an instruction and a cursor, with the loops and
+    /// marks as they are now. It takes no memory.
+    #[inline(always)]
+    pub fn drop_same(&mut self, place: usize, cursor: StringCursor)
+        ensures { Dropped place cursor self.old self.new }
+    {
+        if self.choices.is_empty() {
+            return;
+        }
+        let newest = self.choices[self.choices.len() - 1];
+        let changes = self.trail.length();
+        if goes_on_at(newest, place, cursor, self.frame, changes) {
+            let _newest = self.choices.pop();
+        }
     }
 
     /// Notes that so many characters were passed in a turn. Stretches of less than 64 characters are not noted: what

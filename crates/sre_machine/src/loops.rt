@@ -97,6 +97,7 @@ fn further<S: StrDrive, A: Allocator>(
         return Ok(Next::At(body, cursor));
     }
     if !may_repeat(greatest, frame, cursor) {
+        board.drop_same(place + 1, cursor);
         return Ok(Next::At(place + 1, cursor));
     }
     if refuses(req, body, cursor) {
