@@ -444,7 +444,7 @@ impl<A: Allocator> Failures<A> {
 
     /// What is known of the spot at a place and a position, under the loops of a board and inside a region or not as it
     /// is.
-    #[inline(always)]
+    #[inline(never)]
     pub fn known(&self, words: &[u32], board: &Board<A>, place: usize, position: usize) -> Known
         ensures told { Tells result self.now words.now (is_inside board.now.choices)
             (spot_at (Instruction place) board.now.frames position board.now.marks) }
@@ -459,22 +459,6 @@ impl<A: Allocator> Failures<A> {
                     Known::Open
                 }
             }
-        }
-    }
-
-    /// Whether a spot is kept.
-    #[inline(never)]
-    pub fn is_kept(&self, words: &[u32], board: &Board<A>, place: usize, position: usize) -> bool
-        ensures kept { result ≡ true → Holds self.now words.now (is_inside board.now.choices)
-            (spot_at (Instruction place) board.now.frames position board.now.marks) }
-        ensures opened { result ≡ false → HasBit self.now words.now (is_inside board.now.choices)
-            (spot_at (Instruction place) board.now.frames position board.now.marks)
-            → IsOpen self.now words.now (is_inside board.now.choices)
-            (spot_at (Instruction place) board.now.frames position board.now.marks) }
-    {
-        match self.known(words, board, place, position) {
-            Known::Failed => true,
-            Known::Open | Known::NoBit => false,
         }
     }
 
