@@ -1,13 +1,13 @@
 -- Laws of the choices that share one trail and one table of chains.
 use Rattle.std.proofs.Common.{◌≡◌, ℕ, ◌+◌, ◌-◌, ◌<◌, ◌≤◌, List, [], ◌∷◌, ◌++◌, length, map, reverse, take, drop}
-use Rattle.std.proofs.Common.{Option, Some, slice_index_or, refl, sym, ap, ◌∙◌, subst, arith, length-append}
+use Rattle.std.proofs.Common.{Bool, true, inr, Option, Some, slice_index_or, refl, sym, ap, ◌∙◌, subst, arith, length-append}
 use Rattle.std.specs.Option.{option_to_list}
 use Rattle.std.proofs.lemmas.List.{get_or-take, reverse-append, length-take-le}
 use Rattle.std.proofs.Math.ListN.{get_or-append}
 use Rattle.std.proofs.Math.Seq.{get_or-append_seam}
 use Rattle.sre_model.specs.Marks.{Marks, no_marks, set_mark}
-use Rattle.sre_board.specs.Trail.{Trail, states}
-use Rattle.sre_turns.specs.Board.{Else, choice, BoardValue}
+use Rattle.sre_board.specs.Trail.{Trail, states, SameUpTo, SetsMark}
+use Rattle.sre_turns.specs.Board.{Else, choice, BoardValue, Dropped}
 use Rattle.sre_turns.specs.declared.Point.TheVariants.{Instruction}
 use Rattle.sre_chars.specs.declared.string.StringCursor.{StringCursor}
 use Rattle.sre_turns.specs.declared.Frame.{Frame}
@@ -20,10 +20,6 @@ Table = List (List Frame)
 -- tables that agree below a number of chains
 abbrev pub Agree : Table → Table → ℕ → Type 0
 Agree a b n = (i : ℕ) → i < n → slice_index_or b i [] ≡ slice_index_or a i []
-
--- lists of marks that agree up to a length of the trail
-abbrev SameUpTo : List Marks → List Marks → ℕ → Type 0
-SameUpTo a b n = (i : ℕ) → i ≤ n → slice_index_or b i no_marks ≡ slice_index_or a i no_marks
 
 -- a longer trail and a greater table hold what smaller ones do
 pub fits-more : (ss : List Saved) (n n' c c' : ℕ) → n ≤ n' → c ≤ c' → Fits ss n c → Fits ss n' c'
@@ -40,23 +36,14 @@ same_choices (s ∷ ss) t u a b n c f g h =
     (λ i l. h i (omega (arith, f.1))) in
     rw (one, rest) refl
 
-same_more : (past : List Marks) (now next : Marks)
-    → SameUpTo (past ++ now ∷ []) ((past ++ now ∷ []) ++ next ∷ []) (length past)
-same_more past now next = λ i h.
-    get_or-append (past ++ now ∷ []) (next ∷ []) no_marks i (omega (arith, length-append past (now ∷ [])))
-
 -- a mark is set
-pub set_held : (b : BoardValue) (t t' : Trail) (chains : Table) (frame : ℕ) (saved : List Saved) (n p : ℕ)
-    → board_of t chains frame saved ≡ b → Fits (reverse saved) (length chains) (length t.past)
-    → t' ≡ record { past = states t; now = set_mark t.now n p }
+pub set_held : (b : BoardValue) (t t' : Trail) (chains : Table) (frame : ℕ) (saved : List Saved) (n p k : ℕ)
+    → board_of t chains frame saved ≡ b → Fits (reverse saved) (length chains) k → SetsMark n p k t t'
     → board_of t' chains frame saved ≡ record b { marks = set_mark b.marks n p }
-set_held b t t' chains frame saved n p e f et =
-    rw (
-      et,
-      ← e,
-      same_choices (reverse saved) chains chains (states t) (states t ++ set_mark t.now n p ∷ []) (length chains)
-          (length t.past) f (λ i l. refl) (same_more t.past t.now (set_mark t.now n p)),
-    ) refl
+set_held b t t' chains frame saved n p k e f s =
+    let same = same_choices (reverse saved) chains chains (states t) (states t') (length chains) k f (λ i l. refl)
+    s.before in
+    rw (same, s.now, ← e) refl
 
 -- a loop begins
 pub enter_held : (b : BoardValue) (t : Trail) (chains chains' : Table) (frame frame' : ℕ) (saved : List Saved)
@@ -133,17 +120,20 @@ back_held b t t' chains chains' frame old new s e f eo et ec =
           fits.3 cut same,
     ) refl
 
--- the newest choice goes, which is to go on with the loops and the marks as they are now
+-- the newest choice goes, which is to go on with the loops as they are now, and with the marks where these matter
 pub dropped_held : (b b' : BoardValue) (t : Trail) (chains : Table) (frame place : ℕ) (cursor : StringCursor)
-    (old new : List Saved) (s : Saved)
+    (matter : Bool) (old new : List Saved) (s : Saved)
     → board_of t chains frame old ≡ b → board_of t chains frame new ≡ b' → old ≡ new ++ s ∷ []
-    → s.point ≡ Instruction place → s.cursor ≡ cursor → s.frame ≡ frame → s.changes ≡ length t.past
-    → b ≡ record b' { choices = Else (Instruction place) b'.frames cursor b'.marks ∷ b'.choices }
-dropped_held b b' t chains frame place cursor old new s e e' eo point at loops marks =
-    let now : slice_index_or (states t) (length t.past) no_marks ≡ t.now = get_or-append_seam t.past t.now [] no_marks in
-    let one : choice_of chains (states t) s ≡ Else (Instruction place) (slice_index_or chains frame []) cursor t.now =
-    rw (point, at, loops, marks, now) refl in
-    rw (← e, ← e', reversed old new s eo, one) refl
+    → s.point ≡ Instruction place → s.cursor ≡ cursor → s.frame ≡ frame → (matter ≡ true → s.changes ≡ length t.past)
+    → Dropped place cursor matter b b'
+dropped_held b b' t chains frame place cursor matter old new s e e' eo point at loops marks =
+    let m : Marks = slice_index_or (states t) s.changes no_marks in
+    let one : choice_of chains (states t) s ≡ Else (Instruction place) (slice_index_or chains frame []) cursor m =
+    rw (point, at, loops) refl in
+    let now : matter ≡ true → m ≡ b'.marks =
+    λ h. ap (λ i. slice_index_or (states t) i no_marks) (marks h) ∙ get_or-append_seam t.past t.now [] no_marks
+    ∙ ap (λ (x : BoardValue). x.marks) e' in
+    inr (m, now, rw (← e, ← e', reversed old new s eo, one) refl)
 
 -- what was taken off a list is its last item
 pub last_off : (old new : List Saved) (taken : Option Saved) (s : Saved) (m n : ℕ) → old ≡ new ++ option_to_list taken

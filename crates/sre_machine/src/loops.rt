@@ -97,7 +97,8 @@ fn further<S: StrDrive, A: Allocator>(
         return Ok(Next::At(body, cursor));
     }
     if !may_repeat(greatest, frame, cursor) {
-        board.drop_same(place + 1, cursor);
+        let refers = req.pattern_codes().refers();
+        board.drop_same(place + 1, cursor, refers);
         return Ok(Next::At(place + 1, cursor));
     }
     if refuses(req, body, cursor) {

@@ -3,6 +3,7 @@
 use Rattle.std.proofs.Common.{◌≡◌, ◌∙◌, inl, inr, ℕ, ◌+◌, ◌≤◌, Bool, true, false, List, [], ◌∷◌, ◌++◌, refl, sym}
 use Rattle.std.proofs.Common.{subst, arith}
 use Rattle.sre_chars.specs.declared.string.StringCursor.{StringCursor}
+use Rattle.sre_model.specs.Marks.{Marks}
 use Rattle.sre_model.specs.Subject.{Subject}
 use Rattle.sre_model.specs.Ways.{Way}
 use Rattle.sre_model.specs.Runs.{Run}
@@ -13,12 +14,14 @@ use Rattle.sre_turns.specs.declared.Point.{Point}
 use Rattle.sre_turns.specs.declared.Next.TheVariants as next
 use Rattle.sre_turns.specs.Limits.{Limit, earlier, Coming, share, FaresAt}
 use Rattle.sre_turns.specs.Moves.{Spot, Move, Stop, End, Go, Split, Enter, closing_move}
+use Rattle.sre_turns.specs.MovesAtReferences.{HasReference}
 use Rattle.sre_turns.specs.Hopeless.{AcceptsByStop, FruitlessWith, Fruitless, is_inside}
 use Rattle.sre_turns.specs.Machine.{Runs, turns, Comes, stops, ends, goes, splits, enters, Waits, outermost, otherwise}
 use Rattle.sre_turns.specs.Machine.{kept, tried, Arrives, Later, spot}
 use Rattle.sre_turns.proofs.FirstOutcomes.{SameFirsts, first_none, firsts_append, firsts_begin, closes_same}
 use Rattle.sre_turns.proofs.FirstOutcomes.{firsts_again}
 use Rattle.sre_turns.proofs.Moving.{comes, sooner}
+use Rattle.sre_turns.proofs.SameComes.{marks_apart}
 
 -- where nothing comes of some outcomes nothing comes of those that begin with the same
 fruitless_alike : (r : Run) → AcceptsByStop r → (inside : Bool) (xs ys : List Way) → SameFirsts xs ys
@@ -59,15 +62,25 @@ stops_itself : (xs : List Way) → SameStops xs xs
 stops_itself [] = tt
 stops_itself (x ∷ xs) = (refl, stops_itself xs)
 
+-- with the same marks the same comes of a spot, and with others what has the same stops, where no reference is
+stops_again : (r : Run) (x : Spot) (m : Marks) (matter : Bool) → (matter ≡ true → m ≡ x.marks)
+    → (matter ≡ false → HasReference r.words → ⊥) → {os us : List Way} {n k : ℕ} → Runs r.words r.subject x os n
+    → Runs r.words r.subject (record x { marks = m }) us k → SameStops os us
+stops_again r x m false same none d e = (marks_apart r.words r.subject (none refl) x m d e).0
+stops_again r x m true same none {os} {us} {n} {k} d e =
+    let here : Runs r.words r.subject x us k = rw (same refl) at e in
+    subst (λ ws. SameStops os ws) (runs_same r.words r.subject d here) (stops_itself os)
+
 -- the newest choice goes where the machine is come to
-pub dropped_arrives : (r : Run) → AcceptsByStop r → (i : ℕ) (c : StringCursor) (b b' : BoardValue)
-    → b ≡ record b' { choices = Else (Instruction i) b'.frames c b'.marks ∷ b'.choices } → (all : List Way)
+pub dropped_arrives : (r : Run) → AcceptsByStop r → (i : ℕ) (c : StringCursor) (matter : Bool) (b b' : BoardValue) (m : Marks)
+    → (matter ≡ true → m ≡ b'.marks) → (matter ≡ false → HasReference r.words → ⊥)
+    → b ≡ record b' { choices = Else (Instruction i) b'.frames c m ∷ b'.choices } → (all : List Way)
     (limit : Limit) → Arrives r all limit (Instruction i) c b → Arrives r all limit (Instruction i) c b'
-dropped_arrives r told i c b b' e all limit g =
+dropped_arrives r told i c matter b b' m same none e all limit g =
     go (subst (λ x. Arrives r all limit (Instruction i) c x) e g)
   where
     both : BoardValue
-    both = record b' { choices = Else (Instruction i) b'.frames c b'.marks ∷ b'.choices }
+    both = record b' { choices = Else (Instruction i) b'.frames c m ∷ b'.choices }
 
     go : Arrives r all limit (Instruction i) c both → Arrives r all limit (Instruction i) c b'
     go a = by_choice a.waits a.within
@@ -84,7 +97,7 @@ dropped_arrives r told i c b b' e all limit g =
           waits =
               sooner (a.turns + 1 + n + 1) (a.turns + 1) (omega arith)
               (waits_alike r told b'.choices (a.now ++ os) a.now (firsts_again a.now os
-              (subst (λ us. SameStops a.now us) (runs_same r.words r.subject a.runs d) (stops_itself a.now))) wt);
+              (stops_again r (spot (Instruction i) c b') m matter same none a.runs d)) wt);
           within = omega (arith, l);
           fares = λ pl o w.
               let f = a.fares pl o w in
@@ -99,8 +112,10 @@ dropped_arrives r told i c b b' e all limit g =
         }
 
 -- a turn later, where it went or did not
-pub later_dropped : (r : Run) → AcceptsByStop r → (i : ℕ) (c : StringCursor) (b b' : BoardValue) → Dropped i c b b'
+pub later_dropped : (r : Run) → AcceptsByStop r → (i : ℕ) (c : StringCursor) (matter : Bool)
+    → (matter ≡ false → HasReference r.words → ⊥) → (b b' : BoardValue) → Dropped i c matter b b'
     → (all : List Way) (limit : Limit) → Later r all limit (next.At i c) b → Later r all limit (next.At i c) b'
-later_dropped r told i c b b' (inl same) all limit l = subst (λ x. Later r all limit (next.At i c) x) (sym same) l
-later_dropped r told i c b b' (inr gone) all limit l =
-    (l.0, dropped_arrives r told i c b b' gone all (earlier limit) l.1)
+later_dropped r told i c matter none b b' (inl same) all limit l =
+    subst (λ x. Later r all limit (next.At i c) x) (sym same) l
+later_dropped r told i c matter none b b' (inr gone) all limit l =
+    (l.0, dropped_arrives r told i c matter b b' gone.0 gone.1 none gone.2 all (earlier limit) l.1)

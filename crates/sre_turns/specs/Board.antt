@@ -1,6 +1,6 @@
 -- The board: what a run of the machine holds beside its place and position.
 -- Words of the machine's contracts; what sre_engine makes public does not rest on it.
-use Rattle.std.specs.Prelude.{ℕ, ◌≡◌, ◌⊎◌, List, [], ◌∷◌}
+use Rattle.std.specs.Prelude.{ℕ, ◌≡◌, ◌⊎◌, Bool, true, List, [], ◌∷◌}
 use Rattle.sre_chars.specs.declared.string.StringCursor.{StringCursor}
 use Rattle.sre_model.specs.Marks.{Marks}
 use Rattle.sre_turns.specs.declared.Frame.{Frame}
@@ -45,7 +45,8 @@ pub record Cuts (old : BoardValue) (g : Region) (c : StringCursor) (new : BoardV
   pub region : from_region old.choices ≡ Keep g new.frames c entered ∷ new.choices
   pub marks : new.marks ≡ old.marks
 
--- a choice may have gone: the newest one, if it was to go on at an instruction and a cursor, under these loops and marks
-abbrev pub Dropped : ℕ → StringCursor → BoardValue → BoardValue → Type 0
-Dropped i c old new =
-    (new ≡ old) ⊎ (old ≡ record new { choices = Else (Instruction i) new.frames c new.marks ∷ new.choices })
+-- a choice may have gone: the newest one, if it was to go on at an instruction and a cursor, under these loops, and with
+-- these marks where marks matter
+abbrev pub Dropped : ℕ → StringCursor → Bool → BoardValue → BoardValue → Type 0
+Dropped i c matter old new = (new ≡ old) ⊎ ((m : Marks) × (matter ≡ true → m ≡ new.marks)
+    × (old ≡ record new { choices = Else (Instruction i) new.frames c m ∷ new.choices }))
