@@ -3,8 +3,8 @@
 //! Its value has frames, marks and choices as if each choice held its own. In memory all choices share one trail and
 //! one table of chains, and a chain is forgotten as soon as no choice can come back to it.
 
-ghost use Rattle.std.specs.Prelude.{◌≡◌, ℕ, ◌<◌, ◌≤◌, [], ◌∷◌, drop, length, reverse, IfOk, MatchOption, slice_index_or};
-ghost use Rattle.std.specs.Prelude.{true, false};
+ghost use Rattle.std.specs.Prelude.{◌≡◌, ℕ, ◌<◌, ◌≤◌, [], ◌∷◌, drop, length, reverse, IfOk, MatchOption};
+ghost use Rattle.std.specs.Prelude.{true, false, slice_index_or};
 ghost use Rattle.sre_model.specs.Marks.{no_marks, set_mark, group};
 ghost use Rattle.sre_growth.specs.Refusal.{Refused};
 ghost use Rattle.sre_turns.specs.Board.{Keep, Trying, choice, from_region, Cuts, Dropped, bare};
@@ -302,8 +302,8 @@ impl<A: Allocator> Board<A> {
         Some((saved.point, saved.cursor))
     }
 
-    /// Takes the newest choice away if it is to go on right here: at an instruction and a cursor, with the loops as they
-    /// are now, and with the marks as they are now where these matter. It takes no memory.
+    /// Takes the newest choice away if it is to go on right here: at an instruction and a cursor, with the loops as
+    /// they are now, and with the marks as they are now where these matter. It takes no memory.
     #[inline(always)]
     pub fn drop_same(&mut self, place: usize, cursor: StringCursor, marks_matter: bool)
         ensures { Dropped place cursor marks_matter self.old self.new }

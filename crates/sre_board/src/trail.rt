@@ -78,8 +78,8 @@ impl<A: Allocator> Trail<A> {
     }
 
     /// Sets mark `n` to `position`, where the marks before the first `needed` changes and behind them are needed still.
-    /// Where it stands there already no change is added, but for one of the last index behind what is needed: so a group
-    /// that is matched again and again at one place takes no memory.
+    /// Where it stands there already no change is added, but for one of the last index behind what is needed: so a
+    /// group that is matched again and again at one place takes no memory.
     #[inline(always)]
     pub(crate) fn set_behind(
         &mut self,

@@ -78,6 +78,7 @@ firsts_again xs ys h = λ test told.
     ap (λ ws. first ws) (filter-append test xs ys) ∙ go test (filter test xs) refl (none_passes test told xs ys h)
   where
     go : (test : Way → Bool) (passing : List Way) → filter test xs ≡ passing
-        → (filter test xs ≡ [] → filter test ys ≡ []) → first (filter test xs ++ filter test ys) ≡ first (filter test xs)
+        → (filter test xs ≡ [] → filter test ys ≡ [])
+        → first (filter test xs ++ filter test ys) ≡ first (filter test xs)
     go test [] e none = rw (e, none e) refl
     go test (w ∷ ws) e none = rw e refl

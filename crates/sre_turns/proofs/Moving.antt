@@ -1,4 +1,4 @@
--- A turn of the machine, whatever the opcode: what it comes to, and that the accepted outcomes stay.
+-- A turn of the machine, whatever the opcode: what it comes to, and that the accepted outcomes begin as they did.
 use Rattle.std.proofs.Common.{◌≡◌, ℕ, suc, ◌+◌, ◌<◌, ◌≤◌, List, [], ◌∷◌, ◌++◌, length, refl, sym, ap, ◌∙◌, subst}
 use Rattle.std.proofs.Common.{arith, true}
 use Rattle.std.proofs.lemmas.List.{append-nil}

@@ -1,5 +1,5 @@
--- What waits twice: where the newest choice is to go on right where the machine goes on, it may go. All that comes of it
--- comes of going on, too, and before.
+-- What waits twice: where the newest choice is to go on right where the machine goes on, it may go. All that comes of
+-- it comes of going on, too, and before.
 use Rattle.std.proofs.Common.{◌≡◌, ◌∙◌, inl, inr, ℕ, ◌+◌, ◌≤◌, Bool, true, false, List, [], ◌∷◌, ◌++◌, refl, sym}
 use Rattle.std.proofs.Common.{subst, arith}
 use Rattle.sre_chars.specs.declared.string.StringCursor.{StringCursor}
@@ -72,7 +72,8 @@ stops_again r x m true same none {os} {us} {n} {k} d e =
     subst (λ ws. SameStops os ws) (runs_same r.words r.subject d here) (stops_itself os)
 
 -- the newest choice goes where the machine is come to
-pub dropped_arrives : (r : Run) → AcceptsByStop r → (i : ℕ) (c : StringCursor) (matter : Bool) (b b' : BoardValue) (m : Marks)
+pub dropped_arrives : (r : Run) → AcceptsByStop r → (i : ℕ) (c : StringCursor) (matter : Bool) (b b' : BoardValue)
+    (m : Marks)
     → (matter ≡ true → m ≡ b'.marks) → (matter ≡ false → HasReference r.words → ⊥)
     → b ≡ record b' { choices = Else (Instruction i) b'.frames c m ∷ b'.choices } → (all : List Way)
     (limit : Limit) → Arrives r all limit (Instruction i) c b → Arrives r all limit (Instruction i) c b'

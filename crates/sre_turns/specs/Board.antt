@@ -45,8 +45,8 @@ pub record Cuts (old : BoardValue) (g : Region) (c : StringCursor) (new : BoardV
   pub region : from_region old.choices ≡ Keep g new.frames c entered ∷ new.choices
   pub marks : new.marks ≡ old.marks
 
--- a choice may have gone: the newest one, if it was to go on at an instruction and a cursor, under these loops, and with
--- these marks where marks matter
+-- a choice may have gone: the newest one, if it was to go on at an instruction and a cursor, under these loops, and
+-- with these marks where marks matter
 abbrev pub Dropped : ℕ → StringCursor → Bool → BoardValue → BoardValue → Type 0
 Dropped i c matter old new = (new ≡ old) ⊎ ((m : Marks) × (matter ≡ true → m ≡ new.marks)
     × (old ≡ record new { choices = Else (Instruction i) new.frames c m ∷ new.choices }))

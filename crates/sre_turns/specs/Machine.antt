@@ -33,9 +33,10 @@ use Rattle.sre_turns.specs.declared.Next.TheVariants as next
 pub record Placed (s : Subject) (m : Marks) : Type 0 where
   pub at : (n p : ℕ) → mark_at m n ≡ Some p → p ≤ length s.text
 
--- what the accepted outcomes of the whole begin with, and the turns to come, where the innermost region has the outcomes
--- now, and where so many turns, as those of Runs are counted, may still come before what waits is come to: a mark waits
--- for no more than the turns of its instruction. Nothing is said of later outcomes, so that what waits twice may go
+-- what the accepted outcomes of the whole begin with, and the turns to come, where the innermost region has the
+-- outcomes now, and where so many turns, as those of Runs are counted, may still come before what waits is come to: a
+-- mark waits for no more than the turns of its instruction. Nothing is said of later outcomes, so that what waits twice
+-- may go
 pub data Waits (r : Run) : List Choice → ℕ → List Way → List Way → ℕ → Type 0 where
   outermost : {u : ℕ} {now all : List Way} → first all ≡ first (filter r.accepts now) → Waits r [] u now all 0
   otherwise : {pt : Point} {fs : List Frame} {c : StringCursor} {u n k : ℕ} {m : Marks} {os now all : List Way}
@@ -59,8 +60,8 @@ pub data Waits (r : Run) : List Choice → ℕ → List Way → List Way → ℕ
 abbrev pub spot : Point → StringCursor → BoardValue → Spot
 spot pt c b = spot_at pt b.frames c.position b.marks
 
--- the machine is at a point and a cursor: all are the accepted outcomes, and at most limit turns are left; and what
--- waits on the board has at least so many turns to spare beyond those that come of the point
+-- the machine is at a point and a cursor: all begins as the accepted outcomes do, at most limit turns are left, and
+-- what waits on the board has at least so many turns to spare beyond those that come of the point
 pub record GoesWith (stage : Stage) (r : Run) (all : List Way) (limit : Limit) (pt : Point) (c : StringCursor)
     (b : BoardValue)
     : Type 0 where
@@ -126,7 +127,7 @@ Stands r all limit (next.Again c) b = Arrives r all limit Again c b
 Stands r all limit next.Back b = Backs r all limit b
 Stands r all limit (next.Done c) b = Ends r all limit c b
 
--- one turn later, the accepted outcomes being the same
+-- one turn later, the accepted outcomes beginning as they did
 abbrev pub Later : Run → List Way → Limit → Next → BoardValue → Type 0
 Later r all limit n b = (1 ≤ limit.turns) × Stands r all (earlier limit) n b
 

@@ -24,8 +24,9 @@ returns-clause-shape g c = λ _.
 pub returns-then-slots-eq0-clause-more : goal.returns-then-slots-eq0-clause-more
 returns-then-slots-eq0-clause-more g c = (
   [],
-  cut_back c.args.shapes.now.items c.walk.shapes.items c.truncate.new.self.items c.walk.invariant.more.0 c.len-held.result
-      c.walk.invariant.more.1 c.truncate.ensures.items (omega (arith, c.len-held.ensures, c.args.shapes.now.ok.0)),
+  cut_back c.args.shapes.now.items c.walk.shapes.items c.truncate.new.self.items c.walk.invariant.more.0
+      c.len-held.result c.walk.invariant.more.1 c.truncate.ensures.items
+      (omega (arith, c.len-held.ensures, c.args.shapes.now.ok.0)),
 )
 
 pub returns-then-slots-eq0-clause-slots : goal.returns-then-slots-eq0-clause-slots

@@ -25,8 +25,9 @@ returns-then-frame-least g c =
 
 pub returns-then-not-may_repeat : goal.returns-then-not-may_repeat
 returns-then-not-may_repeat g c = λ all limit st.
-    later_dropped (run_of c.args.req.now) (asked_by_stop (asked_of c.args.req.now)) _ c.args.cursor c.refers-refers.result
-    (plain_words c.args.req.now c.pattern_codes.result c.refers-refers.result c.pattern_codes.ensures c.refers-refers.ensures)
+    later_dropped (run_of c.args.req.now) (asked_by_stop (asked_of c.args.req.now)) _ c.args.cursor
+    c.refers-refers.result (plain_words c.args.req.now c.pattern_codes.result c.refers-refers.result
+    c.pattern_codes.ensures c.refers-refers.ensures)
     c.args.board.now c.drop_same.new.self c.drop_same.ensures all limit
     (until_done (run_of c.args.req.now) Greedy c.args.place c.operand-least.result c.operand-greatest.result
     c.args.cursor (with_loop c.args.frame c.args.board.now) c.args.board.now c.args.frame (record {
