@@ -1,14 +1,18 @@
 -- Laws of the choices that share one trail and one table of chains.
-use Rattle.std.proofs.Common.{◌≡◌, ℕ, ◌+◌, ◌<◌, ◌≤◌, List, [], ◌∷◌, ◌++◌, length, map, reverse, take, drop}
-use Rattle.std.proofs.Common.{slice_index_or, refl, sym, ap, ◌∙◌, subst, arith, length-append}
+use Rattle.std.proofs.Common.{◌≡◌, ℕ, ◌+◌, ◌-◌, ◌<◌, ◌≤◌, List, [], ◌∷◌, ◌++◌, length, map, reverse, take, drop}
+use Rattle.std.proofs.Common.{Bool, true, inr, Option, Some, slice_index_or, refl, sym, ap, ◌∙◌, subst, arith}
+use Rattle.std.proofs.Common.{length-append}
+use Rattle.std.specs.Option.{option_to_list}
 use Rattle.std.proofs.lemmas.List.{get_or-take, reverse-append, length-take-le}
 use Rattle.std.proofs.Math.ListN.{get_or-append}
 use Rattle.std.proofs.Math.Seq.{get_or-append_seam}
 use Rattle.sre_model.specs.Marks.{Marks, no_marks, set_mark}
-use Rattle.sre_board.specs.Trail.{Trail, states}
-use Rattle.sre_turns.specs.Board.{choice, BoardValue}
+use Rattle.sre_board.specs.Trail.{Trail, states, SameUpTo, SetsMark}
+use Rattle.sre_turns.specs.Board.{Else, choice, BoardValue, Dropped}
+use Rattle.sre_turns.specs.declared.Point.TheVariants.{Instruction}
+use Rattle.sre_chars.specs.declared.string.StringCursor.{StringCursor}
 use Rattle.sre_turns.specs.declared.Frame.{Frame}
-use Rattle.sre_board.specs.Choices.{choice_of, board_of, Fits}
+use Rattle.sre_board.specs.Choices.{choice_of, board_of, Fits, regions_of, regions_in}
 use Rattle.sre_board.specs.declared.board.Saved.{Saved}
 
 abbrev pub Table : Type 0
@@ -17,10 +21,6 @@ Table = List (List Frame)
 -- tables that agree below a number of chains
 abbrev pub Agree : Table → Table → ℕ → Type 0
 Agree a b n = (i : ℕ) → i < n → slice_index_or b i [] ≡ slice_index_or a i []
-
--- lists of marks that agree up to a length of the trail
-abbrev SameUpTo : List Marks → List Marks → ℕ → Type 0
-SameUpTo a b n = (i : ℕ) → i ≤ n → slice_index_or b i no_marks ≡ slice_index_or a i no_marks
 
 -- a longer trail and a greater table hold what smaller ones do
 pub fits-more : (ss : List Saved) (n n' c c' : ℕ) → n ≤ n' → c ≤ c' → Fits ss n c → Fits ss n' c'
@@ -37,23 +37,14 @@ same_choices (s ∷ ss) t u a b n c f g h =
     (λ i l. h i (omega (arith, f.1))) in
     rw (one, rest) refl
 
-same_more : (past : List Marks) (now next : Marks)
-    → SameUpTo (past ++ now ∷ []) ((past ++ now ∷ []) ++ next ∷ []) (length past)
-same_more past now next = λ i h.
-    get_or-append (past ++ now ∷ []) (next ∷ []) no_marks i (omega (arith, length-append past (now ∷ [])))
-
 -- a mark is set
-pub set_held : (b : BoardValue) (t t' : Trail) (chains : Table) (frame : ℕ) (saved : List Saved) (n p : ℕ)
-    → board_of t chains frame saved ≡ b → Fits (reverse saved) (length chains) (length t.past)
-    → t' ≡ record { past = states t; now = set_mark t.now n p }
+pub set_held : (b : BoardValue) (t t' : Trail) (chains : Table) (frame : ℕ) (saved : List Saved) (n p k : ℕ)
+    → board_of t chains frame saved ≡ b → Fits (reverse saved) (length chains) k → SetsMark n p k t t'
     → board_of t' chains frame saved ≡ record b { marks = set_mark b.marks n p }
-set_held b t t' chains frame saved n p e f et =
-    rw (
-      et,
-      ← e,
-      same_choices (reverse saved) chains chains (states t) (states t ++ set_mark t.now n p ∷ []) (length chains)
-          (length t.past) f (λ i l. refl) (same_more t.past t.now (set_mark t.now n p)),
-    ) refl
+set_held b t t' chains frame saved n p k e f s =
+    let same = same_choices (reverse saved) chains chains (states t) (states t') (length chains) k f (λ i l. refl)
+    s.before in
+    rw (same, s.now, ← e) refl
 
 -- a loop begins
 pub enter_held : (b : BoardValue) (t : Trail) (chains chains' : Table) (frame frame' : ℕ) (saved : List Saved)
@@ -129,3 +120,37 @@ back_held b t t' chains chains' frame old new s e f eo et ec =
       same_choices (reverse new) chains (take (s.chains + 1) chains) (states t) (states t') (s.chains + 1) s.changes
           fits.3 cut same,
     ) refl
+
+-- the newest choice goes, which is to go on with the loops as they are now, and with the marks where these matter
+pub dropped_held : (b b' : BoardValue) (t : Trail) (chains : Table) (frame place : ℕ) (cursor : StringCursor)
+    (matter : Bool) (old new : List Saved) (s : Saved)
+    → board_of t chains frame old ≡ b → board_of t chains frame new ≡ b' → old ≡ new ++ s ∷ []
+    → s.point ≡ Instruction place → s.cursor ≡ cursor → s.frame ≡ frame → (matter ≡ true → s.changes ≡ length t.past)
+    → Dropped place cursor matter b b'
+dropped_held b b' t chains frame place cursor matter old new s e e' eo point at loops marks =
+    let m : Marks = slice_index_or (states t) s.changes no_marks in
+    let one : choice_of chains (states t) s ≡ Else (Instruction place) (slice_index_or chains frame []) cursor m =
+    rw (point, at, loops) refl in
+    let now : matter ≡ true → m ≡ b'.marks =
+    λ h. ap (λ i. slice_index_or (states t) i no_marks) (marks h) ∙ get_or-append_seam t.past t.now [] no_marks
+    ∙ ap (λ (x : BoardValue). x.marks) e' in
+    inr (m, now, rw (← e, ← e', reversed old new s eo, one) refl)
+
+-- what was taken off a list is its last item
+pub last_off : (old new : List Saved) (taken : Option Saved) (s : Saved) (m n : ℕ) → old ≡ new ++ option_to_list taken
+    → ((d : Saved) → 0 < n → taken ≡ Some (slice_index_or old (n - 1) d)) → s ≡ slice_index_or old (m - 1) s → m ≡ n
+    → 0 < n → old ≡ new ++ s ∷ []
+last_off old new taken s m n e value is same some =
+    let here : s ≡ slice_index_or old (n - 1) s = rw same at is in
+    let found : taken ≡ Some s = value s some ∙ ap (λ x. Some x) (sym here) in
+    e ∙ rw found refl
+
+-- the choices that are left fit, and have no region less
+pub dropped_fits : (old new : List Saved) (s : Saved) (place : ℕ) (n changes : ℕ) → old ≡ new ++ s ∷ []
+    → s.point ≡ Instruction place → Fits (reverse old) n changes
+    → Fits (reverse new) n changes × (regions_in (reverse old) ≡ regions_in (reverse new))
+dropped_fits old new s place n changes e point f =
+    let fits = fits_newest old new s n changes e f in (
+      fits-more (reverse new) (s.chains + 1) n s.changes changes (omega (arith, fits.0)) fits.1 fits.3,
+      omega (arith, ap (λ ss. regions_in ss) (reversed old new s e), ap (λ pt. regions_of pt) point),
+    )

@@ -89,7 +89,7 @@ there_if_ok (Err v) needs mid new row place er ep = tt
 -- a row that was made with enough room is for these positions and loops
 pub made_for : (ws : List ℕ) (first end place : ℕ) (fs gs : List Frame) (old mid : Kept) (row : Row)
     (n taken shape : ℕ) → fs ≡ gs → row.first ≡ first → row.end ≡ length mid.shapes → row.shape ≡ shape
-    → HasShape mid.shapes (length mid.shapes) shape (repeats fs)
+    → (1 ≤ n → HasShape mid.shapes (length mid.shapes) shape (repeats fs))
     → (WordsThere ws (repeats fs) → slots ws (repeats fs) ≤ 4096 → n ≡ slots ws (repeats fs))
     → taken ≡ length old.bits
     → (1 ≤ n → first ≤ end → most_words n first end ≤ 2 ^ 30 → taken + most_words n first end ≤ 2 ^ 32
@@ -110,7 +110,7 @@ made_for ws first end place fs gs old mid row n taken shape same ef ee es shaped
       shape =
           subst (λ (qs : List ℕ). HasShape mid.shapes row.end row.shape qs) js
           (subst (λ i. HasShape mid.shapes row.end i (repeats fs)) (sym es)
-          (subst (λ j. HasShape mid.shapes j shape (repeats fs)) (sym ee) shaped));
+          (subst (λ j. HasShape mid.shapes j shape (repeats fs)) (sym ee) (shaped some)));
       enough = subst (λ m. m * 2 * row.positions ≤ 64 * row.length) number parts.1;
       few = room.few_slots;
     }

@@ -1,7 +1,8 @@
 -- The places of the loops in progress as they are appended to the shapes, and the number of their slots.
-use Rattle.std.proofs.Common.{◌≡◌, ℕ, ◌+◌, ◌*◌, ◌<◌, ◌≤◌, List, [], ◌∷◌, ◌++◌, length, Some, slice_get}
+use Rattle.std.proofs.Common.{◌≡◌, ℕ, ◌+◌, ◌*◌, ◌<◌, ◌≤◌, List, [], ◌∷◌, ◌++◌, length, take, Some, slice_get}
 use Rattle.std.proofs.Common.{refl, sym, ap, ◌∙◌, subst, arith, length-append, append_assoc}
 use Rattle.std.proofs.lemmas.List.{append-nil}
+use Rattle.std.proofs.Math.Seq.{take-append_seam}
 use Rattle.std.proofs.Math.Nat.{mul_assoc, mul-le-mul_left, one-le-mul}
 use Rattle.sre_turns.specs.declared.Frame.{Frame}
 use Rattle.sre_turns.specs.Nested.{repeats, slots}
@@ -39,6 +40,20 @@ slots_more ws n m f fs gs hs was chain more words few =
     mul-le-mul_left (n * radix ws f.repeat) (some_slots ws (repeats fs)) in
     let is : m ≡ n * radix ws f.repeat = more now.0.0 (omega (arith, all, least, few)) in
     (now.0.1, ap (λ k. k * slots ws (repeats fs)) is ∙ all)
+
+-- so where there are none, there are not few
+pub none_few : (ws : List ℕ) (n m : ℕ) (f : Frame) (fs gs hs : List Frame) → SlotsLeft ws n gs hs → gs ≡ f ∷ fs
+    → (f.repeat + 3 < length ws → n * radix ws f.repeat ≤ 4096 → m ≡ n * radix ws f.repeat) → m ≡ 0
+    → WordsThere ws (repeats hs) → slots ws (repeats hs) ≤ 4096 → 0 ≡ slots ws (repeats hs)
+none_few ws n m f fs gs hs was chain more none words few =
+    let all = (slots_more ws n m f fs gs hs was chain more words few).1 in
+    let nothing : 0 * slots ws (repeats fs) ≡ slots ws (repeats hs) = rw none at all in omega (arith, nothing)
+
+-- a list that is cut back to what it had
+pub cut_back : (old now new more : List ℕ) (n : ℕ) → now ≡ old ++ more → new ≡ take n now → n ≡ length old
+    → new ≡ old ++ []
+cut_back old now new more n grown cut held =
+    cut ∙ rw (held, grown, take-append_seam old more) (sym (append-nil old))
 
 -- what stands behind a list
 pub got_next : {X : Type 0} (xs : List X) (y : X) (ys : List X) → slice_get (xs ++ y ∷ ys) (length xs) ≡ Some y

@@ -1,9 +1,10 @@
 -- Laws of the trail: a change that is taken back leaves what stood there before.
-use Rattle.std.proofs.Common.{◌≡◌, ℕ, zero, suc, ◌+◌, ◌-◌, ◌<◌, List, [], ◌∷◌, ◌++◌, length, Option, None, slice_set}
-use Rattle.std.proofs.Common.{slice_index_or, refl, sym, ap, ◌∙◌, arith}
+use Rattle.std.proofs.Common.{◌≡◌, ℕ, zero, suc, ◌+◌, ◌-◌, ◌%◌, ◌<◌, ◌≤◌, List, [], ◌∷◌, ◌++◌, length, Option}
+use Rattle.std.proofs.Common.{Some, None, slice_set, slice_index_or, refl, sym, ap, ◌∙◌, arith, length-append}
+use Rattle.std.proofs.Math.ListN.{get_or-append}
 use Rattle.std.proofs.lemmas.List.{set-get_or, append-nil}
-use Rattle.sre_model.specs.Marks.{Marks, lengthened, set_mark}
-use Rattle.sre_board.specs.Trail.{Trail, states, undo, undone, past_of, trail_of}
+use Rattle.sre_model.specs.Marks.{Marks, no_marks, lengthened, set_mark, mark_at}
+use Rattle.sre_board.specs.Trail.{Trail, states, SetsMark, undo, undone, past_of, trail_of}
 use Rattle.sre_board.specs.declared.marks.Change.{Change}
 
 set-set : {X : Type 0} (l : List X) (i : ℕ) (a b : X) → slice_set (slice_set l i a) i b ≡ slice_set l i b
@@ -47,3 +48,57 @@ pub undo_law : (t : Trail) (cs cs' : List Change) (m m' : Marks) (c : Change) �
     → m' ≡ undo c m → states (trail_of cs' m') ≡ t.past
 undo_law t cs cs' m m' c e ec em =
     rw em (sym (past-push cs' c m) ∙ ap (λ l. past_of l m) (sym ec) ∙ ap (λ (x : Trail). x.past) e)
+
+-- a mark that is set is on the list
+there : (raw : List (Option ℕ)) (n p : ℕ) → slice_index_or raw n None ≡ Some p → n < length raw
+there [] n p e = absurd (cc)
+there (x ∷ raw) zero p e = omega arith
+there (x ∷ raw) (suc n) p e = omega (arith, there raw n p e)
+
+-- where a mark stands already the list stays
+raw_stays : (m : Marks) (n p : ℕ) → mark_at m n ≡ Some p → (set_mark m n p).raw ≡ m.raw
+raw_stays m n p e =
+    let within : n < length m.raw = there m.raw n p e in
+    let none : n + 1 - length m.raw ≡ 0 = omega arith in
+    rw (none, append-nil, ← e) (set-get_or m.raw n None)
+
+-- and so do all marks, where it begins a group
+pub mark_stays : (m : Marks) (n p : ℕ) → mark_at m n ≡ Some p → n % 2 ≡ 0 → set_mark m n p ≡ m
+mark_stays m n p e even = rw (raw_stays m n p e, even) refl
+
+-- what is taken back does not depend on the last index
+undone_same : (c : Change) (cs : List Change) (m n : Marks) → n.raw ≡ m.raw → undone (c ∷ cs) n ≡ undone (c ∷ cs) m
+undone_same c [] m n e = rw e refl
+undone_same c (d ∷ cs) m n e = ap (undo c) (undone_same d cs m n e)
+
+past_same : (cs : List Change) (m n : Marks) → n.raw ≡ m.raw → past_of cs n ≡ past_of cs m
+past_same [] m n e = refl
+past_same (c ∷ cs) m n e = rw (undone_same c cs m n e, past_same cs m n e) refl
+
+-- what was before the first changes stays where one is added
+pub set_more : (t t' : Trail) (n p k : ℕ) → k ≤ length t.past
+    → t' ≡ record { past = states t; now = set_mark t.now n p } → SetsMark n p k t t'
+set_more t t' n p k l e = rw e (record {
+  now = refl;
+  before = λ i h.
+      get_or-append (t.past ++ t.now ∷ []) (set_mark t.now n p ∷ []) no_marks i
+      (omega (arith, length-append t.past (t.now ∷ [])));
+})
+
+-- where a mark stands already, nothing changes, or the last index alone
+pub set_even : (t : Trail) (n p k : ℕ) → mark_at t.now n ≡ Some p → n % 2 ≡ 0 → SetsMark n p k t t
+set_even t n p k e even = record { now = sym (mark_stays t.now n p e even); before = λ i h. refl }
+
+pub set_odd : (t : Trail) (cs : List Change) (m m' : Marks) (n p k : ℕ) → trail_of cs m ≡ t → mark_at m n ≡ Some p
+    → k < length t.past → m' ≡ set_mark m n p → SetsMark n p k t (trail_of cs m')
+set_odd t cs m m' n p k e stands l em =
+    let same : past_of cs m' ≡ past_of cs m =
+    past_same cs m m' (ap (λ (x : Marks). x.raw) em ∙ raw_stays m n p stands) in
+    rw (← e) (record {
+      now = em;
+      before = λ i h.
+          let few : i < length (past_of cs m) = omega (arith, ap (λ (x : Trail). length x.past) e) in
+          ap (λ xs. slice_index_or (xs ++ m' ∷ []) i no_marks) same
+          ∙ get_or-append (past_of cs m) (m' ∷ []) no_marks i few
+          ∙ sym (get_or-append (past_of cs m) (m ∷ []) no_marks i few);
+    })

@@ -1,7 +1,7 @@
 -- The trail: the marks now, and what they were before each change that can be taken back.
 -- Words of private contracts: the value of a board is `Board` of sre_model.
-use Rattle.std.specs.Prelude.{ℕ, List, [], ◌∷◌, ◌++◌, Option, Some, None, take, slice_set}
-use Rattle.sre_model.specs.Marks.{Marks, index_of}
+use Rattle.std.specs.Prelude.{ℕ, ◌≡◌, ◌≤◌, List, [], ◌∷◌, ◌++◌, Option, Some, None, take, slice_set, slice_index_or}
+use Rattle.sre_model.specs.Marks.{Marks, no_marks, set_mark, index_of}
 use Rattle.sre_board.specs.declared.marks.Former.{Former}
 use Rattle.sre_board.specs.declared.marks.Former.TheVariants as former
 use Rattle.sre_board.specs.declared.marks.Change.{Change}
@@ -14,6 +14,15 @@ pub record Trail : Type 0 where
 -- all of them, the marks now being the last
 abbrev pub states : Trail → List Marks
 states t = t.past ++ t.now ∷ []
+
+-- lists of marks that agree up to a length of the trail
+abbrev pub SameUpTo : List Marks → List Marks → ℕ → Type 0
+SameUpTo a b n = (i : ℕ) → i ≤ n → slice_index_or b i no_marks ≡ slice_index_or a i no_marks
+
+-- mark n is set to p, and the marks before the first k changes and behind them stay
+pub record SetsMark (n p k : ℕ) (old new : Trail) : Type 0 where
+  pub now : new.now ≡ set_mark old.now n p
+  pub before : SameUpTo (states old) (states new) k
 
 -- the list with what stood at mark n before
 abbrev pub restored : Former → ℕ → List (Option ℕ) → List (Option ℕ)

@@ -3,13 +3,13 @@
 //! Its value has frames, marks and choices as if each choice held its own. In memory all choices share one trail and
 //! one table of chains, and a chain is forgotten as soon as no choice can come back to it.
 
-ghost use Rattle.std.specs.Prelude.{◌≡◌, ℕ, ◌<◌, [], ◌∷◌, drop, length, reverse, IfOk, MatchOption, slice_index_or};
-ghost use Rattle.std.specs.Prelude.{true, false};
+ghost use Rattle.std.specs.Prelude.{◌≡◌, ℕ, ◌<◌, ◌≤◌, [], ◌∷◌, drop, length, reverse, IfOk, MatchOption};
+ghost use Rattle.std.specs.Prelude.{true, false, slice_index_or};
 ghost use Rattle.sre_model.specs.Marks.{no_marks, set_mark, group};
 ghost use Rattle.sre_growth.specs.Refusal.{Refused};
-ghost use Rattle.sre_turns.specs.Board.{Keep, Trying, choice, from_region, Cuts, bare};
+ghost use Rattle.sre_turns.specs.Board.{Keep, Trying, choice, from_region, Cuts, Dropped, bare};
 ghost use Rattle.sre_turns.specs.Fruit.{is_inside};
-ghost use Rattle.sre_turns.specs.declared.Point.TheVariants.{Inside};
+ghost use Rattle.sre_turns.specs.declared.Point.TheVariants.{Instruction, Inside};
 ghost use Rattle.sre_board.specs.Choices.{Fits, regions_of, down_to_region};
 
 use crate::chains::{Chains, frame_of};
@@ -71,6 +71,18 @@ fn kept(saved: &[Saved]) -> usize
     saved[saved.len() - 1].chains
 }
 
+// How many changes the choices need.
+#[inline(always)]
+fn needed(saved: &[Saved]) -> usize
+    ensures { (n changes : ℕ) → Fits (reverse saved.now) n changes
+        → (result ≤ changes) × Fits (reverse saved.now) n result }
+{
+    if saved.is_empty() {
+        return 0;
+    }
+    saved[saved.len() - 1].changes
+}
+
 // How many regions a choice is.
 #[inline(always)]
 fn regions_of(point: Point) -> usize
@@ -80,6 +92,26 @@ fn regions_of(point: Point) -> usize
         Point::Inside(_) => 1,
         _ => 0,
     }
+}
+
+// Whether a choice is to go on at an instruction and a cursor, with the loops of a chain, and after so many changes
+// where marks matter.
+#[inline(always)]
+fn goes_on_at(
+    saved: Saved,
+    place: usize,
+    cursor: StringCursor,
+    frame: usize,
+    changes: usize,
+    marks_matter: bool,
+) -> bool
+    ensures { result ≡ true → (saved.point ≡ Instruction place) × (saved.cursor ≡ cursor)
+        × (saved.frame ≡ frame) × (marks_matter ≡ true → saved.changes ≡ changes) }
+{
+    saved.point == Point::Instruction(place)
+        && saved.cursor == cursor
+        && saved.frame == frame
+        && (!marks_matter || saved.changes == changes)
 }
 
 // Takes choices down to the newest region, and that too.
@@ -179,7 +211,8 @@ impl<A: Allocator> Board<A> {
         if self.choices.is_empty() {
             return self.trail.set_for_good(n, position);
         }
-        self.trail.set(n, position)
+        let needed = needed(&self.choices);
+        self.trail.set_behind(n, position, needed)
     }
 
     /// Adds a choice: to go on at a point and a cursor, with the marks as they are now.
@@ -267,6 +300,22 @@ impl<A: Allocator> Board<A> {
         self.chains.cut(saved.chains);
         self.frame = saved.frame;
         Some((saved.point, saved.cursor))
+    }
+
+    /// Takes the newest choice away if it is to go on right here: at an instruction and a cursor, with the loops as
+    /// they are now, and with the marks as they are now where these matter. It takes no memory.
+    #[inline(always)]
+    pub fn drop_same(&mut self, place: usize, cursor: StringCursor, marks_matter: bool)
+        ensures { Dropped place cursor marks_matter self.old self.new }
+    {
+        if self.choices.is_empty() {
+            return;
+        }
+        let newest = self.choices[self.choices.len() - 1];
+        let changes = self.trail.length();
+        if goes_on_at(newest, place, cursor, self.frame, changes, marks_matter) {
+            let _newest = self.choices.pop();
+        }
     }
 
     /// Notes that so many characters were passed in a turn. Stretches of less than 64 characters are not noted: what

@@ -208,7 +208,8 @@ fn more_slots(words: &[u32], repeat: usize, slots: usize) -> usize
     if all > MOST_SLOTS { 0 } else { all }
 }
 
-// Appends the places of the loops in progress, innermost first, and says how many slots they have.
+// Appends the places of the loops in progress, innermost first, and says how many slots they have. Where these are too
+// many it says none, and none of the places stays: else those of loops in loops would take the square of their depth.
 #[inline(always)]
 fn add_shape<A: Allocator>(
     shapes: &mut Vec<usize, A>,
@@ -219,18 +220,24 @@ fn add_shape<A: Allocator>(
     requires { innermost < length chains.now }
     ensures more { (more : List ℕ) × (shapes.new.items ≡ shapes.old.items ++ more) }
     ensures few { IfOk result (λ n. n ≤ 4096) }
-    ensures shape { IfOk result (λ _. HasShape shapes.new.items (length shapes.new.items) (length shapes.old.items)
+    ensures shape { IfOk result (λ n. 1 ≤ n
+        → HasShape shapes.new.items (length shapes.new.items) (length shapes.old.items)
         (repeats (slice_index_or chains.now innermost []))) }
     ensures slots { IfOk result (λ n. WordsThere words.now (repeats (slice_index_or chains.now innermost []))
         → slots words.now (repeats (slice_index_or chains.now innermost [])) ≤ 4096
         → n ≡ slots words.now (repeats (slice_index_or chains.now innermost []))) }
 {
+    let held = shapes.len();
     let mut id = innermost;
     let mut slots = 1;
     'walk: while !chains.is_empty(id) {
         let node = chains.node(id);
-        sre_growth::push(shapes, node.repeat)?;
         slots = more_slots(words, node.repeat, slots);
+        if slots == 0 {
+            shapes.truncate(held);
+            return Ok(0);
+        }
+        sre_growth::push(shapes, node.repeat)?;
         id = node.parent;
     }
     Ok(slots)
@@ -437,7 +444,7 @@ impl<A: Allocator> Failures<A> {
 
     /// What is known of the spot at a place and a position, under the loops of a board and inside a region or not as it
     /// is.
-    #[inline(always)]
+    #[inline(never)]
     pub fn known(&self, words: &[u32], board: &Board<A>, place: usize, position: usize) -> Known
         ensures told { Tells result self.now words.now (is_inside board.now.choices)
             (spot_at (Instruction place) board.now.frames position board.now.marks) }
@@ -452,22 +459,6 @@ impl<A: Allocator> Failures<A> {
                     Known::Open
                 }
             }
-        }
-    }
-
-    /// Whether a spot is kept.
-    #[inline(never)]
-    pub fn is_kept(&self, words: &[u32], board: &Board<A>, place: usize, position: usize) -> bool
-        ensures kept { result ≡ true → Holds self.now words.now (is_inside board.now.choices)
-            (spot_at (Instruction place) board.now.frames position board.now.marks) }
-        ensures opened { result ≡ false → HasBit self.now words.now (is_inside board.now.choices)
-            (spot_at (Instruction place) board.now.frames position board.now.marks)
-            → IsOpen self.now words.now (is_inside board.now.choices)
-            (spot_at (Instruction place) board.now.frames position board.now.marks) }
-    {
-        match self.known(words, board, place, position) {
-            Known::Failed => true,
-            Known::Open | Known::NoBit => false,
         }
     }
 

@@ -1,8 +1,8 @@
 //! Marks: the positions that a match has set.
 
-ghost use Rattle.std.specs.Prelude.{◌≡◌, ℕ, ◌+◌, ◌*◌, ◌^◌, ◌<◌, ◌≤◌, length, Option, None, Some, IfOk};
+ghost use Rattle.std.specs.Prelude.{◌≡◌, ℕ, ◌+◌, ◌*◌, ◌^◌, ◌<◌, ◌≤◌, length, Option, None, Some, IfOk, true};
 ghost use Rattle.std.specs.Prelude.{slice_index_or, slice_set};
-ghost use Rattle.sre_model.specs.Marks.{no_marks, set_mark, lengthened};
+ghost use Rattle.sre_model.specs.Marks.{no_marks, set_mark, mark_at, lengthened};
 ghost use Rattle.sre_board.specs.Trail.{restored, undo};
 
 use sre_growth::Refusal;
@@ -148,6 +148,15 @@ impl<A: Allocator> Marks<A> {
         } else {
             (None, None)
         }
+    }
+
+    // Whether mark `n` is set to `position`.
+    #[inline(always)]
+    pub(crate) fn stands_at(&self, n: u32, position: usize) -> bool
+        ensures { result ≡ true → mark_at self.now n ≡ Some position }
+    {
+        let entry = n as usize;
+        entry < self.raw.len() && self.raw[entry] == Some(position)
     }
 
     // Takes all marks away; the memory is kept.

@@ -5,7 +5,7 @@
 
 ghost use Rattle.std.specs.Prelude.{◌≡◌, ◌+◌, ◌<◌, ◌≤◌, [], length, take, IfOk};
 ghost use Rattle.sre_model.specs.Marks.{no_marks, set_mark};
-ghost use Rattle.sre_board.specs.Trail.{states};
+ghost use Rattle.sre_board.specs.Trail.{states, SetsMark};
 
 use crate::marks::{Change, Marks};
 use sre_growth::Refusal;
@@ -66,15 +66,40 @@ impl<A: Allocator> Trail<A> {
         self.changes.clear();
     }
 
-    /// Sets mark `n` to `position`.
+    // Sets mark `n` to `position`.
     #[inline(always)]
-    pub(crate) fn set(&mut self, n: u32, position: usize) -> Result<(), Refusal>
+    fn set(&mut self, n: u32, position: usize) -> Result<(), Refusal>
         ensures set { IfOk result
             (λ _. self.new ≡ record { past = states self.old; now = set_mark self.old.now n position }) }
         ensures kept { length self.old.past ≤ length self.new.past }
     {
         sre_growth::push(&mut self.changes, self.marks.change(n))?;
         self.marks.set(n, position)
+    }
+
+    /// Sets mark `n` to `position`, where the marks before the first `needed` changes and behind them are needed still.
+    /// Where it stands there already no change is added, but for one of the last index behind what is needed: so a
+    /// group that is matched again and again at one place takes no memory.
+    #[inline(always)]
+    pub(crate) fn set_behind(
+        &mut self,
+        n: u32,
+        position: usize,
+        needed: usize,
+    ) -> Result<(), Refusal>
+        requires { needed ≤ length self.old.past }
+        ensures set { IfOk result (λ _. SetsMark n position needed self.old self.new) }
+        ensures kept { length self.old.past ≤ length self.new.past }
+    {
+        if self.marks.stands_at(n, position) {
+            if n % 2 == 0 {
+                return Ok(());
+            }
+            if needed < self.changes.len() {
+                return self.marks.set(n, position);
+            }
+        }
+        self.set(n, position)
     }
 
     /// Sets mark `n` to `position`, for good, with all changes before.

@@ -134,10 +134,15 @@ module _ {S : Type 0} {text : Ghosts S} (r : Request S text) (place : ℕ) (curs
       subst (λ xs. AllByRecursion (λ (y : Spot). Alike (run_of r).words y here → ⊥) xs) f.trying
       (none_tried (run_of r).words (SettledIn (run_of r) pl.plain limit.start) here b.choices f.settled none)
 
+  -- where failures are remembered no region is in progress
+  outside : (pl : Remembering r) → is_inside b.choices ≡ false
+  outside pl =
+      none_inside b.choices
+      (never_inside (SettledIn (run_of r) pl.plain limit.start) b.choices (faring pl).fares.settled)
+
   -- tolls are granted, and the spot's bit is taken in
   pays_tried : (k : ℕ) → ((pl : Remembering r) → k ≤ weight r pl)
-      → (HasBit m'.kept (run_of r).words (is_inside b.choices) here
-      → IsOpen m'.kept (run_of r).words (is_inside b.choices) here)
+      → IsOpen m'.kept (run_of r).words (is_inside b.choices) here
       → Pays r m limit m' (with_tried here (raised k limit))
   pays_tried k few opened = record { paid = λ pl keeps at n h. go pl keeps at n h m'.stopped refl }
     where
@@ -147,12 +152,7 @@ module _ {S : Type 0} {text : Ghosts S} (r : Request S text) (place : ℕ) (curs
           × (limit.tolls + k + n * weight r pl ≤ limit.tolls + n' * weight r pl))
       go pl keeps at n h true e = inl (p.refused e)
       go pl keeps at n h false e =
-          let outside : is_inside b.choices ≡ false =
-          none_inside b.choices (never_inside (SettledIn (run_of r) pl.plain limit.start) b.choices
-          (faring pl).fares.settled) in
-          let clear = subst (λ i. HasBit m'.kept (run_of r).words i here
-          → IsOpen m'.kept (run_of r).words i here) outside
-          opened (has_bit pl at n h e) in
+          let clear = subst (λ i. IsOpen m'.kept (run_of r).words i here) (outside pl) opened in
           let one : (n + 1) * weight r pl ≡ n * weight r pl + weight r pl =
           add-mul n 1 (weight r pl) ∙ ap (λ w. n * weight r pl + w) (one-mul (weight r pl)) in
           inr (
@@ -163,17 +163,50 @@ module _ {S : Type 0} {text : Ghosts S} (r : Request S text) (place : ℕ) (curs
             omega (arith, few pl, one),
           )
 
+  -- a spot has a bit, so of one that has none no toll is left to be paid
+  pays_untried : (k : ℕ) → (HasBit m'.kept (run_of r).words (is_inside b.choices) here → ⊥)
+      → Pays r m limit m' (raised k limit)
+  pays_untried k none = record { paid = λ pl keeps at n h. go pl at n h m'.stopped refl }
+    where
+      go : (pl : Remembering r) → limit.start ≡ start_of r → (n : ℕ) → Holding r pl m limit n
+          → (stopped : Bool) → m'.stopped ≡ stopped
+          → Refused ⊎ ((n' : ℕ) × Holding r pl m' (raised k limit) n' × (m'.is_open ≡ true)
+          × (limit.tolls + k + n * weight r pl ≤ limit.tolls + n' * weight r pl))
+      go pl at n h true e = inl (p.refused e)
+      go pl at n h false e =
+          absurd (none (subst (λ i. HasBit m'.kept (run_of r).words i here) (sym (outside pl)) (has_bit pl at n h e)))
+
+  abbrev code : (o : SreOpcode) × CodeAt (run_of r).words (Instruction place) o
+  code = run_code (run_of r) here x.runs
+
+  abbrev own : ℕ
+  own = units (run_of r).words (run_of r).subject.end place (role code.0)
+
+  -- an instruction without a bit is gone on with, and no mark is made
+  module _ (none : HasBit m'.kept (run_of r).words (is_inside b.choices) here → ⊥) where
+    pub goes_untried : (more : Limit) × Grants limit more × Goes (run_of r) all more (Instruction place) cursor b
+        × ((RunsOn (run_of r).words place → ⊥) → Pays r m limit m' more)
+    goes_untried = (
+      raised own limit,
+      record { turns = refl; taken = refl; granted = refl; start = refl },
+      arrived_at code.0 code.1 x,
+      λ counted. pays_untried own none,
+    )
+
+    -- the same with one toll
+    pub tries_untried : (more : Limit) × Grants limit more × Tries (run_of r) all more (Instruction place) cursor b
+        × Pays r m limit m' more
+    tries_untried = (
+      raised 1 limit,
+      record { turns = refl; taken = refl; granted = refl; start = refl },
+      arrived_once x,
+      pays_untried 1 none,
+    )
+
   module _ (c : BoardValue) (made : Bool)
       (marked : made ≡ true → c ≡ record b { choices = Trying place b.frames cursor b.marks ∷ b.choices })
       (left : made ≡ false → c ≡ b) (none : made ≡ false → Refused)
-      (opened : HasBit m'.kept (run_of r).words (is_inside b.choices) here
-      → IsOpen m'.kept (run_of r).words (is_inside b.choices) here) where
-    abbrev code : (o : SreOpcode) × CodeAt (run_of r).words (Instruction place) o
-    code = run_code (run_of r) here x.runs
-
-    abbrev own : ℕ
-    own = units (run_of r).words (run_of r).subject.end place (role code.0)
-
+      (opened : IsOpen m'.kept (run_of r).words (is_inside b.choices) here) where
     -- so many are few, but for a run without a greatest count
     few_units : (RunsOn (run_of r).words place → ⊥) → (pl : Remembering r) → own ≤ weight r pl
     few_units counted pl =

@@ -29,7 +29,7 @@ At r place cursor = HasRun (run_of r) (Instruction place) cursor
 abbrev pub Fails : {S : Type 0} {text : Ghosts S} → Request S text → ℕ → ℕ → BoardValue → Type 0
 Fails r place p b = Hopeless (run_of r) (is_inside b.choices) (spot_at (Instruction place) b.frames p b.marks)
 
--- the instruction's turn makes of a board what comes next and another board, and keeps all accepted outcomes
+-- the instruction's turn makes of a board what comes next and another board, and keeps the first accepted outcome
 abbrev pub Turn : {S : Type 0} {text : Ghosts S} → Request S text → ℕ → StringCursor → BoardValue → Next → BoardValue
     → Type 0
 Turn r place cursor b next c = Advances (run_of r) (Instruction place) cursor b next c

@@ -2,7 +2,8 @@
 //!
 //! The board holds the loops in progress. A body of which nothing can come is not begun, and an end of which nothing
 //! can come is not saved: so a loop over a text that decides by its next character saves nothing. The first body of a
-//! greedy loop is tried in the turn of its REPEAT.
+//! greedy loop is tried in the turn of its REPEAT. Where a body has matched nothing the loop's end is gone on with, so
+//! that the same end, saved before that body, is dropped: else nested loops would keep the square of their depth.
 
 ghost use Rattle.std.specs.Prelude.{◌≡◌, ◌+◌, IfOk};
 ghost use Rattle.sre_model.specs.Ways.{may_repeat};
@@ -97,6 +98,8 @@ fn further<S: StrDrive, A: Allocator>(
         return Ok(Next::At(body, cursor));
     }
     if !may_repeat(greatest, frame, cursor) {
+        let refers = req.pattern_codes().refers();
+        board.drop_same(place + 1, cursor, refers);
         return Ok(Next::At(place + 1, cursor));
     }
     if refuses(req, body, cursor) {

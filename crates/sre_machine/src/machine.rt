@@ -1,7 +1,7 @@
 //! The machine: a turn of a backtracking run over the words, with no recursion.
 //!
 //! It rests on two facts alone: the text is lawful, and the words have a tree. So it has no test for bad words.
-//! Each opcode's function says that the accepted outcomes of the whole stay what they were, in one turn less. What is
+//! Each opcode's function says that the accepted outcomes of the whole begin as they did, in one turn less. What is
 //! still to be tried waits on the board, and a choice of which nothing can come is not put there.
 
 ghost use Rattle.std.specs.Prelude.{◌≡◌, ℕ, ◌+◌, ◌^◌, ◌<◌, [], List, IfOk, MatchOption, true};

@@ -11,14 +11,14 @@ ghost use Rattle.sre_turns.specs.Fruit.{is_inside};
 ghost use Rattle.sre_turns.specs.Moves.{spot_at};
 ghost use Rattle.sre_turns.specs.declared.Point.TheVariants.{Instruction};
 ghost use Rattle.sre_growth.specs.Refusal.{Refused};
-ghost use Rattle.sre_board.specs.Failures.{Holds, HoldsNone, HoldsNoMore, HoldsOneMore, Remembers};
-ghost use Rattle.sre_board.specs.Failures.{HoldsStill, BitsStay, BitsKept, Roomy, Laid, ones, HasBit, IsOpen};
+ghost use Rattle.sre_board.specs.Failures.{HoldsNone, HoldsNoMore, HoldsOneMore, Remembers, Tells};
+ghost use Rattle.sre_board.specs.Failures.{HoldsStill, BitsStay, BitsKept, Roomy, Laid, ones};
 ghost use Rattle.sre_board.specs.Failures.{Capacity, HasRow, HasSlots, NewRow, KeepsSpot, kept_of};
 ghost use Rattle.sre_turns.specs.Nested.{repeats};
 ghost use Rattle.sre_request.specs.Requests.{start_of, end_of};
 ghost use Rattle.sre_request.specs.Runs.{run_of};
 
-use sre_board::{Board, Failures};
+use sre_board::{Board, Failures, Known};
 use sre_chars::string::StrDrive;
 use sre_growth::Refusal;
 use sre_request::Request;
@@ -221,23 +221,19 @@ impl<A: Allocator> Memo<A> {
         }
     }
 
-    // Whether an instruction is known to fail at a position, as the board is.
+    // What is known of an instruction at a position, as the board is.
     #[inline(always)]
-    pub(crate) fn is_kept(
+    pub(crate) fn known(
         &self,
         words: &[u32],
         board: &Board<A>,
         place: usize,
         position: usize,
-    ) -> bool
-        ensures kept { result ≡ true → Holds self.now.kept words.now (is_inside board.now.choices)
-            (spot_at (Instruction place) board.now.frames position board.now.marks) }
-        ensures opened { result ≡ false → HasBit self.now.kept words.now (is_inside board.now.choices)
-            (spot_at (Instruction place) board.now.frames position board.now.marks)
-            → IsOpen self.now.kept words.now (is_inside board.now.choices)
+    ) -> Known
+        ensures { Tells result self.now.kept words.now (is_inside board.now.choices)
             (spot_at (Instruction place) board.now.frames position board.now.marks) }
     {
-        self.failures.is_kept(words, board, place, position)
+        self.failures.known(words, board, place, position)
     }
 
     // Keeps that an instruction fails at a position, as the board is.

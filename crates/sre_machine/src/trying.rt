@@ -20,7 +20,7 @@ ghost use Rattle.sre_growth.specs.Refusal.{Refused};
 use crate::endless_runs::{endless_run, is_endless_run};
 use crate::machine::{instruction, opcode};
 use crate::memo::Memo;
-use sre_board::Board;
+use sre_board::{Board, Known};
 use sre_chars::constants::SreOpcode;
 use sre_chars::string::{StrDrive, StringCursor};
 use sre_growth::Refusal;
@@ -70,7 +70,9 @@ pub(super) fn keep<S: StrDrive, A: Allocator>(
     }
 }
 
-// Whether the instruction at a place is known to fail. Where it is not, its mark is made, so that its failure is told.
+// Whether the instruction at a place is known to fail. Where it is not, its mark is made, so that its failure is told;
+// but for a spot that has no bit, whose failure can't be kept: such marks of loops in loops would take the square of
+// their depth.
 #[inline(never)]
 fn has_failed<S: StrDrive, A: Allocator>(
     req: &Request<'_, S>,
@@ -90,11 +92,14 @@ fn has_failed<S: StrDrive, A: Allocator>(
 {
     let words = req.pattern_codes().items();
     memo.prepare(words, board, place, req.start(), req.end());
-    if memo.is_kept(words, board, place, cursor.position()) {
-        return true;
+    match memo.known(words, board, place, cursor.position()) {
+        Known::Failed => true,
+        Known::Open => {
+            let _made = board.begin_trying(place, cursor);
+            false
+        }
+        Known::NoBit => false,
     }
-    let _made = board.begin_trying(place, cursor);
-    false
 }
 
 // Whether an instruction is left at once, since failures are kept by now and it is known to fail. Where it is not, the

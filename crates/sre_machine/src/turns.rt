@@ -65,7 +65,7 @@ impl<L: Ledger> Turned<L> {
     }
 }
 
-// The accepted outcomes of a run, and how many turns it takes at most.
+// What the accepted outcomes of a run begin with, and how many turns it takes at most.
 trait Plan {
     ghost all: { List Way };
 

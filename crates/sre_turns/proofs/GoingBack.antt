@@ -13,6 +13,7 @@ use Rattle.sre_model.specs.Runs.{Run}
 use Rattle.sre_turns.specs.Machine.{without_loop}
 use Rattle.sre_turns.specs.declared.Next.{Next}
 use Rattle.sre_turns.specs.declared.Next.TheVariants as next
+use Rattle.sre_turns.proofs.FirstOutcomes.{first_none}
 use Rattle.sre_turns.proofs.Moving.{sooner, arrived}
 use Rattle.sre_turns.proofs.StepsInRegions.{region_back}
 use Rattle.sre_turns.proofs.Faring.{FreeOfToll, choice_taken, region_waits, fares_wider, fares_at_wider}
@@ -23,7 +24,7 @@ pub back_none : (r : Run) (b : BoardValue) → b.choices ≡ [] → (all : List 
 back_none r b e all limit g = go (subst (λ x. Waits r x 0 [] all g.later) e g.waits)
   where
     go : {xs : List Way} {k : ℕ} → Waits r [] 0 [] xs k → xs ≡ []
-    go outermost = refl
+    go {xs} (outermost begins) = first_none xs [] begins refl
 
 pub back_goes : (r : Run) (b b' : BoardValue) (pt : Point) (c : StringCursor)
     → b.choices ≡ Else pt b'.frames c b'.marks ∷ b'.choices → (all : List Way) (limit : Limit) → Backs r all limit b

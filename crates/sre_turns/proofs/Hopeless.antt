@@ -14,7 +14,8 @@ use Rattle.sre_turns.specs.Board.{Choice, from_region}
 use Rattle.sre_turns.specs.Moves.{Spot}
 use Rattle.sre_turns.specs.MovesAtReferences.{HasReference}
 use Rattle.sre_turns.specs.Machine.{Runs, Waits}
-use Rattle.sre_turns.specs.Hopeless.{Fruitless, SameFruit, Hopeless, AcceptsByStop, is_inside}
+use Rattle.sre_turns.specs.Hopeless.{Fruitless, Hopeless, AcceptsByStop, is_inside}
+use Rattle.sre_turns.proofs.FirstOutcomes.{none_passes}
 use Rattle.sre_turns.proofs.SameComes.{same_comes}
 use Rattle.sre_turns.proofs.Start.{refused_waits}
 
@@ -33,16 +34,7 @@ same_fruitless r told true [] [] h e = refl
 same_fruitless r told true [] (y ∷ ys) h e = absurd h
 same_fruitless r told true (x ∷ xs) [] h e = refl
 same_fruitless r told true (x ∷ xs) (y ∷ ys) h e = absurd (cc)
-same_fruitless r told false [] [] h e = refl
-same_fruitless r told false [] (y ∷ ys) h e = absurd h
-same_fruitless r told false (x ∷ xs) [] h e = refl
-same_fruitless r told false (x ∷ xs) (y ∷ ys) h e =
-    by_test (r.accepts x) refl (λ left. same_fruitless r told false xs ys h.1 left)
-  where
-    by_test : (b : Bool) → r.accepts x ≡ b → (filter r.accepts xs ≡ [] → filter r.accepts ys ≡ [])
-        → filter r.accepts (y ∷ ys) ≡ []
-    by_test true k later = let found : x ∷ filter r.accepts xs ≡ [] = rw k at e in absurd (cc)
-    by_test false k later = rw (sym (told x y h.0) ∙ k) (later (rw k at e))
+same_fruitless r told false xs ys h e = none_passes r.accepts told xs ys h e
 
 -- a spot that was fruitless is hopeless, where the words have no reference
 pub hopeless_again : (r : Run) → AcceptsByStop r → (HasReference r.words → ⊥) → (inside : Bool) (x : Spot)
@@ -75,7 +67,7 @@ fruitless_waits r cs now {all} {u} {k} fruitless wt = go (from_region cs) refl f
     go [] outside e = hopeless_waits r cs now outside e wt
     go (c ∷ rest) inside e = subst (λ os. Waits r cs u os all k) e wt
 
--- what a spot that was tried came to is what is still to come of it: where that is nothing, it was fruitless
-pub tried_fruitless : (r : Run) (inside : Bool) (os : List Way) → SameFruit r inside os [] → Fruitless r inside os
-tried_fruitless r true os h = h
-tried_fruitless r false os h = h
+-- where there is no outcome, nothing came
+pub fruitless_none : (r : Run) (inside : Bool) → Fruitless r inside []
+fruitless_none r true = refl
+fruitless_none r false = refl

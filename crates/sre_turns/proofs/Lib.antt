@@ -1,4 +1,5 @@
 pub mod Moving
+pub mod FirstOutcomes
 pub mod PotentialMoves
 pub mod SettledMoves
 pub mod Faring
@@ -38,3 +39,4 @@ pub mod LazyRunEnds
 pub mod NextRuns
 pub mod LaterRuns
 pub mod OpenMarks
+pub mod WaitingTwice

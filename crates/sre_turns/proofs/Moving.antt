@@ -1,4 +1,4 @@
--- A turn of the machine, whatever the opcode: what it comes to, and that the accepted outcomes stay.
+-- A turn of the machine, whatever the opcode: what it comes to, and that the accepted outcomes begin as they did.
 use Rattle.std.proofs.Common.{◌≡◌, ℕ, suc, ◌+◌, ◌<◌, ◌≤◌, List, [], ◌∷◌, ◌++◌, length, refl, sym, ap, ◌∙◌, subst}
 use Rattle.std.proofs.Common.{arith, true}
 use Rattle.std.proofs.lemmas.List.{append-nil}
@@ -256,7 +256,7 @@ reached_within r i c x = go x.runs
 -- what waits for so many turns waits for fewer
 pub sooner : {r : Run} {cs : List Choice} {now all : List Way} {k : ℕ} (u v : ℕ) → v ≤ u → Waits r cs u now all k
     → Waits r cs v now all k
-sooner u v l outermost = outermost
+sooner u v l (outermost begins) = outermost begins
 sooner u v l (otherwise {n = n} there placed d wt) =
     otherwise there placed d (sooner (u + n + 1) (v + n + 1) (omega arith) wt)
 sooner u v l (kept {pt = pt} {n = n} there placed d wt) =

@@ -9,11 +9,11 @@ use Rattle.sre_model.specs.Tree.{Tree, Empty, Then}
 use Rattle.sre_model.specs.References.{refers, item_refers}
 use Rattle.sre_model.specs.Prefixes.{behind_items}
 use Rattle.sre_model.specs.Marks.{no_marks}
-use Rattle.sre_model.specs.Ways.{Way, ways}
+use Rattle.sre_model.specs.Ways.{Way, first, ways}
 use Rattle.sre_model.specs.Grammar.{Opcode, Reads, WholeItems}
 use Rattle.sre_model.specs.Standing.{AreWords}
 use Rattle.sre_turns.specs.Board.{Choice, Else, Keep, Trying, from_region, BoardValue, bare}
-use Rattle.sre_turns.specs.Fruit.{SameFruit, is_inside}
+use Rattle.sre_turns.specs.Fruit.{Fruitless, FruitlessWith, is_inside}
 use Rattle.sre_turns.specs.declared.Point.TheVariants.{Instruction}
 use Rattle.sre_turns.specs.MovesAtReferences.{HasReference}
 use Rattle.sre_turns.specs.Limits.{Limit}
@@ -73,7 +73,7 @@ started r i t c b start v has reads ends stands inside fresh settled =
       runs =
           region r.words r.subject i _ (λ q k. ways r.subject t q k) (λ C q k. cost r.subject t C q k)
           (ran r.words r.subject i _ t v has reads) ends [] c.position no_marks inside;
-      waits = outermost;
+      waits = outermost refl;
       within = omega arith;
       fares = λ pl o w. record {
         here = settled pl;
@@ -83,8 +83,8 @@ started r i t c b start v has reads ends stands inside fresh settled =
 
 -- an outcome that is not accepted changes nothing of what came
 refused_fruit : (r : Run) (os : List Way) (w : Way) (now : List Way) → r.accepts w ≡ false
-    → SameFruit r false os (w ∷ now) → SameFruit r false os now
-refused_fruit r os w now e h = h ∙ rw e refl
+    → FruitlessWith r false os (w ∷ now) → FruitlessWith r false os now
+refused_fruit r os w now e h = λ (none : Fruitless r false now). h (rw e none)
 
 -- what waits outside all regions is not inside one
 pub none_inside : (cs : List Choice) → from_region cs ≡ [] → is_inside cs ≡ false
@@ -93,7 +93,12 @@ none_inside cs e = ap (λ (rest : List Choice). elim rest [ [] ↦ false | (c �
 -- outside all regions the first outcome, if it is accepted, is the first of all
 first_waits : (r : Run) (cs : List Choice) (w : Way) (rest : List Way) {all : List Way} {u k : ℕ} → from_region cs ≡ []
     → r.accepts w ≡ true → Waits r cs u (w ∷ rest) all k → (others : List Way) × (all ≡ w ∷ others)
-first_waits r [] w rest none y outermost = rw y (filter r.accepts rest, refl)
+first_waits r [] w rest {all = all} none y (outermost begins) =
+    begun_by all (rw y at begins)
+  where
+    begun_by : (all : List Way) → first all ≡ w ∷ [] → (others : List Way) × (all ≡ w ∷ others)
+    begun_by [] e = absurd (cc)
+    begun_by (v ∷ others) e = (others, cc)
 first_waits r (Else pt fs c m ∷ cs) w rest none y (otherwise {os = os} there placed d wt) =
     first_waits r cs w (rest ++ os) none y wt
 first_waits r (Trying i fs c m ∷ cs) w rest none y (tried there placed d most same wt) =
@@ -103,14 +108,14 @@ first_waits r (Keep g fs c m ∷ cs) w rest none y wt = absurd (cc)
 -- and else it is passed over
 pub refused_waits : (r : Run) (cs : List Choice) (w : Way) (rest : List Way) {all : List Way} {u k : ℕ}
     → from_region cs ≡ [] → r.accepts w ≡ false → Waits r cs u (w ∷ rest) all k → Waits r cs u rest all k
-refused_waits r [] w rest none n outermost = rw n outermost
+refused_waits r [] w rest none n (outermost begins) = outermost (rw n at begins)
 refused_waits r (Else pt fs c m ∷ cs) w rest none n (otherwise {os = os} there placed d wt) =
     otherwise there placed d (refused_waits r cs w (rest ++ os) none n wt)
 refused_waits r (Trying i fs c m ∷ cs) w rest none n (tried {os = os} there placed d most same wt) =
     let outside : is_inside cs ≡ false = none_inside cs none in
-    let was : SameFruit r false os (w ∷ rest) = subst (λ b. SameFruit r b os (w ∷ rest)) outside same in
-    let left : SameFruit r (is_inside cs) os rest =
-    subst (λ b. SameFruit r b os rest) (sym outside) (refused_fruit r os w rest n was) in
+    let was : FruitlessWith r false os (w ∷ rest) = subst (λ b. FruitlessWith r b os (w ∷ rest)) outside same in
+    let left : FruitlessWith r (is_inside cs) os rest =
+    subst (λ b. FruitlessWith r b os rest) (sym outside) (refused_fruit r os w rest n was) in
     tried there placed d most left (refused_waits r cs w rest none n wt)
 refused_waits r (Keep g fs c m ∷ cs) w rest none n wt = absurd (cc)
 

@@ -13,18 +13,13 @@ use Rattle.sre_turns.specs.declared.Next.TheVariants as next
 use Rattle.sre_turns.specs.Limits.{Limit, with_tried, without_tried, Stage, Going, Splitting, spare, Fares}
 use Rattle.sre_turns.specs.Settled.{Regionless}
 use Rattle.sre_turns.specs.Machine.{Runs, Waits, tried, GoesWith, Goes, Arrives, Tries, Backs, Later, spot}
-use Rattle.sre_turns.specs.Fruit.{Fruitless, SameFruit, is_inside}
+use Rattle.sre_turns.specs.Fruit.{Fruitless, is_inside}
 use Rattle.sre_turns.specs.Alike.{Alike, LoopsAlike, least_from}
 use Rattle.sre_turns.specs.Hopeless.{Hopeless, AcceptsByStop}
-use Rattle.sre_turns.proofs.Hopeless.{hopeless_again, fruitless_waits, tried_fruitless}
+use Rattle.sre_turns.proofs.Hopeless.{hopeless_again, fruitless_waits, fruitless_none}
 use Rattle.sre_turns.specs.Potential.{potential_of}
 use Rattle.sre_turns.proofs.Moving.{sooner, some_turns}
 use Rattle.sre_turns.proofs.Faring.{fares_earlier, run_code}
-
--- the same fruit comes of the same outcomes
-same_fruit : (r : Run) (inside : Bool) (os : List Way) → SameFruit r inside os os
-same_fruit r true os = refl
-same_fruit r false os = refl
 
 -- an instruction is tried: its mark waits
 tried_with : (stage : Stage) → spare stage ≡ 0 → (r : Run) (i : ℕ) (c : StringCursor) (b b' : BoardValue)
@@ -40,7 +35,7 @@ tried_with stage none r i c b b' e all limit g =
       stands = g.stands;
       placed = g.placed;
       runs = g.runs;
-      waits = tried g.stands g.placed g.runs (omega (arith, none)) (same_fruit r (is_inside b.choices) g.now) g.waits;
+      waits = tried g.stands g.placed g.runs (omega (arith, none)) (λ none_. none_) g.waits;
       within = g.within;
       fares = λ pl o w.
           let f = g.fares pl o w in
@@ -107,7 +102,7 @@ tried_came r i c b b' e all limit g = go (subst (λ x. Waits r x 0 [] all g.late
     go : {k : ℕ} → Waits r (Trying i b'.frames c b'.marks ∷ b'.choices) 0 [] all k
         → CameToNothing r (is_inside b'.choices) (spot (Instruction i) c b')
     go (tried {n = n} {os = os} there placed d most same wt) =
-        record { outcomes = os; turns = n; runs = d; fruitless = tried_fruitless r (is_inside b'.choices) os same }
+        record { outcomes = os; turns = n; runs = d; fruitless = same (fruitless_none r (is_inside b'.choices)) }
 
 -- so it is hopeless
 pub tried_hopeless : (r : Run) → AcceptsByStop r → (HasReference r.words → ⊥) → (i : ℕ) (c : StringCursor)

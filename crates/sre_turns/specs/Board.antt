@@ -1,11 +1,11 @@
 -- The board: what a run of the machine holds beside its place and position.
 -- Words of the machine's contracts; what sre_engine makes public does not rest on it.
-use Rattle.std.specs.Prelude.{ℕ, ◌≡◌, List, [], ◌∷◌}
+use Rattle.std.specs.Prelude.{ℕ, ◌≡◌, ◌⊎◌, Bool, true, List, [], ◌∷◌}
 use Rattle.sre_chars.specs.declared.string.StringCursor.{StringCursor}
 use Rattle.sre_model.specs.Marks.{Marks}
 use Rattle.sre_turns.specs.declared.Frame.{Frame}
 use Rattle.sre_turns.specs.declared.Point.{Point}
-use Rattle.sre_turns.specs.declared.Point.TheVariants.{Inside, Tried}
+use Rattle.sre_turns.specs.declared.Point.TheVariants.{Instruction, Inside, Tried}
 use Rattle.sre_turns.specs.declared.Region.{Region}
 
 -- what is still to be tried: another point, under other loops and marks; or what comes of a region, whose body is in
@@ -44,3 +44,9 @@ pub record Cuts (old : BoardValue) (g : Region) (c : StringCursor) (new : BoardV
   pub entered : Marks
   pub region : from_region old.choices ≡ Keep g new.frames c entered ∷ new.choices
   pub marks : new.marks ≡ old.marks
+
+-- a choice may have gone: the newest one, if it was to go on at an instruction and a cursor, under these loops, and
+-- with these marks where marks matter
+abbrev pub Dropped : ℕ → StringCursor → Bool → BoardValue → BoardValue → Type 0
+Dropped i c matter old new = (new ≡ old) ⊎ ((m : Marks) × (matter ≡ true → m ≡ new.marks)
+    × (old ≡ record new { choices = Else (Instruction i) new.frames c m ∷ new.choices }))

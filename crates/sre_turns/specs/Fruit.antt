@@ -15,7 +15,6 @@ Fruitless r false os = filter r.accepts os ≡ []
 abbrev pub is_inside : List Choice → Bool
 is_inside cs = elim (from_region cs) [ [] ↦ false | (c ∷ rest) ↦ true ]
 
--- the same fruit comes of some outcomes as of others
-abbrev pub SameFruit : Run → Bool → List Way → List Way → Type 0
-SameFruit r true os now = os ≡ now
-SameFruit r false os now = filter r.accepts os ≡ filter r.accepts now
+-- nothing came of some outcomes where nothing comes of others
+abbrev pub FruitlessWith : Run → Bool → List Way → List Way → Type 0
+FruitlessWith r inside os now = Fruitless r inside now → Fruitless r inside os

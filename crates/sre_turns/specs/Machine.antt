@@ -10,11 +10,11 @@ use Rattle.sre_model.specs.Tree.{Tree, Test, Literal, Plain}
 use Rattle.sre_model.specs.Characters.{holds}
 use Rattle.sre_model.specs.Marks.{Marks, mark_at, no_marks}
 use Rattle.sre_model.specs.Subject.{Subject, char_at, passes}
-use Rattle.sre_model.specs.Ways.{Way, here, ways}
+use Rattle.sre_model.specs.Ways.{Way, first, here, ways}
 use Rattle.sre_model.specs.Runs.{Run}
 use Rattle.sre_model.specs.Standing.{TestStands}
 use Rattle.sre_turns.specs.Board.{Choice, Else, Keep, Trying, BoardValue}
-use Rattle.sre_turns.specs.Fruit.{SameFruit, is_inside}
+use Rattle.sre_turns.specs.Fruit.{FruitlessWith, is_inside}
 use Rattle.sre_turns.specs.declared.Frame.{Frame}
 use Rattle.sre_turns.specs.declared.Region.TheVariants.{AtomicGroup, Ahead, NotAhead, Owed, Further}
 use Rattle.sre_turns.specs.declared.Region.{Region}
@@ -33,11 +33,12 @@ use Rattle.sre_turns.specs.declared.Next.TheVariants as next
 pub record Placed (s : Subject) (m : Marks) : Type 0 where
   pub at : (n p : ℕ) → mark_at m n ≡ Some p → p ≤ length s.text
 
--- the accepted outcomes of the whole and the turns to come, where the innermost region has the outcomes now, and where
--- so many turns, as those of Runs are counted, may still come before what waits is come to: a mark waits for no more
--- than the turns of its instruction
+-- what the accepted outcomes of the whole begin with, and the turns to come, where the innermost region has the
+-- outcomes now, and where so many turns, as those of Runs are counted, may still come before what waits is come to: a
+-- mark waits for no more than the turns of its instruction. Nothing is said of later outcomes, so that what waits twice
+-- may go
 pub data Waits (r : Run) : List Choice → ℕ → List Way → List Way → ℕ → Type 0 where
-  outermost : {u : ℕ} {now : List Way} → Waits r [] u now (filter r.accepts now) 0
+  outermost : {u : ℕ} {now all : List Way} → first all ≡ first (filter r.accepts now) → Waits r [] u now all 0
   otherwise : {pt : Point} {fs : List Frame} {c : StringCursor} {u n k : ℕ} {m : Marks} {os now all : List Way}
       {cs : List Choice}
       → r.stands c c.position → Placed r.subject m → Runs r.words r.subject (spot_at pt fs c.position m) os n
@@ -51,16 +52,16 @@ pub data Waits (r : Run) : List Choice → ℕ → List Way → List Way → ℕ
   tried : {i : ℕ} {fs : List Frame} {c : StringCursor} {u n k : ℕ} {m : Marks} {os now all : List Way}
       {cs : List Choice}
       → r.stands c c.position → Placed r.subject m
-      → Runs r.words r.subject (spot_at (Instruction i) fs c.position m) os n → u ≤ n → SameFruit r (is_inside cs) os
-      now
+      → Runs r.words r.subject (spot_at (Instruction i) fs c.position m) os n → u ≤ n
+      → FruitlessWith r (is_inside cs) os now
       → Waits r cs u now all k → Waits r (Trying i fs c m ∷ cs) u now all k
 
 -- where the machine stands at a point and a cursor
 abbrev pub spot : Point → StringCursor → BoardValue → Spot
 spot pt c b = spot_at pt b.frames c.position b.marks
 
--- the machine is at a point and a cursor: all are the accepted outcomes, and at most limit turns are left; and what
--- waits on the board has at least so many turns to spare beyond those that come of the point
+-- the machine is at a point and a cursor: all begins as the accepted outcomes do, at most limit turns are left, and
+-- what waits on the board has at least so many turns to spare beyond those that come of the point
 pub record GoesWith (stage : Stage) (r : Run) (all : List Way) (limit : Limit) (pt : Point) (c : StringCursor)
     (b : BoardValue)
     : Type 0 where
@@ -126,7 +127,7 @@ Stands r all limit (next.Again c) b = Arrives r all limit Again c b
 Stands r all limit next.Back b = Backs r all limit b
 Stands r all limit (next.Done c) b = Ends r all limit c b
 
--- one turn later, the accepted outcomes being the same
+-- one turn later, the accepted outcomes beginning as they did
 abbrev pub Later : Run → List Way → Limit → Next → BoardValue → Type 0
 Later r all limit n b = (1 ≤ limit.turns) × Stands r all (earlier limit) n b
 

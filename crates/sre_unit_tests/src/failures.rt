@@ -3,7 +3,7 @@
 
 use crate::growths::was_refused;
 use crate::scripts::{Change, SCRIPTS, Step};
-use sre_board::{Board, Failures};
+use sre_board::{Board, Failures, Known};
 use sre_chars::string::StringCursor;
 use sre_failing_allocator::Refusing;
 use sre_growth::Refusal;
@@ -117,7 +117,7 @@ fn is_kept_in<A: Allocator>(
     place: usize,
     position: usize,
 ) -> bool {
-    failures.is_kept(words, board, place, position)
+    failures.known(words, board, place, position) == Known::Failed
 }
 
 // Whether a spot that is kept under some loops is told under others.

@@ -1,5 +1,5 @@
 use Rattle.std.proofs.Common.{◌∷◌, [], ◌++◌, ap, ◌∙◌, arith, append_assoc, List, ℕ}
-use Rattle.sre_board.proofs.ShapesAdded.{place_more, slots_more, shape_whole}
+use Rattle.sre_board.proofs.ShapesAdded.{place_more, slots_more, none_few, cut_back, shape_whole}
 use Rattle.sre_board.proofs.failures.add_shape.Goals as goal
 
 pub walk-preserved : goal.walk-preserved
@@ -18,5 +18,18 @@ walk-preserved g c = record {
 }
 
 pub returns-clause-shape : goal.returns-clause-shape
-returns-clause-shape g c =
+returns-clause-shape g c = λ _.
     shape_whole _ _ _ _ (c.is_empty.ensures.empty c.walk-test.false) c.walk.invariant.rest
+
+pub returns-then-slots-eq0-clause-more : goal.returns-then-slots-eq0-clause-more
+returns-then-slots-eq0-clause-more g c = (
+  [],
+  cut_back c.args.shapes.now.items c.walk.shapes.items c.truncate.new.self.items c.walk.invariant.more.0
+      c.len-held.result c.walk.invariant.more.1 c.truncate.ensures.items
+      (omega (arith, c.len-held.ensures, c.args.shapes.now.ok.0)),
+)
+
+pub returns-then-slots-eq0-clause-slots : goal.returns-then-slots-eq0-clause-slots
+returns-then-slots-eq0-clause-slots g c =
+    none_few _ _ _ _ _ _ _ c.walk.invariant.all c.node-node.ensures.chain c.more_slots-slots.ensures.all
+    c.if-slots-eq0.true

@@ -2,9 +2,13 @@ use Rattle.std.proofs.Common.{ap, sym, refl, ◌∙◌, Some, arith}
 use Rattle.sre_model.specs.Tree.{Greedy}
 use Rattle.sre_turns.specs.MovesInLoops.{next_frame}
 use Rattle.sre_turns.specs.Machine.{with_loop}
+use Rattle.sre_request.specs.Requests.{asked_of}
 use Rattle.sre_request.specs.Runs.{run_of}
+use Rattle.sre_turns.proofs.Hopeless.{asked_by_stop}
 use Rattle.sre_turns.proofs.StepsInLoops.{until_below, until_done, until_runs, until_refused, until_alone, until_greedy}
 use Rattle.sre_turns.proofs.StepsInLoops.{saved_on, entered_on, until_operands}
+use Rattle.sre_turns.proofs.WaitingTwice.{later_dropped}
+use Rattle.sre_machine.proofs.Failing.{plain_words}
 use Rattle.sre_machine.proofs.loops.further.Goals as goal
 
 pub returns-then-frame-least : goal.returns-then-frame-least
@@ -20,15 +24,19 @@ returns-then-frame-least g c =
     (entered_on c.args.board.now c.enter.new.self _ _ c.in_ok-enter.ensures c.next_frame.ensures)
 
 pub returns-then-not-may_repeat : goal.returns-then-not-may_repeat
-returns-then-not-may_repeat g c =
-    until_done (run_of c.args.req.now) Greedy c.args.place c.operand-least.result c.operand-greatest.result
+returns-then-not-may_repeat g c = λ all limit st.
+    later_dropped (run_of c.args.req.now) (asked_by_stop (asked_of c.args.req.now)) _ c.args.cursor
+    c.refers-refers.result (plain_words c.args.req.now c.pattern_codes.result c.refers-refers.result
+    c.pattern_codes.ensures c.refers-refers.ensures)
+    c.args.board.now c.drop_same.new.self c.drop_same.ensures all limit
+    (until_done (run_of c.args.req.now) Greedy c.args.place c.operand-least.result c.operand-greatest.result
     c.args.cursor (with_loop c.args.frame c.args.board.now) c.args.board.now c.args.frame (record {
       code = c.requires.opcode;
       inside = refl;
       lowest = c.operand-least.ensures.word;
       highest = c.operand-greatest.ensures.word;
     })
-    (omega arith) (sym c.if-not-may_repeat.ensures) refl
+    (omega arith) (sym c.if-not-may_repeat.ensures) refl all limit st)
 
 pub refuses-requires : goal.refuses-requires
 refuses-requires g c =

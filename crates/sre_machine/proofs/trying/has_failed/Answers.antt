@@ -8,44 +8,12 @@ use Rattle.sre_request.specs.Runs.{run_of}
 use Rattle.sre_board.specs.Failures.{HasBit, Holds, IsOpen}
 use Rattle.sre_board.proofs.Remembering.{remembers_still}
 use Rattle.sre_machine.proofs.Failing.{stays_tried}
-use Rattle.sre_machine.proofs.Opening.{pays_prepared, goes_tried, tries_tried, prepared_at, open_or_refused}
+use Rattle.sre_machine.proofs.Opening.{pays_prepared, goes_tried, tries_tried, goes_untried, tries_untried}
+use Rattle.sre_machine.proofs.Opening.{prepared_at, open_or_refused}
 use Rattle.sre_machine.proofs.trying.has_failed.Goals as goal
 
-pub returns-then-is_kept-clause-left : goal.returns-then-is_kept-clause-left
-returns-then-is_kept-clause-left g c = λ _ all limit arrives.
-    let r = run_of c.args.req.now in
-    let b = c.args.board.now in
-    let inside = is_inside b.choices in
-    let x = spot (Instruction c.args.place) c.args.cursor b in
-    let same : c.items-words.result.now ≡ r.words = c.items-words.ensures.same ∙ ap items_of c.pattern_codes.ensures in
-    let p = prepared_at c.args.req.now c.args.place b c.args.memo.now c.prepare.new.self c.items-words.result.now
-    c.start.result c.end.result same c.start.ensures.value c.end.ensures.value c.prepare.ensures.same
-    c.prepare.ensures.refused
-    c.prepare.ensures.stay c.prepare.ensures.bits c.prepare.ensures.laid c.prepare.ensures.roomy c.prepare.ensures.rows
-    c.prepare.ensures.there in
-    let held = subst (λ p. Holds c.prepare.new.self.kept r.words inside (record x { position = p })) c.position.ensures
-    (subst (λ (ws : List ℕ). Holds c.prepare.new.self.kept ws inside (record x { position = c.position.result })) same
-    (c.is_kept.ensures.kept c.if-is_kept.true)) in (
-      hopeless_left r c.args.place c.args.cursor b (remembers_still r _ _ c.prepare.ensures.no_more
-          c.requires.remembers inside x held) all limit arrives,
-      pays_prepared c.args.req.now c.args.place c.args.cursor b c.args.memo.now c.prepare.new.self p all limit arrives,
-    )
-
-pub returns-then-is_kept-clause-remembers : goal.returns-then-is_kept-clause-remembers
-returns-then-is_kept-clause-remembers g c =
-    remembers_still (run_of c.args.req.now) _ _ c.prepare.ensures.no_more c.requires.remembers
-
-pub returns-clause-remembers : goal.returns-clause-remembers
-returns-clause-remembers g c =
-    remembers_still (run_of c.args.req.now) _ _ c.prepare.ensures.no_more c.requires.remembers
-
-pub returns-clause-stays : goal.returns-clause-stays
-returns-clause-stays g c = λ _.
-    stays_tried (run_of c.args.req.now) c.args.place c.args.cursor _ _ c.begin_trying-made.result
-    c.begin_trying-made.ensures.marked c.begin_trying-made.ensures.left
-
-pub returns-clause-goes : goal.returns-clause-goes
-returns-clause-goes g c = λ _ all limit arrives.
+pub returns-in-Failed-clause-left : goal.returns-in-Failed-clause-left
+returns-in-Failed-clause-left g c = λ _ all limit arrives.
     let r = run_of c.args.req.now in
     let b = c.args.board.now in
     let inside = is_inside b.choices in
@@ -57,17 +25,68 @@ returns-clause-goes g c = λ _ all limit arrives.
     c.prepare.ensures.refused
     c.prepare.ensures.stay c.prepare.ensures.bits c.prepare.ensures.laid c.prepare.ensures.roomy c.prepare.ensures.rows
     c.prepare.ensures.there in
-    let opened = subst (λ p. HasBit m.kept r.words inside (record x { position = p })
-    → IsOpen m.kept r.words inside (record x { position = p })) c.position.ensures
-    (subst (λ (ws : List ℕ). HasBit m.kept ws inside (record x { position = c.position.result })
-    → IsOpen m.kept ws inside (record x { position = c.position.result })) same
-    (c.is_kept.ensures.opened c.if-is_kept.false)) in
+    let held = subst (λ p. Holds m.kept r.words inside (record x { position = p })) c.position.ensures
+    (subst (λ (ws : List ℕ). Holds m.kept ws inside (record x { position = c.position.result })) same
+    c.in-Failed.ensures) in (
+      hopeless_left r c.args.place c.args.cursor b (remembers_still r _ _ c.prepare.ensures.no_more
+          c.requires.remembers inside x held) all limit arrives,
+      pays_prepared c.args.req.now c.args.place c.args.cursor b c.args.memo.now m p all limit arrives,
+    )
+
+pub returns-in-Failed-clause-remembers : goal.returns-in-Failed-clause-remembers
+returns-in-Failed-clause-remembers g c =
+    remembers_still (run_of c.args.req.now) _ _ c.prepare.ensures.no_more c.requires.remembers
+
+pub returns-in-Failed-clause-still : goal.returns-in-Failed-clause-still
+returns-in-Failed-clause-still g c =
+    open_or_refused c.args.memo.now c.prepare.new.self c.requires.opened c.prepare.ensures.same
+    c.prepare.ensures.refused
+
+pub returns-in-Open-clause-remembers : goal.returns-in-Open-clause-remembers
+returns-in-Open-clause-remembers g c =
+    remembers_still (run_of c.args.req.now) _ _ c.prepare.ensures.no_more c.requires.remembers
+
+pub returns-in-Open-clause-still : goal.returns-in-Open-clause-still
+returns-in-Open-clause-still g c =
+    open_or_refused c.args.memo.now c.prepare.new.self c.requires.opened c.prepare.ensures.same
+    c.prepare.ensures.refused
+
+pub returns-in-NoBit-clause-remembers : goal.returns-in-NoBit-clause-remembers
+returns-in-NoBit-clause-remembers g c =
+    remembers_still (run_of c.args.req.now) _ _ c.prepare.ensures.no_more c.requires.remembers
+
+pub returns-in-NoBit-clause-still : goal.returns-in-NoBit-clause-still
+returns-in-NoBit-clause-still g c =
+    open_or_refused c.args.memo.now c.prepare.new.self c.requires.opened c.prepare.ensures.same
+    c.prepare.ensures.refused
+
+pub returns-in-Open-clause-stays : goal.returns-in-Open-clause-stays
+returns-in-Open-clause-stays g c = λ _.
+    stays_tried (run_of c.args.req.now) c.args.place c.args.cursor _ _ c.begin_trying-made.result
+    c.begin_trying-made.ensures.marked c.begin_trying-made.ensures.left
+
+pub returns-in-Open-clause-goes : goal.returns-in-Open-clause-goes
+returns-in-Open-clause-goes g c = λ _ all limit arrives.
+    let r = run_of c.args.req.now in
+    let b = c.args.board.now in
+    let inside = is_inside b.choices in
+    let x = spot (Instruction c.args.place) c.args.cursor b in
+    let m = c.prepare.new.self in
+    let same : c.items-words.result.now ≡ r.words = c.items-words.ensures.same ∙ ap items_of c.pattern_codes.ensures in
+    let p = prepared_at c.args.req.now c.args.place b c.args.memo.now m c.items-words.result.now
+    c.start.result c.end.result same c.start.ensures.value c.end.ensures.value c.prepare.ensures.same
+    c.prepare.ensures.refused
+    c.prepare.ensures.stay c.prepare.ensures.bits c.prepare.ensures.laid c.prepare.ensures.roomy c.prepare.ensures.rows
+    c.prepare.ensures.there in
+    let opened = subst (λ p. IsOpen m.kept r.words inside (record x { position = p })) c.position.ensures
+    (subst (λ (ws : List ℕ). IsOpen m.kept ws inside (record x { position = c.position.result })) same
+    c.in-Open.ensures) in
     goes_tried c.args.req.now c.args.place c.args.cursor b c.args.memo.now m p all limit arrives
     c.begin_trying-made.new.self c.begin_trying-made.result c.begin_trying-made.ensures.marked
     c.begin_trying-made.ensures.left c.begin_trying-made.ensures.refused opened
 
-pub returns-clause-tries : goal.returns-clause-tries
-returns-clause-tries g c = λ _ all limit arrives.
+pub returns-in-Open-clause-tries : goal.returns-in-Open-clause-tries
+returns-in-Open-clause-tries g c = λ _ all limit arrives.
     let r = run_of c.args.req.now in
     let b = c.args.board.now in
     let inside = is_inside b.choices in
@@ -79,21 +98,45 @@ returns-clause-tries g c = λ _ all limit arrives.
     c.prepare.ensures.refused
     c.prepare.ensures.stay c.prepare.ensures.bits c.prepare.ensures.laid c.prepare.ensures.roomy c.prepare.ensures.rows
     c.prepare.ensures.there in
-    let opened = subst (λ p. HasBit m.kept r.words inside (record x { position = p })
-    → IsOpen m.kept r.words inside (record x { position = p })) c.position.ensures
-    (subst (λ (ws : List ℕ). HasBit m.kept ws inside (record x { position = c.position.result })
-    → IsOpen m.kept ws inside (record x { position = c.position.result })) same
-    (c.is_kept.ensures.opened c.if-is_kept.false)) in
+    let opened = subst (λ p. IsOpen m.kept r.words inside (record x { position = p })) c.position.ensures
+    (subst (λ (ws : List ℕ). IsOpen m.kept ws inside (record x { position = c.position.result })) same
+    c.in-Open.ensures) in
     tries_tried c.args.req.now c.args.place c.args.cursor b c.args.memo.now m p all limit arrives
     c.begin_trying-made.new.self c.begin_trying-made.result c.begin_trying-made.ensures.marked
     c.begin_trying-made.ensures.left c.begin_trying-made.ensures.refused opened
 
-pub returns-then-is_kept-clause-still : goal.returns-then-is_kept-clause-still
-returns-then-is_kept-clause-still g c =
-    open_or_refused c.args.memo.now c.prepare.new.self c.requires.opened c.prepare.ensures.same
+pub returns-in-NoBit-clause-goes : goal.returns-in-NoBit-clause-goes
+returns-in-NoBit-clause-goes g c = λ _ all limit arrives.
+    let r = run_of c.args.req.now in
+    let b = c.args.board.now in
+    let inside = is_inside b.choices in
+    let x = spot (Instruction c.args.place) c.args.cursor b in
+    let m = c.prepare.new.self in
+    let same : c.items-words.result.now ≡ r.words = c.items-words.ensures.same ∙ ap items_of c.pattern_codes.ensures in
+    let p = prepared_at c.args.req.now c.args.place b c.args.memo.now m c.items-words.result.now
+    c.start.result c.end.result same c.start.ensures.value c.end.ensures.value c.prepare.ensures.same
     c.prepare.ensures.refused
+    c.prepare.ensures.stay c.prepare.ensures.bits c.prepare.ensures.laid c.prepare.ensures.roomy c.prepare.ensures.rows
+    c.prepare.ensures.there in
+    let none = subst (λ p. HasBit m.kept r.words inside (record x { position = p }) → ⊥) c.position.ensures
+    (subst (λ (ws : List ℕ). HasBit m.kept ws inside (record x { position = c.position.result }) → ⊥) same
+    c.in-NoBit.ensures) in
+    goes_untried c.args.req.now c.args.place c.args.cursor b c.args.memo.now m p all limit arrives none
 
-pub returns-clause-still : goal.returns-clause-still
-returns-clause-still g c =
-    open_or_refused c.args.memo.now c.prepare.new.self c.requires.opened c.prepare.ensures.same
+pub returns-in-NoBit-clause-tries : goal.returns-in-NoBit-clause-tries
+returns-in-NoBit-clause-tries g c = λ _ all limit arrives.
+    let r = run_of c.args.req.now in
+    let b = c.args.board.now in
+    let inside = is_inside b.choices in
+    let x = spot (Instruction c.args.place) c.args.cursor b in
+    let m = c.prepare.new.self in
+    let same : c.items-words.result.now ≡ r.words = c.items-words.ensures.same ∙ ap items_of c.pattern_codes.ensures in
+    let p = prepared_at c.args.req.now c.args.place b c.args.memo.now m c.items-words.result.now
+    c.start.result c.end.result same c.start.ensures.value c.end.ensures.value c.prepare.ensures.same
     c.prepare.ensures.refused
+    c.prepare.ensures.stay c.prepare.ensures.bits c.prepare.ensures.laid c.prepare.ensures.roomy c.prepare.ensures.rows
+    c.prepare.ensures.there in
+    let none = subst (λ p. HasBit m.kept r.words inside (record x { position = p }) → ⊥) c.position.ensures
+    (subst (λ (ws : List ℕ). HasBit m.kept ws inside (record x { position = c.position.result }) → ⊥) same
+    c.in-NoBit.ensures) in
+    tries_untried c.args.req.now c.args.place c.args.cursor b c.args.memo.now m p all limit arrives none

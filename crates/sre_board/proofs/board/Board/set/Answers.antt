@@ -1,13 +1,30 @@
-use Rattle.std.proofs.Common.{arith}
+use Rattle.std.proofs.Common.{ℕ, ◌≤◌, List, reverse, arith, subst}
 use Rattle.std.proofs.lemmas.Result.{IfOk-weaker}
+use Rattle.sre_board.specs.Choices.{Fits}
+use Rattle.sre_board.specs.declared.board.Saved.{Saved}
 use Rattle.sre_board.proofs.Choosing.{fits-more, set_held}
 use Rattle.sre_board.proofs.board.Board.set.Goals as goal
 
+pub set_behind-requires : goal.set_behind-requires
+set_behind-requires g c =
+    let law = subst (λ (xs : List Saved). (n changes : ℕ) → Fits (reverse xs) n changes
+    → (c.needed-needed.result ≤ changes) × Fits (reverse xs) n c.needed-needed.result) c.deref.ensures.value
+    c.needed-needed.ensures in
+    (law _ _ c.self.invariant.1).0
+
 pub invariant_of-self-2 : goal.invariant_of-self-2
-invariant_of-self-2 g c =
-    (c.self.invariant.0, fits-more _ _ _ _ _ (omega arith) c.set.ensures.kept c.self.invariant.1, c.self.invariant.2)
+invariant_of-self-2 g c = (
+  c.self.invariant.0,
+  fits-more _ _ _ _ _ (omega arith) c.set_behind.ensures.kept c.self.invariant.1,
+  c.self.invariant.2,
+)
 
 pub returns : goal.returns
 returns g c =
-    IfOk-weaker _ _ _ (λ x h. set_held _ c.self.inside.trail c.set.new.self c.self.inside.chains c.self.inside.frame
-    c.self.inside.choices.items c.args.n c.args.position c.self.view_is c.self.invariant.1 h) c.set.ensures.set
+    let law = subst (λ (xs : List Saved). (n changes : ℕ) → Fits (reverse xs) n changes
+    → (c.needed-needed.result ≤ changes) × Fits (reverse xs) n c.needed-needed.result) c.deref.ensures.value
+    c.needed-needed.ensures in
+    IfOk-weaker _ _ _
+    (λ x h. set_held _ c.self.inside.trail c.set_behind.new.self c.self.inside.chains c.self.inside.frame
+    c.self.inside.choices.items c.args.n c.args.position _ c.self.view_is (law _ _ c.self.invariant.1).1 h)
+    c.set_behind.ensures.set

@@ -1,0 +1,84 @@
+-- The first outcome that passes a test: outcomes that come again behind others change nothing of it, whatever the test
+-- is, as long as it looks at where they stop. So what waits twice may be left out where it comes later.
+use Rattle.std.proofs.Common.{◌≡◌, Bool, true, false, List, [], ◌∷◌, ◌++◌, refl, sym, ap, ◌∙◌}
+use Rattle.std.specs.List.{filter}
+use Rattle.std.proofs.lemmas.List.Elements.{filter-append}
+use Rattle.sre_model.specs.Ways.{Way, first}
+use Rattle.sre_model.proofs.MarksApart.{SameStops}
+use Rattle.sre_turns.specs.declared.Region.{Region}
+use Rattle.sre_turns.specs.declared.Region.TheVariants.{AtomicGroup, Ahead, NotAhead, Owed, Further}
+use Rattle.sre_turns.specs.Moves.{Spot, closing_move}
+
+-- a test that looks at where an outcome stops
+abbrev pub ByStop : (Way → Bool) → Type 0
+ByStop test = (v w : Way) → v.stop ≡ w.stop → test v ≡ test w
+
+-- under each such test the first of some outcomes is that of others
+abbrev pub SameFirsts : List Way → List Way → Type 0
+SameFirsts xs ys = (test : Way → Bool) → ByStop test → first (filter test xs) ≡ first (filter test ys)
+
+-- where the first of some is the first of none, there are none
+pub first_none : (xs ys : List Way) → first xs ≡ first ys → ys ≡ [] → xs ≡ []
+first_none [] ys h e = refl
+first_none (x ∷ xs) ys h e = let none : x ∷ [] ≡ [] = rw e at h in absurd (cc)
+
+first_append : (xs ys zs : List Way) → first xs ≡ first ys → first (xs ++ zs) ≡ first (ys ++ zs)
+first_append [] [] zs h = refl
+first_append [] (y ∷ ys) zs h = absurd (cc)
+first_append (x ∷ xs) [] zs h = absurd (cc)
+first_append (x ∷ xs) (y ∷ ys) zs h = h
+
+-- the same behind which the same comes
+pub firsts_append : (xs ys zs : List Way) → SameFirsts xs ys → SameFirsts (xs ++ zs) (ys ++ zs)
+firsts_append xs ys zs h = λ test told.
+    ap (λ ws. first ws) (filter-append test xs zs)
+    ∙ first_append (filter test xs) (filter test ys) (filter test zs) (h test told)
+    ∙ sym (ap (λ ws. first ws) (filter-append test ys zs))
+
+all_pass : (xs : List Way) → filter (λ (w : Way). true) xs ≡ xs
+all_pass [] = refl
+all_pass (x ∷ xs) = ap (λ ws. x ∷ ws) (all_pass xs)
+
+-- so they begin with the same
+pub firsts_begin : (xs ys : List Way) → SameFirsts xs ys → first xs ≡ first ys
+firsts_begin xs ys h =
+    sym (ap (λ ws. first ws) (all_pass xs)) ∙ h (λ w. true) (λ v w e. refl) ∙ ap (λ ws. first ws) (all_pass ys)
+
+-- and a region closes alike
+pub closes_same : (g : Region) (x : Spot) (xs ys : List Way) → first xs ≡ first ys
+    → closing_move g x xs ≡ closing_move g x ys
+closes_same g x [] [] h = refl
+closes_same g x [] (w ∷ ys) h = absurd (cc)
+closes_same g x (v ∷ xs) [] h = absurd (cc)
+closes_same g x (v ∷ xs) (w ∷ ys) h = go g (cc)
+  where
+    go : (g : Region) → v ≡ w → closing_move g x (v ∷ xs) ≡ closing_move g x (w ∷ ys)
+    go (AtomicGroup t) e = rw e refl
+    go (Ahead t) e = rw e refl
+    go (NotAhead t) e = refl
+    go Owed e = rw e refl
+    go (Further t) e = rw e refl
+
+-- of outcomes with the same stops none passes where none does of the others
+pub none_passes : (test : Way → Bool) → ByStop test → (xs ys : List Way) → SameStops xs ys → filter test xs ≡ []
+    → filter test ys ≡ []
+none_passes test told [] [] h e = refl
+none_passes test told [] (y ∷ ys) h e = absurd h
+none_passes test told (x ∷ xs) [] h e = refl
+none_passes test told (x ∷ xs) (y ∷ ys) h e =
+    by_test (test x) refl (λ left. none_passes test told xs ys h.1 left)
+  where
+    by_test : (b : Bool) → test x ≡ b → (filter test xs ≡ [] → filter test ys ≡ []) → filter test (y ∷ ys) ≡ []
+    by_test true k later = let found : x ∷ filter test xs ≡ [] = rw k at e in absurd (cc)
+    by_test false k later = rw (sym (told x y h.0) ∙ k) (later (rw k at e))
+
+-- outcomes that come again behind those with the same stops are never the first
+pub firsts_again : (xs ys : List Way) → SameStops xs ys → SameFirsts (xs ++ ys) xs
+firsts_again xs ys h = λ test told.
+    ap (λ ws. first ws) (filter-append test xs ys) ∙ go test (filter test xs) refl (none_passes test told xs ys h)
+  where
+    go : (test : Way → Bool) (passing : List Way) → filter test xs ≡ passing
+        → (filter test xs ≡ [] → filter test ys ≡ [])
+        → first (filter test xs ++ filter test ys) ≡ first (filter test xs)
+    go test [] e none = rw (e, none e) refl
+    go test (w ∷ ws) e none = rw e refl
