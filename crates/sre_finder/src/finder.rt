@@ -29,7 +29,7 @@ use std::alloc::{Allocator, Global};
 use std::marker::Model;
 
 /// How many bytes the tables of automata take at most.
-const SIZE_LIMIT: usize = 1 << 16;
+pub(crate) const SIZE_LIMIT: usize = 1 << 16;
 
 /// The automata of a code, where they are worth what they take.
 #[derive(Drop)]
@@ -67,6 +67,21 @@ impl<'c> Finder<'c> {
             code,
             encoding,
             automata: automata_of(alloc, code, encoding),
+            end: None,
+            pace: Pace::new(),
+        }
+    }
+
+    // One that has no automata and tells nothing.
+    pub(crate) fn without_automata(code: Code<'c>, encoding: Encoding) -> Finder<'c>
+        ensures code { result.code ≡ code.entry }
+        ensures encoding { result.encoding ≡ encoding }
+        ensures end { result.end ≡ None }
+    {
+        Finder {
+            code,
+            encoding,
+            automata: None,
             end: None,
             pace: Pace::new(),
         }
@@ -118,7 +133,6 @@ impl<'c> Finder<'c> {
         ensures end { result.position ≡ end_of req.now }
         ensures stands { Standing req.now result }
         ensures code { self.new.code ≡ self.old.code }
-        ensures encoding { self.new.encoding ≡ self.old.encoding }
         ensures known { EndStands (S.stands (string_of req.now)) self.new.end }
     {
         if let Some(end) = self.end {

@@ -1,4 +1,3 @@
-use Rattle.std.proofs.Common.{sym}
 use Rattle.sre_finder.proofs.haystack.RefStrHaystack.hay.Goals as goal
 
 pub returns-in-Ascii : goal.returns-in-Ascii
