@@ -149,6 +149,6 @@ impl<'a> Haystack for &'a str {
 
     #[inline(always)]
     fn cursor_at_byte(&self, position: usize) -> StringCursor {
-        StringCursor::new(position, position)
+        StringCursor::new(position, position) // before it are as many bytes as characters
     }
 }
