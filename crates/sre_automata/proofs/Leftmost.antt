@@ -107,6 +107,9 @@ module _ (nfa : Nfa) (re : Re) (hay : List ℕ) (is : Implements nfa re) (bytes 
           ]
         ];
         ends = some.2;
+        after = is.0;
+        forward = is.1;
+        inside = l;
       }
 
 -- nothing is passed

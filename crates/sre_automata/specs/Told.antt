@@ -30,6 +30,9 @@ pub record IsBetween (hay : List ℕ) (re : Re) (start from end : ℕ) : Type 0 
   pub found : find re hay start ≡ Some match
   pub begins : match.start ≡ from
   pub ends : match.trace.end ≡ end
+  pub after : start ≤ from
+  pub forward : from ≤ end
+  pub inside : end ≤ length hay
 
 -- what a search for the pattern finds
 abbrev pub FindsFirst : List ℕ → Re → ℕ → FirstMatch → Type 0

@@ -141,8 +141,6 @@ impl Automata {
 
     /// The first match of those that begin at a place or behind it, which is the leftmost one: of a pattern that the
     /// automata implement, and not one of whose matches they merely have.
-    ///
-    /// Nothing calls it yet: it waits for a finder that tells spans.
     pub fn first_match(&mut self, hay: &[u8], start: usize) -> FirstMatch
         requires { start ≤ length hay.now }
         ensures finds { (re : Re) → Implements self.old re → FindsFirst hay.now re start result }

@@ -7,10 +7,11 @@ use Rattle.std.specs.Str.{chars, IsUtf8}
 use Rattle.sre_chars.specs.Texts.{offset_of, begun}
 use Rattle.sre_chars.proofs.Beginnings.{place_in, begun_block}
 use Rattle.sre_model.specs.Subject.{char_at}
-use Rattle.sre_patterns.specs.declared.encoding.Encoding.TheVariants.{Bytes, Utf8}
+use Rattle.sre_patterns.specs.declared.encoding.Encoding.TheVariants.{Bytes, Ascii, Utf8}
 use Rattle.sre_shape.specs.Covers.{InBytes, InUtf8, read_utf8}
 use Rattle.sre_shape.proofs.OverBytes.{bytes-seen}
 use Rattle.sre_shape.proofs.OverUtf8.{utf8-seen}
+use Rattle.sre_shape.proofs.AsciiSeen.{ascii-of-utf8}
 use Rattle.sre_finder.specs.Views.{SeenAs}
 
 -- bytes up to a position
@@ -67,6 +68,15 @@ utf8_seen text hay end u inside is = record {
   whole =
       let place = place_in text text (offset_of text end) end refl u refl inside in
       sym (ap length is ∙ length-take-le (offset_of text end) text place.in_bounds);
+}
+
+-- UTF-8 with as many bytes as characters up to a position is ASCII
+pub ascii_seen : (text hay : List ℕ) (place : ℕ → ℕ) (end : ℕ) → SeenAs Utf8 text place end hay → place end ≡ end
+    → SeenAs Ascii text place end hay
+ascii_seen text hay place end seen same = record {
+  seen = λ s is at. ascii-of-utf8 s hay place (seen.seen s is at) (ap place at ∙ same ∙ sym at);
+  order = seen.order;
+  whole = seen.whole;
 }
 
 -- a position behind which no more bytes are is inside the text's bytes

@@ -1,3 +1,5 @@
 pub mod Views
 pub mod Finders
+pub mod Spans
 pub mod FinderIters
+pub mod SpanIters

@@ -29,7 +29,7 @@ use std::alloc::{Allocator, Global};
 use std::marker::Model;
 
 /// How many bytes the tables of automata take at most.
-const SIZE_LIMIT: usize = 1 << 16;
+pub(crate) const SIZE_LIMIT: usize = 1 << 16;
 
 /// The automata of a code, where they are worth what they take.
 #[derive(Drop)]
@@ -52,8 +52,9 @@ impl<'c> Model for Finder<'c> {
 }
 
 impl<'c> Finder<'c> {
-    /// The finder of a code, for texts that are seen so as bytes: `Encoding::Bytes` for a text of bytes and
-    /// `Encoding::Utf8` for a `str`. To texts that are seen otherwise it tells nothing.
+    /// The finder of a code, for texts that are seen so as bytes: `Encoding::Bytes` for a text of bytes,
+    /// `Encoding::Utf8` for a `str`, and `Encoding::Ascii` for a `str` that is ASCII up to the end of the window. Of
+    /// texts that are seen otherwise it tells nothing.
     ///
     /// It never fails: where automata would not pay, as under a confirmed prefix or where a match may be empty, where
     /// their tables would be too large, or where memory was refused, it has none and tells nothing.
@@ -66,6 +67,21 @@ impl<'c> Finder<'c> {
             code,
             encoding,
             automata: automata_of(alloc, code, encoding),
+            end: None,
+            pace: Pace::new(),
+        }
+    }
+
+    // One that has no automata and tells nothing.
+    pub(crate) fn without_automata(code: Code<'c>, encoding: Encoding) -> Finder<'c>
+        ensures code { result.code ≡ code.entry }
+        ensures encoding { result.encoding ≡ encoding }
+        ensures end { result.end ≡ None }
+    {
+        Finder {
+            code,
+            encoding,
+            automata: None,
             end: None,
             pace: Pace::new(),
         }
@@ -106,14 +122,17 @@ fn automata_of(alloc: Global, code: Code<'_>, encoding: Encoding) -> Option<Auto
 impl<'c> Finder<'c> {
     // The end of a request's window, which is found once for a text, from a cursor that stands before it.
     #[inline(always)]
-    fn end_in<S: StrDrive>(&mut self, req: &Request<'_, S>, from: StringCursor) -> StringCursor
+    pub(crate) fn end_in<S: StrDrive>(
+        &mut self,
+        req: &Request<'_, S>,
+        from: StringCursor,
+    ) -> StringCursor
         requires known { EndStands (S.stands (string_of req.now)) self.old.end }
         requires stands { Standing req.now from }
         requires inside { from.position ≤ end_of req.now }
         ensures end { result.position ≡ end_of req.now }
         ensures stands { Standing req.now result }
         ensures code { self.new.code ≡ self.old.code }
-        ensures encoding { self.new.encoding ≡ self.old.encoding }
         ensures known { EndStands (S.stands (string_of req.now)) self.new.end }
     {
         if let Some(end) = self.end {
@@ -132,11 +151,14 @@ impl<'c, S: Haystack> Starts<S> for Finder<'c> {
     ghost suits = { λ f string code. (f.code ≡ code) × EndStands (S.stands string) f.end };
 
     fn beyond(&mut self, req: &Request<'_, S>, from: StringCursor) -> Option<StringCursor> {
-        let text = req.string();
-        if self.automata.is_none() || text.encoding() != self.encoding || !self.pace.asks() {
+        if self.automata.is_none() || !self.pace.asks() {
             return Some(from);
         }
         let end = self.end_in(req, from);
+        let text = req.string();
+        let Some(hay) = text.hay(self.encoding, end) else {
+            return Some(from);
+        };
         let Some(automata) = &mut self.automata else {
             return Some(from);
         };
@@ -144,7 +166,7 @@ impl<'c, S: Haystack> Starts<S> for Finder<'c> {
         if !self.pace.may_read(start, automata.read()) {
             return Some(from);
         }
-        match automata.next_from(text.hay(end), start) {
+        match automata.next_from(hay, start) {
             Told::Nothing => None,
             Told::From(offset) => Some(text.cursor_up_to(from, offset, end)),
         }

@@ -1,10 +1,9 @@
 //! Texts whose bytes automata can read: bytes, and UTF-8.
 
-ghost use Rattle.std.specs.Prelude.{◌≡◌, ◌≤◌, ◌<◌, ℕ, length};
+ghost use Rattle.std.specs.Prelude.{◌≡◌, ◌≤◌, ◌<◌, ℕ, IfSome, length};
 ghost use Rattle.std.specs.Str.{chars};
 ghost use Rattle.sre_chars.specs.Texts.{StandsInText, offset_of};
-ghost use Rattle.sre_patterns.specs.declared.encoding.Encoding as encoding;
-ghost use Rattle.sre_patterns.specs.declared.encoding.Encoding.TheVariants.{Bytes, Utf8};
+ghost use Rattle.sre_patterns.specs.declared.encoding.Encoding.TheVariants.{Bytes, Ascii, Utf8};
 ghost use Rattle.sre_finder.specs.Views.{SeenAs};
 
 use sre_chars::string::{StrDrive, StringCursor, cursor_at};
@@ -12,20 +11,15 @@ use sre_patterns::Encoding;
 
 /// A text whose bytes automata can read.
 pub trait Haystack: StrDrive {
-    // How its characters are seen as bytes.
-    ghost seen_as: { Self → encoding.Encoding };
-
     // The byte at which a position stands.
     ghost place: { Self → ℕ → ℕ };
 
-    /// How its characters are seen as bytes.
-    fn encoding(&self) -> Encoding
-        ensures { result ≡ seen_as self.now };
-
-    /// The bytes up to a cursor.
-    fn hay(&self, end: StringCursor) -> &[u8]
+    /// The bytes up to a cursor, where the characters up to there are seen so as bytes: those of a text of bytes as
+    /// `Encoding::Bytes`, those of a `str` as `Encoding::Utf8`, and as `Encoding::Ascii` where all of them are ASCII.
+    fn hay(&self, encoding: Encoding, end: StringCursor) -> Option<&[u8]>
         requires { Self.stands self.now end end.position }
-        ensures { SeenAs (seen_as self.now) (Self.text self.now) (place self.now) end.position result.now };
+        ensures { IfSome result
+            (λ hay. SeenAs encoding (Self.text self.now) (place self.now) end.position hay.now) };
 
     /// How many bytes are before a cursor.
     fn place_of(&self, cursor: StringCursor) -> usize
@@ -44,6 +38,12 @@ pub trait Haystack: StrDrive {
         ensures after { from.position ≤ result.position }
         ensures inside { result.position ≤ end.position }
         ensures passed { (q : ℕ) → from.position ≤ q → q < result.position → place self.now q < offset };
+
+    /// The cursor at a position that stands at the byte of its number.
+    fn cursor_at_byte(&self, position: usize) -> StringCursor
+        requires inside { position ≤ length (Self.text self.now) }
+        requires alike { place self.now position ≡ position }
+        ensures { Self.stands self.now result position };
 }
 
 // The bytes up to a position.
@@ -62,6 +62,19 @@ fn text_up_to(text: &str, end: StringCursor) -> &[u8]
     ensures { SeenAs Utf8 (chars text.now) (offset_of text.now) end.position result.now }
 {
     &text.as_bytes()[..end.offset()]
+}
+
+// The bytes of UTF-8 up to a cursor, where each character is one byte.
+#[inline(always)]
+fn ascii_up_to(text: &str, end: StringCursor) -> Option<&[u8]>
+    requires { StandsInText text.now end end.position }
+    ensures { IfSome result (λ hay. SeenAs Ascii (chars text.now) (offset_of text.now) end.position hay.now) }
+{
+    if end.offset() == end.position() {
+        Some(text_up_to(text, end))
+    } else {
+        None
+    }
 }
 
 // The cursor at an offset between two others, where a character begins there, else the first of them.
@@ -85,18 +98,15 @@ fn text_cursor(text: &str, from: StringCursor, offset: usize, end: StringCursor)
 }
 
 impl<'a> Haystack for &'a [u8] {
-    ghost seen_as = { λ _. Bytes };
-
     ghost place = { λ _ p. p };
 
     #[inline(always)]
-    fn encoding(&self) -> Encoding {
-        Encoding::Bytes
-    }
-
-    #[inline(always)]
-    fn hay(&self, end: StringCursor) -> &[u8] {
-        bytes_up_to(self, end.offset())
+    fn hay(&self, encoding: Encoding, end: StringCursor) -> Option<&[u8]> {
+        match encoding {
+            Encoding::Bytes => Some(bytes_up_to(self, end.offset())),
+            Encoding::Ascii => None,
+            Encoding::Utf8 => None,
+        }
     }
 
     #[inline(always)]
@@ -108,21 +118,23 @@ impl<'a> Haystack for &'a [u8] {
     fn cursor_up_to(&self, _from: StringCursor, offset: usize, _end: StringCursor) -> StringCursor {
         StringCursor::new(offset, offset)
     }
+
+    #[inline(always)]
+    fn cursor_at_byte(&self, position: usize) -> StringCursor {
+        StringCursor::new(position, position)
+    }
 }
 
 impl<'a> Haystack for &'a str {
-    ghost seen_as = { λ _. Utf8 };
-
     ghost place = { λ s p. offset_of s.now p };
 
     #[inline(always)]
-    fn encoding(&self) -> Encoding {
-        Encoding::Utf8
-    }
-
-    #[inline(always)]
-    fn hay(&self, end: StringCursor) -> &[u8] {
-        text_up_to(self, end)
+    fn hay(&self, encoding: Encoding, end: StringCursor) -> Option<&[u8]> {
+        match encoding {
+            Encoding::Bytes => None,
+            Encoding::Ascii => ascii_up_to(self, end),
+            Encoding::Utf8 => Some(text_up_to(self, end)),
+        }
     }
 
     #[inline(always)]
@@ -133,5 +145,10 @@ impl<'a> Haystack for &'a str {
     #[inline(always)]
     fn cursor_up_to(&self, from: StringCursor, offset: usize, end: StringCursor) -> StringCursor {
         text_cursor(self, from, offset, end)
+    }
+
+    #[inline(always)]
+    fn cursor_at_byte(&self, position: usize) -> StringCursor {
+        StringCursor::new(position, position) // before it are as many bytes as characters
     }
 }

@@ -1,12 +1,16 @@
-//! A finder: the kit's automata tell a search where the next match of a code can begin.
+//! A finder: the kit's automata tell a search where the next match of a code can begin, and which match that is.
 #![tactic(auto)]
 
 mod finder;
 mod finder_iter;
 mod haystack;
 mod pace;
+mod span_finder;
+mod span_iter;
 
 pub use finder::Finder;
 pub use finder_iter::FinderIter;
 pub use haystack::Haystack;
+pub use span_finder::SpanFinder;
+pub use span_iter::{Span, SpanIter};
 pub use sre_patterns::Encoding;

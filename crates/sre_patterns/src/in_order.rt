@@ -32,8 +32,6 @@ use std::alloc::{AllocError, Global};
 /// A pattern that tries the ways of the words' tree in their order, over texts whose characters are bytes: what follows
 /// it is tried from the end of each way in turn, and from nowhere else. `None` is for words of which no such pattern is
 /// known, and for items that lie in more than `DEPTH`; an error is for refused memory. No clause says when they come.
-///
-/// Nothing calls it yet: it waits for a finder that tells spans.
 pub fn ways_of(
     alloc: Global,
     code: &Code<'_>,

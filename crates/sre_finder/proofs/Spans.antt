@@ -1,0 +1,288 @@
+-- What automata that have the first matches of a code tell of its spans, and how a walk goes on behind a span.
+use Rattle.std.proofs.Common.{◌≡◌, ◌≤◌, ◌<◌, ℕ, zero, suc, List, [], ◌∷◌, Bool, true, false, not, ◌&&◌, ◌||◌, cond, nat_eq}
+use Rattle.std.proofs.Common.{Option, Some, None, refl, ap, ap₂, sym, ◌∙◌, subst, arith, inl, inr}
+use Rattle.std.specs.List.{AllByRecursion}
+use Rattle.std.specs.Option.{IfSome}
+use Rattle.std.proofs.lemmas.Bool.Decides.{nat_tests}
+use Rattle.regex_hir.specs.Re.{Re}
+use Rattle.regex_hir.specs.Matches.{IsMinLen}
+use Rattle.regex_hir.specs.Find as bytes
+use Rattle.regex_nfa.specs.declared.nfa.Nfa.{Nfa}
+use Rattle.regex_compile.specs.Implements.{Implements}
+use Rattle.sre_chars.specs.declared.string.StrDrive.{Ghosts}
+use Rattle.sre_model.specs.Tree.{Tree}
+use Rattle.sre_model.specs.Grammar.{Whole, WholeItems, IsCode}
+use Rattle.sre_model.specs.Marks.{Marks, no_marks}
+use Rattle.sre_model.specs.Ways.{Way, ways}
+use Rattle.sre_model.specs.Found.{Asked, Match, subject_of, is_accepted, first_accepted, at_start, found, asked_after}
+use Rattle.sre_model.specs.Found.{walk}
+use Rattle.sre_model.specs.WalkBounds.{most_matches}
+use Rattle.sre_model.proofs.Bounds.{Between, ways-bounded}
+use Rattle.sre_model.proofs.FoundLaws.{either, Either, found-least, least-found}
+use Rattle.sre_model.proofs.WalkLaws.{walk-next, walk-end, most_matches-falls}
+use Rattle.sre_code.specs.Codes.{words_of, items_of, uni_of}
+use Rattle.sre_code.specs.declared.code.Code.{Code}
+use Rattle.sre_request.specs.declared.request.Request.{Request}
+use Rattle.sre_request.specs.Requests.{string_of, start_of, end_of, code_of, match_all_of, must_advance_of}
+use Rattle.sre_request.specs.Requests.{empty_rule_of, asked_of, stands_in}
+use Rattle.sre_engine.specs.Answers.{Shown, Answers}
+use Rattle.sre_engine.specs.Walks.{match_shown, StepsTo, GoesOn}
+use Rattle.sre_engine.specs.Searches.{WalksOn}
+use Rattle.sre_shape.specs.Exact.{ExactTree}
+use Rattle.sre_shape.proofs.OverBytes.{bytes-places, bytes-placed}
+use Rattle.sre_shape.proofs.FirstFound.{found_by, none-found_by}
+use Rattle.sre_patterns.specs.Patterns.{view_of}
+use Rattle.sre_patterns.specs.declared.encoding.Encoding.{Encoding}
+use Rattle.sre_patterns.specs.declared.encoding.Encoding.TheVariants.{Bytes, Ascii, Utf8}
+use Rattle.sre_automata.specs.Told.{IsBetween}
+use Rattle.sre_finder.specs.Views.{SeenAs}
+use Rattle.sre_finder.specs.Spans.{match_with, Exactly, ExactlyAny, FindsSpan, FindsNone, GoesOnBehind}
+
+-- automata of a pattern that tries a code's ways in their order
+pub exactly : (encoding : Encoding) (code : Code) (o : Option Nfa) (re : Re) → IfSome o (λ nfa. Implements nfa re)
+    → IsMinLen re 1 → (encoding ≡ Utf8 → ⊥)
+    → ((t : Tree) → WholeItems (items_of code) t → ExactTree (view_of encoding) (uni_of code) re t)
+    → ExactlyAny encoding code o
+exactly encoding code None re implements reads apart exact = tt
+exactly encoding code (Some nfa) re implements reads apart exact = record {
+  pattern = re;
+  implements = implements;
+  reads = reads;
+  in_bytes = apart;
+  exact = exact;
+}
+
+-- a pattern whose matches read so many bytes reads one, where these are some
+pub reads_one : (re : Re) (n : ℕ) → IsMinLen re n → (n ≡ 0 → ⊥) → IsMinLen re 1
+unfolding IsMinLen
+reads_one re zero least some = absurd (some refl)
+reads_one re (suc n) least some = λ hay i j m. omega (arith, least hay i j m)
+
+-- it tries the ways of each tree of the code under another name
+pub exact_same : (encoding : Encoding) (code own : Code) (nfa : Nfa) (c : Exactly encoding code nfa) → code ≡ own
+    → (t : Tree) → WholeItems (items_of own) t → ExactTree (view_of encoding) (uni_of own) c.pattern t
+exact_same encoding code own nfa c e t whole =
+    subst (λ d. ExactTree (view_of encoding) (uni_of d) c.pattern t) e
+    (c.exact t (subst (λ d. WholeItems (items_of d) t) (sym e) whole))
+
+-- where each character is a byte, a position stands at the byte of its number
+pub placed : (encoding : Encoding) (a : Asked) (place : ℕ → ℕ) (hay : List ℕ) → (encoding ≡ Utf8 → ⊥)
+    → SeenAs encoding a.text place a.end hay → (p : ℕ) → p ≤ a.end → place p ≡ p
+placed Bytes a place hay apart seen = bytes-places 256 (subject_of a) hay place (seen.seen (subject_of a) refl refl)
+placed Ascii a place hay apart seen = bytes-places 128 (subject_of a) hay place (seen.seen (subject_of a) refl refl)
+placed Utf8 a place hay apart seen = absurd (apart refl)
+
+-- a span that automata tell lies in the window, and at the bytes of its positions
+pub span_places : (encoding : Encoding) (a : Asked) (place : ℕ → ℕ) (hay : List ℕ) (re : Re) (from start end : ℕ)
+    → (encoding ≡ Utf8 → ⊥) → SeenAs encoding a.text place a.end hay → IsBetween hay re from start end
+    → (start ≤ end) × (end ≤ a.end) × (place start ≡ start) × (place end ≡ end)
+span_places encoding a place hay re from start end apart seen is =
+    let inside : end ≤ a.end =
+    omega (arith, is.inside, seen.whole, placed encoding a place hay apart seen a.end (omega arith)) in (
+      is.forward,
+      inside,
+      placed encoding a place hay apart seen start (omega (arith, is.forward, inside)),
+      placed encoding a place hay apart seen end inside,
+    )
+
+-- a match with its span
+spanned : (m : Match) (start end : ℕ) → m.start ≡ start → m.end ≡ end → m ≡ match_with start end m.marks
+spanned m start end e f = ap₂ (λ x y. match_with x y m.marks) e f
+
+module _ (a : Asked) (t : Tree) (re : Re) (place : ℕ → ℕ) (hay : List ℕ) (reads : IsMinLen re 1)
+    (all : a.match_all ≡ false) where
+  -- what a search for the pattern finds is found
+  pub span_found : (encoding : Encoding) → (encoding ≡ Utf8 → ⊥) → ExactTree (view_of encoding) a.table re t
+      → SeenAs encoding a.text place a.end hay → (f : bytes.Match) → bytes.find re hay a.start ≡ Some f
+      → (m : Match) × (found a t ≡ Some m) × (m.start ≡ f.start) × (m.end ≡ f.trace.end)
+  span_found Bytes apart x seen f e =
+      let view = bytes-placed 256 (subject_of a) hay place (seen.seen (subject_of a) refl refl) in
+      found_by 256 a hay view re t x reads all f e
+  span_found Ascii apart x seen f e =
+      let view = bytes-placed 128 (subject_of a) hay place (seen.seen (subject_of a) refl refl) in
+      found_by 128 a hay view re t x reads all f e
+  span_found Utf8 apart x seen f e = absurd (apart refl)
+
+  -- and where it finds nothing, nothing is
+  pub nothing_found : (encoding : Encoding) → (encoding ≡ Utf8 → ⊥) → ExactTree (view_of encoding) a.table re t
+      → SeenAs encoding a.text place a.end hay → bytes.find re hay a.start ≡ None → found a t ≡ None
+  nothing_found Bytes apart x seen e =
+      let view = bytes-placed 256 (subject_of a) hay place (seen.seen (subject_of a) refl refl) in
+      none-found_by 256 a hay view re t x reads all e
+  nothing_found Ascii apart x seen e =
+      let view = bytes-placed 128 (subject_of a) hay place (seen.seen (subject_of a) refl refl) in
+      none-found_by 128 a hay view re t x reads all e
+  nothing_found Utf8 apart x seen e = absurd (apart refl)
+
+  pub span_between : (encoding : Encoding) → (encoding ≡ Utf8 → ⊥) → ExactTree (view_of encoding) a.table re t
+      → SeenAs encoding a.text place a.end hay → (f : bytes.Match) → bytes.find re hay a.start ≡ Some f
+      → (start end : ℕ) → f.start ≡ start → f.trace.end ≡ end
+      → (marks : Marks) × (found a t ≡ Some (match_with start end marks))
+  span_between encoding apart x seen f e start end begins ends =
+      let it = span_found encoding apart x seen f e in
+      (it.0.marks, it.1 ∙ ap (λ m. Some m) (spanned it.0 start end (it.2 ∙ begins) (it.3 ∙ ends)))
+
+-- a walk's first match is what is found, and where it has none nothing is
+pub first_found : (a : Asked) (t : Tree) (m : Match) (rest : List Match) → walk a t ≡ m ∷ rest → found a t ≡ Some m
+first_found a t m rest e = by_match (either (found a t))
+  where
+    by_match : Either (found a t) → found a t ≡ Some m
+    by_match (inl none) = absurd (let never : [] ≡ m ∷ rest = sym (walk-end a t none) ∙ e in cc)
+    by_match (inr (x, some)) =
+        let same : x ∷ walk (asked_after a x) t ≡ m ∷ rest = sym (walk-next a t x some) ∙ e in
+        let is : x ≡ m = cc in
+        some ∙ ap (λ y. Some y) is
+
+pub nothing_left : (a : Asked) (t : Tree) → walk a t ≡ [] → found a t ≡ None
+nothing_left a t e = by_match (either (found a t))
+  where
+    by_match : Either (found a t) → found a t ≡ None
+    by_match (inl none) = none
+    by_match (inr (x, some)) =
+        absurd (let never : x ∷ walk (asked_after a x) t ≡ [] = sym (walk-next a t x some) ∙ e in cc)
+
+-- what is found is found from its start on, where it has to advance there if it had to
+module _ (a : Asked) (p : ℕ) (from : a.start ≤ p) (advances : Bool)
+    (is : advances ≡ (a.must_advance && nat_eq p a.start)) where
+  abbrev there : Asked
+  there = record a { start = p; must_advance = advances }
+
+  barred : (b : Bool) (q : ℕ) → p ≤ q → a.must_advance ≡ b
+      → (not advances || not (nat_eq q p)) ≡ (not a.must_advance || not (nat_eq q a.start))
+  barred true q l e =
+      let same : advances ≡ nat_eq p a.start = is ∙ ap (λ x. x && nat_eq p a.start) e in
+      rw (same, e) (grind (arith, nat_tests))
+  barred false q l e =
+      let same : advances ≡ false = is ∙ ap (λ x. x && nat_eq p a.start) e in rw (same, e) refl
+
+  accepts_same : (w : Way) → p ≤ w.stop → is_accepted there w ≡ is_accepted a w
+  accepts_same w l =
+      ap (λ x. (not a.match_all || nat_eq w.stop a.end) && x) (barred a.must_advance w.stop l refl)
+
+  first_same : (ws : List Way) → AllByRecursion (Between (subject_of a) p) ws
+      → first_accepted there p ws ≡ first_accepted a p ws
+  first_same [] each = refl
+  first_same (w ∷ ws) each =
+      ap₂ (λ x y. cond x (Some (record { start = p; end = w.stop; marks = w.marks })) y) (accepts_same w each.0.0)
+      (first_same ws each.1)
+
+  at_start_same : (t : Tree) → p ≤ a.end → at_start there t p ≡ at_start a t p
+  at_start_same t l = first_same (ways (subject_of a) t p no_marks) (ways-bounded (subject_of a) t p no_marks l)
+
+pub found_again : (a : Asked) (t : Tree) (m : Match) → found a t ≡ Some m → (advances : Bool)
+    → advances ≡ (a.must_advance && nat_eq m.start a.start)
+    → found (record a { start = m.start; must_advance = advances }) t ≡ Some m
+found_again a t m e advances is =
+    let least = found-least a t m e in
+    least-found (record a { start = m.start; must_advance = advances }) t m (record {
+      from = omega arith;
+      to = least.to;
+      here = at_start_same a m.start least.from advances is t least.to ∙ least.here;
+      least = λ r l k. absurd (omega (arith, l, k));
+    })
+
+-- a step of the machine, as a step over its match's span
+module _ {S : Type 0} {text : Ghosts S} (r : Request S text) (b : Bool) (s : Shown) (u : Request S text)
+    (walks : WalksOn r b s u) where
+  pub steps_span : b ≡ true → GoesOn r s u → (start : ℕ) → start ≡ s.start
+      → GoesOnBehind r start (start_of u) u × FindsSpan r start (start_of u)
+  steps_span is goes start at = (
+    record {
+      from = omega (arith, at, goes.from);
+      forward = omega (arith, at, goes.span.forward, goes.start, goes.span.starts);
+      inside = omega (arith, goes.span.inside, goes.start);
+      start_is = refl;
+      must_advance = goes.must_advance ∙ ap₂ (λ x y. nat_eq x y) (sym goes.start) (sym at);
+      string = goes.string;
+      end_is = goes.end;
+      pattern_codes = goes.pattern_codes;
+      match_all = goes.match_all;
+      empty_rule = goes.empty_rule;
+    },
+    record {
+      some = λ t whole.
+          let shown = match_shown s in
+          let first = subst (λ c. StepsTo (walk (asked_of r) t) c s (walk (asked_of u) t)) is (walks t whole) in (
+            s.marks,
+            first_found (asked_of r) t shown (walk (asked_of u) t) first
+                ∙ ap (λ m. Some m) (spanned shown start (start_of u) (sym at) (sym goes.start)),
+          );
+    },
+  )
+
+  pub steps_nowhere : b ≡ false → FindsNone r
+  steps_nowhere is = record {
+    none = λ t whole.
+        let ends = subst (λ c. StepsTo (walk (asked_of r) t) c s (walk (asked_of u) t)) is (walks t whole) in
+        nothing_left (asked_of r) t ends;
+  }
+
+-- what is asked behind a span
+pub asked_behind : {S : Type 0} {text : Ghosts S} (r : Request S text) (start end : ℕ) (u : Request S text)
+    (marks : Marks) → GoesOnBehind r start end u
+    → asked_of u ≡ asked_after (asked_of r) (match_with start end marks)
+asked_behind r start end u marks goes =
+    rw (goes.string, goes.pattern_codes, goes.start_is, goes.end_is, goes.match_all, goes.must_advance, goes.empty_rule)
+    refl
+
+module _ {S : Type 0} {text : Ghosts S} (r : Request S text) (start end : ℕ) (u : Request S text)
+    (goes : GoesOnBehind r start end u) (t : Tree) (marks : Marks)
+    (some : found (asked_of r) t ≡ Some (match_with start end marks)) where
+  -- the walk is the match of the span, and the walk behind it
+  pub walks_behind : walk (asked_of r) t ≡ match_with start end marks ∷ walk (asked_of u) t
+  walks_behind =
+      walk-next (asked_of r) t (match_with start end marks) some
+      ∙ ap (λ a. match_with start end marks ∷ walk a t) (sym (asked_behind r start end u marks goes))
+
+  -- in which fewer can come
+  pub falls_behind : most_matches (asked_of u) < most_matches (asked_of r)
+  falls_behind =
+      subst (λ a. most_matches a < most_matches (asked_of r)) (sym (asked_behind r start end u marks goes))
+      (most_matches-falls (asked_of r) t (match_with start end marks) some)
+
+-- what is asked at the start of the match that came last, before it came and behind it
+pub last_same : {S : Type 0} {text : Ghosts S} (r : Request S text) (start end : ℕ) (u : Request S text)
+    (advances : Bool) → GoesOnBehind r start end u
+    → record (asked_of u) { start = start; must_advance = advances }
+    ≡ record (asked_of r) { start = start; must_advance = advances }
+last_same r start end u advances goes =
+    rw (goes.string, goes.pattern_codes, goes.end_is, goes.match_all, goes.empty_rule) refl
+
+-- the first match of a walk has the span that a step found, and is found from its start on
+pub gives_first : {S : Type 0} {text : Ghosts S} (r : Request S text) (start end : ℕ) (u : Request S text)
+    (advances : Bool) → GoesOnBehind r start end u → FindsSpan r start end
+    → advances ≡ (must_advance_of r && nat_eq start (start_of r)) → (t : Tree) → Whole (words_of (code_of r)) t
+    → (marks : Marks) × (walk (asked_of r) t ≡ match_with start end marks ∷ walk (asked_of u) t)
+    × (found (record (asked_of u) { start = start; must_advance = advances }) t ≡ Some (match_with start end marks))
+gives_first r start end u advances goes finds is t whole =
+    let some = finds.some t whole in (
+      some.0,
+      walks_behind r start end u goes t some.0 some.1,
+      ap (λ a. found a t) (last_same r start end u advances goes)
+          ∙ found_again (asked_of r) t (match_with start end some.0) some.1 advances is,
+    )
+
+pub span_falls : {S : Type 0} {text : Ghosts S} (r : Request S text) (start end : ℕ) (u : Request S text)
+    → GoesOnBehind r start end u → FindsSpan r start end → IsCode (words_of (code_of r))
+    → most_matches (asked_of u) < most_matches (asked_of r)
+span_falls r start end u goes finds tree =
+    let some = finds.some tree.0 tree.1 in falls_behind r start end u goes tree.0 some.0 some.1
+
+-- the answer of a step is what is found
+pub step_answers : {S : Type 0} {text : Ghosts S} (r : Request S text) (b : Bool) (s : Shown) (u : Request S text)
+    → WalksOn r b s u → (b ≡ true → GoesOn r s u) → (t : Tree) → Whole (words_of (code_of r)) t
+    → Answers (stands_in r) (found (asked_of r) t) b s
+step_answers r true s u walks goes t whole =
+    subst (λ o. Answers (stands_in r) o true s)
+    (sym (first_found (asked_of r) t (match_shown s) (walk (asked_of u) t) (walks t whole)))
+    (refl, record { start = refl; at = refl; end = (goes refl).stands; marks = refl })
+step_answers r false s u walks goes t whole =
+    subst (λ o. Answers (stands_in r) o false s) (sym (nothing_left (asked_of r) t (walks t whole))) refl
+
+-- what is asked from another start on
+pub asked_there : {S : Type 0} {text : Ghosts S} (q r : Request S text) (p : ℕ) (advances : Bool)
+    → string_of r ≡ string_of q → start_of r ≡ p → end_of r ≡ end_of q → code_of r ≡ code_of q
+    → match_all_of r ≡ match_all_of q → must_advance_of r ≡ advances → empty_rule_of r ≡ empty_rule_of q
+    → asked_of r ≡ record (asked_of q) { start = p; must_advance = advances }
+asked_there q r p advances string start end code all advance rule =
+    rw (string, start, end, code, all, advance, rule) refl

@@ -1,0 +1,19 @@
+use Rattle.std.proofs.Common.{◌∙◌, sym, subst, arith}
+use Rattle.sre_request.specs.Requests.{string_of, start_of}
+use Rattle.sre_finder.specs.Finders.{EndStands}
+use Rattle.sre_finder.proofs.span_finder.SpanFinder.walk.Goals as goal
+
+pub invariant_of-result : goal.invariant_of-result
+invariant_of-result g c =
+    let asked = c.args.req in
+    let cursor = c.create_cursor-cursor.result in
+    let stands = g.S.StrDrive.stands (string_of asked) in
+    let here = rw (c.string.ensures, c.start.ensures.value) at c.create_cursor-cursor.ensures in
+    let at = (g.met.S.StrDrive.stands_at (string_of asked) cursor (start_of asked) here).0 in
+    record {
+      own = c.reset.ensures.code ∙ c.requires;
+      known = ∣ subst (EndStands stands) (sym c.reset.ensures.end) tt ∣₁;
+      here = ∣ here ∣₁;
+      last = ∣ subst (stands cursor) (sym at) here ∣₁;
+      inside = omega (arith, at, c.start.ensures.value, c.start.ensures.in_window);
+    }

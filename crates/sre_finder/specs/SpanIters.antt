@@ -1,0 +1,69 @@
+-- What a walk over spans shows, and what its next item is.
+-- Words of this crate's contracts.
+use Rattle.std.specs.Prelude.{◌≡◌, ◌+◌, ℕ, Bool, true, false, cond, List, [], ◌∷◌, Option, Some, None, Result, Ok, Err}
+use Rattle.sre_chars.specs.declared.string.StrDrive.{Ghosts}
+use Rattle.sre_model.specs.Tree.{Tree}
+use Rattle.sre_model.specs.Grammar.{Whole}
+use Rattle.sre_model.specs.Marks.{Marks}
+use Rattle.sre_model.specs.Found.{Asked, Match, found, walk}
+use Rattle.sre_model.specs.WalkBounds.{most_matches}
+use Rattle.sre_code.specs.Codes.{words_of}
+use Rattle.sre_request.specs.declared.request.Request.{Request}
+use Rattle.sre_request.specs.Requests.{code_of, asked_of}
+use Rattle.sre_growth.specs.Refusal.{Refused}
+use Rattle.sre_engine.specs.declared.engine.state.SreError.{SreError}
+use Rattle.sre_engine.specs.Answers.{Shown}
+use Rattle.sre_engine.specs.Iterators.{MayTakeMemory}
+use Rattle.sre_finder.specs.declared.span_iter.Span.{Span}
+use Rattle.sre_finder.specs.declared.span_iter.SpanIter.{SpanIter}
+use Rattle.sre_finder.specs.Spans.{match_with, GoesOnBehind}
+
+-- what is asked next, what the state shows, and whether the walk has ended
+abbrev pub request_of : {S A : Type 0} {text : Ghosts S} → SpanIter S A text → Request S text
+request_of it = it.req
+
+abbrev pub shown_of : {S A : Type 0} {text : Ghosts S} → SpanIter S A text → Shown
+shown_of it = it.state
+
+abbrev pub has_ended : {S A : Type 0} {text : Ghosts S} → SpanIter S A text → Bool
+has_ended it = it.ended
+
+-- what is asked at the start of the match that came last
+abbrev pub last_asked : {S A : Type 0} {text : Ghosts S} → SpanIter S A text → Asked
+last_asked it = record (asked_of (request_of it)) { start = it.at.position; must_advance = it.advances }
+
+-- the matches still to come
+abbrev pub left_of : {S A : Type 0} {text : Ghosts S} → SpanIter S A text → Tree → List Match
+left_of it t = cond (has_ended it) [] (walk (asked_of (request_of it)) t)
+
+-- no more items come, an error among them
+abbrev pub most_spans : {S A : Type 0} {text : Ghosts S} → SpanIter S A text → ℕ
+most_spans it = cond (has_ended it) 0 (most_matches (asked_of (request_of it)) + 1)
+
+-- the span comes of the first of the matches that were left, which is found from its start on; and the walk goes on
+-- at its end
+pub record GivesSpan {S A : Type 0} {text : Ghosts S} (it : SpanIter S A text) (span : Span) (next : SpanIter S A text)
+    : Type 0 where
+  pub before : has_ended it ≡ false
+  pub after : has_ended next ≡ false
+  pub first : (t : Tree) → Whole (words_of (code_of (request_of it))) t
+      → (marks : Marks) × (left_of it t ≡ match_with span.start span.end marks ∷ left_of next t)
+      × (found (last_asked next) t ≡ Some (match_with span.start span.end marks))
+  pub request : GoesOnBehind (request_of it) span.start span.end (request_of next)
+
+-- the walk has ended, for good, and the request is as it was
+pub record Ends {S A : Type 0} {text : Ghosts S} (it next : SpanIter S A text) : Type 0 where
+  pub over : has_ended next ≡ true
+  pub request : request_of next ≡ request_of it
+
+-- no match is left
+pub record IsOver {S A : Type 0} {text : Ghosts S} (it : SpanIter S A text) : Type 0 where
+  pub none : (t : Tree) → Whole (words_of (code_of (request_of it))) t → left_of it t ≡ []
+
+-- the next item; an error comes only where a growth was refused, and not after the walk's end
+abbrev pub NextSpan : {S A : Type 0} {text : Ghosts S}
+    → SpanIter S A text → Option (Result Span SreError) → SpanIter S A text → Type 0
+NextSpan it None next = IsOver it × Ends it next
+NextSpan it (Some (Ok span)) next = GivesSpan it span next
+NextSpan it (Some (Err _)) next =
+    (has_ended it ≡ false) × Refused × Ends it next × MayTakeMemory (code_of (request_of it))

@@ -1,0 +1,86 @@
+-- The spans of a walk's matches, and what a finder of spans knows of its code.
+-- Words of this crate's contracts.
+use Rattle.std.specs.Prelude.{◌≡◌, ◌≤◌, ⊤, ℕ, nat_eq, Option, Some, None}
+use Rattle.regex_hir.specs.Re.{Re}
+use Rattle.regex_hir.specs.Matches.{IsMinLen}
+use Rattle.regex_nfa.specs.declared.nfa.Nfa.{Nfa}
+use Rattle.regex_compile.specs.Implements.{Implements}
+use Rattle.sre_chars.specs.declared.string.StrDrive.{Ghosts}
+use Rattle.sre_chars.specs.declared.string.StringCursor.{StringCursor}
+use Rattle.sre_model.specs.Tree.{Tree}
+use Rattle.sre_model.specs.Grammar.{Whole, WholeItems}
+use Rattle.sre_model.specs.Marks.{Marks}
+use Rattle.sre_model.specs.Found.{Match, found}
+use Rattle.sre_code.specs.Codes.{words_of, items_of, uni_of}
+use Rattle.sre_code.specs.declared.code.Code.{Code}
+use Rattle.sre_request.specs.declared.request.Request.{Request}
+use Rattle.sre_request.specs.Requests.{string_of, start_of, end_of, code_of, match_all_of, must_advance_of}
+use Rattle.sre_request.specs.Requests.{empty_rule_of, asked_of, stands_in}
+use Rattle.sre_shape.specs.Exact.{ExactTree}
+use Rattle.sre_patterns.specs.Patterns.{view_of}
+use Rattle.sre_patterns.specs.declared.encoding.Encoding.{Encoding}
+use Rattle.sre_patterns.specs.declared.encoding.Encoding.TheVariants.{Utf8}
+use Rattle.sre_finder.specs.declared.span_finder.Known.{Known}
+use Rattle.sre_finder.specs.declared.span_finder.Known.TheVariants as known
+
+-- automata have the first matches of some pattern, which reads a byte at least and tries the ways of a code's tree in
+-- their order, over texts whose characters are bytes
+pub record Exactly (encoding : Encoding) (code : Code) (nfa : Nfa) : Type 0 where
+  pub pattern : Re
+  pub implements : Implements nfa pattern
+  pub reads : IsMinLen pattern 1
+  pub in_bytes : encoding ≡ Utf8 → ⊥
+  pub exact : (t : Tree) → WholeItems (items_of code) t → ExactTree (view_of encoding) (uni_of code) pattern t
+
+-- the same of automata that there may be
+abbrev pub ExactlyAny : Encoding → Code → Option Nfa → Type 0
+ExactlyAny encoding code None = ⊤
+ExactlyAny encoding code (Some nfa) = Exactly encoding code nfa
+
+abbrev pub match_with : ℕ → ℕ → Marks → Match
+match_with start end marks = record { start = start; end = end; marks = marks }
+
+-- what is asked has a match from one place to another, with some marks
+pub record FindsSpan {S : Type 0} {text : Ghosts S} (r : Request S text) (start end : ℕ) : Type 0 where
+  pub some : (t : Tree) → Whole (words_of (code_of r)) t
+      → (marks : Marks) × (found (asked_of r) t ≡ Some (match_with start end marks))
+
+-- it has none
+pub record FindsNone {S : Type 0} {text : Ghosts S} (r : Request S text) : Type 0 where
+  pub none : (t : Tree) → Whole (words_of (code_of r)) t → found (asked_of r) t ≡ None
+
+-- the match of a request, between two cursors of its window
+pub record Between {S : Type 0} {text : Ghosts S} (r : Request S text) (start end : StringCursor) : Type 0 where
+  pub begins : stands_in r start start.position
+  pub ends : stands_in r end end.position
+  pub from : start_of r ≤ start.position
+  pub forward : start.position ≤ end.position
+  pub inside : end.position ≤ end_of r
+  pub finds : FindsSpan r start.position end.position
+
+-- what automata know of it
+abbrev pub Knows : {S : Type 0} {text : Ghosts S} → Request S text → Known → Type 0
+Knows r known.Nothing = FindsNone r
+Knows r (known.Between start end) = Between r start end
+Knows r known.Unknown = ⊤
+
+-- what is asked after a match that goes from one place to another
+pub record GoesOnBehind {S : Type 0} {text : Ghosts S} (r : Request S text) (start end : ℕ) (u : Request S text)
+    : Type 0 where
+  pub from : start_of r ≤ start
+  pub forward : start ≤ end
+  pub inside : end ≤ end_of r
+  pub start_is : start_of u ≡ end
+  pub must_advance : must_advance_of u ≡ nat_eq end start
+  pub string : string_of u ≡ string_of r
+  pub end_is : end_of u ≡ end_of r
+  pub pattern_codes : code_of u ≡ code_of r
+  pub match_all : match_all_of u ≡ match_all_of r
+  pub empty_rule : empty_rule_of u ≡ empty_rule_of r
+
+-- a step's match goes from a cursor to where the next window starts
+pub record StepsFrom {S : Type 0} {text : Ghosts S} (r : Request S text) (start : StringCursor) (u : Request S text)
+    : Type 0 where
+  pub begins : stands_in r start start.position
+  pub goes_on : GoesOnBehind r start.position (start_of u) u
+  pub finds : FindsSpan r start.position (start_of u)

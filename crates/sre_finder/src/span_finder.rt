@@ -1,0 +1,201 @@
+//! The finder of spans: where order agrees, automata tell where the next match begins and where it ends.
+
+ghost use Rattle.std.specs.Prelude.{◌≡◌, ◌≤◌, IfOk, IfSome, OnErr, true, None};
+ghost use Rattle.sre_growth.specs.Refusal.{Refused};
+ghost use Rattle.sre_code.specs.Codes.{hints_of};
+ghost use Rattle.sre_request.specs.Requests.{string_of, start_of, code_of, stands_in};
+ghost use Rattle.sre_finder.specs.Finders.{EndStands};
+ghost use Rattle.sre_finder.specs.Spans.{ExactlyAny, Knows, Between, StepsFrom, FindsNone};
+
+use crate::finder::{Finder, SIZE_LIMIT};
+use crate::haystack::Haystack;
+use sre_automata::{Automata, FirstMatch};
+use sre_chars::string::{StrDrive, StringCursor};
+use sre_code::Code;
+use sre_engine::engine::{SreError, State, step_by};
+use sre_patterns::{Encoding, ways_of};
+use sre_request::Request;
+use std::alloc::{Allocator, Global};
+use std::marker::Model;
+
+// What automata know of a request's match.
+enum Known {
+    // There is none.
+    Nothing,
+    // It goes from one cursor to another.
+    Between(StringCursor, StringCursor),
+    Unknown,
+}
+
+/// The automata that tell the spans of a code's matches, where such are known; else a finder, which tells where the
+/// next match can begin.
+#[derive(Drop)]
+pub struct SpanFinder<'c> {
+    code: Code<'c>,
+    encoding: Encoding,
+    finder: Finder<'c>,
+    exact: Option<Automata>,
+}
+
+impl<'c> Model for SpanFinder<'c> {
+    ghost use Rattle.std.specs.Prelude.{◌≡◌};
+    ghost use Rattle.sre_finder.specs.Finders.{FinderValue};
+    ghost use Rattle.sre_finder.specs.Spans.{ExactlyAny};
+
+    ghost Value = { FinderValue };
+
+    ghost view = { λ f. record { code = f.code; encoding = f.encoding; end = f.finder.end } };
+
+    ghost invariant = { λ f. (f.finder.code ≡ f.code) × ExactlyAny f.encoding f.code f.exact };
+}
+
+impl<'c> SpanFinder<'c> {
+    /// The finder of a code's spans, for texts that are seen so as bytes: `Encoding::Bytes` for a text of bytes, and
+    /// `Encoding::Ascii` for a `str` that is ASCII up to the end of the window. Of texts that are seen otherwise no
+    /// span is told without the machine.
+    ///
+    /// It never fails: where no automata tell spans it is a [`Finder`] of the code, which may have none either.
+    pub fn new(alloc: Global, code: Code<'c>, encoding: Encoding) -> SpanFinder<'c>
+        ensures code { result.code ≡ code.entry }
+        ensures encoding { result.encoding ≡ encoding }
+        ensures end { result.end ≡ None }
+    {
+        match exact_of(alloc, code, encoding) {
+            Some(exact) => SpanFinder {
+                code,
+                encoding,
+                finder: Finder::without_automata(code, encoding),
+                exact: Some(exact),
+            },
+            None => SpanFinder {
+                code,
+                encoding,
+                finder: Finder::new(alloc, code, encoding),
+                exact: None,
+            },
+        }
+    }
+
+    /// Whether it has automata that tell spans.
+    pub fn tells_spans(&self) -> bool {
+        self.exact.is_some()
+    }
+
+    /// Forgets the text of before.
+    pub fn reset(&mut self)
+        ensures code { self.new.code ≡ self.old.code }
+        ensures encoding { self.new.encoding ≡ self.old.encoding }
+        ensures end { self.new.end ≡ None }
+    {
+        self.finder.reset();
+    }
+}
+
+// The automata of a pattern that tries the ways of a code in their order, where they are worth what they take.
+fn exact_of(alloc: Global, code: Code<'_>, encoding: Encoding) -> Option<Automata>
+    ensures { ExactlyAny encoding code.entry result }
+{
+    if encoding == Encoding::Utf8 || code.hints().prefix.is_some() {
+        return None; // no order is known over UTF-8; the search along a prefix's places is as fast
+    }
+    let Ok(Some(hir)) = ways_of(alloc, &code, encoding) else {
+        return None;
+    };
+    if hir.min_len() == 0 {
+        return None; // an empty match may be barred, and automata do not know that
+    }
+    Automata::new(alloc, &hir, SIZE_LIMIT)
+}
+
+impl<'c> SpanFinder<'c> {
+    // What automata know of the match of a request, from a cursor at its window's start.
+    fn known<S: Haystack>(&mut self, req: &Request<'_, S>, from: StringCursor) -> Known
+        requires own { self.old.code ≡ code_of req.now }
+        requires known { EndStands (S.stands (string_of req.now)) self.old.end }
+        requires stands { stands_in req.now from (start_of req.now) }
+        ensures code { self.new.code ≡ self.old.code }
+        ensures encoding { self.new.encoding ≡ self.old.encoding }
+        ensures known { EndStands (S.stands (string_of req.now)) self.new.end }
+        ensures knows { Knows req.now result }
+    {
+        let _start = req.start(); // it is in the window
+        if self.exact.is_none() || req.match_all() {
+            return Known::Unknown;
+        }
+        let end = self.finder.end_in(req, from);
+        let text = req.string();
+        let Some(hay) = text.hay(self.encoding, end) else {
+            return Known::Unknown;
+        };
+        let Some(exact) = &mut self.exact else {
+            return Known::Unknown;
+        };
+        match exact.first_match(hay, text.place_of(from)) {
+            FirstMatch::Nothing => Known::Nothing,
+            FirstMatch::Between(start, end) => {
+                Known::Between(text.cursor_at_byte(start), text.cursor_at_byte(end))
+            }
+            FirstMatch::Unknown => Known::Unknown,
+        }
+    }
+
+    // A step by the machine, as `step`.
+    fn run<S: Haystack, A: Allocator + Copy>(
+        &mut self,
+        req: &mut Request<'_, S>,
+        state: &mut State<A>,
+        cursor: &mut StringCursor,
+    ) -> Result<Option<StringCursor>, SreError>
+        requires own { self.old.code ≡ code_of req.old }
+        requires known { EndStands (S.stands (string_of req.old)) self.old.end }
+        requires stands { stands_in req.old cursor.old (start_of req.old) }
+        ensures own { self.new.code ≡ code_of req.new }
+        ensures known { EndStands (S.stands (string_of req.new)) self.new.end }
+        ensures some { IfOk result (λ o. IfSome o (λ start. StepsFrom req.old start req.new)) }
+        ensures none { IfOk result (λ o. o ≡ None → (req.new ≡ req.old) × FindsNone req.old) }
+        ensures here { stands_in req.new cursor.new (start_of req.new) }
+        ensures err { OnErr result (req.new ≡ req.old) }
+        ensures refused { OnErr result Refused }
+        ensures literal { (hints_of (code_of req.old)).literal ≡ true → OnErr result ⊥ }
+    {
+        let from = *cursor;
+        if !step_by(req, state, cursor, &mut self.finder)? {
+            return Ok(None);
+        }
+        let mut start = from;
+        req.string()
+            .skip(&mut start, state.start() - from.position());
+        Ok(Some(start))
+    }
+
+    // The next match: a cursor at its start. The other one then stands at its end, where what is asked starts.
+    pub(crate) fn step<S: Haystack, A: Allocator + Copy>(
+        &mut self,
+        req: &mut Request<'_, S>,
+        state: &mut State<A>,
+        cursor: &mut StringCursor,
+    ) -> Result<Option<StringCursor>, SreError>
+        requires own { self.old.code ≡ code_of req.old }
+        requires known { EndStands (S.stands (string_of req.old)) self.old.end }
+        requires stands { stands_in req.old cursor.old (start_of req.old) }
+        ensures own { self.new.code ≡ code_of req.new }
+        ensures known { EndStands (S.stands (string_of req.new)) self.new.end }
+        ensures some { IfOk result (λ o. IfSome o (λ start. StepsFrom req.old start req.new)) }
+        ensures none { IfOk result (λ o. o ≡ None → (req.new ≡ req.old) × FindsNone req.old) }
+        ensures here { stands_in req.new cursor.new (start_of req.new) }
+        ensures err { OnErr result (req.new ≡ req.old) }
+        ensures refused { OnErr result Refused }
+        ensures literal { (hints_of (code_of req.old)).literal ≡ true → OnErr result ⊥ }
+    {
+        match self.known(req, *cursor) {
+            Known::Nothing => Ok(None),
+            Known::Between(start, end) => {
+                *cursor = end;
+                req.set_must_advance(end.position() == start.position());
+                req.set_start(end.position());
+                Ok(Some(start))
+            }
+            Known::Unknown => self.run(req, state, cursor),
+        }
+    }
+}

@@ -1,0 +1,188 @@
+//! The walk over the spans of all matches, one after the other.
+
+ghost use Rattle.std.specs.Prelude.{◌≡◌, ◌≤◌, ◌<◌, ◌&&◌, nat_eq, false, IfOk, IfSome, OnErr};
+ghost use Rattle.sre_growth.specs.Refusal.{Refused};
+ghost use Rattle.sre_model.specs.Tree.{Tree};
+ghost use Rattle.sre_model.specs.Grammar.{Whole};
+ghost use Rattle.sre_model.specs.Marks.{no_marks};
+ghost use Rattle.sre_model.specs.Found.{found};
+ghost use Rattle.sre_code.specs.Codes.{words_of};
+ghost use Rattle.sre_request.specs.Requests.{string_of, start_of, end_of, code_of, stands_in};
+ghost use Rattle.sre_engine.specs.Answers.{Answers};
+ghost use Rattle.sre_finder.specs.Finders.{EndStands};
+
+use crate::haystack::Haystack;
+use crate::span_finder::SpanFinder;
+use sre_chars::string::{StrDrive, StringCursor};
+use sre_engine::engine::{Nobody, SreError, State, step_by};
+use sre_request::Request;
+use std::alloc::Allocator;
+
+/// Where a match starts and ends, in characters.
+#[derive(Clone, Copy, PartialEq, Eq, Debug)]
+pub struct Span {
+    pub start: usize,
+    pub end: usize,
+}
+
+/// The spans of a window's matches, in the order of a `SearchIter`: where automata tell them no machine is run.
+///
+/// The state serves the steps of which automata tell no span, and `show`. What it shows after `next` is left open.
+#[derive(Drop)]
+pub struct SpanIter<'c, 'a, S: StrDrive, A: Allocator + Copy> {
+    finder: SpanFinder<'c>,
+    req: Request<'a, S>,
+    state: State<A>,
+    cursor: StringCursor,
+    // of the match that came last: where it starts, and whether an empty one was barred there
+    at: StringCursor,
+    advances: bool,
+    ended: bool,
+    ghost own: { finder.code ≡ code_of req },
+    ghost known: { ∥ EndStands (S.stands (string_of req)) finder.end ∥₁ },
+    ghost here: { ∥ (stands_in req cursor (start_of req)) ∥₁ },
+    ghost last: { ∥ (stands_in req at at.position) ∥₁ },
+    ghost inside: { at.position ≤ end_of req },
+}
+
+impl<'c> SpanFinder<'c> {
+    ghost use Rattle.sre_request.specs.Requests.{code_of};
+    ghost use Rattle.sre_finder.specs.SpanIters.{request_of, shown_of, has_ended};
+
+    /// The walk over the spans of a request's window. The state shows what it showed until the first item comes.
+    pub fn walk<'a, S: Haystack, A: Allocator + Copy>(
+        self,
+        req: Request<'a, S>,
+        state: State<A>,
+    ) -> SpanIter<'c, 'a, S, A>
+        requires { self.code ≡ code_of req }
+        ensures req { request_of result ≡ req.entry }
+        ensures state { shown_of result ≡ state }
+        ensures open { has_ended result ≡ false }
+    {
+        let mut finder = self;
+        finder.reset();
+        let cursor = req.string().create_cursor(req.start());
+        let advances = req.must_advance();
+        SpanIter {
+            finder,
+            req,
+            state,
+            cursor,
+            at: cursor,
+            advances,
+            ended: false,
+        }
+    }
+}
+
+impl<'c, 'a, S: StrDrive, A: Allocator + Copy> SpanIter<'c, 'a, S, A> {
+    ghost use Rattle.sre_finder.specs.SpanIters.{request_of, shown_of, has_ended, last_asked};
+
+    /// What is asked next: the matches still to come are those of its walk, until the walk has ended.
+    pub fn req(&self) -> &Request<'a, S>
+        ensures { result.now ≡ request_of self.now }
+    {
+        &self.req
+    }
+
+    /// The state, which shows the match that came last behind `show`.
+    pub fn state(&self) -> &State<A>
+        ensures { result.now ≡ shown_of self.now }
+    {
+        &self.state
+    }
+
+    /// Has the state show the match that came last, with its marks, by a run of the machine at its start: whether there
+    /// was one. Behind an item there is. Before the first it searches for that.
+    ///
+    /// # Errors
+    ///
+    /// A growth of the state's memory was refused. Then there are no marks, and the walk goes on all the same.
+    pub fn show(&mut self) -> Result<bool, SreError>
+        ensures shown { (t : Tree) → Whole (words_of (code_of (request_of self.old))) t → IfOk result
+            (λ b. Answers (stands_in (request_of self.old)) (found (last_asked self.old) t) b (shown_of self.new)) }
+        ensures no { IfOk result (λ b. b ≡ false → (shown_of self.new).marks ≡ no_marks) }
+        ensures err { OnErr result ((shown_of self.new).marks ≡ no_marks) }
+        ensures refused { OnErr result Refused }
+        ensures req { request_of self.new ≡ request_of self.old }
+        ensures last { last_asked self.new ≡ last_asked self.old }
+        ensures ended { has_ended self.new ≡ has_ended self.old }
+    {
+        let Ok(mut req) = self.req.clone() else {
+            unreachable!(); // it takes no memory
+        };
+        req.set_must_advance(self.advances);
+        req.set_start(self.at.position());
+        let mut cursor = self.at;
+        let shown = step_by(&mut req, &mut self.state, &mut cursor, &mut Nobody)?;
+        Ok(shown)
+    }
+
+    /// The finder, for another text.
+    pub fn into_finder(self) -> SpanFinder<'c>
+        ensures { result.code ≡ code_of (request_of self.entry) }
+    {
+        let SpanIter { finder, state, .. } = self;
+        drop(state);
+        finder
+    }
+}
+
+// Whether an empty match is barred at a start, where one may be at the window's.
+fn bars(must_advance: bool, start: usize, from: usize) -> bool
+    ensures { result ≡ (must_advance && nat_eq start from) }
+{
+    must_advance && start == from
+}
+
+impl<'c, 'a, S: Haystack, A: Allocator + Copy> SpanIter<'c, 'a, S, A> {
+    ghost use Rattle.sre_finder.specs.SpanIters.{NextSpan, most_spans};
+
+    // The next item.
+    fn next_span(&mut self) -> Option<Result<Span, SreError>>
+        ensures gives { NextSpan self.old result self.new }
+        ensures falls { IfSome result (λ _. most_spans self.new < most_spans self.old) }
+    {
+        if self.ended {
+            return None;
+        }
+        let from = self.req.start();
+        let must_advance = self.req.must_advance();
+        match self
+            .finder
+            .step(&mut self.req, &mut self.state, &mut self.cursor)
+        {
+            Ok(Some(at)) => {
+                self.at = at;
+                let start = at.position();
+                self.advances = bars(must_advance, start, from);
+                let end = self.req.start();
+                Some(Ok(Span { start, end }))
+            }
+            Ok(None) => {
+                self.ended = true;
+                None
+            }
+            Err(error) => {
+                self.ended = true;
+                Some(Err(error))
+            }
+        }
+    }
+}
+
+impl<'c, 'a, S: Haystack, A: Allocator + Copy> Iterator for SpanIter<'c, 'a, S, A> {
+    ghost use Rattle.std.specs.Iterator.{at_most};
+    ghost use Rattle.sre_finder.specs.SpanIters.{NextSpan, most_spans};
+
+    type Item = Result<Span, SreError>;
+
+    ghost next_gives = { NextSpan };
+
+    ghost remaining = { λ it. at_most (most_spans it) };
+
+    fn next(&mut self) -> Option<Result<Span, SreError>> {
+        self.next_span()
+    }
+}
