@@ -1,6 +1,6 @@
 //! How far a recipe goes: the first matches alone, or a number of turns.
 
-ghost use Rattle.std.specs.Prelude.{◌≡◌, ◌<◌, false, None, Some, IfOk, IfSome, OnErr, MatchOption, IsSome};
+ghost use Rattle.std.specs.Prelude.{◌≡◌, ◌<◌, ◌≤◌, false, None, Some, IfOk, IfSome, OnErr, MatchOption, IsSome};
 ghost use Rattle.sre_engine.specs.Requests.{string_of};
 ghost use Rattle.sre_engine.specs.Iterators.{request_of, shown_of, Gives, IsOver, most_items};
 ghost use Rattle.sre_growth.specs.Refusal.{Refused};
@@ -72,6 +72,7 @@ fn next_in_turns<A: Allocator + Copy>(
         Gives walk.old walk.new
         × IsSpan (string_of (request_of walk.old)).now (shown_of walk.new) span.start span.end))) }
     ensures used { IfOk result (λ told. told ≡ None → turns.new ≡ 0) }
+    ensures fewer { turns.new ≤ turns.old }
     ensures refused { OnErr result Refused }
 {
     match walk.next_within(turns) {

@@ -1,6 +1,7 @@
 //! The pieces between matches.
 
-ghost use Rattle.std.specs.Prelude.{◌≡◌, ◌≤◌, ◌++◌, ◌∷◌, [], map, slice_range, IfOk, OnErr};
+ghost use Rattle.std.specs.Prelude.{◌≡◌, ◌≤◌, ◌++◌, ◌∷◌, [], true, false, None, Some, map, slice_range};
+ghost use Rattle.std.specs.Prelude.{IfOk, IfSome, IsSome, OnErr};
 ghost use Rattle.std.specs.Str.{chars};
 ghost use Rattle.sre_chars.specs.Texts.{StandsInText};
 ghost use Rattle.sre_engine.specs.Tree.{Tree};
@@ -11,9 +12,11 @@ ghost use Rattle.sre_engine.specs.Requests.{string_of, start_of, end_of, code_of
 ghost use Rattle.sre_engine.specs.Iterators.{request_of, left_of};
 ghost use Rattle.sre_growth.specs.Refusal.{Refused};
 ghost use Rattle.sre_recipes.specs.Pieces.{pieces_between};
+ghost use Rattle.sre_recipes.specs.Bounded.{first_of, AreLeft};
 
+use crate::bounds::{Bounds, next_bounded};
 use crate::slice::{between, up_to};
-use crate::span::{Span, next_span};
+use crate::span::Span;
 use sre_engine::{Request, SearchIter, SreError, State, StrDrive, StringCursor};
 use std::alloc::Allocator;
 
@@ -41,18 +44,22 @@ fn add_piece<'t, A: Allocator>(
 // Appends the pieces between the matches that are left of a walk.
 fn add_pieces<'t, A: Allocator + Copy>(
     walk: &mut SearchIter<'_, &'t str, A>,
+    bounds: &mut Bounds,
     pieces: &mut Vec<&'t str, A>,
 ) -> Result<(), SreError>
+    requires { bounds.old.used_up ≡ false }
     ensures ok { (t : Tree) → Whole (words_of (code_of (request_of walk.old))) t → IfOk result (λ _.
-        map (λ s. chars s.now) pieces.new.items
+        bounds.new.used_up ≡ false → map (λ s. chars s.now) pieces.new.items
         ≡ map (λ s. chars s.now) pieces.old.items
         ++ pieces_between (chars (string_of (request_of walk.old)).now) (start_of (request_of walk.old))
-        (end_of (request_of walk.old)) (left_of walk.old t)) }
+        (end_of (request_of walk.old)) (first_of bounds.old.most (left_of walk.old t))) }
+    ensures used { IfOk result (λ _. bounds.new.used_up ≡ true → bounds.new.turns ≡ Some 0) }
+    ensures turns { IfOk result (λ _. AreLeft bounds.old.turns bounds.new.turns) }
     ensures refused { OnErr result Refused }
 {
     let (text, stop) = (walk.req().string(), walk.req().end());
     let mut last = text.create_cursor(walk.req().start());
-    'walk: while let Some(span) = next_span(walk)? {
+    'walk: while let Some(span) = next_bounded(walk, bounds)? {
         add_piece(pieces, text, &mut last, &span)?;
     }
     sre_growth::push(pieces, up_to(text, &last, stop))?;
@@ -63,17 +70,21 @@ fn add_pieces<'t, A: Allocator + Copy>(
 fn add_all_pieces<'t, A: Allocator + Copy>(
     alloc: A,
     req: Request<'_, &'t str>,
+    bounds: &mut Bounds,
     pieces: &mut Vec<&'t str, A>,
 ) -> Result<(), SreError>
     ensures ok { (t : Tree) → Whole (words_of (code_of req.entry)) t → IfOk result (λ _.
-        map (λ s. chars s.now) pieces.new.items
+        bounds.new.used_up ≡ false → map (λ s. chars s.now) pieces.new.items
         ≡ map (λ s. chars s.now) pieces.old.items
         ++ pieces_between (chars (string_of req.entry).now) (start_of req.entry) (end_of req.entry)
-        (walk (asked_of req.entry) t)) }
+        (first_of bounds.old.most (walk (asked_of req.entry) t))) }
+    ensures used { IfOk result (λ _. bounds.new.used_up ≡ true → bounds.new.turns ≡ Some 0) }
+    ensures turns { IfOk result (λ _. AreLeft bounds.old.turns bounds.new.turns) }
     ensures refused { OnErr result Refused }
 {
+    bounds.used_up = false;
     let mut walk = SearchIter::new(req, State::new(alloc));
-    add_pieces(&mut walk, pieces)
+    add_pieces(&mut walk, bounds, pieces)
 }
 
 /// The pieces of a window between its matches, as Python's `split` gives them for a pattern without groups: one more
@@ -100,6 +111,45 @@ pub fn split<'t, A: Allocator + Copy>(
     ensures refused { OnErr result Refused }
 {
     let mut pieces = Vec::new(alloc);
-    add_all_pieces(alloc, req, &mut pieces)?;
+    let mut bounds = Bounds::none();
+    add_all_pieces(alloc, req, &mut bounds, &mut pieces)?;
     Ok(pieces)
+}
+
+/// The same within bounds: divided at the first matches alone, so that the last piece is all that is behind them, as
+/// with Python's `maxsplit`; or `None` where the turns were used up before they were known.
+///
+/// ```
+/// // The words of `,`.
+/// let code = Code::check(alloc, &[16, 44, 1], &uni)?;
+/// let whole = Request::new("é,b,c", 0, usize::MAX, code, false);
+/// if let Some(two) = split_bounded(alloc, whole, &mut Bounds::first(1))? {
+///     assert!(two.as_slice() == ["é", "b,c"].as_slice());
+/// }
+/// ```
+///
+/// # Errors
+///
+/// [`SreError::Memory`], where a growth was refused.
+pub fn split_bounded<'t, A: Allocator + Copy>(
+    alloc: A,
+    req: Request<'_, &'t str>,
+    bounds: &mut Bounds,
+) -> Result<Option<Vec<&'t str, A>>, SreError>
+    ensures ok { (t : Tree) → Whole (words_of (code_of req.entry)) t → IfOk result (λ told. IfSome told (λ pieces.
+        map (λ s. chars s.now) pieces.items
+        ≡ pieces_between (chars (string_of req.entry).now) (start_of req.entry) (end_of req.entry)
+        (first_of bounds.old.most (walk (asked_of req.entry) t)))) }
+    ensures used { IfOk result (λ told. told ≡ None → bounds.new.turns ≡ Some 0) }
+    ensures turns { IfOk result (λ _. AreLeft bounds.old.turns bounds.new.turns) }
+    ensures unlimited { bounds.old.turns ≡ None → IfOk result IsSome }
+    ensures refused { OnErr result Refused }
+{
+    let mut pieces = Vec::new(alloc);
+    add_all_pieces(alloc, req, bounds, &mut pieces)?;
+    if bounds.used_up {
+        Ok(None)
+    } else {
+        Ok(Some(pieces))
+    }
 }

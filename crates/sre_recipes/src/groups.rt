@@ -15,7 +15,7 @@ ghost use Rattle.sre_engine.specs.Iterators.{request_of, left_of};
 ghost use Rattle.sre_growth.specs.Refusal.{Refused};
 ghost use Rattle.sre_recipes.specs.Slices.{captured};
 ghost use Rattle.sre_recipes.specs.Captured.{group_shown, captures_shown};
-ghost use Rattle.sre_recipes.specs.Bounded.{first_of};
+ghost use Rattle.sre_recipes.specs.Bounded.{first_of, AreLeft};
 
 use crate::bounds::{Bounds, next_bounded};
 use crate::find::{match_text, search_text};
@@ -160,7 +160,7 @@ fn add_each<'t, A: Allocator + Copy>(
         ++ map (captured (chars (string_of (request_of walk.old)).now))
         (first_of bounds.old.most (left_of walk.old t))) }
     ensures used { IfOk result (λ _. bounds.new.used_up ≡ true → bounds.new.turns ≡ Some 0) }
-    ensures unlimited { bounds.old.turns ≡ None → IfOk result (λ _. bounds.new.turns ≡ None) }
+    ensures turns { IfOk result (λ _. AreLeft bounds.old.turns bounds.new.turns) }
     ensures refused { OnErr result Refused }
 {
     let text = walk.req().string();
@@ -182,7 +182,7 @@ fn add_all_captures<'t, A: Allocator + Copy>(
         ≡ map captures_shown all.old.items
         ++ map (captured (chars (string_of req.entry).now)) (first_of bounds.old.most (walk (asked_of req.entry) t))) }
     ensures used { IfOk result (λ _. bounds.new.used_up ≡ true → bounds.new.turns ≡ Some 0) }
-    ensures unlimited { bounds.old.turns ≡ None → IfOk result (λ _. bounds.new.turns ≡ None) }
+    ensures turns { IfOk result (λ _. AreLeft bounds.old.turns bounds.new.turns) }
     ensures refused { OnErr result Refused }
 {
     bounds.used_up = false;
@@ -233,6 +233,7 @@ pub fn captures_bounded<'t, A: Allocator + Copy>(
         map captures_shown all.items
         ≡ map (captured (chars (string_of req.entry).now)) (first_of bounds.old.most (walk (asked_of req.entry) t)))) }
     ensures used { IfOk result (λ told. told ≡ None → bounds.new.turns ≡ Some 0) }
+    ensures turns { IfOk result (λ _. AreLeft bounds.old.turns bounds.new.turns) }
     ensures unlimited { bounds.old.turns ≡ None → IfOk result IsSome }
     ensures refused { OnErr result Refused }
 {

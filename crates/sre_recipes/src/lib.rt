@@ -28,9 +28,9 @@ mod slice;
 mod span;
 
 pub use bounds::Bounds;
-pub use divide::split;
-pub use find::{find_all, full_match, is_match, match_text, search_text};
+pub use divide::{split, split_bounded};
+pub use find::{find_all, find_bounded, full_match, is_match, match_text, search_text};
 pub use groups::{Captures, all_captures, captures_bounded, match_captures, search_captures};
 pub use lexer::{Token, Tokens, tokens_of};
-pub use replace::{Piece, replace_all};
+pub use replace::{Piece, replace_all, replace_bounded};
 pub use slice::{group_text, matched_text};
