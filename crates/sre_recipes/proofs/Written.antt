@@ -1,10 +1,10 @@
 -- What a step over a match adds to pieces, to tokens and to a text.
-use Rattle.std.proofs.Common.{◌≡◌, ℕ, List, [], ◌∷◌, ◌++◌, map, ap, sym, ◌∙◌, append_assoc, ◌+◌, arith}
+use Rattle.std.proofs.Common.{◌≡◌, ℕ, List, [], ◌∷◌, ◌++◌, Option, Some, map, refl, ap, sym, ◌∙◌, append_assoc, ◌+◌, arith}
 use Rattle.std.proofs.lemmas.List.{append-nil, map-append}
 use Rattle.std.proofs.lemmas.List.FromFn.{map-range_with_len_more}
 use Rattle.std.specs.List.{slice_range, range_with_len}
 use Rattle.sre_engine.specs.Found.{Match}
-use Rattle.sre_recipes.specs.Pieces.{pieces_between}
+use Rattle.sre_recipes.specs.Pieces.{pieces_between, first_groups, pieces_and_groups}
 use Rattle.sre_recipes.specs.Templates.{replaced}
 use Rattle.sre_recipes.specs.Lexed.{Lexeme, reached, lexeme_of}
 use Rattle.sre_recipes.specs.Adjoining.{adjoining, unless_empty}
@@ -16,14 +16,14 @@ pub listed_step : {X : Type 0} (f : Match → X) (xs ys : List X) (m : Match) (l
 listed_step f xs ys m left ms all step is kept =
     rw is (append_assoc xs (f m ∷ []) (map f ms) ∙ ap (λ l. xs ++ map f l) (sym step) ∙ kept)
 
--- one more of what a function gives at each number
-pub counted_step : {X : Type 0} (f : ℕ → X) (old xs ys : List X) (n : ℕ) → ys ≡ xs ++ f n ∷ []
-    → xs ≡ old ++ map f (range_with_len 0 n) → ys ≡ old ++ map f (range_with_len 0 (n + 1))
-counted_step f old xs ys n is so_far =
+-- one more of what a function gives at each number from one on
+pub counted_step : {X : Type 0} (f : ℕ → X) (old xs ys : List X) (a n : ℕ) → ys ≡ xs ++ f (a + n) ∷ []
+    → xs ≡ old ++ map f (range_with_len a n) → ys ≡ old ++ map f (range_with_len a (n + 1))
+counted_step f old xs ys a n is so_far =
     is
-    ∙ ap (λ l. l ++ f n ∷ []) so_far
-    ∙ append_assoc old (map f (range_with_len 0 n)) (f n ∷ [])
-    ∙ ap (λ l. old ++ l) (sym (map-range_with_len_more f 0 n n (omega arith)))
+    ∙ ap (λ l. l ++ f (a + n) ∷ []) so_far
+    ∙ append_assoc old (map f (range_with_len a n)) (f (a + n) ∷ [])
+    ∙ ap (λ l. old ++ l) (sym (map-range_with_len_more f a n (a + n) refl))
 
 -- the piece before a match
 pub pieces_step : (text : List ℕ) (xs ys : List (List ℕ)) (m : Match) (left ms : List Match) (p q stop : ℕ)
@@ -42,6 +42,30 @@ pub pieces_end : (text : List ℕ) (xs ys : List (List ℕ)) (left : List Match)
     → xs ++ pieces_between text p stop left ≡ all → ys ≡ all
 pieces_end text xs ys left p stop all step is kept =
     is ∙ ap (λ l. xs ++ pieces_between text p stop l) (sym step) ∙ kept
+
+-- the piece before a match, and its groups
+pub groups_step : (text : List ℕ) (several : ℕ) (xs ys : List (Option (List ℕ))) (m : Match) (left ms : List Match)
+    (p q stop : ℕ) (all : List (Option (List ℕ)))
+    → left ≡ m ∷ ms → q ≡ m.end
+    → ys ≡ (xs ++ Some (slice_range text p m.start) ∷ []) ++ first_groups text several m
+    → xs ++ pieces_and_groups text several p stop left ≡ all → ys ++ pieces_and_groups text several q stop ms ≡ all
+groups_step text several xs ys m left ms p q stop all step to is kept =
+    let piece = Some (slice_range text p m.start) in
+    let groups = first_groups text several m in
+    let rest = pieces_and_groups text several m.end stop ms in
+    rw (to, is)
+    (append_assoc (xs ++ piece ∷ []) groups rest
+    ∙ append_assoc xs (piece ∷ []) (groups ++ rest)
+    ∙ ap (λ l. xs ++ pieces_and_groups text several p stop l) (sym step)
+    ∙ kept)
+
+-- and the piece behind the last one
+pub groups_end : (text : List ℕ) (several : ℕ) (xs ys : List (Option (List ℕ))) (left : List Match) (p stop : ℕ)
+    (all : List (Option (List ℕ)))
+    → left ≡ [] → ys ≡ xs ++ Some (slice_range text p stop) ∷ []
+    → xs ++ pieces_and_groups text several p stop left ≡ all → ys ≡ all
+groups_end text several xs ys left p stop all step is kept =
+    is ∙ ap (λ l. xs ++ pieces_and_groups text several p stop l) (sym step) ∙ kept
 
 -- what is written up to a match, and in its place
 pub replaced_step : (text : List ℕ) (new : Match → List ℕ) (before after : List ℕ) (m : Match) (left ms : List Match)

@@ -1,7 +1,8 @@
 //! A match with its groups, by their numbers.
 
-ghost use Rattle.std.specs.Prelude.{◌≡◌, ◌++◌, ◌∷◌, [], true, false, None, Some, length, map, slice_index_or};
+ghost use Rattle.std.specs.Prelude.{◌≡◌, ◌≤◌, ◌+◌, ◌^◌, ◌++◌, ◌∷◌, [], true, false, None, Some, length, map, slice_index_or};
 ghost use Rattle.std.specs.Prelude.{IfOk, IfSome, OnErr, IsSome};
+ghost use Rattle.std.specs.List.{range_with_len};
 ghost use Rattle.std.specs.Option.{option_map};
 ghost use Rattle.std.specs.Str.{chars};
 ghost use Rattle.sre_chars.specs.Texts.{StandsInText};
@@ -13,7 +14,7 @@ ghost use Rattle.sre_engine.specs.Requests.{string_of, code_of, asked_of};
 ghost use Rattle.sre_engine.specs.Walks.{match_shown};
 ghost use Rattle.sre_engine.specs.Iterators.{request_of, left_of};
 ghost use Rattle.sre_growth.specs.Refusal.{Refused};
-ghost use Rattle.sre_recipes.specs.Slices.{captured};
+ghost use Rattle.sre_recipes.specs.Slices.{numbered_group, captured};
 ghost use Rattle.sre_recipes.specs.Captured.{group_shown, captures_shown};
 ghost use Rattle.sre_recipes.specs.Bounded.{first_of, AreLeft};
 
@@ -51,22 +52,24 @@ impl<'t, A: Allocator> Captures<'t, A> {
     }
 }
 
-// Appends the match that a state shows, and its groups.
-fn add_groups<'t, A: Allocator + Copy>(
+// Appends the texts of so many groups of the match that a state shows, from a number on.
+pub(crate) fn add_groups<'t, A: Allocator + Copy>(
     groups: &mut Vec<Option<&'t str>, A>,
     text: &'t str,
     state: &State<A>,
+    first: usize,
+    several: usize,
 ) -> Result<(), SreError>
-    requires { StandsInText text.now state.now.cursor state.now.cursor.position }
-    ensures ok { IfOk result (λ _. map group_shown groups.new.items
-        ≡ map group_shown groups.old.items ++ captured (chars text.now) (match_shown state.now)) }
+    requires stands { StandsInText text.now state.now.cursor state.now.cursor.position }
+    requires numbers { first + several ≤ 2 ^ 64 }
+    ensures ok { IfOk result (λ _. map group_shown groups.new.items ≡ map group_shown groups.old.items
+        ++ map (numbered_group (chars text.now) (match_shown state.now)) (range_with_len first several)) }
     ensures refused { OnErr result Refused }
 {
-    let several = state.marks().raw().len() / 2 + 1;
-    let mut number = 0;
-    'group: while number < several {
-        sre_growth::push(groups, group_text(text, state, number))?;
-        number += 1;
+    let mut count = 0;
+    'group: while count < several {
+        sre_growth::push(groups, group_text(text, state, first + count))?;
+        count += 1;
     }
     Ok(())
 }
@@ -82,7 +85,8 @@ fn shown_captures<'t, A: Allocator + Copy>(
     ensures refused { OnErr result Refused }
 {
     let mut groups = Vec::new(alloc);
-    add_groups(&mut groups, text, state)?;
+    let several = state.marks().raw().len() / 2 + 1;
+    add_groups(&mut groups, text, state, 0, several)?;
     Ok(Captures { groups })
 }
 

@@ -28,7 +28,7 @@ mod slice;
 mod span;
 
 pub use bounds::Bounds;
-pub use divide::{split, split_bounded};
+pub use divide::{split, split_bounded, split_groups, split_groups_bounded};
 pub use find::{find_all, find_bounded, full_match, is_match, match_text, search_text};
 pub use groups::{Captures, all_captures, captures_bounded, match_captures, search_captures};
 pub use lexer::{Token, Tokens, tokens_of};
