@@ -1,11 +1,12 @@
 -- What a step over a match adds to pieces, to tokens and to a text.
-use Rattle.std.proofs.Common.{◌≡◌, ℕ, List, [], ◌∷◌, ◌++◌, Option, Some, map, refl, ap, sym, ◌∙◌, append_assoc, ◌+◌, arith}
+use Rattle.std.proofs.Common.{◌≡◌, ℕ, List, [], ◌∷◌, ◌++◌, Option, Some, map, refl, ap, sym, ◌∙◌, subst, append_assoc, ◌+◌, arith}
 use Rattle.std.proofs.lemmas.List.{append-nil, map-append}
 use Rattle.std.proofs.lemmas.List.FromFn.{map-range_with_len_more}
 use Rattle.std.specs.List.{slice_range, range_with_len}
 use Rattle.sre_engine.specs.Found.{Match}
 use Rattle.sre_recipes.specs.Pieces.{pieces_between, first_groups, pieces_and_groups}
 use Rattle.sre_recipes.specs.Templates.{replaced}
+use Rattle.sre_recipes.specs.Computed.{ReplacedInTurn}
 use Rattle.sre_recipes.specs.Lexed.{Lexeme, reached, lexeme_of}
 use Rattle.sre_recipes.specs.Adjoining.{adjoining, unless_empty}
 use Rattle.sre_recipes.proofs.Adjoining.{adjoining_step, reached_step}
@@ -89,6 +90,46 @@ pub replaced_end : (text : List ℕ) (new : Match → List ℕ) (before after : 
     → after ≡ all
 replaced_end text new before after left p stop all step is kept =
     is ∙ ap (λ l. before ++ replaced text new p stop l) (sym step) ∙ kept
+
+-- what is written up to a match, and what a function gives in its place
+pub computed_step : {F : Type 0} (Puts : F → Match → List ℕ → F → Type 0) (text : List ℕ) (f h first : F)
+    (before after old new : List ℕ) (m : Match) (left ms all : List Match) (p q from stop : ℕ)
+    → left ≡ m ∷ ms → q ≡ m.end → after ≡ (before ++ slice_range text p m.start) ++ new → Puts f m new h
+    → ((rest : List ℕ) → ReplacedInTurn Puts text f p stop left rest
+    → (x : List ℕ) × (before ++ rest ≡ old ++ x) × ReplacedInTurn Puts text first from stop all x)
+    → (rest : List ℕ) → ReplacedInTurn Puts text h q stop ms rest
+    → (x : List ℕ) × (after ++ rest ≡ old ++ x) × ReplacedInTurn Puts text first from stop all x
+computed_step Puts text f h first before after old new m left ms all p q from stop step to is puts kept = λ rest then.
+    let piece = slice_range text p m.start in
+    let on : ReplacedInTurn Puts text h m.end stop ms rest =
+    subst (λ (e : ℕ). ReplacedInTurn Puts text h e stop ms rest) to then in
+    let here : ReplacedInTurn Puts text f p stop left (piece ++ (new ++ rest)) =
+    subst (λ (l : List Match). ReplacedInTurn Puts text f p stop l (piece ++ (new ++ rest))) (sym step)
+    (new, h, rest, puts, on, refl) in
+    let told = kept (piece ++ (new ++ rest)) here in (
+      told.0,
+      ap (λ l. l ++ rest) is
+          ∙ append_assoc (before ++ piece) new rest
+          ∙ append_assoc before piece (new ++ rest)
+          ∙ told.1,
+      told.2,
+    )
+
+-- and what is written behind the last one
+pub computed_end : {F : Type 0} (Puts : F → Match → List ℕ → F → Type 0) (text : List ℕ) (f first : F)
+    (before after old : List ℕ) (left all : List Match) (p from stop : ℕ)
+    → left ≡ [] → after ≡ before ++ slice_range text p stop
+    → ((rest : List ℕ) → ReplacedInTurn Puts text f p stop left rest
+    → (x : List ℕ) × (before ++ rest ≡ old ++ x) × ReplacedInTurn Puts text first from stop all x)
+    → (x : List ℕ) × (after ≡ old ++ x) × ReplacedInTurn Puts text first from stop all x
+computed_end Puts text f first before after old left all p from stop none is kept =
+    let rest = slice_range text p stop in
+    let told = kept rest
+    (subst (λ (l : List Match). ReplacedInTurn Puts text f p stop l rest) (sym none) refl) in (
+      told.0,
+      is ∙ told.1,
+      told.2,
+    )
 
 -- a match that adjoins, unless it is empty
 pub tokens_step : (text : List ℕ) (xs ys : List Lexeme) (m : Match) (left ms : List Match) (p q : ℕ)

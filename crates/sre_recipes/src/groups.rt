@@ -26,6 +26,7 @@ use std::alloc::Allocator;
 
 /// A match and its groups as Python counts them: number 0 is the match, number 1 the first group.
 #[derive(Drop)]
+#[derive_where(Debug)]
 pub struct Captures<'t, A: Allocator> {
     /// The text of each, up to the last group that took part; `None` where one before it took none.
     pub groups: Vec<Option<&'t str>, A>,
@@ -75,7 +76,7 @@ pub(crate) fn add_groups<'t, A: Allocator + Copy>(
 }
 
 // The match that a state shows, with its groups.
-fn shown_captures<'t, A: Allocator + Copy>(
+pub(crate) fn shown_captures<'t, A: Allocator + Copy>(
     alloc: A,
     text: &'t str,
     state: &State<A>,

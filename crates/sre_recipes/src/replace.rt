@@ -24,7 +24,7 @@ use sre_engine::{Request, SearchIter, SreError, State, StrDrive, StringCursor};
 use std::alloc::Allocator;
 
 /// A piece of a template: what it writes in place of a match.
-#[derive(Clone, Copy)]
+#[derive(Clone, Copy, PartialEq, Eq, Debug)]
 pub enum Piece<'a> {
     /// A text as it stands.
     Text(&'a str),
@@ -47,7 +47,7 @@ fn append_bytes<A: Allocator>(output: &mut Vec<u8, A>, bytes: &[u8]) -> Result<(
 }
 
 // Appends a text to a text.
-fn append<A: Allocator>(output: &mut Vec<u8, A>, text: &str) -> Result<(), SreError>
+pub(crate) fn append<A: Allocator>(output: &mut Vec<u8, A>, text: &str) -> Result<(), SreError>
     requires { IsUtf8 output.old.items }
     ensures ok { IfOk result (λ _. chars output.new.items ≡ chars output.old.items ++ chars text.now) }
     ensures utf8 { IfOk result (λ _. IsUtf8 output.new.items) }
