@@ -12,7 +12,7 @@ use sre_engine::{SearchIter, SreError};
 use std::alloc::Allocator;
 
 /// How far a recipe goes.
-#[derive(Clone, Copy)]
+#[derive(Clone, Copy, PartialEq, Eq, Debug)]
 pub struct Bounds {
     /// How many matches are wanted at most; `None`: all of them. Each that is taken counts it down.
     pub most: Option<usize>,
