@@ -1,17 +1,20 @@
 #!/usr/bin/env python3
-"""Runs the callers that README.md, docs/CALLING.md and docs/DEPENDING.md show, as a reader who copies them would.
+"""Runs the callers that README.md, docs/CALLING.md, docs/DEPENDING.md and the pages of examples show, as a reader who
+copies them would.
 
-    callers.py [NAME ..]     those of these names; with no name all of them
+    callers.py [--prove] [NAME ..]     those of these names; with no name all of them
 
 `strangers` is a service that bounds what each request may take; `settings`, `pairs` and `finds` make calls without. A
 caller is a whole program: a block of Rust that begins with its head comment. In front of it the page names it, and what
-it lists in `crates.txt`. The other blocks of Rust of a section are one caller, too, by the section's name, as
-`Recipes`: their functions and lines are put into a program with a table, a code for `(\\w+)=(\\d+)`, an allocator, a
-text and an error type. Each is put beside the crates of a copy of the repository, where `rt try` builds and runs it,
-and proves nothing. Where the page shows what that writes, it has to write the same. The status is 1 where it does not,
-or does not end well, or where no caller has a name.
+it lists in `crates.txt`; behind it stands what it writes, and what it reads where the page hands it lines. The other
+blocks of Rust of a section are one caller, too, by the section's name, as `Recipes`: their functions and lines are put
+into a program with a table, a code for `(\\w+)=(\\d+)`, an allocator, a text and an error type. Each is put beside
+the crates of a copy of the repository, where `rt try` builds and runs it, and proves nothing; with --prove `rt run`
+proves it first. Where the page shows what that writes, it has to write the same. The status is 1 where it does not, or
+does not end well, or where no caller has a name.
 """
 import difflib
+import glob
 import os
 import re
 import shutil
@@ -20,7 +23,8 @@ import sys
 import tempfile
 
 ROOT = os.path.dirname(os.path.dirname(os.path.realpath(__file__)))
-PAGES = ("README.md", "docs/CALLING.md", "docs/DEPENDING.md")
+EXAMPLES = sorted(os.path.relpath(it, ROOT) for it in glob.glob(f"{ROOT}/examples/*.md"))
+PAGES = ("README.md", "docs/CALLING.md", "docs/DEPENDING.md", *EXAMPLES)
 
 # A line of crates.txt as a page gives it, by itself or in a sentence.
 LISTED = re.compile(r"(?:^|(?<=`))(\w+):\s+(sre_\w+(?:\s+\w+)*)(?=$|`)", re.M)
@@ -77,10 +81,11 @@ EMITS = """
 
 
 class Caller:
-    """A program of a page: its name, what it lists, its source, and the lines that it is said to write."""
+    """A program of a page: its name, what it lists, its source, and the lines that it reads and is said to write."""
 
-    def __init__(self, name, listed, source, written):
-        self.name, self.listed, self.source, self.written = name, listed, source, written
+    def __init__(self, name, listed, source, written, read=""):
+        self.name, self.listed, self.source = name, " ".join(listed.split()), source
+        self.written, self.read = written, read
 
 
 def used_names(uses):
@@ -119,14 +124,14 @@ def callers_of(page):
         if language != "rust" or not source.startswith("//!"):
             continue
         name, listed = LISTED.findall(text[:start])[-1]
-        command = f"$ cd crates/{name} && rt try\n"
-        shown = [it.removeprefix(command) for _, _, it in blocks if it.startswith(command)]
-        yield Caller(name, listed, source, shown[0] if shown else None)
+        command = re.compile(rf"\$ cd crates/{name} && rt try(?: <<'END'\n(.*?)^END)?\n(.*)", re.S | re.M)
+        shown = [it for it in (command.fullmatch(block) for _, _, block in blocks) if it]
+        yield Caller(name, listed, source, shown[0][2] if shown else None, shown[0][1] or "" if shown else "")
     for start, end, section in sections_of(text):
         inside = [it for it in blocks if start < it[0] < end]
         parts = [it for _, language, it in inside if language == "rust" and not it.startswith("//!")]
         if parts:
-            listed = " ".join(LISTED.findall(text[start:end])[-1][1].split())
+            listed = LISTED.findall(text[start:end])[-1][1]
             shown = [it for _, language, it in inside if not language]
             yield Caller(section, listed, framed(parts, listed), "".join(shown) or None)
 
@@ -145,9 +150,10 @@ def put(caller, folder):
     return f"{folder}/crates/{name}"
 
 
-def answers(caller, folder):
+def answers(caller, folder, command):
     """Runs a caller in a copy of the repository, and says whether it writes what it should."""
-    ran = subprocess.run(["rt", "try"], cwd=put(caller, folder), capture_output=True, text=True, encoding="utf-8")
+    ran = subprocess.run(["rt", command], cwd=put(caller, folder), input=caller.read, capture_output=True, text=True,
+                         encoding="utf-8")
     if ran.returncode:
         print(f"{caller.name}: status {ran.returncode}\n{ran.stdout}{ran.stderr}", end="")
         return False
@@ -160,6 +166,9 @@ def answers(caller, folder):
 
 
 def main(names):
+    command = "try"
+    if names[:1] == ["--prove"]:
+        command, names = "run", names[1:]
     found = {it.name: it for page in PAGES for it in callers_of(page)}
     if not set(names) <= set(found):
         print(__doc__.strip())
@@ -167,7 +176,7 @@ def main(names):
     with tempfile.TemporaryDirectory() as folder:
         shutil.copytree(f"{ROOT}/crates", f"{folder}/crates", ignore=shutil.ignore_patterns("out"))
         shutil.copy(f"{ROOT}/crates.txt", folder)
-        told = [answers(found[it], folder) for it in names or found]
+        told = [answers(found[it], folder, command) for it in names or found]
     return 0 if all(told) else 1
 
 

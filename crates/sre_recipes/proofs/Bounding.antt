@@ -1,9 +1,10 @@
 -- What bounds leave of a walk.
-use Rattle.std.proofs.Common.{◌≡◌, ◌<◌, ◌+◌, ◌-◌, ℕ, zero, suc, List, [], ◌∷◌, Bool, true, false, take, Option, Some, None}
+use Rattle.std.proofs.Common.{◌≡◌, ◌<◌, ◌≤◌, ◌+◌, ◌-◌, ℕ, zero, suc, List, [], ◌∷◌, Bool, true, false, take, Option, Some, None}
 use Rattle.std.proofs.Common.{refl, sym, ap, ◌∙◌, subst, arith, cond, inl, inr}
 use Rattle.std.proofs.lemmas.Bool.{eqb-true}
 use Rattle.sre_chars.specs.declared.string.StrDrive.{Ghosts}
 use Rattle.sre_engine.specs.Tree.{Tree}
+use Rattle.sre_engine.specs.Grammar.{Whole}
 use Rattle.sre_engine.specs.Found.{Asked, Match, found, asked_after, walk}
 use Rattle.sre_model.specs.WalkBounds.{most_matches}
 use Rattle.sre_model.proofs.FoundLaws.{Either, either}
@@ -16,8 +17,21 @@ use Rattle.sre_engine.specs.Iterators.{request_of, shown_of, left_of, most_items
 use Rattle.sre_engine.proofs.Walking.{asked_next}
 use Rattle.sre_engine.specs.declared.engine.search_iter.SearchIter.{SearchIter}
 use Rattle.sre_recipes.specs.declared.bounds.Bounds.{Bounds}
-use Rattle.sre_recipes.specs.Bounded.{first_of}
+use Rattle.sre_recipes.specs.Bounded.{first_of, AreLeft}
+use Rattle.sre_recipes.proofs.Steps.{walk_step}
 use Rattle.sre_recipes.specs.Limits.{is_spent, one_less, Goes, Ends, Takes, Stops}
+
+-- all turns are left of themselves
+pub left_all : (turns : Option ℕ) → AreLeft turns turns
+left_all None = refl
+left_all (Some n) = omega arith
+
+-- and what is left of those that are left is left of the first
+pub left_on : (given between left : Option ℕ) → AreLeft given between → AreLeft between left → AreLeft given left
+left_on None between left first then = subst (λ (turns : Option ℕ). AreLeft turns left) first then
+left_on (Some g) None left first then = absurd first
+left_on (Some g) (Some b) None first then = then
+left_on (Some g) (Some b) (Some l) first then = omega (arith, first, then)
 
 -- where no match is wanted any more, none is left
 pub spent_none : (most : Option ℕ) (ms : List Match) → is_spent most ≡ true → first_of most ms ≡ []
@@ -75,7 +89,7 @@ pub stops_spent : {S A : Type 0} {text : Ghosts S} (it : SearchIter S A text) (b
 stops_spent it bounds spent going = record {
   none = λ _ t _. spent_none bounds.most (left_of it t) spent;
   used = λ used. absurd (cc);
-  unlimited = λ free. free;
+  turns = left_all bounds.turns;
 }
 
 -- nor where a step ends it
@@ -84,7 +98,7 @@ pub stops_ended : {S A : Type 0} {text : Ghosts S} (it : SearchIter S A text) (b
 stops_ended it before after ends = record {
   none = λ going t tree. ap (first_of before.most) ((ends.over going).none t tree) ∙ none_first before.most;
   used = ends.used;
-  unlimited = ends.unlimited;
+  turns = ends.turns;
 }
 
 -- and a match that comes is taken
@@ -96,14 +110,21 @@ takes_one before between after wanted goes most used turns = record {
       one_taken before.most m ms wanted
       ∙ ap (λ (n : Option ℕ). m ∷ first_of n ms) (sym (most ∙ ap one_less goes.most));
   going = used ∙ goes.going;
-  unlimited = λ free. turns ∙ goes.unlimited free;
+  turns = subst (AreLeft before.turns) (sym turns) goes.turns;
 }
 
--- turns that are not bounded are not used up
-pub never_used : (bounds : Bounds) → bounds.turns ≡ None → (bounds.used_up ≡ true → bounds.turns ≡ Some 0)
-    → bounds.used_up ≡ false
-never_used bounds free used = by_used bounds.used_up refl
-  where
-    by_used : (b : Bool) → bounds.used_up ≡ b → bounds.used_up ≡ false
-    by_used true e = absurd (cc (used e, free))
-    by_used false e = e
+-- a match comes off what is wanted of a walk whose words are still those that were asked for
+pub taken_step : {S A : Type 0} {text : Ghosts S} (it next : SearchIter S A text) (before after : Bounds)
+    (words : List ℕ) (t : Tree)
+    → Gives it next → Takes before after → words_of (code_of (request_of it)) ≡ words → Whole words t
+    → first_of before.most (left_of it t) ≡ match_shown (shown_of next) ∷ first_of after.most (left_of next t)
+taken_step it next before after words t gives takes same whole =
+    ap (first_of before.most) (walk_step it next words t gives same whole)
+    ∙ takes.one (match_shown (shown_of next)) (left_of next t)
+
+-- and none is left
+pub stopped : {S A : Type 0} {text : Ghosts S} (it : SearchIter S A text) (before after : Bounds) (words : List ℕ)
+    (t : Tree)
+    → Stops it before after → after.used_up ≡ false → words_of (code_of (request_of it)) ≡ words → Whole words t
+    → first_of before.most (left_of it t) ≡ []
+stopped it before after words t stops going same whole = stops.none going t (subst (λ ws. Whole ws t) (sym same) whole)

@@ -3,3 +3,4 @@ pub mod Steps
 pub mod Adjoining
 pub mod Written
 pub mod Bounding
+pub mod Begun

@@ -11,7 +11,7 @@ use Rattle.sre_engine.specs.Codes.{words_of}
 use Rattle.sre_engine.specs.Requests.{string_of, start_of, end_of, code_of}
 use Rattle.sre_engine.specs.Answers.{Shown}
 use Rattle.sre_engine.specs.Walks.{match_shown}
-use Rattle.sre_engine.specs.Iterators.{request_of, shown_of, left_of, Gives, IsOver}
+use Rattle.sre_engine.specs.Iterators.{request_of, shown_of, left_of, Gives}
 use Rattle.sre_engine.specs.declared.engine.search_iter.SearchIter.{SearchIter}
 use Rattle.sre_recipes.specs.Slices.{slice_of}
 use Rattle.sre_recipes.specs.Spans.{IsSpan}
@@ -21,11 +21,6 @@ pub walk_step : {S A : Type 0} {text : Ghosts S} (it next : SearchIter S A text)
     → Gives it next → words_of (code_of (request_of it)) ≡ words → Whole words t
     → left_of it t ≡ match_shown (shown_of next) ∷ left_of next t
 walk_step it next words t gives same whole = gives.first t (subst (λ ws. Whole ws t) (sym same) whole)
-
--- and none is left
-pub walk_over : {S A : Type 0} {text : Ghosts S} (it : SearchIter S A text) (words : List ℕ) (t : Tree)
-    → IsOver it → words_of (code_of (request_of it)) ≡ words → Whole words t → left_of it t ≡ []
-walk_over it words t over same whole = over.none t (subst (λ ws. Whole ws t) (sym same) whole)
 
 -- what stays in a walk over a text
 pub record Kept {A : Type 0} {text : Ghosts (Bor (List ℕ))} (it : SearchIter (Bor (List ℕ)) A text)

@@ -3,6 +3,7 @@ pub mod Captured
 pub mod Bounded
 pub mod Pieces
 pub mod Templates
+pub mod Computed
 pub mod Lexed
 pub mod Spans
 pub mod Limits

@@ -9,7 +9,7 @@ use Rattle.sre_engine.specs.Requests.{code_of}
 use Rattle.sre_engine.specs.Iterators.{request_of, left_of, IsOver}
 use Rattle.sre_engine.specs.declared.engine.search_iter.SearchIter.{SearchIter}
 use Rattle.sre_recipes.specs.declared.bounds.Bounds.{Bounds}
-use Rattle.sre_recipes.specs.Bounded.{first_of}
+use Rattle.sre_recipes.specs.Bounded.{first_of, AreLeft}
 
 -- whether no match is wanted any more, and how many are once one was taken
 abbrev pub is_spent : Option ℕ → Bool
@@ -24,23 +24,23 @@ one_less (Some n) = Some (n - 1)
 pub record Goes (before after : Bounds) : Type 0 where
   pub most : after.most ≡ before.most
   pub going : after.used_up ≡ false
-  pub unlimited : before.turns ≡ None → after.turns ≡ None
+  pub turns : AreLeft before.turns after.turns
 
 -- or none is left, unless the turns were used up
 pub record Ends {S A : Type 0} {text : Ghosts S} (it : SearchIter S A text) (before after : Bounds) : Type 0 where
   pub over : after.used_up ≡ false → IsOver it
   pub used : after.used_up ≡ true → after.turns ≡ Some 0
-  pub unlimited : before.turns ≡ None → after.turns ≡ None
+  pub turns : AreLeft before.turns after.turns
 
 -- a match was taken within bounds
 pub record Takes (before after : Bounds) : Type 0 where
   pub one : (m : Match) (ms : List Match) → first_of before.most (m ∷ ms) ≡ m ∷ first_of after.most ms
   pub going : after.used_up ≡ false
-  pub unlimited : before.turns ≡ None → after.turns ≡ None
+  pub turns : AreLeft before.turns after.turns
 
 -- no match is left within bounds, unless the turns were used up
 pub record Stops {S A : Type 0} {text : Ghosts S} (it : SearchIter S A text) (before after : Bounds) : Type 0 where
   pub none : after.used_up ≡ false → (t : Tree) → Whole (words_of (code_of (request_of it))) t
       → first_of before.most (left_of it t) ≡ []
   pub used : after.used_up ≡ true → after.turns ≡ Some 0
-  pub unlimited : before.turns ≡ None → after.turns ≡ None
+  pub turns : AreLeft before.turns after.turns

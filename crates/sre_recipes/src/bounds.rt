@@ -1,6 +1,6 @@
 //! How far a recipe goes: the first matches alone, or a number of turns.
 
-ghost use Rattle.std.specs.Prelude.{◌≡◌, ◌<◌, false, None, Some, IfOk, IfSome, OnErr, MatchOption, IsSome};
+ghost use Rattle.std.specs.Prelude.{◌≡◌, ◌<◌, ◌≤◌, false, None, Some, IfOk, IfSome, OnErr, MatchOption, IsSome};
 ghost use Rattle.sre_engine.specs.Requests.{string_of};
 ghost use Rattle.sre_engine.specs.Iterators.{request_of, shown_of, Gives, IsOver, most_items};
 ghost use Rattle.sre_growth.specs.Refusal.{Refused};
@@ -12,7 +12,7 @@ use sre_engine::{SearchIter, SreError};
 use std::alloc::Allocator;
 
 /// How far a recipe goes.
-#[derive(Clone, Copy)]
+#[derive(Clone, Copy, PartialEq, Eq, Debug)]
 pub struct Bounds {
     /// How many matches are wanted at most; `None`: all of them. Each that is taken counts it down.
     pub most: Option<usize>,
@@ -23,7 +23,8 @@ pub struct Bounds {
 }
 
 impl Bounds {
-    /// The first matches alone, as Python's `count` and `maxsplit` bound them; 0 means none.
+    /// The first matches alone, as a `count` or `maxsplit` above 0 bounds them in Python. **0 means none** here, and all
+    /// there.
     pub fn first(most: usize) -> Bounds
         ensures most { result.most ≡ Some most }
         ensures turns { result.turns ≡ None }
@@ -72,6 +73,7 @@ fn next_in_turns<A: Allocator + Copy>(
         Gives walk.old walk.new
         × IsSpan (string_of (request_of walk.old)).now (shown_of walk.new) span.start span.end))) }
     ensures used { IfOk result (λ told. told ≡ None → turns.new ≡ 0) }
+    ensures fewer { turns.new ≤ turns.old }
     ensures refused { OnErr result Refused }
 {
     match walk.next_within(turns) {

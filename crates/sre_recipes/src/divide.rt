@@ -1,6 +1,7 @@
 //! The pieces between matches.
 
-ghost use Rattle.std.specs.Prelude.{◌≡◌, ◌≤◌, ◌++◌, ◌∷◌, [], map, slice_range, IfOk, OnErr};
+ghost use Rattle.std.specs.Prelude.{◌≡◌, ◌≤◌, ◌++◌, ◌∷◌, [], true, false, None, Some, map, slice_range};
+ghost use Rattle.std.specs.Prelude.{IfOk, IfSome, IsSome, OnErr};
 ghost use Rattle.std.specs.Str.{chars};
 ghost use Rattle.sre_chars.specs.Texts.{StandsInText};
 ghost use Rattle.sre_engine.specs.Tree.{Tree};
@@ -8,12 +9,18 @@ ghost use Rattle.sre_engine.specs.Grammar.{Whole};
 ghost use Rattle.sre_engine.specs.Found.{walk};
 ghost use Rattle.sre_engine.specs.Codes.{words_of};
 ghost use Rattle.sre_engine.specs.Requests.{string_of, start_of, end_of, code_of, asked_of};
+ghost use Rattle.sre_engine.specs.Walks.{match_shown};
 ghost use Rattle.sre_engine.specs.Iterators.{request_of, left_of};
 ghost use Rattle.sre_growth.specs.Refusal.{Refused};
-ghost use Rattle.sre_recipes.specs.Pieces.{pieces_between};
+ghost use Rattle.sre_recipes.specs.Captured.{group_shown};
+ghost use Rattle.sre_recipes.specs.Spans.{IsSpan};
+ghost use Rattle.sre_recipes.specs.Pieces.{pieces_between, first_groups, pieces_and_groups};
+ghost use Rattle.sre_recipes.specs.Bounded.{first_of, AreLeft};
 
+use crate::bounds::{Bounds, next_bounded};
+use crate::groups::add_groups;
 use crate::slice::{between, up_to};
-use crate::span::{Span, next_span};
+use crate::span::Span;
 use sre_engine::{Request, SearchIter, SreError, State, StrDrive, StringCursor};
 use std::alloc::Allocator;
 
@@ -41,18 +48,22 @@ fn add_piece<'t, A: Allocator>(
 // Appends the pieces between the matches that are left of a walk.
 fn add_pieces<'t, A: Allocator + Copy>(
     walk: &mut SearchIter<'_, &'t str, A>,
+    bounds: &mut Bounds,
     pieces: &mut Vec<&'t str, A>,
 ) -> Result<(), SreError>
+    requires { bounds.old.used_up ≡ false }
     ensures ok { (t : Tree) → Whole (words_of (code_of (request_of walk.old))) t → IfOk result (λ _.
-        map (λ s. chars s.now) pieces.new.items
+        bounds.new.used_up ≡ false → map (λ s. chars s.now) pieces.new.items
         ≡ map (λ s. chars s.now) pieces.old.items
         ++ pieces_between (chars (string_of (request_of walk.old)).now) (start_of (request_of walk.old))
-        (end_of (request_of walk.old)) (left_of walk.old t)) }
+        (end_of (request_of walk.old)) (first_of bounds.old.most (left_of walk.old t))) }
+    ensures used { IfOk result (λ _. bounds.new.used_up ≡ true → bounds.new.turns ≡ Some 0) }
+    ensures turns { IfOk result (λ _. AreLeft bounds.old.turns bounds.new.turns) }
     ensures refused { OnErr result Refused }
 {
     let (text, stop) = (walk.req().string(), walk.req().end());
     let mut last = text.create_cursor(walk.req().start());
-    'walk: while let Some(span) = next_span(walk)? {
+    'walk: while let Some(span) = next_bounded(walk, bounds)? {
         add_piece(pieces, text, &mut last, &span)?;
     }
     sre_growth::push(pieces, up_to(text, &last, stop))?;
@@ -63,17 +74,21 @@ fn add_pieces<'t, A: Allocator + Copy>(
 fn add_all_pieces<'t, A: Allocator + Copy>(
     alloc: A,
     req: Request<'_, &'t str>,
+    bounds: &mut Bounds,
     pieces: &mut Vec<&'t str, A>,
 ) -> Result<(), SreError>
     ensures ok { (t : Tree) → Whole (words_of (code_of req.entry)) t → IfOk result (λ _.
-        map (λ s. chars s.now) pieces.new.items
+        bounds.new.used_up ≡ false → map (λ s. chars s.now) pieces.new.items
         ≡ map (λ s. chars s.now) pieces.old.items
         ++ pieces_between (chars (string_of req.entry).now) (start_of req.entry) (end_of req.entry)
-        (walk (asked_of req.entry) t)) }
+        (first_of bounds.old.most (walk (asked_of req.entry) t))) }
+    ensures used { IfOk result (λ _. bounds.new.used_up ≡ true → bounds.new.turns ≡ Some 0) }
+    ensures turns { IfOk result (λ _. AreLeft bounds.old.turns bounds.new.turns) }
     ensures refused { OnErr result Refused }
 {
+    bounds.used_up = false;
     let mut walk = SearchIter::new(req, State::new(alloc));
-    add_pieces(&mut walk, pieces)
+    add_pieces(&mut walk, bounds, pieces)
 }
 
 /// The pieces of a window between its matches, as Python's `split` gives them for a pattern without groups: one more
@@ -100,6 +115,178 @@ pub fn split<'t, A: Allocator + Copy>(
     ensures refused { OnErr result Refused }
 {
     let mut pieces = Vec::new(alloc);
-    add_all_pieces(alloc, req, &mut pieces)?;
+    let mut bounds = Bounds::none();
+    add_all_pieces(alloc, req, &mut bounds, &mut pieces)?;
     Ok(pieces)
+}
+
+/// The same within bounds: divided at the first matches alone, so that the last piece is all that is behind them, as
+/// with Python's `maxsplit`; or `None` where the turns were used up before they were known.
+///
+/// ```
+/// // The words of `,`.
+/// let code = Code::check(alloc, &[16, 44, 1], &uni)?;
+/// let whole = Request::new("é,b,c", 0, usize::MAX, code, false);
+/// if let Some(two) = split_bounded(alloc, whole, &mut Bounds::first(1))? {
+///     assert!(two.as_slice() == ["é", "b,c"].as_slice());
+/// }
+/// ```
+///
+/// # Errors
+///
+/// [`SreError::Memory`], where a growth was refused.
+pub fn split_bounded<'t, A: Allocator + Copy>(
+    alloc: A,
+    req: Request<'_, &'t str>,
+    bounds: &mut Bounds,
+) -> Result<Option<Vec<&'t str, A>>, SreError>
+    ensures ok { (t : Tree) → Whole (words_of (code_of req.entry)) t → IfOk result (λ told. IfSome told (λ pieces.
+        map (λ s. chars s.now) pieces.items
+        ≡ pieces_between (chars (string_of req.entry).now) (start_of req.entry) (end_of req.entry)
+        (first_of bounds.old.most (walk (asked_of req.entry) t)))) }
+    ensures used { IfOk result (λ told. told ≡ None → bounds.new.turns ≡ Some 0) }
+    ensures turns { IfOk result (λ _. AreLeft bounds.old.turns bounds.new.turns) }
+    ensures unlimited { bounds.old.turns ≡ None → IfOk result IsSome }
+    ensures refused { OnErr result Refused }
+{
+    let mut pieces = Vec::new(alloc);
+    add_all_pieces(alloc, req, bounds, &mut pieces)?;
+    if bounds.used_up {
+        Ok(None)
+    } else {
+        Ok(Some(pieces))
+    }
+}
+
+// Appends the piece from a cursor to the match that a state shows, and its groups; the cursor then stands behind it.
+fn add_with_groups<'t, A: Allocator + Copy>(
+    pieces: &mut Vec<Option<&'t str>, A>,
+    text: &'t str,
+    last: &mut StringCursor,
+    state: &State<A>,
+    span: &Span,
+    groups: usize,
+) -> Result<(), SreError>
+    requires last { StandsInText text.now last.old last.old.position }
+    requires forward { last.old.position ≤ state.now.start }
+    requires span { IsSpan text.now state.now span.now.start span.now.end }
+    ensures ok { IfOk result (λ _. map group_shown pieces.new.items ≡ (map group_shown pieces.old.items
+        ++ Some (slice_range (chars text.now) last.old.position state.now.start) ∷ [])
+        ++ first_groups (chars text.now) groups (match_shown state.now)) }
+    ensures last { IfOk result (λ _. last.new ≡ span.now.end) }
+    ensures refused { OnErr result Refused }
+{
+    sre_growth::push(pieces, Some(between(text, last, &span.start)))?;
+    add_groups(pieces, text, state, 1, groups)?;
+    *last = span.end;
+    Ok(())
+}
+
+// Appends the pieces between the matches that are left of a walk, and the groups of these.
+fn add_pieces_and_groups<'t, A: Allocator + Copy>(
+    walk: &mut SearchIter<'_, &'t str, A>,
+    bounds: &mut Bounds,
+    groups: usize,
+    pieces: &mut Vec<Option<&'t str>, A>,
+) -> Result<(), SreError>
+    requires { bounds.old.used_up ≡ false }
+    ensures ok { (t : Tree) → Whole (words_of (code_of (request_of walk.old))) t → IfOk result (λ _.
+        bounds.new.used_up ≡ false → map group_shown pieces.new.items
+        ≡ map group_shown pieces.old.items
+        ++ pieces_and_groups (chars (string_of (request_of walk.old)).now) groups (start_of (request_of walk.old))
+        (end_of (request_of walk.old)) (first_of bounds.old.most (left_of walk.old t))) }
+    ensures used { IfOk result (λ _. bounds.new.used_up ≡ true → bounds.new.turns ≡ Some 0) }
+    ensures turns { IfOk result (λ _. AreLeft bounds.old.turns bounds.new.turns) }
+    ensures refused { OnErr result Refused }
+{
+    let (text, stop) = (walk.req().string(), walk.req().end());
+    let mut last = text.create_cursor(walk.req().start());
+    'walk: while let Some(span) = next_bounded(walk, bounds)? {
+        add_with_groups(pieces, text, &mut last, walk.state(), &span, groups)?;
+    }
+    sre_growth::push(pieces, Some(up_to(text, &last, stop)))?;
+    Ok(())
+}
+
+// Appends the pieces of a window between its matches, and the groups of these.
+fn add_all_with_groups<'t, A: Allocator + Copy>(
+    alloc: A,
+    req: Request<'_, &'t str>,
+    bounds: &mut Bounds,
+    groups: usize,
+    pieces: &mut Vec<Option<&'t str>, A>,
+) -> Result<(), SreError>
+    ensures ok { (t : Tree) → Whole (words_of (code_of req.entry)) t → IfOk result (λ _.
+        bounds.new.used_up ≡ false → map group_shown pieces.new.items
+        ≡ map group_shown pieces.old.items
+        ++ pieces_and_groups (chars (string_of req.entry).now) groups (start_of req.entry) (end_of req.entry)
+        (first_of bounds.old.most (walk (asked_of req.entry) t))) }
+    ensures used { IfOk result (λ _. bounds.new.used_up ≡ true → bounds.new.turns ≡ Some 0) }
+    ensures turns { IfOk result (λ _. AreLeft bounds.old.turns bounds.new.turns) }
+    ensures refused { OnErr result Refused }
+{
+    bounds.used_up = false;
+    let mut walk = SearchIter::new(req, State::new(alloc));
+    add_pieces_and_groups(&mut walk, bounds, groups, pieces)
+}
+
+/// The pieces of a window between its matches and, behind each but the last, the texts of the match's groups, as
+/// Python's `split` gives them for a pattern with groups: `None` for one that took no part. `groups` is how many the
+/// pattern has.
+///
+/// ```
+/// // The words of `(,)|;`.
+/// let words = [7, 9, 17, 0, 16, 44, 17, 1, 15, 7, 5, 16, 59, 15, 2, 0, 1];
+/// let code = Code::check(alloc, &words, &uni)?;
+/// let pieces = split_groups(alloc, Request::new("é,b;c", 0, usize::MAX, code, false), 1)?;
+/// assert!(pieces.as_slice() == [Some("é"), Some(","), Some("b"), None, Some("c")].as_slice());
+/// ```
+///
+/// # Errors
+///
+/// [`SreError::Memory`], where a growth was refused.
+pub fn split_groups<'t, A: Allocator + Copy>(
+    alloc: A,
+    req: Request<'_, &'t str>,
+    groups: usize,
+) -> Result<Vec<Option<&'t str>, A>, SreError>
+    ensures ok { (t : Tree) → Whole (words_of (code_of req.entry)) t → IfOk result (λ pieces.
+        map group_shown pieces.items
+        ≡ pieces_and_groups (chars (string_of req.entry).now) groups (start_of req.entry) (end_of req.entry)
+        (walk (asked_of req.entry) t)) }
+    ensures refused { OnErr result Refused }
+{
+    let mut pieces = Vec::new(alloc);
+    let mut bounds = Bounds::none();
+    add_all_with_groups(alloc, req, &mut bounds, groups, &mut pieces)?;
+    Ok(pieces)
+}
+
+/// The same within bounds, as `split_bounded` does without groups.
+///
+/// # Errors
+///
+/// [`SreError::Memory`], where a growth was refused.
+pub fn split_groups_bounded<'t, A: Allocator + Copy>(
+    alloc: A,
+    req: Request<'_, &'t str>,
+    groups: usize,
+    bounds: &mut Bounds,
+) -> Result<Option<Vec<Option<&'t str>, A>>, SreError>
+    ensures ok { (t : Tree) → Whole (words_of (code_of req.entry)) t → IfOk result (λ told. IfSome told (λ pieces.
+        map group_shown pieces.items
+        ≡ pieces_and_groups (chars (string_of req.entry).now) groups (start_of req.entry) (end_of req.entry)
+        (first_of bounds.old.most (walk (asked_of req.entry) t)))) }
+    ensures used { IfOk result (λ told. told ≡ None → bounds.new.turns ≡ Some 0) }
+    ensures turns { IfOk result (λ _. AreLeft bounds.old.turns bounds.new.turns) }
+    ensures unlimited { bounds.old.turns ≡ None → IfOk result IsSome }
+    ensures refused { OnErr result Refused }
+{
+    let mut pieces = Vec::new(alloc);
+    add_all_with_groups(alloc, req, bounds, groups, &mut pieces)?;
+    if bounds.used_up {
+        Ok(None)
+    } else {
+        Ok(Some(pieces))
+    }
 }

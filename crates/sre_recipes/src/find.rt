@@ -1,6 +1,6 @@
 //! The text of one match, and those of all.
 
-ghost use Rattle.std.specs.Prelude.{◌≡◌, ◌≤◌, ◌++◌, ◌∷◌, [], true, map, slice_range};
+ghost use Rattle.std.specs.Prelude.{◌≡◌, ◌≤◌, ◌++◌, ◌∷◌, [], true, false, None, Some, map, slice_range};
 ghost use Rattle.std.specs.Prelude.{is_some, IsSome, IfSome, IfOk, OnErr};
 ghost use Rattle.std.specs.Str.{chars};
 ghost use Rattle.sre_chars.specs.Texts.{StandsInText};
@@ -13,9 +13,11 @@ ghost use Rattle.sre_engine.specs.Answers.{Answers, Spans};
 ghost use Rattle.sre_engine.specs.Iterators.{request_of, left_of};
 ghost use Rattle.sre_growth.specs.Refusal.{Refused};
 ghost use Rattle.sre_recipes.specs.Slices.{slice_of, to_the_end};
+ghost use Rattle.sre_recipes.specs.Bounded.{first_of, AreLeft};
 
+use crate::bounds::{Bounds, next_bounded};
 use crate::slice::{between, matched_text};
-use crate::span::{Span, next_span};
+use crate::span::Span;
 use sre_engine::{Request, SearchIter, SreError, State, StrDrive};
 use std::alloc::Allocator;
 
@@ -40,16 +42,21 @@ fn add_text<'t, A: Allocator>(
 // Appends the texts of the matches that are left of a walk.
 fn add_texts<'t, A: Allocator + Copy>(
     walk: &mut SearchIter<'_, &'t str, A>,
+    bounds: &mut Bounds,
     all: &mut Vec<&'t str, A>,
 ) -> Result<(), SreError>
+    requires { bounds.old.used_up ≡ false }
     ensures ok { (t : Tree) → Whole (words_of (code_of (request_of walk.old))) t → IfOk result (λ _.
-        map (λ s. chars s.now) all.new.items
+        bounds.new.used_up ≡ false → map (λ s. chars s.now) all.new.items
         ≡ map (λ s. chars s.now) all.old.items
-        ++ map (slice_of (chars (string_of (request_of walk.old)).now)) (left_of walk.old t)) }
+        ++ map (slice_of (chars (string_of (request_of walk.old)).now))
+        (first_of bounds.old.most (left_of walk.old t))) }
+    ensures used { IfOk result (λ _. bounds.new.used_up ≡ true → bounds.new.turns ≡ Some 0) }
+    ensures turns { IfOk result (λ _. AreLeft bounds.old.turns bounds.new.turns) }
     ensures refused { OnErr result Refused }
 {
     let text = walk.req().string();
-    'walk: while let Some(span) = next_span(walk)? {
+    'walk: while let Some(span) = next_bounded(walk, bounds)? {
         add_text(all, text, &span)?;
     }
     Ok(())
@@ -59,16 +66,20 @@ fn add_texts<'t, A: Allocator + Copy>(
 fn add_all_texts<'t, A: Allocator + Copy>(
     alloc: A,
     req: Request<'_, &'t str>,
+    bounds: &mut Bounds,
     all: &mut Vec<&'t str, A>,
 ) -> Result<(), SreError>
     ensures ok { (t : Tree) → Whole (words_of (code_of req.entry)) t → IfOk result (λ _.
-        map (λ s. chars s.now) all.new.items
+        bounds.new.used_up ≡ false → map (λ s. chars s.now) all.new.items
         ≡ map (λ s. chars s.now) all.old.items
-        ++ map (slice_of (chars (string_of req.entry).now)) (walk (asked_of req.entry) t)) }
+        ++ map (slice_of (chars (string_of req.entry).now)) (first_of bounds.old.most (walk (asked_of req.entry) t))) }
+    ensures used { IfOk result (λ _. bounds.new.used_up ≡ true → bounds.new.turns ≡ Some 0) }
+    ensures turns { IfOk result (λ _. AreLeft bounds.old.turns bounds.new.turns) }
     ensures refused { OnErr result Refused }
 {
+    bounds.used_up = false;
     let mut walk = SearchIter::new(req, State::new(alloc));
-    add_texts(&mut walk, all)
+    add_texts(&mut walk, bounds, all)
 }
 
 /// The texts of all matches of a window, in order, as Python's `findall` gives them for a pattern without groups.
@@ -93,8 +104,46 @@ pub fn find_all<'t, A: Allocator + Copy>(
     ensures refused { OnErr result Refused }
 {
     let mut all = Vec::new(alloc);
-    add_all_texts(alloc, req, &mut all)?;
+    let mut bounds = Bounds::none();
+    add_all_texts(alloc, req, &mut bounds, &mut all)?;
     Ok(all)
+}
+
+/// The same within bounds: the texts of the first matches, or `None` where the turns were used up before they were
+/// known.
+///
+/// ```
+/// // The words of `a`.
+/// let code = Code::check(alloc, &[16, 97, 1], &uni)?;
+/// let whole = Request::new("éaba", 0, usize::MAX, code, false);
+/// if let Some(one) = find_bounded(alloc, whole, &mut Bounds::first(1))? {
+///     assert!(one.as_slice() == ["a"].as_slice());
+/// }
+/// ```
+///
+/// # Errors
+///
+/// [`SreError::Memory`], where a growth was refused.
+pub fn find_bounded<'t, A: Allocator + Copy>(
+    alloc: A,
+    req: Request<'_, &'t str>,
+    bounds: &mut Bounds,
+) -> Result<Option<Vec<&'t str, A>>, SreError>
+    ensures ok { (t : Tree) → Whole (words_of (code_of req.entry)) t → IfOk result (λ told. IfSome told (λ all.
+        map (λ s. chars s.now) all.items
+        ≡ map (slice_of (chars (string_of req.entry).now)) (first_of bounds.old.most (walk (asked_of req.entry) t)))) }
+    ensures used { IfOk result (λ told. told ≡ None → bounds.new.turns ≡ Some 0) }
+    ensures turns { IfOk result (λ _. AreLeft bounds.old.turns bounds.new.turns) }
+    ensures unlimited { bounds.old.turns ≡ None → IfOk result IsSome }
+    ensures refused { OnErr result Refused }
+{
+    let mut all = Vec::new(alloc);
+    add_all_texts(alloc, req, bounds, &mut all)?;
+    if bounds.used_up {
+        Ok(None)
+    } else {
+        Ok(Some(all))
+    }
 }
 
 // The text of the match that a state shows, where one was found.

@@ -1,7 +1,8 @@
 //! A match with its groups, by their numbers.
 
-ghost use Rattle.std.specs.Prelude.{◌≡◌, ◌++◌, ◌∷◌, [], true, false, None, Some, length, map, slice_index_or};
+ghost use Rattle.std.specs.Prelude.{◌≡◌, ◌≤◌, ◌+◌, ◌^◌, ◌++◌, ◌∷◌, [], true, false, None, Some, length, map, slice_index_or};
 ghost use Rattle.std.specs.Prelude.{IfOk, IfSome, OnErr, IsSome};
+ghost use Rattle.std.specs.List.{range_with_len};
 ghost use Rattle.std.specs.Option.{option_map};
 ghost use Rattle.std.specs.Str.{chars};
 ghost use Rattle.sre_chars.specs.Texts.{StandsInText};
@@ -13,9 +14,9 @@ ghost use Rattle.sre_engine.specs.Requests.{string_of, code_of, asked_of};
 ghost use Rattle.sre_engine.specs.Walks.{match_shown};
 ghost use Rattle.sre_engine.specs.Iterators.{request_of, left_of};
 ghost use Rattle.sre_growth.specs.Refusal.{Refused};
-ghost use Rattle.sre_recipes.specs.Slices.{captured};
+ghost use Rattle.sre_recipes.specs.Slices.{numbered_group, captured};
 ghost use Rattle.sre_recipes.specs.Captured.{group_shown, captures_shown};
-ghost use Rattle.sre_recipes.specs.Bounded.{first_of};
+ghost use Rattle.sre_recipes.specs.Bounded.{first_of, AreLeft};
 
 use crate::bounds::{Bounds, next_bounded};
 use crate::find::{match_text, search_text};
@@ -25,6 +26,7 @@ use std::alloc::Allocator;
 
 /// A match and its groups as Python counts them: number 0 is the match, number 1 the first group.
 #[derive(Drop)]
+#[derive_where(Debug)]
 pub struct Captures<'t, A: Allocator> {
     /// The text of each, up to the last group that took part; `None` where one before it took none.
     pub groups: Vec<Option<&'t str>, A>,
@@ -51,28 +53,30 @@ impl<'t, A: Allocator> Captures<'t, A> {
     }
 }
 
-// Appends the match that a state shows, and its groups.
-fn add_groups<'t, A: Allocator + Copy>(
+// Appends the texts of so many groups of the match that a state shows, from a number on.
+pub(crate) fn add_groups<'t, A: Allocator + Copy>(
     groups: &mut Vec<Option<&'t str>, A>,
     text: &'t str,
     state: &State<A>,
+    first: usize,
+    several: usize,
 ) -> Result<(), SreError>
-    requires { StandsInText text.now state.now.cursor state.now.cursor.position }
-    ensures ok { IfOk result (λ _. map group_shown groups.new.items
-        ≡ map group_shown groups.old.items ++ captured (chars text.now) (match_shown state.now)) }
+    requires stands { StandsInText text.now state.now.cursor state.now.cursor.position }
+    requires numbers { first + several ≤ 2 ^ 64 }
+    ensures ok { IfOk result (λ _. map group_shown groups.new.items ≡ map group_shown groups.old.items
+        ++ map (numbered_group (chars text.now) (match_shown state.now)) (range_with_len first several)) }
     ensures refused { OnErr result Refused }
 {
-    let several = state.marks().raw().len() / 2 + 1;
-    let mut number = 0;
-    'group: while number < several {
-        sre_growth::push(groups, group_text(text, state, number))?;
-        number += 1;
+    let mut count = 0;
+    'group: while count < several {
+        sre_growth::push(groups, group_text(text, state, first + count))?;
+        count += 1;
     }
     Ok(())
 }
 
 // The match that a state shows, with its groups.
-fn shown_captures<'t, A: Allocator + Copy>(
+pub(crate) fn shown_captures<'t, A: Allocator + Copy>(
     alloc: A,
     text: &'t str,
     state: &State<A>,
@@ -82,7 +86,8 @@ fn shown_captures<'t, A: Allocator + Copy>(
     ensures refused { OnErr result Refused }
 {
     let mut groups = Vec::new(alloc);
-    add_groups(&mut groups, text, state)?;
+    let several = state.marks().raw().len() / 2 + 1;
+    add_groups(&mut groups, text, state, 0, several)?;
     Ok(Captures { groups })
 }
 
@@ -160,7 +165,7 @@ fn add_each<'t, A: Allocator + Copy>(
         ++ map (captured (chars (string_of (request_of walk.old)).now))
         (first_of bounds.old.most (left_of walk.old t))) }
     ensures used { IfOk result (λ _. bounds.new.used_up ≡ true → bounds.new.turns ≡ Some 0) }
-    ensures unlimited { bounds.old.turns ≡ None → IfOk result (λ _. bounds.new.turns ≡ None) }
+    ensures turns { IfOk result (λ _. AreLeft bounds.old.turns bounds.new.turns) }
     ensures refused { OnErr result Refused }
 {
     let text = walk.req().string();
@@ -182,7 +187,7 @@ fn add_all_captures<'t, A: Allocator + Copy>(
         ≡ map captures_shown all.old.items
         ++ map (captured (chars (string_of req.entry).now)) (first_of bounds.old.most (walk (asked_of req.entry) t))) }
     ensures used { IfOk result (λ _. bounds.new.used_up ≡ true → bounds.new.turns ≡ Some 0) }
-    ensures unlimited { bounds.old.turns ≡ None → IfOk result (λ _. bounds.new.turns ≡ None) }
+    ensures turns { IfOk result (λ _. AreLeft bounds.old.turns bounds.new.turns) }
     ensures refused { OnErr result Refused }
 {
     bounds.used_up = false;
@@ -233,6 +238,7 @@ pub fn captures_bounded<'t, A: Allocator + Copy>(
         map captures_shown all.items
         ≡ map (captured (chars (string_of req.entry).now)) (first_of bounds.old.most (walk (asked_of req.entry) t)))) }
     ensures used { IfOk result (λ told. told ≡ None → bounds.new.turns ≡ Some 0) }
+    ensures turns { IfOk result (λ _. AreLeft bounds.old.turns bounds.new.turns) }
     ensures unlimited { bounds.old.turns ≡ None → IfOk result IsSome }
     ensures refused { OnErr result Refused }
 {

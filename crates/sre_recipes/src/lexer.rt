@@ -21,7 +21,7 @@ use sre_engine::{Request, SearchIter, SreError, State, StrDrive, StringCursor};
 use std::alloc::Allocator;
 
 /// A token: the group that was closed last, counted from 1, or -1 where there is none, and its text.
-#[derive(Clone, Copy)]
+#[derive(Clone, Copy, PartialEq, Eq, Debug)]
 pub struct Token<'t> {
     pub kind: isize,
     pub text: &'t str,
@@ -29,6 +29,7 @@ pub struct Token<'t> {
 
 /// The tokens that a window begins with, and a cursor that stands behind the last of them.
 #[derive(Drop)]
+#[derive_where(Debug)]
 pub struct Tokens<'t, A: Allocator> {
     pub tokens: Vec<Token<'t>, A>,
     pub end: StringCursor,

@@ -19,6 +19,7 @@
 #![tactic(auto)]
 
 mod bounds;
+mod compute;
 mod divide;
 mod find;
 mod groups;
@@ -28,9 +29,10 @@ mod slice;
 mod span;
 
 pub use bounds::Bounds;
-pub use divide::split;
-pub use find::{find_all, full_match, is_match, match_text, search_text};
+pub use compute::{replace_with, replace_with_bounded};
+pub use divide::{split, split_bounded, split_groups, split_groups_bounded};
+pub use find::{find_all, find_bounded, full_match, is_match, match_text, search_text};
 pub use groups::{Captures, all_captures, captures_bounded, match_captures, search_captures};
 pub use lexer::{Token, Tokens, tokens_of};
-pub use replace::{Piece, replace_all};
-pub use slice::{group_text, matched_text};
+pub use replace::{Piece, replace_all, replace_bounded};
+pub use slice::{group_text, match_start, matched_text};

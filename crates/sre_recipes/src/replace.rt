@@ -1,6 +1,7 @@
 //! A text with its matches replaced.
 
-ghost use Rattle.std.specs.Prelude.{◌≡◌, ◌≤◌, ◌++◌, slice_range, IfOk, OnErr};
+ghost use Rattle.std.specs.Prelude.{◌≡◌, ◌≤◌, ◌++◌, true, false, None, Some, slice_range};
+ghost use Rattle.std.specs.Prelude.{IfOk, IfSome, IsSome, OnErr};
 ghost use Rattle.std.specs.Str.{chars, IsUtf8};
 ghost use Rattle.std.specs.String.{string_bytes};
 ghost use Rattle.sre_chars.specs.Texts.{StandsInText};
@@ -14,14 +15,16 @@ ghost use Rattle.sre_engine.specs.Iterators.{request_of, left_of};
 ghost use Rattle.sre_growth.specs.Refusal.{Refused};
 ghost use Rattle.sre_recipes.specs.Spans.{IsSpan};
 ghost use Rattle.sre_recipes.specs.Templates.{piece_of, written, replaced};
+ghost use Rattle.sre_recipes.specs.Bounded.{first_of, AreLeft};
 
+use crate::bounds::{Bounds, next_bounded};
 use crate::slice::{between, group_text, up_to};
-use crate::span::{Span, next_span};
+use crate::span::Span;
 use sre_engine::{Request, SearchIter, SreError, State, StrDrive, StringCursor};
 use std::alloc::Allocator;
 
 /// A piece of a template: what it writes in place of a match.
-#[derive(Clone, Copy)]
+#[derive(Clone, Copy, PartialEq, Eq, Debug)]
 pub enum Piece<'a> {
     /// A text as it stands.
     Text(&'a str),
@@ -44,7 +47,7 @@ fn append_bytes<A: Allocator>(output: &mut Vec<u8, A>, bytes: &[u8]) -> Result<(
 }
 
 // Appends a text to a text.
-fn append<A: Allocator>(output: &mut Vec<u8, A>, text: &str) -> Result<(), SreError>
+pub(crate) fn append<A: Allocator>(output: &mut Vec<u8, A>, text: &str) -> Result<(), SreError>
     requires { IsUtf8 output.old.items }
     ensures ok { IfOk result (λ _. chars output.new.items ≡ chars output.old.items ++ chars text.now) }
     ensures utf8 { IfOk result (λ _. IsUtf8 output.new.items) }
@@ -146,22 +149,26 @@ fn append_match<A: Allocator + Copy>(
 // Appends the rest of a window in which each match that is left of a walk is replaced.
 fn append_replaced<A: Allocator + Copy>(
     walk: &mut SearchIter<'_, &str, A>,
+    bounds: &mut Bounds,
     template: &[Piece<'_>],
     output: &mut Vec<u8, A>,
 ) -> Result<(), SreError>
-    requires { IsUtf8 output.old.items }
+    requires going { bounds.old.used_up ≡ false }
+    requires utf8 { IsUtf8 output.old.items }
     ensures ok { (t : Tree) → Whole (words_of (code_of (request_of walk.old))) t → IfOk result (λ _.
-        chars output.new.items
+        bounds.new.used_up ≡ false → chars output.new.items
         ≡ chars output.old.items
         ++ replaced (chars (string_of (request_of walk.old)).now)
         (written (chars (string_of (request_of walk.old)).now) template.now) (start_of (request_of walk.old))
-        (end_of (request_of walk.old)) (left_of walk.old t)) }
+        (end_of (request_of walk.old)) (first_of bounds.old.most (left_of walk.old t))) }
     ensures utf8 { IfOk result (λ _. IsUtf8 output.new.items) }
+    ensures used { IfOk result (λ _. bounds.new.used_up ≡ true → bounds.new.turns ≡ Some 0) }
+    ensures turns { IfOk result (λ _. AreLeft bounds.old.turns bounds.new.turns) }
     ensures refused { OnErr result Refused }
 {
     let (text, stop) = (walk.req().string(), walk.req().end());
     let mut last = text.create_cursor(walk.req().start());
-    'walk: while let Some(span) = next_span(walk)? {
+    'walk: while let Some(span) = next_bounded(walk, bounds)? {
         append_match(output, text, &mut last, walk.state(), &span, template)?;
     }
     append(output, up_to(text, &last, stop))?;
@@ -172,20 +179,44 @@ fn append_replaced<A: Allocator + Copy>(
 fn append_all<A: Allocator + Copy>(
     alloc: A,
     req: Request<'_, &str>,
+    bounds: &mut Bounds,
     template: &[Piece<'_>],
     output: &mut Vec<u8, A>,
 ) -> Result<(), SreError>
     requires { IsUtf8 output.old.items }
     ensures ok { (t : Tree) → Whole (words_of (code_of req.entry)) t → IfOk result (λ _.
-        chars output.new.items
+        bounds.new.used_up ≡ false → chars output.new.items
         ≡ chars output.old.items
         ++ replaced (chars (string_of req.entry).now) (written (chars (string_of req.entry).now) template.now)
-        (start_of req.entry) (end_of req.entry) (walk (asked_of req.entry) t)) }
+        (start_of req.entry) (end_of req.entry) (first_of bounds.old.most (walk (asked_of req.entry) t))) }
     ensures utf8 { IfOk result (λ _. IsUtf8 output.new.items) }
+    ensures used { IfOk result (λ _. bounds.new.used_up ≡ true → bounds.new.turns ≡ Some 0) }
+    ensures turns { IfOk result (λ _. AreLeft bounds.old.turns bounds.new.turns) }
     ensures refused { OnErr result Refused }
 {
+    bounds.used_up = false;
     let mut walk = SearchIter::new(req, State::new(alloc));
-    append_replaced(&mut walk, template, output)
+    append_replaced(&mut walk, bounds, template, output)
+}
+
+// The text of a window in which each match is replaced.
+fn replaced_text<A: Allocator + Copy>(
+    alloc: A,
+    req: Request<'_, &str>,
+    bounds: &mut Bounds,
+    template: &[Piece<'_>],
+) -> Result<String<A>, SreError>
+    ensures ok { (t : Tree) → Whole (words_of (code_of req.entry)) t → IfOk result (λ new.
+        bounds.new.used_up ≡ false → chars (string_bytes new)
+        ≡ replaced (chars (string_of req.entry).now) (written (chars (string_of req.entry).now) template.now)
+        (start_of req.entry) (end_of req.entry) (first_of bounds.old.most (walk (asked_of req.entry) t))) }
+    ensures used { IfOk result (λ _. bounds.new.used_up ≡ true → bounds.new.turns ≡ Some 0) }
+    ensures turns { IfOk result (λ _. AreLeft bounds.old.turns bounds.new.turns) }
+    ensures refused { OnErr result Refused }
+{
+    let mut output = Vec::new(alloc);
+    append_all(alloc, req, bounds, template, &mut output)?;
+    Ok(String::from_utf8(output).unwrap())
 }
 
 /// The text of a window in which each match is replaced by what a template makes of it, as Python's `sub` replaces:
@@ -213,7 +244,44 @@ pub fn replace_all<A: Allocator + Copy>(
         (start_of req.entry) (end_of req.entry) (walk (asked_of req.entry) t)) }
     ensures refused { OnErr result Refused }
 {
-    let mut output = Vec::new(alloc);
-    append_all(alloc, req, template, &mut output)?;
-    Ok(String::from_utf8(output).unwrap())
+    let mut bounds = Bounds::none();
+    replaced_text(alloc, req, &mut bounds, template)
+}
+
+/// The same within bounds: the first matches alone are replaced, as with Python's `count`; or `None` where the turns
+/// were used up before they were known.
+///
+/// ```
+/// // The words of `a`.
+/// let code = Code::check(alloc, &[16, 97, 1], &uni)?;
+/// let whole = Request::new("aéa", 0, usize::MAX, code, false);
+/// if let Some(new) = replace_bounded(alloc, whole, &mut Bounds::first(1), &[Piece::Text("b")])? {
+///     assert!(new.as_str() == "béa");
+/// }
+/// ```
+///
+/// # Errors
+///
+/// [`SreError::Memory`], where a growth was refused.
+pub fn replace_bounded<A: Allocator + Copy>(
+    alloc: A,
+    req: Request<'_, &str>,
+    bounds: &mut Bounds,
+    template: &[Piece<'_>],
+) -> Result<Option<String<A>>, SreError>
+    ensures ok { (t : Tree) → Whole (words_of (code_of req.entry)) t → IfOk result (λ told. IfSome told (λ new.
+        chars (string_bytes new)
+        ≡ replaced (chars (string_of req.entry).now) (written (chars (string_of req.entry).now) template.now)
+        (start_of req.entry) (end_of req.entry) (first_of bounds.old.most (walk (asked_of req.entry) t)))) }
+    ensures used { IfOk result (λ told. told ≡ None → bounds.new.turns ≡ Some 0) }
+    ensures turns { IfOk result (λ _. AreLeft bounds.old.turns bounds.new.turns) }
+    ensures unlimited { bounds.old.turns ≡ None → IfOk result IsSome }
+    ensures refused { OnErr result Refused }
+{
+    let new = replaced_text(alloc, req, bounds, template)?;
+    if bounds.used_up {
+        Ok(None)
+    } else {
+        Ok(Some(new))
+    }
 }

@@ -63,6 +63,25 @@ pub fn matched_text<'t, A: Allocator + Copy>(text: &'t str, state: &State<A>) ->
     between(text, &span.start, &span.end)
 }
 
+/// Where the match that a state shows starts, in a text of any type: `position()` counts characters, and `offset()`
+/// bytes. Where it ends is the state's own `cursor()`.
+///
+/// ```
+/// // The words of `b`, in `éb`.
+/// let start = match_start(text, &state);
+/// assert!(start.position() == 1 && start.offset() == 2);
+/// ```
+pub fn match_start<S: StrDrive, A: Allocator + Copy>(text: S, state: &State<A>) -> StringCursor
+    requires stands { S.stands text state.now.cursor state.now.cursor.position }
+    requires forward { state.now.start ≤ state.now.cursor.position }
+    ensures stands { S.stands text result state.now.start }
+{
+    let mut start = state.cursor();
+    let several = start.position() - state.start();
+    text.back_skip(&mut start, several);
+    start
+}
+
 // The text of the group of marks 2 `group` and 2 `group` + 1, where they are set, in order, in the text.
 fn marked_text<'t, A: Allocator + Copy>(
     text: &'t str,

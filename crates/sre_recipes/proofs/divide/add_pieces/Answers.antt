@@ -7,18 +7,22 @@ use Rattle.sre_engine.specs.Requests.{string_of, start_of, end_of, code_of}
 use Rattle.sre_engine.specs.Iterators.{request_of, shown_of, left_of}
 use Rattle.sre_engine.specs.Walks.{match_shown}
 use Rattle.sre_recipes.specs.Pieces.{pieces_between}
-use Rattle.sre_recipes.proofs.Steps.{walk_step, walk_over, walk_on, kept_on}
+use Rattle.sre_recipes.specs.Bounded.{first_of}
+use Rattle.sre_recipes.proofs.Bounding.{left_on, taken_step, stopped}
+use Rattle.sre_recipes.proofs.Steps.{walk_on, kept_on}
 use Rattle.sre_recipes.proofs.Written.{pieces_step, pieces_end}
 use Rattle.sre_recipes.proofs.divide.add_pieces.Goals as goal
 
 pub walk-preserved : goal.walk-preserved
 walk-preserved g c =
-    let gives = rw c.in-Some.is at c.in_ok-span.ensures.gives in
+    let told = rw c.in-Some.is at c.in_ok-span.ensures.gives in
+    let gives = told.0 in
+    let takes = told.2 in
     let asked = request_of c.args.walk.now in
     let text = chars (string_of asked).now in
     let words = words_of (code_of asked) in
     let before = c.walk.walk in
-    let after = c.next_span.new.walk in
+    let after = c.next_bounded.new.walk in
     let kept = c.walk.invariant.kept in
     let found = match_shown (shown_of after) in
     let start = start_of (request_of before) in
@@ -26,24 +30,31 @@ walk-preserved g c =
     let pieces = map shown c.walk.pieces.items in
     let added : map shown c.add_piece.new.pieces.items ≡ pieces ++ slice_range text start found.start ∷ [] =
     cc
-    (c.in_ok-add_piece.ensures.ok, c.string-text.ensures, c.req.ensures, c.walk.invariant.stands.0, gives.1.from.0) in
+    (c.in_ok-add_piece.ensures.ok, c.string-text.ensures, c.req.ensures, c.walk.invariant.stands.0, told.1.from.0) in
     record {
-      kept = kept_on before after (string_of asked) words (end_of asked) gives.0 kept;
+      kept = kept_on before after (string_of asked) words (end_of asked) gives kept;
       stands =
           walk_on before after (string_of asked) c.add_piece.new.last c.in-Some.span.start c.in-Some.span.end
-          kept.string gives.0 gives.1 c.in_ok-add_piece.ensures.last;
+          kept.string gives told.1 c.in_ok-add_piece.ensures.last;
+      going = takes.going;
+      turns =
+          left_on c.args.bounds.now.turns c.walk.bounds.turns c.next_bounded.new.bounds.turns c.walk.invariant.turns
+          takes.turns;
       left = λ t tree.
-          pieces_step text pieces (map shown c.add_piece.new.pieces.items) found (left_of before t) (left_of after t)
-          start (start_of (request_of after)) (end_of asked)
+          pieces_step text pieces (map shown c.add_piece.new.pieces.items) found
+          (first_of c.walk.bounds.most (left_of before t))
+          (first_of c.next_bounded.new.bounds.most (left_of after t)) start (start_of (request_of after)) (end_of asked)
           (map shown c.args.pieces.now.items
-          ++ pieces_between text (start_of asked) (end_of asked) (left_of c.args.walk.now t))
-          (walk_step before after words t gives.0 kept.words tree) gives.0.request.start added
+          ++ pieces_between text (start_of asked) (end_of asked)
+          (first_of c.args.bounds.now.most (left_of c.args.walk.now t)))
+          (taken_step before after c.walk.bounds c.next_bounded.new.bounds words t gives takes kept.words tree)
+          gives.request.start added
           (c.walk.invariant.left t tree);
     }
 
 pub returns-clause-ok : goal.returns-clause-ok
-returns-clause-ok g c = λ t tree.
-    let over = rw c.in_default.is at c.in_ok-span.ensures.gives in
+returns-clause-ok g c = λ t tree going.
+    let stops = rw c.in_default.is at c.in_ok-span.ensures.gives in
     let asked = request_of c.args.walk.now in
     let text = chars (string_of asked).now in
     let before = c.walk.walk in
@@ -62,8 +73,12 @@ returns-clause-ok g c = λ t tree.
     let added = ap (map shown) c.in_ok-push.ensures.items
     ∙ map-append shown c.walk.pieces.items (c.up_to.result ∷ [])
     ∙ ap (λ (cs : List ℕ). pieces ++ cs ∷ []) cut in
-    pieces_end text pieces (map shown c.push.new.list.items) (left_of before t) start (end_of asked)
+    pieces_end text pieces (map shown c.push.new.list.items) (first_of c.walk.bounds.most (left_of before t)) start
+    (end_of asked)
     (map shown c.args.pieces.now.items
-    ++ pieces_between text (start_of asked) (end_of asked) (left_of c.args.walk.now t))
-    (walk_over before (words_of (code_of asked)) t over c.walk.invariant.kept.words tree) added
+    ++ pieces_between text (start_of asked) (end_of asked)
+    (first_of c.args.bounds.now.most (left_of c.args.walk.now t)))
+    (stopped before c.walk.bounds c.next_bounded.new.bounds (words_of (code_of asked)) t stops going
+    c.walk.invariant.kept.words tree)
+    added
     (c.walk.invariant.left t tree)

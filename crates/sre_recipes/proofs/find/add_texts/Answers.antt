@@ -7,21 +7,25 @@ use Rattle.sre_engine.specs.Iterators.{request_of, shown_of, left_of}
 use Rattle.sre_engine.specs.Walks.{match_shown}
 use Rattle.sre_recipes.specs.Slices.{slice_of}
 use Rattle.sre_recipes.specs.Spans.{IsSpan}
-use Rattle.sre_recipes.proofs.Steps.{walk_step, walk_over, span_slice}
+use Rattle.sre_recipes.specs.Bounded.{first_of}
+use Rattle.sre_recipes.proofs.Bounding.{left_on, taken_step, stopped}
+use Rattle.sre_recipes.proofs.Steps.{span_slice}
 use Rattle.sre_recipes.proofs.Written.{listed_step, none_left}
 use Rattle.sre_recipes.proofs.find.add_texts.Goals as goal
 
 pub walk-preserved : goal.walk-preserved
 walk-preserved g c =
-    let gives = rw c.in-Some.is at c.in_ok-span.ensures.gives in
+    let told = rw c.in-Some.is at c.in_ok-span.ensures.gives in
+    let gives = told.0 in
+    let takes = told.2 in
     let asked = request_of c.args.walk.now in
     let whole = string_of asked in
     let before = c.walk.walk in
-    let after = c.next_span.new.walk in
+    let after = c.next_bounded.new.walk in
     let found = match_shown (shown_of after) in
     let from = c.in-Some.span.start in
     let to = c.in-Some.span.end in
-    let span = subst (λ (x : Bor (List ℕ)). IsSpan x.now (shown_of after) from to) c.walk.invariant.string gives.1 in
+    let span = subst (λ (x : Bor (List ℕ)). IsSpan x.now (shown_of after) from to) c.walk.invariant.string told.1 in
     let shown = λ (s : Bor (List ℕ)). chars s.now in
     let texts = map shown c.walk.all.items in
     let added : map shown c.add_text.new.all.items ≡ texts ++ slice_of (chars whole.now) found ∷ [] =
@@ -30,23 +34,32 @@ walk-preserved g c =
     (c.string-text.ensures ∙ ap string_of c.req.ensures)
     ∙ ap (λ (cs : List ℕ). texts ++ cs ∷ []) (span_slice whole.now (shown_of after) from to span) in
     record {
-      string = gives.0.request.string ∙ c.walk.invariant.string;
-      code = gives.0.request.pattern_codes ∙ c.walk.invariant.code;
+      string = gives.request.string ∙ c.walk.invariant.string;
+      code = gives.request.pattern_codes ∙ c.walk.invariant.code;
+      going = takes.going;
+      turns =
+          left_on c.args.bounds.now.turns c.walk.bounds.turns c.next_bounded.new.bounds.turns c.walk.invariant.turns
+          takes.turns;
       left = λ t tree.
-          listed_step (slice_of (chars whole.now)) texts (map shown c.add_text.new.all.items) found (left_of before t)
-          (left_of after t)
-          (map shown c.args.all.now.items ++ map (slice_of (chars whole.now)) (left_of c.args.walk.now t))
-          (walk_step before after (words_of (code_of asked)) t gives.0 (ap words_of c.walk.invariant.code) tree) added
-          (c.walk.invariant.left t tree);
+          listed_step (slice_of (chars whole.now)) texts (map shown c.add_text.new.all.items) found
+          (first_of c.walk.bounds.most (left_of before t))
+          (first_of c.next_bounded.new.bounds.most (left_of after t))
+          (map shown c.args.all.now.items
+          ++ map (slice_of (chars whole.now)) (first_of c.args.bounds.now.most (left_of c.args.walk.now t)))
+          (taken_step before after c.walk.bounds c.next_bounded.new.bounds (words_of (code_of asked)) t gives takes
+          (ap words_of c.walk.invariant.code) tree)
+          added (c.walk.invariant.left t tree);
     }
 
 pub returns-clause-ok : goal.returns-clause-ok
-returns-clause-ok g c = λ t tree.
-    let over = rw c.in_default.is at c.in_ok-span.ensures.gives in
+returns-clause-ok g c = λ t tree going.
+    let stops = rw c.in_default.is at c.in_ok-span.ensures.gives in
     let asked = request_of c.args.walk.now in
     let slice = slice_of (chars (string_of asked).now) in
     let shown = λ (s : Bor (List ℕ)). chars s.now in
-    none_left slice (map shown c.walk.all.items) (left_of c.walk.walk t)
-    (map shown c.args.all.now.items ++ map slice (left_of c.args.walk.now t))
-    (walk_over c.walk.walk (words_of (code_of asked)) t over (ap words_of c.walk.invariant.code) tree)
+    none_left slice (map shown c.walk.all.items) (first_of c.walk.bounds.most (left_of c.walk.walk t))
+    (map shown c.args.all.now.items
+    ++ map slice (first_of c.args.bounds.now.most (left_of c.args.walk.now t)))
+    (stopped c.walk.walk c.walk.bounds c.next_bounded.new.bounds (words_of (code_of asked)) t stops going
+    (ap words_of c.walk.invariant.code) tree)
     (c.walk.invariant.left t tree)

@@ -9,7 +9,7 @@ use Rattle.sre_engine.specs.Walks.{match_shown}
 use Rattle.sre_recipes.specs.Slices.{captured}
 use Rattle.sre_recipes.specs.Captured.{captures_shown}
 use Rattle.sre_recipes.specs.Bounded.{first_of}
-use Rattle.sre_recipes.proofs.Steps.{walk_step}
+use Rattle.sre_recipes.proofs.Bounding.{left_on, taken_step, stopped}
 use Rattle.sre_recipes.proofs.Written.{listed_step, none_left}
 use Rattle.sre_recipes.proofs.groups.add_each.Goals as goal
 
@@ -34,16 +34,17 @@ walk-preserved g c =
       string = gives.request.string ∙ c.walk.invariant.string;
       code = gives.request.pattern_codes ∙ c.walk.invariant.code;
       going = takes.going;
-      unlimited = λ free. takes.unlimited (c.walk.invariant.unlimited free);
+      turns =
+          left_on c.args.bounds.now.turns c.walk.bounds.turns c.next_bounded.new.bounds.turns c.walk.invariant.turns
+          takes.turns;
       left = λ t tree.
           listed_step shown all (map captures_shown c.add_captures.new.all.items) found
           (first_of c.walk.bounds.most (left_of before t))
           (first_of c.next_bounded.new.bounds.most (left_of after t))
           (map captures_shown c.args.all.now.items
           ++ map shown (first_of c.args.bounds.now.most (left_of c.args.walk.now t)))
-          (ap (first_of c.walk.bounds.most)
-          (walk_step before after (words_of (code_of asked)) t gives (ap words_of c.walk.invariant.code) tree)
-          ∙ takes.one found (left_of after t))
+          (taken_step before after c.walk.bounds c.next_bounded.new.bounds (words_of (code_of asked)) t gives takes
+          (ap words_of c.walk.invariant.code) tree)
           added (c.walk.invariant.left t tree);
     }
 
@@ -55,5 +56,6 @@ returns-clause-ok g c = λ t tree going.
     none_left shown (map captures_shown c.walk.all.items) (first_of c.walk.bounds.most (left_of c.walk.walk t))
     (map captures_shown c.args.all.now.items
     ++ map shown (first_of c.args.bounds.now.most (left_of c.args.walk.now t)))
-    (stops.none going t (subst (λ ws. Whole ws t) (sym (ap words_of c.walk.invariant.code)) tree))
+    (stopped c.walk.walk c.walk.bounds c.next_bounded.new.bounds (words_of (code_of asked)) t stops going
+    (ap words_of c.walk.invariant.code) tree)
     (c.walk.invariant.left t tree)

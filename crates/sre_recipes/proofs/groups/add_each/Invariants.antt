@@ -1,4 +1,4 @@
-use Rattle.std.proofs.Common.{◌≡◌, ◌++◌, map, false, None}
+use Rattle.std.proofs.Common.{◌≡◌, ◌++◌, map, false}
 use Rattle.std.specs.Str.{chars}
 use Rattle.sre_engine.specs.Tree.{Tree}
 use Rattle.sre_engine.specs.Grammar.{Whole}
@@ -7,7 +7,7 @@ use Rattle.sre_engine.specs.Requests.{string_of, code_of}
 use Rattle.sre_engine.specs.Iterators.{request_of, left_of, most_items}
 use Rattle.sre_recipes.specs.Slices.{captured}
 use Rattle.sre_recipes.specs.Captured.{captures_shown}
-use Rattle.sre_recipes.specs.Bounded.{first_of}
+use Rattle.sre_recipes.specs.Bounded.{first_of, AreLeft}
 use Rattle.sre_recipes.proofs.groups.add_each.Given as goal
 
 abbrev pub invariant-walk : goal.invariant-walk
@@ -17,7 +17,7 @@ invariant-walk g l =
       string : string_of (request_of l.walk) ≡ string_of asked;
       code : code_of (request_of l.walk) ≡ code_of asked;
       going : l.bounds.used_up ≡ false;
-      unlimited : l.fn.bounds.turns ≡ None → l.bounds.turns ≡ None;
+      turns : AreLeft l.fn.bounds.turns l.bounds.turns;
       left : (t : Tree) → Whole (words_of (code_of asked)) t
           → map captures_shown l.all.items
           ++ map (captured (chars (string_of asked).now)) (first_of l.bounds.most (left_of l.walk t))

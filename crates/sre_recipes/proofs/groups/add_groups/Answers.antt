@@ -17,14 +17,13 @@ group-preserved g c =
     let found = match_shown c.args.state.now in
     let groups : List (Option (List ℕ)) = map group_shown c.group.groups.items in
     let longer : List (Option (List ℕ)) = map group_shown c.push.new.list.items in
-    let added : longer ≡ groups ++ numbered_group text found c.group.number ∷ [] =
+    let added : longer ≡ groups ++ numbered_group text found (c.args.first + c.group.count) ∷ [] =
     ap (map group_shown) c.in_ok-push.ensures.items
     ∙ map-append group_shown c.group.groups.items (c.group_text.result ∷ [])
     ∙ ap (λ (group : Option (List ℕ)). groups ++ group ∷ []) c.group_text.ensures in
     record {
-      few = one_more c.group.number _ c.group-test.true;
-      size = c.group.invariant.size;
+      few = one_more c.group.count _ c.group-test.true;
       so_far =
           counted_step (numbered_group text found) (map group_shown c.args.groups.now.items) groups longer
-          c.group.number added c.group.invariant.so_far;
+          c.args.first c.group.count added c.group.invariant.so_far;
     }

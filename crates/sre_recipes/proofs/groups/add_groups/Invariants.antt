@@ -1,4 +1,4 @@
-use Rattle.std.proofs.Common.{◌≡◌, ◌≤◌, ◌+◌, ◌-◌, ◌/◌, ◌++◌, map, length}
+use Rattle.std.proofs.Common.{◌≡◌, ◌≤◌, ◌-◌, ◌++◌, map}
 use Rattle.std.specs.Str.{chars}
 use Rattle.std.specs.List.{range_with_len}
 use Rattle.sre_engine.specs.Walks.{match_shown}
@@ -8,12 +8,11 @@ use Rattle.sre_recipes.proofs.groups.add_groups.Given as goal
 
 abbrev pub invariant-group : goal.invariant-group
 invariant-group g l = record {
-  few : l.number ≤ l.several;
-  size : l.several ≡ length l.state.marks.raw / 2 + 1;
+  few : l.count ≤ l.several;
   so_far : map group_shown l.groups.items
       ≡ map group_shown l.fn.groups.items
-      ++ map (numbered_group (chars l.text) (match_shown l.state)) (range_with_len 0 l.number);
+      ++ map (numbered_group (chars l.text) (match_shown l.state)) (range_with_len l.first l.count);
 }
 
 abbrev pub decreases-group : goal.decreases-group
-decreases-group g l = l.several - l.number
+decreases-group g l = l.several - l.count

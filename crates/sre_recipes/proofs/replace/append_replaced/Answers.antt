@@ -6,18 +6,22 @@ use Rattle.sre_engine.specs.Requests.{string_of, start_of, end_of, code_of}
 use Rattle.sre_engine.specs.Iterators.{request_of, shown_of, left_of}
 use Rattle.sre_engine.specs.Walks.{match_shown}
 use Rattle.sre_recipes.specs.Templates.{written, replaced}
-use Rattle.sre_recipes.proofs.Steps.{walk_step, walk_over, walk_on, kept_on}
+use Rattle.sre_recipes.specs.Bounded.{first_of}
+use Rattle.sre_recipes.proofs.Bounding.{left_on, taken_step, stopped}
+use Rattle.sre_recipes.proofs.Steps.{walk_on, kept_on}
 use Rattle.sre_recipes.proofs.Written.{replaced_step, replaced_end}
 use Rattle.sre_recipes.proofs.replace.append_replaced.Goals as goal
 
 pub walk-preserved : goal.walk-preserved
 walk-preserved g c =
-    let gives = rw c.in-Some.is at c.in_ok-span.ensures.gives in
+    let told = rw c.in-Some.is at c.in_ok-span.ensures.gives in
+    let gives = told.0 in
+    let takes = told.2 in
     let asked = request_of c.args.walk.now in
     let text = chars (string_of asked).now in
     let words = words_of (code_of asked) in
     let before = c.walk.walk in
-    let after = c.next_span.new.walk in
+    let after = c.next_bounded.new.walk in
     let kept = c.walk.invariant.kept in
     let found = match_shown (shown_of after) in
     let start = start_of (request_of before) in
@@ -32,23 +36,30 @@ walk-preserved g c =
       c.walk.invariant.stands.0,
     ) in
     record {
-      kept = kept_on before after (string_of asked) words (end_of asked) gives.0 kept;
+      kept = kept_on before after (string_of asked) words (end_of asked) gives kept;
       stands =
           walk_on before after (string_of asked) c.append_match.new.last c.in-Some.span.start c.in-Some.span.end
-          kept.string gives.0 gives.1 c.in_ok-append_match.ensures.last;
+          kept.string gives told.1 c.in_ok-append_match.ensures.last;
+      going = takes.going;
+      turns =
+          left_on c.args.bounds.now.turns c.walk.bounds.turns c.next_bounded.new.bounds.turns c.walk.invariant.turns
+          takes.turns;
       utf8 = c.in_ok-append_match.ensures.utf8;
       left = λ t tree.
-          replaced_step text new output (chars c.append_match.new.output.items) found (left_of before t)
-          (left_of after t) start (start_of (request_of after)) (end_of asked)
+          replaced_step text new output (chars c.append_match.new.output.items) found
+          (first_of c.walk.bounds.most (left_of before t))
+          (first_of c.next_bounded.new.bounds.most (left_of after t)) start (start_of (request_of after)) (end_of asked)
           (chars c.args.output.now.items
-          ++ replaced text new (start_of asked) (end_of asked) (left_of c.args.walk.now t))
-          (walk_step before after words t gives.0 kept.words tree) gives.0.request.start added
+          ++ replaced text new (start_of asked) (end_of asked)
+          (first_of c.args.bounds.now.most (left_of c.args.walk.now t)))
+          (taken_step before after c.walk.bounds c.next_bounded.new.bounds words t gives takes kept.words tree)
+          gives.request.start added
           (c.walk.invariant.left t tree);
     }
 
 pub returns-clause-ok : goal.returns-clause-ok
-returns-clause-ok g c = λ t tree.
-    let over = rw c.in_default.is at c.in_ok-span.ensures.gives in
+returns-clause-ok g c = λ t tree going.
+    let stops = rw c.in_default.is at c.in_ok-span.ensures.gives in
     let asked = request_of c.args.walk.now in
     let text = chars (string_of asked).now in
     let before = c.walk.walk in
@@ -64,7 +75,10 @@ returns-clause-ok g c = λ t tree.
       c.req-2.ensures,
       c.walk.invariant.stands.0,
     ) in
-    replaced_end text new output (chars c.append.new.output.items) (left_of before t) start (end_of asked)
-    (chars c.args.output.now.items ++ replaced text new (start_of asked) (end_of asked) (left_of c.args.walk.now t))
-    (walk_over before (words_of (code_of asked)) t over c.walk.invariant.kept.words tree)
+    replaced_end text new output (chars c.append.new.output.items) (first_of c.walk.bounds.most (left_of before t)) start
+    (end_of asked)
+    (chars c.args.output.now.items
+    ++ replaced text new (start_of asked) (end_of asked) (first_of c.args.bounds.now.most (left_of c.args.walk.now t)))
+    (stopped before c.walk.bounds c.next_bounded.new.bounds (words_of (code_of asked)) t stops going
+    c.walk.invariant.kept.words tree)
     (c.in_ok-append.ensures.ok ∙ ap (λ (cs : List ℕ). output ++ cs) cut) (c.walk.invariant.left t tree)

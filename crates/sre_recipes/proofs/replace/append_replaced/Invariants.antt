@@ -1,4 +1,4 @@
-use Rattle.std.proofs.Common.{◌≡◌, ◌++◌}
+use Rattle.std.proofs.Common.{◌≡◌, ◌++◌, false}
 use Rattle.std.specs.Str.{chars, IsUtf8}
 use Rattle.sre_chars.specs.Texts.{StandsInText}
 use Rattle.sre_engine.specs.Tree.{Tree}
@@ -7,6 +7,7 @@ use Rattle.sre_engine.specs.Codes.{words_of}
 use Rattle.sre_engine.specs.Requests.{string_of, start_of, end_of, code_of}
 use Rattle.sre_engine.specs.Iterators.{request_of, left_of, most_items}
 use Rattle.sre_recipes.specs.Templates.{written, replaced}
+use Rattle.sre_recipes.specs.Bounded.{first_of, AreLeft}
 use Rattle.sre_recipes.proofs.Steps.{Kept}
 use Rattle.sre_recipes.proofs.replace.append_replaced.Given as goal
 
@@ -18,11 +19,15 @@ invariant-walk g l =
       kept : Kept l.walk (string_of asked) (words_of (code_of asked)) (end_of asked);
       stands : StandsInText (string_of asked).now l.last (start_of (request_of l.walk));
       utf8 : IsUtf8 l.output.items;
+      going : l.bounds.used_up ≡ false;
+      turns : AreLeft l.fn.bounds.turns l.bounds.turns;
       left : (t : Tree) → Whole (words_of (code_of asked)) t
           → chars l.output.items
-          ++ replaced text (written text l.template) (start_of (request_of l.walk)) (end_of asked) (left_of l.walk t)
+          ++ replaced text (written text l.template) (start_of (request_of l.walk)) (end_of asked)
+          (first_of l.bounds.most (left_of l.walk t))
           ≡ chars l.fn.output.items
-          ++ replaced text (written text l.template) (start_of asked) (end_of asked) (left_of l.fn.walk t);
+          ++ replaced text (written text l.template) (start_of asked) (end_of asked)
+          (first_of l.fn.bounds.most (left_of l.fn.walk t));
     }
 
 abbrev pub decreases-walk : goal.decreases-walk

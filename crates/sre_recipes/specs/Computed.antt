@@ -1,0 +1,22 @@
+-- A text whose matches are replaced by what a function gives for each.
+-- Of the meaning: what sre_recipes makes public rests on it.
+use denote.Ref.{Bor}
+use Rattle.std.specs.Prelude.{◌≡◌, ℕ, List, [], ◌∷◌, ◌++◌, slice_range, Result, Ok}
+use Rattle.sre_engine.specs.Found.{Match}
+use Rattle.sre_recipes.specs.declared.groups.Captures.{Captures}
+use Rattle.sre_recipes.specs.Slices.{captured}
+use Rattle.sre_recipes.specs.Captured.{captures_shown}
+
+-- a function in a state f, called with the captures of a match, gives these characters, and is then in the state g
+abbrev pub Computes : {A S E F : Type 0} → (F → Bor (Captures A) → Result S E → F → Type 0) → (S → List ℕ) → List ℕ
+    → F → Match → List ℕ → F → Type 0
+Computes {A} {S} step shown text f m new g =
+    (c : Bor (Captures A)) × (r : S) × (captures_shown c.now ≡ captured text m) × step f c (Ok r) g × (new ≡ shown r)
+
+-- the characters up to each match and what is put in its place, one after the other, and those behind the last one
+abbrev pub ReplacedInTurn : {F : Type 0} → (F → Match → List ℕ → F → Type 0) → List ℕ → F → ℕ → ℕ → List Match
+    → List ℕ → Type 0
+ReplacedInTurn Puts text f from to [] all = all ≡ slice_range text from to
+ReplacedInTurn {F} Puts text f from to (m ∷ ms) all =
+    (new : List ℕ) × (g : F) × (rest : List ℕ) × Puts f m new g × ReplacedInTurn Puts text g m.end to ms rest
+    × (all ≡ slice_range text from m.start ++ (new ++ rest))

@@ -1,0 +1,207 @@
+//! A text with its matches replaced by what a function gives for each.
+
+ghost use Rattle.std.specs.Prelude.{◌≡◌, ◌≤◌, ◌++◌, true, false, None, Some, Err, slice_range};
+ghost use Rattle.std.specs.Prelude.{IfOk, IfSome, IsSome, OnErr};
+ghost use Rattle.std.specs.Str.{chars, IsUtf8};
+ghost use Rattle.std.specs.String.{string_bytes};
+ghost use Rattle.sre_chars.specs.Texts.{StandsInText};
+ghost use Rattle.sre_engine.specs.Tree.{Tree};
+ghost use Rattle.sre_engine.specs.Grammar.{Whole};
+ghost use Rattle.sre_engine.specs.Found.{walk};
+ghost use Rattle.sre_engine.specs.Codes.{words_of};
+ghost use Rattle.sre_engine.specs.Requests.{string_of, start_of, end_of, code_of, asked_of};
+ghost use Rattle.sre_engine.specs.Iterators.{request_of, left_of};
+ghost use Rattle.sre_growth.specs.Refusal.{Refused};
+ghost use Rattle.sre_recipes.specs.Computed.{Computes, ReplacedInTurn};
+ghost use Rattle.sre_recipes.specs.Bounded.{first_of, AreLeft};
+
+use crate::bounds::{Bounds, next_bounded};
+use crate::groups::{Captures, shown_captures};
+use crate::replace::append;
+use crate::slice::{between, up_to};
+use crate::span::Span;
+use sre_engine::{Request, SearchIter, SreError, State, StrDrive, StringCursor};
+use std::alloc::{AllocError, Allocator, Global};
+
+// Appends the text from a cursor to a match and what stands in its place; the cursor then stands behind the match.
+fn append_new<A: Allocator>(
+    output: &mut Vec<u8, A>,
+    text: &str,
+    last: &mut StringCursor,
+    span: &Span,
+    new: &str,
+) -> Result<(), SreError>
+    requires last { StandsInText text.now last.old last.old.position }
+    requires start { StandsInText text.now span.now.start span.now.start.position }
+    requires forward { last.old.position ≤ span.now.start.position }
+    requires utf8 { IsUtf8 output.old.items }
+    ensures ok { IfOk result (λ _.
+        chars output.new.items
+        ≡ (chars output.old.items ++ slice_range (chars text.now) last.old.position span.now.start.position)
+        ++ chars new.now) }
+    ensures utf8 { IfOk result (λ _. IsUtf8 output.new.items) }
+    ensures last { IfOk result (λ _. last.new ≡ span.now.end) }
+    ensures refused { OnErr result Refused }
+{
+    append(output, between(text, last, &span.start))?;
+    append(output, new)?;
+    *last = span.end;
+    Ok(())
+}
+
+// Appends the text of a window to an empty one, with what a function gives in the place of each match of a walk.
+fn append_computed<'t, F>(
+    alloc: Global,
+    walk: &mut SearchIter<'_, &'t str, Global>,
+    bounds: &mut Bounds,
+    mut compute: F,
+    output: &mut Vec<u8>,
+) -> Result<(), SreError>
+where
+    F: FnMut(&Captures<'t, Global>) -> Result<String, AllocError>,
+    requires callable { F.IsAlwaysCallable compute }
+    requires going { bounds.old.used_up ≡ false }
+    requires utf8 { IsUtf8 output.old.items }
+    ensures ok { (t : Tree) → Whole (words_of (code_of (request_of walk.old))) t → IfOk result (λ _.
+        bounds.new.used_up ≡ false → (new : _) × (chars output.new.items ≡ chars output.old.items ++ new)
+        × ReplacedInTurn (Computes (λ f c r g. F.step f c r g) (λ r. chars (string_bytes r))
+        (chars (string_of (request_of walk.old)).now))
+        (chars (string_of (request_of walk.old)).now) compute (start_of (request_of walk.old))
+        (end_of (request_of walk.old)) (first_of bounds.old.most (left_of walk.old t)) new) }
+    ensures utf8 { IfOk result (λ _. IsUtf8 output.new.items) }
+    ensures used { IfOk result (λ _. bounds.new.used_up ≡ true → bounds.new.turns ≡ Some 0) }
+    ensures turns { IfOk result (λ _. AreLeft bounds.old.turns bounds.new.turns) }
+    ensures refused { ((f : _) (c : _) (e : _) (g : _) → F.step f c (Err e) g → Refused) → OnErr result Refused }
+{
+    let (text, stop) = (walk.req().string(), walk.req().end());
+    let mut last = text.create_cursor(walk.req().start());
+    'walk: while let Some(span) = next_bounded(walk, bounds)? {
+        let captures = shown_captures(alloc, text, walk.state())?;
+        match compute(&captures) {
+            Ok(new) => append_new(output, text, &mut last, &span, new.as_str())?,
+            Err(_) => return Err(SreError::Memory),
+        }
+    }
+    append(output, up_to(text, &last, stop))?;
+    Ok(())
+}
+
+// Appends the text of a window with what a function gives in the place of each match.
+fn append_all_computed<'t, F>(
+    alloc: Global,
+    req: Request<'_, &'t str>,
+    bounds: &mut Bounds,
+    compute: F,
+    output: &mut Vec<u8>,
+) -> Result<(), SreError>
+where
+    F: FnMut(&Captures<'t, Global>) -> Result<String, AllocError>,
+    requires callable { F.IsAlwaysCallable compute }
+    requires utf8 { IsUtf8 output.old.items }
+    ensures ok { (t : Tree) → Whole (words_of (code_of req.entry)) t → IfOk result (λ _.
+        bounds.new.used_up ≡ false → (new : _) × (chars output.new.items ≡ chars output.old.items ++ new)
+        × ReplacedInTurn
+        (Computes (λ f c r g. F.step f c r g) (λ r. chars (string_bytes r)) (chars (string_of req.entry).now))
+        (chars (string_of req.entry).now) compute (start_of req.entry) (end_of req.entry)
+        (first_of bounds.old.most (walk (asked_of req.entry) t)) new) }
+    ensures utf8 { IfOk result (λ _. IsUtf8 output.new.items) }
+    ensures used { IfOk result (λ _. bounds.new.used_up ≡ true → bounds.new.turns ≡ Some 0) }
+    ensures turns { IfOk result (λ _. AreLeft bounds.old.turns bounds.new.turns) }
+    ensures refused { ((f : _) (c : _) (e : _) (g : _) → F.step f c (Err e) g → Refused) → OnErr result Refused }
+{
+    bounds.used_up = false;
+    let mut walk = SearchIter::new(req, State::new(alloc));
+    append_computed(alloc, &mut walk, bounds, compute, output)?;
+    Ok(())
+}
+
+// The text of a window with what a function gives in the place of each match.
+fn computed_text<'t, F>(
+    alloc: Global,
+    req: Request<'_, &'t str>,
+    bounds: &mut Bounds,
+    compute: F,
+) -> Result<String, SreError>
+where
+    F: FnMut(&Captures<'t, Global>) -> Result<String, AllocError>,
+    requires { F.IsAlwaysCallable compute }
+    ensures ok { (t : Tree) → Whole (words_of (code_of req.entry)) t → IfOk result (λ new.
+        bounds.new.used_up ≡ false → ReplacedInTurn
+        (Computes (λ f c r g. F.step f c r g) (λ r. chars (string_bytes r)) (chars (string_of req.entry).now))
+        (chars (string_of req.entry).now) compute (start_of req.entry) (end_of req.entry)
+        (first_of bounds.old.most (walk (asked_of req.entry) t)) (chars (string_bytes new))) }
+    ensures used { IfOk result (λ _. bounds.new.used_up ≡ true → bounds.new.turns ≡ Some 0) }
+    ensures turns { IfOk result (λ _. AreLeft bounds.old.turns bounds.new.turns) }
+    ensures refused { ((f : _) (c : _) (e : _) (g : _) → F.step f c (Err e) g → Refused) → OnErr result Refused }
+{
+    let mut output = Vec::new(alloc);
+    append_all_computed(alloc, req, bounds, compute, &mut output)?;
+    Ok(String::from_utf8(output).unwrap())
+}
+
+/// The text of a window in which each match is replaced by what a function gives for it, as Python's `sub` replaces by
+/// a function. It is called with the captures of each match in turn, and may change what it holds.
+///
+/// ```
+/// // The words of `a`.
+/// let code = Code::check(alloc, &[16, 97, 1], &uni)?;
+/// let mut several = 0;
+/// let new = replace_with(alloc, Request::new("éaba", 0, usize::MAX, code, false), |found| {
+///     several += 1;
+///     format!(in alloc; "<{several}{}>", found.get(0).unwrap_or_default())
+/// })?;
+/// assert!(new.as_str() == "é<1a>b<2a>");
+/// ```
+///
+/// # Errors
+///
+/// [`SreError::Memory`], where a growth was refused, or the function gave an error.
+pub fn replace_with<'t, F>(
+    alloc: Global,
+    req: Request<'_, &'t str>,
+    compute: F,
+) -> Result<String, SreError>
+where
+    F: FnMut(&Captures<'t, Global>) -> Result<String, AllocError>,
+    requires { F.IsAlwaysCallable compute }
+    ensures ok { (t : Tree) → Whole (words_of (code_of req.entry)) t → IfOk result (λ new. ReplacedInTurn
+        (Computes (λ f c r g. F.step f c r g) (λ r. chars (string_bytes r)) (chars (string_of req.entry).now))
+        (chars (string_of req.entry).now) compute (start_of req.entry) (end_of req.entry)
+        (walk (asked_of req.entry) t) (chars (string_bytes new))) }
+    ensures refused { ((f : _) (c : _) (e : _) (g : _) → F.step f c (Err e) g → Refused) → OnErr result Refused }
+{
+    let mut bounds = Bounds::none();
+    computed_text(alloc, req, &mut bounds, compute)
+}
+
+/// The same within bounds, as `replace_bounded` does by a template.
+///
+/// # Errors
+///
+/// [`SreError::Memory`], where a growth was refused, or the function gave an error.
+pub fn replace_with_bounded<'t, F>(
+    alloc: Global,
+    req: Request<'_, &'t str>,
+    bounds: &mut Bounds,
+    compute: F,
+) -> Result<Option<String>, SreError>
+where
+    F: FnMut(&Captures<'t, Global>) -> Result<String, AllocError>,
+    requires { F.IsAlwaysCallable compute }
+    ensures ok { (t : Tree) → Whole (words_of (code_of req.entry)) t → IfOk result (λ told. IfSome told (λ new.
+        ReplacedInTurn
+        (Computes (λ f c r g. F.step f c r g) (λ r. chars (string_bytes r)) (chars (string_of req.entry).now))
+        (chars (string_of req.entry).now) compute (start_of req.entry) (end_of req.entry)
+        (first_of bounds.old.most (walk (asked_of req.entry) t)) (chars (string_bytes new)))) }
+    ensures used { IfOk result (λ told. told ≡ None → bounds.new.turns ≡ Some 0) }
+    ensures turns { IfOk result (λ _. AreLeft bounds.old.turns bounds.new.turns) }
+    ensures unlimited { bounds.old.turns ≡ None → IfOk result IsSome }
+    ensures refused { ((f : _) (c : _) (e : _) (g : _) → F.step f c (Err e) g → Refused) → OnErr result Refused }
+{
+    let new = computed_text(alloc, req, bounds, compute)?;
+    if bounds.used_up {
+        Ok(None)
+    } else {
+        Ok(Some(new))
+    }
+}
