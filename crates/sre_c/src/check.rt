@@ -79,7 +79,7 @@ fn hints_told(hints: SreHints) -> Hints
 ///
 /// # Errors
 ///
-/// As [`Code::check`] has them, and only where the words were not checked before.
+/// As [`Code::check_lent`] has them, and only where the words were not checked before.
 #[inline]
 pub fn code<'a>(
     alloc: Global,
@@ -103,7 +103,7 @@ pub fn code<'a>(
             hints.most_counts,
         ));
     }
-    Code::check(alloc, given.words, uni)
+    Code::check_lent(alloc, given.words, uni)
 }
 
 /// Checks words, with the hints of a code.
@@ -116,7 +116,7 @@ pub fn check_code(alloc: Global, code: &mut SreCode<'_>) -> Status
     let Some(uni) = table(alloc, code.table) else {
         return Status::FaultyTable;
     };
-    match Code::check(alloc, code.words, &uni) {
+    match Code::check_lent(alloc, code.words, &uni) {
         Ok(checked) => {
             *code = SreCode {
                 words: code.words,

@@ -39,7 +39,7 @@ mod words;
 
 use check::check_in;
 pub use error::CodeError;
-use sre_chars::string::LentTable;
+use sre_chars::string::{LentTable, UniTable};
 use std::alloc::Global;
 
 /// What the information block claims and the tree confirms; each is there exactly where it is confirmed.
@@ -77,7 +77,19 @@ impl<'a> Code<'a> {
     ///
     /// The words are refused exactly where the grammar relates no tree to them, or where memory was refused:
     /// then a growth of the check's stack was. Which cause is named where several stand is open.
-    pub fn check(
+    pub fn check(alloc: Global, words: &'a [u32], uni: &'a UniTable) -> Result<Code<'a>, CodeError>
+        ensures words { IfOk result (λ code. words_of code ≡ words.now) }
+        ensures uni { IfOk result (λ code. uni_of code ≡ uni.now) }
+        ensures tree { OnOk result (IsCode words.now) }
+        ensures refused { IfErr result (λ e. e ≢ CodeError.Memory → (tree : Tree) → ¬ (Whole words.now tree)) }
+        ensures place { IfErr result (λ e. place_of e ≤ length words.now) }
+        ensures grows { IfErr result (λ e. e ≡ CodeError.Memory → Refused) }
+    {
+        Code::check_lent(alloc, words, uni)
+    }
+
+    /// Checks words against the grammar, as [`Code::check`] does, with a table whose lists a caller lends.
+    pub fn check_lent(
         alloc: Global,
         words: &'a [u32],
         uni: &'a LentTable<'a>,

@@ -27,17 +27,22 @@ pub(crate) fn push_code(
     }
 }
 
+// Why words are refused.
+fn refusal(alloc: Global, words: &[u32], table: &UniTable) -> Option<CodeError> {
+    Code::check(alloc, words, table).err()
+}
+
 // Whether less than the words is refused as cut short, and more for what is behind them.
 fn are_whole(desk: &mut Desk<Global>, table: &UniTable) -> Result<bool, AllocError> {
     let length = desk.operands.words.len();
     for cut in 0..length {
         let front = &desk.operands.words.as_slice()[..cut];
-        if Code::check(desk.alloc, front, table).err() != Some(CodeError::Truncated(cut)) {
+        if refusal(desk.alloc, front, table) != Some(CodeError::Truncated(cut)) {
             return Ok(false);
         }
     }
     desk.operands.words.push(1)?;
-    let longer = Code::check(desk.alloc, desk.operands.words.as_slice(), table).err();
+    let longer = refusal(desk.alloc, desk.operands.words.as_slice(), table);
     Ok(longer == Some(CodeError::TrailingWords(length)))
 }
 
