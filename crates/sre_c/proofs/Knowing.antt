@@ -1,5 +1,5 @@
 -- What follows of what a check has told of words.
-use Rattle.std.proofs.Common.{ℕ, ◌≡◌, ◌∙◌, List, false, ap, sym}
+use Rattle.std.proofs.Common.{ℕ, ◌≡◌, ◌∙◌, List, false, ap}
 use Rattle.std.proofs.Props.{props}
 use Rattle.std.proofs.Math.Logic.{∥∥₁_map, ∥∥₁_elim}
 use Rattle.sre_chars.specs.Tables.{Table}

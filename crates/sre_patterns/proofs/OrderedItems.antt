@@ -1,11 +1,11 @@
 -- Patterns that try the ways of items in their order: one after the other, and by their opcodes.
-use Rattle.std.proofs.Common.{◌≡◌, ℕ, ◌+◌, ◌-◌, ◌<◌, ◌≤◌, Bool, true, not, nat_eq, List, [], ◌∷◌, ◌++◌, length, refl, sym}
+use Rattle.std.proofs.Common.{◌≡◌, ℕ, ◌+◌, ◌-◌, ◌<◌, ◌≤◌, Bool, not, nat_eq, List, [], ◌∷◌, ◌++◌, length, refl, sym}
 use Rattle.std.proofs.Common.{ap, ◌∙◌, subst, arith}
 use Rattle.regex_hir.specs.Re.{Re, empty, cat, byte_in}
 use Rattle.regex_hir.specs.Matches.{IsMinLen}
 use Rattle.sre_chars.specs.Tables.{Table}
 use Rattle.sre_chars.specs.declared.constants.SreOpcode.TheVariants as opcode
-use Rattle.sre_model.specs.Tree.{Tree, Empty, Then, Item, Loop, Run, Order, Greedy, Lazy, Test}
+use Rattle.sre_model.specs.Tree.{Tree, Empty, Then, Loop, Run, Order, Greedy, Lazy, Test}
 use Rattle.sre_model.specs.Roles.{ToFail, ToMark, ToRun, ToRepeat}
 use Rattle.sre_model.specs.Grammar.{Word, skip, Opcode, until_opcode, Reads, run_opcode}
 use Rattle.sre_model.specs.Standing.{HasTest, TestStands}
@@ -14,7 +14,7 @@ use Rattle.sre_model.proofs.Families.{role_here, run_role, test_here, is_fail, i
 use Rattle.sre_model.proofs.Words.{same_word, opcode_within, word_within}
 use Rattle.sre_model.proofs.Places.{reads_within, operands_past}
 use Rattle.sre_shape.specs.Covers.{View}
-use Rattle.sre_shape.specs.Exact.{ExactTree, ExactItem, ExactTest, Rises, AreKept}
+use Rattle.sre_shape.specs.Exact.{ExactTree, ExactItem, Rises, AreKept}
 use Rattle.sre_shape.specs.Repeated.{repeated, is_greedy, kind_of}
 use Rattle.sre_shape.proofs.ExactTrees.{exact-empty, exact-then, exact-fail, exact-one, exact-mark, exact-loop, exact-run}
 use Rattle.sre_patterns.specs.Patterns.{cat_onto, HasItem}

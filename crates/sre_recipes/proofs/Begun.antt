@@ -1,5 +1,5 @@
 -- A walk that has just begun.
-use Rattle.std.proofs.Common.{◌≡◌, Bool, false, cond, List, [], ap}
+use Rattle.std.proofs.Common.{◌≡◌, Bool, false, cond, [], ap}
 use Rattle.sre_chars.specs.declared.string.StrDrive.{Ghosts}
 use Rattle.sre_engine.specs.Tree.{Tree}
 use Rattle.sre_engine.specs.Found.{walk}

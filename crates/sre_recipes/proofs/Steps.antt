@@ -1,5 +1,5 @@
 -- What a step over a match leaves to come, and where it stands.
-use Rattle.std.proofs.Common.{◌≡◌, ◌≤◌, ℕ, Bor, List, [], ◌∷◌, ap, sym, ◌∙◌, subst}
+use Rattle.std.proofs.Common.{◌≡◌, ◌≤◌, ℕ, Bor, List, ◌∷◌, ap, sym, ◌∙◌, subst}
 use Rattle.std.specs.List.{slice_range}
 use Rattle.std.specs.Str.{chars}
 use Rattle.sre_chars.specs.Texts.{StandsInText}

@@ -23,8 +23,8 @@ pub struct Bounds {
 }
 
 impl Bounds {
-    /// The first matches alone, as a `count` or `maxsplit` above 0 bounds them in Python. **0 means none** here, and all
-    /// there.
+    /// The first matches alone, as a `count` or `maxsplit` above 0 bounds them in Python. **0 means none** here, and
+    /// all there.
     pub fn first(most: usize) -> Bounds
         ensures most { result.most ≡ Some most }
         ensures turns { result.turns ≡ None }

@@ -50,7 +50,8 @@ module _ (bound : ℕ) (a : Asked) (hay : List ℕ) (v : InBytes bound (subject_
 
   -- a match from p, of the first way there
   some-there : (p : ℕ) (trace : Trace) (ws : List Way) → a.start ≤ p → AllByRecursion (λ w. p < w.stop) ws
-      → first_end (subject_of a) hay place ws ≡ Some trace → (m : Match) × (m.start ≡ p) × (m.end ≡ trace.end) × (first_accepted a p ws ≡ Some m)
+      → first_end (subject_of a) hay place ws ≡ Some trace
+      → (m : Match) × (m.start ≡ p) × (m.end ≡ trace.end) × (first_accepted a p ws ≡ Some m)
   some-there p trace [] from on e = absurd (none-some _ e)
   some-there p trace (w ∷ ws) from on e =
       let m : Match = record { start = p; end = w.stop; marks = w.marks } in (

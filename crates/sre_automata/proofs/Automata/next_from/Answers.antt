@@ -1,4 +1,4 @@
-use Rattle.std.proofs.Common.{sym, subst, refl}
+use Rattle.std.proofs.Common.{subst, refl}
 use Rattle.regex_nfa.specs.Paths.{Accepts}
 use Rattle.regex_nfa.specs.declared.nfa.Nfa.{Nfa}
 use Rattle.regex_dfa.specs.Search.{IsLeast}

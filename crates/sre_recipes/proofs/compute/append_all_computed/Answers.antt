@@ -20,8 +20,8 @@ returns-clause-ok g c = λ t tree going.
     let whole = subst (λ r. Whole (words_of (code_of r)) t) (sym c.new-walk.ensures.req) tree in
     let Told = λ (s : Bor (List ℕ)) (from to : ℕ) (ms : List Match).
     (new : List ℕ) × (after ≡ before ++ new)
-    × ReplacedInTurn (Computes (λ f d r h. goal.F-step g f d r h) (λ r. chars (string_bytes r)) (chars s.now)) (chars s.now)
-    c.args.compute from to ms new in
+    × ReplacedInTurn (Computes (λ f d r h. goal.F-step g f d r h) (λ r. chars (string_bytes r)) (chars s.now))
+    (chars s.now) c.args.compute from to ms new in
     subst (λ r. Told (string_of r) (start_of r) (end_of r) (first_of most (walk (asked_of r) t))) c.new-walk.ensures.req
     (subst (λ ms. Told (string_of own) (start_of own) (end_of own) (first_of most ms))
     (all_left c.new-walk.result t c.new-walk.ensures.open) (c.in_ok-append_computed.ensures.ok t whole going))

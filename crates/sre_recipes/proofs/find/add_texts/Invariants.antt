@@ -19,7 +19,8 @@ invariant-walk g l = record {
       → map (λ s. chars s.now) l.all.items
       ++ map (slice_of (chars (string_of (request_of l.fn.walk)).now)) (first_of l.bounds.most (left_of l.walk t))
       ≡ map (λ s. chars s.now) l.fn.all.items
-      ++ map (slice_of (chars (string_of (request_of l.fn.walk)).now)) (first_of l.fn.bounds.most (left_of l.fn.walk t));
+      ++ map (slice_of (chars (string_of (request_of l.fn.walk)).now))
+      (first_of l.fn.bounds.most (left_of l.fn.walk t));
 }
 
 abbrev pub decreases-walk : goal.decreases-walk

@@ -1,8 +1,6 @@
-use Rattle.std.proofs.Common.{◌≡◌, ◌++◌, ◌∷◌, [], ℕ, List, Option, Bor, map, ap, sym, ◌∙◌, subst}
+use Rattle.std.proofs.Common.{◌≡◌, ◌++◌, ◌∷◌, [], ℕ, List, Bor, map, ap, ◌∙◌}
 use Rattle.std.specs.Str.{chars}
-use Rattle.sre_engine.specs.Found.{Match}
 use Rattle.sre_engine.specs.Codes.{words_of}
-use Rattle.sre_engine.specs.Grammar.{Whole}
 use Rattle.sre_engine.specs.Requests.{string_of, code_of}
 use Rattle.sre_engine.specs.Iterators.{request_of, shown_of, left_of}
 use Rattle.sre_engine.specs.Walks.{match_shown}

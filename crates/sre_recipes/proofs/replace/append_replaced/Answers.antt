@@ -75,8 +75,8 @@ returns-clause-ok g c = λ t tree going.
       c.req-2.ensures,
       c.walk.invariant.stands.0,
     ) in
-    replaced_end text new output (chars c.append.new.output.items) (first_of c.walk.bounds.most (left_of before t)) start
-    (end_of asked)
+    replaced_end text new output (chars c.append.new.output.items) (first_of c.walk.bounds.most (left_of before t))
+    start (end_of asked)
     (chars c.args.output.now.items
     ++ replaced text new (start_of asked) (end_of asked) (first_of c.args.bounds.now.most (left_of c.args.walk.now t)))
     (stopped before c.walk.bounds c.next_bounded.new.bounds (words_of (code_of asked)) t stops going
