@@ -9,16 +9,16 @@
 
 ghost use Rattle.std.specs.Prelude.{◌≡◌, ℕ, ◌+◌, ◌-◌, ◌*◌, ◌^◌, ◌<◌, ◌≤◌, true, false, List, []};
 ghost use Rattle.std.specs.Prelude.{◌∷◌, if◌then◌else◌, is_ok};
-ghost use Rattle.std.specs.Prelude.{◌++◌, ◌≢◌, length, IfSome, MatchOption, Some, IfOk, slice_get, slice_index_or};
+ghost use Rattle.std.specs.Prelude.{◌++◌, ◌≢◌, length, MatchOption, Some, IfOk, slice_get, slice_index_or};
 ghost use Rattle.sre_turns.specs.Alike.{is_last};
 ghost use Rattle.sre_turns.specs.Fruit.{is_inside};
 ghost use Rattle.sre_turns.specs.Moves.{spot_at};
 ghost use Rattle.sre_turns.specs.Nested.{repeats, slots};
 ghost use Rattle.sre_turns.specs.declared.Point.TheVariants.{Instruction};
-ghost use Rattle.sre_board.specs.Failures.{Entry, Holds, HoldsNone, HoldsNoMore, HoldsOneMore, HasSlot, IsPassed};
+ghost use Rattle.sre_board.specs.Failures.{Entry, HoldsNone, HoldsNoMore, HoldsOneMore, HasSlot, IsPassed};
 ghost use Rattle.sre_board.specs.Failures.{HoldsStill, BitsStay, BitsKept, Grows, Sets, Tells, Roomy, OneRowMore, Laid};
 ghost use Rattle.sre_board.specs.Failures.{counted_at, digit, radix, ones, most_words, HasNoRow, HasBit, AreRead};
-ghost use Rattle.sre_board.specs.Failures.{IsOpen, HasShape, HasSlots, WordsThere, Capacity, HasRow, NewRow, kept_of};
+ghost use Rattle.sre_board.specs.Failures.{HasShape, HasSlots, WordsThere, Capacity, HasRow, NewRow, kept_of};
 
 use crate::board::Board;
 use crate::chains::{Chains, frame_of};

@@ -1,6 +1,6 @@
 //! Lists of numbers as texts: each number is a character, surrogates too, and the offset of a cursor is its position.
 
-ghost use Rattle.std.specs.Prelude.{◌≡◌, ◌≤◌, ℕ, List, length};
+ghost use Rattle.std.specs.Prelude.{◌≡◌};
 ghost use Rattle.std.proofs.Props.{props};
 ghost use Rattle.sre_chars.specs.Texts.{StandsInBytes};
 

@@ -18,7 +18,7 @@ use entries::Entries;
 pub use entries::UniPair;
 use lists::{Lists, check_lent, checked_lists, checked_ranges, std_lists};
 use sre_growth::Refusal;
-use std::alloc::Global;
+use std::alloc::{AllocError, AllocFailed, Global};
 use std::marker::Model;
 use thiserror::Error;
 
@@ -63,6 +63,29 @@ impl From<Refusal> for UniError {
     ghost from_gives = { λ _ error. error ≡ Memory };
 
     fn from(_refusal: Refusal) -> UniError {
+        UniError::Memory
+    }
+}
+
+// For functions of callers that grow lists of their own.
+impl From<AllocError> for UniError {
+    ghost use Rattle.std.specs.Prelude.{◌≡◌};
+    ghost use Rattle.sre_chars.specs.declared.table.UniError.TheVariants.{Memory};
+
+    ghost from_gives = { λ _ error. error ≡ Memory };
+
+    fn from(_refused: AllocError) -> UniError {
+        UniError::Memory
+    }
+}
+
+impl<T: Drop> From<AllocFailed<T>> for UniError {
+    ghost use Rattle.std.specs.Prelude.{◌≡◌};
+    ghost use Rattle.sre_chars.specs.declared.table.UniError.TheVariants.{Memory};
+
+    ghost from_gives = { λ _ error. error ≡ Memory };
+
+    fn from(_refused: AllocFailed<T>) -> UniError {
         UniError::Memory
     }
 }
@@ -131,6 +154,11 @@ impl<'t> LentTable<'t> {
     /// range. All numbers are Unicode scalar values, those between two ends too, and no `from` or
     /// low is below 128. A `to` may be.
     ///
+    /// ```
+    /// // é and É are each other's cases, and both are letters.
+    /// let uni = UniTable::new(alloc, &[(201, 233)], &[(233, 201)], &[(201, 201), (233, 233)])?;
+    /// ```
+    ///
     /// # Errors
     ///
     /// The lists are checked in the order of the parameters, entry by entry, and the first fault
@@ -171,6 +199,8 @@ impl<'t> LentTable<'t> {
     /// and numbers above 0x10FFFF stay, and are not alphanumeric. There are no digits past ASCII, since
     /// std has no list of them: `set_digits` takes one. It goes over all scalar values three times, so a
     /// program makes it once.
+    ///
+    /// It is not the table of a Python, whose `\w` takes no combining marks: `tools/unicode.py` writes that one.
     ///
     /// # Errors
     ///

@@ -11,3 +11,4 @@ pub mod Instructions
 pub mod Steps
 pub mod Descent
 pub mod Codes
+pub mod Owned

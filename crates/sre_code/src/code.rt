@@ -10,8 +10,8 @@
 ghost use Rattle.std.specs.Prelude.{◌≡◌, ◌≢◌, ◌≤◌, false, length, IfOk, IfErr, OnOk};
 ghost use Rattle.sre_model.specs.Tree.{Tree};
 ghost use Rattle.sre_model.specs.Grammar.{Whole};
-ghost use Rattle.sre_model.specs.References.{refers};
-ghost use Rattle.sre_model.specs.RunCounts.{most_counts};
+ghost use Rattle.sre_model.specs.References as references;
+ghost use Rattle.sre_model.specs.RunCounts as run_counts;
 ghost use Rattle.sre_code.specs.Hinted.{Confirmed};
 ghost use Rattle.sre_model.specs.Grammar.{AreItems, IsCode, HasOneTree, behind_block};
 ghost use Rattle.sre_code.specs.Refusals.{place_of};
@@ -30,9 +30,9 @@ mod first_set;
 mod item;
 mod part;
 mod prefix;
-mod references;
 mod region;
 mod repeat;
+mod run_counts;
 mod set;
 mod step;
 mod words;
@@ -62,11 +62,12 @@ pub struct Code<'a> {
     items: &'a [u32],
     uni: &'a LentTable<'a>,
     hints: Hints,
-    has_reference: bool,
-    longest: u32,
+    refers: bool,
+    most_counts: u32,
     ghost behind: { items.now ≡ behind_block words.now },
-    ghost scanned: { (tree : Tree) → Whole words.now tree → has_reference ≡ refers tree },
-    ghost counted: { (tree : Tree) → Whole words.now tree → refers tree ≡ false → longest ≡ most_counts tree },
+    ghost scanned: { (tree : Tree) → Whole words.now tree → refers ≡ references.refers tree },
+    ghost counted: { (tree : Tree) → Whole words.now tree → references.refers tree ≡ false
+        → most_counts ≡ run_counts.most_counts tree },
     pub ghost checked: { ∥ ((tree : Tree) × Whole words.now tree × Confirmed words.now uni.now tree hints) ∥₁ },
 }
 
@@ -76,7 +77,20 @@ impl<'a> Code<'a> {
     /// Checks words against the grammar.
     ///
     /// The words are refused exactly where the grammar relates no tree to them, or where memory was refused:
-    /// then a growth of the check's stack was. Which cause is named where several stand is open.
+    /// then a growth of the check's stack was.
+    ///
+    /// ```
+    /// // The words of `a`: its letter, and success.
+    /// let uni = UniTable::ascii(alloc);
+    /// let code = Code::check(alloc, &[16, 97, 1], &uni)?;
+    /// assert!(code.items().len() == 3 && !code.refers());
+    /// assert!(Code::check(alloc, &[16], &uni).is_err());
+    /// ```
+    ///
+    /// # Errors
+    ///
+    /// [`CodeError`] has a cause for each kind of fault, with the place of the word at which it was seen: which one is
+    /// named where several stand is open. [`CodeError::Memory`] comes where a growth of the check's stack was refused.
     pub fn check(alloc: Global, words: &'a [u32], uni: &'a UniTable) -> Result<Code<'a>, CodeError>
         ensures words { IfOk result (λ code. words_of code ≡ words.now) }
         ensures uni { IfOk result (λ code. uni_of code ≡ uni.now) }
@@ -89,6 +103,10 @@ impl<'a> Code<'a> {
     }
 
     /// Checks words against the grammar, as [`Code::check`] does, with a table whose lists a caller lends.
+    ///
+    /// # Errors
+    ///
+    /// Those of [`Code::check`].
     pub fn check_lent(
         alloc: Global,
         words: &'a [u32],
@@ -107,19 +125,20 @@ impl<'a> Code<'a> {
     /// The view of words that a check passed before, from what was told of them then. Nothing is checked anew, and the
     /// time does not grow with the words.
     ///
-    /// `hints`, `has_reference` and `longest` are what [`Code::hints`], [`Code::refers`] and [`Code::most_counts`] told
+    /// `hints`, `refers` and `most_counts` are what [`Code::hints`], [`Code::refers`] and [`Code::most_counts`] told
     /// of a code of the same words and a table of the same characters.
     #[inline]
     pub fn from_checked(
         words: &'a [u32],
         uni: &'a LentTable<'a>,
         hints: Hints,
-        has_reference: bool,
-        longest: u32,
+        refers: bool,
+        most_counts: u32,
     ) -> Code<'a>
         requires checked { ∥ ((tree : Tree) × Whole words.now tree × Confirmed words.now uni.now tree hints) ∥₁ }
-        requires scanned { (tree : Tree) → Whole words.now tree → has_reference ≡ refers tree }
-        requires counted { (tree : Tree) → Whole words.now tree → refers tree ≡ false → longest ≡ most_counts tree }
+        requires scanned { (tree : Tree) → Whole words.now tree → refers ≡ references.refers tree }
+        requires counted { (tree : Tree) → Whole words.now tree → references.refers tree ≡ false
+            → most_counts ≡ run_counts.most_counts tree }
         ensures words { words_of result ≡ words.now }
         ensures uni { uni_of result ≡ uni.now }
         ensures hints { hints_of result ≡ hints }
@@ -133,8 +152,8 @@ impl<'a> Code<'a> {
             items,
             uni,
             hints,
-            has_reference,
-            longest,
+            refers,
+            most_counts,
         }
     }
 
@@ -181,9 +200,9 @@ impl<'a> Code<'a> {
     /// nothing of what the items there pass.
     #[inline(always)]
     pub fn refers(&self) -> bool
-        ensures { (tree : Tree) → Whole (words_of self.now) tree → result ≡ refers tree }
+        ensures { (tree : Tree) → Whole (words_of self.now) tree → result ≡ references.refers tree }
     {
-        self.has_reference
+        self.refers
     }
 
     /// Up to which number the characters that one instruction goes over make a difference: the greatest count of the
@@ -191,8 +210,9 @@ impl<'a> Code<'a> {
     /// greatest; and how far a look goes back, if that is more. It tells nothing where the code refers to groups.
     #[inline(always)]
     pub fn most_counts(&self) -> u32
-        ensures { (tree : Tree) → Whole (words_of self.now) tree → refers tree ≡ false → result ≡ most_counts tree }
+        ensures { (tree : Tree) → Whole (words_of self.now) tree → references.refers tree ≡ false
+            → result ≡ run_counts.most_counts tree }
     {
-        self.longest
+        self.most_counts
     }
 }

@@ -6,7 +6,9 @@ pub mod ascii_set;
 pub mod code;
 pub mod members;
 pub mod operands;
+pub mod owned;
 
 pub use code::Code;
 pub use code::borders::border_lengths;
 pub use code::check::check_in;
+pub use owned::OwnedCode;

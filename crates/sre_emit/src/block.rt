@@ -1,8 +1,7 @@
 //! The information block before the words of a tree: the least width, and the prefix where the tree begins with plain
 //! literals.
 
-ghost use Rattle.std.specs.Prelude.{◌≡◌, ◌+◌, ◌<◌, ◌≤◌, ◌∷◌, ◌++◌, IfOk, IsTrue, ◌↔◌, length, map, nat_eq, cond};
-ghost use Rattle.sre_model.specs.Claims.{are_overlaps};
+ghost use Rattle.std.specs.Prelude.{◌≡◌, ◌+◌, ◌<◌, ◌≤◌, ◌∷◌, ◌++◌, IfOk, length, map, nat_eq, cond};
 ghost use Rattle.sre_emit.specs.Parts.{test_of, item_of, in_order, tree_of};
 ghost use Rattle.sre_emit.specs.Block.{plain_value, plain, is_mark, leading, spread, has_literals_alone};
 ghost use Rattle.sre_emit.specs.Block.{block, block_words};

@@ -1,6 +1,6 @@
 //! The check of a part, before anything is written.
 
-ghost use Rattle.std.specs.Prelude.{◌≡◌, ◌+◌, ◌≤◌, ◌<◌, ◌^◌, IsTrue, ◌↔◌, All, length};
+ghost use Rattle.std.specs.Prelude.{◌≡◌, ◌+◌, ◌≤◌, ◌<◌, IsTrue, ◌↔◌, All, length};
 ghost use Rattle.std.specs.Prelude.{map};
 ghost use Rattle.sre_emit.specs.Parts.{set_item_of, test_of, depth, item_depth, most, HasTree, HasItemTree};
 ghost use Rattle.sre_model.specs.Lawful.{NumbersBelow, LawfulSetItem, LawfulTest};

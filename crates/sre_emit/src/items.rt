@@ -1,6 +1,6 @@
 //! Writing tests, items and parts.
 
-ghost use Rattle.std.specs.Prelude.{◌≡◌, ◌+◌, ◌<◌, ◌≤◌, ◌^◌, ◌∷◌, ◌++◌, [], None, length, map, true};
+ghost use Rattle.std.specs.Prelude.{◌≡◌, ◌+◌, ◌<◌, ◌^◌, ◌∷◌, ◌++◌, [], None, length, map, true};
 ghost use Rattle.sre_chars.specs.Numbers.{opcode_number};
 ghost use Rattle.sre_emit.specs.Parts.{set_item_of, test_of, tree_of, item_of, alternatives, in_order};
 ghost use Rattle.sre_emit.specs.Parts.{has_alternatives, item_has_alternatives, all, some_parts};

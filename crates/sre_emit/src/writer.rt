@@ -1,11 +1,9 @@
 //! Writing words from the last to the first, so that what a skip leads over is written before it.
 
-ghost use Rattle.std.specs.Prelude.{◌≡◌, ◌+◌, ◌*◌, ◌-◌, ◌<◌, ◌≤◌, ◌^◌, ◌∷◌, [], Some, None, IfOk, IfErr};
+ghost use Rattle.std.specs.Prelude.{◌≡◌, ◌+◌, ◌*◌, ◌-◌, ◌<◌, ◌^◌, ◌∷◌, [], Some, None, IfOk, IfErr};
 ghost use Rattle.std.specs.Prelude.{map, length, reverse};
-ghost use Rattle.sre_model.specs.Grammar.{literal_opcode, not_literal_opcode, set_opcode};
-ghost use Rattle.sre_chars.specs.Numbers.{opcode_number};
-ghost use Rattle.sre_emit.specs.Parts.{set_item_of, test_of, fold_of};
-ghost use Rattle.sre_model.specs.Written.{packed, set_item_words, set_words, test_words};
+ghost use Rattle.sre_emit.specs.Parts.{set_item_of};
+ghost use Rattle.sre_model.specs.Written.{packed, set_item_words, set_words};
 ghost use Rattle.sre_emit.specs.Writing.{Wrote};
 
 use crate::error::EmitError;

@@ -219,10 +219,10 @@ module _ {S : Type 0} {text : Ghosts S} (r : Request S text) where
     since = since_begin m left waits closed;
   }
 
-  pub behind_run : (m m' : MemoValue) (start : StringCursor) (given left after before runs : ℕ)
+  pub cost_of_run : (m m' : MemoValue) (start : StringCursor) (given left after before runs : ℕ)
       → CostsBehind r m given left before → RunSettles r start m m' left after → start_of r ≤ start.position
       → runs ≡ before + 1 → CostsBehind r m' given after runs
-  behind_run m m' start given left after before runs old run from e = record {
+  cost_of_run m m' start given left after before runs old run from e = record {
     others = old.others + 1;
     is = omega (arith, e, old.is);
     since = since_run m m' start given left after old.others _ old.since run from refl;

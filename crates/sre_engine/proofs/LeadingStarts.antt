@@ -30,10 +30,10 @@ module _ (a : Asked) (t : Tree) where
 
   module _ (ws : List ℕ) (place p : ℕ) (none : at_start a t p ≡ None) where
     -- up to a run's end
-    pub none_behind_run : (k : ℕ) → RunStands ws t None place
+    pub none_past_run : (k : ℕ) → RunStands ws t None place
         → ((j : ℕ) (x : Test) → TestStands ws place j x → k ≡ longest_run (subject_of a) x unlimited p)
         → NoneBetween a t p (p + k + 1)
-    none_behind_run k r count s from to = by_front r.front r.before r.leads
+    none_past_run k r count s from to = by_front r.front r.before r.leads
       where
         by_front : (front : Option Test) → FrontStands ws None front → RunLeads t front r.test → at_start a t s ≡ None
         by_front None before leads =

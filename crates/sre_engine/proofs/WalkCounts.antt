@@ -1,5 +1,5 @@
 -- What the steps of a walk count together.
-use Rattle.std.proofs.Common.{◌≡◌, ◌≤◌, ◌+◌, ◌-◌, ◌*◌, ◌&&◌, ◌||◌, ℕ, zero, suc, List, Bool, true, false, not, cond, nat_eq}
+use Rattle.std.proofs.Common.{◌≡◌, ◌≤◌, ◌+◌, ◌-◌, ℕ, zero, suc, List, Bool, true, false, cond, nat_eq}
 use Rattle.std.proofs.Common.{[], ◌∷◌, ◌++◌, map}
 use mathlib.Core.List.{append_assoc, map-append}
 use Rattle.std.proofs.Common.{Option, Some, None, refl, sym, ap, ◌∙◌, subst, arith}

@@ -12,7 +12,7 @@
 //! let uni = UniTable::ascii(alloc);
 //! let code = Code::check(alloc, &[17, 0, 16, 97, 17, 1, 16, 98, 1], &uni)?;
 //! let mut state = State::new(alloc);
-//! let found = state.search(Request::new("xab", 0, usize::MAX, code, false))?;
+//! let found = state.search(Request::whole("xab", code))?;
 //! assert!(found && state.start() == 1 && state.cursor().position() == 3);
 //! assert!(state.marks().get(0) == (Some(1), Some(2)));
 //! ```
@@ -28,5 +28,5 @@ pub use sre_chars::constants::{
 pub use sre_chars::string::{LentTable, StrDrive, StringCursor, UniError, UniPair, UniTable};
 pub use sre_chars::{constants, string};
 pub use sre_code::code::{CodeError, Hints};
-pub use sre_code::{Code, code};
+pub use sre_code::{Code, OwnedCode, code};
 pub use sre_request::Request;

@@ -4,8 +4,7 @@
 //! Each opcode's function says that the accepted outcomes of the whole begin as they did, in one turn less. What is
 //! still to be tried waits on the board, and a choice of which nothing can come is not put there.
 
-ghost use Rattle.std.specs.Prelude.{◌≡◌, ℕ, ◌+◌, ◌^◌, ◌<◌, [], List, IfOk, MatchOption, true};
-ghost use Rattle.sre_model.specs.Ways.{Way};
+ghost use Rattle.std.specs.Prelude.{◌≡◌, ℕ, ◌+◌, ◌^◌, ◌<◌, IfOk, MatchOption, true};
 ghost use Rattle.sre_turns.specs.Board.{BoardValue};
 ghost use Rattle.sre_turns.specs.declared.Point.TheVariants.{Instruction, Longer};
 ghost use Rattle.sre_turns.specs.declared.Point.{Point};

@@ -6,12 +6,12 @@
 //! twice as many for each character. The run that is under way then goes on, and remembers what it tries from there on;
 //! within turns it begins again.
 
-ghost use Rattle.std.specs.Prelude.{[], ℕ, ◌≡◌, ◌+◌, ◌-◌, ◌*◌, ◌^◌, ◌<◌, ◌≤◌, true, false};
+ghost use Rattle.std.specs.Prelude.{[], ℕ, ◌≡◌, ◌+◌, ◌-◌, ◌*◌, ◌<◌, ◌≤◌, true, false};
 ghost use Rattle.sre_turns.specs.Fruit.{is_inside};
 ghost use Rattle.sre_turns.specs.Moves.{spot_at};
 ghost use Rattle.sre_turns.specs.declared.Point.TheVariants.{Instruction};
 ghost use Rattle.sre_growth.specs.Refusal.{Refused};
-ghost use Rattle.sre_board.specs.Failures.{HoldsNone, HoldsNoMore, HoldsOneMore, Remembers, Tells};
+ghost use Rattle.sre_board.specs.Failures.{HoldsNone, HoldsNoMore, Remembers, Tells};
 ghost use Rattle.sre_board.specs.Failures.{HoldsStill, BitsStay, BitsKept, Roomy, Laid, ones};
 ghost use Rattle.sre_board.specs.Failures.{Capacity, HasRow, HasSlots, NewRow, KeepsSpot, kept_of};
 ghost use Rattle.sre_turns.specs.Nested.{repeats};

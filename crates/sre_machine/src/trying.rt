@@ -7,8 +7,6 @@ ghost use Rattle.sre_turns.specs.Potential.{units};
 ghost use Rattle.sre_machine.specs.Paying.{HoldsTried};
 ghost use Rattle.sre_turns.specs.declared.Point.TheVariants.{Instruction};
 ghost use Rattle.sre_turns.specs.Fruit.{is_inside};
-ghost use Rattle.sre_turns.specs.Moves.{spot_at};
-ghost use Rattle.sre_turns.specs.Hopeless.{Hopeless};
 ghost use Rattle.sre_turns.specs.Machine.{IsAt, spot};
 ghost use Rattle.sre_turns.specs.MovesAtReferences.{HasReference};
 ghost use Rattle.sre_board.specs.Failures.{Remembers};

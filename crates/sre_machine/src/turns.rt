@@ -267,7 +267,7 @@ fn remembering_turns<L: Ledger, K: Plan, S: StrDrive, A: Allocator>(
 
 // The same with no limit, and with no failure kept until the memo opens. Then the run goes on: what it saved before is
 // resumed once at most, and what comes after is remembered. It is one function out of line, whatever its size, so that
-// `run_behind` is inlined where a search tries its starts.
+// `run_from` is inlined where a search tries its starts.
 #[inline(never)]
 fn turns<L: Ledger, K: Plan, S: StrDrive, A: Allocator>(
     req: &Request<'_, S>,
@@ -475,7 +475,7 @@ fn run_anew<S: StrDrive, A: Allocator>(
 /// Where failures come to be kept in its course, it goes on with what it saved, or, where it is limited, begins again.
 /// Then it takes the turns that were waited, and those of a run that keeps failures. Each run is counted.
 #[inline(always)]
-pub fn run_behind<S: StrDrive, A: Allocator>(
+pub fn run_from<S: StrDrive, A: Allocator>(
     req: &Request<'_, S>,
     literals: usize,
     start: StringCursor,

@@ -5,9 +5,9 @@ use Rattle.sre_model.specs.Tree.{Tree, Empty, Then, Item, Fail, One, At, Mark, B
 use Rattle.sre_model.specs.Tree.{Atomic, Look, Reference, Exists, ExistsElse, Trees, Only, Or}
 
 -- how many there are
-abbrev pub how_many : Trees → ℕ
-how_many (Only t) = 1
-how_many (Or t ts) = 1 + how_many ts
+abbrev pub alternatives_of : Trees → ℕ
+alternatives_of (Only t) = 1
+alternatives_of (Or t ts) = 1 + alternatives_of ts
 
 abbrev mutual
   -- the greatest number of them in a tree
@@ -20,7 +20,7 @@ abbrev mutual
   item_alternatives (One t) = 0
   item_alternatives (At a) = 0
   item_alternatives (Mark n) = 0
-  item_alternatives (Branch ts) = max (how_many ts) (branch_alternatives ts)
+  item_alternatives (Branch ts) = max (alternatives_of ts) (branch_alternatives ts)
   item_alternatives (Loop o low high body) = most_alternatives body
   item_alternatives (Run kind low high t) = 0
   item_alternatives (PossessiveLoop low high body) = most_alternatives body

@@ -66,6 +66,28 @@ impl<'a, S: StrDrive> Request<'a, S> {
         }
     }
 
+    /// A request over all of a text, by which a match may end anywhere in it. `must_advance` is not set, and no
+    /// non-boundary is on nothing.
+    ///
+    /// ```
+    /// // The words of `a`.
+    /// let req = Request::whole("éa", code);
+    /// assert!(req.start() == 0 && req.end() == 2 && !req.match_all());
+    /// ```
+    pub fn whole(string: S, pattern_codes: Code<'a>) -> Request<'a, S>
+        ensures string { string_of result ≡ string }
+        ensures start { start_of result ≡ 0 }
+        ensures end { end_of result ≡ length (S.text string) }
+        ensures pattern_codes { code_of result ≡ pattern_codes.entry }
+        ensures match_all { match_all_of result ≡ false }
+        ensures must_advance { must_advance_of result ≡ false }
+        ensures empty_rule { empty_rule_of result ≡ EmptyRule.Never }
+    {
+        let req = Request::new(string, 0, usize::MAX, pattern_codes, false);
+        let _end = req.end(); // no text has so many characters
+        req
+    }
+
     // The same request: a generic function cannot copy one as a whole.
     #[inline(always)]
     pub(crate) fn copied(&self) -> Request<'a, S>

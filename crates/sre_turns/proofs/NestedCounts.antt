@@ -19,7 +19,7 @@ use Rattle.sre_model.specs.Roles.{Role, ToFail, ToEnd, ToTest, ToCheckPosition, 
 use Rattle.sre_model.specs.Roles.{ToRepeat, ToLoop, ToRepeatPossessively, ToGroupAtomically, ToLook, ToRefer}
 use Rattle.sre_model.specs.Roles.{ToCheckGroup, ToNothing, role}
 use Rattle.sre_model.specs.RunCounts.{run_count, most_counts, item_counts, branch_counts}
-use Rattle.sre_model.specs.Alternatives.{how_many, most_alternatives, item_alternatives, branch_alternatives}
+use Rattle.sre_model.specs.Alternatives.{alternatives_of, most_alternatives, item_alternatives, branch_alternatives}
 use Rattle.sre_model.specs.Runs as runs
 use Rattle.sre_model.proofs.Words.{word_of, same_opcode}
 use Rattle.sre_model.proofs.Families.{HasRole, role_here, until_role, is_run, is_branch}
@@ -46,7 +46,7 @@ run_most kind low high = go kind (nat_eq high unlimited) refl
     go PossessiveRun false e = inr (omega arith)
 
 -- as many alternatives stand in the words as the tree has
-as_many : (ws : List ℕ) (n q j : ℕ) (ts : Trees) → ReadsBranch ws q j ts → alternatives_in ws n q ≤ how_many ts
+as_many : (ws : List ℕ) (n q j : ℕ) (ts : Trees) → ReadsBranch ws q j ts → alternatives_in ws n q ≤ alternatives_of ts
 unfolding alternatives_in
 as_many ws zero q j ts r = omega arith
 as_many ws (suc n) q j (Only t) r = go (nat_eq (word ws q) 0) (none n)
@@ -61,8 +61,8 @@ as_many ws (suc n) q j (Only t) r = go (nat_eq (word ws q) 0) (none n)
     go false e = omega (arith, e)
 as_many ws (suc n) q j (Or t ts) r = go (nat_eq (word ws q) 0) (as_many ws n (skip ws q) j ts r.2)
   where
-    go : (b : Bool) → alternatives_in ws n (skip ws q) ≤ how_many ts
-        → cond b 0 (1 + alternatives_in ws n (skip ws q)) ≤ 1 + how_many ts
+    go : (b : Bool) → alternatives_in ws n (skip ws q) ≤ alternatives_of ts
+        → cond b 0 (1 + alternatives_in ws n (skip ws q)) ≤ 1 + alternatives_of ts
     go true h = omega arith
     go false h = omega (arith, h)
 
@@ -118,8 +118,8 @@ module _ (ws : List ℕ) (n m : ℕ) where
       counted_branch : HasRole ws i ToBranch → alternatives ws (i + 1) ≤ m
       counted_branch h =
           let x = is_branch ws i j a h r in
-          let same : item_alternatives a ≡ max (how_many x.0) (branch_alternatives x.0) = ap item_alternatives x.1 in
-          let most : alternatives ws (i + 1) ≤ how_many x.0 =
+          let same : item_alternatives a ≡ max (alternatives_of x.0) (branch_alternatives x.0) = ap item_alternatives x.1 in
+          let most : alternatives ws (i + 1) ≤ alternatives_of x.0 =
           as_many ws (length ws - (i + 1)) (i + 1) j x.0 x.2.1 in
           omega (arith, same, most, l.1)
 

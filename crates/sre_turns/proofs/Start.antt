@@ -1,7 +1,6 @@
 -- How a run begins, and how it ends.
 use Rattle.std.proofs.Common.{◌≡◌, ℕ, ◌-◌, ◌≤◌, ◌++◌, Bool, true, false, List, [], ◌∷◌, refl, sym, ap, ◌∙◌, subst}
 use Rattle.std.proofs.Common.{arith, length, zero, suc}
-use Rattle.std.specs.List.{filter}
 use Rattle.std.proofs.lemmas.Bool.{or_right}
 use Rattle.sre_chars.specs.declared.constants.SreOpcode.TheVariants as opcode
 use Rattle.sre_chars.specs.declared.string.StringCursor.{StringCursor}

@@ -10,12 +10,11 @@ use Rattle.sre_model.specs.Runs.{Run}
 use Rattle.sre_model.proofs.MarksApart.{SameStops}
 use Rattle.sre_turns.specs.Board.{Choice, Else, Keep, Trying, BoardValue, Dropped}
 use Rattle.sre_turns.specs.declared.Point.TheVariants.{Instruction}
-use Rattle.sre_turns.specs.declared.Point.{Point}
 use Rattle.sre_turns.specs.declared.Next.TheVariants as next
-use Rattle.sre_turns.specs.Limits.{Limit, earlier, Coming, share, FaresAt}
+use Rattle.sre_turns.specs.Limits.{Limit, earlier}
 use Rattle.sre_turns.specs.Moves.{Spot, Move, Stop, End, Go, Split, Enter, closing_move}
 use Rattle.sre_turns.specs.MovesAtReferences.{HasReference}
-use Rattle.sre_turns.specs.Hopeless.{AcceptsByStop, FruitlessWith, Fruitless, is_inside}
+use Rattle.sre_turns.specs.Hopeless.{AcceptsByStop, Fruitless, is_inside}
 use Rattle.sre_turns.specs.Machine.{Runs, turns, Comes, stops, ends, goes, splits, enters, Waits, outermost, otherwise}
 use Rattle.sre_turns.specs.Machine.{kept, tried, Arrives, Later, spot}
 use Rattle.sre_turns.proofs.FirstOutcomes.{SameFirsts, first_none, firsts_append, firsts_begin, closes_same}

@@ -33,7 +33,7 @@ fn next_border(prefix: &[u32], overlaps: &[u32], n: usize) -> usize
 
 /// Whether each overlap word is the border length of its front of the prefix.
 #[tactic(auto, using(crate::proofs::Borders::overlaps_laws))]
-fn are_right(prefix: &[u32], overlaps: &[u32]) -> bool
+fn are_borders(prefix: &[u32], overlaps: &[u32]) -> bool
     requires some { 0 < length prefix.now }
     requires long { length overlaps.now ≡ length prefix.now }
     ensures { IsTrue result ↔ Right prefix.now overlaps.now }
@@ -56,7 +56,7 @@ pub fn are_overlaps(prefix: &[u32], overlaps: &[u32]) -> bool
     requires long { length overlaps.now ≡ length prefix.now }
     ensures { result ≡ are_overlaps prefix.now 1 overlaps.now }
 {
-    are_right(prefix, overlaps)
+    are_borders(prefix, overlaps)
 }
 
 /// The border lengths of the fronts of some words: of the first word, of the first two, and so on.

@@ -8,7 +8,7 @@ ghost use Rattle.sre_code.specs.Codes.{words_of, uni_of};
 ghost use Rattle.sre_growth.specs.Refusal.{Refused};
 
 use crate::code::descent::descend;
-use crate::code::{Code, CodeError, block, claims, references};
+use crate::code::{Code, CodeError, block, claims, run_counts};
 use sre_chars::string::LentTable;
 use std::alloc::Allocator;
 
@@ -32,13 +32,13 @@ pub fn check_in<'a, A: Allocator + Copy>(
         Ok(least) => least,
         Err(error) => return Err(error.moved(length)),
     };
-    let counts = references::most_counts(items);
+    let counts = run_counts::most_counts(items);
     Ok(Code {
         words,
         items,
         uni,
         hints: claims::confirmed(words, length, uni, items, least),
-        has_reference: counts.is_none(),
-        longest: counts.unwrap_or(0),
+        refers: counts.is_none(),
+        most_counts: counts.unwrap_or(0),
     })
 }

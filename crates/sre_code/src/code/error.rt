@@ -3,6 +3,7 @@
 ghost use Rattle.std.specs.Prelude.{◌≡◌, ◌≤◌};
 
 use sre_growth::Refusal;
+use std::alloc::{AllocError, AllocFailed};
 use thiserror::Error;
 
 /// Why words were refused. Each cause but the first carries the place of the word at which the fault was seen, which
@@ -50,6 +51,27 @@ impl From<Refusal> for CodeError {
     ghost from_gives = { λ _ e. e ≡ Memory };
 
     fn from(_refusal: Refusal) -> CodeError {
+        CodeError::Memory
+    }
+}
+
+// For functions of callers that grow lists of their own.
+impl From<AllocError> for CodeError {
+    ghost use Rattle.sre_code.specs.declared.code.error.CodeError.TheVariants.{Memory};
+
+    ghost from_gives = { λ _ e. e ≡ Memory };
+
+    fn from(_refused: AllocError) -> CodeError {
+        CodeError::Memory
+    }
+}
+
+impl<T: Drop> From<AllocFailed<T>> for CodeError {
+    ghost use Rattle.sre_code.specs.declared.code.error.CodeError.TheVariants.{Memory};
+
+    ghost from_gives = { λ _ e. e ≡ Memory };
+
+    fn from(_refused: AllocFailed<T>) -> CodeError {
         CodeError::Memory
     }
 }

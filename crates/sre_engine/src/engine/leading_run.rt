@@ -91,7 +91,7 @@ fn one_on<S: StrDrive>(req: &Request<'_, S>, start: StringCursor) -> Option<Stri
 }
 
 // The next start that a match may have, behind a start that has none and the run that leads from there.
-fn behind_run<S: StrDrive>(
+fn past_run<S: StrDrive>(
     req: &Request<'_, S>,
     lead: LeadingRun,
     start: StringCursor,
@@ -140,6 +140,6 @@ pub(crate) fn start_behind<S: StrDrive>(
 {
     match lead {
         None => one_on(req, start),
-        Some(run) => behind_run(req, run, start),
+        Some(run) => past_run(req, run, start),
     }
 }

@@ -80,7 +80,7 @@ fn rarest(words: &[u32]) -> usize
 }
 
 /// The prefix, where one is confirmed.
-pub(crate) fn prefix_of<'a, S: StrDrive>(req: &Request<'a, S>) -> Option<Prefix<'a>>
+pub(crate) fn confirmed_prefix<'a, S: StrDrive>(req: &Request<'a, S>) -> Option<Prefix<'a>>
     ensures none { result ≡ None → (hints_of (code_of req.now)).prefix ≡ None }
     ensures some { IfSome result (λ prefix. IsPrefix (code_of req.now) prefix.words.now prefix.literals prefix.whole) }
 {
@@ -103,7 +103,7 @@ pub(crate) fn prefix_of<'a, S: StrDrive>(req: &Request<'a, S>) -> Option<Prefix<
 
 /// The start of the place behind which a scan is.
 #[inline(always)]
-pub(crate) fn start_of(prefix: &Prefix<'_>, spot: Spot) -> usize
+pub(crate) fn prefix_start(prefix: &Prefix<'_>, spot: Spot) -> usize
     requires { length prefix.now.words.now ≤ spot.cursor.position }
     ensures { result ≡ spot.cursor.position - length prefix.now.words.now }
 {

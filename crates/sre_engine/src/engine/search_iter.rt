@@ -19,6 +19,18 @@ use std::alloc::Allocator;
 /// as `Some(false)`, or with an error, which means that a growth of the state's memory was refused; from then on there
 /// is no item, there are no marks, and `req` is as it was. A window of n characters has at most 2n + 1 matches. No step
 /// counts characters from the start on.
+///
+/// ```
+/// // The words of `a`.
+/// let code = Code::check(alloc, &[16, 97, 1], &uni)?;
+/// let mut walk = SearchIter::new(Request::whole("aba", code), State::new(alloc));
+/// let mut starts = 0;
+/// 'walk: while let Some(item) = walk.next() {
+///     item?;
+///     starts += walk.state().start();
+/// }
+/// assert!(starts == 0 + 2);
+/// ```
 #[derive(Drop)]
 pub struct SearchIter<'a, S: StrDrive, A: Allocator + Copy> {
     req: Request<'a, S>,
@@ -62,6 +74,10 @@ impl<'a, S: StrDrive, A: Allocator + Copy> SearchIter<'a, S, A> {
     /// What is left of the turns comes back, so one number can bound a whole walk. Where they are used up there are no
     /// marks, and the walk stands where it stood: `next`, or this with more turns, begins its step anew. How many are
     /// enough for a step is said there, too.
+    ///
+    /// # Errors
+    ///
+    /// [`SreError::Memory`], where a growth of the state's memory was refused; the walk has then ended.
     pub fn next_within(&mut self, turns: &mut u64) -> Result<Option<bool>, SreError>
         ensures gives { NextWithin self.old result self.new }
         ensures used { IfOk result (λ told. told ≡ None → turns.new ≡ 0) }

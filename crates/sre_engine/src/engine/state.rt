@@ -1,6 +1,6 @@
 //! A state: what a search leaves of a match.
 
-ghost use Rattle.std.specs.Prelude.{◌≡◌, ◌+◌, ◌-◌, ◌*◌, ◌^◌, ◌<◌, ◌≤◌, ℕ, length, IfOk, OnErr, true, false, Some};
+ghost use Rattle.std.specs.Prelude.{◌≡◌, ◌+◌, ◌-◌, ◌*◌, ◌^◌, ◌<◌, ◌≤◌, length, IfOk, OnErr, true, false, Some};
 ghost use Rattle.std.specs.Prelude.{None, IfSome, IfErr, ◌≢◌};
 ghost use Rattle.sre_model.specs.Tree.{Tree};
 ghost use Rattle.sre_model.specs.Grammar.{Whole, WholeItems};
@@ -26,9 +26,9 @@ use sre_board::{Board, Marks};
 use sre_chars::string::{StrDrive, StringCursor};
 use sre_growth::Refusal;
 use sre_machine::memo::Memo;
-use sre_machine::turns::{Begun, Halt, run_behind};
+use sre_machine::turns::{Begun, Halt, run_from};
 use sre_request::Request;
-use std::alloc::Allocator;
+use std::alloc::{AllocError, AllocFailed, Allocator};
 use std::marker::Model;
 use thiserror::Error;
 
@@ -53,6 +53,20 @@ impl SreError {
 
 impl From<Refusal> for SreError {
     fn from(_refusal: Refusal) -> SreError {
+        SreError::Memory
+    }
+}
+
+// For functions of callers that grow lists of their own. The calls here say by their contracts that a growth of theirs
+// was refused, which no error of these tells.
+impl From<AllocError> for SreError {
+    fn from(_refused: AllocError) -> SreError {
+        SreError::Memory
+    }
+}
+
+impl<T: Drop> From<AllocFailed<T>> for SreError {
+    fn from(_refused: AllocFailed<T>) -> SreError {
         SreError::Memory
     }
 }
@@ -133,7 +147,7 @@ fn attempt<S: StrDrive, A: Allocator>(
     ensures settles { limited ≡ true → IfOk result (λ found. found ≡ None
         → RunSettles req.now start memo.old memo.new left.old left.new) }
 {
-    match run_behind(req, literals, start, board, memo, begun, limited, left) {
+    match run_from(req, literals, start, board, memo, begun, limited, left) {
         Ok(Some(end)) => {
             memo.rest();
             Ok(Some(end))
@@ -238,8 +252,22 @@ impl<A: Allocator + Copy> State<A> {
     /// the window's start and its end. Equal characters, tables, windows, flags and trees have equal answers, whatever
     /// types the texts are of.
     ///
-    /// An error means that a growth of the state's memory was refused. After it, as after `Ok(false)`, there are no
-    /// marks, start and cursor are open, and the state serves again, with a text of any type.
+    /// After `Ok(false)`, as after an error, there are no marks, start and cursor are open, and the state serves again,
+    /// with a text of any type.
+    ///
+    /// ```
+    /// // The words of `(a)b`.
+    /// let code = Code::check(alloc, &[17, 0, 16, 97, 17, 1, 16, 98, 1], &uni)?;
+    /// let mut state = State::new(alloc);
+    /// assert!(state.pymatch(&Request::whole("abc", code))?);
+    /// assert!(state.start() == 0 && state.cursor().position() == 2);
+    /// assert!(state.marks().get(0) == (Some(0), Some(1)));
+    /// assert!(!state.pymatch(&Request::whole("cab", code))?);
+    /// ```
+    ///
+    /// # Errors
+    ///
+    /// [`SreError::Memory`], where a growth of the state's memory was refused.
     pub fn pymatch<S: StrDrive>(&mut self, req: &Request<'_, S>) -> Result<bool, SreError>
         ensures ok { (t : Tree) → Whole (words_of (code_of req.now)) t
             → IfOk result (λ b. Answers (stands_in req.now) (matched (asked_of req.now) t) b self.new) }
@@ -272,6 +300,18 @@ impl<A: Allocator + Copy> State<A> {
     ///
     /// By a code that has neither references nor regions, and whose loops count no further than the memory of failures
     /// goes (`IsRemembered`), more turns than `enough_turns` are not used up, unless memory is refused.
+    ///
+    /// ```
+    /// // The words of `a`.
+    /// let code = Code::check(alloc, &[16, 97, 1], &uni)?;
+    /// let mut turns = 1000;
+    /// assert!(state.match_within(&Request::whole("ab", code), &mut turns)? == Some(true));
+    /// assert!(state.match_within(&Request::whole("ab", code), &mut 0)?.is_none());
+    /// ```
+    ///
+    /// # Errors
+    ///
+    /// [`SreError::Memory`], where a growth of the state's memory was refused.
     pub fn match_within<S: StrDrive>(
         &mut self,
         req: &Request<'_, S>,
@@ -359,8 +399,21 @@ impl<A: Allocator + Copy> State<A> {
     /// most two comparisons with a confirmed prefix for each character. Where the prefix is all of the code, there is
     /// no run and no error.
     ///
-    /// An error means that a growth of the state's memory was refused. After it, as after `Ok(false)`, there are no
-    /// marks, start and cursor are open, and the state serves again, with a text of any type.
+    /// After `Ok(false)`, as after an error, there are no marks, start and cursor are open, and the state serves again,
+    /// with a text of any type.
+    ///
+    /// ```
+    /// // The words of `a`.
+    /// let code = Code::check(alloc, &[16, 97, 1], &uni)?;
+    /// let mut state = State::new(alloc);
+    /// assert!(state.search(Request::whole("éa", code))?);
+    /// assert!(state.start() == 1); // positions count characters
+    /// assert!(state.cursor().position() == 2 && state.cursor().offset() == 3); // offsets count bytes
+    /// ```
+    ///
+    /// # Errors
+    ///
+    /// [`SreError::Memory`], where a growth of the state's memory was refused.
     pub fn search<S: StrDrive>(&mut self, req: Request<'_, S>) -> Result<bool, SreError>
         ensures ok { (t : Tree) → Whole (words_of (code_of req.entry)) t
             → IfOk result (λ b. Answers (stands_in req.entry) (found (asked_of req.entry) t) b self.new) }
@@ -424,6 +477,17 @@ impl<A: Allocator + Copy> State<A> {
     /// What is left of the turns comes back, so one number can bound several searches. How many are enough is said
     /// there, too. Beside its turns a search looks for the starts that it tries; the code alone bounds the time that
     /// this takes for each character of the window.
+    ///
+    /// ```
+    /// // The words of `a`.
+    /// let code = Code::check(alloc, &[16, 97, 1], &uni)?;
+    /// let mut turns = 1000;
+    /// assert!(state.search_within(Request::whole("ba", code), &mut turns)? == Some(true));
+    /// ```
+    ///
+    /// # Errors
+    ///
+    /// [`SreError::Memory`], where a growth of the state's memory was refused.
     pub fn search_within<S: StrDrive>(
         &mut self,
         req: Request<'_, S>,

@@ -3,7 +3,7 @@
 ghost use Rattle.std.specs.Prelude.{◌≡◌, ◌<◌, ◌≤◌, ◌+◌, ◌-◌, IfOk, IfErr, OnErr, true, false};
 ghost use Rattle.sre_model.specs.Marks.{no_marks};
 ghost use Rattle.sre_model.specs.WalkBounds.{most_matches};
-ghost use Rattle.sre_request.specs.Requests.{string_of, start_of, end_of, code_of, asked_of, stands_in};
+ghost use Rattle.sre_request.specs.Requests.{string_of, start_of, code_of, asked_of, stands_in};
 ghost use Rattle.sre_engine.specs.Walks.{GoesOn};
 ghost use Rattle.sre_engine.specs.Costs.{SearchGivenUp};
 ghost use Rattle.sre_engine.specs.Counts.{SpentUpTo, BeginsAgain, runs_of};

@@ -122,8 +122,19 @@ fn add_matches<S: StrDrive, A: Allocator + Copy, F: Starts<S>>(
 /// The state then counts all steps together, on an error too: they begin no more runs than there are starts at which
 /// one may begin, and one more for each match, and compare no character more than twice on average.
 ///
-/// An error means that a growth was refused. After it, as after `Ok`, there are no marks in the state, start and cursor
-/// are open, and the state serves again, with a text of any type.
+/// After it, whatever it gives, there are no marks in the state, start and cursor are open, and the state serves again,
+/// with a text of any type.
+///
+/// ```
+/// // The words of `a`.
+/// let code = Code::check(alloc, &[16, 97, 1], &uni)?;
+/// let all = all_matches(Request::whole("aba", code), &mut State::new(alloc))?;
+/// assert!(all.len() == 2 && all[1].start == 2 && all[1].end == 3);
+/// ```
+///
+/// # Errors
+///
+/// [`SreError::Memory`], where a growth was refused.
 pub fn all_matches<S: StrDrive, A: Allocator + Copy>(
     req: Request<'_, S>,
     state: &mut State<A>,

@@ -21,7 +21,7 @@ use crate::engine::anchors::is_anchored;
 use crate::engine::first_characters::First;
 use crate::engine::leading_run::{leading_run, start_behind};
 use crate::engine::prefix::{
-    Prefix, Spot, behind_literals, find, go_on, may_end, prefix_of, start_of,
+    Prefix, Spot, behind_literals, confirmed_prefix, find, go_on, may_end, prefix_start,
 };
 use crate::engine::state::{State, attempt};
 use crate::engine::told::{Starts, next_member_told, next_start_told};
@@ -59,7 +59,7 @@ impl<A: Allocator + Copy> State<A> {
         ensures anchored { RunsOnceAnchored req.now self.new }
         ensures literal { NoErrorIfLiteral req.now result }
     {
-        if let Some(prefix) = prefix_of(req) {
+        if let Some(prefix) = confirmed_prefix(req) {
             if prefix.whole {
                 return Ok(self.search_whole(req, &prefix, from));
             }
@@ -99,7 +99,7 @@ impl<A: Allocator + Copy> State<A> {
         };
         'place: while find(req, prefix, &mut self.compared, &mut spot) {
             if may_end(req, spot.cursor) {
-                (self.start, self.cursor) = (start_of(prefix, spot), spot.cursor);
+                (self.start, self.cursor) = (prefix_start(prefix, spot), spot.cursor);
                 return true;
             }
             spot = go_on(req, prefix, &self.compared, spot);
@@ -141,7 +141,7 @@ impl<A: Allocator + Copy> State<A> {
             matched: 0,
         };
         'place: while find(req, prefix, &mut self.compared, &mut spot) {
-            let start = start_of(prefix, spot);
+            let start = prefix_start(prefix, spot);
             if is_past(last, start) {
                 return Ok(false);
             }

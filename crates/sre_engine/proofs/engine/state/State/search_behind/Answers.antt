@@ -9,7 +9,7 @@ use Rattle.sre_engine.proofs.Hinting.{past_none}
 use Rattle.sre_engine.proofs.MayStart.{ran_first, ran_plain, few_ran, counts_plain}
 use Rattle.sre_code.proofs.Checked.{code_tree, items_whole}
 use Rattle.sre_engine.proofs.Spending.{run_spent}
-use Rattle.sre_engine.proofs.Costing.{behind_begin, behind_run, behind_given_up, gives_up_limited, passed_on}
+use Rattle.sre_engine.proofs.Costing.{behind_begin, cost_of_run, behind_given_up, gives_up_limited, passed_on}
 use Rattle.sre_engine.proofs.engine.state.State.search_behind.Goals as goal
 
 pub attempt-requires-clause-room : goal.attempt-requires-clause-room
@@ -94,7 +94,7 @@ start-preserved g c =
           run_spent (asked_of asked) (code_of asked) given _ _ _ _ _ _ (c.start.invariant.spent given one)
           c.attempt.ensures.spent c.attempt.ensures.counted c.attempt.ensures.restarted;
       costs = λ limited.
-          behind_run asked _ _ c.in-Some-next_start_told.next _ _ _ _ _ (c.start.invariant.costs limited)
+          cost_of_run asked _ _ c.in-Some-next_start_told.next _ _ _ _ _ (c.start.invariant.costs limited)
           (c.in_ok-end.ensures.settles limited c.in_default-2.is)
           (omega (arith, c.start.invariant.from, c.in-Some.ensures.next.0, next.after)) c.attempt.ensures.counted;
       bars = c.start.invariant.bars;

@@ -1,6 +1,6 @@
 use Rattle.std.proofs.Common.{◌≡◌, false}
 use Rattle.sre_machine.proofs.Following.{again_given_up, again_settles, not_so, if_err, if_ok, err_at}
-use Rattle.sre_machine.proofs.turns.run_behind.Goals as goal
+use Rattle.sre_machine.proofs.turns.run_from.Goals as goal
 
 pub returns-in-Opened-clause-given_up : goal.returns-in-Opened-clause-given_up
 returns-in-Opened-clause-given_up g c =

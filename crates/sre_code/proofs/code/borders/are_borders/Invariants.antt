@@ -1,5 +1,5 @@
 use Rattle.sre_code.specs.Borders.{RightUpTo}
-use Rattle.sre_code.proofs.code.borders.are_right.Given as goal
+use Rattle.sre_code.proofs.code.borders.are_borders.Given as goal
 
 abbrev pub invariant-front : goal.invariant-front
 invariant-front l = RightUpTo l.prefix l.overlaps l.n

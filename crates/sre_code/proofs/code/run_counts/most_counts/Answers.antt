@@ -1,7 +1,7 @@
 use Rattle.std.proofs.Common.{arith}
 use Rattle.std.proofs.lemmas.Grind.{common_steps}
 use Rattle.sre_code.proofs.Scanning.{onto_next}
-use Rattle.sre_code.proofs.code.references.most_counts.Goals as goal
+use Rattle.sre_code.proofs.code.run_counts.most_counts.Goals as goal
 
 pub instruction-preserved : goal.instruction-preserved
 instruction-preserved c =

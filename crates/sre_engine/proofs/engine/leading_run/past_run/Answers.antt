@@ -11,8 +11,8 @@ use Rattle.sre_model.proofs.Bounds.{longest_run-fits}
 use Rattle.sre_model.proofs.TreeOf.{tree_of}
 use Rattle.sre_model.proofs.LeadingWords.{run_test, front_test}
 use Rattle.sre_code.proofs.Checked.{whole_of}
-use Rattle.sre_engine.proofs.LeadingStarts.{none_until, none_behind_run, none_behind_front}
-use Rattle.sre_engine.proofs.engine.leading_run.behind_run.Goals as goal
+use Rattle.sre_engine.proofs.LeadingStarts.{none_until, none_past_run, none_behind_front}
+use Rattle.sre_engine.proofs.engine.leading_run.past_run.Goals as goal
 
 pub longest_run-run-requires-clause-test : goal.longest_run-run-requires-clause-test
 longest_run-run-requires-clause-test g c =
@@ -27,7 +27,7 @@ returns-in_default-clause-none g c = λ t whole none.
     let run = c.longest_run-run in
     none_until asked t p run.result.end.position c.one_on.result
     (subst (λ q. NoneBetween asked t p (q + 1)) (sym run.ensures.position)
-    (none_behind_run asked t words c.args.lead.test p none run.result.count lead run.ensures.count))
+    (none_past_run asked t words c.args.lead.test p none run.result.count lead run.ensures.count))
     c.one_on.ensures.next
 
 pub opcode-requires : goal.opcode-requires

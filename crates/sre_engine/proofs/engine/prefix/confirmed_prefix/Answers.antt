@@ -6,7 +6,7 @@ use Rattle.sre_code.specs.declared.code.Hints.{Hints}
 use Rattle.sre_engine.specs.Prefixed.{IsPrefix}
 use Rattle.sre_engine.specs.Scans.{Overlapping}
 use Rattle.sre_engine.proofs.Hinting.{prefix_room, prefix_overlaps, prefix_is}
-use Rattle.sre_engine.proofs.engine.prefix.prefix_of.Goals as goal
+use Rattle.sre_engine.proofs.engine.prefix.confirmed_prefix.Goals as goal
 
 -- the prefix that the code's hints give
 hint : (code : Code) (h : Hints) (l k : ℕ) → h ≡ hints_of code → h.prefix ≡ Some (l, k)

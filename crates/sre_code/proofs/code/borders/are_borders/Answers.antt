@@ -1,6 +1,6 @@
 use Rattle.std.proofs.Common.{arith}
 use Rattle.sre_code.proofs.Borders.{more_wrong}
-use Rattle.sre_code.proofs.code.borders.are_right.Goals as goal
+use Rattle.sre_code.proofs.code.borders.are_borders.Goals as goal
 
 pub returns-then-overlaps-n : goal.returns-then-overlaps-n
 returns-then-overlaps-n c = (

@@ -1,6 +1,6 @@
 use Rattle.std.proofs.Common.{length, ◌-◌}
 use Rattle.sre_code.proofs.Scanning.{Onto}
-use Rattle.sre_code.proofs.code.references.most_counts.Given as goal
+use Rattle.sre_code.proofs.code.run_counts.most_counts.Given as goal
 
 abbrev pub invariant-instruction : goal.invariant-instruction
 invariant-instruction l = Onto l.words l.place l.most

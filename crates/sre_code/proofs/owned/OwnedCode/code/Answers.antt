@@ -1,0 +1,11 @@
+use Rattle.std.proofs.Common.{sym, subst}
+use Rattle.sre_model.specs.Tree.{Tree}
+use Rattle.sre_model.specs.Grammar.{Whole}
+use Rattle.sre_code.specs.Hinted.{Confirmed}
+use Rattle.sre_code.proofs.owned.OwnedCode.code.Goals as goal
+
+pub from_checked-requires-clause-checked : goal.from_checked-requires-clause-checked
+from_checked-requires-clause-checked c =
+    let kept = c.args.self.now in
+    subst (λ words. ∥ ((t : Tree) × Whole words t × Confirmed words kept.uni t kept.hints) ∥₁)
+    (sym c.as_slice.ensures.value) kept.checked
