@@ -13,7 +13,7 @@ lines or answers is TEXT N times.
                     of the two outputs
 
 Each text of a .jsonl file has a character for a byte. Beside the files come lines that are made: random and changed
-words (`hostile.py`), and large ones (`large.py`).
+words (`hostile.py`), and large ones (`large.py`). The lines of `sre_cases` are asked of finders, too (`finders.py`).
 """
 import json
 import os
@@ -22,6 +22,7 @@ import subprocess
 import sys
 import tempfile
 
+import finders
 import hostile
 import large
 
@@ -98,6 +99,12 @@ def calls_of_lines(folder, name, room):
     yield f"case file {name}", Call([file], answers, fault) if answers or fault else None
 
 
+def lines_of(folder):
+    """The lines of a folder's files of lines."""
+    for name in sorted(it for it in os.listdir(folder) if it.endswith(".txt") and os.path.isfile(f"{folder}/{it[:-4]}.expected")):
+        yield from expanded(read(f"{folder}/{name}")).splitlines()
+
+
 def rows(folder, name):
     """The rows of NAME.jsonl with their numbers, if there is such a file."""
     path = f"{folder}/{name}.jsonl"
@@ -158,6 +165,8 @@ class Cases:
         self.made("sre_cases", "random words", lambda it: lists.are_judged(it, self.tell))
         self.made("sre_cases", "changed words", lambda it: changed.are_judged(it, self.tell))
         self.made("sre_probes", "runs of changed words", lambda it: changed.agree(it, self.tell))
+        lines = [it.decode() for folder in ("crates/sre_cases/cases", "examples") for it in lines_of(f"{ROOT}/{folder}")]
+        self.made("sre_probes", "cases by finders", lambda it: finders.agree(it, lines, self.tell))
         self.made("sre_cases", "large lines", lambda it: large.are_answered(it, large.cases, self.tell))
         self.made("sre_probes", "large lines", lambda it: large.are_answered(it, large.probes, self.tell))
 

@@ -5,6 +5,7 @@
 mod codes;
 mod counted;
 mod counts;
+mod finders;
 mod heaps;
 mod lines;
 mod probe;

@@ -2,12 +2,14 @@
 
 use crate::codes::{push_code, push_cuts, push_letter};
 use crate::counts::{push_counts, push_reads};
+use crate::finders::{push_by_finder, push_by_spans};
 use crate::heaps::{push_on_heap, push_refused};
 use crate::lines::push_lines;
 use crate::recipes::{Recipe, push_recipe};
 use crate::shown::{push_list, push_shown, push_within};
 use crate::turns::push_fewest;
 use sre_engine::{Code, EmptyRule, Request, State, StrDrive, UniTable};
+use sre_finder::{Encoding, Haystack};
 use sre_lines::line::{Case, Finding, Operands, Subject, TextForm, Window, read_case, split_once};
 use std::alloc::{AllocError, Allocator, Global};
 
@@ -47,6 +49,10 @@ pub(crate) enum Asked<'a> {
     Fewest,
     /// Whether the counts lie within these bounds, which a field writes.
     Counted(&'a [u8]),
+    /// What is shown, where a finder tells starts.
+    Finder,
+    /// What is shown, where a finder tells spans.
+    Spans,
     Recipe(Recipe<'a>),
 }
 
@@ -161,25 +167,38 @@ pub(crate) fn push_plain<A: Allocator + Copy>(
             let req = request(text, subject, code);
             match asked {
                 Asked::Recipe(recipe) => push_recipe(heap, state, recipe, finding, req, answer),
-                _ => push_found(heap, state, asked, finding, req, answer),
+                _ => push_found(desk.alloc, heap, state, asked, finding, seen(text), req, answer),
             }
         }
         _ => push_found(
+            desk.alloc,
             heap,
             state,
             asked,
             finding,
+            Encoding::Bytes,
             request(bytes, subject, code),
             answer,
         ),
     }
 }
 
+// As what automata read a text.
+fn seen(text: &str) -> Encoding {
+    if text.is_ascii() {
+        Encoding::Ascii
+    } else {
+        Encoding::Utf8
+    }
+}
+
 // The words that stand alone before a case.
-static ALONE: [(&[u8], Asked<'static>); 7] = [
+static ALONE: [(&[u8], Asked<'static>); 9] = [
     (b"shown", Asked::Shown),
     (b"list", Asked::Listed),
     (b"fewest", Asked::Fewest),
+    (b"finder", Asked::Finder),
+    (b"spans", Asked::Spans),
     (b"find", Asked::Recipe(Recipe::Find)),
     (b"split", Asked::Recipe(Recipe::Split)),
     (b"tokens", Asked::Recipe(Recipe::Tokens)),
@@ -221,11 +240,13 @@ fn asked_of(probe: &[u8]) -> Option<(Asked<'_>, &[u8])> {
 }
 
 // Appends what a text is asked.
-fn push_found<S: StrDrive, A: Allocator + Copy>(
+fn push_found<S: Haystack, A: Allocator + Copy>(
+    alloc: Global,
     heap: A,
     state: &mut State<A>,
     asked: Asked<'_>,
     finding: Finding,
+    encoding: Encoding,
     req: Request<'_, S>,
     answer: &mut String,
 ) -> Result<(), AllocError> {
@@ -235,6 +256,8 @@ fn push_found<S: StrDrive, A: Allocator + Copy>(
         Asked::Within(turns) => push_within(state, finding, req, turns, answer),
         Asked::Fewest => push_fewest(heap, state, finding, req, answer),
         Asked::Counted(bounds) => push_counts(state, finding, req, bounds, answer),
+        Asked::Finder => push_by_finder(alloc, heap, state, finding, encoding, req, answer),
+        Asked::Spans => push_by_spans(alloc, heap, state, finding, encoding, req, answer),
         Asked::Recipe(_) => answer.push_str("no text"),
     }
 }

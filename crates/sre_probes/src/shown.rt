@@ -5,8 +5,8 @@ use sre_lines::answer::push_match;
 use sre_lines::line::Finding;
 use std::alloc::{AllocError, Allocator};
 
-// Appends what a state shows of a match.
-fn push_state<A: Allocator + Copy>(
+/// Appends what a state shows of a match.
+pub(crate) fn push_state<A: Allocator + Copy>(
     state: &State<A>,
     answer: &mut String,
 ) -> Result<(), AllocError> {

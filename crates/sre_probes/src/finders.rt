@@ -1,0 +1,111 @@
+//! What is found by a finder, whose automata tell where the next match can begin, and by one whose automata tell spans.
+//! Each answers as `shown` does, which asks the machine alone.
+
+ghost use Rattle.std.specs.Prelude.{◌≡◌};
+ghost use Rattle.sre_engine.specs.Requests.{code_of};
+
+use crate::shown::{push_answer, push_state};
+use sre_engine::{Request, State, StrDrive};
+use sre_finder::{Encoding, Finder, FinderIter, Haystack, SpanFinder, SpanIter};
+use sre_lines::line::Finding;
+use std::alloc::{AllocError, Allocator, Global};
+
+// Appends each match of a walk, with the starts passed of which a finder tells that they have none.
+fn push_starts<S: Haystack, A: Allocator + Copy>(
+    walk: &mut FinderIter<'_, '_, S, A>,
+    answer: &mut String,
+) -> Result<(), AllocError> {
+    'matches: while let Some(item) = walk.next() {
+        if item.is_err() {
+            return Err(AllocError);
+        }
+        push_state(walk.state(), answer)?;
+        answer.push_str("; ")?;
+    }
+    answer.push_str("end")
+}
+
+/// Appends what a call finds, or each match of a walk, where a finder is asked.
+pub(crate) fn push_by_finder<S: Haystack, A: Allocator + Copy>(
+    alloc: Global,
+    heap: A,
+    state: &mut State<A>,
+    finding: Finding,
+    encoding: Encoding,
+    req: Request<'_, S>,
+    answer: &mut String,
+) -> Result<(), AllocError> {
+    let mut finder = Finder::new(alloc, req.pattern_codes(), encoding);
+    let found = match finding {
+        Finding::Match => state.pymatch(&req),
+        Finding::Search => finder.search(req, state),
+        Finding::Walk => return push_starts(&mut finder.walk(req, State::new(heap)), answer),
+    };
+    push_answer(state, found, answer)
+}
+
+// Appends the match whose span came last, as a run of the machine at its start shows it.
+fn push_span<S: Haystack, A: Allocator + Copy>(
+    walk: &mut SpanIter<'_, '_, S, A>,
+    start: usize,
+    end: usize,
+    answer: &mut String,
+) -> Result<(), AllocError> {
+    let Ok(is_shown) = walk.show() else {
+        return Err(AllocError);
+    };
+    let state = walk.state();
+    if !is_shown || state.start() != start || state.cursor().position() != end {
+        return answer.push_str("another span");
+    }
+    push_state(state, answer)
+}
+
+// Appends each match of a walk over spans.
+fn push_spans<S: Haystack, A: Allocator + Copy>(
+    walk: &mut SpanIter<'_, '_, S, A>,
+    answer: &mut String,
+) -> Result<(), AllocError> {
+    'matches: while let Some(item) = walk.next() {
+        let Ok(span) = item else {
+            return Err(AllocError);
+        };
+        push_span(walk, span.start, span.end, answer)?;
+        answer.push_str("; ")?;
+    }
+    answer.push_str("end")
+}
+
+// Appends the first match of a walk over spans.
+fn push_first<S: Haystack, A: Allocator + Copy>(
+    walk: &mut SpanIter<'_, '_, S, A>,
+    answer: &mut String,
+) -> Result<(), AllocError> {
+    match walk.next() {
+        Some(Ok(span)) => push_span(walk, span.start, span.end, answer),
+        Some(Err(_)) => Err(AllocError),
+        None => answer.push_str("no"),
+    }
+}
+
+/// Appends what a call finds, or each match of a walk, where a finder of spans is asked.
+pub(crate) fn push_by_spans<S: Haystack, A: Allocator + Copy>(
+    alloc: Global,
+    heap: A,
+    state: &mut State<A>,
+    finding: Finding,
+    encoding: Encoding,
+    req: Request<'_, S>,
+    answer: &mut String,
+) -> Result<(), AllocError> {
+    if let Finding::Match = finding {
+        let found = state.pymatch(&req);
+        return push_answer(state, found, answer);
+    }
+    let finder = SpanFinder::new(alloc, req.pattern_codes(), encoding);
+    let mut walk = finder.walk(req, State::new(heap));
+    if let Finding::Search = finding {
+        return push_first(&mut walk, answer);
+    }
+    push_spans(&mut walk, answer)
+}
