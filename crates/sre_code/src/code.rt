@@ -34,7 +34,9 @@ mod references;
 mod region;
 mod repeat;
 mod set;
+mod slots;
 mod step;
+mod turns;
 mod words;
 
 use check::check_in;
