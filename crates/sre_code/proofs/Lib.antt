@@ -20,6 +20,7 @@ pub mod Scanning
 pub mod ScanningLoops
 pub mod PassedParts
 pub mod CappedTurns
+pub mod CodeTurns
 pub mod AsciiMembers
 pub mod Bits
 pub mod Halves

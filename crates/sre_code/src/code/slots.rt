@@ -97,7 +97,10 @@ fn looped(words: &[u32], place: usize, most: u64) -> Option<Passed>
     ensures few { IfSome result (λ p. p.slots ≤ most) }
 {
     let end = place + 1 + word_or_zero(words, place + 1) as usize;
-    let slots = loop_slots(word_or_zero(words, place + 2), word_or_zero(words, place + 3));
+    let slots = loop_slots(
+        word_or_zero(words, place + 2),
+        word_or_zero(words, place + 3),
+    );
     let left = most / slots;
     if left == 0 {
         return None;

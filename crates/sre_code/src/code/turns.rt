@@ -62,8 +62,8 @@ fn number(places: u64, passed: Passed, counts: u64, characters: u64) -> Option<u
 /// One turn more than are enough for these items, whose runs count up to `counts`, on a text of so many characters; none
 /// where that is not known, or takes more than 64 bits.
 pub fn enough(items: &[u32], counts: u32, characters: usize) -> Option<u64>
-    requires counted { (tree : Tree) → WholeItems items.now tree → refers tree ≡ false → counts ≡ most_counts tree }
-    ensures { (tree : Tree) → WholeItems items.now tree → NumberTold (length items.now) tree characters result }
+    ensures { (tree : Tree) → WholeItems items.now tree → (refers tree ≡ false → counts ≡ most_counts tree)
+        → NumberTold (length items.now) tree characters result }
 {
     match scan(items, 0, items.len().saturating_sub(1), MOST_SLOTS) {
         Some(passed) => number(items.len() as u64, passed, counts as u64, characters as u64),
