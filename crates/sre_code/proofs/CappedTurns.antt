@@ -1,9 +1,9 @@
 -- Numbers that are held at the greatest one of 64 bits, and what they come to.
-use Rattle.std.proofs.Common.{ℕ, ◌+◌, ◌-◌, ◌*◌, ◌/◌, ◌^◌, ◌≡◌, ◌<◌, ◌≤◌, ◌⊎◌, inl, inr, min, max, refl, sym, ap, ◌∙◌, arith}
-use Rattle.std.proofs.Common.{nat_le, Option, Some, None}
-use Rattle.std.proofs.Math.Nat.{mul-le-mul, mul-le-mul_left, mul-le-mul_right}
+use Rattle.std.proofs.Common.{ℕ, ◌+◌, ◌-◌, ◌*◌, ◌/◌, ◌^◌, ◌≡◌, ◌<◌, ◌≤◌, ◌⊎◌, inl, inr, min, sym, ap, ◌∙◌, arith}
+use Rattle.std.proofs.Common.{nat_le}
+use Rattle.std.proofs.Math.Nat.{mul-le-mul_left, mul-le-mul_right}
 use Rattle.std.proofs.lemmas.Bool.Decides.{nat_tests}
-use Rattle.sre_code.specs.EnoughTurns.{room_by}
+use Rattle.sre_code.specs.TurnsTold.{room_by}
 
 -- r is x, or the greatest number where x is above it
 pub record Held (x r : ℕ) : Type 0 where

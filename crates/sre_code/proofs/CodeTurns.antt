@@ -10,9 +10,9 @@ use Rattle.sre_model.specs.References.{refers}
 use Rattle.sre_model.specs.Grammar.{Reads, WholeItems, Whole}
 use Rattle.sre_model.specs.Remembered.{IsRemembered, enough_turns}
 use Rattle.sre_model.proofs.WiderWindows.{IsInside, remembered_inside, enough_inside}
-use Rattle.sre_code.specs.PlainItems.{IsPlain, TreeTold, AreTold}
-use Rattle.sre_code.specs.EnoughTurns.{IsWindow, IsWholeText, AreEnoughFor, HasNoNumber, NumberTold, NumberBy, turns_by}
-use Rattle.sre_code.specs.EnoughTurns.{turns_on, room_by}
+use Rattle.sre_code.specs.PlainItems.{IsPlain, AreTold}
+use Rattle.sre_code.specs.EnoughTurns.{IsWindow, IsWholeText, AreEnoughFor, HasNoNumber}
+use Rattle.sre_code.specs.TurnsTold.{NumberTold, NumberBy, turns_on, room_by}
 use Rattle.sre_code.specs.declared.code.slots.Passed.{Passed}
 
 -- the number as it is written, of positions from start to end

@@ -1,11 +1,11 @@
 -- What is told of one instruction, by what it is: a loop with its body, a branch, or another one.
-use Rattle.std.proofs.Common.{ℕ, ◌+◌, ◌-◌, ◌*◌, ◌/◌, ◌≡◌, ◌≢◌, ◌<◌, ◌≤◌, ◌⊎◌, inl, inr, ⊎_elim, Bool, List, Option}
-use Rattle.std.proofs.Common.{Some, None, length, max, refl, sym, ap, ◌∙◌, subst, arith}
+use Rattle.std.proofs.Common.{ℕ, ◌+◌, ◌*◌, ◌/◌, ◌≡◌, ◌≤◌, ◌⊎◌, inl, inr, ⊎_elim, Bool, List, Option}
+use Rattle.std.proofs.Common.{Some, None, refl, sym, ap, ◌∙◌, subst, arith}
 use Rattle.std.proofs.lemmas.Nat.{le-div}
 use Rattle.std.proofs.Math.Nat.{div-mul-le_self, mul-le-mul_left}
 use Rattle.sre_chars.specs.Numbers.{opcode_number}
 use Rattle.sre_chars.specs.declared.constants.SreOpcode.{SreOpcode}
-use Rattle.sre_model.specs.Tree.{Tree, Loop, Trees, Only, Or, Test}
+use Rattle.sre_model.specs.Tree.{Trees, Only, Or, Test}
 use Rattle.sre_model.specs.References.{refers}
 use Rattle.sre_model.specs.Regions.{has_region}
 use Rattle.sre_model.specs.Slots.{loop_slots, most_slots}
@@ -16,7 +16,7 @@ use Rattle.sre_model.proofs.Words.{same_opcode, word_of}
 use Rattle.sre_model.proofs.Places.{alternative_long}
 use Rattle.sre_code.specs.Reading.{ReadsTest, NoCode}
 use Rattle.sre_code.specs.Instructions.{own_words, count_at, Behind, NoneBehind}
-use Rattle.sre_code.specs.PlainItems.{ArePlain, IsPlain, TreeTold, flat, AreTold, AreCounted, LoopTold, BranchTold}
+use Rattle.sre_code.specs.PlainItems.{ArePlain, IsPlain, flat, AreTold, AreCounted, LoopTold, BranchTold}
 use Rattle.sre_code.specs.PlainItems.{OtherTold, kind_of, ToldBy, ToldAt}
 use Rattle.sre_code.specs.declared.code.slots.Kind.{Kind}
 use Rattle.sre_code.specs.declared.code.slots.Passed.{Passed}

@@ -1,27 +1,27 @@
 -- A scan from one instruction to the next, into each alternative and past each loop, tells how many slots and
 -- alternatives plain items have, or that they are not plain.
-use Rattle.std.proofs.Common.{ℕ, zero, suc, ◌+◌, ◌-◌, ◌*◌, ◌/◌, ◌≡◌, ◌<◌, ◌≤◌, ◌⊎◌, inl, inr, ⊎_elim, Bool, true, false}
-use Rattle.std.proofs.Common.{◌||◌, List, Option, Some, None, length, max, refl, sym, ap, ◌∙◌, subst, arith}
+use Rattle.std.proofs.Common.{ℕ, zero, suc, ◌+◌, ◌-◌, ◌≡◌, ◌<◌, ◌≤◌, ◌⊎◌, inl, inr, ⊎_elim, Bool, true, false}
+use Rattle.std.proofs.Common.{◌||◌, List, Option, Some, None, max, refl, sym, ap, ◌∙◌, subst, arith}
 use Rattle.std.proofs.lemmas.Bool.{true≢false}
 use Rattle.std.proofs.Math.Nat.{le-max_right}
 use Rattle.sre_chars.specs.declared.constants.SreOpcode.{SreOpcode}
 use Rattle.sre_chars.specs.declared.constants.SreOpcode.TheVariants as opcode
 use Rattle.sre_model.specs.Tree.{Tree, Empty, Then, Item, Fail, One, At, Mark, Branch, Loop, Run, PossessiveLoop}
 use Rattle.sre_model.specs.Tree.{Atomic, Look, Reference, Exists, ExistsElse, Trees, Only, Or, Test}
-use Rattle.sre_model.specs.Tree.{Order, RunKind, GreedyRun, LazyRun, PossessiveRun, Sign, Positive, Negative}
+use Rattle.sre_model.specs.Tree.{RunKind, Sign}
 use Rattle.sre_model.specs.References.{refers, item_refers, some_refers}
 use Rattle.sre_model.specs.Regions.{has_region, item_has_region, some_has_region}
-use Rattle.sre_model.specs.Slots.{loop_slots, most_slots, item_slots, branch_slots}
+use Rattle.sre_model.specs.Slots.{most_slots, item_slots, branch_slots}
 use Rattle.sre_model.specs.Alternatives.{how_many, most_alternatives, item_alternatives, branch_alternatives}
-use Rattle.sre_model.specs.Roles.{role, ToRefer, ToTest, TestKind, ToRun}
+use Rattle.sre_model.specs.Roles.{role}
 use Rattle.sre_model.specs.Grammar.{skip, Opcode, test_opcode, look_opcode, run_opcode, reference_opcode, Reads}
 use Rattle.sre_model.specs.Grammar.{ReadsItem, ReadsBranch}
 use Rattle.sre_model.proofs.Families.{test_role, run_role, look_role, reference_role}
 use Rattle.sre_model.proofs.Places.{test_past, reads_within, operands_past, branch_past, alternative_long}
 use Rattle.sre_code.specs.Reading.{ReadsTest}
-use Rattle.sre_code.specs.Instructions.{own_words, count_at, Behind, NoneBehind}
-use Rattle.sre_code.specs.PlainItems.{ArePlain, IsPlain, IsPlainItem, TreeTold, ItemTold, flat, AreTold, LoopTold}
-use Rattle.sre_code.specs.PlainItems.{BranchTold, OtherTold, kind_of, ToldBy, ToldAt}
+use Rattle.sre_code.specs.Instructions.{own_words, count_at}
+use Rattle.sre_code.specs.PlainItems.{ArePlain, IsPlain, IsPlainItem, TreeTold, ItemTold, flat, AreTold}
+use Rattle.sre_code.specs.PlainItems.{kind_of, ToldBy, ToldAt}
 use Rattle.sre_code.specs.declared.code.slots.Kind.{Kind}
 use Rattle.sre_code.specs.declared.code.slots.Kind.TheVariants as kind
 use Rattle.sre_code.specs.declared.code.slots.Passed.{Passed}

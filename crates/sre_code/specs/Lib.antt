@@ -10,6 +10,7 @@ pub mod AsciiSets
 pub mod Instructions
 pub mod PlainItems
 pub mod EnoughTurns
+pub mod TurnsTold
 pub mod Steps
 pub mod Descent
 pub mod Codes

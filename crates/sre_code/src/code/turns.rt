@@ -5,7 +5,7 @@ ghost use Rattle.sre_model.specs.Tree.{Tree};
 ghost use Rattle.sre_model.specs.Grammar.{WholeItems};
 ghost use Rattle.sre_model.specs.References.{refers};
 ghost use Rattle.sre_model.specs.RunCounts.{most_counts};
-ghost use Rattle.sre_code.specs.EnoughTurns.{NumberTold, NumberBy, turns_by, room_by};
+ghost use Rattle.sre_code.specs.TurnsTold.{NumberTold, NumberBy, turns_by, room_by};
 
 use crate::code::slots::{Passed, scan};
 

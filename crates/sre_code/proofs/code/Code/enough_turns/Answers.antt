@@ -1,8 +1,8 @@
-use Rattle.std.proofs.Common.{List, ℕ, length, subst, sym, ◌∙◌}
+use Rattle.std.proofs.Common.{List, ℕ, length, subst, sym}
 use Rattle.sre_model.specs.Tree.{Tree}
 use Rattle.sre_model.specs.Grammar.{Whole, WholeItems}
 use Rattle.sre_code.specs.Codes.{words_of, items_of}
-use Rattle.sre_code.specs.EnoughTurns.{NumberTold}
+use Rattle.sre_code.specs.TurnsTold.{NumberTold}
 use Rattle.sre_code.proofs.CodeTurns.{enough_some, enough_none}
 use Rattle.sre_code.proofs.code.Code.enough_turns.Goals.{After-enough}
 use Rattle.sre_code.proofs.code.Code.enough_turns.Goals as goal

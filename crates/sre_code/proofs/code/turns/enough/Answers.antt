@@ -1,4 +1,4 @@
-use Rattle.std.proofs.Common.{arith, length, ◌-◌}
+use Rattle.std.proofs.Common.{arith}
 use Rattle.sre_code.proofs.CodeTurns.{turns_told}
 use Rattle.sre_code.proofs.code.turns.enough.Goals as goal
 
