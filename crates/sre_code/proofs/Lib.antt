@@ -17,6 +17,10 @@ pub mod Prefixes
 pub mod Claimed
 pub mod FirstSets
 pub mod Scanning
+pub mod ScanningLoops
+pub mod PassedParts
+pub mod CappedTurns
+pub mod CodeTurns
 pub mod AsciiMembers
 pub mod Bits
 pub mod Halves

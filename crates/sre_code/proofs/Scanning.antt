@@ -44,7 +44,7 @@ Told ws e b c j m r = ((b ≡ true) × (r ≡ None)) ⊎ ((b ≡ false) × Scan 
 test_has_none : (t : Test) → own_words (role (test_opcode t)) ≡ None
 test_has_none t = ap own_words (test_role t)
 
-run_has_four : (kind : RunKind) → own_words (role (run_opcode kind)) ≡ Some 4
+pub run_has_four : (kind : RunKind) → own_words (role (run_opcode kind)) ≡ Some 4
 run_has_four GreedyRun = refl
 run_has_four LazyRun = refl
 run_has_four PossessiveRun = refl
@@ -71,15 +71,15 @@ look_counts Positive back next = refl
 look_counts Negative back next = refl
 
 -- counts are told in any order
-max_assoc : (a b c : ℕ) → max (max a b) c ≡ max a (max b c)
+pub max_assoc : (a b c : ℕ) → max (max a b) c ≡ max a (max b c)
 max_assoc a b c = omega arith
 
-to_refer : (kind : TestKind) → ToRefer ≡ ToTest kind → ⊥
+pub to_refer : (kind : TestKind) → ToRefer ≡ ToTest kind → ⊥
 to_refer kind e = cc
 
 module _ (ws : List ℕ) where
   -- one instruction stands behind another
-  behind_test : (i j k c : ℕ) (t : Test) → ReadsTest ws i j t → Behind ws i k c → (k ≡ j) × (c ≡ 0)
+  pub behind_test : (i j k c : ℕ) (t : Test) → ReadsTest ws i j t → Behind ws i k c → (k ≡ j) × (c ≡ 0)
   behind_test i j k c t r b = ⊎_elim
       (λ (x : (u : Test) × ReadsTest ws i k u × (c ≡ 0)).
       (sym (test_same t x.0 ws i j k r.0 r.1 x.1.0 x.1.1).1, x.2))
@@ -90,7 +90,7 @@ module _ (ws : List ℕ) where
       absurd (cc))
       b.one
 
-  behind_own : (i k c n : ℕ) (o : SreOpcode) → Opcode ws i o → own_words (role o) ≡ Some n → Behind ws i k c
+  pub behind_own : (i k c n : ℕ) (o : SreOpcode) → Opcode ws i o → own_words (role o) ≡ Some n → Behind ws i k c
       → (k ≡ i + n) × (c ≡ count_at o ws i)
   behind_own i k c n o w e b = ⊎_elim
       (λ (x : (u : Test) × ReadsTest ws i k u × (c ≡ 0)).
@@ -106,7 +106,7 @@ module _ (ws : List ℕ) where
       b.one
 
   -- neither a reference nor a condition is behind
-  none_behind : (i : ℕ) (o : SreOpcode) → Opcode ws i o → own_words (role o) ≡ None
+  pub none_behind : (i : ℕ) (o : SreOpcode) → Opcode ws i o → own_words (role o) ≡ None
       → ((kind : TestKind) → role o ≡ ToTest kind → ⊥) → NoneBehind ws i
   none_behind i o w e other = record { none = λ k c b. by_kind k c b.one }
     where

@@ -8,6 +8,9 @@ pub mod FirstSets
 pub mod AsciiSet
 pub mod AsciiSets
 pub mod Instructions
+pub mod PlainItems
+pub mod EnoughTurns
+pub mod TurnsTold
 pub mod Steps
 pub mod Descent
 pub mod Codes

@@ -7,7 +7,7 @@
 //! of words that are a code then tells, with no stack, whether they ask for groups, and how far the characters of their
 //! runs count; and what the block claims is compared with the first items, which confirm it or not.
 
-ghost use Rattle.std.specs.Prelude.{◌≡◌, ◌≢◌, ◌≤◌, false, length, IfOk, IfErr, OnOk};
+ghost use Rattle.std.specs.Prelude.{◌≡◌, ◌≢◌, ◌≤◌, false, length, IfOk, IfErr, OnOk, IfSome, None};
 ghost use Rattle.sre_model.specs.Tree.{Tree};
 ghost use Rattle.sre_model.specs.Grammar.{Whole};
 ghost use Rattle.sre_model.specs.References as references;
@@ -15,6 +15,7 @@ ghost use Rattle.sre_model.specs.RunCounts as run_counts;
 ghost use Rattle.sre_code.specs.Hinted.{Confirmed};
 ghost use Rattle.sre_model.specs.Grammar.{AreItems, IsCode, HasOneTree, behind_block};
 ghost use Rattle.sre_code.specs.Refusals.{place_of};
+ghost use Rattle.sre_code.specs.EnoughTurns.{AreEnoughFor, HasNoNumber};
 ghost use Rattle.sre_growth.specs.Refusal.{Refused};
 
 mod block;
@@ -34,7 +35,9 @@ mod region;
 mod repeat;
 mod run_counts;
 mod set;
+mod slots;
 mod step;
+mod turns;
 mod words;
 
 use check::check_in;
@@ -214,5 +217,20 @@ impl<'a> Code<'a> {
             → result ≡ run_counts.most_counts tree }
     {
         self.most_counts
+    }
+    /// A number of turns within which a match, a search or a step of a walk is answered unless memory is refused, in
+    /// any window of a text of at most so many characters: one more than `enough_turns` of the whole text. It grows
+    /// with the text, and is told without one, in a time that grows with the words alone.
+    ///
+    /// `None` where no such number is known, which is where what failed is not kept: the code has a reference, a
+    /// condition, an atomic group, a look or a possessive loop, its loops have more than 4,096 slots within each
+    /// other, or there is no room for so many characters. And where the number takes more than 64 bits.
+    pub fn enough_turns(&self, characters: usize) -> Option<u64>
+        ensures enough { IfSome result (λ turns. (tree : Tree) → Whole (words_of self.now) tree
+            → AreEnoughFor (length (items_of self.now)) tree characters turns) }
+        ensures none { result ≡ None → (tree : Tree) → Whole (words_of self.now) tree
+            → HasNoNumber (length (items_of self.now)) tree characters }
+    {
+        turns::enough(self.items(), self.most_counts(), characters)
     }
 }

@@ -37,3 +37,4 @@ mod ReaderRows
 mod HintRows
 pub mod Passing
 pub mod TurnBounds
+pub mod WiderWindows

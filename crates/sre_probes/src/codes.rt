@@ -1,6 +1,6 @@
 //! What a check says of words, and a table of a character.
 
-use crate::probe::{Desk, word_of};
+use crate::probe::{Desk, cut, number_of, word_of};
 use sre_engine::string::{category, lower_ascii, lower_unicode, upper_ascii, upper_unicode};
 use sre_engine::{Code, CodeError, SreCatCode, UniTable};
 use sre_lines::answer::push_hints;
@@ -24,6 +24,29 @@ pub(crate) fn push_code(
             write!(answer, " items {items} refers {refers} counts {counts}")
         }
         Err(error) => write!(answer, "{error}, number {}", error.number()),
+    }
+}
+
+/// Appends how many turns are enough for a code on a text of so many characters, where such a number is known.
+pub(crate) fn push_enough(
+    desk: &mut Desk<Global>,
+    table: &UniTable,
+    rest: &[u8],
+    answer: &mut String,
+) -> Result<(), AllocError> {
+    let (field, case) = cut(rest, b' ');
+    let (Some(characters), Ok(Case::Check)) = (
+        number_of(field),
+        read_case(case.unwrap_or_default(), &mut desk.operands),
+    ) else {
+        return answer.push_str("no case");
+    };
+    let Ok(code) = Code::check(desk.alloc, desk.operands.words.as_slice(), table) else {
+        return answer.push_str("refused");
+    };
+    match code.enough_turns(characters as usize) {
+        Some(turns) => write!(answer, "{turns}"),
+        None => answer.push_str("none"),
     }
 }
 

@@ -1,6 +1,6 @@
 //! A probe: a word that says what is asked, perhaps numbers, and a case as `sre_cases` reads it.
 
-use crate::codes::{push_code, push_cuts, push_letter};
+use crate::codes::{push_code, push_cuts, push_enough, push_letter};
 use crate::counts::{push_counts, push_reads};
 use crate::finders::{push_by_finder, push_by_spans};
 use crate::heaps::{push_on_heap, push_refused};
@@ -99,16 +99,18 @@ enum Kind {
     Heap,
     Code,
     Cuts,
+    Enough,
     Reads,
     Letter,
 }
 
-static KINDS: [(&[u8], Kind); 7] = [
+static KINDS: [(&[u8], Kind); 8] = [
     (b"refuse", Kind::Refuse),
     (b"lines", Kind::Lines),
     (b"heap", Kind::Heap),
     (b"code", Kind::Code),
     (b"cuts", Kind::Cuts),
+    (b"enough", Kind::Enough),
     (b"reads", Kind::Reads),
     (b"letter", Kind::Letter),
 ];
@@ -140,6 +142,7 @@ pub(crate) fn push_probe(
         Kind::Heap => push_on_heap(desk.alloc, table, rest, answer),
         Kind::Code => push_code(desk, table, rest, answer),
         Kind::Cuts => push_cuts(desk, table, rest, answer),
+        Kind::Enough => push_enough(desk, table, rest, answer),
         Kind::Reads => push_reads(desk, table, rest, answer),
         Kind::Letter => push_letter(table, rest, answer),
     }

@@ -2,7 +2,8 @@
 //! emitted is accepted, and what a search, a walk and its list leave where they end otherwise than by a match.
 
 ghost use Rattle.std.specs.Prelude.{◌<◌, ◌+◌, ◌-◌, ◌*◌, ℕ, length};
-ghost use Rattle.std.specs.Prelude.{◌≡◌, ◌≢◌, ◌≤◌, IfOk, IfErr, OnErr, Some, true, false, None, Err, cond, ◌&&◌, map};
+ghost use Rattle.std.specs.Prelude.{◌≡◌, ◌≢◌, ◌≤◌, IfOk, IfErr, OnErr, Some, true, false, None, Ok, Err, cond, ◌&&◌};
+ghost use Rattle.std.specs.Prelude.{map};
 ghost use Rattle.std.specs.Vec.{vec_len};
 ghost use Rattle.sre_growth.specs.Refusal.{Refused};
 ghost use Rattle.sre_engine.specs.Tree.{Tree};
@@ -183,6 +184,23 @@ fn two_runs_searched<S: StrDrive>(
 {
     let mut turns = 35_347_313;
     state.search_within(Request::new(text, 0, usize::MAX, code, false), &mut turns)
+}
+
+// And who asks a code for its number knows how many turns answer a search by it of any text of up to so many characters,
+// in any window.
+fn searched_with_its_number<S: StrDrive>(
+    req: Request<'_, S>,
+    characters: usize,
+    state: &mut State<Global>,
+) -> Option<Result<Option<bool>, SreError>>
+    requires { end_of req ≤ characters }
+    ensures { result ≡ Some (Ok None) → Refused }
+{
+    let code = req.pattern_codes();
+    let _words = code.words(); // which have a tree
+    let _start = req.start(); // which is at most the window's end
+    let mut turns = code.enough_turns(characters)?;
+    Some(state.search_within(req, &mut turns))
 }
 
 // A step of a walk that is given enough turns is answered, too, unless memory was refused.

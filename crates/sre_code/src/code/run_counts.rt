@@ -37,7 +37,7 @@ fn own_words(code: SreOpcode) -> Option<usize>
 }
 
 /// The word at a place, or 0 past the end.
-fn word_or_zero(words: &[u32], place: usize) -> u32
+pub fn word_or_zero(words: &[u32], place: usize) -> u32
     ensures { result ≡ word words.now place }
 {
     match words.get(place) {
@@ -47,7 +47,7 @@ fn word_or_zero(words: &[u32], place: usize) -> u32
 }
 
 /// Up to which number the characters of a greedy or a lazy run make a difference, by its least and its greatest count.
-fn counted_to(low: u32, high: u32) -> u32
+pub fn counted_to(low: u32, high: u32) -> u32
     ensures { result ≡ counted_to low high }
 {
     if high == u32::MAX {
@@ -79,7 +79,7 @@ fn count_at(words: &[u32], place: usize, code: SreOpcode) -> u32
 
 /// Where the instruction behind the one at this place stands, and how far the run at this place counts, or the look
 /// goes back; none where a reference or a condition is there.
-fn next(words: &[u32], place: usize) -> Option<(usize, u32)>
+pub fn next(words: &[u32], place: usize) -> Option<(usize, u32)>
     ensures { NextAt words.now place result }
 {
     let Ok(code) = words::opcode(words, place) else {

@@ -1,0 +1,136 @@
+-- The number that is told of a code is the one that is written for its tree.
+use Rattle.std.proofs.Common.{ℕ, ◌+◌, ◌-◌, ◌*◌, ◌/◌, ◌^◌, ◌≡◌, ◌≤◌, false, min, max, List, length, Option, Some, None, refl}
+use Rattle.std.proofs.Common.{sym, ap, ◌∙◌, subst, arith, IfSome}
+use Rattle.sre_model.specs.Tree.{Tree}
+use Rattle.sre_model.specs.Found.{Asked}
+use Rattle.sre_model.specs.Slots.{most_slots}
+use Rattle.sre_model.specs.RunCounts.{most_counts}
+use Rattle.sre_model.specs.Alternatives.{most_alternatives}
+use Rattle.sre_model.specs.References.{refers}
+use Rattle.sre_model.specs.Grammar.{Reads, WholeItems, Whole, behind_block}
+use Rattle.sre_model.specs.Remembered.{IsRemembered, enough_turns}
+use Rattle.sre_model.proofs.WiderWindows.{IsInside, remembered_inside, enough_inside}
+use Rattle.sre_code.specs.PlainItems.{IsPlain, AreTold}
+use Rattle.sre_code.specs.EnoughTurns.{IsWindow, IsWholeText, AreEnoughFor, HasNoNumber}
+use Rattle.sre_code.specs.TurnsTold.{NumberTold, NumberBy, turns_on, room_by}
+use Rattle.sre_code.specs.declared.code.slots.Passed.{Passed}
+
+-- the number as it is written, of positions from start to end
+abbrev written : ℕ → ℕ → ℕ → ℕ → ℕ → ℕ → ℕ
+written p s d m start end =
+    2 * (32 * (end - start + 1))
+    + ((end + 1 - start) * (2 * p + 4)
+    + 2 * (p * (s * (end + 1 - start))) * (1 + max (min m end) d) * (4 * (p + 3)))
+    * (1 + min m end / 8)
+
+-- and as it is told
+in_order : (p s f w k : ℕ)
+    → 2 * (32 * f) + (f * (2 * p + 4) + 2 * (p * (s * f)) * (1 + w) * (4 * (p + 3))) * (1 + k)
+    ≡ f * 64 + (f * (p * 2 + 4) + p * s * f * 2 * (w + 1) * ((p + 3) * 4)) * (k + 1)
+in_order p s f w k = omega arith
+
+from_start : (p s d m n : ℕ) → written p s d m 0 n ≡ turns_on p s d m n
+from_start p s d m n =
+    let one : n - 0 + 1 ≡ n + 1 = omega arith in
+    let all : n + 1 - 0 ≡ n + 1 = omega arith in
+    let w : ℕ = max (min m n) d in
+    let k : ℕ = min m n / 8 in
+    ap (λ f. 2 * (32 * f) + ((n + 1 - 0) * (2 * p + 4)
+    + 2 * (p * (s * (n + 1 - 0))) * (1 + w) * (4 * (p + 3))) * (1 + k)) one
+    ∙ ap (λ f. 2 * (32 * (n + 1)) + (f * (2 * p + 4) + 2 * (p * (s * f)) * (1 + w) * (4 * (p + 3))) * (1 + k)) all
+    ∙ in_order p s (n + 1) w k
+
+module _ (places : ℕ) (t : Tree) (n : ℕ) where
+  abbrev told : ℕ
+  told = turns_on places (most_slots t) (most_alternatives t) (most_counts t) n
+
+  on_whole : (a : Asked) → IsWholeText n a → enough_turns places t a ≡ told
+  on_whole a w =
+      ap (λ i. written places (most_slots t) (most_alternatives t) (most_counts t) i a.end) w.start
+      ∙ ap (λ j. written places (most_slots t) (most_alternatives t) (most_counts t) 0 j) w.end
+      ∙ from_start places (most_slots t) (most_alternatives t) (most_counts t) n
+
+  room_on_whole : (a : Asked) → IsWholeText n a
+      → places * (most_slots t * 2 * (a.end + 1 - a.start) / 64 + 1) ≡ room_by places (n + 1) (most_slots t)
+  room_on_whole a w =
+      let all : a.end + 1 - a.start ≡ n + 1 = omega (arith, w.start, w.end) in
+      ap (λ f. places * (most_slots t * 2 * f / 64 + 1)) all
+
+  -- the whole text that a window stands in
+  abbrev around : Asked → Asked
+  around a = record a { start = 0; end = n }
+
+  inside : (a : Asked) → IsWindow n a → IsInside a (around a)
+  inside a w = record { order = w.order; from = omega arith; to = w.within }
+
+  whole : (a : Asked) → IsWholeText n (around a)
+  whole a = record { start = refl; end = refl }
+
+  enough_for : (turns : ℕ) → IsPlain 4096 t → room_by places (n + 1) (most_slots t) ≤ 2 ^ 30 → turns ≡ told + 1
+      → AreEnoughFor places t n turns
+  enough_for turns plain room is = record {
+    remembered = λ a w. remembered_inside places t a (around a) (inside a w) (kept a);
+    more = λ a w. omega (arith, enough_inside places t a (around a) (inside a w), on_whole (around a) (whole a), is);
+    least = λ a w. omega (arith, on_whole a w, is);
+  }
+    where
+      kept : (a : Asked) → IsRemembered places t (around a)
+      kept a = record {
+        no_region = plain.no_region;
+        no_reference = plain.no_reference;
+        slots = plain.few;
+        room = omega (arith, room_on_whole (around a) (whole a), room);
+        order = omega arith;
+      }
+
+  number_told : (r : Option ℕ) → IsPlain 4096 t
+      → NumberBy places (most_slots t) (most_alternatives t) (most_counts t) n r → NumberTold places t n r
+  number_told (Some turns) plain by = enough_for turns plain by.0 by.1
+  number_told None plain by = record {
+    none = λ a w kept.
+        omega (
+          arith,
+          on_whole a w,
+          by (omega (arith, room_on_whole a w, kept.room)),
+        );
+  }
+
+pub turns_told : (ws : List ℕ) (e n counts : ℕ) (p : Passed) (r : Option ℕ)
+    → AreTold 4096 ws 0 e (Some p) → e ≡ length ws - 1 → NumberBy (length ws) p.slots p.alternatives counts n r
+    → (t : Tree) → WholeItems ws t → (refers t ≡ false → counts ≡ most_counts t) → NumberTold (length ws) t n r
+turns_told ws e n counts p r told at by t w counted =
+    let are = told.each t (subst (λ k. Reads ws 0 k t) (sym at) w.0) in
+    number_told (length ws) t n r are.0
+    (subst (λ c. NumberBy (length ws) (most_slots t) (most_alternatives t) c n r) (counted are.0.no_reference)
+    (subst (λ d. NumberBy (length ws) (most_slots t) d counts n r) are.3
+    (subst (λ s. NumberBy (length ws) s p.alternatives counts n r) are.2 by)))
+
+-- where the items are not plain there is none
+pub no_turns : (ws : List ℕ) (e n : ℕ) → AreTold 4096 ws 0 e None → e ≡ length ws - 1 → (t : Tree) → WholeItems ws t
+    → HasNoNumber (length ws) t n
+no_turns ws e n told at t w = record {
+  none = λ a whole kept.
+      absurd
+      (told.each t (subst (λ k. Reads ws 0 k t) (sym at) w.0)
+      (record { no_region = kept.no_region; no_reference = kept.no_reference; few = kept.slots }));
+}
+
+-- what is told of each tree, by whether a number is
+pub enough_some : (places n : ℕ) (ws : List ℕ) (r : Option ℕ) → ((t : Tree) → Whole ws t → NumberTold places t n r)
+    → IfSome r (λ turns. (t : Tree) → Whole ws t → AreEnoughFor places t n turns)
+enough_some places n ws (Some turns) each = each
+enough_some places n ws None each = tt
+
+pub enough_none : (places n : ℕ) (ws : List ℕ) (r : Option ℕ) → ((t : Tree) → Whole ws t → NumberTold places t n r)
+    → r ≡ None → (t : Tree) → Whole ws t → HasNoNumber places t n
+enough_none places n ws r each is t w = subst (NumberTold places t n) is (each t w)
+
+-- what is told of the words behind a block is told of the whole
+pub behind_told : (ws items : List ℕ) (n counts : ℕ) (r : Option ℕ) → items ≡ behind_block ws
+    → ((t : Tree) → WholeItems items t → (refers t ≡ false → counts ≡ most_counts t)
+    → NumberTold (length items) t n r)
+    → ((t : Tree) → Whole ws t → refers t ≡ false → counts ≡ most_counts t)
+    → (t : Tree) → Whole ws t → NumberTold (length (behind_block ws)) t n r
+behind_told ws items n counts r same told counted t w =
+    subst (λ (is : List ℕ). NumberTold (length is) t n r) same
+    (told t (subst (λ (is : List ℕ). WholeItems is t) (sym same) w.1) (counted t w))

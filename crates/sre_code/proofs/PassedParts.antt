@@ -1,0 +1,160 @@
+-- What is told of one instruction, by what it is: a loop with its body, a branch, or another one.
+use Rattle.std.proofs.Common.{ℕ, ◌+◌, ◌*◌, ◌/◌, ◌≡◌, ◌≤◌, ◌⊎◌, inl, inr, ⊎_elim, Bool, List, Option}
+use Rattle.std.proofs.Common.{Some, None, refl, sym, ap, ◌∙◌, subst, arith}
+use Rattle.std.proofs.lemmas.Nat.{le-div}
+use Rattle.std.proofs.Math.Nat.{div-mul-le_self, mul-le-mul_left}
+use Rattle.sre_chars.specs.Numbers.{opcode_number}
+use Rattle.sre_chars.specs.declared.constants.SreOpcode.{SreOpcode}
+use Rattle.sre_model.specs.Tree.{Trees, Only, Or, Test}
+use Rattle.sre_model.specs.References.{refers}
+use Rattle.sre_model.specs.Regions.{has_region}
+use Rattle.sre_model.specs.Slots.{loop_slots, most_slots}
+use Rattle.sre_model.specs.Alternatives.{how_many}
+use Rattle.sre_model.specs.Roles.{role}
+use Rattle.sre_model.specs.Grammar.{Word, word, skip, Opcode, Reads, ReadsBranch}
+use Rattle.sre_model.proofs.Words.{same_opcode, word_of}
+use Rattle.sre_model.proofs.Places.{alternative_long}
+use Rattle.sre_code.specs.Reading.{ReadsTest, NoCode}
+use Rattle.sre_code.specs.Instructions.{own_words, count_at, Behind, NoneBehind}
+use Rattle.sre_code.specs.PlainItems.{ArePlain, IsPlain, flat, AreTold, AreCounted, LoopTold, BranchTold}
+use Rattle.sre_code.specs.PlainItems.{OtherTold, kind_of, ToldBy, ToldAt}
+use Rattle.sre_code.specs.declared.code.slots.Kind.{Kind}
+use Rattle.sre_code.specs.declared.code.slots.Passed.{Passed}
+use Rattle.sre_code.proofs.Scanning.{behind_test, behind_own}
+use Rattle.sre_code.proofs.ScanningLoops.{some_slots}
+
+-- a loop's body has what is left of the slots
+loop_none : (most low high m : ℕ) (a b : Bool) → (ArePlain (most / loop_slots low high) a b m → ⊥)
+    → ArePlain most a b (loop_slots low high * m) → ⊥
+loop_none most low high m a b not x =
+    not (record {
+      no_region = x.no_region;
+      no_reference = x.no_reference;
+      few = le-div m most (loop_slots low high) (omega arith) (omega (arith, x.few));
+    })
+
+loop_some : (most low high m : ℕ) (a b : Bool) → ArePlain (most / loop_slots low high) a b m
+    → ArePlain most a b (loop_slots low high * m)
+loop_some most low high m a b x = record {
+  no_region = x.no_region;
+  no_reference = x.no_reference;
+  few =
+      omega (arith, mul-le-mul_left (loop_slots low high) x.few, div-mul-le_self most (loop_slots low high));
+}
+
+-- where nothing is left the body has more
+pub nothing_left : (ws : List ℕ) (i end : ℕ) → AreTold 0 ws i end None
+nothing_left ws i end = record { each = λ t w x. omega (arith, x.few, some_slots t) }
+
+-- a product of slots is no more than there may be
+pub within : (most slots m : ℕ) → m ≤ most / slots → slots * m ≤ most
+within most slots m le = omega (arith, mul-le-mul_left slots le, div-mul-le_self most slots)
+
+module _ (ws : List ℕ) (most i by least greatest slots left : ℕ) (to : by ≡ word ws (i + 1))
+    (first : least ≡ word ws (i + 2)) (second : greatest ≡ word ws (i + 3)) (is : slots ≡ loop_slots least greatest)
+    (rest : left ≡ most / slots) where
+  same_slots : (low high : ℕ) → Word ws (i + 2) low → Word ws (i + 3) high → slots ≡ loop_slots low high
+  same_slots low high l h =
+      is ∙ ap (λ n. loop_slots n greatest) (first ∙ word_of ws (i + 2) low l)
+      ∙ ap (λ n. loop_slots low n) (second ∙ word_of ws (i + 3) high h)
+
+  same_end : i + 1 + by ≡ skip ws (i + 1)
+  same_end = ap (λ n. i + 1 + n) to
+
+  pub loop_stops : AreTold left ws (i + 4) (i + 1 + by) None → LoopTold most ws i None
+  loop_stops told = record {
+    each = λ o low high body j w.
+        let same : left ≡ most / loop_slots low high = rest ∙ ap (λ n. most / n) (same_slots low high w.0 w.1) in
+        let reads : Reads ws (i + 4) (i + 1 + by) body =
+        subst (λ n. Reads ws (i + 4) n body) (sym same_end) w.3 in
+        loop_none most low high (most_slots body) (has_region body) (refers body)
+        (subst (λ n. IsPlain n body → ⊥) same (told.each body reads));
+  }
+
+  pub loop_passed : (p : Passed) → AreTold left ws (i + 4) (i + 1 + by) (Some p)
+      → LoopTold most ws i
+      (Some (record { behind = i + 1 + by + 1; slots = slots * p.slots; alternatives = p.alternatives }))
+  loop_passed p told = record {
+    each = λ o low high body j w.
+        let own : slots ≡ loop_slots low high = same_slots low high w.0 w.1 in
+        let same : left ≡ most / loop_slots low high = rest ∙ ap (λ n. most / n) own in
+        let reads : Reads ws (i + 4) (i + 1 + by) body =
+        subst (λ n. Reads ws (i + 4) n body) (sym same_end) w.3 in
+        let t = told.each body reads in (
+          loop_some most low high (most_slots body) (has_region body) (refers body)
+              (subst (λ n. IsPlain n body) same t.0),
+          omega (arith, same_end, w.5, t.1),
+          ap (λ n. n * p.slots) own ∙ ap (λ n. loop_slots low high * n) t.2,
+          t.3,
+        );
+  }
+
+module _ (ws : List ℕ) (i : ℕ) where
+  -- only one opcode is there
+  pub told_at : (most : ℕ) (code : SreOpcode) (k : Kind) (r : Option Passed) → Opcode ws i code
+      → kind_of (role code) ≡ k → ToldBy k most ws i r → ToldAt most ws i r
+  told_at most code k r there is h = record {
+    by = λ o w.
+        subst (λ z. ToldBy z most ws i r) (sym is ∙ ap (λ p. kind_of (role p)) (same_opcode ws i code o there w)) h;
+  }
+
+  pub none_at : (most : ℕ) → NoCode opcode_number ws i → ToldAt most ws i None
+  none_at most none = record { by = λ o w. absurd (none.none o w) }
+
+  pub branch_at : (n : ℕ) → AreCounted ws (i + 1) n → BranchTold ws i (Some (flat (i + 2) n))
+  branch_at n h = record { each = λ ts j w. ap (λ m. Some (flat (i + 2) m)) (h.each ts j w) }
+
+  -- what is behind an instruction stands at one place
+  one_behind : (k c l d : ℕ) → Behind ws i k c → Behind ws i l d → k ≡ l
+  one_behind k c l d x y = ⊎_elim
+      (λ (z : (t : Test) × ReadsTest ws i k t × (c ≡ 0)). sym (behind_test ws i k l d z.0 z.1 y).0)
+      (λ (z : (o : SreOpcode) × (n : ℕ) × Opcode ws i o × (own_words (role o) ≡ Some n) × (k ≡ i + n)
+      × (c ≡ count_at o ws i)).
+      z.4 ∙ sym (behind_own ws i l d z.1 z.0 z.2 z.3 y).0)
+      x.one
+
+  pub other_some : (k c : ℕ) → Behind ws i k c → OtherTold ws i (Some (flat k 0))
+  other_some k c h = record {
+    some = λ l d y. ap (λ n. Some (flat n 0)) (one_behind k c l d h y);
+    none = λ not. absurd (not.none k c h);
+  }
+
+  pub other_none : NoneBehind ws i → OtherTold ws i None
+  other_none none = record { some = λ k c y. absurd (none.none k c y); none = λ n. refl }
+
+-- alternatives, from the length word at `first` on: so many were gone over, and what is left stands at q
+pub record CountedTo (ws : List ℕ) (first q count : ℕ) : Type 0 where
+  pub few : count ≤ q
+  pub left :
+      (ts : Trees) (j : ℕ) → ReadsBranch ws first j ts
+      → ((word ws q ≡ 0) × (how_many ts ≡ count))
+      ⊎ ((us : Trees) × ReadsBranch ws q j us × (how_many ts ≡ count + how_many us))
+
+pub counted_none : (ws : List ℕ) (first : ℕ) → CountedTo ws first first 0
+counted_none ws first = record { few = omega arith; left = λ ts j w. inr (ts, w, omega arith) }
+
+pub counted_more : (ws : List ℕ) (first q count : ℕ) → CountedTo ws first q count → (word ws q ≡ 0 → ⊥)
+    → CountedTo ws first (q + word ws q) (count + 1)
+counted_more ws first q count h some = record {
+  few = omega (arith, h.few, some);
+  left = λ ts j w. ⊎_elim
+      (λ (x : (word ws q ≡ 0) × (how_many ts ≡ count)). absurd (some x.0))
+      (λ (x : (us : Trees) × ReadsBranch ws q j us × (how_many ts ≡ count + how_many us)). by x.0 j ts x.1 x.2)
+      (h.left ts j w);
+}
+  where
+    by : (us : Trees) (j : ℕ) (ts : Trees) → ReadsBranch ws q j us → how_many ts ≡ count + how_many us
+        → ((word ws (q + word ws q) ≡ 0) × (how_many ts ≡ count + 1))
+        ⊎ ((vs : Trees) × ReadsBranch ws (q + word ws q) j vs × (how_many ts ≡ count + 1 + how_many vs))
+    by (Only t) j ts w is = inl (word_of ws (skip ws q) 0 w.2, is)
+    by (Or t vs) j ts w is = inr (vs, w.2, omega (arith, is))
+
+pub counted_all : (ws : List ℕ) (first q count : ℕ) → CountedTo ws first q count → word ws q ≡ 0
+    → AreCounted ws first count
+counted_all ws first q count h none = record {
+  each = λ ts j w. ⊎_elim
+      (λ (x : (word ws q ≡ 0) × (how_many ts ≡ count)). sym x.1)
+      (λ (x : (us : Trees) × ReadsBranch ws q j us × (how_many ts ≡ count + how_many us)).
+      absurd (omega (arith, none, alternative_long ws q j x.0 x.1)))
+      (h.left ts j w);
+}

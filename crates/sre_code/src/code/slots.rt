@@ -1,0 +1,166 @@
+//! How many slots the loops of items have within each other, and how many alternatives their branches: a scan from one
+//! instruction to the next, into each alternative and into each loop's body.
+//!
+//! A call goes over what is not in a loop, and calls itself for each loop's body. The slots of loops within each other
+//! are multiplied, each has at least two, and no more are counted than a number that is asked for: so there are few
+//! calls within each other. A region, a reference or a condition ends the scan.
+
+ghost use Rattle.std.specs.Prelude.{◌≡◌, ◌<◌, ◌≤◌, length, IfSome};
+ghost use Rattle.sre_model.specs.Roles.{role};
+ghost use Rattle.sre_model.specs.Slots.{loop_slots};
+ghost use Rattle.sre_code.specs.PlainItems.{kind_of, AreTold, AreCounted, LoopTold, OtherTold, ToldAt};
+
+use crate::code::references::{counted_to, next, word_or_zero};
+use crate::code::words;
+use sre_chars::constants::SreOpcode;
+
+/// What was passed: where the words behind it stand, how many slots its loops have at most within each other, and how
+/// many alternatives its branches have at most.
+#[derive(Clone, Copy)]
+pub struct Passed {
+    pub behind: usize,
+    pub slots: u64,
+    pub alternatives: u64,
+}
+
+/// What an instruction begins.
+#[derive(Clone, Copy)]
+enum Kind {
+    Loop,
+    Branch,
+    /// What is matched apart: an atomic group, a look or a possessive loop.
+    Region,
+    Other,
+}
+
+fn kind_of(code: SreOpcode) -> Kind
+    ensures { result ≡ kind_of (role code) }
+{
+    match code {
+        SreOpcode::REPEAT => Kind::Loop,
+        SreOpcode::BRANCH => Kind::Branch,
+        SreOpcode::POSSESSIVE_REPEAT
+        | SreOpcode::ATOMIC_GROUP
+        | SreOpcode::ASSERT
+        | SreOpcode::ASSERT_NOT => Kind::Region,
+        _ => Kind::Other,
+    }
+}
+
+/// How many states of a loop make a difference, by its least and its greatest count.
+fn loop_slots(low: u32, high: u32) -> u64
+    ensures { result ≡ loop_slots low high }
+{
+    (counted_to(low, high) as u64 + 1) * 2
+}
+
+/// How many alternatives a branch has whose first length word stands here.
+fn alternatives(words: &[u32], first: usize) -> u64
+    ensures { AreCounted words.now first result }
+{
+    let mut place = first;
+    let mut count = 0;
+    'alternative: while place < words.len() {
+        let skip = words[place];
+        if skip == 0 {
+            return count;
+        }
+        place += skip as usize;
+        count += 1;
+    }
+    count
+}
+
+/// What is passed by an instruction that is neither a loop nor a branch; none where a reference or a condition is here.
+fn other(words: &[u32], place: usize) -> Option<Passed>
+    ensures told { OtherTold words.now place result }
+    ensures forward { IfSome result (λ p. place < p.behind) }
+    ensures one { IfSome result (λ p. p.slots ≡ 1) }
+{
+    match next(words, place) {
+        Some((behind, _)) => Some(Passed {
+            behind,
+            slots: 1,
+            alternatives: 0,
+        }),
+        None => None,
+    }
+}
+
+/// What is passed by the loop at this place, its body and what ends it; none where that is not plain.
+#[cycle(plain)]
+fn looped(words: &[u32], place: usize, most: u64) -> Option<Passed>
+    requires here { place < length words.now }
+    requires some { 1 ≤ most }
+    ensures told { LoopTold most words.now place result }
+    ensures forward { IfSome result (λ p. place < p.behind) }
+    ensures few { IfSome result (λ p. p.slots ≤ most) }
+{
+    let end = place + 1 + word_or_zero(words, place + 1) as usize;
+    let slots = loop_slots(
+        word_or_zero(words, place + 2),
+        word_or_zero(words, place + 3),
+    );
+    let left = most / slots;
+    if left == 0 {
+        return None;
+    }
+    match scan(words, place + 4, end, left) {
+        Some(body) => Some(Passed {
+            behind: end + 1,
+            slots: slots * body.slots,
+            alternatives: body.alternatives,
+        }),
+        None => None,
+    }
+}
+
+/// What is passed by the instruction at this place, which is a whole loop where one begins here; none where a region, a
+/// reference or a condition does, or where a loop is not plain.
+#[cycle(plain)]
+fn part(words: &[u32], place: usize, most: u64) -> Option<Passed>
+    requires some { 1 ≤ most }
+    ensures told { ToldAt most words.now place result }
+    ensures forward { IfSome result (λ p. place < p.behind) }
+    ensures few { IfSome result (λ p. p.slots ≤ most) }
+{
+    let Ok(code) = words::opcode(words, place) else {
+        return None;
+    };
+    match kind_of(code) {
+        Kind::Loop => looped(words, place, most),
+        Kind::Branch => Some(Passed {
+            behind: place + 2,
+            slots: 1,
+            alternatives: alternatives(words, place + 1),
+        }),
+        Kind::Region => None,
+        Kind::Other => other(words, place),
+    }
+}
+
+/// The slots and the alternatives of the items from `start` up to `end`; none where a region, a reference or a condition
+/// is among them, or where they have more slots than `most`.
+#[cycle(plain)]
+pub fn scan(words: &[u32], start: usize, end: usize, most: u64) -> Option<Passed>
+    requires some { 1 ≤ most }
+    ensures told { AreTold most words.now start end result }
+    ensures few { IfSome result (λ p. p.slots ≤ most) }
+{
+    let mut place = start;
+    let mut slots = 1;
+    let mut alternatives = 0;
+    'part: while place < end {
+        let Some(next) = part(words, place, most) else {
+            return None;
+        };
+        place = next.behind;
+        slots = next.slots.max(slots);
+        alternatives = next.alternatives.max(alternatives);
+    }
+    Some(Passed {
+        behind: place,
+        slots,
+        alternatives,
+    })
+}

@@ -1,0 +1,72 @@
+//! How many turns are enough for a code on a text of so many characters, where that is known.
+
+ghost use Rattle.std.specs.Prelude.{◌≡◌, ◌≤◌, ◌+◌, ◌-◌, ◌^◌, length, min, max, nat_le, false};
+ghost use Rattle.sre_model.specs.Tree.{Tree};
+ghost use Rattle.sre_model.specs.Grammar.{WholeItems};
+ghost use Rattle.sre_model.specs.References.{refers};
+ghost use Rattle.sre_model.specs.RunCounts.{most_counts};
+ghost use Rattle.sre_code.specs.TurnsTold.{NumberTold, NumberBy, turns_by, room_by};
+
+use crate::code::slots::{Passed, scan};
+
+/// How many slots a place's loops have at most where what failed there is kept.
+const MOST_SLOTS: u64 = 4096;
+
+/// How many words of bits there may be for what failed.
+const MOST_WORDS: u64 = 1 << 30;
+
+/// Whether there is room for what failed at so many places, each with these slots and positions.
+fn has_room(places: u64, positions: u64, slots: u64) -> bool
+    ensures { result ≡ nat_le (room_by places positions slots) (2 ^ 30) }
+{
+    let bits = slots.saturating_mul(2).saturating_mul(positions);
+    let words = places.saturating_mul(bits / 64 + 1);
+    words <= MOST_WORDS
+}
+
+/// How many turns are enough by what that is made of, or the greatest number of 64 bits where it takes more.
+fn turns_by(places: u64, positions: u64, slots: u64, ways: u64, counts: u64) -> u64
+    ensures { result ≡ min (turns_by places positions slots ways counts) (2 ^ 64 - 1) }
+{
+    let doubled = places.saturating_mul(2);
+    let each = doubled.saturating_add(4);
+    let starts = positions.saturating_mul(each);
+    let shapes = places.saturating_mul(slots);
+    let spots = shapes.saturating_mul(positions);
+    let both = spots.saturating_mul(2);
+    let tried = ways.saturating_add(1);
+    let tries = both.saturating_mul(tried);
+    let further = places.saturating_add(3);
+    let between = further.saturating_mul(4);
+    let turns = tries.saturating_mul(between);
+    let sum = starts.saturating_add(turns);
+    let long = sum.saturating_mul(counts / 8 + 1);
+    let waits = positions.saturating_mul(64);
+    waits.saturating_add(long)
+}
+
+/// One turn more than are enough on a text of so many characters, of items of which this was passed; none where there
+/// is no room for what failed, or where it takes more than 64 bits.
+fn number(places: u64, passed: Passed, counts: u64, characters: u64) -> Option<u64>
+    ensures { NumberBy places passed.slots passed.alternatives counts characters result }
+{
+    let positions = characters.checked_add(1)?;
+    if !has_room(places, positions, passed.slots) {
+        return None;
+    }
+    let counts = counts.min(characters);
+    let ways = counts.max(passed.alternatives);
+    turns_by(places, positions, passed.slots, ways, counts).checked_add(1)
+}
+
+/// One turn more than are enough for these items, whose runs count up to `counts`, on a text of so many characters; none
+/// where that is not known, or takes more than 64 bits.
+pub fn enough(items: &[u32], counts: u32, characters: usize) -> Option<u64>
+    ensures { (tree : Tree) → WholeItems items.now tree → (refers tree ≡ false → counts ≡ most_counts tree)
+        → NumberTold (length items.now) tree characters result }
+{
+    match scan(items, 0, items.len().saturating_sub(1), MOST_SLOTS) {
+        Some(passed) => number(items.len() as u64, passed, counts as u64, characters as u64),
+        None => None,
+    }
+}
