@@ -12,7 +12,7 @@ use Rattle.sre_model.specs.Tree.{RunKind, Sign}
 use Rattle.sre_model.specs.References.{refers, item_refers, some_refers}
 use Rattle.sre_model.specs.Regions.{has_region, item_has_region, some_has_region}
 use Rattle.sre_model.specs.Slots.{most_slots, item_slots, branch_slots}
-use Rattle.sre_model.specs.Alternatives.{how_many, most_alternatives, item_alternatives, branch_alternatives}
+use Rattle.sre_model.specs.Alternatives.{alternatives_of, most_alternatives, item_alternatives, branch_alternatives}
 use Rattle.sre_model.specs.Roles.{role}
 use Rattle.sre_model.specs.Grammar.{skip, Opcode, test_opcode, look_opcode, run_opcode, reference_opcode, Reads}
 use Rattle.sre_model.specs.Grammar.{ReadsItem, ReadsBranch}
@@ -238,19 +238,19 @@ module _ (ws : List ℕ) (most : ℕ) (some : 1 ≤ most) where
           let far : i + 1 < j = branch_past ts ws (i + 1) j w.1 in
           let one : max s 1 ≡ s = omega arith in
           let two : i + 2 ≡ i + 1 + 1 = omega arith in
-          let first : Scan (i + 1 + 1) s (max a (how_many ts)) =
-          subst (λ m. Scan (i + 1 + 1) m (max a (how_many ts))) one
-          (subst (λ z. Scan z (max s 1) (max a (how_many ts))) two
-          (pass i (i + 2) 1 (how_many ts) s a (omega arith)
+          let first : Scan (i + 1 + 1) s (max a (alternatives_of ts)) =
+          subst (λ m. Scan (i + 1 + 1) m (max a (alternatives_of ts))) one
+          (subst (λ z. Scan z (max s 1) (max a (alternatives_of ts))) two
+          (pass i (i + 2) 1 (alternatives_of ts) s a (omega arith)
           (λ r h. (by_kind i opcode.BRANCH kind.Branch r w.0 refl h).each ts j w.1) x)) in
           ⊎_elim
           (λ (y : (IsPlainItem most (Branch ts) → ⊥) × (res ≡ None)). inl y)
           (λ (y : IsPlainItem most (Branch ts)
-          × Scan j (max s (branch_slots ts)) (max (max a (how_many ts)) (branch_alternatives ts))).
+          × Scan j (max s (branch_slots ts)) (max (max a (alternatives_of ts)) (branch_alternatives ts))).
           inr (
             y.0,
-            subst (λ d. Scan j (max s (branch_slots ts)) d) (max_assoc a (how_many ts) (branch_alternatives ts)) y.1,
-          )) (trees_told ts (i + 1) j s (max a (how_many ts)) k w.1 l first)
+            subst (λ d. Scan j (max s (branch_slots ts)) d) (max_assoc a (alternatives_of ts) (branch_alternatives ts)) y.1,
+          )) (trees_told ts (i + 1) j s (max a (alternatives_of ts)) k w.1 l first)
       item_told (Loop o low high body) i j s a k w l x =
           step (Loop o low high body) i j s a (omega (arith, l, operands_past (Loop o low high body) ws i j w.1))
           (λ r h. (by_kind i opcode.REPEAT kind.Loop r w.0 refl h).each o low high body j w.1) x

@@ -10,7 +10,7 @@ ghost use Rattle.sre_model.specs.Roles.{role};
 ghost use Rattle.sre_model.specs.Slots.{loop_slots};
 ghost use Rattle.sre_code.specs.PlainItems.{kind_of, AreTold, AreCounted, LoopTold, OtherTold, ToldAt};
 
-use crate::code::references::{counted_to, next, word_or_zero};
+use crate::code::run_counts::{counted_to, next, word_or_zero};
 use crate::code::words;
 use sre_chars::constants::SreOpcode;
 
