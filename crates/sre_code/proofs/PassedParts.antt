@@ -9,7 +9,7 @@ use Rattle.sre_model.specs.Tree.{Trees, Only, Or, Test}
 use Rattle.sre_model.specs.References.{refers}
 use Rattle.sre_model.specs.Regions.{has_region}
 use Rattle.sre_model.specs.Slots.{loop_slots, most_slots}
-use Rattle.sre_model.specs.Alternatives.{how_many}
+use Rattle.sre_model.specs.Alternatives.{alternatives_of}
 use Rattle.sre_model.specs.Roles.{role}
 use Rattle.sre_model.specs.Grammar.{Word, word, skip, Opcode, Reads, ReadsBranch}
 use Rattle.sre_model.proofs.Words.{same_opcode, word_of}
@@ -127,8 +127,8 @@ pub record CountedTo (ws : List ℕ) (first q count : ℕ) : Type 0 where
   pub few : count ≤ q
   pub left :
       (ts : Trees) (j : ℕ) → ReadsBranch ws first j ts
-      → ((word ws q ≡ 0) × (how_many ts ≡ count))
-      ⊎ ((us : Trees) × ReadsBranch ws q j us × (how_many ts ≡ count + how_many us))
+      → ((word ws q ≡ 0) × (alternatives_of ts ≡ count))
+      ⊎ ((us : Trees) × ReadsBranch ws q j us × (alternatives_of ts ≡ count + alternatives_of us))
 
 pub counted_none : (ws : List ℕ) (first : ℕ) → CountedTo ws first first 0
 counted_none ws first = record { few = omega arith; left = λ ts j w. inr (ts, w, omega arith) }
@@ -138,14 +138,14 @@ pub counted_more : (ws : List ℕ) (first q count : ℕ) → CountedTo ws first 
 counted_more ws first q count h some = record {
   few = omega (arith, h.few, some);
   left = λ ts j w. ⊎_elim
-      (λ (x : (word ws q ≡ 0) × (how_many ts ≡ count)). absurd (some x.0))
-      (λ (x : (us : Trees) × ReadsBranch ws q j us × (how_many ts ≡ count + how_many us)). by x.0 j ts x.1 x.2)
+      (λ (x : (word ws q ≡ 0) × (alternatives_of ts ≡ count)). absurd (some x.0))
+      (λ (x : (us : Trees) × ReadsBranch ws q j us × (alternatives_of ts ≡ count + alternatives_of us)). by x.0 j ts x.1 x.2)
       (h.left ts j w);
 }
   where
-    by : (us : Trees) (j : ℕ) (ts : Trees) → ReadsBranch ws q j us → how_many ts ≡ count + how_many us
-        → ((word ws (q + word ws q) ≡ 0) × (how_many ts ≡ count + 1))
-        ⊎ ((vs : Trees) × ReadsBranch ws (q + word ws q) j vs × (how_many ts ≡ count + 1 + how_many vs))
+    by : (us : Trees) (j : ℕ) (ts : Trees) → ReadsBranch ws q j us → alternatives_of ts ≡ count + alternatives_of us
+        → ((word ws (q + word ws q) ≡ 0) × (alternatives_of ts ≡ count + 1))
+        ⊎ ((vs : Trees) × ReadsBranch ws (q + word ws q) j vs × (alternatives_of ts ≡ count + 1 + alternatives_of vs))
     by (Only t) j ts w is = inl (word_of ws (skip ws q) 0 w.2, is)
     by (Or t vs) j ts w is = inr (vs, w.2, omega (arith, is))
 
@@ -153,8 +153,8 @@ pub counted_all : (ws : List ℕ) (first q count : ℕ) → CountedTo ws first q
     → AreCounted ws first count
 counted_all ws first q count h none = record {
   each = λ ts j w. ⊎_elim
-      (λ (x : (word ws q ≡ 0) × (how_many ts ≡ count)). sym x.1)
-      (λ (x : (us : Trees) × ReadsBranch ws q j us × (how_many ts ≡ count + how_many us)).
+      (λ (x : (word ws q ≡ 0) × (alternatives_of ts ≡ count)). sym x.1)
+      (λ (x : (us : Trees) × ReadsBranch ws q j us × (alternatives_of ts ≡ count + alternatives_of us)).
       absurd (omega (arith, none, alternative_long ws q j x.0 x.1)))
       (h.left ts j w);
 }

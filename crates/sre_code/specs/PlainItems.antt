@@ -8,7 +8,7 @@ use Rattle.sre_model.specs.Roles.{Role, ToBranch, ToRepeat, ToRepeatPossessively
 use Rattle.sre_model.specs.References.{refers, item_refers}
 use Rattle.sre_model.specs.Regions.{has_region, item_has_region}
 use Rattle.sre_model.specs.Slots.{most_slots, item_slots}
-use Rattle.sre_model.specs.Alternatives.{how_many, most_alternatives, item_alternatives}
+use Rattle.sre_model.specs.Alternatives.{alternatives_of, most_alternatives, item_alternatives}
 use Rattle.sre_code.specs.Instructions.{Behind, NoneBehind}
 use Rattle.sre_code.specs.declared.code.slots.Kind.{Kind}
 use Rattle.sre_code.specs.declared.code.slots.Kind.TheVariants as kind
@@ -47,7 +47,7 @@ pub record AreTold (most : ℕ) (ws : List ℕ) (i e : ℕ) (r : Option Passed) 
 
 -- a branch, whose alternatives begin at q, has so many
 pub record AreCounted (ws : List ℕ) (q n : ℕ) : Type 0 where
-  pub each : (ts : Trees) (j : ℕ) → ReadsBranch ws q j ts → n ≡ how_many ts
+  pub each : (ts : Trees) (j : ℕ) → ReadsBranch ws q j ts → n ≡ alternatives_of ts
 
 -- what is told of a loop at i
 pub record LoopTold (most : ℕ) (ws : List ℕ) (i : ℕ) (r : Option Passed) : Type 0 where
@@ -57,7 +57,7 @@ pub record LoopTold (most : ℕ) (ws : List ℕ) (i : ℕ) (r : Option Passed) :
 
 -- what is told of a branch at i, whose first alternative is next
 pub record BranchTold (ws : List ℕ) (i : ℕ) (r : Option Passed) : Type 0 where
-  pub each : (ts : Trees) (j : ℕ) → ReadsBranch ws (i + 1) j ts → r ≡ Some (flat (i + 2) (how_many ts))
+  pub each : (ts : Trees) (j : ℕ) → ReadsBranch ws (i + 1) j ts → r ≡ Some (flat (i + 2) (alternatives_of ts))
 
 -- what is told of any other instruction
 pub record OtherTold (ws : List ℕ) (i : ℕ) (r : Option Passed) : Type 0 where

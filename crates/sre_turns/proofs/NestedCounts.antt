@@ -118,7 +118,8 @@ module _ (ws : List ℕ) (n m : ℕ) where
       counted_branch : HasRole ws i ToBranch → alternatives ws (i + 1) ≤ m
       counted_branch h =
           let x = is_branch ws i j a h r in
-          let same : item_alternatives a ≡ max (alternatives_of x.0) (branch_alternatives x.0) = ap item_alternatives x.1 in
+          let same : item_alternatives a ≡ max (alternatives_of x.0) (branch_alternatives x.0) =
+          ap item_alternatives x.1 in
           let most : alternatives ws (i + 1) ≤ alternatives_of x.0 =
           as_many ws (length ws - (i + 1)) (i + 1) j x.0 x.2.1 in
           omega (arith, same, most, l.1)
