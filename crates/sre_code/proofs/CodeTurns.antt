@@ -7,7 +7,7 @@ use Rattle.sre_model.specs.Slots.{most_slots}
 use Rattle.sre_model.specs.RunCounts.{most_counts}
 use Rattle.sre_model.specs.Alternatives.{most_alternatives}
 use Rattle.sre_model.specs.References.{refers}
-use Rattle.sre_model.specs.Grammar.{Reads, WholeItems, Whole}
+use Rattle.sre_model.specs.Grammar.{Reads, WholeItems, Whole, behind_block}
 use Rattle.sre_model.specs.Remembered.{IsRemembered, enough_turns}
 use Rattle.sre_model.proofs.WiderWindows.{IsInside, remembered_inside, enough_inside}
 use Rattle.sre_code.specs.PlainItems.{IsPlain, AreTold}
@@ -124,3 +124,13 @@ enough_some places n ws None each = tt
 pub enough_none : (places n : ℕ) (ws : List ℕ) (r : Option ℕ) → ((t : Tree) → Whole ws t → NumberTold places t n r)
     → r ≡ None → (t : Tree) → Whole ws t → HasNoNumber places t n
 enough_none places n ws r each is t w = subst (NumberTold places t n) is (each t w)
+
+-- what is told of the words behind a block is told of the whole
+pub behind_told : (ws items : List ℕ) (n counts : ℕ) (r : Option ℕ) → items ≡ behind_block ws
+    → ((t : Tree) → WholeItems items t → (refers t ≡ false → counts ≡ most_counts t)
+    → NumberTold (length items) t n r)
+    → ((t : Tree) → Whole ws t → refers t ≡ false → counts ≡ most_counts t)
+    → (t : Tree) → Whole ws t → NumberTold (length (behind_block ws)) t n r
+behind_told ws items n counts r same told counted t w =
+    subst (λ (is : List ℕ). NumberTold (length is) t n r) same
+    (told t (subst (λ (is : List ℕ). WholeItems is t) (sym same) w.1) (counted t w))
