@@ -1,6 +1,6 @@
 //! How many turns are enough for a code on a text of so many characters, where that is known.
 
-ghost use Rattle.std.specs.Prelude.{◌≡◌, ◌≤◌, ◌+◌, ◌-◌, ◌^◌, length, min, max, nat_le, false};
+ghost use Rattle.std.specs.Prelude.{◌≡◌, ◌+◌, ◌-◌, ◌^◌, length, min, max, nat_le, false};
 ghost use Rattle.sre_model.specs.Tree.{Tree};
 ghost use Rattle.sre_model.specs.Grammar.{WholeItems};
 ghost use Rattle.sre_model.specs.References.{refers};
