@@ -226,8 +226,8 @@ impl<'t> LentTable<'t> {
 
     /// The table of four lists that a caller lends. It takes no memory.
     ///
-    /// The lists are as those of [`LentTable::new`] and [`LentTable::set_digits`]. They are read once from end to end, so
-    /// a caller who keeps them keeps the table, or knows that they have no fault and calls
+    /// The lists are as those of [`LentTable::new`] and [`LentTable::set_digits`]. They are read once from end to end,
+    /// so a caller who keeps them keeps the table, or knows that they have no fault and calls
     /// [`LentTable::lent_faultless`].
     ///
     /// # Errors

@@ -1,5 +1,6 @@
 -- The number that is told of a code is the one that is written for its tree.
-use Rattle.std.proofs.Common.{ℕ, ◌+◌, ◌-◌, ◌*◌, ◌/◌, ◌^◌, ◌≡◌, ◌≤◌, false, min, max, List, length, Option, Some, None, refl}
+use Rattle.std.proofs.Common.{ℕ, ◌+◌, ◌-◌, ◌*◌, ◌/◌, ◌^◌, ◌≡◌, ◌≤◌, false, min, max}
+use Rattle.std.proofs.Common.{List, length, Option, Some, None, refl}
 use Rattle.std.proofs.Common.{sym, ap, ◌∙◌, subst, arith, IfSome}
 use Rattle.sre_model.specs.Tree.{Tree}
 use Rattle.sre_model.specs.Found.{Asked}

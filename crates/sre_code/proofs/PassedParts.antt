@@ -139,7 +139,8 @@ counted_more ws first q count h some = record {
   few = omega (arith, h.few, some);
   left = λ ts j w. ⊎_elim
       (λ (x : (word ws q ≡ 0) × (alternatives_of ts ≡ count)). absurd (some x.0))
-      (λ (x : (us : Trees) × ReadsBranch ws q j us × (alternatives_of ts ≡ count + alternatives_of us)). by x.0 j ts x.1 x.2)
+      (λ (x : (us : Trees) × ReadsBranch ws q j us × (alternatives_of ts ≡ count + alternatives_of us)).
+      by x.0 j ts x.1 x.2)
       (h.left ts j w);
 }
   where

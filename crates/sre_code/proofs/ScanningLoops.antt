@@ -213,7 +213,8 @@ module _ (ws : List ℕ) (most : ℕ) (some : 1 ≤ most) where
           (item_alternatives y) (most_alternatives t) w.0 j s a
           (both_plain most (item_slots y) (most_slots t) (item_has_region y) (item_refers y) (has_region t) (refers t))
           (first_plain most (item_slots y) (most_slots t) (item_has_region y) (item_refers y) (has_region t) (refers t))
-          (second_plain most (item_slots y) (most_slots t) (item_has_region y) (item_refers y) (has_region t) (refers t))
+          (second_plain most (item_slots y) (most_slots t) (item_has_region y) (item_refers y) (has_region t)
+          (refers t))
           (item_told y i w.0 s a k w.1 (omega (arith, l, reads_within t ws w.0 j w.2)) x)
           (λ z. tree_told t w.0 j (max s (item_slots y)) (max a (item_alternatives y)) (omega arith) w.2 l z)
 
@@ -249,7 +250,8 @@ module _ (ws : List ℕ) (most : ℕ) (some : 1 ≤ most) where
           × Scan j (max s (branch_slots ts)) (max (max a (alternatives_of ts)) (branch_alternatives ts))).
           inr (
             y.0,
-            subst (λ d. Scan j (max s (branch_slots ts)) d) (max_assoc a (alternatives_of ts) (branch_alternatives ts)) y.1,
+            subst (λ d. Scan j (max s (branch_slots ts)) d)
+                (max_assoc a (alternatives_of ts) (branch_alternatives ts)) y.1,
           )) (trees_told ts (i + 1) j s (max a (alternatives_of ts)) k w.1 l first)
       item_told (Loop o low high body) i j s a k w l x =
           step (Loop o low high body) i j s a (omega (arith, l, operands_past (Loop o low high body) ws i j w.1))
@@ -378,7 +380,8 @@ module _ (ws : List ℕ) (most start e : ℕ) (some : 1 ≤ most) where
           → Told ws most some e None (IsPlain most t) (most_slots t) (most_alternatives t) e 1 0 → IsPlain most t → ⊥
       by_end t (inl x) = x.0
       by_end t (inr x) =
-          let is : None ≡ Some (reached e (max 1 (most_slots t)) (max 0 (most_alternatives t))) = at_end x.1.count (max 1 (most_slots t)) (max 0 (most_alternatives t)) None x.1.says in
+          let is : None ≡ Some (reached e (max 1 (most_slots t)) (max 0 (most_alternatives t))) =
+          at_end x.1.count (max 1 (most_slots t)) (max 0 (most_alternatives t)) None x.1.says in
           absurd (cc)
 
   -- where it comes to the end they have what it has counted
@@ -396,7 +399,8 @@ module _ (ws : List ℕ) (most start e : ℕ) (some : 1 ≤ most) where
           → TreeTold most e t (Some all)
       by_end t (inl x) = let no : Some all ≡ None = x.1 in absurd (cc)
       by_end t (inr x) =
-          let is : Some all ≡ Some (reached e (max 1 (most_slots t)) (max 0 (most_alternatives t))) = at_end x.1.count (max 1 (most_slots t)) (max 0 (most_alternatives t)) (Some all) x.1.says in
+          let is : Some all ≡ Some (reached e (max 1 (most_slots t)) (max 0 (most_alternatives t))) =
+          at_end x.1.count (max 1 (most_slots t)) (max 0 (most_alternatives t)) (Some all) x.1.says in
           let same : all ≡ reached e (max 1 (most_slots t)) (max 0 (most_alternatives t)) = cc in
           let slots : s ≡ max 1 (most_slots t) = ap (λ (p : Passed). p.slots) same in
           let alternatives : a ≡ max 0 (most_alternatives t) = ap (λ (p : Passed). p.alternatives) same in (

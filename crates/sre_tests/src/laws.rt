@@ -186,8 +186,8 @@ fn two_runs_searched<S: StrDrive>(
     state.search_within(Request::new(text, 0, usize::MAX, code, false), &mut turns)
 }
 
-// And who asks a code for its number knows how many turns answer a search by it of any text of up to so many characters,
-// in any window.
+// And who asks a code for its number knows how many turns answer a search by it of any text of up to so many
+// characters, in any window.
 fn searched_with_its_number<S: StrDrive>(
     req: Request<'_, S>,
     characters: usize,

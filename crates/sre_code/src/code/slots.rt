@@ -139,8 +139,8 @@ fn part(words: &[u32], place: usize, most: u64) -> Option<Passed>
     }
 }
 
-/// The slots and the alternatives of the items from `start` up to `end`; none where a region, a reference or a condition
-/// is among them, or where they have more slots than `most`.
+/// The slots and the alternatives of the items from `start` up to `end`; none where a region, a reference or a
+/// condition is among them, or where they have more slots than `most`.
 #[cycle(plain)]
 pub fn scan(words: &[u32], start: usize, end: usize, most: u64) -> Option<Passed>
     requires some { 1 ≤ most }

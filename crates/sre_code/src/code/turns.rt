@@ -1,6 +1,6 @@
 //! How many turns are enough for a code on a text of so many characters, where that is known.
 
-ghost use Rattle.std.specs.Prelude.{◌≡◌, ◌≤◌, ◌+◌, ◌-◌, ◌^◌, length, min, max, nat_le, false};
+ghost use Rattle.std.specs.Prelude.{◌≡◌, ◌+◌, ◌-◌, ◌^◌, length, min, max, nat_le, false};
 ghost use Rattle.sre_model.specs.Tree.{Tree};
 ghost use Rattle.sre_model.specs.Grammar.{WholeItems};
 ghost use Rattle.sre_model.specs.References.{refers};
@@ -59,8 +59,8 @@ fn number(places: u64, passed: Passed, counts: u64, characters: u64) -> Option<u
     turns_by(places, positions, passed.slots, ways, counts).checked_add(1)
 }
 
-/// One turn more than are enough for these items, whose runs count up to `counts`, on a text of so many characters; none
-/// where that is not known, or takes more than 64 bits.
+/// One turn more than are enough for these items, whose runs count up to `counts`, on a text of so many characters;
+/// none where that is not known, or takes more than 64 bits.
 pub fn enough(items: &[u32], counts: u32, characters: usize) -> Option<u64>
     ensures { (tree : Tree) → WholeItems items.now tree → (refers tree ≡ false → counts ≡ most_counts tree)
         → NumberTold (length items.now) tree characters result }
