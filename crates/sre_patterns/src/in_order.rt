@@ -2,7 +2,8 @@
 //!
 //! Then the first match of the pattern is the first way, so automata tell spans and not only starts. A pattern has no
 //! word for what looks, refers or gives nothing back, nor for each position; nor for a loop whose body may read nothing,
-//! which SRE ends otherwise. Counts have to be kept as they are, and each character has to stand in one byte.
+//! which SRE ends otherwise. Counts have to be kept as they are, and over UTF-8 it has to be known which characters a test
+//! takes.
 
 ghost use Rattle.std.specs.Prelude.{◌≡◌, ◌≤◌, ◌<◌, ◌+◌, ◌^◌, ℕ, IfOk, Some, true};
 ghost use Rattle.regex_hir.specs.Meaning.{meaning};
@@ -12,17 +13,19 @@ ghost use Rattle.sre_model.specs.Grammar.{Opcode, WholeItems, until_opcode};
 ghost use Rattle.sre_model.specs.Standing.{HasTest, TestStands};
 ghost use Rattle.sre_model.specs.Characters.{holds};
 ghost use Rattle.sre_code.specs.Codes.{items_of, uni_of};
-ghost use Rattle.sre_shape.specs.Covers.{InBytes};
+ghost use Rattle.sre_shape.specs.Covers.{InBytes, InUtf8};
 ghost use Rattle.sre_shape.specs.Exact.{ExactTree, AreKept};
 ghost use Rattle.sre_shape.specs.Repeated as repetitions;
 ghost use Rattle.sre_patterns.specs.Patterns.{view_of, HasItem, HasBranch, HasJust};
+ghost use Rattle.sre_patterns.specs.Settling.{SettledFrom};
 ghost use Rattle.sre_patterns.specs.Ordered.{HasTree, HasCounted, HasGiving, TriesItems, TriesItem, TriesTest};
 
-use crate::classes::{end_of_test, taken_below};
+use crate::classes::{end_of_test, is_taken, taken_below};
 use crate::encoding::Encoding;
 use crate::fault::Fault;
 use crate::positions::exact_look;
 use crate::repeats::{KEPT, repeated};
+use crate::settled::settled_from;
 use crate::translate::{DEPTH, Part};
 use crate::words::{at_code, item_opcode, operand, skip, test_opcode, word};
 use regex_class::Class;
@@ -31,9 +34,15 @@ use sre_chars::constants::SreOpcode;
 use sre_code::Code;
 use std::alloc::{AllocError, Global};
 
-/// A pattern that tries the ways of the words' tree in their order, over texts whose characters are bytes: what follows
-/// it is tried from the end of each way in turn, and from nowhere else. `None` is for words of which no such pattern is
-/// known, and for items that lie in more than `DEPTH`; an error is for refused memory. No clause says when they come.
+// How many characters there are.
+const CHARACTERS: u32 = 0x11_0000;
+
+// Up to which character a test is asked one by one. Unicode's blanks are below it.
+const FAR: u32 = 0x4000;
+
+/// A pattern that tries the ways of the words' tree in their order: what follows it is tried from the end of each way in
+/// turn, and from nowhere else. `None` is for words of which no such pattern is known, and for items that lie in more
+/// than `DEPTH`; an error is for refused memory. No clause says when they come.
 pub fn ways_of(
     alloc: Global,
     code: &Code<'_>,
@@ -79,7 +88,13 @@ fn sequence(
 
 // The item at a place.
 #[cycle(in_order)]
-fn item(alloc: Global, code: &Code<'_>, encoding: Encoding, place: usize, depth: u32) -> Result<Part, Fault>
+fn item(
+    alloc: Global,
+    code: &Code<'_>,
+    encoding: Encoding,
+    place: usize,
+    depth: u32,
+) -> Result<Part, Fault>
     requires { HasItem (items_of code.now) place }
     ensures { IfOk result (λ p. TriesItem (view_of encoding) (uni_of code.now) (items_of code.now) place
         (meaning p.hir) p.end) }
@@ -117,19 +132,14 @@ fn item(alloc: Global, code: &Code<'_>, encoding: Encoding, place: usize, depth:
 }
 
 // The class of the characters that the test at a place takes.
-fn class_at(
-    alloc: Global,
-    code: &Code<'_>,
-    encoding: Encoding,
-    place: usize,
-) -> Result<Hir, Fault>
+fn class_at(alloc: Global, code: &Code<'_>, encoding: Encoding, place: usize) -> Result<Hir, Fault>
     requires { HasTest (items_of code.now) place }
     ensures { IfOk result (λ h. TriesTest (view_of encoding) (uni_of code.now) (items_of code.now) place (meaning h)) }
 {
     match encoding {
         Encoding::Bytes => Ok(bytes_at(alloc, code, 256, place)?),
         Encoding::Ascii => Ok(bytes_at(alloc, code, 128, place)?),
-        Encoding::Utf8 => Err(Fault::OutOfOrder),
+        Encoding::Utf8 => characters_at(alloc, code, place),
     }
 }
 
@@ -141,6 +151,49 @@ fn bytes_at(alloc: Global, code: &Code<'_>, bound: u32, place: usize) -> Result<
 {
     let ranges = taken_at(alloc, code, bound, place)?;
     Ok(Hir::Bytes(Class::new(ranges)?))
+}
+
+// The class of all characters that the test at a place takes, where it answers alike from a character on that is not far.
+fn characters_at(alloc: Global, code: &Code<'_>, place: usize) -> Result<Hir, Fault>
+    requires { HasTest (items_of code.now) place }
+    ensures { IfOk result (λ h. TriesTest InUtf8 (uni_of code.now) (items_of code.now) place (meaning h)) }
+{
+    let opcode = test_opcode(code, place);
+    if opcode == SreOpcode::LITERAL {
+        let ranges = taken_at(alloc, code, CHARACTERS, place)?;
+        return Ok(Hir::Chars(Class::new(ranges)?));
+    }
+    let Some(from) = settled_from(code, place, opcode) else {
+        return Err(Fault::OutOfOrder);
+    };
+    if from > FAR {
+        return Err(Fault::OutOfOrder);
+    }
+    let ranges = taken_and_on(alloc, code, place, opcode, from)?;
+    Ok(Hir::Chars(Class::new(ranges)?))
+}
+
+// The characters that the test at a place takes, where it answers alike from one of them on.
+fn taken_and_on(
+    alloc: Global,
+    code: &Code<'_>,
+    place: usize,
+    opcode: SreOpcode,
+    from: u32,
+) -> Result<Vec<(u32, u32)>, AllocError>
+    requires code { Opcode (items_of code.now) place opcode }
+    requires stands { HasTest (items_of code.now) place }
+    requires inside { from < 1114112 }
+    requires settled { (j : ℕ) (t : Test) → TestStands (items_of code.now) place j t
+        → SettledFrom from (holds (uni_of code.now) t) }
+    ensures { IfOk result (λ r. (j : ℕ) (t : Test) → TestStands (items_of code.now) place j t
+        → HasJust 1114112 (holds (uni_of code.now) t) r.items) }
+{
+    let mut ranges = taken_below(alloc, code, place, opcode, from)?;
+    if is_taken(code, place, opcode, from) {
+        ranges.push((from, CHARACTERS - 1))?;
+    }
+    Ok(ranges)
 }
 
 // The numbers below a bound that the test at a place takes, each as a range.

@@ -26,6 +26,16 @@ either-way : (b : Bool) → (not b || true) ≡ true
 either-way true = refl
 either-way false = refl
 
+-- the match that is found goes from where a match of bytes starts to where that ends, as positions stand at bytes
+pub record FoundAt (a : Asked) (t : Tree) (off : ℕ → ℕ) (f : bytes.Match) : Type 0 where
+  pub match : Match
+  pub is : found a t ≡ Some match
+  pub starts : off match.start ≡ f.start
+  pub ends : off match.end ≡ f.trace.end
+  pub from : a.start ≤ match.start
+  pub forward : match.start < match.end
+  pub inside : match.end ≤ a.end
+
 -- each match of the pattern reads a byte, so that it must advance bars none
 module _ (V : View) (rises : Rises V) (a : Asked) (hay : List ℕ) (off : ℕ → ℕ) (v : V (subject_of a) hay off)
     (whole : off a.end ≡ length hay) (window : a.start ≤ a.end) (re : Re) (t : Tree) (x : ExactTree V a.table re t)
@@ -83,16 +93,6 @@ module _ (V : View) (rises : Rises V) (a : Asked) (hay : List ℕ) (off : ℕ �
       ∙ none_of_first_between (attempt hay re accept) (off a.start) (length hay) e (off p) (grows a.start p k l)
       (omega (arith, grows p a.end l (omega arith), whole))))
 
-  -- a match from where its match starts to where that ends, as positions stand at bytes
-  pub record FoundAt (f : bytes.Match) : Type 0 where
-    pub match : Match
-    pub found : found a t ≡ Some match
-    pub starts : off match.start ≡ f.start
-    pub ends : off match.end ≡ f.trace.end
-    pub from : a.start ≤ match.start
-    pub forward : match.start < match.end
-    pub inside : match.end ≤ a.end
-
   -- what it finds begins where a position stands, since it reads a byte
   begins : (f : bytes.Match) → attempt hay re accept f.start ≡ Some f.trace → IsPlace (subject_of a) off f.start
   unfolding IsMinLen
@@ -109,7 +109,7 @@ module _ (V : View) (rises : Rises V) (a : Asked) (hay : List ℕ) (off : ℕ �
     | (inr more) ↦ more
   ]
 
-  pub found_by : (f : bytes.Match) → bytes.find re hay (off a.start) ≡ Some f → FoundAt f
+  pub found_by : (f : bytes.Match) → bytes.find re hay (off a.start) ≡ Some f → FoundAt a t off f
   unfolding bytes.find
   found_by f e =
       let first = IsFirst-of_first_between (attempt hay re accept) (off a.start) (length hay) f e in
@@ -122,7 +122,7 @@ module _ (V : View) (rises : Rises V) (a : Asked) (hay : List ℕ) (off : ℕ �
       (sym (first-ends p at.1) ∙ ap (attempt hay re accept) at.2 ∙ first.here) in
       record {
         match = it.0;
-        found = least-found a t it.0 (record {
+        is = least-found a t it.0 (record {
           from = omega (arith, from, it.1);
           to = omega (arith, at.1, it.1);
           here = ap (at_start a t) it.1 ∙ it.5;

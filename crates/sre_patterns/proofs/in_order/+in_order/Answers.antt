@@ -1,9 +1,8 @@
 use Rattle.std.proofs.Common.{◌+◌, ◌-◌, ◌∙◌, ap, sym, subst, [], ◌∷◌, map, refl, arith}
 use Rattle.std.proofs.lemmas.List.{map-append}
-use Rattle.regex_hir.specs.Re.{byte_in, empty}
+use Rattle.regex_hir.specs.Re.{byte_in}
 use Rattle.regex_hir.specs.Meaning.{meaning}
 use Rattle.regex_hir.proofs.MeaningLemmas.{meaning-Empty, meaning-Bytes, meaning-Concat, meaning-Alternation}
-use Rattle.sre_chars.specs.declared.constants.SreOpcode.TheVariants as opcode
 use Rattle.sre_model.specs.Grammar.{Word, Opcode}
 use Rattle.sre_model.proofs.Words.{word_of, same_word}
 use Rattle.sre_code.specs.Codes.{items_of, uni_of}

@@ -5,3 +5,6 @@ returns-in_ok-bytes_at-in-Bytes c = rw c.in-Bytes.is c.in_ok-bytes_at-in-Bytes.e
 
 pub returns-in_ok-bytes_at-in-Ascii : goal.returns-in_ok-bytes_at-in-Ascii
 returns-in_ok-bytes_at-in-Ascii c = rw c.in-Ascii.is c.in_ok-bytes_at-in-Ascii.ensures
+
+pub returns-in-Utf8 : goal.returns-in-Utf8
+returns-in-Utf8 c = rw c.in-Utf8.is c.characters_at.ensures
