@@ -197,24 +197,21 @@ module _ (ws : List ℕ) (i j : ℕ) (table : Table) (t : Test) (s : TestStands 
 
   module _ (from v : ℕ) (o : SreOpcode) (w : Opcode ws i o) (value : Word ws (i + 1) v) (e : from ≡ max (v + 1) 128)
     where
-      apart : (n c : ℕ) → Word ws (i + 1) n → from ≤ c → nat_eq n c ≡ false
-      apart n c r l =
+      plain-none : (n : ℕ) → Word ws (i + 1) n → (c : ℕ) → from ≤ c → nat_eq n c ≡ false
+      plain-none n r c l =
           let same : n ≡ v = same_word ws (i + 1) n v r value in
           let less : n < c = omega (arith, same, e, l) in
           grind (arith, nat_tests)
 
-      plain-none : (n : ℕ) → Word ws (i + 1) n → (c : ℕ) → from ≤ c → nat_eq n c ≡ false
-      plain-none n r c l = apart n c r l
-
       ascii-none : (n : ℕ) → Word ws (i + 1) n → (c : ℕ) → from ≤ c → nat_eq n (lower_ascii c) ≡ false
-      ascii-none n r c l = ap (nat_eq n) (lower-past c (omega (arith, e, l))) ∙ apart n c r l
+      ascii-none n r c l = ap (nat_eq n) (lower-past c (omega (arith, e, l))) ∙ plain-none n r c l
 
       locale-none : (n : ℕ) → Word ws (i + 1) n → (c : ℕ) → from ≤ c
           → (nat_eq n c || nat_eq n (lower_ascii c) || nat_eq n (upper_ascii c)) ≡ false
       locale-none n r c l =
           let upper : nat_eq n (upper_ascii c) ≡ false =
-          ap (nat_eq n) (upper-past c (omega (arith, e, l))) ∙ apart n c r l in
-          rw (apart n c r l, ascii-none n r c l, upper) refl
+          ap (nat_eq n) (upper-past c (omega (arith, e, l))) ∙ plain-none n r c l in
+          rw (plain-none n r c l, ascii-none n r c l, upper) refl
 
       pub literal-settled : IsLiteralOpcode o → SettledFrom from (holds table t)
       literal-settled is = go t is (same_opcode ws i o (test_opcode t) w s.code) s.operands

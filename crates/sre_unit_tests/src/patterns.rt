@@ -225,7 +225,14 @@ fn patterns_in_order_are_exact(rt: HostRuntime) {
     assert!(rt; orders(alloc, &words, Encoding::Ascii, "([97-99;]{1,} [120-120;] )"));
     assert!(rt; orders(alloc, &words, Encoding::Utf8, "([97-99;]{1,} [120-120;] )"));
     // .é
-    assert!(rt; orders(alloc, &[2, 16, 233, 1], Encoding::Utf8, "([0-9;11-1114111;] [233-233;] )"));
+    assert!(rt;
+        orders(
+            alloc,
+            &[2, 16, 233, 1],
+            Encoding::Utf8,
+            "([0-9;11-1114111;] [233-233;] )"
+        )
+    );
     // [^ab]
     let words = [13, 6, 21, 22, 97, 98, 0, 1];
     assert!(rt; orders(alloc, &words, Encoding::Utf8, "([0-96;99-1114111;] )"));
@@ -233,12 +240,28 @@ fn patterns_in_order_are_exact(rt: HostRuntime) {
     assert!(rt; orders(alloc, &[32, 97, 1], Encoding::Utf8, "([65-65;97-97;] )"));
     assert!(rt; has_no_order(alloc, &[40, 97, 1], Encoding::Utf8));
     // \Aa\Z, whose positions are looks
-    assert!(rt; orders(alloc, &[6, 0, 16, 97, 6, 7, 1], Encoding::Utf8, "(start [97-97;] end )"));
-    assert!(rt; orders(alloc, &[6, 3, 16, 97, 6, 6, 1], Encoding::Bytes, "(boundary [97-97;] line end )"));
+    assert!(rt;
+        orders(
+            alloc,
+            &[6, 0, 16, 97, 6, 7, 1],
+            Encoding::Utf8,
+            "(start [97-97;] end )"
+        )
+    );
+    assert!(rt;
+        orders(
+            alloc,
+            &[6, 3, 16, 97, 6, 6, 1],
+            Encoding::Bytes,
+            "(boundary [97-97;] line end )"
+        )
+    );
     // a$, which holds before a last line break as well, and \B
     assert!(rt; has_no_order(alloc, &[16, 97, 6, 5, 1], Encoding::Bytes));
     assert!(rt; has_no_order(alloc, &[6, 4, 16, 97, 1], Encoding::Bytes));
     // (?:a*)*, whose body may read nothing
-    let words = [23, 11, 0, 4294967295, 24, 6, 0, 4294967295, 16, 97, 1, 18, 1];
+    let words = [
+        23, 10, 0, 4294967295, 24, 6, 0, 4294967295, 16, 97, 1, 18, 1,
+    ];
     assert!(rt; has_no_order(alloc, &words, Encoding::Bytes));
 }
