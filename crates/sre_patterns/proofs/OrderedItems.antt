@@ -21,7 +21,8 @@ use Rattle.sre_model.proofs.Places.{reads_within, operands_past}
 use Rattle.sre_shape.specs.Covers.{View}
 use Rattle.sre_shape.specs.Exact.{ExactTree, ExactItem, Rises, AreKept}
 use Rattle.sre_shape.specs.Repeated.{repeated, is_greedy, kind_of}
-use Rattle.sre_shape.proofs.ExactTrees.{exact-empty, exact-then, exact-fail, exact-one, exact-mark, exact-loop, exact-run}
+use Rattle.sre_shape.proofs.ExactTrees.{exact-empty, exact-then, exact-fail, exact-one, exact-mark, exact-loop}
+use Rattle.sre_shape.proofs.ExactTrees.{exact-run}
 use Rattle.sre_patterns.specs.Patterns.{cat_onto, HasItem}
 use Rattle.sre_patterns.specs.Ordered.{HasTree, HasCounted, HasGiving, TriesItems, TriesItem, TriesTest}
 use Rattle.sre_patterns.proofs.Onto.{cat-last}

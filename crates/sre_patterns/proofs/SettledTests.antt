@@ -15,7 +15,8 @@ use Rattle.sre_model.specs.Grammar.{Word, word, Opcode, test_opcode, TestOperand
 use Rattle.sre_model.specs.Standing.{HasCategory, HasSet, HasTest, SetStands, TestStands, ItemSays}
 use Rattle.sre_model.proofs.Words.{same_opcode, same_word, same_category, word_within}
 use Rattle.std.proofs.lemmas.Option.{slice_get-get_or}
-use Rattle.sre_model.proofs.Members.{range_room, single_says, range_says, category_says, charset_says, negated, nothing_left}
+use Rattle.sre_model.proofs.Members.{range_room, single_says, range_says, category_says, charset_says, negated}
+use Rattle.sre_model.proofs.Members.{nothing_left}
 use Rattle.sre_model.proofs.Unique.{set_same}
 use Rattle.sre_patterns.specs.Settling.{SettledFrom, SettledSet, SettlesBehind}
 

@@ -1,9 +1,9 @@
 //! The pattern of a code that tries the ways of its tree in their order, where there is one.
 //!
 //! Then the first match of the pattern is the first way, so automata tell spans and not only starts. A pattern has no
-//! word for what looks, refers or gives nothing back, nor for each position; nor for a loop whose body may read nothing,
-//! which SRE ends otherwise. Counts have to be kept as they are, and over UTF-8 it has to be known which characters a test
-//! takes.
+//! word for what looks, refers or gives nothing back, nor for each position; nor for a loop whose body may read
+//! nothing, which SRE ends otherwise. Counts have to be kept as they are, and over UTF-8 it has to be known which
+//! characters a test takes.
 
 ghost use Rattle.std.specs.Prelude.{◌≡◌, ◌≤◌, ◌<◌, ◌+◌, ◌^◌, ℕ, IfOk, Some, true};
 ghost use Rattle.regex_hir.specs.Meaning.{meaning};
@@ -40,9 +40,9 @@ const CHARACTERS: u32 = 0x11_0000;
 // Up to which character a test is asked one by one. Unicode's blanks are below it.
 const FAR: u32 = 0x4000;
 
-/// A pattern that tries the ways of the words' tree in their order: what follows it is tried from the end of each way in
-/// turn, and from nowhere else. `None` is for words of which no such pattern is known, and for items that lie in more
-/// than `DEPTH`; an error is for refused memory. No clause says when they come.
+/// A pattern that tries the ways of the words' tree in their order: what follows it is tried from the end of each way
+/// in turn, and from nowhere else. `None` is for words of which no such pattern is known, and for items that lie in
+/// more than `DEPTH`; an error is for refused memory. No clause says when they come.
 pub fn ways_of(
     alloc: Global,
     code: &Code<'_>,
@@ -153,7 +153,7 @@ fn bytes_at(alloc: Global, code: &Code<'_>, bound: u32, place: usize) -> Result<
     Ok(Hir::Bytes(Class::new(ranges)?))
 }
 
-// The class of all characters that the test at a place takes, where it answers alike from a character on that is not far.
+// The class of all characters that the test at a place takes, where it answers alike from one on that is not far.
 fn characters_at(alloc: Global, code: &Code<'_>, place: usize) -> Result<Hir, Fault>
     requires { HasTest (items_of code.now) place }
     ensures { IfOk result (λ h. TriesTest InUtf8 (uni_of code.now) (items_of code.now) place (meaning h)) }

@@ -21,7 +21,8 @@ decreases-counted l = l.depth * 3 + 2
 
 abbrev pub invariant-sequence-each : goal.invariant-sequence-each
 invariant-sequence-each l =
-    OrderedSoFar (view_of l.encoding) (uni_of l.code) (items_of l.code) l.start l.end l.place (map meaning l.parts.items)
+    OrderedSoFar (view_of l.encoding) (uni_of l.code) (items_of l.code) l.start l.end l.place
+    (map meaning l.parts.items)
 
 abbrev pub decreases-sequence-each : goal.decreases-sequence-each
 decreases-sequence-each l = l.end - l.place

@@ -114,7 +114,8 @@ returns-clause-knows g c =
           (omega (arith, at.forward, at.inside, ends)) at.starts in
           let first_is =
           once encoding a own.pattern place hay own.reads all window seen first.position at.start
-          (omega (arith, starts.inside, ends)) (omega (arith, at.forward, at.inside)) (omega (arith, first_there, at.starts)) in
+          (omega (arith, starts.inside, ends)) (omega (arith, at.forward, at.inside))
+          (omega (arith, first_there, at.starts)) in
           let last_there = stops.there at.end (omega (arith, first_is, at.forward))
           (omega (arith, at.inside, ends)) at.ends in
           rw w.result-is
@@ -128,7 +129,8 @@ returns-clause-knows g c =
               some = λ t whole.
                   span_between encoding a own.pattern place hay own.reads all window seen t (tries t whole)
                   is.match is.found first.position last.position (omega (arith, starts.inside, ends))
-                  (omega (arith, stops.inside, ends)) (omega (arith, first_there, is.begins)) (omega (arith, last_there, is.ends));
+                  (omega (arith, stops.inside, ends)) (omega (arith, first_there, is.begins))
+                  (omega (arith, last_there, is.ends));
             };
           })
       | in-Unknown w ↦ rw w.result-is tt
