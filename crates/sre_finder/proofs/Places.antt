@@ -6,10 +6,12 @@ use Rattle.std.proofs.lemmas.List.{length-take-le}
 use Rattle.std.specs.Str.{chars, IsUtf8}
 use Rattle.sre_chars.specs.Texts.{offset_of, begun}
 use Rattle.sre_chars.proofs.Beginnings.{place_in, begun_block}
-use Rattle.sre_model.specs.Subject.{char_at}
+use Rattle.sre_chars.specs.Tables.{ascii_table}
+use Rattle.sre_chars.specs.declared.constants.EmptyRule.TheVariants.{Never}
+use Rattle.sre_model.specs.Subject.{Subject, char_at}
 use Rattle.sre_patterns.specs.declared.encoding.Encoding.TheVariants.{Bytes, Ascii, Utf8}
 use Rattle.sre_shape.specs.Covers.{InBytes, InUtf8, read_utf8}
-use Rattle.sre_shape.proofs.OverBytes.{bytes-seen}
+use Rattle.sre_shape.proofs.OverBytes.{bytes-seen, bytes-places}
 use Rattle.sre_shape.proofs.OverUtf8.{utf8-seen}
 use Rattle.sre_shape.proofs.AsciiSeen.{ascii-of-utf8}
 use Rattle.sre_finder.specs.Views.{SeenAs}
@@ -82,3 +84,11 @@ ascii_seen text hay place end seen same = record {
 -- a position behind which no more bytes are is inside the text's bytes
 pub offset_inside : (text : List ℕ) (p : ℕ) → IsUtf8 text → p ≤ length (chars text) → offset_of text p ≤ length text
 offset_inside text p u inside = (place_in text text (offset_of text p) p refl u refl inside).in_bounds
+
+-- where up to a position are as many bytes as characters, each position stands at the byte of its number
+pub alike : (text : List ℕ) (end p : ℕ) → IsUtf8 text → end ≤ length (chars text) → offset_of text end ≡ end
+    → p ≤ end → offset_of text p ≡ p
+alike text end p u inside same l =
+    let s : Subject = record { text = chars text; end = end; table = ascii_table; empty_rule = Never } in
+    bytes-places 128 s (read_utf8 text end) (offset_of text)
+    (ascii-of-utf8 s (read_utf8 text end) (offset_of text) (utf8-seen text s u refl inside) same) p l

@@ -1,8 +1,9 @@
 -- What automata that have the first matches of a code tell of its spans, and how a walk goes on behind a span.
-use Rattle.std.proofs.Common.{◌≡◌, ◌≤◌, ◌<◌, ℕ, zero, suc, List, [], ◌∷◌, Bool, true, false, not, ◌&&◌, ◌||◌, cond, nat_eq}
-use Rattle.std.proofs.Common.{Option, Some, None, refl, ap, ap₂, sym, ◌∙◌, subst, arith, inl, inr}
+use Rattle.std.proofs.Common.{◌≡◌, ◌≤◌, ◌<◌, ℕ, zero, suc, List, [], ◌∷◌, Bool, true, false, not, ◌&&◌, ◌||◌, cond}
+use Rattle.std.proofs.Common.{nat_eq, Option, Some, None, refl, ap, ap₂, sym, ◌∙◌, subst, arith, inl, inr}
 use Rattle.std.specs.List.{AllByRecursion}
 use Rattle.std.specs.Option.{IfSome}
+use Rattle.std.proofs.lemmas.Bool.{cases_lt}
 use Rattle.std.proofs.lemmas.Bool.Decides.{nat_tests}
 use Rattle.regex_hir.specs.Re.{Re}
 use Rattle.regex_hir.specs.Matches.{IsMinLen}
@@ -29,26 +30,24 @@ use Rattle.sre_engine.specs.Answers.{Shown, Answers}
 use Rattle.sre_engine.specs.Walks.{match_shown, StepsTo, GoesOn}
 use Rattle.sre_engine.specs.Searches.{WalksOn}
 use Rattle.sre_shape.specs.Exact.{ExactTree}
-use Rattle.sre_shape.proofs.OverBytes.{bytes-places, bytes-placed}
-use Rattle.sre_shape.proofs.FirstFound.{found_by, none-found_by}
+use Rattle.sre_shape.proofs.FirstFound.{FoundAt, found_by, none-found_by}
+use Rattle.sre_patterns.proofs.SidesSeen.{rises}
 use Rattle.sre_patterns.specs.Patterns.{view_of}
 use Rattle.sre_patterns.specs.declared.encoding.Encoding.{Encoding}
-use Rattle.sre_patterns.specs.declared.encoding.Encoding.TheVariants.{Bytes, Ascii, Utf8}
 use Rattle.sre_automata.specs.Told.{IsBetween}
 use Rattle.sre_finder.specs.Views.{SeenAs}
 use Rattle.sre_finder.specs.Spans.{match_with, Exactly, ExactlyAny, FindsSpan, FindsNone, GoesOnBehind}
 
 -- automata of a pattern that tries a code's ways in their order
 pub exactly : (encoding : Encoding) (code : Code) (o : Option Nfa) (re : Re) → IfSome o (λ nfa. Implements nfa re)
-    → IsMinLen re 1 → (encoding ≡ Utf8 → ⊥)
+    → IsMinLen re 1
     → ((t : Tree) → WholeItems (items_of code) t → ExactTree (view_of encoding) (uni_of code) re t)
     → ExactlyAny encoding code o
-exactly encoding code None re implements reads apart exact = tt
-exactly encoding code (Some nfa) re implements reads apart exact = record {
+exactly encoding code None re implements reads exact = tt
+exactly encoding code (Some nfa) re implements reads exact = record {
   pattern = re;
   implements = implements;
   reads = reads;
-  in_bytes = apart;
   exact = exact;
 }
 
@@ -65,62 +64,70 @@ exact_same encoding code own nfa c e t whole =
     subst (λ d. ExactTree (view_of encoding) (uni_of d) c.pattern t) e
     (c.exact t (subst (λ d. WholeItems (items_of d) t) (sym e) whole))
 
--- where each character is a byte, a position stands at the byte of its number
-pub placed : (encoding : Encoding) (a : Asked) (place : ℕ → ℕ) (hay : List ℕ) → (encoding ≡ Utf8 → ⊥)
-    → SeenAs encoding a.text place a.end hay → (p : ℕ) → p ≤ a.end → place p ≡ p
-placed Bytes a place hay apart seen = bytes-places 256 (subject_of a) hay place (seen.seen (subject_of a) refl refl)
-placed Ascii a place hay apart seen = bytes-places 128 (subject_of a) hay place (seen.seen (subject_of a) refl refl)
-placed Utf8 a place hay apart seen = absurd (apart refl)
-
--- a span that automata tell lies in the window, and at the bytes of its positions
-pub span_places : (encoding : Encoding) (a : Asked) (place : ℕ → ℕ) (hay : List ℕ) (re : Re) (from start end : ℕ)
-    → (encoding ≡ Utf8 → ⊥) → SeenAs encoding a.text place a.end hay → IsBetween hay re from start end
-    → (start ≤ end) × (end ≤ a.end) × (place start ≡ start) × (place end ≡ end)
-span_places encoding a place hay re from start end apart seen is =
-    let inside : end ≤ a.end =
-    omega (arith, is.inside, seen.whole, placed encoding a place hay apart seen a.end (omega arith)) in (
-      is.forward,
-      inside,
-      placed encoding a place hay apart seen start (omega (arith, is.forward, inside)),
-      placed encoding a place hay apart seen end inside,
-    )
+-- positions of the window that stand at two bytes
+pub record SpanPlaces (a : Asked) (place : ℕ → ℕ) (first last : ℕ) : Type 0 where
+  pub start : ℕ
+  pub end : ℕ
+  pub starts : place start ≡ first
+  pub ends : place end ≡ last
+  pub from : a.start ≤ start
+  pub forward : start ≤ end
+  pub inside : end ≤ a.end
 
 -- a match with its span
 spanned : (m : Match) (start end : ℕ) → m.start ≡ start → m.end ≡ end → m ≡ match_with start end m.marks
 spanned m start end e f = ap₂ (λ x y. match_with x y m.marks) e f
 
-module _ (a : Asked) (t : Tree) (re : Re) (place : ℕ → ℕ) (hay : List ℕ) (reads : IsMinLen re 1)
-    (all : a.match_all ≡ false) where
-  -- what a search for the pattern finds is found
-  pub span_found : (encoding : Encoding) → (encoding ≡ Utf8 → ⊥) → ExactTree (view_of encoding) a.table re t
-      → SeenAs encoding a.text place a.end hay → (f : bytes.Match) → bytes.find re hay a.start ≡ Some f
-      → (m : Match) × (found a t ≡ Some m) × (m.start ≡ f.start) × (m.end ≡ f.trace.end)
-  span_found Bytes apart x seen f e =
-      let view = bytes-placed 256 (subject_of a) hay place (seen.seen (subject_of a) refl refl) in
-      found_by 256 a hay view re t x reads all f e
-  span_found Ascii apart x seen f e =
-      let view = bytes-placed 128 (subject_of a) hay place (seen.seen (subject_of a) refl refl) in
-      found_by 128 a hay view re t x reads all f e
-  span_found Utf8 apart x seen f e = absurd (apart refl)
+module _ (encoding : Encoding) (a : Asked) (re : Re) (place : ℕ → ℕ) (hay : List ℕ) (reads : IsMinLen re 1)
+    (all : a.match_all ≡ false) (window : a.start ≤ a.end) (seen : SeenAs encoding a.text place a.end hay) where
+  view : view_of encoding (subject_of a) hay place
+  view = seen.seen (subject_of a) refl refl
 
-  -- and where it finds nothing, nothing is
-  pub nothing_found : (encoding : Encoding) → (encoding ≡ Utf8 → ⊥) → ExactTree (view_of encoding) a.table re t
-      → SeenAs encoding a.text place a.end hay → bytes.find re hay a.start ≡ None → found a t ≡ None
-  nothing_found Bytes apart x seen e =
-      let view = bytes-placed 256 (subject_of a) hay place (seen.seen (subject_of a) refl refl) in
-      none-found_by 256 a hay view re t x reads all e
-  nothing_found Ascii apart x seen e =
-      let view = bytes-placed 128 (subject_of a) hay place (seen.seen (subject_of a) refl refl) in
-      none-found_by 128 a hay view re t x reads all e
-  nothing_found Utf8 apart x seen e = absurd (apart refl)
+  -- two positions do not stand at one byte
+  pub once : (p q : ℕ) → p ≤ a.end → q ≤ a.end → place p ≡ place q → p ≡ q
+  once p q l h e = elim (cases_lt p q) [
+    | (inl less) ↦ absurd (omega (arith, rises encoding (subject_of a) hay place view p q less h, e))
+    | (inr more) ↦ elim (cases_lt q p) [
+      | (inl less) ↦ absurd (omega (arith, rises encoding (subject_of a) hay place view q p less l, e))
+      | (inr same) ↦ omega (arith, more, same)
+    ]
+  ]
 
-  pub span_between : (encoding : Encoding) → (encoding ≡ Utf8 → ⊥) → ExactTree (view_of encoding) a.table re t
-      → SeenAs encoding a.text place a.end hay → (f : bytes.Match) → bytes.find re hay a.start ≡ Some f
-      → (start end : ℕ) → f.start ≡ start → f.trace.end ≡ end
-      → (marks : Marks) × (found a t ≡ Some (match_with start end marks))
-  span_between encoding apart x seen f e start end begins ends =
-      let it = span_found encoding apart x seen f e in
-      (it.0.marks, it.1 ∙ ap (λ m. Some m) (spanned it.0 start end (it.2 ∙ begins) (it.3 ∙ ends)))
+  module _ (t : Tree) (x : ExactTree (view_of encoding) a.table re t) where
+    -- what a search for the pattern finds is found
+    pub span_found : (f : bytes.Match) → bytes.find re hay (place a.start) ≡ Some f → FoundAt a t place f
+    span_found f e =
+        found_by (view_of encoding) (rises encoding) a hay place view seen.whole window re t x reads all f e
+
+    -- the span that automata tell stands at positions of the window
+    pub span_places : (first last : ℕ) → IsBetween hay re (place a.start) first last → SpanPlaces a place first last
+    span_places first last is =
+        let it = span_found is.match is.found in
+        record {
+          start = it.match.start;
+          end = it.match.end;
+          starts = it.starts ∙ is.begins;
+          ends = it.ends ∙ is.ends;
+          from = it.from;
+          forward = omega (arith, it.forward);
+          inside = it.inside;
+        }
+
+    -- and where it finds nothing, nothing is
+    pub nothing_found : bytes.find re hay (place a.start) ≡ None → found a t ≡ None
+    nothing_found e =
+        none-found_by (view_of encoding) (rises encoding) a hay place view seen.whole window re t x reads all e
+
+    -- as a match between the positions that stand at its bytes
+    pub span_between : (f : bytes.Match) → bytes.find re hay (place a.start) ≡ Some f → (start end : ℕ)
+        → start ≤ a.end → end ≤ a.end → place start ≡ f.start → place end ≡ f.trace.end
+        → (marks : Marks) × (found a t ≡ Some (match_with start end marks))
+    span_between f e start end l h begins ends =
+        let it = span_found f e in
+        let m = it.match in
+        let first = once m.start start (omega (arith, it.forward, it.inside)) l (it.starts ∙ sym begins) in
+        let last = once m.end end it.inside h (it.ends ∙ sym ends) in
+        (m.marks, it.is ∙ ap (λ n. Some n) (spanned m start end first last))
 
 -- a walk's first match is what is found, and where it has none nothing is
 pub first_found : (a : Asked) (t : Tree) (m : Match) (rest : List Match) → walk a t ≡ m ∷ rest → found a t ≡ Some m

@@ -19,17 +19,15 @@ use Rattle.sre_request.specs.Requests.{empty_rule_of, asked_of, stands_in}
 use Rattle.sre_shape.specs.Exact.{ExactTree}
 use Rattle.sre_patterns.specs.Patterns.{view_of}
 use Rattle.sre_patterns.specs.declared.encoding.Encoding.{Encoding}
-use Rattle.sre_patterns.specs.declared.encoding.Encoding.TheVariants.{Utf8}
 use Rattle.sre_finder.specs.declared.span_finder.Known.{Known}
 use Rattle.sre_finder.specs.declared.span_finder.Known.TheVariants as known
 
 -- automata have the first matches of some pattern, which reads a byte at least and tries the ways of a code's tree in
--- their order, over texts whose characters are bytes
+-- their order
 pub record Exactly (encoding : Encoding) (code : Code) (nfa : Nfa) : Type 0 where
   pub pattern : Re
   pub implements : Implements nfa pattern
   pub reads : IsMinLen pattern 1
-  pub in_bytes : encoding ≡ Utf8 → ⊥
   pub exact : (t : Tree) → WholeItems (items_of code) t → ExactTree (view_of encoding) (uni_of code) pattern t
 
 -- the same of automata that there may be

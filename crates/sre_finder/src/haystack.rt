@@ -37,13 +37,9 @@ pub trait Haystack: StrDrive {
         ensures stands { Self.stands self.now result result.position }
         ensures after { from.position ≤ result.position }
         ensures inside { result.position ≤ end.position }
-        ensures passed { (q : ℕ) → from.position ≤ q → q < result.position → place self.now q < offset };
-
-    /// The cursor at a position that stands at the byte of its number.
-    fn cursor_at_byte(&self, position: usize) -> StringCursor
-        requires inside { position ≤ length (Self.text self.now) }
-        requires alike { place self.now position ≡ position }
-        ensures { Self.stands self.now result position };
+        ensures passed { (q : ℕ) → from.position ≤ q → q < result.position → place self.now q < offset }
+        ensures there { (q : ℕ) → from.position ≤ q → q ≤ end.position → place self.now q ≡ offset
+            → place self.now result.position ≡ offset };
 }
 
 // The bytes up to a position.
@@ -77,7 +73,8 @@ fn ascii_up_to(text: &str, end: StringCursor) -> Option<&[u8]>
     }
 }
 
-// The cursor at an offset between two others, where a character begins there, else the first of them.
+// The cursor at an offset between two others, where a character begins there, else the first of them. Where before the
+// last of them are as many bytes as characters, each is one byte, and nothing is counted.
 fn text_cursor(text: &str, from: StringCursor, offset: usize, end: StringCursor) -> StringCursor
     requires from { StandsInText text.now from from.position }
     requires end { StandsInText text.now end end.position }
@@ -88,9 +85,13 @@ fn text_cursor(text: &str, from: StringCursor, offset: usize, end: StringCursor)
     ensures after { from.position ≤ result.position }
     ensures inside { result.position ≤ end.position }
     ensures passed { (q : ℕ) → from.position ≤ q → q < result.position → offset_of text.now q < offset }
+    ensures there { (q : ℕ) → from.position ≤ q → q ≤ end.position → offset_of text.now q ≡ offset
+        → offset_of text.now result.position ≡ offset }
 {
-    let _end = end.offset();
     let _bytes = text.len();
+    if end.offset() == end.position() {
+        return StringCursor::new(offset, offset);
+    }
     match cursor_at(text, from, offset) {
         Some(there) => there,
         None => from,
@@ -118,11 +119,6 @@ impl<'a> Haystack for &'a [u8] {
     fn cursor_up_to(&self, _from: StringCursor, offset: usize, _end: StringCursor) -> StringCursor {
         StringCursor::new(offset, offset)
     }
-
-    #[inline(always)]
-    fn cursor_at_byte(&self, position: usize) -> StringCursor {
-        StringCursor::new(position, position)
-    }
 }
 
 impl<'a> Haystack for &'a str {
@@ -145,10 +141,5 @@ impl<'a> Haystack for &'a str {
     #[inline(always)]
     fn cursor_up_to(&self, from: StringCursor, offset: usize, end: StringCursor) -> StringCursor {
         text_cursor(self, from, offset, end)
-    }
-
-    #[inline(always)]
-    fn cursor_at_byte(&self, position: usize) -> StringCursor {
-        StringCursor::new(position, position) // before it are as many bytes as characters
     }
 }

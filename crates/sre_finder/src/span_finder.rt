@@ -50,9 +50,9 @@ impl<'c> Model for SpanFinder<'c> {
 }
 
 impl<'c> SpanFinder<'c> {
-    /// The finder of a code's spans, for texts that are seen so as bytes: `Encoding::Bytes` for a text of bytes, and
-    /// `Encoding::Ascii` for a `str` that is ASCII up to the end of the window. Of texts that are seen otherwise no
-    /// span is told without the machine.
+    /// The finder of a code's spans, for texts that are seen so as bytes: `Encoding::Bytes` for a text of bytes,
+    /// `Encoding::Utf8` for a `str`, and `Encoding::Ascii` for a `str` that is ASCII up to the end of the window. Of
+    /// texts that are seen otherwise no span is told without the machine.
     ///
     /// It never fails: where no automata tell spans it is a [`Finder`] of the code, which may have none either.
     pub fn new(alloc: Global, code: Code<'c>, encoding: Encoding) -> SpanFinder<'c>
@@ -95,8 +95,8 @@ impl<'c> SpanFinder<'c> {
 fn exact_of(alloc: Global, code: Code<'_>, encoding: Encoding) -> Option<Automata>
     ensures { ExactlyAny encoding code.entry result }
 {
-    if encoding == Encoding::Utf8 || code.hints().prefix.is_some() {
-        return None; // no order is known over UTF-8; the search along a prefix's places is as fast
+    if code.hints().prefix.is_some() {
+        return None; // the search along its places is as fast
     }
     let Ok(Some(hir)) = ways_of(alloc, &code, encoding) else {
         return None;
@@ -132,8 +132,9 @@ impl<'c> SpanFinder<'c> {
         };
         match exact.first_match(hay, text.place_of(from)) {
             FirstMatch::Nothing => Known::Nothing,
-            FirstMatch::Between(start, end) => {
-                Known::Between(text.cursor_at_byte(start), text.cursor_at_byte(end))
+            FirstMatch::Between(first, last) => {
+                let start = text.cursor_up_to(from, first, end);
+                Known::Between(start, text.cursor_up_to(start, last, end))
             }
             FirstMatch::Unknown => Known::Unknown,
         }

@@ -6,6 +6,7 @@ pub mod Sequences
 pub mod Branches
 pub mod Conditions
 pub mod FrontItems
+pub mod SettledTests
 pub mod OrderedTests
 pub mod OrderedItems
 pub mod OrderedBranches

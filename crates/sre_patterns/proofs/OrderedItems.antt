@@ -1,22 +1,28 @@
 -- Patterns that try the ways of items in their order: one after the other, and by their opcodes.
 use Rattle.std.proofs.Common.{◌≡◌, ℕ, ◌+◌, ◌-◌, ◌<◌, ◌≤◌, Bool, not, nat_eq, List, [], ◌∷◌, ◌++◌, length, refl, sym}
-use Rattle.std.proofs.Common.{ap, ◌∙◌, subst, arith}
+use Rattle.std.proofs.Common.{ap, ◌∙◌, subst, arith, true}
+use Rattle.std.proofs.lemmas.Bool.Decides.{nat_tests}
 use Rattle.regex_hir.specs.Re.{Re, empty, cat, byte_in}
 use Rattle.regex_hir.specs.Matches.{IsMinLen}
+use Rattle.regex_hir.proofs.MatchesLemmas.{IsMinLen-le}
 use Rattle.sre_chars.specs.Tables.{Table}
 use Rattle.sre_chars.specs.declared.constants.SreOpcode.TheVariants as opcode
-use Rattle.sre_model.specs.Tree.{Tree, Empty, Then, Loop, Run, Order, Greedy, Lazy, Test}
-use Rattle.sre_model.specs.Roles.{ToFail, ToMark, ToRun, ToRepeat}
+use Rattle.sre_chars.specs.declared.constants.SreAtCode.{SreAtCode}
+use Rattle.sre_chars.specs.Numbers.{at_number}
+use Rattle.sre_model.specs.Tree.{Tree, Empty, Then, At, Loop, Run, Order, Greedy, Lazy, Test}
+use Rattle.sre_model.specs.Roles.{ToFail, ToCheckPosition, ToMark, ToRun, ToRepeat}
 use Rattle.sre_model.specs.Grammar.{Word, skip, Opcode, until_opcode, Reads, run_opcode}
 use Rattle.sre_model.specs.Standing.{HasTest, TestStands}
 use Rattle.sre_model.specs.Ways.{unlimited}
-use Rattle.sre_model.proofs.Families.{role_here, run_role, test_here, is_fail, is_one, is_mark, is_loop, is_run}
-use Rattle.sre_model.proofs.Words.{same_word, opcode_within, word_within}
+use Rattle.sre_model.proofs.Families.{role_here, run_role, test_here, is_fail, is_one, is_at, is_mark, is_loop}
+use Rattle.sre_model.proofs.Families.{is_run}
+use Rattle.sre_model.proofs.Words.{same_word, same_at, opcode_within, word_within}
 use Rattle.sre_model.proofs.Places.{reads_within, operands_past}
 use Rattle.sre_shape.specs.Covers.{View}
 use Rattle.sre_shape.specs.Exact.{ExactTree, ExactItem, Rises, AreKept}
 use Rattle.sre_shape.specs.Repeated.{repeated, is_greedy, kind_of}
-use Rattle.sre_shape.proofs.ExactTrees.{exact-empty, exact-then, exact-fail, exact-one, exact-mark, exact-loop, exact-run}
+use Rattle.sre_shape.proofs.ExactTrees.{exact-empty, exact-then, exact-fail, exact-one, exact-mark, exact-loop}
+use Rattle.sre_shape.proofs.ExactTrees.{exact-run}
 use Rattle.sre_patterns.specs.Patterns.{cat_onto, HasItem}
 use Rattle.sre_patterns.specs.Ordered.{HasTree, HasCounted, HasGiving, TriesItems, TriesItem, TriesTest}
 use Rattle.sre_patterns.proofs.Onto.{cat-last}
@@ -132,6 +138,10 @@ pub greedy-until : (ws : List ℕ) (i v : ℕ) (o : Order) → Word ws i v → O
 greedy-until ws i v Greedy w p = ap (λ n. not (nat_eq n 19)) (same_word ws i v 18 w p)
 greedy-until ws i v Lazy w p = ap (λ n. not (nat_eq n 19)) (same_word ws i v 19 w p)
 
+-- a pattern whose matches read so many bytes reads one, where these are some
+pub reads-some : (re : Re) (n : ℕ) → IsMinLen re n → not (nat_eq n 0) ≡ true → IsMinLen re 1
+reads-some re n least some = IsMinLen-le re 1 n (grind (arith, nat_tests)) least
+
 module _ (V : View) (table : Table) (ws : List ℕ) (i : ℕ) where
   pub tries-fail : Opcode ws i opcode.FAILURE → TriesItem V table ws i (byte_in []) (i + 1)
   tries-fail o j x r =
@@ -142,6 +152,14 @@ module _ (V : View) (table : Table) (ws : List ℕ) (i : ℕ) where
   tries-mark o j x r =
       let f = is_mark ws i j x (role_here ws i opcode.MARK ToMark o refl) r in
       (sym f.2.1.1, subst (ExactItem V table empty) (sym f.1) (exact-mark V table f.0))
+
+  pub tries-at : (re : Re) (a : SreAtCode) → Opcode ws i opcode.AT → Word ws (i + 1) (at_number a)
+      → ExactItem V table re (At a) → TriesItem V table ws i re (i + 2)
+  tries-at re a o w c j x r =
+      let f = is_at ws i j x (role_here ws i opcode.AT ToCheckPosition o refl) r in
+      let same : a ≡ f.0 = same_at ws (i + 1) a f.0 w f.2.1.0 in
+      let is : At a ≡ x = ap (λ z. At z) same ∙ sym f.1 in
+      (sym f.2.1.1, subst (ExactItem V table re) is c)
 
   pub tries-one : (re : Re) (e : ℕ) → HasTest ws i → TriesTest V table ws i re
       → ((j : ℕ) (t : Test) → TestStands ws i j t → e ≡ j) → TriesItem V table ws i re e

@@ -1,8 +1,10 @@
--- Positions, as looks, in each kind of text.
+-- Positions in each kind of text: what stands on both sides of them, and in which order they stand.
 use Rattle.std.proofs.Common.{ℕ, List}
 use Rattle.sre_model.specs.Subject.{Subject}
+use Rattle.sre_shape.specs.Exact.{Rises}
 use Rattle.sre_shape.proofs.Edges.{Sided, bytes-sided}
 use Rattle.sre_shape.proofs.EdgesUtf8.{utf8-sided}
+use Rattle.sre_shape.proofs.ExactTrees.{bytes-rise, utf8-rise}
 use Rattle.sre_patterns.specs.declared.encoding.Encoding as encoding_type
 use Rattle.sre_patterns.specs.declared.encoding.Encoding.TheVariants as encoding
 use Rattle.sre_patterns.specs.Patterns.{view_of}
@@ -12,3 +14,8 @@ pub sided : (e : encoding_type.Encoding) (s : Subject) (hay : List ℕ) (off : �
 sided encoding.Bytes s hay off v = bytes-sided 256 s hay off v
 sided encoding.Ascii s hay off v = bytes-sided 128 s hay off v
 sided encoding.Utf8 s hay off v = utf8-sided s hay off v
+
+pub rises : (e : encoding_type.Encoding) → Rises (view_of e)
+rises encoding.Bytes = bytes-rise 256
+rises encoding.Ascii = bytes-rise 128
+rises encoding.Utf8 = utf8-rise

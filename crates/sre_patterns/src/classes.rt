@@ -111,6 +111,17 @@ fn class_of(
     }
 }
 
+/// Whether the test at a place takes a character.
+pub(crate) fn is_taken(code: &Code<'_>, place: usize, opcode: SreOpcode, character: u32) -> bool
+    requires code { Opcode (items_of code.now) place opcode }
+    requires stands { HasTest (items_of code.now) place }
+    ensures { (j : ℕ) (t : Test) → TestStands (items_of code.now) place j t
+        → result ≡ holds (uni_of code.now) t character }
+{
+    let req = Request::new(b"".as_slice(), 0, 0, *code, false);
+    takes(&req, place, opcode, character)
+}
+
 /// The numbers below a bound that the test at a place takes, each as a range.
 pub(crate) fn taken_below(
     alloc: Global,

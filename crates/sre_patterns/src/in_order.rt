@@ -1,37 +1,48 @@
 //! The pattern of a code that tries the ways of its tree in their order, where there is one.
 //!
 //! Then the first match of the pattern is the first way, so automata tell spans and not only starts. A pattern has no
-//! word for what looks, refers, asks for a position or gives nothing back; nor for a loop whose body may read nothing,
-//! which SRE ends otherwise. Counts have to be kept as they are, and each character has to stand in one byte.
+//! word for what looks, refers or gives nothing back, nor for each position; nor for a loop whose body may read
+//! nothing, which SRE ends otherwise. Counts have to be kept as they are, and over UTF-8 it has to be known which
+//! characters a test takes.
 
 ghost use Rattle.std.specs.Prelude.{◌≡◌, ◌≤◌, ◌<◌, ◌+◌, ◌^◌, ℕ, IfOk, Some, true};
 ghost use Rattle.regex_hir.specs.Meaning.{meaning};
+ghost use Rattle.regex_hir.specs.Matches.{IsMinLen};
 ghost use Rattle.sre_model.specs.Tree.{Tree, Order, Test};
 ghost use Rattle.sre_model.specs.Grammar.{Opcode, WholeItems, until_opcode};
 ghost use Rattle.sre_model.specs.Standing.{HasTest, TestStands};
 ghost use Rattle.sre_model.specs.Characters.{holds};
 ghost use Rattle.sre_code.specs.Codes.{items_of, uni_of};
-ghost use Rattle.sre_shape.specs.Covers.{InBytes};
+ghost use Rattle.sre_shape.specs.Covers.{InBytes, InUtf8};
 ghost use Rattle.sre_shape.specs.Exact.{ExactTree, AreKept};
 ghost use Rattle.sre_shape.specs.Repeated as repetitions;
 ghost use Rattle.sre_patterns.specs.Patterns.{view_of, HasItem, HasBranch, HasJust};
+ghost use Rattle.sre_patterns.specs.Settling.{SettledFrom};
 ghost use Rattle.sre_patterns.specs.Ordered.{HasTree, HasCounted, HasGiving, TriesItems, TriesItem, TriesTest};
 
-use crate::classes::{end_of_test, taken_below};
+use crate::classes::{end_of_test, is_taken, taken_below};
 use crate::encoding::Encoding;
 use crate::fault::Fault;
+use crate::positions::exact_look;
 use crate::repeats::{KEPT, repeated};
+use crate::settled::settled_from;
 use crate::translate::{DEPTH, Part};
-use crate::words::{item_opcode, operand, skip, test_opcode, word};
+use crate::words::{at_code, item_opcode, operand, skip, test_opcode, word};
 use regex_class::Class;
 use regex_hir::Hir;
 use sre_chars::constants::SreOpcode;
 use sre_code::Code;
 use std::alloc::{AllocError, Global};
 
-/// A pattern that tries the ways of the words' tree in their order, over texts whose characters are bytes: what follows
-/// it is tried from the end of each way in turn, and from nowhere else. `None` is for words of which no such pattern is
-/// known, and for items that lie in more than `DEPTH`; an error is for refused memory. No clause says when they come.
+// How many characters there are.
+const CHARACTERS: u32 = 0x11_0000;
+
+// Up to which character a test is asked one by one. Unicode's blanks are below it.
+const FAR: u32 = 0x4000;
+
+/// A pattern that tries the ways of the words' tree in their order: what follows it is tried from the end of each way
+/// in turn, and from nowhere else. `None` is for words of which no such pattern is known, and for items that lie in
+/// more than `DEPTH`; an error is for refused memory. No clause says when they come.
 pub fn ways_of(
     alloc: Global,
     code: &Code<'_>,
@@ -40,21 +51,8 @@ pub fn ways_of(
     ensures { IfOk result (λ o. (h : Hir) → o ≡ Some h → (t : Tree) → WholeItems (items_of code.now) t
         → ExactTree (view_of encoding) (uni_of code.now) (meaning h) t) }
 {
-    match encoding {
-        Encoding::Bytes => ways_below(alloc, code, 256),
-        Encoding::Ascii => ways_below(alloc, code, 128),
-        Encoding::Utf8 => Ok(None),
-    }
-}
-
-// The same over texts whose characters are bytes below a bound.
-fn ways_below(alloc: Global, code: &Code<'_>, bound: u32) -> Result<Option<Hir>, AllocError>
-    requires { bound ≤ 256 }
-    ensures { IfOk result (λ o. (h : Hir) → o ≡ Some h → (t : Tree) → WholeItems (items_of code.now) t
-        → ExactTree (InBytes bound) (uni_of code.now) (meaning h) t) }
-{
     let end = code.items().len() - 1;
-    match sequence(alloc, code, bound, 0, end, DEPTH) {
+    match sequence(alloc, code, encoding, 0, end, DEPTH) {
         Ok(part) => Ok(Some(part.hir)),
         Err(Fault::Memory) => Err(AllocError),
         Err(_) => Ok(None),
@@ -66,20 +64,19 @@ fn ways_below(alloc: Global, code: &Code<'_>, bound: u32) -> Result<Option<Hir>,
 fn sequence(
     alloc: Global,
     code: &Code<'_>,
-    bound: u32,
+    encoding: Encoding,
     start: usize,
     end: usize,
     depth: u32,
 ) -> Result<Part, Fault>
-    requires few { bound ≤ 256 }
-    requires items { HasTree (items_of code.now) start end }
-    ensures { IfOk result (λ p. TriesItems (InBytes bound) (uni_of code.now) (items_of code.now) start end
+    requires { HasTree (items_of code.now) start end }
+    ensures { IfOk result (λ p. TriesItems (view_of encoding) (uni_of code.now) (items_of code.now) start end
         (meaning p.hir)) }
 {
     let mut parts: Vec<Hir> = Vec::new(alloc);
     let mut place = start;
     'each: while place < end {
-        let Part { hir, end: behind } = item(alloc, code, bound, place, depth)?;
+        let Part { hir, end: behind } = item(alloc, code, encoding, place, depth)?;
         place = behind;
         parts.push(hir)?;
     }
@@ -91,10 +88,15 @@ fn sequence(
 
 // The item at a place.
 #[cycle(in_order)]
-fn item(alloc: Global, code: &Code<'_>, bound: u32, place: usize, depth: u32) -> Result<Part, Fault>
-    requires few { bound ≤ 256 }
-    requires item { HasItem (items_of code.now) place }
-    ensures { IfOk result (λ p. TriesItem (InBytes bound) (uni_of code.now) (items_of code.now) place
+fn item(
+    alloc: Global,
+    code: &Code<'_>,
+    encoding: Encoding,
+    place: usize,
+    depth: u32,
+) -> Result<Part, Fault>
+    requires { HasItem (items_of code.now) place }
+    ensures { IfOk result (λ p. TriesItem (view_of encoding) (uni_of code.now) (items_of code.now) place
         (meaning p.hir) p.end) }
 {
     if depth == 0 {
@@ -111,33 +113,87 @@ fn item(alloc: Global, code: &Code<'_>, bound: u32, place: usize, depth: u32) ->
             hir: Hir::Empty,
             end: place + 2,
         }),
-        SreOpcode::BRANCH => branch(alloc, code, bound, place, depth),
-        SreOpcode::REPEAT => counted(alloc, code, bound, place, depth),
-        SreOpcode::REPEAT_ONE => run(alloc, code, bound, place, true),
-        SreOpcode::MIN_REPEAT_ONE => run(alloc, code, bound, place, false),
-        SreOpcode::AT
-        | SreOpcode::POSSESSIVE_REPEAT
+        SreOpcode::AT => position(code, encoding, place),
+        SreOpcode::BRANCH => branch(alloc, code, encoding, place, depth),
+        SreOpcode::REPEAT => counted(alloc, code, encoding, place, depth),
+        SreOpcode::REPEAT_ONE => run(alloc, code, encoding, place, true),
+        SreOpcode::MIN_REPEAT_ONE => run(alloc, code, encoding, place, false),
+        SreOpcode::ASSERT | SreOpcode::ASSERT_NOT => Err(Fault::OutOfOrder),
+        SreOpcode::POSSESSIVE_REPEAT
         | SreOpcode::POSSESSIVE_REPEAT_ONE
         | SreOpcode::ATOMIC_GROUP
-        | SreOpcode::ASSERT
-        | SreOpcode::ASSERT_NOT
         | SreOpcode::GROUPREF
         | SreOpcode::GROUPREF_IGNORE
         | SreOpcode::GROUPREF_LOC_IGNORE
         | SreOpcode::GROUPREF_UNI_IGNORE
         | SreOpcode::GROUPREF_EXISTS => Err(Fault::OutOfOrder),
-        _ => one(alloc, code, bound, place),
+        _ => one(alloc, code, encoding, place),
     }
 }
 
-// The class of the bytes that the test at a place takes.
-fn class_at(alloc: Global, code: &Code<'_>, bound: u32, place: usize) -> Result<Hir, AllocError>
+// The class of the characters that the test at a place takes.
+fn class_at(alloc: Global, code: &Code<'_>, encoding: Encoding, place: usize) -> Result<Hir, Fault>
+    requires { HasTest (items_of code.now) place }
+    ensures { IfOk result (λ h. TriesTest (view_of encoding) (uni_of code.now) (items_of code.now) place (meaning h)) }
+{
+    match encoding {
+        Encoding::Bytes => Ok(bytes_at(alloc, code, 256, place)?),
+        Encoding::Ascii => Ok(bytes_at(alloc, code, 128, place)?),
+        Encoding::Utf8 => characters_at(alloc, code, place),
+    }
+}
+
+// The class of the bytes below a bound that the test at a place takes.
+fn bytes_at(alloc: Global, code: &Code<'_>, bound: u32, place: usize) -> Result<Hir, AllocError>
     requires few { bound ≤ 256 }
     requires test { HasTest (items_of code.now) place }
     ensures { IfOk result (λ h. TriesTest (InBytes bound) (uni_of code.now) (items_of code.now) place (meaning h)) }
 {
     let ranges = taken_at(alloc, code, bound, place)?;
     Ok(Hir::Bytes(Class::new(ranges)?))
+}
+
+// The class of all characters that the test at a place takes, where it answers alike from one on that is not far.
+fn characters_at(alloc: Global, code: &Code<'_>, place: usize) -> Result<Hir, Fault>
+    requires { HasTest (items_of code.now) place }
+    ensures { IfOk result (λ h. TriesTest InUtf8 (uni_of code.now) (items_of code.now) place (meaning h)) }
+{
+    let opcode = test_opcode(code, place);
+    if opcode == SreOpcode::LITERAL {
+        let ranges = taken_at(alloc, code, CHARACTERS, place)?;
+        return Ok(Hir::Chars(Class::new(ranges)?));
+    }
+    let Some(from) = settled_from(code, place, opcode) else {
+        return Err(Fault::OutOfOrder);
+    };
+    if from > FAR {
+        return Err(Fault::OutOfOrder);
+    }
+    let ranges = taken_and_on(alloc, code, place, opcode, from)?;
+    Ok(Hir::Chars(Class::new(ranges)?))
+}
+
+// The characters that the test at a place takes, where it answers alike from one of them on.
+fn taken_and_on(
+    alloc: Global,
+    code: &Code<'_>,
+    place: usize,
+    opcode: SreOpcode,
+    from: u32,
+) -> Result<Vec<(u32, u32)>, AllocError>
+    requires code { Opcode (items_of code.now) place opcode }
+    requires stands { HasTest (items_of code.now) place }
+    requires inside { from < 1114112 }
+    requires settled { (j : ℕ) (t : Test) → TestStands (items_of code.now) place j t
+        → SettledFrom from (holds (uni_of code.now) t) }
+    ensures { IfOk result (λ r. (j : ℕ) (t : Test) → TestStands (items_of code.now) place j t
+        → HasJust 1114112 (holds (uni_of code.now) t) r.items) }
+{
+    let mut ranges = taken_below(alloc, code, place, opcode, from)?;
+    if is_taken(code, place, opcode, from) {
+        ranges.push((from, CHARACTERS - 1))?;
+    }
+    Ok(ranges)
 }
 
 // The numbers below a bound that the test at a place takes, each as a range.
@@ -163,14 +219,29 @@ fn taken_at(
     Ok(ranges)
 }
 
-// The test of one character at a place.
-fn one(alloc: Global, code: &Code<'_>, bound: u32, place: usize) -> Result<Part, Fault>
-    requires few { bound ≤ 256 }
-    requires test { HasTest (items_of code.now) place }
-    ensures { IfOk result (λ p. TriesItem (InBytes bound) (uni_of code.now) (items_of code.now) place
+// The position at a place, where an assertion holds just there.
+fn position(code: &Code<'_>, encoding: Encoding, place: usize) -> Result<Part, Fault>
+    requires opcode { Opcode (items_of code.now) place SreOpcode.AT }
+    requires item { HasItem (items_of code.now) place }
+    ensures { IfOk result (λ p. TriesItem (view_of encoding) (uni_of code.now) (items_of code.now) place
         (meaning p.hir) p.end) }
 {
-    let hir = class_at(alloc, code, bound, place)?;
+    match exact_look(at_code(code, place)) {
+        Some(look) => Ok(Part {
+            hir: Hir::Look(look),
+            end: place + 2,
+        }),
+        None => Err(Fault::OutOfOrder),
+    }
+}
+
+// The test of one character at a place.
+fn one(alloc: Global, code: &Code<'_>, encoding: Encoding, place: usize) -> Result<Part, Fault>
+    requires { HasTest (items_of code.now) place }
+    ensures { IfOk result (λ p. TriesItem (view_of encoding) (uni_of code.now) (items_of code.now) place
+        (meaning p.hir) p.end) }
+{
+    let hir = class_at(alloc, code, encoding, place)?;
     Ok(Part {
         hir,
         end: end_of_test(code, place),
@@ -188,13 +259,12 @@ fn are_kept(low: u32, high: u32) -> bool
 fn run(
     alloc: Global,
     code: &Code<'_>,
-    bound: u32,
+    encoding: Encoding,
     place: usize,
     greedy: bool,
 ) -> Result<Part, Fault>
-    requires few { bound ≤ 256 }
-    requires run { HasGiving (items_of code.now) place greedy }
-    ensures { IfOk result (λ p. TriesItem (InBytes bound) (uni_of code.now) (items_of code.now) place
+    requires { HasGiving (items_of code.now) place greedy }
+    ensures { IfOk result (λ p. TriesItem (view_of encoding) (uni_of code.now) (items_of code.now) place
         (meaning p.hir) p.end) }
 {
     let end = skip(code, place, 1);
@@ -203,7 +273,7 @@ fn run(
     if !are_kept(low, high) {
         return Err(Fault::OutOfOrder);
     }
-    let hir = class_at(alloc, code, bound, place + 4)?;
+    let hir = class_at(alloc, code, encoding, place + 4)?;
     Ok(Part {
         hir: repeated(alloc, low, high, greedy, hir)?,
         end,
@@ -220,18 +290,24 @@ fn is_greedy_loop(code: &Code<'_>, until: usize) -> bool
     word(code, until) != SreOpcode::MIN_UNTIL as u32
 }
 
+// Whether each match of a pattern is known to read a byte.
+fn reads(hir: &Hir) -> bool
+    ensures { result ≡ true → IsMinLen (meaning hir.now) 1 }
+{
+    hir.min_len() != 0
+}
+
 // The loop at a place.
 #[cycle(in_order)]
 fn counted(
     alloc: Global,
     code: &Code<'_>,
-    bound: u32,
+    encoding: Encoding,
     place: usize,
     depth: u32,
 ) -> Result<Part, Fault>
-    requires few { bound ≤ 256 }
-    requires counted { HasCounted (items_of code.now) place }
-    ensures { IfOk result (λ p. TriesItem (InBytes bound) (uni_of code.now) (items_of code.now) place
+    requires { HasCounted (items_of code.now) place }
+    ensures { IfOk result (λ p. TriesItem (view_of encoding) (uni_of code.now) (items_of code.now) place
         (meaning p.hir) p.end) }
 {
     let until = skip(code, place, 1);
@@ -240,8 +316,8 @@ fn counted(
     if !are_kept(low, high) {
         return Err(Fault::OutOfOrder);
     }
-    let body = sequence(alloc, code, bound, place + 4, until, depth)?;
-    if body.hir.min_len() == 0 {
+    let body = sequence(alloc, code, encoding, place + 4, until, depth)?;
+    if !reads(&body.hir) {
         return Err(Fault::OutOfOrder);
     }
     let greedy = is_greedy_loop(code, until);
@@ -256,13 +332,12 @@ fn counted(
 fn branch(
     alloc: Global,
     code: &Code<'_>,
-    bound: u32,
+    encoding: Encoding,
     place: usize,
     depth: u32,
 ) -> Result<Part, Fault>
-    requires few { bound ≤ 256 }
-    requires branch { HasBranch (items_of code.now) place }
-    ensures { IfOk result (λ p. TriesItem (InBytes bound) (uni_of code.now) (items_of code.now) place
+    requires { HasBranch (items_of code.now) place }
+    ensures { IfOk result (λ p. TriesItem (view_of encoding) (uni_of code.now) (items_of code.now) place
         (meaning p.hir) p.end) }
 {
     let words = code.items();
@@ -271,7 +346,7 @@ fn branch(
     let mut at = place + 1;
     'alternative: while word(code, at) != 0 {
         let behind = at + word(code, at) as usize;
-        let part = sequence(alloc, code, bound, at + 1, behind - 2, depth)?;
+        let part = sequence(alloc, code, encoding, at + 1, behind - 2, depth)?;
         all.push(part.hir)?;
         at = behind;
     }

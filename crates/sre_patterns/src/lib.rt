@@ -15,6 +15,7 @@ mod in_order;
 mod joining;
 mod positions;
 mod repeats;
+mod settled;
 mod translate;
 mod words;
 

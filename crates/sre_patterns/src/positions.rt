@@ -20,3 +20,19 @@ pub(crate) fn look_of(code: SreAtCode) -> Option<Look>
         SreAtCode::UNI_BOUNDARY | SreAtCode::UNI_NON_BOUNDARY => None,
     }
 }
+
+/// The look that holds just where the position does; none where no look does, or where a table says what a word is.
+pub(crate) fn exact_look(code: SreAtCode) -> Option<Look>
+    ensures { result ≡ looks.exact_look code }
+{
+    match code {
+        SreAtCode::BEGINNING | SreAtCode::BEGINNING_STRING => Some(Look::Start),
+        SreAtCode::BEGINNING_LINE => Some(Look::StartLf),
+        SreAtCode::END_STRING => Some(Look::End),
+        SreAtCode::END_LINE => Some(Look::EndLf),
+        SreAtCode::BOUNDARY | SreAtCode::LOC_BOUNDARY => Some(Look::WordAscii),
+        SreAtCode::END => None, // it holds before the last line break alone
+        SreAtCode::NON_BOUNDARY | SreAtCode::LOC_NON_BOUNDARY => None, // a rule bars it on nothing
+        SreAtCode::UNI_BOUNDARY | SreAtCode::UNI_NON_BOUNDARY => None,
+    }
+}

@@ -23,7 +23,7 @@ use Rattle.sre_model.specs.Tree.{At}
 use Rattle.sre_model.specs.Subject.{Subject, char_at, before, after, holds_at, is_boundary, is_on_nothing}
 use Rattle.sre_model.specs.Subject.{bars_non_boundary}
 use Rattle.sre_shape.specs.Covers.{View, CoversItem, InBytes}
-use Rattle.sre_shape.specs.Looks.{look_of}
+use Rattle.sre_shape.specs.Looks.{look_of, exact_look}
 use Rattle.sre_shape.proofs.Matched.{at-matched}
 
 same_word : (c : ℕ) → is_word_byte c ≡ is_word c
@@ -238,6 +238,42 @@ module _ (s : Subject) (hay : List ℕ) (off : ℕ → ℕ) (v : Sided s hay off
   look-implies LOC_NON_BOUNDARY l e = implied WordAsciiNegate l LOC_NON_BOUNDARY e loc_non_boundary
   look-implies UNI_BOUNDARY l e = absurd (none-some l e)
   look-implies UNI_NON_BOUNDARY l e = absurd (none-some l e)
+
+  -- an assertion that holds just where a position does
+  abbrev Agrees : Look → SreAtCode → Type 0
+  Agrees l a = (p : ℕ) → p ≤ s.end → looks.holds l hay (off p) ≡ holds_at s a p
+
+  -- on nothing no boundary is anyway
+  boundary-agrees : Agrees WordAscii BOUNDARY
+  boundary-agrees p l = word-holds is_word word-agrees p l ∙ by_place (is_on_nothing s p) refl
+    where
+      by_place : (y : Bool) → is_on_nothing s p ≡ y
+          → is_boundary s is_word p ≡ (not y && is_boundary s is_word p)
+      by_place false e = refl
+      by_place true e =
+          let both = and_parts (nat_eq p 0) (nat_eq s.end 0) e in
+          let front : nat_lt 0 p ≡ false = grind (arith, nat_tests, both) in
+          let back : nat_lt p s.end ≡ false = grind (arith, nat_tests, both) in
+          ap₂
+          (λ x y. cond (x && is_word (char_at s (p - 1))) (not (y && is_word (char_at s p)))
+          (y && is_word (char_at s p))) front back
+
+  agreed : (k l : Look) (a : SreAtCode) → Some k ≡ Some l → Agrees k a → Agrees l a
+  agreed k l a e f = subst (λ x. Agrees x a) (same_Some k l e) f
+
+  pub look-agrees : (a : SreAtCode) (l : Look) → exact_look a ≡ Some l → Agrees l a
+  look-agrees BEGINNING l e = agreed Start l BEGINNING e start-holds
+  look-agrees BEGINNING_LINE l e = agreed StartLf l BEGINNING_LINE e start_line-holds
+  look-agrees BEGINNING_STRING l e = agreed Start l BEGINNING_STRING e start-holds
+  look-agrees BOUNDARY l e = agreed WordAscii l BOUNDARY e boundary-agrees
+  look-agrees NON_BOUNDARY l e = absurd (none-some l e)
+  look-agrees END l e = absurd (none-some l e)
+  look-agrees END_LINE l e = agreed EndLf l END_LINE e end_line-holds
+  look-agrees END_STRING l e = agreed End l END_STRING e end-holds
+  look-agrees LOC_BOUNDARY l e = agreed WordAscii l LOC_BOUNDARY e boundary-agrees
+  look-agrees LOC_NON_BOUNDARY l e = absurd (none-some l e)
+  look-agrees UNI_BOUNDARY l e = absurd (none-some l e)
+  look-agrees UNI_NON_BOUNDARY l e = absurd (none-some l e)
 
 -- a position is covered by its assertion
 pub covers-look_of : (V : View) (table : Table)

@@ -5,14 +5,18 @@ use Rattle.std.specs.List.{AllByRecursion}
 use Rattle.std.specs.Option.{option_or}
 use Rattle.std.proofs.lemmas.Bool.Decides.{nat_tests}
 use Rattle.std.proofs.lemmas.Str.{len_utf8_bounds}
+use Rattle.std.specs.Char.{IsScalar}
 use Rattle.regex_class.specs.Ranges.{in_ranges}
-use Rattle.regex_hir.specs.Re.{Re, empty, byte_in, cat, alt, attempt}
+use Rattle.regex_hir.specs.Re.{Re, empty, byte_in, char_in, look, cat, alt, attempt}
+use Rattle.regex_hir.specs.declared.look.Look.{Look}
 use Rattle.regex_hir.specs.Text.{is_some_and}
 use Rattle.regex_hir.specs.Meaning.{repeat}
 use Rattle.regex_hir.specs.Matches.{IsMinLen}
 use Rattle.regex_hir.proofs.OptionLemmas.{option_or-None}
+use Rattle.regex_hir.proofs.TextLemmas.{char_at_parts}
 use Rattle.sre_chars.specs.Tables.{Table}
-use Rattle.sre_model.specs.Tree.{Tree, Empty, Then, Item, Fail, One, Mark, Branch, Loop, Run, Trees, Only, Or, Test}
+use Rattle.sre_chars.specs.declared.constants.SreAtCode.{SreAtCode}
+use Rattle.sre_model.specs.Tree.{Tree, Empty, Then, Item, Fail, One, At, Mark, Branch, Loop, Run, Trees, Only, Or, Test}
 use Rattle.sre_model.specs.Tree.{Order}
 use Rattle.sre_model.specs.Marks.{Marks}
 use Rattle.sre_model.specs.Characters.{holds}
@@ -23,8 +27,11 @@ use Rattle.sre_model.proofs.Bounds.{ways-bounded, item-bounded}
 use Rattle.sre_shape.specs.Covers.{View, InBytes, InUtf8}
 use Rattle.sre_shape.specs.Exact.{tried, Exact, ExactTree, ExactItem, ExactBranch, ExactTest, Rises, AreKept}
 use Rattle.sre_shape.specs.Repeated.{most_kept, repeated, is_greedy, kind_of}
-use Rattle.sre_shape.proofs.InOrder.{empty-exact, then-exact, or-exact, one-exact, mark-exact, counted-exact}
-use Rattle.sre_shape.proofs.InOrder.{endless-exact}
+use Rattle.sre_shape.specs.Looks.{exact_look}
+use Rattle.sre_shape.proofs.InOrder.{empty-exact, then-exact, or-exact, one-exact, char-exact, look-exact, mark-exact}
+use Rattle.sre_shape.proofs.InOrder.{counted-exact, endless-exact}
+use Rattle.sre_shape.proofs.AtPlaces.{empty-at, look-at, none-at, cat-at, alt-at, repeat-at, bytes-at, char-at}
+use Rattle.sre_shape.proofs.Edges.{Sided, look-agrees}
 use Rattle.sre_shape.proofs.ExactLeads.{exact-moves}
 use Rattle.sre_shape.proofs.RunsInOrder.{run-loop}
 
@@ -108,35 +115,47 @@ module _ (V : View) (table : Table) where
   I = ExactItem V table
 
   pub exact-empty : T empty Empty
-  exact-empty = record { tries = λ s hay off v same. empty-exact s hay off }
+  exact-empty = record {
+    tries = λ s hay off v same. empty-exact s hay off;
+    begins = λ s hay off v. empty-at s hay off;
+  }
 
   pub exact-then : (a b : Re) (item : Item) (rest : Tree) → I a item → T b rest → T (cat a b) (Then item rest)
   exact-then a b item rest f g = record {
     tries = λ s hay off v same.
         then-exact s hay off a b item rest (f.tries s hay off v same) (g.tries s hay off v same);
+    begins = λ s hay off v. cat-at s hay off a b (f.begins s hay off v) (g.begins s hay off v);
   }
 
   pub exact-fail : I (byte_in []) Fail
-  exact-fail = record { tries = λ s hay off v same. fail-exact s hay off }
+  exact-fail = record {
+    tries = λ s hay off v same. fail-exact s hay off;
+    begins = λ s hay off v. none-at s hay off;
+  }
 
   pub exact-one : (re : Re) (t : Test) → ExactTest V table re t → I re (One t)
-  exact-one re t f = record { tries = f.tries }
+  exact-one re t f = record { tries = f.tries; begins = f.begins }
 
   pub exact-mark : (n : ℕ) → I empty (Mark n)
-  exact-mark n = record { tries = λ s hay off v same. mark-exact s hay off n }
+  exact-mark n = record {
+    tries = λ s hay off v same. mark-exact s hay off n;
+    begins = λ s hay off v. empty-at s hay off;
+  }
 
   pub exact-branch : (re : Re) (ts : Trees) → ExactBranch V table re ts → I re (Branch ts)
-  exact-branch re ts f = record { tries = f.tries }
+  exact-branch re ts f = record { tries = f.tries; begins = f.begins }
 
   pub exact-last : (re : Re) (t : Tree) → T re t → ExactBranch V table (alt re (byte_in [])) (Only t)
   exact-last re t f = record {
     tries = λ s hay off v same. last-exact s hay off re (ways s t) (f.tries s hay off v same);
+    begins = λ s hay off v. alt-at s hay off re (byte_in []) (f.begins s hay off v) (none-at s hay off);
   }
 
   pub exact-or : (a b : Re) (t : Tree) (ts : Trees) → T a t → ExactBranch V table b ts
       → ExactBranch V table (alt a b) (Or t ts)
   exact-or a b t ts f g = record {
     tries = λ s hay off v same. or-exact s hay off a b t ts (f.tries s hay off v same) (g.tries s hay off v same);
+    begins = λ s hay off v. alt-at s hay off a b (f.begins s hay off v) (g.begins s hay off v);
   }
 
   module _ (rises : Rises V) (kept : ℕ) (few : kept < unlimited) where
@@ -146,6 +165,8 @@ module _ (V : View) (table : Table) where
     exact-loop low high o re body k least f = record {
       tries = λ s hay off v same.
           loop-exact s hay off (rises s hay off v) kept few o low high body re k least (f.tries s hay off v same);
+      begins = λ s hay off v.
+          repeat-at s hay off (min low kept) (most_kept kept low high) (is_greedy o) re (f.begins s hay off v);
     }
 
     pub exact-run : (low high : ℕ) (o : Order) (re : Re) (t : Test) → AreKept kept low high → ExactTest V table re t
@@ -153,6 +174,8 @@ module _ (V : View) (table : Table) where
     exact-run low high o re t k f = record {
       tries = λ s hay off v same.
           run-exact s hay off (rises s hay off v) kept few o low high t re k (f.tries s hay off v same);
+      begins = λ s hay off v.
+          repeat-at s hay off (min low kept) (most_kept kept low high) (is_greedy o) re (f.begins s hay off v);
     }
 
 -- a class that has the bytes that pass, and no others
@@ -165,6 +188,28 @@ bytes-exact bound table ranges t each = record {
       (λ p inside. ap (λ z. is_some_and z (in_ranges ranges)) (v.byte p inside)
       ∙ each (char_at s p) (v.below p inside)
       ∙ ap (λ x. holds x t (char_at s p)) (sym same)) v.next v.ends;
+  begins = λ s hay off v. bytes-at s hay off bound v (byte_in ranges);
+}
+
+-- a class that has the characters that pass, and no others
+pub chars-exact : (table : Table) (ranges : List (ℕ × ℕ)) (t : Test)
+    → ((c : ℕ) → IsScalar c → in_ranges ranges c ≡ holds table t c)
+    → ExactTest InUtf8 table (char_in ranges) t
+chars-exact table ranges t each = record {
+  tries = λ s hay off v same.
+      char-exact s hay off ranges t v.char
+      (λ p inside. each (char_at s p) (char_at_parts hay (off p) (char_at s p) (v.char p inside)).0
+      ∙ ap (λ x. holds x t (char_at s p)) (sym same)) v.next v.ends;
+  begins = λ s hay off v. char-at s hay off v ranges;
+}
+
+-- a position's assertion, where it holds just where the position does
+pub exact-at : (V : View) (table : Table)
+    → ((s : Subject) (hay : List ℕ) (off : ℕ → ℕ) → V s hay off → Sided s hay off)
+    → (a : SreAtCode) (l : Look) → exact_look a ≡ Some l → ExactItem V table (look l) (At a)
+exact-at V table sided a l e = record {
+  tries = λ s hay off v same. look-exact s hay off l a (look-agrees s hay off (sided s hay off v) a l e);
+  begins = λ s hay off v. look-at s hay off l;
 }
 
 rises-by : (off : ℕ → ℕ) (end : ℕ) → ((p : ℕ) → p < end → off p < off (p + 1)) → (p q : ℕ) → p < q → q ≤ end

@@ -1,7 +1,8 @@
 -- Where a pattern is exact it tries the ways of its tree in their order, so its first match is their first.
 use Rattle.std.proofs.Common.{◌≡◌, ℕ, zero, suc, ◌+◌, ◌-◌, ◌<◌, ◌≤◌, Bool, true, false, cond, ◌&&◌, ◌||◌, not, nat_lt}
 use Rattle.std.proofs.Common.{nat_eq, List, [], ◌∷◌, ◌++◌, length, Option, Some, None, refl, sym, ap, ap₂, ◌∙◌, arith}
-use Rattle.std.proofs.Common.{slice_get, true≢false}
+use Rattle.std.proofs.Common.{slice_get, true≢false, option_and_then}
+use Rattle.std.specs.Char.{len_utf8}
 use Rattle.std.specs.List.{flat_map, AllByRecursion}
 use Rattle.std.specs.Option.{option_or}
 use Rattle.std.proofs.lemmas.Bool.{cond-true}
@@ -9,13 +10,19 @@ use Rattle.std.proofs.lemmas.Bool.Decides.{nat_tests}
 use Rattle.std.proofs.lemmas.Option.{slice_get_past}
 use Rattle.regex_class.specs.Ranges.{in_ranges}
 use Rattle.regex_hir.specs.Re.{Re, empty, cat, alt, plus, Trace, Rest, accept, prefer, more_rounds, attempt, byte_in}
+use Rattle.regex_hir.specs.Re.{char_in, look}
 use Rattle.regex_hir.specs.Text.{is_some_and}
+use Rattle.regex_hir.specs.Text as text
+use Rattle.regex_hir.specs.Looks as looks
+use Rattle.regex_hir.specs.declared.look.Look.{Look}
 use Rattle.regex_hir.specs.Meaning.{optional, copies, up_to, at_least, repeat}
 use Rattle.regex_hir.proofs.AttemptLemmas.{more_rounds_unfold}
+use Rattle.regex_hir.proofs.TextLemmas.{char_at_past}
+use Rattle.sre_chars.specs.declared.constants.SreAtCode.{SreAtCode}
 use Rattle.sre_model.specs.Characters.{holds}
-use Rattle.sre_model.specs.Tree.{Tree, Empty, Then, Item, Mark, Trees, Or, Order, Greedy, Lazy, One, Test}
+use Rattle.sre_model.specs.Tree.{Tree, Empty, Then, Item, At, Mark, Trees, Or, Order, Greedy, Lazy, One, Test}
 use Rattle.sre_model.specs.Marks.{Marks}
-use Rattle.sre_model.specs.Subject.{Subject, char_at}
+use Rattle.sre_model.specs.Subject.{Subject, char_at, holds_at}
 use Rattle.sre_model.specs.Ways.{Way, Body, here, unlimited, ordered, may_repeat, loop_ways, ways, item_ways}
 use Rattle.sre_model.specs.Ways.{branch_ways}
 use Rattle.sre_model.specs.Loops.{loop_from}
@@ -263,6 +270,46 @@ module _ (s : Subject) (hay : List ℕ) (off : ℕ → ℕ) where
           let inside : p < s.end = grind (arith, nat_tests) in
           by_test (is_some_and (slice_get hay (off p)) (in_ranges rs)) (holds s.table t (char_at s p)) (same p inside)
           (next p inside)
+
+  -- a class that has the characters that pass, and no others
+  pub char-exact : (rs : List (ℕ × ℕ)) (t : Test)
+      → ((p : ℕ) → p < s.end → text.char_at hay (off p) ≡ Some (char_at s p))
+      → ((p : ℕ) → p < s.end → in_ranges rs (char_at s p) ≡ holds s.table t (char_at s p))
+      → ((p : ℕ) → p < s.end → off (p + 1) ≡ off p + len_utf8 (char_at s p)) → off s.end ≡ length hay
+      → Exact (char_in rs) (item_ways s (One t))
+  unfolding attempt
+  char-exact rs t there same next last k p m h = by_place (nat_lt p s.end) refl
+    where
+      by_test : (x y : Bool) → x ≡ y → off (p + 1) ≡ off p + len_utf8 (char_at s p)
+          → cond x (k (off p + len_utf8 (char_at s p))) None ≡ tried k (cond y (here (p + 1) m) [])
+      by_test true true e n = sym (tried-here k (p + 1) m ∙ ap k n)
+      by_test true false e n = absurd (true≢false e)
+      by_test false true e n = absurd (true≢false (sym e))
+      by_test false false e n = refl
+
+      by_place : (y : Bool) → nat_lt p s.end ≡ y
+          → option_and_then (λ c. cond (in_ranges rs c) (k (off p + len_utf8 c)) None) (text.char_at hay (off p))
+          ≡ tried k (cond (y && holds s.table t (char_at s p)) (here (p + 1) m) [])
+      by_place false e =
+          let at : p ≡ s.end = grind (arith, nat_tests) in
+          ap (option_and_then (λ c. cond (in_ranges rs c) (k (off p + len_utf8 c)) None))
+          (char_at_past hay (off p) (omega (arith, ap off at, last)))
+      by_place true e =
+          let inside : p < s.end = grind (arith, nat_tests) in
+          ap (option_and_then (λ c. cond (in_ranges rs c) (k (off p + len_utf8 c)) None)) (there p inside)
+          ∙ by_test (in_ranges rs (char_at s p)) (holds s.table t (char_at s p)) (same p inside) (next p inside)
+
+  -- an assertion that holds just where a position does
+  pub look-exact : (l : Look) (a : SreAtCode)
+      → ((p : ℕ) → p ≤ s.end → looks.holds l hay (off p) ≡ holds_at s a p) → Exact (look l) (item_ways s (At a))
+  unfolding attempt
+  look-exact l a same k p m h = by_test (looks.holds l hay (off p)) (holds_at s a p) (same p h)
+    where
+      by_test : (x y : Bool) → x ≡ y → cond x (k (off p)) None ≡ tried k (cond y (here p m) [])
+      by_test true true e = sym (tried-here k p m)
+      by_test true false e = absurd (true≢false e)
+      by_test false true e = absurd (true≢false (sym e))
+      by_test false false e = refl
 
   pub mark-exact : (n : ℕ) → Exact empty (item_ways s (Mark n))
   unfolding attempt

@@ -11,6 +11,7 @@ pub mod EdgesUtf8
 pub mod Fronts
 pub mod InOrder
 pub mod RunsInOrder
+pub mod AtPlaces
 pub mod ExactLeads
 pub mod ExactTrees
 pub mod FirstFound

@@ -1,5 +1,5 @@
 -- Texts of bytes are seen as their bytes, and a class has each byte that passes.
-use Rattle.std.proofs.Common.{◌≡◌, ℕ, zero, suc, ◌+◌, ◌<◌, ◌≤◌, true, List, slice_get}
+use Rattle.std.proofs.Common.{◌≡◌, ℕ, zero, suc, ◌+◌, ◌<◌, ◌≤◌, true, List}
 use Rattle.std.proofs.Common.{length, take, Some, refl, sym, ap, ◌∙◌, subst, arith}
 use Rattle.std.proofs.lemmas.Option.{slice_get-get_or}
 use Rattle.std.proofs.lemmas.List.{get_or-take, length-take-le}
@@ -33,16 +33,6 @@ bytes-places bound s hay off v (suc p) inside =
     let one : suc p ≡ p + 1 = omega arith in
     let before = bytes-places bound s hay off v p (omega arith) in
     omega (arith, ap off one, v.next p (omega arith), before)
-
-pub bytes-placed : (bound : ℕ) (s : Subject) (hay : List ℕ) (off : ℕ → ℕ) → InBytes bound s hay off
-    → InBytes bound s hay place
-bytes-placed bound s hay off v = record {
-  starts = refl;
-  ends = sym (bytes-places bound s hay off v s.end (omega arith)) ∙ v.ends;
-  byte = λ p inside. ap (slice_get hay) (sym (bytes-places bound s hay off v p (omega arith))) ∙ v.byte p inside;
-  next = λ p inside. refl;
-  below = v.below;
-}
 
 -- any class that has each byte below the bound that passes
 pub bytes-take : (bound : ℕ) (table : Table) (ranges : List (ℕ × ℕ)) (t : Test)

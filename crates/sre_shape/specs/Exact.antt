@@ -2,6 +2,7 @@
 use Rattle.std.specs.Prelude.{ℕ, ◌≡◌, ◌<◌, ◌≤◌, ◌⊎◌, List, [], ◌∷◌, Option, None}
 use Rattle.std.specs.Option.{option_or}
 use Rattle.regex_hir.specs.Re.{Re, Rest, Trace, attempt}
+use Rattle.regex_hir.specs.Matches.{Matches}
 use Rattle.sre_chars.specs.Tables.{Table}
 use Rattle.sre_model.specs.Tree.{Tree, Item, One, Trees, Test}
 use Rattle.sre_model.specs.Marks.{Marks}
@@ -19,22 +20,34 @@ abbrev pub Exact : Subject → List ℕ → (ℕ → ℕ) → Re → Body → Ty
 Exact s hay off re body =
     (k : Rest) (p : ℕ) (m : Marks) → p ≤ s.end → attempt hay re k (off p) ≡ tried off k (body p m)
 
+-- a position stands at a byte
+abbrev pub IsPlace : Subject → (ℕ → ℕ) → ℕ → Type 0
+IsPlace s off i = (p : ℕ) × (p ≤ s.end) × (off p ≡ i)
+
+-- a match of the pattern begins where a position stands, unless it is empty
+abbrev pub AtPlaces : Subject → List ℕ → (ℕ → ℕ) → Re → Type 0
+AtPlaces s hay off re = (i j : ℕ) → Matches hay re i j → (j ≡ i) ⊎ IsPlace s off i
+
 -- on each text that is seen so
 pub record ExactTree (V : View) (table : Table) (re : Re) (t : Tree) : Type 0 where
   pub tries : (s : Subject) (hay : List ℕ) (off : ℕ → ℕ) → V s hay off → s.table ≡ table
       → Exact s hay off re (ways s t)
+  pub begins : (s : Subject) (hay : List ℕ) (off : ℕ → ℕ) → V s hay off → AtPlaces s hay off re
 
 pub record ExactItem (V : View) (table : Table) (re : Re) (item : Item) : Type 0 where
   pub tries : (s : Subject) (hay : List ℕ) (off : ℕ → ℕ) → V s hay off → s.table ≡ table
       → Exact s hay off re (item_ways s item)
+  pub begins : (s : Subject) (hay : List ℕ) (off : ℕ → ℕ) → V s hay off → AtPlaces s hay off re
 
 pub record ExactBranch (V : View) (table : Table) (re : Re) (ts : Trees) : Type 0 where
   pub tries : (s : Subject) (hay : List ℕ) (off : ℕ → ℕ) → V s hay off → s.table ≡ table
       → Exact s hay off re (branch_ways s ts)
+  pub begins : (s : Subject) (hay : List ℕ) (off : ℕ → ℕ) → V s hay off → AtPlaces s hay off re
 
 pub record ExactTest (V : View) (table : Table) (re : Re) (t : Test) : Type 0 where
   pub tries : (s : Subject) (hay : List ℕ) (off : ℕ → ℕ) → V s hay off → s.table ≡ table
       → Exact s hay off re (item_ways s (One t))
+  pub begins : (s : Subject) (hay : List ℕ) (off : ℕ → ℕ) → V s hay off → AtPlaces s hay off re
 
 -- a later position stands at a later byte
 abbrev pub Rises : View → Type 0

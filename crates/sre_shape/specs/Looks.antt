@@ -22,3 +22,18 @@ look_of LOC_BOUNDARY = Some WordAscii
 look_of LOC_NON_BOUNDARY = Some WordAsciiNegate
 look_of UNI_BOUNDARY = None
 look_of UNI_NON_BOUNDARY = None
+
+-- the assertion that holds just where a position's condition does; none where no assertion does, or a table decides
+abbrev pub exact_look : SreAtCode → Option Look
+exact_look BEGINNING = Some Start
+exact_look BEGINNING_LINE = Some StartLf
+exact_look BEGINNING_STRING = Some Start
+exact_look BOUNDARY = Some WordAscii
+exact_look NON_BOUNDARY = None
+exact_look END = None
+exact_look END_LINE = Some EndLf
+exact_look END_STRING = Some End
+exact_look LOC_BOUNDARY = Some WordAscii
+exact_look LOC_NON_BOUNDARY = None
+exact_look UNI_BOUNDARY = None
+exact_look UNI_NON_BOUNDARY = None

@@ -4,7 +4,7 @@ use regex_class::Class;
 use regex_hir::{Hir, Look};
 use sre_chars::string::UniTable;
 use sre_code::Code;
-use sre_patterns::{Encoding, hir_of, starts_of};
+use sre_patterns::{Encoding, hir_of, starts_of, ways_of};
 use std::alloc::{AllocError, Global};
 
 // Writes a class as its ranges.
@@ -97,6 +97,24 @@ fn are(alloc: Global, words: &[u32], encoding: Encoding, whole: &str, starts: &s
             is_written(alloc, hir_of(alloc, &code, encoding), whole)
                 && is_written(alloc, starts_of(alloc, &code, encoding), starts)
         }
+        Err(_) => false,
+    }
+}
+
+// Whether the pattern of some words over a kind of text that keeps the order is the one.
+fn orders(alloc: Global, words: &[u32], encoding: Encoding, wanted: &str) -> bool {
+    let uni = UniTable::ascii(alloc);
+    match Code::check(alloc, words, &uni) {
+        Ok(code) => is_written(alloc, ways_of(alloc, &code, encoding), wanted),
+        Err(_) => false,
+    }
+}
+
+// Whether some words over a kind of text have no pattern that is known to keep the order.
+fn has_no_order(alloc: Global, words: &[u32], encoding: Encoding) -> bool {
+    let uni = UniTable::ascii(alloc);
+    match Code::check(alloc, words, &uni) {
+        Ok(code) => matches!(ways_of(alloc, &code, encoding), Ok(None)),
         Err(_) => false,
     }
 }
@@ -197,4 +215,53 @@ fn patterns_of_classes_and_positions_are_tight(rt: HostRuntime) {
             "[65-65;97-97;]"
         )
     );
+}
+
+#[test]
+fn patterns_in_order_are_exact(rt: HostRuntime) {
+    let alloc = rt.alloc();
+    // [a-c]+x
+    let words = [24, 10, 1, 4294967295, 13, 5, 22, 97, 99, 0, 1, 16, 120, 1];
+    assert!(rt; orders(alloc, &words, Encoding::Ascii, "([97-99;]{1,} [120-120;] )"));
+    assert!(rt; orders(alloc, &words, Encoding::Utf8, "([97-99;]{1,} [120-120;] )"));
+    // .é
+    assert!(rt;
+        orders(
+            alloc,
+            &[2, 16, 233, 1],
+            Encoding::Utf8,
+            "([0-9;11-1114111;] [233-233;] )"
+        )
+    );
+    // [^ab]
+    let words = [13, 6, 21, 22, 97, 98, 0, 1];
+    assert!(rt; orders(alloc, &words, Encoding::Utf8, "([0-96;99-1114111;] )"));
+    // (?i:a) by ASCII's case, and by that of a table
+    assert!(rt; orders(alloc, &[32, 97, 1], Encoding::Utf8, "([65-65;97-97;] )"));
+    assert!(rt; has_no_order(alloc, &[40, 97, 1], Encoding::Utf8));
+    // \Aa\Z, whose positions are looks
+    assert!(rt;
+        orders(
+            alloc,
+            &[6, 0, 16, 97, 6, 7, 1],
+            Encoding::Utf8,
+            "(start [97-97;] end )"
+        )
+    );
+    assert!(rt;
+        orders(
+            alloc,
+            &[6, 3, 16, 97, 6, 6, 1],
+            Encoding::Bytes,
+            "(boundary [97-97;] line end )"
+        )
+    );
+    // a$, which holds before a last line break as well, and \B
+    assert!(rt; has_no_order(alloc, &[16, 97, 6, 5, 1], Encoding::Bytes));
+    assert!(rt; has_no_order(alloc, &[6, 4, 16, 97, 1], Encoding::Bytes));
+    // (?:a*)*, whose body may read nothing
+    let words = [
+        23, 10, 0, 4294967295, 24, 6, 0, 4294967295, 16, 97, 1, 18, 1,
+    ];
+    assert!(rt; has_no_order(alloc, &words, Encoding::Bytes));
 }

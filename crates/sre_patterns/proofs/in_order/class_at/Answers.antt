@@ -1,10 +1,10 @@
-use Rattle.regex_hir.proofs.MeaningLemmas.{meaning-Bytes}
-use Rattle.sre_code.specs.Codes.{uni_of}
-use Rattle.sre_patterns.proofs.OrderedTests.{bytes-just}
 use Rattle.sre_patterns.proofs.in_order.class_at.Goals as goal
 
-pub returns : goal.returns
-returns c j t s =
-    rw meaning-Bytes
-    (bytes-just c.args.bound (uni_of c.args.code.now) t _ _ c.requires.few (c.in_ok-ranges.ensures j t s)
-    c.in_ok-new.ensures)
+pub returns-in_ok-bytes_at-in-Bytes : goal.returns-in_ok-bytes_at-in-Bytes
+returns-in_ok-bytes_at-in-Bytes c = rw c.in-Bytes.is c.in_ok-bytes_at-in-Bytes.ensures
+
+pub returns-in_ok-bytes_at-in-Ascii : goal.returns-in_ok-bytes_at-in-Ascii
+returns-in_ok-bytes_at-in-Ascii c = rw c.in-Ascii.is c.in_ok-bytes_at-in-Ascii.ensures
+
+pub returns-in-Utf8 : goal.returns-in-Utf8
+returns-in-Utf8 c = rw c.in-Utf8.is c.characters_at.ensures

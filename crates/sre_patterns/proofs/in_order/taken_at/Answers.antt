@@ -1,5 +1,4 @@
 use Rattle.std.proofs.Common.{sym, subst}
-use Rattle.sre_chars.specs.declared.constants.SreOpcode.TheVariants as opcode
 use Rattle.sre_model.specs.Grammar.{Opcode}
 use Rattle.sre_model.specs.Characters.{holds}
 use Rattle.sre_code.specs.Codes.{items_of, uni_of}

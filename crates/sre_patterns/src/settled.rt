@@ -1,0 +1,126 @@
+//! From which character on a test answers alike.
+//!
+//! Then a class of all characters is known from the answers up to there. Nothing is known where a table decides: of the
+//! case of letters, and of Unicode's letters and digits.
+
+ghost use Rattle.std.specs.Prelude.{◌≡◌, ◌≢◌, ◌+◌, ℕ, List, length, IfSome};
+ghost use Rattle.sre_chars.specs.Categories.{category};
+ghost use Rattle.sre_chars.specs.Numbers.{category_number};
+ghost use Rattle.sre_chars.specs.Tables.{Table};
+ghost use Rattle.sre_model.specs.Tree.{Test};
+ghost use Rattle.sre_model.specs.Grammar.{Opcode};
+ghost use Rattle.sre_model.specs.Standing.{HasSet, HasTest, TestStands};
+ghost use Rattle.sre_model.specs.Characters.{holds};
+ghost use Rattle.sre_code.specs.Codes.{items_of, uni_of};
+ghost use Rattle.sre_patterns.specs.Settling.{SettledFrom, SettledSet, SettlesBehind};
+
+use sre_chars::constants::{SreCatCode, SreOpcode};
+use sre_code::Code;
+use sre_code::members::opcode;
+use sre_code::operands::{category_code, operand};
+
+// An item of a set: from which character on it answers alike, and where the next one begins.
+#[derive(Clone, Copy)]
+struct SettledItem {
+    from: u32,
+    next: usize,
+}
+
+// The number behind another one.
+fn behind(value: u32) -> Option<u32>
+    ensures { IfSome result (λ n. n ≡ value + 1) }
+{
+    value.checked_add(1)
+}
+
+// From which character on a category answers alike.
+fn settled_category(code: SreCatCode) -> Option<u32>
+    ensures { IfSome result (λ from. (table : Table) → SettledFrom from (category table (category_number code))) }
+{
+    match code {
+        SreCatCode::UNI_SPACE | SreCatCode::UNI_NOT_SPACE => Some(12289),
+        SreCatCode::UNI_LINEBREAK | SreCatCode::UNI_NOT_LINEBREAK => Some(8234),
+        SreCatCode::UNI_DIGIT
+        | SreCatCode::UNI_NOT_DIGIT
+        | SreCatCode::UNI_WORD
+        | SreCatCode::UNI_NOT_WORD => None,
+        _ => Some(128),
+    }
+}
+
+// From which character on an item of a set answers alike.
+fn settled_item(words: &[u32], place: usize, opcode: SreOpcode) -> Option<SettledItem>
+    requires opcode { Opcode words.now place opcode }
+    requires stands { HasSet words.now place }
+    ensures { IfSome result (λ item. SettlesBehind words.now place item.next item.from) }
+{
+    let _length = words.len(); // a slice has few items, so no place overflows
+    match opcode {
+        SreOpcode::LITERAL => Some(SettledItem {
+            from: behind(operand(words, place, 1))?,
+            next: place + 2,
+        }),
+        SreOpcode::RANGE => Some(SettledItem {
+            from: behind(operand(words, place, 2))?,
+            next: place + 3,
+        }),
+        SreOpcode::CATEGORY => Some(SettledItem {
+            from: settled_category(category_code(words, place + 1))?,
+            next: place + 2,
+        }),
+        SreOpcode::CHARSET => Some(SettledItem {
+            from: 256,
+            next: place + 9,
+        }),
+        SreOpcode::NEGATE => Some(SettledItem {
+            from: 0,
+            next: place + 1,
+        }),
+        _ => None,
+    }
+}
+
+// From which character on the set whose items begin at a place answers alike.
+fn settled_set(words: &[u32], start: usize) -> Option<u32>
+    requires { HasSet words.now start }
+    ensures { IfSome result (λ from. SettledSet words.now start from) }
+{
+    let mut place = start;
+    let mut from: u32 = 0;
+    'item: loop {
+        match opcode(words, place) {
+            SreOpcode::FAILURE => return Some(from),
+            code => {
+                let item = settled_item(words, place, code)?;
+                from = from.max(item.from);
+                place = item.next;
+            }
+        }
+    }
+}
+
+/// From which character on the test at a place answers alike, where that is known.
+pub(crate) fn settled_from(code: &Code<'_>, place: usize, opcode: SreOpcode) -> Option<u32>
+    requires code { Opcode (items_of code.now) place opcode }
+    requires stands { HasTest (items_of code.now) place }
+    ensures { IfSome result (λ from. (j : ℕ) (t : Test) → TestStands (items_of code.now) place j t
+        → SettledFrom from (holds (uni_of code.now) t)) }
+{
+    let words = code.items();
+    let _length = words.len(); // a slice has few items, so no place overflows
+    match opcode {
+        SreOpcode::ANY => Some(11),
+        SreOpcode::ANY_ALL => Some(0),
+        SreOpcode::CATEGORY => settled_category(category_code(words, place + 1)),
+        SreOpcode::LITERAL
+        | SreOpcode::LITERAL_IGNORE
+        | SreOpcode::LITERAL_LOC_IGNORE
+        | SreOpcode::NOT_LITERAL
+        | SreOpcode::NOT_LITERAL_IGNORE
+        | SreOpcode::NOT_LITERAL_LOC_IGNORE => Some(behind(operand(words, place, 1))?.max(128)),
+        SreOpcode::IN | SreOpcode::IN_IGNORE | SreOpcode::IN_LOC_IGNORE => {
+            Some(settled_set(words, place + 2)?.max(128))
+        }
+        _ => None,
+    }
+}
