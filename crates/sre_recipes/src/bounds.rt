@@ -8,7 +8,7 @@ ghost use Rattle.sre_recipes.specs.Spans.{IsSpan};
 ghost use Rattle.sre_recipes.specs.Limits.{is_spent, one_less, Takes, Stops, Goes, Ends};
 
 use crate::span::{Span, next_span, span_of};
-use sre_engine::{SearchIter, SreError};
+use sre_engine::{SearchIter, SreError, StrDrive};
 use std::alloc::Allocator;
 
 /// How far a recipe goes.
@@ -65,13 +65,13 @@ impl Bounds {
 }
 
 // The next match of a walk within a number of turns; nothing is told where they are used up.
-fn next_in_turns<A: Allocator + Copy>(
-    walk: &mut SearchIter<'_, &str, A>,
+fn next_in_turns<S: StrDrive, A: Allocator + Copy>(
+    walk: &mut SearchIter<'_, S, A>,
     turns: &mut u64,
 ) -> Result<Option<Option<Span>>, SreError>
     ensures gives { IfOk result (λ told. IfSome told (λ next. MatchOption next (IsOver walk.old) (λ span.
         Gives walk.old walk.new
-        × IsSpan (string_of (request_of walk.old)).now (shown_of walk.new) span.start span.end))) }
+        × IsSpan (S.stands (string_of (request_of walk.old))) (shown_of walk.new) span.start span.end))) }
     ensures used { IfOk result (λ told. told ≡ None → turns.new ≡ 0) }
     ensures fewer { turns.new ≤ turns.old }
     ensures refused { OnErr result Refused }
@@ -85,14 +85,14 @@ fn next_in_turns<A: Allocator + Copy>(
 }
 
 // The next match of a walk within turns, where these are bounded.
-fn next_step<A: Allocator + Copy>(
-    walk: &mut SearchIter<'_, &str, A>,
+fn next_step<S: StrDrive, A: Allocator + Copy>(
+    walk: &mut SearchIter<'_, S, A>,
     bounds: &mut Bounds,
 ) -> Result<Option<Span>, SreError>
     requires { bounds.old.used_up ≡ false }
     ensures gives { IfOk result (λ next. MatchOption next (Ends walk.old bounds.old bounds.new) (λ span.
         Gives walk.old walk.new
-        × IsSpan (string_of (request_of walk.old)).now (shown_of walk.new) span.start span.end
+        × IsSpan (S.stands (string_of (request_of walk.old))) (shown_of walk.new) span.start span.end
         × Goes bounds.old bounds.new)) }
     ensures refused { OnErr result Refused }
 {
@@ -132,14 +132,14 @@ fn one_less(most: Option<usize>) -> Option<usize>
 }
 
 // The next match of a walk within bounds.
-pub(crate) fn next_bounded<A: Allocator + Copy>(
-    walk: &mut SearchIter<'_, &str, A>,
+pub(crate) fn next_bounded<S: StrDrive, A: Allocator + Copy>(
+    walk: &mut SearchIter<'_, S, A>,
     bounds: &mut Bounds,
 ) -> Result<Option<Span>, SreError>
     requires { bounds.old.used_up ≡ false }
     ensures gives { IfOk result (λ next. MatchOption next (Stops walk.old bounds.old bounds.new) (λ span.
         Gives walk.old walk.new
-        × IsSpan (string_of (request_of walk.old)).now (shown_of walk.new) span.start span.end
+        × IsSpan (S.stands (string_of (request_of walk.old))) (shown_of walk.new) span.start span.end
         × Takes bounds.old bounds.new)) }
     ensures falls { IfOk result (λ next. IsSome next → most_items walk.new < most_items walk.old) }
     ensures refused { OnErr result Refused }

@@ -1,5 +1,4 @@
 use Rattle.std.proofs.Common.{◌≡◌, ◌++◌, map, false}
-use Rattle.std.specs.Str.{chars}
 use Rattle.sre_engine.specs.Tree.{Tree}
 use Rattle.sre_engine.specs.Grammar.{Whole}
 use Rattle.sre_engine.specs.Codes.{words_of}
@@ -16,10 +15,10 @@ invariant-walk g l = record {
   going : l.bounds.used_up ≡ false;
   turns : AreLeft l.fn.bounds.turns l.bounds.turns;
   left : (t : Tree) → Whole (words_of (code_of (request_of l.fn.walk))) t
-      → map (λ s. chars s.now) l.all.items
-      ++ map (slice_of (chars (string_of (request_of l.fn.walk)).now)) (first_of l.bounds.most (left_of l.walk t))
-      ≡ map (λ s. chars s.now) l.fn.all.items
-      ++ map (slice_of (chars (string_of (request_of l.fn.walk)).now))
+      → map g.S.StrDrive.text l.all.items
+      ++ map (slice_of (g.S.StrDrive.text (string_of (request_of l.fn.walk)))) (first_of l.bounds.most (left_of l.walk t))
+      ≡ map g.S.StrDrive.text l.fn.all.items
+      ++ map (slice_of (g.S.StrDrive.text (string_of (request_of l.fn.walk))))
       (first_of l.fn.bounds.most (left_of l.fn.walk t));
 }
 

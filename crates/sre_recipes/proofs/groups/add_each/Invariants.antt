@@ -1,5 +1,4 @@
 use Rattle.std.proofs.Common.{◌≡◌, ◌++◌, map, false}
-use Rattle.std.specs.Str.{chars}
 use Rattle.sre_engine.specs.Tree.{Tree}
 use Rattle.sre_engine.specs.Grammar.{Whole}
 use Rattle.sre_engine.specs.Codes.{words_of}
@@ -19,10 +18,10 @@ invariant-walk g l =
       going : l.bounds.used_up ≡ false;
       turns : AreLeft l.fn.bounds.turns l.bounds.turns;
       left : (t : Tree) → Whole (words_of (code_of asked)) t
-          → map captures_shown l.all.items
-          ++ map (captured (chars (string_of asked).now)) (first_of l.bounds.most (left_of l.walk t))
-          ≡ map captures_shown l.fn.all.items
-          ++ map (captured (chars (string_of asked).now)) (first_of l.fn.bounds.most (left_of l.fn.walk t));
+          → map (captures_shown g.S.StrDrive.text) l.all.items
+          ++ map (captured (g.S.StrDrive.text (string_of asked))) (first_of l.bounds.most (left_of l.walk t))
+          ≡ map (captures_shown g.S.StrDrive.text) l.fn.all.items
+          ++ map (captured (g.S.StrDrive.text (string_of asked))) (first_of l.fn.bounds.most (left_of l.fn.walk t));
     }
 
 abbrev pub decreases-walk : goal.decreases-walk
