@@ -36,7 +36,8 @@ replaced_by_a_dash : replaced (codes "bab") (λ m. codes "-") 0 3 (walk (whole (
 replaced_by_a_dash = refl
 
 -- a group that took no part gives nothing
-replaced_by_groups : replaced (codes "abc") (written (λ (text : List ℕ). text) (codes "abc") (Group 1 ∷ Match ∷ Group 2 ∷ Group 0 ∷ [])) 0 3
+replaced_by_groups : replaced (codes "abc")
+    (written (λ (text : List ℕ). text) (codes "abc") (Group 1 ∷ Match ∷ Group 2 ∷ Group 0 ∷ [])) 0 3
     (walk (whole (codes "abc")) either_letter) ≡ codes "aaabbbc"
 replaced_by_groups = refl
 

@@ -5,7 +5,7 @@ ghost use Rattle.sre_engine.specs.Requests.{string_of};
 ghost use Rattle.sre_engine.specs.Iterators.{request_of, shown_of, Gives, IsOver, most_items};
 ghost use Rattle.sre_growth.specs.Refusal.{Refused};
 ghost use Rattle.sre_recipes.specs.Spans.{IsSpan};
-ghost use Rattle.sre_recipes.specs.Limits.{is_spent, one_less, Takes, Stops, Goes, Ends};
+ghost use Rattle.sre_recipes.specs.Limits.{is_spent, one_less, Takes, Stops, Goes, Ends, OutlastRest};
 
 use crate::span::{Span, next_span, span_of};
 use sre_engine::{SearchIter, SreError, StrDrive};
@@ -74,6 +74,9 @@ fn next_in_turns<S: StrDrive, A: Allocator + Copy>(
         × IsSpan (S.stands (string_of (request_of walk.old))) (shown_of walk.new) span.start span.end))) }
     ensures used { IfOk result (λ told. told ≡ None → turns.new ≡ 0) }
     ensures fewer { turns.new ≤ turns.old }
+    ensures never { OutlastRest walk.old (Some turns.old) → IfOk result IsSome }
+    ensures lasts { OutlastRest walk.old (Some turns.old) → IfOk result (λ told. IfSome told (λ next.
+        IsSome next → OutlastRest walk.new (Some turns.new))) }
     ensures refused { OnErr result Refused }
 {
     match walk.next_within(turns) {
@@ -93,7 +96,7 @@ fn next_step<S: StrDrive, A: Allocator + Copy>(
     ensures gives { IfOk result (λ next. MatchOption next (Ends walk.old bounds.old bounds.new) (λ span.
         Gives walk.old walk.new
         × IsSpan (S.stands (string_of (request_of walk.old))) (shown_of walk.new) span.start span.end
-        × Goes bounds.old bounds.new)) }
+        × Goes walk.old walk.new bounds.old bounds.new)) }
     ensures refused { OnErr result Refused }
 {
     let Some(turns) = bounds.turns else {
@@ -140,7 +143,7 @@ pub(crate) fn next_bounded<S: StrDrive, A: Allocator + Copy>(
     ensures gives { IfOk result (λ next. MatchOption next (Stops walk.old bounds.old bounds.new) (λ span.
         Gives walk.old walk.new
         × IsSpan (S.stands (string_of (request_of walk.old))) (shown_of walk.new) span.start span.end
-        × Takes bounds.old bounds.new)) }
+        × Takes walk.old walk.new bounds.old bounds.new)) }
     ensures falls { IfOk result (λ next. IsSome next → most_items walk.new < most_items walk.old) }
     ensures refused { OnErr result Refused }
 {

@@ -10,7 +10,8 @@ ghost use Rattle.sre_engine.specs.Requests.{string_of, start_of, end_of, code_of
 ghost use Rattle.sre_engine.specs.Iterators.{request_of, left_of};
 ghost use Rattle.sre_growth.specs.Refusal.{Refused};
 ghost use Rattle.sre_recipes.specs.Computed.{Computes, ReplacedInTurn};
-ghost use Rattle.sre_recipes.specs.Bounded.{first_of, AreLeft};
+ghost use Rattle.sre_recipes.specs.Limits.{OutlastRest};
+ghost use Rattle.sre_recipes.specs.Bounded.{first_of, AreLeft, Outlast};
 
 use crate::bounds::{Bounds, next_bounded};
 use crate::groups::{CapturesOf, shown_captures};
@@ -69,6 +70,7 @@ where
     ensures written { IfOk result (λ _. S.IsText output.new.items) }
     ensures used { IfOk result (λ _. bounds.new.used_up ≡ true → bounds.new.turns ≡ Some 0) }
     ensures turns { IfOk result (λ _. AreLeft bounds.old.turns bounds.new.turns) }
+    ensures lasts { OutlastRest walk.old bounds.old.turns → IfOk result (λ _. bounds.new.used_up ≡ false) }
     ensures refused { ((f : _) (c : _) (e : _) (g : _) → F.step f c (Err e) g → Refused) → OnErr result Refused }
 {
     let (text, stop) = (walk.req().string(), walk.req().end());
@@ -106,6 +108,8 @@ where
     ensures written { IfOk result (λ _. S.IsText output.new.items) }
     ensures used { IfOk result (λ _. bounds.new.used_up ≡ true → bounds.new.turns ≡ Some 0) }
     ensures turns { IfOk result (λ _. AreLeft bounds.old.turns bounds.new.turns) }
+    ensures lasts { Outlast (asked_of req.entry) (code_of req.entry) bounds.old.turns
+        → IfOk result (λ _. bounds.new.used_up ≡ false) }
     ensures refused { ((f : _) (c : _) (e : _) (g : _) → F.step f c (Err e) g → Refused) → OnErr result Refused }
 {
     bounds.used_up = false;
@@ -132,6 +136,8 @@ where
         (first_of bounds.old.most (walk (asked_of req.entry) t)) (S.shown new)) }
     ensures used { IfOk result (λ _. bounds.new.used_up ≡ true → bounds.new.turns ≡ Some 0) }
     ensures turns { IfOk result (λ _. AreLeft bounds.old.turns bounds.new.turns) }
+    ensures lasts { Outlast (asked_of req.entry) (code_of req.entry) bounds.old.turns
+        → IfOk result (λ _. bounds.new.used_up ≡ false) }
     ensures refused { ((f : _) (c : _) (e : _) (g : _) → F.step f c (Err e) g → Refused) → OnErr result Refused }
 {
     let mut output = Vec::new(alloc);
@@ -197,6 +203,7 @@ where
         (first_of bounds.old.most (walk (asked_of req.entry) t)) (S.shown new))) }
     ensures used { IfOk result (λ told. told ≡ None → bounds.new.turns ≡ Some 0) }
     ensures turns { IfOk result (λ _. AreLeft bounds.old.turns bounds.new.turns) }
+    ensures lasts { Outlast (asked_of req.entry) (code_of req.entry) bounds.old.turns → IfOk result IsSome }
     ensures unlimited { bounds.old.turns ≡ None → IfOk result IsSome }
     ensures refused { ((f : _) (c : _) (e : _) (g : _) → F.step f c (Err e) g → Refused) → OnErr result Refused }
 {

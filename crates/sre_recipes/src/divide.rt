@@ -13,7 +13,8 @@ ghost use Rattle.sre_engine.specs.Iterators.{request_of, left_of};
 ghost use Rattle.sre_growth.specs.Refusal.{Refused};
 ghost use Rattle.sre_recipes.specs.Spans.{IsSpan};
 ghost use Rattle.sre_recipes.specs.Pieces.{pieces_between, first_groups, pieces_and_groups};
-ghost use Rattle.sre_recipes.specs.Bounded.{first_of, AreLeft};
+ghost use Rattle.sre_recipes.specs.Limits.{OutlastRest};
+ghost use Rattle.sre_recipes.specs.Bounded.{first_of, AreLeft, Outlast};
 
 use crate::bounds::{Bounds, next_bounded};
 use crate::groups::add_groups;
@@ -58,6 +59,7 @@ fn add_pieces<S: Text, A: Allocator + Copy>(
         (end_of (request_of walk.old)) (first_of bounds.old.most (left_of walk.old t))) }
     ensures used { IfOk result (λ _. bounds.new.used_up ≡ true → bounds.new.turns ≡ Some 0) }
     ensures turns { IfOk result (λ _. AreLeft bounds.old.turns bounds.new.turns) }
+    ensures lasts { OutlastRest walk.old bounds.old.turns → IfOk result (λ _. bounds.new.used_up ≡ false) }
     ensures refused { OnErr result Refused }
 {
     let (text, stop) = (walk.req().string(), walk.req().end());
@@ -83,6 +85,8 @@ fn add_all_pieces<S: Text, A: Allocator + Copy>(
         (first_of bounds.old.most (walk (asked_of req.entry) t))) }
     ensures used { IfOk result (λ _. bounds.new.used_up ≡ true → bounds.new.turns ≡ Some 0) }
     ensures turns { IfOk result (λ _. AreLeft bounds.old.turns bounds.new.turns) }
+    ensures lasts { Outlast (asked_of req.entry) (code_of req.entry) bounds.old.turns
+        → IfOk result (λ _. bounds.new.used_up ≡ false) }
     ensures refused { OnErr result Refused }
 {
     bounds.used_up = false;
@@ -145,6 +149,7 @@ pub fn split_bounded<S: Text, A: Allocator + Copy>(
         (first_of bounds.old.most (walk (asked_of req.entry) t)))) }
     ensures used { IfOk result (λ told. told ≡ None → bounds.new.turns ≡ Some 0) }
     ensures turns { IfOk result (λ _. AreLeft bounds.old.turns bounds.new.turns) }
+    ensures lasts { Outlast (asked_of req.entry) (code_of req.entry) bounds.old.turns → IfOk result IsSome }
     ensures unlimited { bounds.old.turns ≡ None → IfOk result IsSome }
     ensures refused { OnErr result Refused }
 {
@@ -196,6 +201,7 @@ fn add_pieces_and_groups<S: Text, A: Allocator + Copy>(
         (end_of (request_of walk.old)) (first_of bounds.old.most (left_of walk.old t))) }
     ensures used { IfOk result (λ _. bounds.new.used_up ≡ true → bounds.new.turns ≡ Some 0) }
     ensures turns { IfOk result (λ _. AreLeft bounds.old.turns bounds.new.turns) }
+    ensures lasts { OutlastRest walk.old bounds.old.turns → IfOk result (λ _. bounds.new.used_up ≡ false) }
     ensures refused { OnErr result Refused }
 {
     let (text, stop) = (walk.req().string(), walk.req().end());
@@ -222,6 +228,8 @@ fn add_all_with_groups<S: Text, A: Allocator + Copy>(
         (first_of bounds.old.most (walk (asked_of req.entry) t))) }
     ensures used { IfOk result (λ _. bounds.new.used_up ≡ true → bounds.new.turns ≡ Some 0) }
     ensures turns { IfOk result (λ _. AreLeft bounds.old.turns bounds.new.turns) }
+    ensures lasts { Outlast (asked_of req.entry) (code_of req.entry) bounds.old.turns
+        → IfOk result (λ _. bounds.new.used_up ≡ false) }
     ensures refused { OnErr result Refused }
 {
     bounds.used_up = false;
@@ -278,6 +286,7 @@ pub fn split_groups_bounded<S: Text, A: Allocator + Copy>(
         (first_of bounds.old.most (walk (asked_of req.entry) t)))) }
     ensures used { IfOk result (λ told. told ≡ None → bounds.new.turns ≡ Some 0) }
     ensures turns { IfOk result (λ _. AreLeft bounds.old.turns bounds.new.turns) }
+    ensures lasts { Outlast (asked_of req.entry) (code_of req.entry) bounds.old.turns → IfOk result IsSome }
     ensures unlimited { bounds.old.turns ≡ None → IfOk result IsSome }
     ensures refused { OnErr result Refused }
 {

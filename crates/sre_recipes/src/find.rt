@@ -11,7 +11,8 @@ ghost use Rattle.sre_engine.specs.Answers.{Answers, Spans};
 ghost use Rattle.sre_engine.specs.Iterators.{request_of, left_of};
 ghost use Rattle.sre_growth.specs.Refusal.{Refused};
 ghost use Rattle.sre_recipes.specs.Slices.{slice_of, to_the_end};
-ghost use Rattle.sre_recipes.specs.Bounded.{first_of, AreLeft};
+ghost use Rattle.sre_recipes.specs.Limits.{OutlastRest};
+ghost use Rattle.sre_recipes.specs.Bounded.{first_of, AreLeft, Outlast};
 
 use crate::bounds::{Bounds, next_bounded};
 use crate::slice::matched_text;
@@ -52,6 +53,7 @@ fn add_texts<S: Text, A: Allocator + Copy>(
         (first_of bounds.old.most (left_of walk.old t))) }
     ensures used { IfOk result (λ _. bounds.new.used_up ≡ true → bounds.new.turns ≡ Some 0) }
     ensures turns { IfOk result (λ _. AreLeft bounds.old.turns bounds.new.turns) }
+    ensures lasts { OutlastRest walk.old bounds.old.turns → IfOk result (λ _. bounds.new.used_up ≡ false) }
     ensures refused { OnErr result Refused }
 {
     let text = walk.req().string();
@@ -74,6 +76,8 @@ fn add_all_texts<S: Text, A: Allocator + Copy>(
         ++ map (slice_of (S.text (string_of req.entry))) (first_of bounds.old.most (walk (asked_of req.entry) t))) }
     ensures used { IfOk result (λ _. bounds.new.used_up ≡ true → bounds.new.turns ≡ Some 0) }
     ensures turns { IfOk result (λ _. AreLeft bounds.old.turns bounds.new.turns) }
+    ensures lasts { Outlast (asked_of req.entry) (code_of req.entry) bounds.old.turns
+        → IfOk result (λ _. bounds.new.used_up ≡ false) }
     ensures refused { OnErr result Refused }
 {
     bounds.used_up = false;
@@ -133,6 +137,7 @@ pub fn find_bounded<S: Text, A: Allocator + Copy>(
         ≡ map (slice_of (S.text (string_of req.entry))) (first_of bounds.old.most (walk (asked_of req.entry) t)))) }
     ensures used { IfOk result (λ told. told ≡ None → bounds.new.turns ≡ Some 0) }
     ensures turns { IfOk result (λ _. AreLeft bounds.old.turns bounds.new.turns) }
+    ensures lasts { Outlast (asked_of req.entry) (code_of req.entry) bounds.old.turns → IfOk result IsSome }
     ensures unlimited { bounds.old.turns ≡ None → IfOk result IsSome }
     ensures refused { OnErr result Refused }
 {

@@ -14,7 +14,8 @@ ghost use Rattle.sre_engine.specs.Iterators.{request_of, left_of};
 ghost use Rattle.sre_growth.specs.Refusal.{Refused};
 ghost use Rattle.sre_recipes.specs.Spans.{IsSpan};
 ghost use Rattle.sre_recipes.specs.Templates.{piece_of, written, replaced};
-ghost use Rattle.sre_recipes.specs.Bounded.{first_of, AreLeft};
+ghost use Rattle.sre_recipes.specs.Limits.{OutlastRest};
+ghost use Rattle.sre_recipes.specs.Bounded.{first_of, AreLeft, Outlast};
 
 use crate::bounds::{Bounds, next_bounded};
 use crate::slice::{group_text, up_to};
@@ -145,6 +146,7 @@ fn append_replaced<S: Text, A: Allocator + Copy>(
     ensures written { IfOk result (λ _. S.IsText output.new.items) }
     ensures used { IfOk result (λ _. bounds.new.used_up ≡ true → bounds.new.turns ≡ Some 0) }
     ensures turns { IfOk result (λ _. AreLeft bounds.old.turns bounds.new.turns) }
+    ensures lasts { OutlastRest walk.old bounds.old.turns → IfOk result (λ _. bounds.new.used_up ≡ false) }
     ensures refused { OnErr result Refused }
 {
     let (text, stop) = (walk.req().string(), walk.req().end());
@@ -173,6 +175,8 @@ fn append_all<S: Text, A: Allocator + Copy>(
     ensures written { IfOk result (λ _. S.IsText output.new.items) }
     ensures used { IfOk result (λ _. bounds.new.used_up ≡ true → bounds.new.turns ≡ Some 0) }
     ensures turns { IfOk result (λ _. AreLeft bounds.old.turns bounds.new.turns) }
+    ensures lasts { Outlast (asked_of req.entry) (code_of req.entry) bounds.old.turns
+        → IfOk result (λ _. bounds.new.used_up ≡ false) }
     ensures refused { OnErr result Refused }
 {
     bounds.used_up = false;
@@ -189,10 +193,13 @@ fn replaced_text<'t, A: Allocator + Copy>(
 ) -> Result<String<A>, SreError>
     ensures ok { (t : Tree) → Whole (words_of (code_of req.entry)) t → IfOk result (λ new.
         bounds.new.used_up ≡ false → chars (string_bytes new)
-        ≡ replaced (chars (string_of req.entry).now) (written (λ s. chars s.now) (chars (string_of req.entry).now) template.now)
+        ≡ replaced (chars (string_of req.entry).now)
+        (written (λ s. chars s.now) (chars (string_of req.entry).now) template.now)
         (start_of req.entry) (end_of req.entry) (first_of bounds.old.most (walk (asked_of req.entry) t))) }
     ensures used { IfOk result (λ _. bounds.new.used_up ≡ true → bounds.new.turns ≡ Some 0) }
     ensures turns { IfOk result (λ _. AreLeft bounds.old.turns bounds.new.turns) }
+    ensures lasts { Outlast (asked_of req.entry) (code_of req.entry) bounds.old.turns
+        → IfOk result (λ _. bounds.new.used_up ≡ false) }
     ensures refused { OnErr result Refused }
 {
     let mut output = Vec::new(alloc);
@@ -213,6 +220,8 @@ fn replaced_bytes<'t, A: Allocator + Copy>(
         (start_of req.entry) (end_of req.entry) (first_of bounds.old.most (walk (asked_of req.entry) t))) }
     ensures used { IfOk result (λ _. bounds.new.used_up ≡ true → bounds.new.turns ≡ Some 0) }
     ensures turns { IfOk result (λ _. AreLeft bounds.old.turns bounds.new.turns) }
+    ensures lasts { Outlast (asked_of req.entry) (code_of req.entry) bounds.old.turns
+        → IfOk result (λ _. bounds.new.used_up ≡ false) }
     ensures refused { OnErr result Refused }
 {
     let mut output = Vec::new(alloc);
@@ -241,7 +250,8 @@ pub fn replace_all<'t, A: Allocator + Copy>(
 ) -> Result<String<A>, SreError>
     ensures ok { (t : Tree) → Whole (words_of (code_of req.entry)) t → IfOk result (λ new.
         chars (string_bytes new)
-        ≡ replaced (chars (string_of req.entry).now) (written (λ s. chars s.now) (chars (string_of req.entry).now) template.now)
+        ≡ replaced (chars (string_of req.entry).now)
+        (written (λ s. chars s.now) (chars (string_of req.entry).now) template.now)
         (start_of req.entry) (end_of req.entry) (walk (asked_of req.entry) t)) }
     ensures refused { OnErr result Refused }
 {
@@ -272,10 +282,12 @@ pub fn replace_bounded<'t, A: Allocator + Copy>(
 ) -> Result<Option<String<A>>, SreError>
     ensures ok { (t : Tree) → Whole (words_of (code_of req.entry)) t → IfOk result (λ told. IfSome told (λ new.
         chars (string_bytes new)
-        ≡ replaced (chars (string_of req.entry).now) (written (λ s. chars s.now) (chars (string_of req.entry).now) template.now)
+        ≡ replaced (chars (string_of req.entry).now)
+        (written (λ s. chars s.now) (chars (string_of req.entry).now) template.now)
         (start_of req.entry) (end_of req.entry) (first_of bounds.old.most (walk (asked_of req.entry) t)))) }
     ensures used { IfOk result (λ told. told ≡ None → bounds.new.turns ≡ Some 0) }
     ensures turns { IfOk result (λ _. AreLeft bounds.old.turns bounds.new.turns) }
+    ensures lasts { Outlast (asked_of req.entry) (code_of req.entry) bounds.old.turns → IfOk result IsSome }
     ensures unlimited { bounds.old.turns ≡ None → IfOk result IsSome }
     ensures refused { OnErr result Refused }
 {
@@ -333,6 +345,7 @@ pub fn replace_bounded_bytes<'t, A: Allocator + Copy>(
         (start_of req.entry) (end_of req.entry) (first_of bounds.old.most (walk (asked_of req.entry) t)))) }
     ensures used { IfOk result (λ told. told ≡ None → bounds.new.turns ≡ Some 0) }
     ensures turns { IfOk result (λ _. AreLeft bounds.old.turns bounds.new.turns) }
+    ensures lasts { Outlast (asked_of req.entry) (code_of req.entry) bounds.old.turns → IfOk result IsSome }
     ensures unlimited { bounds.old.turns ≡ None → IfOk result IsSome }
     ensures refused { OnErr result Refused }
 {

@@ -18,7 +18,8 @@ returns-clause-ok g c = λ t tree going.
     let whole = subst (λ r. Whole (words_of (code_of r)) t) (sym c.new-walk.ensures.req) tree in
     let Told = λ (s : g.row.S.Denot) (from to : ℕ) (ms : List Match).
     (new : List ℕ) × (after ≡ before ++ new)
-    × ReplacedInTurn (Computes g.S.StrDrive.text (λ f d r h. goal.F-step g f d r h) g.S.Rewritten.shown (g.S.StrDrive.text s))
+    × ReplacedInTurn
+    (Computes g.S.StrDrive.text (λ f d r h. goal.F-step g f d r h) g.S.Rewritten.shown (g.S.StrDrive.text s))
     (g.S.StrDrive.text s) c.args.compute from to ms new in
     subst (λ r. Told (string_of r) (start_of r) (end_of r) (first_of most (walk (asked_of r) t))) c.new-walk.ensures.req
     (subst (λ ms. Told (string_of own) (start_of own) (end_of own) (first_of most ms))

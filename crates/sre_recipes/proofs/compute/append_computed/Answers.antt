@@ -31,7 +31,8 @@ walk-preserved g c =
     let output = g.S.Text.characters c.walk.output.items in
     let shown : captures_shown g.S.StrDrive.text c.in_ok-captures.captures ≡ captured text found =
     cc (c.in_ok-captures.ensures.ok, c.string-text.ensures, c.req.ensures, c.state.ensures) in
-    let added : g.S.Text.characters c.append_new.new.output.items ≡ (output ++ slice_range text start found.start) ++ new =
+    let added : g.S.Text.characters c.append_new.new.output.items
+    ≡ (output ++ slice_range text start found.start) ++ new =
     cc (
       c.in_ok-append_new-in-Ok.ensures.ok,
       c.string-text.ensures,
@@ -49,6 +50,7 @@ walk-preserved g c =
       turns =
           left_on c.args.bounds.now.turns c.walk.bounds.turns c.next_bounded.new.bounds.turns c.walk.invariant.turns
           takes.turns;
+      lasts = λ enough. takes.lasts (c.walk.invariant.lasts enough);
       callable = search of_calls;
       left = λ t tree.
           computed_step puts text c.walk.compute c.compute.new.self c.args.compute output
@@ -85,3 +87,7 @@ returns-clause-ok g c = λ t tree going.
     (stopped before c.walk.bounds c.next_bounded.new.bounds (words_of (code_of asked)) t stops going
     c.walk.invariant.kept.words tree)
     (c.in_ok-append_to.ensures.ok ∙ ap (λ (cs : List ℕ). output ++ cs) cut) (c.walk.invariant.left t tree)
+
+pub returns-clause-lasts : goal.returns-clause-lasts
+returns-clause-lasts g c = λ enough.
+    (rw c.in_default.is at c.in_ok-span.ensures.gives).lasts (c.walk.invariant.lasts enough)

@@ -6,6 +6,7 @@ use Rattle.sre_engine.specs.Requests.{string_of, start_of, end_of, code_of}
 use Rattle.sre_engine.specs.Iterators.{request_of, left_of, most_items}
 use Rattle.sre_recipes.specs.Computed.{Computes, ReplacedInTurn}
 use Rattle.sre_recipes.specs.Bounded.{first_of, AreLeft}
+use Rattle.sre_recipes.specs.Limits.{OutlastRest}
 use Rattle.sre_recipes.specs.Spans.{StandsAt}
 use Rattle.sre_recipes.proofs.Steps.{Kept}
 use Rattle.sre_recipes.proofs.compute.append_computed.Given as goal
@@ -21,6 +22,7 @@ invariant-walk g l =
       is_text : g.S.Text.IsText l.output.items;
       going : l.bounds.used_up ≡ false;
       turns : AreLeft l.fn.bounds.turns l.bounds.turns;
+      lasts : OutlastRest l.fn.walk l.fn.bounds.turns → OutlastRest l.walk l.bounds.turns;
       callable : goal.F-IsAlwaysCallable g l.compute;
       left : (t : Tree) → Whole (words_of (code_of asked)) t → (rest : List ℕ)
           → ReplacedInTurn puts text l.compute (start_of (request_of l.walk)) (end_of asked)

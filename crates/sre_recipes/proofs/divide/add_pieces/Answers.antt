@@ -39,6 +39,7 @@ walk-preserved g c =
       turns =
           left_on c.args.bounds.now.turns c.walk.bounds.turns c.next_bounded.new.bounds.turns c.walk.invariant.turns
           takes.turns;
+      lasts = λ enough. takes.lasts (c.walk.invariant.lasts enough);
       left = λ t tree.
           pieces_step text pieces (map shown c.add_piece.new.pieces.items) found
           (first_of c.walk.bounds.most (left_of before t))
@@ -81,3 +82,7 @@ returns-clause-ok g c = λ t tree going.
     c.walk.invariant.kept.words tree)
     added
     (c.walk.invariant.left t tree)
+
+pub returns-clause-lasts : goal.returns-clause-lasts
+returns-clause-lasts g c = λ enough.
+    (rw c.in_default.is at c.in_ok-span.ensures.gives).lasts (c.walk.invariant.lasts enough)

@@ -6,6 +6,7 @@ use Rattle.sre_engine.specs.Requests.{string_of, start_of, end_of, code_of}
 use Rattle.sre_engine.specs.Iterators.{request_of, left_of, most_items}
 use Rattle.sre_recipes.specs.Pieces.{pieces_between}
 use Rattle.sre_recipes.specs.Bounded.{first_of, AreLeft}
+use Rattle.sre_recipes.specs.Limits.{OutlastRest}
 use Rattle.sre_recipes.specs.Spans.{StandsAt}
 use Rattle.sre_recipes.proofs.Steps.{Kept}
 use Rattle.sre_recipes.proofs.divide.add_pieces.Given as goal
@@ -18,6 +19,7 @@ invariant-walk g l =
       stands : StandsAt (g.S.StrDrive.stands (string_of asked)) l.last (start_of (request_of l.walk));
       going : l.bounds.used_up ≡ false;
       turns : AreLeft l.fn.bounds.turns l.bounds.turns;
+      lasts : OutlastRest l.fn.walk l.fn.bounds.turns → OutlastRest l.walk l.bounds.turns;
       left : (t : Tree) → Whole (words_of (code_of asked)) t
           → map g.S.StrDrive.text l.pieces.items
           ++ pieces_between (g.S.StrDrive.text (string_of asked)) (start_of (request_of l.walk)) (end_of asked)

@@ -24,14 +24,17 @@ walk-preserved g c =
     let found = match_shown (shown_of after) in
     let from = c.in-Some.span.start in
     let to = c.in-Some.span.end in
-    let span = subst (λ (x : g.row.S.Denot). IsSpan (g.S.StrDrive.stands x) (shown_of after) from to) c.walk.invariant.string told.1 in
+    let stands = g.S.StrDrive.stands in
+    let span = subst (λ (x : g.row.S.Denot). IsSpan (stands x) (shown_of after) from to) c.walk.invariant.string told.1
+    in
     let shown = g.S.StrDrive.text in
     let texts = map shown c.walk.all.items in
     let added : map shown c.add_text.new.all.items ≡ texts ++ slice_of (g.S.StrDrive.text whole) found ∷ [] =
     c.in_ok-add_text.ensures.ok
     ∙ ap (λ (x : g.row.S.Denot). texts ++ slice_range (g.S.StrDrive.text x) from.position to.position ∷ [])
     (c.string-text.ensures ∙ ap string_of c.req.ensures)
-    ∙ ap (λ (cs : List ℕ). texts ++ cs ∷ []) (span_slice (g.S.StrDrive.stands whole) (g.S.StrDrive.text whole) (shown_of after) from to span) in
+    ∙ ap (λ (cs : List ℕ). texts ++ cs ∷ [])
+    (span_slice (stands whole) (g.S.StrDrive.text whole) (shown_of after) from to span) in
     record {
       string = gives.request.string ∙ c.walk.invariant.string;
       code = gives.request.pattern_codes ∙ c.walk.invariant.code;
@@ -39,6 +42,7 @@ walk-preserved g c =
       turns =
           left_on c.args.bounds.now.turns c.walk.bounds.turns c.next_bounded.new.bounds.turns c.walk.invariant.turns
           takes.turns;
+      lasts = λ enough. takes.lasts (c.walk.invariant.lasts enough);
       left = λ t tree.
           listed_step (slice_of (g.S.StrDrive.text whole)) texts (map shown c.add_text.new.all.items) found
           (first_of c.walk.bounds.most (left_of before t))
@@ -62,3 +66,7 @@ returns-clause-ok g c = λ t tree going.
     (stopped c.walk.walk c.walk.bounds c.next_bounded.new.bounds (words_of (code_of asked)) t stops going
     (ap words_of c.walk.invariant.code) tree)
     (c.walk.invariant.left t tree)
+
+pub returns-clause-lasts : goal.returns-clause-lasts
+returns-clause-lasts g c = λ enough.
+    (rw c.in_default.is at c.in_ok-span.ensures.gives).lasts (c.walk.invariant.lasts enough)

@@ -34,6 +34,7 @@ walk-preserved g c =
       turns =
           left_on c.args.bounds.now.turns c.walk.bounds.turns c.next_bounded.new.bounds.turns c.walk.invariant.turns
           takes.turns;
+      lasts = λ enough. takes.lasts (c.walk.invariant.lasts enough);
       left = λ t tree.
           listed_step shown all (map (captures_shown g.S.StrDrive.text) c.add_captures.new.all.items) found
           (first_of c.walk.bounds.most (left_of before t))
@@ -50,9 +51,14 @@ returns-clause-ok g c = λ t tree going.
     let stops = rw c.in_default.is at c.in_ok-span.ensures.gives in
     let asked = request_of c.args.walk.now in
     let shown = captured (g.S.StrDrive.text (string_of asked)) in
-    none_left shown (map (captures_shown g.S.StrDrive.text) c.walk.all.items) (first_of c.walk.bounds.most (left_of c.walk.walk t))
+    none_left shown (map (captures_shown g.S.StrDrive.text) c.walk.all.items)
+    (first_of c.walk.bounds.most (left_of c.walk.walk t))
     (map (captures_shown g.S.StrDrive.text) c.args.all.now.items
     ++ map shown (first_of c.args.bounds.now.most (left_of c.args.walk.now t)))
     (stopped c.walk.walk c.walk.bounds c.next_bounded.new.bounds (words_of (code_of asked)) t stops going
     (ap words_of c.walk.invariant.code) tree)
     (c.walk.invariant.left t tree)
+
+pub returns-clause-lasts : goal.returns-clause-lasts
+returns-clause-lasts g c = λ enough.
+    (rw c.in_default.is at c.in_ok-span.ensures.gives).lasts (c.walk.invariant.lasts enough)

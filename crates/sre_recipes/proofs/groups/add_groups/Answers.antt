@@ -22,6 +22,7 @@ group-preserved g c =
     record {
       few = one_more c.group.count _ c.group-test.true;
       so_far =
-          counted_step (numbered_group text found) (map (option_map g.S.StrDrive.text) c.args.groups.now.items) groups longer
+          counted_step (numbered_group text found) (map (option_map g.S.StrDrive.text) c.args.groups.now.items) groups
+          longer
           c.args.first c.group.count added c.group.invariant.so_far;
     }

@@ -12,7 +12,8 @@ returns-clause-ok g c = λ t tree.
     let asked = asked_of c.args.req in
     let lexeme = lexeme_of (g.S.StrDrive.text (string_of c.args.req)) in
     c.in_ok-add_all_tokens.ensures.ok t tree
-    ∙ ap (λ tokens. map (lexeme_shown g.S.StrDrive.text) tokens ++ map lexeme (adjoining asked.start (walk asked t))) c.new.ensures.items
+    ∙ ap (λ tokens. map (lexeme_shown g.S.StrDrive.text) tokens ++ map lexeme (adjoining asked.start (walk asked t)))
+    c.new.ensures.items
     ∙ ap (map lexeme) (walk_tokens asked t inside)
 
 pub returns-clause-end : goal.returns-clause-end

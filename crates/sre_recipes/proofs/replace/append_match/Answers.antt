@@ -14,7 +14,8 @@ returns-clause-ok g c =
     ∙ ap (λ (cs : List ℕ). output ++ cs)
     (c.between.ensures ∙ ap (slice_range text c.args.last.now.position) c.requires.span.begins) in
     c.in_ok-append_replacement.ensures.ok
-    ∙ ap (λ (cs : List ℕ). cs ++ written g.S.StrDrive.text text c.args.template.now (match_shown c.args.state.now)) before
+    ∙ ap (λ (cs : List ℕ). cs ++ written g.S.StrDrive.text text c.args.template.now (match_shown c.args.state.now))
+    before
 
 pub returns-clause-last : goal.returns-clause-last
 returns-clause-last g c = refl

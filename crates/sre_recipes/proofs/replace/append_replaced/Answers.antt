@@ -26,7 +26,8 @@ walk-preserved g c =
     let start = start_of (request_of before) in
     let new = written g.S.StrDrive.text text c.args.template.now in
     let output = g.S.Text.characters c.walk.output.items in
-    let added : g.S.Text.characters c.append_match.new.output.items ≡ (output ++ slice_range text start found.start) ++ new found =
+    let added : g.S.Text.characters c.append_match.new.output.items
+    ≡ (output ++ slice_range text start found.start) ++ new found =
     cc (
       c.in_ok-append_match.ensures.ok,
       c.string-text.ensures,
@@ -43,6 +44,7 @@ walk-preserved g c =
       turns =
           left_on c.args.bounds.now.turns c.walk.bounds.turns c.next_bounded.new.bounds.turns c.walk.invariant.turns
           takes.turns;
+      lasts = λ enough. takes.lasts (c.walk.invariant.lasts enough);
       is_text = c.in_ok-append_match.ensures.written;
       left = λ t tree.
           replaced_step text new output (g.S.Text.characters c.append_match.new.output.items) found
@@ -74,10 +76,15 @@ returns-clause-ok g c = λ t tree going.
       c.req-2.ensures,
       c.walk.invariant.stands.at,
     ) in
-    replaced_end text new output (g.S.Text.characters c.append_to.new.output.items) (first_of c.walk.bounds.most (left_of before t))
+    replaced_end text new output (g.S.Text.characters c.append_to.new.output.items)
+    (first_of c.walk.bounds.most (left_of before t))
     start (end_of asked)
     (g.S.Text.characters c.args.output.now.items
     ++ replaced text new (start_of asked) (end_of asked) (first_of c.args.bounds.now.most (left_of c.args.walk.now t)))
     (stopped before c.walk.bounds c.next_bounded.new.bounds (words_of (code_of asked)) t stops going
     c.walk.invariant.kept.words tree)
     (c.in_ok-append_to.ensures.ok ∙ ap (λ (cs : List ℕ). output ++ cs) cut) (c.walk.invariant.left t tree)
+
+pub returns-clause-lasts : goal.returns-clause-lasts
+returns-clause-lasts g c = λ enough.
+    (rw c.in_default.is at c.in_ok-span.ensures.gives).lasts (c.walk.invariant.lasts enough)

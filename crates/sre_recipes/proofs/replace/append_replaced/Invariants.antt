@@ -6,6 +6,7 @@ use Rattle.sre_engine.specs.Requests.{string_of, start_of, end_of, code_of}
 use Rattle.sre_engine.specs.Iterators.{request_of, left_of, most_items}
 use Rattle.sre_recipes.specs.Templates.{written, replaced}
 use Rattle.sre_recipes.specs.Bounded.{first_of, AreLeft}
+use Rattle.sre_recipes.specs.Limits.{OutlastRest}
 use Rattle.sre_recipes.specs.Spans.{StandsAt}
 use Rattle.sre_recipes.proofs.Steps.{Kept}
 use Rattle.sre_recipes.proofs.replace.append_replaced.Given as goal
@@ -20,6 +21,7 @@ invariant-walk g l =
       is_text : g.S.Text.IsText l.output.items;
       going : l.bounds.used_up ≡ false;
       turns : AreLeft l.fn.bounds.turns l.bounds.turns;
+      lasts : OutlastRest l.fn.walk l.fn.bounds.turns → OutlastRest l.walk l.bounds.turns;
       left : (t : Tree) → Whole (words_of (code_of asked)) t
           → g.S.Text.characters l.output.items
           ++ replaced text (written g.S.StrDrive.text text l.template) (start_of (request_of l.walk)) (end_of asked)
