@@ -243,10 +243,10 @@ fn replaced_bytes<'t, A: Allocator + Copy>(
 /// # Errors
 ///
 /// [`SreError::Memory`], where a growth was refused.
-pub fn replace_all<'t, A: Allocator + Copy>(
+pub fn replace_all<A: Allocator + Copy>(
     alloc: A,
-    req: Request<'_, &'t str>,
-    template: &[Piece<'t>],
+    req: Request<'_, &str>,
+    template: &[Piece<'_>],
 ) -> Result<String<A>, SreError>
     ensures ok { (t : Tree) → Whole (words_of (code_of req.entry)) t → IfOk result (λ new.
         chars (string_bytes new)
@@ -256,7 +256,7 @@ pub fn replace_all<'t, A: Allocator + Copy>(
     ensures refused { OnErr result Refused }
 {
     let mut bounds = Bounds::none();
-    replaced_text(alloc, req, &mut bounds, template)
+    replaced_text(alloc, req, &mut bounds, &*template)
 }
 
 /// The same within bounds: the first matches alone are replaced, as with Python's `count`; or `None` where the turns
@@ -274,11 +274,11 @@ pub fn replace_all<'t, A: Allocator + Copy>(
 /// # Errors
 ///
 /// [`SreError::Memory`], where a growth was refused.
-pub fn replace_bounded<'t, A: Allocator + Copy>(
+pub fn replace_bounded<A: Allocator + Copy>(
     alloc: A,
-    req: Request<'_, &'t str>,
+    req: Request<'_, &str>,
     bounds: &mut Bounds,
-    template: &[Piece<'t>],
+    template: &[Piece<'_>],
 ) -> Result<Option<String<A>>, SreError>
     ensures ok { (t : Tree) → Whole (words_of (code_of req.entry)) t → IfOk result (λ told. IfSome told (λ new.
         chars (string_bytes new)
@@ -291,7 +291,7 @@ pub fn replace_bounded<'t, A: Allocator + Copy>(
     ensures unlimited { bounds.old.turns ≡ None → IfOk result IsSome }
     ensures refused { OnErr result Refused }
 {
-    let new = replaced_text(alloc, req, bounds, template)?;
+    let new = replaced_text(alloc, req, bounds, &*template)?;
     if bounds.used_up {
         Ok(None)
     } else {
@@ -313,10 +313,10 @@ pub fn replace_bounded<'t, A: Allocator + Copy>(
 /// # Errors
 ///
 /// [`SreError::Memory`], where a growth was refused.
-pub fn replace_all_bytes<'t, A: Allocator + Copy>(
+pub fn replace_all_bytes<A: Allocator + Copy>(
     alloc: A,
-    req: Request<'_, &'t [u8]>,
-    template: &[PieceOf<&'t [u8]>],
+    req: Request<'_, &[u8]>,
+    template: &[PieceOf<&[u8]>],
 ) -> Result<Vec<u8, A>, SreError>
     ensures ok { (t : Tree) → Whole (words_of (code_of req.entry)) t → IfOk result (λ new.
         new.items
@@ -325,7 +325,7 @@ pub fn replace_all_bytes<'t, A: Allocator + Copy>(
     ensures refused { OnErr result Refused }
 {
     let mut bounds = Bounds::none();
-    replaced_bytes(alloc, req, &mut bounds, template)
+    replaced_bytes(alloc, req, &mut bounds, &*template)
 }
 
 /// As `replace_bounded`, over bytes.
@@ -333,11 +333,11 @@ pub fn replace_all_bytes<'t, A: Allocator + Copy>(
 /// # Errors
 ///
 /// [`SreError::Memory`], where a growth was refused.
-pub fn replace_bounded_bytes<'t, A: Allocator + Copy>(
+pub fn replace_bounded_bytes<A: Allocator + Copy>(
     alloc: A,
-    req: Request<'_, &'t [u8]>,
+    req: Request<'_, &[u8]>,
     bounds: &mut Bounds,
-    template: &[PieceOf<&'t [u8]>],
+    template: &[PieceOf<&[u8]>],
 ) -> Result<Option<Vec<u8, A>>, SreError>
     ensures ok { (t : Tree) → Whole (words_of (code_of req.entry)) t → IfOk result (λ told. IfSome told (λ new.
         new.items
@@ -349,7 +349,7 @@ pub fn replace_bounded_bytes<'t, A: Allocator + Copy>(
     ensures unlimited { bounds.old.turns ≡ None → IfOk result IsSome }
     ensures refused { OnErr result Refused }
 {
-    let new = replaced_bytes(alloc, req, bounds, template)?;
+    let new = replaced_bytes(alloc, req, bounds, &*template)?;
     if bounds.used_up {
         Ok(None)
     } else {
