@@ -1,6 +1,6 @@
 -- What bounds leave of a walk.
-use Rattle.std.proofs.Common.{◌≡◌, ◌<◌, ◌+◌, ◌-◌, ℕ, zero, suc, List, [], ◌∷◌, Bool, true, false, take, Option, Some, None}
-use Rattle.std.proofs.Common.{refl, sym, ap, ◌∙◌, subst, arith, cond, inl, inr}
+use Rattle.std.proofs.Common.{◌≡◌, ◌<◌, ◌+◌, ◌-◌, ℕ, zero, suc, List, [], ◌∷◌, Bool, true, false, take, Option}
+use Rattle.std.proofs.Common.{Some, None, refl, sym, ap, ◌∙◌, subst, arith, cond, inl, inr}
 use Rattle.std.proofs.lemmas.Bool.{eqb-true}
 use Rattle.sre_chars.specs.declared.string.StrDrive.{Ghosts}
 use Rattle.sre_engine.specs.Tree.{Tree}
@@ -19,7 +19,7 @@ use Rattle.sre_engine.specs.declared.engine.search_iter.SearchIter.{SearchIter}
 use Rattle.sre_recipes.specs.declared.bounds.Bounds.{Bounds}
 use Rattle.sre_recipes.specs.Bounded.{first_of, AreLeft}
 use Rattle.sre_recipes.proofs.Steps.{walk_step}
-use Rattle.sre_recipes.specs.Limits.{is_spent, one_less, Goes, Ends, Takes, Stops}
+use Rattle.sre_recipes.specs.Limits.{is_spent, one_less, Goes, Ends, Takes, Stops, OutlastRest}
 
 -- all turns are left of themselves
 pub left_all : (turns : Option ℕ) → AreLeft turns turns
@@ -63,17 +63,25 @@ first_found a t m ms e = by_match (either (found a t))
         let same : x ∷ walk (asked_after a x) t ≡ m ∷ ms = sym (walk-next a t x some) ∙ e in
         some ∙ ap Some (cc)
 
--- fewer can come after a match
-pub gives_falls : {S A : Type 0} {text : Ghosts S} (it next : SearchIter S A text) → Gives it next
-    → most_items next < most_items it
-gives_falls it next gives =
+-- fewer can be left behind a match
+pub falls_by : {S A : Type 0} {text : Ghosts S} (it next : SearchIter S A text) → Gives it next
+    → most_matches (asked_after (asked_of (request_of it)) (match_shown (shown_of next)))
+    < most_matches (asked_of (request_of it))
+falls_by it next gives =
     let code = code_of (request_of it) in
     let tree = code_tree (words_of code) (hints_of code) code.checked in
     let asked = asked_of (request_of it) in
     let m = match_shown (shown_of next) in
     let left : walk asked tree.0 ≡ m ∷ left_of next tree.0 =
     ap (λ (b : Bool). cond b [] (walk asked tree.0)) (sym gives.before) ∙ gives.first tree.0 tree.1 in
-    let falls = most_matches-falls asked tree.0 m (first_found asked tree.0 m (left_of next tree.0) left) in
+    most_matches-falls asked tree.0 m (first_found asked tree.0 m (left_of next tree.0) left)
+
+-- so fewer items can come
+pub gives_falls : {S A : Type 0} {text : Ghosts S} (it next : SearchIter S A text) → Gives it next
+    → most_items next < most_items it
+gives_falls it next gives =
+    let asked = asked_of (request_of it) in
+    let falls = falls_by it next gives in
     let fewer : most_matches (asked_of (request_of next)) < most_matches asked =
     subst (λ (a : Asked). most_matches a < most_matches asked)
     (sym (asked_next (request_of it) (shown_of next) (request_of next) gives.request)) falls in
@@ -90,6 +98,7 @@ stops_spent it bounds spent going = record {
   none = λ _ t _. spent_none bounds.most (left_of it t) spent;
   used = λ used. absurd (cc);
   turns = left_all bounds.turns;
+  lasts = λ _. going;
 }
 
 -- nor where a step ends it
@@ -99,24 +108,27 @@ stops_ended it before after ends = record {
   none = λ going t tree. ap (first_of before.most) ((ends.over going).none t tree) ∙ none_first before.most;
   used = ends.used;
   turns = ends.turns;
+  lasts = ends.lasts;
 }
 
 -- and a match that comes is taken
-pub takes_one : (before between after : Bounds) → is_spent before.most ≡ false → Goes before between
+pub takes_one : {S A : Type 0} {text : Ghosts S} (it next : SearchIter S A text) (before between after : Bounds)
+    → is_spent before.most ≡ false → Goes it next before between
     → after.most ≡ one_less between.most → after.used_up ≡ between.used_up → after.turns ≡ between.turns
-    → Takes before after
-takes_one before between after wanted goes most used turns = record {
+    → Takes it next before after
+takes_one it next before between after wanted goes most used turns = record {
   one = λ m ms.
       one_taken before.most m ms wanted
       ∙ ap (λ (n : Option ℕ). m ∷ first_of n ms) (sym (most ∙ ap one_less goes.most));
   going = used ∙ goes.going;
   turns = subst (AreLeft before.turns) (sym turns) goes.turns;
+  lasts = λ enough. subst (OutlastRest next) (sym turns) (goes.lasts enough);
 }
 
 -- a match comes off what is wanted of a walk whose words are still those that were asked for
 pub taken_step : {S A : Type 0} {text : Ghosts S} (it next : SearchIter S A text) (before after : Bounds)
     (words : List ℕ) (t : Tree)
-    → Gives it next → Takes before after → words_of (code_of (request_of it)) ≡ words → Whole words t
+    → Gives it next → Takes it next before after → words_of (code_of (request_of it)) ≡ words → Whole words t
     → first_of before.most (left_of it t) ≡ match_shown (shown_of next) ∷ first_of after.most (left_of next t)
 taken_step it next before after words t gives takes same whole =
     ap (first_of before.most) (walk_step it next words t gives same whole)

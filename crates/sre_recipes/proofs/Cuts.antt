@@ -63,8 +63,8 @@ some_before_end bs p u h e = elim (cases_lt p (length (chars bs))) [
       ∙ ap length (encodes-chars bs u)))
 ]
 
--- where the end is before the start there is nothing between
-pub nothing_between : (cs : List ℕ) (from to : ℕ) → to < from → [] ≡ slice_range cs from to
+-- where the end is not behind the start there is nothing between
+pub nothing_between : (cs : List ℕ) (from to : ℕ) → to ≤ from → slice_range cs from to ≡ []
 nothing_between cs from to behind =
     let none : to - from ≡ 0 = omega arith in
-    ap (λ (n : ℕ). take n (drop from cs)) (sym none)
+    ap (λ (n : ℕ). take n (drop from cs)) none

@@ -3,4 +3,5 @@ pub mod Steps
 pub mod Adjoining
 pub mod Written
 pub mod Bounding
+pub mod Outlasting
 pub mod Begun

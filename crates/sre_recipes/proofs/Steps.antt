@@ -1,8 +1,6 @@
 -- What a step over a match leaves to come, and where it stands.
-use Rattle.std.proofs.Common.{◌≡◌, ◌≤◌, ℕ, Bor, List, ◌∷◌, ap, sym, ◌∙◌, subst}
+use Rattle.std.proofs.Common.{◌≡◌, ◌≤◌, ℕ, List, ◌∷◌, ap, sym, ◌∙◌, subst}
 use Rattle.std.specs.List.{slice_range}
-use Rattle.std.specs.Str.{chars}
-use Rattle.sre_chars.specs.Texts.{StandsInText}
 use Rattle.sre_chars.specs.declared.string.StrDrive.{Ghosts}
 use Rattle.sre_chars.specs.declared.string.StringCursor.{StringCursor}
 use Rattle.sre_engine.specs.Tree.{Tree}
@@ -14,7 +12,7 @@ use Rattle.sre_engine.specs.Walks.{match_shown}
 use Rattle.sre_engine.specs.Iterators.{request_of, shown_of, left_of, Gives}
 use Rattle.sre_engine.specs.declared.engine.search_iter.SearchIter.{SearchIter}
 use Rattle.sre_recipes.specs.Slices.{slice_of}
-use Rattle.sre_recipes.specs.Spans.{IsSpan}
+use Rattle.sre_recipes.specs.Spans.{IsSpan, StandsAt}
 
 -- a match comes off a walk whose words are still those that were asked for
 pub walk_step : {S A : Type 0} {text : Ghosts S} (it next : SearchIter S A text) (words : List ℕ) (t : Tree)
@@ -23,16 +21,15 @@ pub walk_step : {S A : Type 0} {text : Ghosts S} (it next : SearchIter S A text)
 walk_step it next words t gives same whole = gives.first t (subst (λ ws. Whole ws t) (sym same) whole)
 
 -- what stays in a walk over a text
-pub record Kept {A : Type 0} {text : Ghosts (Bor (List ℕ))} (it : SearchIter (Bor (List ℕ)) A text)
-    (whole : Bor (List ℕ)) (code : List ℕ) (stop : ℕ) : Type 0 where
+pub record Kept {S A : Type 0} {text : Ghosts S} (it : SearchIter S A text) (whole : S) (code : List ℕ) (stop : ℕ)
+    : Type 0 where
   pub string : string_of (request_of it) ≡ whole
   pub words : words_of (code_of (request_of it)) ≡ code
   pub end : end_of (request_of it) ≡ stop
   pub inside : start_of (request_of it) ≤ stop
 
-pub kept_on : {A : Type 0} {text : Ghosts (Bor (List ℕ))} (it next : SearchIter (Bor (List ℕ)) A text)
-    (whole : Bor (List ℕ)) (code : List ℕ) (stop : ℕ) → Gives it next → Kept it whole code stop
-    → Kept next whole code stop
+pub kept_on : {S A : Type 0} {text : Ghosts S} (it next : SearchIter S A text) (whole : S) (code : List ℕ) (stop : ℕ)
+    → Gives it next → Kept it whole code stop → Kept next whole code stop
 kept_on it next whole code stop gives kept =
     let inside : (shown_of next).cursor.position ≤ stop = rw (← kept.end) gives.request.span.inside in
     record {
@@ -43,16 +40,17 @@ kept_on it next whole code stop gives kept =
     }
 
 -- the text from a match's start to its end
-pub span_slice : (text : List ℕ) (s : Shown) (start end : StringCursor) → IsSpan text s start end
-    → slice_range (chars text) start.position end.position ≡ slice_of (chars text) (match_shown s)
-span_slice text s start end span =
-    ap (λ p. slice_range (chars text) p end.position) span.from.0 ∙ ap (slice_range (chars text) s.start) span.to.0
+pub span_slice : (stands : StringCursor → ℕ → Type 0) (text : List ℕ) (s : Shown) (start end : StringCursor)
+    → IsSpan stands s start end → slice_range text start.position end.position ≡ slice_of text (match_shown s)
+span_slice stands text s start end span =
+    ap (λ p. slice_range text p end.position) span.begins ∙ ap (slice_range text s.start) span.ends
 
 -- at a match's end the walk goes on
-pub walk_on : {A : Type 0} {text : Ghosts (Bor (List ℕ))} (it next : SearchIter (Bor (List ℕ)) A text)
-    (whole : Bor (List ℕ)) (last start end : StringCursor) → string_of (request_of it) ≡ whole → Gives it next
-    → IsSpan (string_of (request_of it)).now (shown_of next) start end → last ≡ end
-    → StandsInText whole.now last (start_of (request_of next))
-walk_on it next whole last start end same gives span is =
-    rw (is, gives.request.start)
-    (subst (λ (x : Bor (List ℕ)). StandsInText x.now end (shown_of next).cursor.position) same span.to)
+pub walk_on : {S A : Type 0} {text : Ghosts S} (it next : SearchIter S A text)
+    (whole : S) (last start end : StringCursor) → string_of (request_of it) ≡ whole → Gives it next
+    → IsSpan (text.stands (string_of (request_of it))) (shown_of next) start end → last ≡ end
+    → StandsAt (text.stands whole) last (start_of (request_of next))
+walk_on {S} {A} {text} it next whole last start end same gives span is = record {
+  there = rw is (subst (λ (x : S). text.stands x end end.position) same span.to);
+  at = ap (λ (c : StringCursor). c.position) is ∙ span.ends ∙ sym gives.request.start;
+}

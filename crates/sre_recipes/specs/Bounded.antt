@@ -1,7 +1,13 @@
--- The first matches, where no more than so many are wanted, and the turns that are left.
+-- The first matches, where no more than so many are wanted, the turns that are left, and turns that outlast a walk.
 -- Of the meaning: what sre_recipes makes public rests on it.
-use Rattle.std.specs.Prelude.{ℕ, ◌≡◌, ◌≤◌, List, take, Option, Some, None}
-use Rattle.sre_engine.specs.Found.{Match}
+use Rattle.std.specs.Prelude.{⊤, ℕ, ◌≡◌, ◌≤◌, ◌<◌, ◌+◌, ◌-◌, ◌*◌, List, take, Option, Some, None}
+use Rattle.sre_code.specs.declared.code.Code.{Code}
+use Rattle.sre_engine.specs.Codes.{words_of}
+use Rattle.sre_engine.specs.Found.{Asked, Match}
+use Rattle.sre_engine.specs.Grammar.{Whole}
+use Rattle.sre_engine.specs.Tree.{Tree}
+use Rattle.sre_model.specs.TurnBounds.{RunsWithin}
+use Rattle.sre_model.specs.WalkBounds.{most_matches}
 
 abbrev pub first_of : Option ℕ → List Match → List Match
 first_of None ms = ms
@@ -12,3 +18,21 @@ abbrev pub AreLeft : Option ℕ → Option ℕ → Type 0
 AreLeft None left = left ≡ None
 AreLeft (Some given) None = ⊥
 AreLeft (Some given) (Some left) = left ≤ given
+
+-- how many runs the steps of a walk begin at most, but for those that begin again: one for each start, and one more for
+-- each match
+abbrev pub most_runs : Asked → ℕ
+most_runs a = (a.end + 1 - a.start) + most_matches a
+
+-- so many turns are more than all runs of a walk can take, each of which may begin again once
+pub record OutlastWalk (a : Asked) (code : Code) (turns : ℕ) : Type 0 where
+  pub tree : Tree
+  pub whole : Whole (words_of code) tree
+  pub most : ℕ
+  pub within : RunsWithin a tree most
+  pub more : 2 * most_runs a * most < turns
+
+-- turns without a limit outlast any walk
+abbrev pub Outlast : Asked → Code → Option ℕ → Type 0
+Outlast a code None = ⊤
+Outlast a code (Some turns) = OutlastWalk a code turns

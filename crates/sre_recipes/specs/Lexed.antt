@@ -1,10 +1,9 @@
 -- The tokens that a text begins with.
 -- Of the meaning: what sre_recipes makes public rests on it.
 use Rattle.std.specs.Prelude.{ℕ, zero, suc, ◌+◌, ◌-◌, ℤ, true, List, [], ◌∷◌, Option, Some, None}
-use Rattle.std.specs.Str.{chars}
 use Rattle.sre_engine.specs.Tree.{Tree}
 use Rattle.sre_engine.specs.Found.{Asked, Match, matched}
-use Rattle.sre_recipes.specs.declared.lexer.Token.{Token}
+use Rattle.sre_recipes.specs.declared.lexer.TokenOf.{TokenOf}
 use Rattle.sre_recipes.specs.Slices.{slice_of}
 
 -- the group that was closed last, -1 where there is none, and the characters
@@ -12,12 +11,12 @@ pub record Lexeme : Type 0 where
   pub kind : ℤ
   pub text : List ℕ
 
--- a match as a token, and a token as it shows
+-- a match as a token, and a token as it shows by the characters of its text
 abbrev pub lexeme_of : List ℕ → Match → Lexeme
 lexeme_of text m = record { kind = m.marks.last; text = slice_of text m }
 
-abbrev pub lexeme_shown : Token → Lexeme
-lexeme_shown token = record { kind = token.kind; text = chars token.text.now }
+abbrev pub lexeme_shown : {S : Type 0} → (S → List ℕ) → TokenOf S → Lexeme
+lexeme_shown text token = record { kind = token.kind; text = text token.text }
 
 -- the token at a position: the first accepted way from there that is not empty, as a match
 abbrev pub token_at : Asked → Tree → ℕ → Option Match

@@ -5,11 +5,11 @@ use Rattle.sre_engine.specs.Tree.{Tree}
 use Rattle.sre_engine.specs.Grammar.{Whole}
 use Rattle.sre_engine.specs.Found.{Match}
 use Rattle.sre_engine.specs.Codes.{words_of}
-use Rattle.sre_engine.specs.Requests.{code_of}
+use Rattle.sre_engine.specs.Requests.{code_of, asked_of}
 use Rattle.sre_engine.specs.Iterators.{request_of, left_of, IsOver}
 use Rattle.sre_engine.specs.declared.engine.search_iter.SearchIter.{SearchIter}
 use Rattle.sre_recipes.specs.declared.bounds.Bounds.{Bounds}
-use Rattle.sre_recipes.specs.Bounded.{first_of, AreLeft}
+use Rattle.sre_recipes.specs.Bounded.{first_of, AreLeft, Outlast}
 
 -- whether no match is wanted any more, and how many are once one was taken
 abbrev pub is_spent : Option ℕ → Bool
@@ -20,23 +20,30 @@ abbrev pub one_less : Option ℕ → Option ℕ
 one_less None = None
 one_less (Some n) = Some (n - 1)
 
+-- so many turns outlast what is left of a walk
+abbrev pub OutlastRest : {S A : Type 0} {text : Ghosts S} → SearchIter S A text → Option ℕ → Type 0
+OutlastRest it turns = Outlast (asked_of (request_of it)) (code_of (request_of it)) turns
+
 -- a step of a walk within turns, where they are bounded: a match comes
-pub record Goes (before after : Bounds) : Type 0 where
+pub record Goes {S A : Type 0} {text : Ghosts S} (it next : SearchIter S A text) (before after : Bounds) : Type 0 where
   pub most : after.most ≡ before.most
   pub going : after.used_up ≡ false
   pub turns : AreLeft before.turns after.turns
+  pub lasts : OutlastRest it before.turns → OutlastRest next after.turns
 
 -- or none is left, unless the turns were used up
 pub record Ends {S A : Type 0} {text : Ghosts S} (it : SearchIter S A text) (before after : Bounds) : Type 0 where
   pub over : after.used_up ≡ false → IsOver it
   pub used : after.used_up ≡ true → after.turns ≡ Some 0
   pub turns : AreLeft before.turns after.turns
+  pub lasts : OutlastRest it before.turns → after.used_up ≡ false
 
 -- a match was taken within bounds
-pub record Takes (before after : Bounds) : Type 0 where
+pub record Takes {S A : Type 0} {text : Ghosts S} (it next : SearchIter S A text) (before after : Bounds) : Type 0 where
   pub one : (m : Match) (ms : List Match) → first_of before.most (m ∷ ms) ≡ m ∷ first_of after.most ms
   pub going : after.used_up ≡ false
   pub turns : AreLeft before.turns after.turns
+  pub lasts : OutlastRest it before.turns → OutlastRest next after.turns
 
 -- no match is left within bounds, unless the turns were used up
 pub record Stops {S A : Type 0} {text : Ghosts S} (it : SearchIter S A text) (before after : Bounds) : Type 0 where
@@ -44,3 +51,4 @@ pub record Stops {S A : Type 0} {text : Ghosts S} (it : SearchIter S A text) (be
       → first_of before.most (left_of it t) ≡ []
   pub used : after.used_up ≡ true → after.turns ≡ Some 0
   pub turns : AreLeft before.turns after.turns
+  pub lasts : OutlastRest it before.turns → after.used_up ≡ false

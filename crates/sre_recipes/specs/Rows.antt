@@ -1,10 +1,10 @@
 -- Worked rows, by computation: texts of matches, pieces, replacements and tokens.
-use Rattle.std.specs.Prelude.{refl, ◌≡◌, [], ◌∷◌, map, codes, Some, None, pos}
+use Rattle.std.specs.Prelude.{refl, ◌≡◌, ℕ, List, [], ◌∷◌, map, codes, Some, None, pos}
 use Rattle.sre_model.specs.Tree.{Tree, Empty, Mark, Branch, Run, Only, Or, GreedyRun}
 use Rattle.sre_model.specs.Ways.{unlimited}
 use Rattle.sre_model.specs.Found.{walk}
 use Rattle.sre_model.specs.Shown.{items, is_a, a, b, whole, window, span, marked}
-use Rattle.sre_recipes.specs.declared.replace.Piece.TheVariants.{Match, Group}
+use Rattle.sre_recipes.specs.declared.replace.PieceOf.TheVariants.{Match, Group}
 use Rattle.sre_recipes.specs.Slices.{slice_of, group_of, captured}
 use Rattle.sre_recipes.specs.Pieces.{pieces_between}
 use Rattle.sre_recipes.specs.Templates.{written, replaced}
@@ -36,7 +36,8 @@ replaced_by_a_dash : replaced (codes "bab") (λ m. codes "-") 0 3 (walk (whole (
 replaced_by_a_dash = refl
 
 -- a group that took no part gives nothing
-replaced_by_groups : replaced (codes "abc") (written (codes "abc") (Group 1 ∷ Match ∷ Group 2 ∷ Group 0 ∷ [])) 0 3
+replaced_by_groups : replaced (codes "abc")
+    (written (λ (text : List ℕ). text) (codes "abc") (Group 1 ∷ Match ∷ Group 2 ∷ Group 0 ∷ [])) 0 3
     (walk (whole (codes "abc")) either_letter) ≡ codes "aaabbbc"
 replaced_by_groups = refl
 

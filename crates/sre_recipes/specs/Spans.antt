@@ -1,12 +1,18 @@
 -- Where a match starts and ends in a text, as a walk leaves it: words of private functions' contracts.
-use Rattle.std.specs.Prelude.{ℕ, List, ◌≤◌}
-use Rattle.sre_chars.specs.Texts.{StandsInText}
+use Rattle.std.specs.Prelude.{ℕ, ◌≡◌, ◌≤◌}
 use Rattle.sre_chars.specs.declared.string.StringCursor.{StringCursor}
 use Rattle.sre_engine.specs.Answers.{Shown}
 
+-- a cursor of a text stands at a position
+pub record StandsAt (stands : StringCursor → ℕ → Type 0) (c : StringCursor) (p : ℕ) : Type 0 where
+  pub there : stands c c.position
+  pub at : c.position ≡ p
+
 -- two cursors of a text stand where the match that a state shows starts and ends; the state's own one does, too
-pub record IsSpan (text : List ℕ) (s : Shown) (start end : StringCursor) : Type 0 where
-  pub from : StandsInText text start s.start
-  pub to : StandsInText text end s.cursor.position
-  pub at : StandsInText text s.cursor s.cursor.position
+pub record IsSpan (stands : StringCursor → ℕ → Type 0) (s : Shown) (start end : StringCursor) : Type 0 where
+  pub from : stands start start.position
+  pub begins : start.position ≡ s.start
+  pub to : stands end end.position
+  pub ends : end.position ≡ s.cursor.position
+  pub at : stands s.cursor s.cursor.position
   pub forward : s.start ≤ s.cursor.position

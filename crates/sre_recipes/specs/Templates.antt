@@ -2,21 +2,20 @@
 -- Of the meaning: what sre_recipes makes public rests on it.
 use Rattle.std.specs.Prelude.{ℕ, List, [], ◌∷◌, ◌++◌, slice_range, unwrap_or}
 use Rattle.std.specs.List.{flat_map}
-use Rattle.std.specs.Str.{chars}
 use Rattle.sre_engine.specs.Found as model
-use Rattle.sre_recipes.specs.declared.replace.Piece.{Piece}
-use Rattle.sre_recipes.specs.declared.replace.Piece.TheVariants.{Text, Match, Group}
+use Rattle.sre_recipes.specs.declared.replace.PieceOf.{PieceOf}
+use Rattle.sre_recipes.specs.declared.replace.PieceOf.TheVariants.{Text, Match, Group}
 use Rattle.sre_recipes.specs.Slices.{slice_of, numbered_group}
 
 -- the characters that a piece stands for; a group that took no part stands for none
-abbrev pub piece_of : List ℕ → model.Match → Piece → List ℕ
-piece_of text m (Text literal) = chars literal.now
-piece_of text m Match = slice_of text m
-piece_of text m (Group number) = unwrap_or (numbered_group text m number) []
+abbrev pub piece_of : {S : Type 0} → (S → List ℕ) → List ℕ → model.Match → PieceOf S → List ℕ
+piece_of shown text m (Text literal) = shown literal
+piece_of shown text m Match = slice_of text m
+piece_of shown text m (Group number) = unwrap_or (numbered_group text m number) []
 
 -- a template's pieces, one after the other
-abbrev pub written : List ℕ → List Piece → model.Match → List ℕ
-written text template m = flat_map (piece_of text m) template
+abbrev pub written : {S : Type 0} → (S → List ℕ) → List ℕ → List (PieceOf S) → model.Match → List ℕ
+written shown text template m = flat_map (piece_of shown text m) template
 
 -- the characters up to each match and what stands in its place, and those behind the last one up to `to`
 abbrev pub replaced : List ℕ → (model.Match → List ℕ) → ℕ → ℕ → List model.Match → List ℕ

@@ -5,10 +5,10 @@ ghost use Rattle.sre_engine.specs.Requests.{string_of};
 ghost use Rattle.sre_engine.specs.Iterators.{request_of, shown_of, Gives, IsOver, most_items};
 ghost use Rattle.sre_growth.specs.Refusal.{Refused};
 ghost use Rattle.sre_recipes.specs.Spans.{IsSpan};
-ghost use Rattle.sre_recipes.specs.Limits.{is_spent, one_less, Takes, Stops, Goes, Ends};
+ghost use Rattle.sre_recipes.specs.Limits.{is_spent, one_less, Takes, Stops, Goes, Ends, OutlastRest};
 
 use crate::span::{Span, next_span, span_of};
-use sre_engine::{SearchIter, SreError};
+use sre_engine::{SearchIter, SreError, StrDrive};
 use std::alloc::Allocator;
 
 /// How far a recipe goes.
@@ -65,15 +65,18 @@ impl Bounds {
 }
 
 // The next match of a walk within a number of turns; nothing is told where they are used up.
-fn next_in_turns<A: Allocator + Copy>(
-    walk: &mut SearchIter<'_, &str, A>,
+fn next_in_turns<S: StrDrive, A: Allocator + Copy>(
+    walk: &mut SearchIter<'_, S, A>,
     turns: &mut u64,
 ) -> Result<Option<Option<Span>>, SreError>
     ensures gives { IfOk result (λ told. IfSome told (λ next. MatchOption next (IsOver walk.old) (λ span.
         Gives walk.old walk.new
-        × IsSpan (string_of (request_of walk.old)).now (shown_of walk.new) span.start span.end))) }
+        × IsSpan (S.stands (string_of (request_of walk.old))) (shown_of walk.new) span.start span.end))) }
     ensures used { IfOk result (λ told. told ≡ None → turns.new ≡ 0) }
     ensures fewer { turns.new ≤ turns.old }
+    ensures never { OutlastRest walk.old (Some turns.old) → IfOk result IsSome }
+    ensures lasts { OutlastRest walk.old (Some turns.old) → IfOk result (λ told. IfSome told (λ next.
+        IsSome next → OutlastRest walk.new (Some turns.new))) }
     ensures refused { OnErr result Refused }
 {
     match walk.next_within(turns) {
@@ -85,15 +88,15 @@ fn next_in_turns<A: Allocator + Copy>(
 }
 
 // The next match of a walk within turns, where these are bounded.
-fn next_step<A: Allocator + Copy>(
-    walk: &mut SearchIter<'_, &str, A>,
+fn next_step<S: StrDrive, A: Allocator + Copy>(
+    walk: &mut SearchIter<'_, S, A>,
     bounds: &mut Bounds,
 ) -> Result<Option<Span>, SreError>
     requires { bounds.old.used_up ≡ false }
     ensures gives { IfOk result (λ next. MatchOption next (Ends walk.old bounds.old bounds.new) (λ span.
         Gives walk.old walk.new
-        × IsSpan (string_of (request_of walk.old)).now (shown_of walk.new) span.start span.end
-        × Goes bounds.old bounds.new)) }
+        × IsSpan (S.stands (string_of (request_of walk.old))) (shown_of walk.new) span.start span.end
+        × Goes walk.old walk.new bounds.old bounds.new)) }
     ensures refused { OnErr result Refused }
 {
     let Some(turns) = bounds.turns else {
@@ -132,15 +135,15 @@ fn one_less(most: Option<usize>) -> Option<usize>
 }
 
 // The next match of a walk within bounds.
-pub(crate) fn next_bounded<A: Allocator + Copy>(
-    walk: &mut SearchIter<'_, &str, A>,
+pub(crate) fn next_bounded<S: StrDrive, A: Allocator + Copy>(
+    walk: &mut SearchIter<'_, S, A>,
     bounds: &mut Bounds,
 ) -> Result<Option<Span>, SreError>
     requires { bounds.old.used_up ≡ false }
     ensures gives { IfOk result (λ next. MatchOption next (Stops walk.old bounds.old bounds.new) (λ span.
         Gives walk.old walk.new
-        × IsSpan (string_of (request_of walk.old)).now (shown_of walk.new) span.start span.end
-        × Takes bounds.old bounds.new)) }
+        × IsSpan (S.stands (string_of (request_of walk.old))) (shown_of walk.new) span.start span.end
+        × Takes walk.old walk.new bounds.old bounds.new)) }
     ensures falls { IfOk result (λ next. IsSome next → most_items walk.new < most_items walk.old) }
     ensures refused { OnErr result Refused }
 {

@@ -2,9 +2,6 @@
 
 ghost use Rattle.std.specs.Prelude.{◌≡◌, ◌≤◌, ◌++◌, true, false, None, Some, Err, slice_range};
 ghost use Rattle.std.specs.Prelude.{IfOk, IfSome, IsSome, OnErr};
-ghost use Rattle.std.specs.Str.{chars, IsUtf8};
-ghost use Rattle.std.specs.String.{string_bytes};
-ghost use Rattle.sre_chars.specs.Texts.{StandsInText};
 ghost use Rattle.sre_engine.specs.Tree.{Tree};
 ghost use Rattle.sre_engine.specs.Grammar.{Whole};
 ghost use Rattle.sre_engine.specs.Found.{walk};
@@ -13,64 +10,67 @@ ghost use Rattle.sre_engine.specs.Requests.{string_of, start_of, end_of, code_of
 ghost use Rattle.sre_engine.specs.Iterators.{request_of, left_of};
 ghost use Rattle.sre_growth.specs.Refusal.{Refused};
 ghost use Rattle.sre_recipes.specs.Computed.{Computes, ReplacedInTurn};
-ghost use Rattle.sre_recipes.specs.Bounded.{first_of, AreLeft};
+ghost use Rattle.sre_recipes.specs.Limits.{OutlastRest};
+ghost use Rattle.sre_recipes.specs.Bounded.{first_of, AreLeft, Outlast};
 
 use crate::bounds::{Bounds, next_bounded};
-use crate::groups::{Captures, shown_captures};
-use crate::replace::append;
-use crate::slice::{between, up_to};
+use crate::groups::{CapturesOf, shown_captures};
+use crate::slice::up_to;
 use crate::span::Span;
+use crate::texts::{Rewritten, Text};
 use sre_engine::{Request, SearchIter, SreError, State, StrDrive, StringCursor};
-use std::alloc::{AllocError, Allocator, Global};
+use std::alloc::{AllocError, Global};
 
 // Appends the text from a cursor to a match and what stands in its place; the cursor then stands behind the match.
-fn append_new<A: Allocator>(
-    output: &mut Vec<u8, A>,
-    text: &str,
+fn append_new<S: Rewritten>(
+    output: &mut Vec<u8>,
+    text: S,
     last: &mut StringCursor,
     span: &Span,
-    new: &str,
+    new: &S::New,
 ) -> Result<(), SreError>
-    requires last { StandsInText text.now last.old last.old.position }
-    requires start { StandsInText text.now span.now.start span.now.start.position }
+    requires last { S.stands text last.old last.old.position }
+    requires start { S.stands text span.now.start span.now.start.position }
     requires forward { last.old.position ≤ span.now.start.position }
-    requires utf8 { IsUtf8 output.old.items }
+    requires written { S.IsText output.old.items }
     ensures ok { IfOk result (λ _.
-        chars output.new.items
-        ≡ (chars output.old.items ++ slice_range (chars text.now) last.old.position span.now.start.position)
-        ++ chars new.now) }
-    ensures utf8 { IfOk result (λ _. IsUtf8 output.new.items) }
+        S.characters output.new.items
+        ≡ (S.characters output.old.items ++ slice_range (S.text text) last.old.position span.now.start.position)
+        ++ S.shown new.now) }
+    ensures written { IfOk result (λ _. S.IsText output.new.items) }
     ensures last { IfOk result (λ _. last.new ≡ span.now.end) }
     ensures refused { OnErr result Refused }
 {
-    append(output, between(text, last, &span.start))?;
-    append(output, new)?;
+    text.between(last, &span.start).append_to(output)?;
+    S::append_new(new, output)?;
     *last = span.end;
     Ok(())
 }
 
 // Appends the text of a window to an empty one, with what a function gives in the place of each match of a walk.
-fn append_computed<'t, F>(
+fn append_computed<S, F>(
     alloc: Global,
-    walk: &mut SearchIter<'_, &'t str, Global>,
+    walk: &mut SearchIter<'_, S, Global>,
     bounds: &mut Bounds,
     mut compute: F,
     output: &mut Vec<u8>,
 ) -> Result<(), SreError>
 where
-    F: FnMut(&Captures<'t, Global>) -> Result<String, AllocError>,
+    S: Rewritten,
+    F: FnMut(&CapturesOf<S, Global>) -> Result<S::New, AllocError>,
     requires callable { F.IsAlwaysCallable compute }
     requires going { bounds.old.used_up ≡ false }
-    requires utf8 { IsUtf8 output.old.items }
+    requires written { S.IsText output.old.items }
     ensures ok { (t : Tree) → Whole (words_of (code_of (request_of walk.old))) t → IfOk result (λ _.
-        bounds.new.used_up ≡ false → (new : _) × (chars output.new.items ≡ chars output.old.items ++ new)
-        × ReplacedInTurn (Computes (λ f c r g. F.step f c r g) (λ r. chars (string_bytes r))
-        (chars (string_of (request_of walk.old)).now))
-        (chars (string_of (request_of walk.old)).now) compute (start_of (request_of walk.old))
+        bounds.new.used_up ≡ false → (new : _) × (S.characters output.new.items ≡ S.characters output.old.items ++ new)
+        × ReplacedInTurn (Computes S.text (λ f c r g. F.step f c r g) (λ r. S.shown r)
+        (S.text (string_of (request_of walk.old))))
+        (S.text (string_of (request_of walk.old))) compute (start_of (request_of walk.old))
         (end_of (request_of walk.old)) (first_of bounds.old.most (left_of walk.old t)) new) }
-    ensures utf8 { IfOk result (λ _. IsUtf8 output.new.items) }
+    ensures written { IfOk result (λ _. S.IsText output.new.items) }
     ensures used { IfOk result (λ _. bounds.new.used_up ≡ true → bounds.new.turns ≡ Some 0) }
     ensures turns { IfOk result (λ _. AreLeft bounds.old.turns bounds.new.turns) }
+    ensures lasts { OutlastRest walk.old bounds.old.turns → IfOk result (λ _. bounds.new.used_up ≡ false) }
     ensures refused { ((f : _) (c : _) (e : _) (g : _) → F.step f c (Err e) g → Refused) → OnErr result Refused }
 {
     let (text, stop) = (walk.req().string(), walk.req().end());
@@ -78,35 +78,38 @@ where
     'walk: while let Some(span) = next_bounded(walk, bounds)? {
         let captures = shown_captures(alloc, text, walk.state())?;
         match compute(&captures) {
-            Ok(new) => append_new(output, text, &mut last, &span, new.as_str())?,
+            Ok(new) => append_new(output, text, &mut last, &span, &new)?,
             Err(_) => return Err(SreError::Memory),
         }
     }
-    append(output, up_to(text, &last, stop))?;
+    up_to(text, &last, stop).append_to(output)?;
     Ok(())
 }
 
 // Appends the text of a window with what a function gives in the place of each match.
-fn append_all_computed<'t, F>(
+fn append_all_computed<S, F>(
     alloc: Global,
-    req: Request<'_, &'t str>,
+    req: Request<'_, S>,
     bounds: &mut Bounds,
     compute: F,
     output: &mut Vec<u8>,
 ) -> Result<(), SreError>
 where
-    F: FnMut(&Captures<'t, Global>) -> Result<String, AllocError>,
+    S: Rewritten,
+    F: FnMut(&CapturesOf<S, Global>) -> Result<S::New, AllocError>,
     requires callable { F.IsAlwaysCallable compute }
-    requires utf8 { IsUtf8 output.old.items }
+    requires written { S.IsText output.old.items }
     ensures ok { (t : Tree) → Whole (words_of (code_of req.entry)) t → IfOk result (λ _.
-        bounds.new.used_up ≡ false → (new : _) × (chars output.new.items ≡ chars output.old.items ++ new)
+        bounds.new.used_up ≡ false → (new : _) × (S.characters output.new.items ≡ S.characters output.old.items ++ new)
         × ReplacedInTurn
-        (Computes (λ f c r g. F.step f c r g) (λ r. chars (string_bytes r)) (chars (string_of req.entry).now))
-        (chars (string_of req.entry).now) compute (start_of req.entry) (end_of req.entry)
+        (Computes S.text (λ f c r g. F.step f c r g) (λ r. S.shown r) (S.text (string_of req.entry)))
+        (S.text (string_of req.entry)) compute (start_of req.entry) (end_of req.entry)
         (first_of bounds.old.most (walk (asked_of req.entry) t)) new) }
-    ensures utf8 { IfOk result (λ _. IsUtf8 output.new.items) }
+    ensures written { IfOk result (λ _. S.IsText output.new.items) }
     ensures used { IfOk result (λ _. bounds.new.used_up ≡ true → bounds.new.turns ≡ Some 0) }
     ensures turns { IfOk result (λ _. AreLeft bounds.old.turns bounds.new.turns) }
+    ensures lasts { Outlast (asked_of req.entry) (code_of req.entry) bounds.old.turns
+        → IfOk result (λ _. bounds.new.used_up ≡ false) }
     ensures refused { ((f : _) (c : _) (e : _) (g : _) → F.step f c (Err e) g → Refused) → OnErr result Refused }
 {
     bounds.used_up = false;
@@ -116,27 +119,30 @@ where
 }
 
 // The text of a window with what a function gives in the place of each match.
-fn computed_text<'t, F>(
+fn computed_text<S, F>(
     alloc: Global,
-    req: Request<'_, &'t str>,
+    req: Request<'_, S>,
     bounds: &mut Bounds,
     compute: F,
-) -> Result<String, SreError>
+) -> Result<S::New, SreError>
 where
-    F: FnMut(&Captures<'t, Global>) -> Result<String, AllocError>,
+    S: Rewritten,
+    F: FnMut(&CapturesOf<S, Global>) -> Result<S::New, AllocError>,
     requires { F.IsAlwaysCallable compute }
     ensures ok { (t : Tree) → Whole (words_of (code_of req.entry)) t → IfOk result (λ new.
         bounds.new.used_up ≡ false → ReplacedInTurn
-        (Computes (λ f c r g. F.step f c r g) (λ r. chars (string_bytes r)) (chars (string_of req.entry).now))
-        (chars (string_of req.entry).now) compute (start_of req.entry) (end_of req.entry)
-        (first_of bounds.old.most (walk (asked_of req.entry) t)) (chars (string_bytes new))) }
+        (Computes S.text (λ f c r g. F.step f c r g) (λ r. S.shown r) (S.text (string_of req.entry)))
+        (S.text (string_of req.entry)) compute (start_of req.entry) (end_of req.entry)
+        (first_of bounds.old.most (walk (asked_of req.entry) t)) (S.shown new)) }
     ensures used { IfOk result (λ _. bounds.new.used_up ≡ true → bounds.new.turns ≡ Some 0) }
     ensures turns { IfOk result (λ _. AreLeft bounds.old.turns bounds.new.turns) }
+    ensures lasts { Outlast (asked_of req.entry) (code_of req.entry) bounds.old.turns
+        → IfOk result (λ _. bounds.new.used_up ≡ false) }
     ensures refused { ((f : _) (c : _) (e : _) (g : _) → F.step f c (Err e) g → Refused) → OnErr result Refused }
 {
     let mut output = Vec::new(alloc);
     append_all_computed(alloc, req, bounds, compute, &mut output)?;
-    Ok(String::from_utf8(output).unwrap())
+    Ok(S::from_output(output))
 }
 
 /// The text of a window in which each match is replaced by what a function gives for it, as Python's `sub` replaces by
@@ -156,18 +162,19 @@ where
 /// # Errors
 ///
 /// [`SreError::Memory`], where a growth was refused, or the function gave an error.
-pub fn replace_with<'t, F>(
+pub fn replace_with<S, F>(
     alloc: Global,
-    req: Request<'_, &'t str>,
+    req: Request<'_, S>,
     compute: F,
-) -> Result<String, SreError>
+) -> Result<S::New, SreError>
 where
-    F: FnMut(&Captures<'t, Global>) -> Result<String, AllocError>,
+    S: Rewritten,
+    F: FnMut(&CapturesOf<S, Global>) -> Result<S::New, AllocError>,
     requires { F.IsAlwaysCallable compute }
     ensures ok { (t : Tree) → Whole (words_of (code_of req.entry)) t → IfOk result (λ new. ReplacedInTurn
-        (Computes (λ f c r g. F.step f c r g) (λ r. chars (string_bytes r)) (chars (string_of req.entry).now))
-        (chars (string_of req.entry).now) compute (start_of req.entry) (end_of req.entry)
-        (walk (asked_of req.entry) t) (chars (string_bytes new))) }
+        (Computes S.text (λ f c r g. F.step f c r g) (λ r. S.shown r) (S.text (string_of req.entry)))
+        (S.text (string_of req.entry)) compute (start_of req.entry) (end_of req.entry)
+        (walk (asked_of req.entry) t) (S.shown new)) }
     ensures refused { ((f : _) (c : _) (e : _) (g : _) → F.step f c (Err e) g → Refused) → OnErr result Refused }
 {
     let mut bounds = Bounds::none();
@@ -179,22 +186,24 @@ where
 /// # Errors
 ///
 /// [`SreError::Memory`], where a growth was refused, or the function gave an error.
-pub fn replace_with_bounded<'t, F>(
+pub fn replace_with_bounded<S, F>(
     alloc: Global,
-    req: Request<'_, &'t str>,
+    req: Request<'_, S>,
     bounds: &mut Bounds,
     compute: F,
-) -> Result<Option<String>, SreError>
+) -> Result<Option<S::New>, SreError>
 where
-    F: FnMut(&Captures<'t, Global>) -> Result<String, AllocError>,
+    S: Rewritten,
+    F: FnMut(&CapturesOf<S, Global>) -> Result<S::New, AllocError>,
     requires { F.IsAlwaysCallable compute }
     ensures ok { (t : Tree) → Whole (words_of (code_of req.entry)) t → IfOk result (λ told. IfSome told (λ new.
         ReplacedInTurn
-        (Computes (λ f c r g. F.step f c r g) (λ r. chars (string_bytes r)) (chars (string_of req.entry).now))
-        (chars (string_of req.entry).now) compute (start_of req.entry) (end_of req.entry)
-        (first_of bounds.old.most (walk (asked_of req.entry) t)) (chars (string_bytes new)))) }
+        (Computes S.text (λ f c r g. F.step f c r g) (λ r. S.shown r) (S.text (string_of req.entry)))
+        (S.text (string_of req.entry)) compute (start_of req.entry) (end_of req.entry)
+        (first_of bounds.old.most (walk (asked_of req.entry) t)) (S.shown new))) }
     ensures used { IfOk result (λ told. told ≡ None → bounds.new.turns ≡ Some 0) }
     ensures turns { IfOk result (λ _. AreLeft bounds.old.turns bounds.new.turns) }
+    ensures lasts { Outlast (asked_of req.entry) (code_of req.entry) bounds.old.turns → IfOk result IsSome }
     ensures unlimited { bounds.old.turns ≡ None → IfOk result IsSome }
     ensures refused { ((f : _) (c : _) (e : _) (g : _) → F.step f c (Err e) g → Refused) → OnErr result Refused }
 {

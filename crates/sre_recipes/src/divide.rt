@@ -2,8 +2,7 @@
 
 ghost use Rattle.std.specs.Prelude.{◌≡◌, ◌≤◌, ◌++◌, ◌∷◌, [], true, false, None, Some, map, slice_range};
 ghost use Rattle.std.specs.Prelude.{IfOk, IfSome, IsSome, OnErr};
-ghost use Rattle.std.specs.Str.{chars};
-ghost use Rattle.sre_chars.specs.Texts.{StandsInText};
+ghost use Rattle.std.specs.Option.{option_map};
 ghost use Rattle.sre_engine.specs.Tree.{Tree};
 ghost use Rattle.sre_engine.specs.Grammar.{Whole};
 ghost use Rattle.sre_engine.specs.Found.{walk};
@@ -12,53 +11,55 @@ ghost use Rattle.sre_engine.specs.Requests.{string_of, start_of, end_of, code_of
 ghost use Rattle.sre_engine.specs.Walks.{match_shown};
 ghost use Rattle.sre_engine.specs.Iterators.{request_of, left_of};
 ghost use Rattle.sre_growth.specs.Refusal.{Refused};
-ghost use Rattle.sre_recipes.specs.Captured.{group_shown};
 ghost use Rattle.sre_recipes.specs.Spans.{IsSpan};
 ghost use Rattle.sre_recipes.specs.Pieces.{pieces_between, first_groups, pieces_and_groups};
-ghost use Rattle.sre_recipes.specs.Bounded.{first_of, AreLeft};
+ghost use Rattle.sre_recipes.specs.Limits.{OutlastRest};
+ghost use Rattle.sre_recipes.specs.Bounded.{first_of, AreLeft, Outlast};
 
 use crate::bounds::{Bounds, next_bounded};
 use crate::groups::add_groups;
-use crate::slice::{between, up_to};
+use crate::slice::up_to;
 use crate::span::Span;
+use crate::texts::Text;
 use sre_engine::{Request, SearchIter, SreError, State, StrDrive, StringCursor};
 use std::alloc::Allocator;
 
 // Appends the piece from a cursor to a match, behind which the cursor then stands.
-fn add_piece<'t, A: Allocator>(
-    pieces: &mut Vec<&'t str, A>,
-    text: &'t str,
+fn add_piece<S: Text, A: Allocator>(
+    pieces: &mut Vec<S, A>,
+    text: S,
     last: &mut StringCursor,
     span: &Span,
 ) -> Result<(), SreError>
-    requires last { StandsInText text.now last.old last.old.position }
-    requires start { StandsInText text.now span.now.start span.now.start.position }
+    requires last { S.stands text last.old last.old.position }
+    requires start { S.stands text span.now.start span.now.start.position }
     requires forward { last.old.position ≤ span.now.start.position }
-    ensures ok { IfOk result (λ _. map (λ s. chars s.now) pieces.new.items
-        ≡ map (λ s. chars s.now) pieces.old.items
-        ++ slice_range (chars text.now) last.old.position span.now.start.position ∷ []) }
+    ensures ok { IfOk result (λ _. map S.text pieces.new.items
+        ≡ map S.text pieces.old.items
+        ++ slice_range (S.text text) last.old.position span.now.start.position ∷ []) }
     ensures last { IfOk result (λ _. last.new ≡ span.now.end) }
     ensures refused { OnErr result Refused }
 {
-    sre_growth::push(pieces, between(text, last, &span.start))?;
+    sre_growth::push(pieces, text.between(last, &span.start))?;
     *last = span.end;
     Ok(())
 }
 
 // Appends the pieces between the matches that are left of a walk.
-fn add_pieces<'t, A: Allocator + Copy>(
-    walk: &mut SearchIter<'_, &'t str, A>,
+fn add_pieces<S: Text, A: Allocator + Copy>(
+    walk: &mut SearchIter<'_, S, A>,
     bounds: &mut Bounds,
-    pieces: &mut Vec<&'t str, A>,
+    pieces: &mut Vec<S, A>,
 ) -> Result<(), SreError>
     requires { bounds.old.used_up ≡ false }
     ensures ok { (t : Tree) → Whole (words_of (code_of (request_of walk.old))) t → IfOk result (λ _.
-        bounds.new.used_up ≡ false → map (λ s. chars s.now) pieces.new.items
-        ≡ map (λ s. chars s.now) pieces.old.items
-        ++ pieces_between (chars (string_of (request_of walk.old)).now) (start_of (request_of walk.old))
+        bounds.new.used_up ≡ false → map S.text pieces.new.items
+        ≡ map S.text pieces.old.items
+        ++ pieces_between (S.text (string_of (request_of walk.old))) (start_of (request_of walk.old))
         (end_of (request_of walk.old)) (first_of bounds.old.most (left_of walk.old t))) }
     ensures used { IfOk result (λ _. bounds.new.used_up ≡ true → bounds.new.turns ≡ Some 0) }
     ensures turns { IfOk result (λ _. AreLeft bounds.old.turns bounds.new.turns) }
+    ensures lasts { OutlastRest walk.old bounds.old.turns → IfOk result (λ _. bounds.new.used_up ≡ false) }
     ensures refused { OnErr result Refused }
 {
     let (text, stop) = (walk.req().string(), walk.req().end());
@@ -71,19 +72,21 @@ fn add_pieces<'t, A: Allocator + Copy>(
 }
 
 // Appends the pieces of a window between its matches.
-fn add_all_pieces<'t, A: Allocator + Copy>(
+fn add_all_pieces<S: Text, A: Allocator + Copy>(
     alloc: A,
-    req: Request<'_, &'t str>,
+    req: Request<'_, S>,
     bounds: &mut Bounds,
-    pieces: &mut Vec<&'t str, A>,
+    pieces: &mut Vec<S, A>,
 ) -> Result<(), SreError>
     ensures ok { (t : Tree) → Whole (words_of (code_of req.entry)) t → IfOk result (λ _.
-        bounds.new.used_up ≡ false → map (λ s. chars s.now) pieces.new.items
-        ≡ map (λ s. chars s.now) pieces.old.items
-        ++ pieces_between (chars (string_of req.entry).now) (start_of req.entry) (end_of req.entry)
+        bounds.new.used_up ≡ false → map S.text pieces.new.items
+        ≡ map S.text pieces.old.items
+        ++ pieces_between (S.text (string_of req.entry)) (start_of req.entry) (end_of req.entry)
         (first_of bounds.old.most (walk (asked_of req.entry) t))) }
     ensures used { IfOk result (λ _. bounds.new.used_up ≡ true → bounds.new.turns ≡ Some 0) }
     ensures turns { IfOk result (λ _. AreLeft bounds.old.turns bounds.new.turns) }
+    ensures lasts { Outlast (asked_of req.entry) (code_of req.entry) bounds.old.turns
+        → IfOk result (λ _. bounds.new.used_up ≡ false) }
     ensures refused { OnErr result Refused }
 {
     bounds.used_up = false;
@@ -104,13 +107,13 @@ fn add_all_pieces<'t, A: Allocator + Copy>(
 /// # Errors
 ///
 /// [`SreError::Memory`], where a growth was refused.
-pub fn split<'t, A: Allocator + Copy>(
+pub fn split<S: Text, A: Allocator + Copy>(
     alloc: A,
-    req: Request<'_, &'t str>,
-) -> Result<Vec<&'t str, A>, SreError>
+    req: Request<'_, S>,
+) -> Result<Vec<S, A>, SreError>
     ensures ok { (t : Tree) → Whole (words_of (code_of req.entry)) t → IfOk result (λ pieces.
-        map (λ s. chars s.now) pieces.items
-        ≡ pieces_between (chars (string_of req.entry).now) (start_of req.entry) (end_of req.entry)
+        map S.text pieces.items
+        ≡ pieces_between (S.text (string_of req.entry)) (start_of req.entry) (end_of req.entry)
         (walk (asked_of req.entry) t)) }
     ensures refused { OnErr result Refused }
 {
@@ -135,17 +138,18 @@ pub fn split<'t, A: Allocator + Copy>(
 /// # Errors
 ///
 /// [`SreError::Memory`], where a growth was refused.
-pub fn split_bounded<'t, A: Allocator + Copy>(
+pub fn split_bounded<S: Text, A: Allocator + Copy>(
     alloc: A,
-    req: Request<'_, &'t str>,
+    req: Request<'_, S>,
     bounds: &mut Bounds,
-) -> Result<Option<Vec<&'t str, A>>, SreError>
+) -> Result<Option<Vec<S, A>>, SreError>
     ensures ok { (t : Tree) → Whole (words_of (code_of req.entry)) t → IfOk result (λ told. IfSome told (λ pieces.
-        map (λ s. chars s.now) pieces.items
-        ≡ pieces_between (chars (string_of req.entry).now) (start_of req.entry) (end_of req.entry)
+        map S.text pieces.items
+        ≡ pieces_between (S.text (string_of req.entry)) (start_of req.entry) (end_of req.entry)
         (first_of bounds.old.most (walk (asked_of req.entry) t)))) }
     ensures used { IfOk result (λ told. told ≡ None → bounds.new.turns ≡ Some 0) }
     ensures turns { IfOk result (λ _. AreLeft bounds.old.turns bounds.new.turns) }
+    ensures lasts { Outlast (asked_of req.entry) (code_of req.entry) bounds.old.turns → IfOk result IsSome }
     ensures unlimited { bounds.old.turns ≡ None → IfOk result IsSome }
     ensures refused { OnErr result Refused }
 {
@@ -159,44 +163,45 @@ pub fn split_bounded<'t, A: Allocator + Copy>(
 }
 
 // Appends the piece from a cursor to the match that a state shows, and its groups; the cursor then stands behind it.
-fn add_with_groups<'t, A: Allocator + Copy>(
-    pieces: &mut Vec<Option<&'t str>, A>,
-    text: &'t str,
+fn add_with_groups<S: Text, A: Allocator + Copy>(
+    pieces: &mut Vec<Option<S>, A>,
+    text: S,
     last: &mut StringCursor,
     state: &State<A>,
     span: &Span,
     groups: usize,
 ) -> Result<(), SreError>
-    requires last { StandsInText text.now last.old last.old.position }
+    requires last { S.stands text last.old last.old.position }
     requires forward { last.old.position ≤ state.now.start }
-    requires span { IsSpan text.now state.now span.now.start span.now.end }
-    ensures ok { IfOk result (λ _. map group_shown pieces.new.items ≡ (map group_shown pieces.old.items
-        ++ Some (slice_range (chars text.now) last.old.position state.now.start) ∷ [])
-        ++ first_groups (chars text.now) groups (match_shown state.now)) }
+    requires span { IsSpan (S.stands text) state.now span.now.start span.now.end }
+    ensures ok { IfOk result (λ _. map (option_map S.text) pieces.new.items ≡ (map (option_map S.text) pieces.old.items
+        ++ Some (slice_range (S.text text) last.old.position state.now.start) ∷ [])
+        ++ first_groups (S.text text) groups (match_shown state.now)) }
     ensures last { IfOk result (λ _. last.new ≡ span.now.end) }
     ensures refused { OnErr result Refused }
 {
-    sre_growth::push(pieces, Some(between(text, last, &span.start)))?;
+    sre_growth::push(pieces, Some(text.between(last, &span.start)))?;
     add_groups(pieces, text, state, 1, groups)?;
     *last = span.end;
     Ok(())
 }
 
 // Appends the pieces between the matches that are left of a walk, and the groups of these.
-fn add_pieces_and_groups<'t, A: Allocator + Copy>(
-    walk: &mut SearchIter<'_, &'t str, A>,
+fn add_pieces_and_groups<S: Text, A: Allocator + Copy>(
+    walk: &mut SearchIter<'_, S, A>,
     bounds: &mut Bounds,
     groups: usize,
-    pieces: &mut Vec<Option<&'t str>, A>,
+    pieces: &mut Vec<Option<S>, A>,
 ) -> Result<(), SreError>
     requires { bounds.old.used_up ≡ false }
     ensures ok { (t : Tree) → Whole (words_of (code_of (request_of walk.old))) t → IfOk result (λ _.
-        bounds.new.used_up ≡ false → map group_shown pieces.new.items
-        ≡ map group_shown pieces.old.items
-        ++ pieces_and_groups (chars (string_of (request_of walk.old)).now) groups (start_of (request_of walk.old))
+        bounds.new.used_up ≡ false → map (option_map S.text) pieces.new.items
+        ≡ map (option_map S.text) pieces.old.items
+        ++ pieces_and_groups (S.text (string_of (request_of walk.old))) groups (start_of (request_of walk.old))
         (end_of (request_of walk.old)) (first_of bounds.old.most (left_of walk.old t))) }
     ensures used { IfOk result (λ _. bounds.new.used_up ≡ true → bounds.new.turns ≡ Some 0) }
     ensures turns { IfOk result (λ _. AreLeft bounds.old.turns bounds.new.turns) }
+    ensures lasts { OutlastRest walk.old bounds.old.turns → IfOk result (λ _. bounds.new.used_up ≡ false) }
     ensures refused { OnErr result Refused }
 {
     let (text, stop) = (walk.req().string(), walk.req().end());
@@ -209,20 +214,22 @@ fn add_pieces_and_groups<'t, A: Allocator + Copy>(
 }
 
 // Appends the pieces of a window between its matches, and the groups of these.
-fn add_all_with_groups<'t, A: Allocator + Copy>(
+fn add_all_with_groups<S: Text, A: Allocator + Copy>(
     alloc: A,
-    req: Request<'_, &'t str>,
+    req: Request<'_, S>,
     bounds: &mut Bounds,
     groups: usize,
-    pieces: &mut Vec<Option<&'t str>, A>,
+    pieces: &mut Vec<Option<S>, A>,
 ) -> Result<(), SreError>
     ensures ok { (t : Tree) → Whole (words_of (code_of req.entry)) t → IfOk result (λ _.
-        bounds.new.used_up ≡ false → map group_shown pieces.new.items
-        ≡ map group_shown pieces.old.items
-        ++ pieces_and_groups (chars (string_of req.entry).now) groups (start_of req.entry) (end_of req.entry)
+        bounds.new.used_up ≡ false → map (option_map S.text) pieces.new.items
+        ≡ map (option_map S.text) pieces.old.items
+        ++ pieces_and_groups (S.text (string_of req.entry)) groups (start_of req.entry) (end_of req.entry)
         (first_of bounds.old.most (walk (asked_of req.entry) t))) }
     ensures used { IfOk result (λ _. bounds.new.used_up ≡ true → bounds.new.turns ≡ Some 0) }
     ensures turns { IfOk result (λ _. AreLeft bounds.old.turns bounds.new.turns) }
+    ensures lasts { Outlast (asked_of req.entry) (code_of req.entry) bounds.old.turns
+        → IfOk result (λ _. bounds.new.used_up ≡ false) }
     ensures refused { OnErr result Refused }
 {
     bounds.used_up = false;
@@ -245,14 +252,14 @@ fn add_all_with_groups<'t, A: Allocator + Copy>(
 /// # Errors
 ///
 /// [`SreError::Memory`], where a growth was refused.
-pub fn split_groups<'t, A: Allocator + Copy>(
+pub fn split_groups<S: Text, A: Allocator + Copy>(
     alloc: A,
-    req: Request<'_, &'t str>,
+    req: Request<'_, S>,
     groups: usize,
-) -> Result<Vec<Option<&'t str>, A>, SreError>
+) -> Result<Vec<Option<S>, A>, SreError>
     ensures ok { (t : Tree) → Whole (words_of (code_of req.entry)) t → IfOk result (λ pieces.
-        map group_shown pieces.items
-        ≡ pieces_and_groups (chars (string_of req.entry).now) groups (start_of req.entry) (end_of req.entry)
+        map (option_map S.text) pieces.items
+        ≡ pieces_and_groups (S.text (string_of req.entry)) groups (start_of req.entry) (end_of req.entry)
         (walk (asked_of req.entry) t)) }
     ensures refused { OnErr result Refused }
 {
@@ -267,18 +274,19 @@ pub fn split_groups<'t, A: Allocator + Copy>(
 /// # Errors
 ///
 /// [`SreError::Memory`], where a growth was refused.
-pub fn split_groups_bounded<'t, A: Allocator + Copy>(
+pub fn split_groups_bounded<S: Text, A: Allocator + Copy>(
     alloc: A,
-    req: Request<'_, &'t str>,
+    req: Request<'_, S>,
     groups: usize,
     bounds: &mut Bounds,
-) -> Result<Option<Vec<Option<&'t str>, A>>, SreError>
+) -> Result<Option<Vec<Option<S>, A>>, SreError>
     ensures ok { (t : Tree) → Whole (words_of (code_of req.entry)) t → IfOk result (λ told. IfSome told (λ pieces.
-        map group_shown pieces.items
-        ≡ pieces_and_groups (chars (string_of req.entry).now) groups (start_of req.entry) (end_of req.entry)
+        map (option_map S.text) pieces.items
+        ≡ pieces_and_groups (S.text (string_of req.entry)) groups (start_of req.entry) (end_of req.entry)
         (first_of bounds.old.most (walk (asked_of req.entry) t)))) }
     ensures used { IfOk result (λ told. told ≡ None → bounds.new.turns ≡ Some 0) }
     ensures turns { IfOk result (λ _. AreLeft bounds.old.turns bounds.new.turns) }
+    ensures lasts { Outlast (asked_of req.entry) (code_of req.entry) bounds.old.turns → IfOk result IsSome }
     ensures unlimited { bounds.old.turns ≡ None → IfOk result IsSome }
     ensures refused { OnErr result Refused }
 {

@@ -2,8 +2,6 @@
 
 ghost use Rattle.std.specs.Prelude.{◌≡◌, ◌≤◌, ◌++◌, ◌∷◌, [], true, false, None, Some, map, slice_range};
 ghost use Rattle.std.specs.Prelude.{is_some, IsSome, IfSome, IfOk, OnErr};
-ghost use Rattle.std.specs.Str.{chars};
-ghost use Rattle.sre_chars.specs.Texts.{StandsInText};
 ghost use Rattle.sre_engine.specs.Tree.{Tree};
 ghost use Rattle.sre_engine.specs.Grammar.{Whole};
 ghost use Rattle.sre_engine.specs.Found.{matched, found, walk};
@@ -13,46 +11,49 @@ ghost use Rattle.sre_engine.specs.Answers.{Answers, Spans};
 ghost use Rattle.sre_engine.specs.Iterators.{request_of, left_of};
 ghost use Rattle.sre_growth.specs.Refusal.{Refused};
 ghost use Rattle.sre_recipes.specs.Slices.{slice_of, to_the_end};
-ghost use Rattle.sre_recipes.specs.Bounded.{first_of, AreLeft};
+ghost use Rattle.sre_recipes.specs.Limits.{OutlastRest};
+ghost use Rattle.sre_recipes.specs.Bounded.{first_of, AreLeft, Outlast};
 
 use crate::bounds::{Bounds, next_bounded};
-use crate::slice::{between, matched_text};
+use crate::slice::matched_text;
 use crate::span::Span;
+use crate::texts::Text;
 use sre_engine::{Request, SearchIter, SreError, State, StrDrive};
 use std::alloc::Allocator;
 
 // Appends the text of a match.
-fn add_text<'t, A: Allocator>(
-    all: &mut Vec<&'t str, A>,
-    text: &'t str,
+fn add_text<S: Text, A: Allocator>(
+    all: &mut Vec<S, A>,
+    text: S,
     span: &Span,
 ) -> Result<(), SreError>
-    requires start { StandsInText text.now span.now.start span.now.start.position }
-    requires end { StandsInText text.now span.now.end span.now.end.position }
+    requires start { S.stands text span.now.start span.now.start.position }
+    requires end { S.stands text span.now.end span.now.end.position }
     requires forward { span.now.start.position ≤ span.now.end.position }
-    ensures ok { IfOk result (λ _. map (λ s. chars s.now) all.new.items
-        ≡ map (λ s. chars s.now) all.old.items
-        ++ slice_range (chars text.now) span.now.start.position span.now.end.position ∷ []) }
+    ensures ok { IfOk result (λ _. map S.text all.new.items
+        ≡ map S.text all.old.items
+        ++ slice_range (S.text text) span.now.start.position span.now.end.position ∷ []) }
     ensures refused { OnErr result Refused }
 {
-    sre_growth::push(all, between(text, &span.start, &span.end))?;
+    sre_growth::push(all, text.between(&span.start, &span.end))?;
     Ok(())
 }
 
 // Appends the texts of the matches that are left of a walk.
-fn add_texts<'t, A: Allocator + Copy>(
-    walk: &mut SearchIter<'_, &'t str, A>,
+fn add_texts<S: Text, A: Allocator + Copy>(
+    walk: &mut SearchIter<'_, S, A>,
     bounds: &mut Bounds,
-    all: &mut Vec<&'t str, A>,
+    all: &mut Vec<S, A>,
 ) -> Result<(), SreError>
     requires { bounds.old.used_up ≡ false }
     ensures ok { (t : Tree) → Whole (words_of (code_of (request_of walk.old))) t → IfOk result (λ _.
-        bounds.new.used_up ≡ false → map (λ s. chars s.now) all.new.items
-        ≡ map (λ s. chars s.now) all.old.items
-        ++ map (slice_of (chars (string_of (request_of walk.old)).now))
+        bounds.new.used_up ≡ false → map S.text all.new.items
+        ≡ map S.text all.old.items
+        ++ map (slice_of (S.text (string_of (request_of walk.old))))
         (first_of bounds.old.most (left_of walk.old t))) }
     ensures used { IfOk result (λ _. bounds.new.used_up ≡ true → bounds.new.turns ≡ Some 0) }
     ensures turns { IfOk result (λ _. AreLeft bounds.old.turns bounds.new.turns) }
+    ensures lasts { OutlastRest walk.old bounds.old.turns → IfOk result (λ _. bounds.new.used_up ≡ false) }
     ensures refused { OnErr result Refused }
 {
     let text = walk.req().string();
@@ -63,18 +64,20 @@ fn add_texts<'t, A: Allocator + Copy>(
 }
 
 // Appends the texts of all matches.
-fn add_all_texts<'t, A: Allocator + Copy>(
+fn add_all_texts<S: Text, A: Allocator + Copy>(
     alloc: A,
-    req: Request<'_, &'t str>,
+    req: Request<'_, S>,
     bounds: &mut Bounds,
-    all: &mut Vec<&'t str, A>,
+    all: &mut Vec<S, A>,
 ) -> Result<(), SreError>
     ensures ok { (t : Tree) → Whole (words_of (code_of req.entry)) t → IfOk result (λ _.
-        bounds.new.used_up ≡ false → map (λ s. chars s.now) all.new.items
-        ≡ map (λ s. chars s.now) all.old.items
-        ++ map (slice_of (chars (string_of req.entry).now)) (first_of bounds.old.most (walk (asked_of req.entry) t))) }
+        bounds.new.used_up ≡ false → map S.text all.new.items
+        ≡ map S.text all.old.items
+        ++ map (slice_of (S.text (string_of req.entry))) (first_of bounds.old.most (walk (asked_of req.entry) t))) }
     ensures used { IfOk result (λ _. bounds.new.used_up ≡ true → bounds.new.turns ≡ Some 0) }
     ensures turns { IfOk result (λ _. AreLeft bounds.old.turns bounds.new.turns) }
+    ensures lasts { Outlast (asked_of req.entry) (code_of req.entry) bounds.old.turns
+        → IfOk result (λ _. bounds.new.used_up ≡ false) }
     ensures refused { OnErr result Refused }
 {
     bounds.used_up = false;
@@ -94,13 +97,13 @@ fn add_all_texts<'t, A: Allocator + Copy>(
 /// # Errors
 ///
 /// [`SreError::Memory`], where a growth was refused.
-pub fn find_all<'t, A: Allocator + Copy>(
+pub fn find_all<S: Text, A: Allocator + Copy>(
     alloc: A,
-    req: Request<'_, &'t str>,
-) -> Result<Vec<&'t str, A>, SreError>
+    req: Request<'_, S>,
+) -> Result<Vec<S, A>, SreError>
     ensures ok { (t : Tree) → Whole (words_of (code_of req.entry)) t → IfOk result (λ all.
-        map (λ s. chars s.now) all.items
-        ≡ map (slice_of (chars (string_of req.entry).now)) (walk (asked_of req.entry) t)) }
+        map S.text all.items
+        ≡ map (slice_of (S.text (string_of req.entry))) (walk (asked_of req.entry) t)) }
     ensures refused { OnErr result Refused }
 {
     let mut all = Vec::new(alloc);
@@ -124,16 +127,17 @@ pub fn find_all<'t, A: Allocator + Copy>(
 /// # Errors
 ///
 /// [`SreError::Memory`], where a growth was refused.
-pub fn find_bounded<'t, A: Allocator + Copy>(
+pub fn find_bounded<S: Text, A: Allocator + Copy>(
     alloc: A,
-    req: Request<'_, &'t str>,
+    req: Request<'_, S>,
     bounds: &mut Bounds,
-) -> Result<Option<Vec<&'t str, A>>, SreError>
+) -> Result<Option<Vec<S, A>>, SreError>
     ensures ok { (t : Tree) → Whole (words_of (code_of req.entry)) t → IfOk result (λ told. IfSome told (λ all.
-        map (λ s. chars s.now) all.items
-        ≡ map (slice_of (chars (string_of req.entry).now)) (first_of bounds.old.most (walk (asked_of req.entry) t)))) }
+        map S.text all.items
+        ≡ map (slice_of (S.text (string_of req.entry))) (first_of bounds.old.most (walk (asked_of req.entry) t)))) }
     ensures used { IfOk result (λ told. told ≡ None → bounds.new.turns ≡ Some 0) }
     ensures turns { IfOk result (λ _. AreLeft bounds.old.turns bounds.new.turns) }
+    ensures lasts { Outlast (asked_of req.entry) (code_of req.entry) bounds.old.turns → IfOk result IsSome }
     ensures unlimited { bounds.old.turns ≡ None → IfOk result IsSome }
     ensures refused { OnErr result Refused }
 {
@@ -147,12 +151,12 @@ pub fn find_bounded<'t, A: Allocator + Copy>(
 }
 
 // The text of the match that a state shows, where one was found.
-fn text_if<'t, A: Allocator + Copy>(found: bool, text: &'t str, state: &State<A>) -> Option<&'t str>
-    requires stands { found ≡ true → StandsInText text.now state.now.cursor state.now.cursor.position }
+fn text_if<S: Text, A: Allocator + Copy>(found: bool, text: S, state: &State<A>) -> Option<S>
+    requires stands { found ≡ true → S.stands text state.now.cursor state.now.cursor.position }
     requires forward { found ≡ true → state.now.start ≤ state.now.cursor.position }
     ensures some { is_some result ≡ found }
-    ensures text { IfSome result (λ s. chars s.now
-        ≡ slice_range (chars text.now) state.now.start state.now.cursor.position) }
+    ensures text { IfSome result (λ s. S.text s
+        ≡ slice_range (S.text text) state.now.start state.now.cursor.position) }
 {
     if found {
         Some(matched_text(text, state))
@@ -166,16 +170,16 @@ fn text_if<'t, A: Allocator + Copy>(found: bool, text: &'t str, state: &State<A>
 /// # Errors
 ///
 /// [`SreError::Memory`], where a growth was refused.
-pub fn match_text<'t, A: Allocator + Copy>(
-    req: &Request<'_, &'t str>,
+pub fn match_text<S: Text, A: Allocator + Copy>(
+    req: &Request<'_, S>,
     state: &mut State<A>,
-) -> Result<Option<&'t str>, SreError>
+) -> Result<Option<S>, SreError>
     ensures ok { (t : Tree) → Whole (words_of (code_of req.now)) t → IfOk result
         (λ text. Answers (stands_in req.now) (matched (asked_of req.now) t) (is_some text) state.new) }
-    ensures text { IfOk result (λ text. IfSome text (λ s. chars s.now
-        ≡ slice_range (chars (string_of req.now).now) state.new.start state.new.cursor.position)) }
+    ensures text { IfOk result (λ text. IfSome text (λ s. S.text s
+        ≡ slice_range (S.text (string_of req.now)) state.new.start state.new.cursor.position)) }
     ensures stands { IfOk result (λ text. IsSome text
-        → StandsInText (string_of req.now).now state.new.cursor state.new.cursor.position) }
+        → S.stands (string_of req.now) state.new.cursor state.new.cursor.position) }
     ensures forward { IfOk result (λ text. IsSome text → state.new.start ≤ state.new.cursor.position) }
     ensures refused { OnErr result Refused }
 {
@@ -189,16 +193,16 @@ pub fn match_text<'t, A: Allocator + Copy>(
 /// # Errors
 ///
 /// [`SreError::Memory`], where a growth was refused.
-pub fn search_text<'t, A: Allocator + Copy>(
-    req: Request<'_, &'t str>,
+pub fn search_text<S: Text, A: Allocator + Copy>(
+    req: Request<'_, S>,
     state: &mut State<A>,
-) -> Result<Option<&'t str>, SreError>
+) -> Result<Option<S>, SreError>
     ensures ok { (t : Tree) → Whole (words_of (code_of req.entry)) t → IfOk result
         (λ text. Answers (stands_in req.entry) (found (asked_of req.entry) t) (is_some text) state.new) }
-    ensures text { IfOk result (λ text. IfSome text (λ s. chars s.now
-        ≡ slice_range (chars (string_of req.entry).now) state.new.start state.new.cursor.position)) }
+    ensures text { IfOk result (λ text. IfSome text (λ s. S.text s
+        ≡ slice_range (S.text (string_of req.entry)) state.new.start state.new.cursor.position)) }
     ensures stands { IfOk result (λ text. IsSome text
-        → StandsInText (string_of req.entry).now state.new.cursor state.new.cursor.position) }
+        → S.stands (string_of req.entry) state.new.cursor state.new.cursor.position) }
     ensures forward { IfOk result (λ text. IsSome text → state.new.start ≤ state.new.cursor.position) }
     ensures refused { OnErr result Refused }
 {

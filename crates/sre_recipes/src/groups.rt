@@ -1,11 +1,9 @@
 //! A match with its groups, by their numbers.
 
-ghost use Rattle.std.specs.Prelude.{◌≡◌, ◌≤◌, ◌+◌, ◌^◌, ◌++◌, ◌∷◌, [], true, false, None, Some, length, map, slice_index_or};
-ghost use Rattle.std.specs.Prelude.{IfOk, IfSome, OnErr, IsSome};
+ghost use Rattle.std.specs.Prelude.{◌≡◌, ◌≤◌, ◌+◌, ◌^◌, ◌++◌, ◌∷◌, [], true, false, None, Some, length, map};
+ghost use Rattle.std.specs.Prelude.{slice_index_or, IfOk, IfSome, OnErr, IsSome};
 ghost use Rattle.std.specs.List.{range_with_len};
 ghost use Rattle.std.specs.Option.{option_map};
-ghost use Rattle.std.specs.Str.{chars};
-ghost use Rattle.sre_chars.specs.Texts.{StandsInText};
 ghost use Rattle.sre_engine.specs.Tree.{Tree};
 ghost use Rattle.sre_engine.specs.Grammar.{Whole};
 ghost use Rattle.sre_engine.specs.Found.{matched, found, walk};
@@ -15,24 +13,29 @@ ghost use Rattle.sre_engine.specs.Walks.{match_shown};
 ghost use Rattle.sre_engine.specs.Iterators.{request_of, left_of};
 ghost use Rattle.sre_growth.specs.Refusal.{Refused};
 ghost use Rattle.sre_recipes.specs.Slices.{numbered_group, captured};
-ghost use Rattle.sre_recipes.specs.Captured.{group_shown, captures_shown};
-ghost use Rattle.sre_recipes.specs.Bounded.{first_of, AreLeft};
+ghost use Rattle.sre_recipes.specs.Captured.{captures_shown};
+ghost use Rattle.sre_recipes.specs.Limits.{OutlastRest};
+ghost use Rattle.sre_recipes.specs.Bounded.{first_of, AreLeft, Outlast};
 
 use crate::bounds::{Bounds, next_bounded};
 use crate::find::{match_text, search_text};
 use crate::slice::group_text;
+use crate::texts::Text;
 use sre_engine::{Request, SearchIter, SreError, State};
 use std::alloc::Allocator;
 
 /// A match and its groups as Python counts them: number 0 is the match, number 1 the first group.
 #[derive(Drop)]
-#[derive_where(Debug)]
-pub struct Captures<'t, A: Allocator> {
+#[derive_where(Debug; S)]
+pub struct CapturesOf<S, A: Allocator> {
     /// The text of each, up to the last group that took part; `None` where one before it took none.
-    pub groups: Vec<Option<&'t str>, A>,
+    pub groups: Vec<Option<S>, A>,
 }
 
-impl<'t, A: Allocator> Captures<'t, A> {
+/// Those of a text that is a `&str`.
+pub type Captures<'t, A> = CapturesOf<&'t str, A>;
+
+impl<S: Copy, A: Allocator> CapturesOf<S, A> {
     /// How many there are: the match, and the groups up to the last that took part.
     pub fn len(&self) -> usize
         ensures { result ≡ length self.now.groups.items }
@@ -41,7 +44,7 @@ impl<'t, A: Allocator> Captures<'t, A> {
     }
 
     /// The text of a group by its number, 0 for the match; `None` where it took no part, or there is no such group.
-    pub fn get(&self, number: usize) -> Option<&'t str>
+    pub fn get(&self, number: usize) -> Option<S>
         ensures { result ≡ slice_index_or self.now.groups.items number None }
     {
         let groups = self.groups.as_slice();
@@ -54,17 +57,17 @@ impl<'t, A: Allocator> Captures<'t, A> {
 }
 
 // Appends the texts of so many groups of the match that a state shows, from a number on.
-pub(crate) fn add_groups<'t, A: Allocator + Copy>(
-    groups: &mut Vec<Option<&'t str>, A>,
-    text: &'t str,
+pub(crate) fn add_groups<S: Text, A: Allocator + Copy>(
+    groups: &mut Vec<Option<S>, A>,
+    text: S,
     state: &State<A>,
     first: usize,
     several: usize,
 ) -> Result<(), SreError>
-    requires stands { StandsInText text.now state.now.cursor state.now.cursor.position }
+    requires stands { S.stands text state.now.cursor state.now.cursor.position }
     requires numbers { first + several ≤ 2 ^ 64 }
-    ensures ok { IfOk result (λ _. map group_shown groups.new.items ≡ map group_shown groups.old.items
-        ++ map (numbered_group (chars text.now) (match_shown state.now)) (range_with_len first several)) }
+    ensures ok { IfOk result (λ _. map (option_map S.text) groups.new.items ≡ map (option_map S.text) groups.old.items
+        ++ map (numbered_group (S.text text) (match_shown state.now)) (range_with_len first several)) }
     ensures refused { OnErr result Refused }
 {
     let mut count = 0;
@@ -76,19 +79,19 @@ pub(crate) fn add_groups<'t, A: Allocator + Copy>(
 }
 
 // The match that a state shows, with its groups.
-pub(crate) fn shown_captures<'t, A: Allocator + Copy>(
+pub(crate) fn shown_captures<S: Text, A: Allocator + Copy>(
     alloc: A,
-    text: &'t str,
+    text: S,
     state: &State<A>,
-) -> Result<Captures<'t, A>, SreError>
-    requires { StandsInText text.now state.now.cursor state.now.cursor.position }
-    ensures ok { IfOk result (λ all. captures_shown all ≡ captured (chars text.now) (match_shown state.now)) }
+) -> Result<CapturesOf<S, A>, SreError>
+    requires { S.stands text state.now.cursor state.now.cursor.position }
+    ensures ok { IfOk result (λ all. captures_shown S.text all ≡ captured (S.text text) (match_shown state.now)) }
     ensures refused { OnErr result Refused }
 {
     let mut groups = Vec::new(alloc);
     let several = state.marks().raw().len() / 2 + 1;
     add_groups(&mut groups, text, state, 0, several)?;
-    Ok(Captures { groups })
+    Ok(CapturesOf { groups })
 }
 
 /// Searches the window, as `State::search`: the match of the least start and its groups, which the state then shows.
@@ -96,14 +99,14 @@ pub(crate) fn shown_captures<'t, A: Allocator + Copy>(
 /// # Errors
 ///
 /// [`SreError::Memory`], where a growth was refused.
-pub fn search_captures<'t, A: Allocator + Copy>(
+pub fn search_captures<S: Text, A: Allocator + Copy>(
     alloc: A,
-    req: Request<'_, &'t str>,
+    req: Request<'_, S>,
     state: &mut State<A>,
-) -> Result<Option<Captures<'t, A>>, SreError>
+) -> Result<Option<CapturesOf<S, A>>, SreError>
     ensures ok { (t : Tree) → Whole (words_of (code_of req.entry)) t → IfOk result (λ all.
-        option_map captures_shown all
-        ≡ option_map (captured (chars (string_of req.entry).now)) (found (asked_of req.entry) t)) }
+        option_map (captures_shown S.text) all
+        ≡ option_map (captured (S.text (string_of req.entry))) (found (asked_of req.entry) t)) }
     ensures refused { OnErr result Refused }
 {
     let text = req.string();
@@ -118,14 +121,14 @@ pub fn search_captures<'t, A: Allocator + Copy>(
 /// # Errors
 ///
 /// [`SreError::Memory`], where a growth was refused.
-pub fn match_captures<'t, A: Allocator + Copy>(
+pub fn match_captures<S: Text, A: Allocator + Copy>(
     alloc: A,
-    req: &Request<'_, &'t str>,
+    req: &Request<'_, S>,
     state: &mut State<A>,
-) -> Result<Option<Captures<'t, A>>, SreError>
+) -> Result<Option<CapturesOf<S, A>>, SreError>
     ensures ok { (t : Tree) → Whole (words_of (code_of req.now)) t → IfOk result (λ all.
-        option_map captures_shown all
-        ≡ option_map (captured (chars (string_of req.now).now)) (matched (asked_of req.now) t)) }
+        option_map (captures_shown S.text) all
+        ≡ option_map (captured (S.text (string_of req.now))) (matched (asked_of req.now) t)) }
     ensures refused { OnErr result Refused }
 {
     match match_text(req, state)? {
@@ -135,15 +138,15 @@ pub fn match_captures<'t, A: Allocator + Copy>(
 }
 
 // Appends the match that a state shows, with its groups.
-fn add_captures<'t, A: Allocator + Copy>(
+fn add_captures<S: Text, A: Allocator + Copy>(
     alloc: A,
-    all: &mut Vec<Captures<'t, A>, A>,
-    text: &'t str,
+    all: &mut Vec<CapturesOf<S, A>, A>,
+    text: S,
     state: &State<A>,
 ) -> Result<(), SreError>
-    requires { StandsInText text.now state.now.cursor state.now.cursor.position }
-    ensures ok { IfOk result (λ _. map captures_shown all.new.items
-        ≡ map captures_shown all.old.items ++ captured (chars text.now) (match_shown state.now) ∷ []) }
+    requires { S.stands text state.now.cursor state.now.cursor.position }
+    ensures ok { IfOk result (λ _. map (captures_shown S.text) all.new.items
+        ≡ map (captures_shown S.text) all.old.items ++ captured (S.text text) (match_shown state.now) ∷ []) }
     ensures refused { OnErr result Refused }
 {
     let captures = shown_captures(alloc, text, state)?;
@@ -152,20 +155,21 @@ fn add_captures<'t, A: Allocator + Copy>(
 }
 
 // Appends the matches that are left of a walk, with their groups.
-fn add_each<'t, A: Allocator + Copy>(
+fn add_each<S: Text, A: Allocator + Copy>(
     alloc: A,
-    walk: &mut SearchIter<'_, &'t str, A>,
+    walk: &mut SearchIter<'_, S, A>,
     bounds: &mut Bounds,
-    all: &mut Vec<Captures<'t, A>, A>,
+    all: &mut Vec<CapturesOf<S, A>, A>,
 ) -> Result<(), SreError>
     requires { bounds.old.used_up ≡ false }
     ensures ok { (t : Tree) → Whole (words_of (code_of (request_of walk.old))) t → IfOk result (λ _.
-        bounds.new.used_up ≡ false → map captures_shown all.new.items
-        ≡ map captures_shown all.old.items
-        ++ map (captured (chars (string_of (request_of walk.old)).now))
+        bounds.new.used_up ≡ false → map (captures_shown S.text) all.new.items
+        ≡ map (captures_shown S.text) all.old.items
+        ++ map (captured (S.text (string_of (request_of walk.old))))
         (first_of bounds.old.most (left_of walk.old t))) }
     ensures used { IfOk result (λ _. bounds.new.used_up ≡ true → bounds.new.turns ≡ Some 0) }
     ensures turns { IfOk result (λ _. AreLeft bounds.old.turns bounds.new.turns) }
+    ensures lasts { OutlastRest walk.old bounds.old.turns → IfOk result (λ _. bounds.new.used_up ≡ false) }
     ensures refused { OnErr result Refused }
 {
     let text = walk.req().string();
@@ -176,18 +180,20 @@ fn add_each<'t, A: Allocator + Copy>(
 }
 
 // Appends the matches of a window, with their groups.
-fn add_all_captures<'t, A: Allocator + Copy>(
+fn add_all_captures<S: Text, A: Allocator + Copy>(
     alloc: A,
-    req: Request<'_, &'t str>,
+    req: Request<'_, S>,
     bounds: &mut Bounds,
-    all: &mut Vec<Captures<'t, A>, A>,
+    all: &mut Vec<CapturesOf<S, A>, A>,
 ) -> Result<(), SreError>
     ensures ok { (t : Tree) → Whole (words_of (code_of req.entry)) t → IfOk result (λ _.
-        bounds.new.used_up ≡ false → map captures_shown all.new.items
-        ≡ map captures_shown all.old.items
-        ++ map (captured (chars (string_of req.entry).now)) (first_of bounds.old.most (walk (asked_of req.entry) t))) }
+        bounds.new.used_up ≡ false → map (captures_shown S.text) all.new.items
+        ≡ map (captures_shown S.text) all.old.items
+        ++ map (captured (S.text (string_of req.entry))) (first_of bounds.old.most (walk (asked_of req.entry) t))) }
     ensures used { IfOk result (λ _. bounds.new.used_up ≡ true → bounds.new.turns ≡ Some 0) }
     ensures turns { IfOk result (λ _. AreLeft bounds.old.turns bounds.new.turns) }
+    ensures lasts { Outlast (asked_of req.entry) (code_of req.entry) bounds.old.turns
+        → IfOk result (λ _. bounds.new.used_up ≡ false) }
     ensures refused { OnErr result Refused }
 {
     bounds.used_up = false;
@@ -209,13 +215,13 @@ fn add_all_captures<'t, A: Allocator + Copy>(
 /// # Errors
 ///
 /// [`SreError::Memory`], where a growth was refused.
-pub fn all_captures<'t, A: Allocator + Copy>(
+pub fn all_captures<S: Text, A: Allocator + Copy>(
     alloc: A,
-    req: Request<'_, &'t str>,
-) -> Result<Vec<Captures<'t, A>, A>, SreError>
+    req: Request<'_, S>,
+) -> Result<Vec<CapturesOf<S, A>, A>, SreError>
     ensures ok { (t : Tree) → Whole (words_of (code_of req.entry)) t → IfOk result (λ all.
-        map captures_shown all.items
-        ≡ map (captured (chars (string_of req.entry).now)) (walk (asked_of req.entry) t)) }
+        map (captures_shown S.text) all.items
+        ≡ map (captured (S.text (string_of req.entry))) (walk (asked_of req.entry) t)) }
     ensures refused { OnErr result Refused }
 {
     let mut all = Vec::new(alloc);
@@ -229,16 +235,17 @@ pub fn all_captures<'t, A: Allocator + Copy>(
 /// # Errors
 ///
 /// [`SreError::Memory`], where a growth was refused.
-pub fn captures_bounded<'t, A: Allocator + Copy>(
+pub fn captures_bounded<S: Text, A: Allocator + Copy>(
     alloc: A,
-    req: Request<'_, &'t str>,
+    req: Request<'_, S>,
     bounds: &mut Bounds,
-) -> Result<Option<Vec<Captures<'t, A>, A>>, SreError>
+) -> Result<Option<Vec<CapturesOf<S, A>, A>>, SreError>
     ensures ok { (t : Tree) → Whole (words_of (code_of req.entry)) t → IfOk result (λ told. IfSome told (λ all.
-        map captures_shown all.items
-        ≡ map (captured (chars (string_of req.entry).now)) (first_of bounds.old.most (walk (asked_of req.entry) t)))) }
+        map (captures_shown S.text) all.items
+        ≡ map (captured (S.text (string_of req.entry))) (first_of bounds.old.most (walk (asked_of req.entry) t)))) }
     ensures used { IfOk result (λ told. told ≡ None → bounds.new.turns ≡ Some 0) }
     ensures turns { IfOk result (λ _. AreLeft bounds.old.turns bounds.new.turns) }
+    ensures lasts { Outlast (asked_of req.entry) (code_of req.entry) bounds.old.turns → IfOk result IsSome }
     ensures unlimited { bounds.old.turns ≡ None → IfOk result IsSome }
     ensures refused { OnErr result Refused }
 {

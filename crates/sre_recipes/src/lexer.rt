@@ -1,8 +1,6 @@
 //! Tokens: matches that begin where the one before ends.
 
 ghost use Rattle.std.specs.Prelude.{◌≡◌, ◌<◌, ◌++◌, map, nat_eq, IfOk, OnErr, MatchOption, IsSome};
-ghost use Rattle.std.specs.Str.{chars};
-ghost use Rattle.sre_chars.specs.Texts.{StandsInText};
 ghost use Rattle.sre_engine.specs.Tree.{Tree};
 ghost use Rattle.sre_engine.specs.Grammar.{Whole};
 ghost use Rattle.sre_engine.specs.Found.{walk};
@@ -12,37 +10,43 @@ ghost use Rattle.sre_engine.specs.Walks.{match_shown};
 ghost use Rattle.sre_engine.specs.Iterators.{request_of, shown_of, left_of, most_items};
 ghost use Rattle.sre_growth.specs.Refusal.{Refused};
 ghost use Rattle.sre_recipes.specs.Lexed.{token_matches, reached, lexeme_of, lexeme_shown};
-ghost use Rattle.sre_recipes.specs.Spans.{IsSpan};
+ghost use Rattle.sre_recipes.specs.Spans.{IsSpan, StandsAt};
 ghost use Rattle.sre_recipes.specs.Adjoining.{adjoining, unless_empty, Adjoins, NoneAdjoins};
 
-use crate::slice::between;
 use crate::span::{Span, next_span};
+use crate::texts::Text;
 use sre_engine::{Request, SearchIter, SreError, State, StrDrive, StringCursor};
 use std::alloc::Allocator;
 
 /// A token: the group that was closed last, counted from 1, or -1 where there is none, and its text.
 #[derive(Clone, Copy, PartialEq, Eq, Debug)]
-pub struct Token<'t> {
+pub struct TokenOf<S> {
     pub kind: isize,
-    pub text: &'t str,
+    pub text: S,
 }
+
+/// One of a text that is a `&str`.
+pub type Token<'t> = TokenOf<&'t str>;
 
 /// The tokens that a window begins with, and a cursor that stands behind the last of them.
 #[derive(Drop)]
-#[derive_where(Debug)]
-pub struct Tokens<'t, A: Allocator> {
-    pub tokens: Vec<Token<'t>, A>,
+#[derive_where(Debug; S)]
+pub struct TokensOf<S, A: Allocator> {
+    pub tokens: Vec<TokenOf<S>, A>,
     pub end: StringCursor,
 }
 
+/// Those of a text that is a `&str`.
+pub type Tokens<'t, A> = TokensOf<&'t str, A>;
+
 // A match as a token.
-fn token_of<'t, A: Allocator + Copy>(text: &'t str, state: &State<A>, span: &Span) -> Token<'t>
-    requires { IsSpan text.now state.now span.now.start span.now.end }
-    ensures { lexeme_shown result ≡ lexeme_of (chars text.now) (match_shown state.now) }
+fn token_of<S: Text, A: Allocator + Copy>(text: S, state: &State<A>, span: &Span) -> TokenOf<S>
+    requires { IsSpan (S.stands text) state.now span.now.start span.now.end }
+    ensures { lexeme_shown S.text result ≡ lexeme_of (S.text text) (match_shown state.now) }
 {
-    Token {
+    TokenOf {
         kind: state.marks().last_index(),
-        text: between(text, &span.start, &span.end),
+        text: text.between(&span.start, &span.end),
     }
 }
 
@@ -54,13 +58,13 @@ fn begins_at(span: &Span, end: &StringCursor) -> bool
 }
 
 // The next match of a walk, where it begins at a cursor.
-fn next_adjoining<A: Allocator + Copy>(
-    walk: &mut SearchIter<'_, &str, A>,
+fn next_adjoining<S: Text, A: Allocator + Copy>(
+    walk: &mut SearchIter<'_, S, A>,
     end: &StringCursor,
 ) -> Result<Option<Span>, SreError>
     requires { end.now.position ≡ start_of (request_of walk.old) }
     ensures gives { IfOk result (λ next. MatchOption next (NoneAdjoins walk.old) (λ span. Adjoins walk.old walk.new
-        × IsSpan (string_of (request_of walk.old)).now (shown_of walk.new) span.start span.end)) }
+        × IsSpan (S.stands (string_of (request_of walk.old))) (shown_of walk.new) span.start span.end)) }
     ensures falls { IfOk result (λ next. IsSome next → most_items walk.new < most_items walk.old) }
     ensures refused { OnErr result Refused }
 {
@@ -74,18 +78,18 @@ fn next_adjoining<A: Allocator + Copy>(
 }
 
 // Appends a match that begins where the tokens end, unless it is empty.
-fn add_token<'t, A: Allocator + Copy>(
-    all: &mut Tokens<'t, A>,
-    text: &'t str,
+fn add_token<S: Text, A: Allocator + Copy>(
+    all: &mut TokensOf<S, A>,
+    text: S,
     state: &State<A>,
     span: &Span,
 ) -> Result<(), SreError>
-    requires end { StandsInText text.now all.old.end state.now.start }
-    requires span { IsSpan text.now state.now span.now.start span.now.end }
-    ensures ok { IfOk result (λ _. map lexeme_shown all.new.tokens.items
-        ≡ map lexeme_shown all.old.tokens.items
-        ++ map (lexeme_of (chars text.now)) (unless_empty (match_shown state.now))) }
-    ensures end { IfOk result (λ _. StandsInText text.now all.new.end state.now.cursor.position) }
+    requires end { StandsAt (S.stands text) all.old.end state.now.start }
+    requires span { IsSpan (S.stands text) state.now span.now.start span.now.end }
+    ensures ok { IfOk result (λ _. map (lexeme_shown S.text) all.new.tokens.items
+        ≡ map (lexeme_shown S.text) all.old.tokens.items
+        ++ map (lexeme_of (S.text text)) (unless_empty (match_shown state.now))) }
+    ensures end { IfOk result (λ _. StandsAt (S.stands text) all.new.end state.now.cursor.position) }
     ensures refused { OnErr result Refused }
 {
     if begins_at(span, &span.end) {
@@ -97,18 +101,18 @@ fn add_token<'t, A: Allocator + Copy>(
 }
 
 // Appends the matches that are left of a walk, as far as each begins where the one before ends.
-fn add_tokens<'t, A: Allocator + Copy>(
-    walk: &mut SearchIter<'_, &'t str, A>,
-    all: &mut Tokens<'t, A>,
+fn add_tokens<S: Text, A: Allocator + Copy>(
+    walk: &mut SearchIter<'_, S, A>,
+    all: &mut TokensOf<S, A>,
 ) -> Result<(), SreError>
-    requires { StandsInText (string_of (request_of walk.old)).now all.old.end (start_of (request_of walk.old)) }
+    requires { StandsAt (S.stands (string_of (request_of walk.old))) all.old.end (start_of (request_of walk.old)) }
     ensures ok { (t : Tree) → Whole (words_of (code_of (request_of walk.old))) t → IfOk result (λ _.
-        map lexeme_shown all.new.tokens.items
-        ≡ map lexeme_shown all.old.tokens.items
-        ++ map (lexeme_of (chars (string_of (request_of walk.old)).now))
+        map (lexeme_shown S.text) all.new.tokens.items
+        ≡ map (lexeme_shown S.text) all.old.tokens.items
+        ++ map (lexeme_of (S.text (string_of (request_of walk.old))))
         (adjoining (start_of (request_of walk.old)) (left_of walk.old t))) }
     ensures end { (t : Tree) → Whole (words_of (code_of (request_of walk.old))) t → IfOk result (λ _.
-        StandsInText (string_of (request_of walk.old)).now all.new.end
+        StandsAt (S.stands (string_of (request_of walk.old))) all.new.end
         (reached (start_of (request_of walk.old)) (adjoining (start_of (request_of walk.old)) (left_of walk.old t)))) }
     ensures refused { OnErr result Refused }
 {
@@ -120,19 +124,19 @@ fn add_tokens<'t, A: Allocator + Copy>(
 }
 
 // Appends the matches of a window, as far as each begins where the one before ends.
-fn add_all_tokens<'t, A: Allocator + Copy>(
+fn add_all_tokens<S: Text, A: Allocator + Copy>(
     alloc: A,
-    req: Request<'_, &'t str>,
-    all: &mut Tokens<'t, A>,
+    req: Request<'_, S>,
+    all: &mut TokensOf<S, A>,
 ) -> Result<(), SreError>
-    requires { StandsInText (string_of req).now all.old.end (start_of req) }
+    requires { StandsAt (S.stands (string_of req)) all.old.end (start_of req) }
     ensures ok { (t : Tree) → Whole (words_of (code_of req.entry)) t → IfOk result (λ _.
-        map lexeme_shown all.new.tokens.items
-        ≡ map lexeme_shown all.old.tokens.items
-        ++ map (lexeme_of (chars (string_of req.entry).now))
+        map (lexeme_shown S.text) all.new.tokens.items
+        ≡ map (lexeme_shown S.text) all.old.tokens.items
+        ++ map (lexeme_of (S.text (string_of req.entry)))
         (adjoining (start_of req.entry) (walk (asked_of req.entry) t))) }
     ensures end { (t : Tree) → Whole (words_of (code_of req.entry)) t → IfOk result (λ _.
-        StandsInText (string_of req.entry).now all.new.end
+        StandsAt (S.stands (string_of req.entry)) all.new.end
         (reached (start_of req.entry) (adjoining (start_of req.entry) (walk (asked_of req.entry) t)))) }
     ensures refused { OnErr result Refused }
 {
@@ -150,19 +154,19 @@ fn add_all_tokens<'t, A: Allocator + Copy>(
 /// # Errors
 ///
 /// [`SreError::Memory`], where a growth was refused.
-pub fn tokens_of<'t, A: Allocator + Copy>(
+pub fn tokens_of<S: Text, A: Allocator + Copy>(
     alloc: A,
-    req: Request<'_, &'t str>,
-) -> Result<Tokens<'t, A>, SreError>
+    req: Request<'_, S>,
+) -> Result<TokensOf<S, A>, SreError>
     ensures ok { (t : Tree) → Whole (words_of (code_of req.entry)) t → IfOk result (λ all.
-        map lexeme_shown all.tokens.items
-        ≡ map (lexeme_of (chars (string_of req.entry).now)) (token_matches (asked_of req.entry) t)) }
+        map (lexeme_shown S.text) all.tokens.items
+        ≡ map (lexeme_of (S.text (string_of req.entry))) (token_matches (asked_of req.entry) t)) }
     ensures end { (t : Tree) → Whole (words_of (code_of req.entry)) t → IfOk result (λ all.
-        StandsInText (string_of req.entry).now all.end
+        S.stands (string_of req.entry) all.end
         (reached (start_of req.entry) (token_matches (asked_of req.entry) t))) }
     ensures refused { OnErr result Refused }
 {
-    let mut all = Tokens {
+    let mut all = TokensOf {
         tokens: Vec::new(alloc),
         end: req.string().create_cursor(req.start()),
     };

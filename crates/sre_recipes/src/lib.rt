@@ -1,8 +1,9 @@
 //! What is written first over a regex engine: the text of a match and of its groups, the texts of all matches, the
 //! pieces between them, a text with its matches replaced, and tokens.
 //!
-//! All of them are slices of the text that was asked, but for what is replaced. No call walks from the text's start for
-//! each match: a match's text is reached from the cursor at its end.
+//! The text is a `&str` or a `&[u8]`, or any other that is a [`Text`]. All that is given are slices of it, but for what
+//! is replaced, which is a `String` or a `Vec<u8>`. No call walks from the text's start for each match: a match's text
+//! is reached from the cursor at its end.
 //!
 //! ```
 //! // The words of `(a)|b`.
@@ -27,12 +28,18 @@ mod lexer;
 mod replace;
 mod slice;
 mod span;
+mod texts;
 
 pub use bounds::Bounds;
 pub use compute::{replace_with, replace_with_bounded};
 pub use divide::{split, split_bounded, split_groups, split_groups_bounded};
 pub use find::{find_all, find_bounded, full_match, is_match, match_text, search_text};
-pub use groups::{Captures, all_captures, captures_bounded, match_captures, search_captures};
-pub use lexer::{Token, Tokens, tokens_of};
-pub use replace::{Piece, replace_all, replace_bounded};
+pub use groups::{
+    Captures, CapturesOf, all_captures, captures_bounded, match_captures, search_captures,
+};
+pub use lexer::{Token, TokenOf, Tokens, TokensOf, tokens_of};
+pub use replace::{
+    Piece, PieceOf, replace_all, replace_all_bytes, replace_bounded, replace_bounded_bytes,
+};
 pub use slice::{group_text, match_start, matched_text};
+pub use texts::{Rewritten, Text};

@@ -1,7 +1,6 @@
 //! Where the matches of a walk start and end.
 
-ghost use Rattle.std.specs.Prelude.{◌≡◌, ◌<◌, ◌≤◌, IfOk, OnErr, MatchOption, IsSome};
-ghost use Rattle.sre_chars.specs.Texts.{StandsInText};
+ghost use Rattle.std.specs.Prelude.{◌≡◌, ◌+◌, ◌<◌, ◌≤◌, length, IfOk, OnErr, MatchOption, IsSome};
 ghost use Rattle.sre_engine.specs.Requests.{string_of};
 ghost use Rattle.sre_engine.specs.Iterators.{request_of, shown_of, IsOver, Gives, most_items};
 ghost use Rattle.sre_growth.specs.Refusal.{Refused};
@@ -17,24 +16,47 @@ pub(crate) struct Span {
     pub end: StringCursor,
 }
 
+// The cursor at a position that is not behind another cursor, reached from that one.
+pub(crate) fn back_to<S: StrDrive>(text: S, from: &StringCursor, position: usize) -> StringCursor
+    requires at { S.stands text from.now from.now.position }
+    requires before { position ≤ from.now.position }
+    ensures stands { S.stands text result result.position }
+    ensures position { result.position ≡ position }
+{
+    let mut cursor = *from;
+    text.back_skip(&mut cursor, from.position() - position);
+    cursor
+}
+
+// The cursor so many characters behind another one.
+pub(crate) fn on_by<S: StrDrive>(text: S, from: &StringCursor, several: usize) -> StringCursor
+    requires at { S.stands text from.now from.now.position }
+    requires within { from.now.position + several ≤ length (S.text text) }
+    ensures stands { S.stands text result result.position }
+    ensures position { result.position ≡ from.now.position + several }
+{
+    let mut cursor = *from;
+    text.skip(&mut cursor, several);
+    cursor
+}
+
 // Where the match that a state shows starts and ends: its start is reached from its end.
-pub(crate) fn span_of<A: Allocator + Copy>(text: &str, state: &State<A>) -> Span
-    requires stands { StandsInText text.now state.now.cursor state.now.cursor.position }
+pub(crate) fn span_of<S: StrDrive, A: Allocator + Copy>(text: S, state: &State<A>) -> Span
+    requires stands { S.stands text state.now.cursor state.now.cursor.position }
     requires forward { state.now.start ≤ state.now.cursor.position }
-    ensures { IsSpan text.now state.now result.start result.end }
+    ensures { IsSpan (S.stands text) state.now result.start result.end }
 {
     let end = state.cursor();
-    let mut start = end;
-    text.back_skip(&mut start, end.position() - state.start());
+    let start = back_to(text, &end, state.start());
     Span { start, end }
 }
 
 // The next match of a walk.
-pub(crate) fn next_span<A: Allocator + Copy>(
-    walk: &mut SearchIter<'_, &str, A>,
+pub(crate) fn next_span<S: StrDrive, A: Allocator + Copy>(
+    walk: &mut SearchIter<'_, S, A>,
 ) -> Result<Option<Span>, SreError>
     ensures gives { IfOk result (λ next. MatchOption next (IsOver walk.old) (λ span. Gives walk.old walk.new
-        × IsSpan (string_of (request_of walk.old)).now (shown_of walk.new) span.start span.end)) }
+        × IsSpan (S.stands (string_of (request_of walk.old))) (shown_of walk.new) span.start span.end)) }
     ensures falls { IfOk result (λ next. IsSome next → most_items walk.new < most_items walk.old) }
     ensures refused { OnErr result Refused }
 {

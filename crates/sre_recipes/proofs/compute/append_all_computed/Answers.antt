@@ -1,6 +1,4 @@
-use Rattle.std.proofs.Common.{◌≡◌, ◌++◌, ℕ, List, Bor, sym, subst}
-use Rattle.std.specs.Str.{chars}
-use Rattle.std.specs.String.{string_bytes}
+use Rattle.std.proofs.Common.{◌≡◌, ◌++◌, ℕ, List, sym, subst}
 use Rattle.sre_engine.specs.Codes.{words_of}
 use Rattle.sre_engine.specs.Grammar.{Whole}
 use Rattle.sre_engine.specs.Found.{Match, walk}
@@ -13,15 +11,16 @@ use Rattle.sre_recipes.proofs.compute.append_all_computed.Goals as goal
 
 pub returns-clause-ok : goal.returns-clause-ok
 returns-clause-ok g c = λ t tree going.
-    let before = chars c.args.output.now.items in
-    let after = chars c.append_computed.new.output.items in
+    let before = g.S.Text.characters c.args.output.now.items in
+    let after = g.S.Text.characters c.append_computed.new.output.items in
     let most = c.args.bounds.now.most in
     let own = request_of c.new-walk.result in
     let whole = subst (λ r. Whole (words_of (code_of r)) t) (sym c.new-walk.ensures.req) tree in
-    let Told = λ (s : Bor (List ℕ)) (from to : ℕ) (ms : List Match).
+    let Told = λ (s : g.row.S.Denot) (from to : ℕ) (ms : List Match).
     (new : List ℕ) × (after ≡ before ++ new)
-    × ReplacedInTurn (Computes (λ f d r h. goal.F-step g f d r h) (λ r. chars (string_bytes r)) (chars s.now))
-    (chars s.now) c.args.compute from to ms new in
+    × ReplacedInTurn
+    (Computes g.S.StrDrive.text (λ f d r h. goal.F-step g f d r h) g.S.Rewritten.shown (g.S.StrDrive.text s))
+    (g.S.StrDrive.text s) c.args.compute from to ms new in
     subst (λ r. Told (string_of r) (start_of r) (end_of r) (first_of most (walk (asked_of r) t))) c.new-walk.ensures.req
     (subst (λ ms. Told (string_of own) (start_of own) (end_of own) (first_of most ms))
     (all_left c.new-walk.result t c.new-walk.ensures.open) (c.in_ok-append_computed.ensures.ok t whole going))

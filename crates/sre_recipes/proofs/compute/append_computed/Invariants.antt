@@ -1,7 +1,4 @@
 use Rattle.std.proofs.Common.{◌≡◌, ◌++◌, ℕ, List, false}
-use Rattle.std.specs.Str.{chars, IsUtf8}
-use Rattle.std.specs.String.{string_bytes}
-use Rattle.sre_chars.specs.Texts.{StandsInText}
 use Rattle.sre_engine.specs.Tree.{Tree}
 use Rattle.sre_engine.specs.Grammar.{Whole}
 use Rattle.sre_engine.specs.Codes.{words_of}
@@ -9,25 +6,28 @@ use Rattle.sre_engine.specs.Requests.{string_of, start_of, end_of, code_of}
 use Rattle.sre_engine.specs.Iterators.{request_of, left_of, most_items}
 use Rattle.sre_recipes.specs.Computed.{Computes, ReplacedInTurn}
 use Rattle.sre_recipes.specs.Bounded.{first_of, AreLeft}
+use Rattle.sre_recipes.specs.Limits.{OutlastRest}
+use Rattle.sre_recipes.specs.Spans.{StandsAt}
 use Rattle.sre_recipes.proofs.Steps.{Kept}
 use Rattle.sre_recipes.proofs.compute.append_computed.Given as goal
 
 abbrev pub invariant-walk : goal.invariant-walk
 invariant-walk g l =
     let asked = request_of l.fn.walk in
-    let text = chars (string_of asked).now in
-    let puts = Computes (λ f c r h. goal.F-step g f c r h) (λ r. chars (string_bytes r)) text in
+    let text = g.S.StrDrive.text (string_of asked) in
+    let puts = Computes g.S.StrDrive.text (λ f c r h. goal.F-step g f c r h) g.S.Rewritten.shown text in
     record {
       kept : Kept l.walk (string_of asked) (words_of (code_of asked)) (end_of asked);
-      stands : StandsInText (string_of asked).now l.last (start_of (request_of l.walk));
-      utf8 : IsUtf8 l.output.items;
+      stands : StandsAt (g.S.StrDrive.stands (string_of asked)) l.last (start_of (request_of l.walk));
+      is_text : g.S.Text.IsText l.output.items;
       going : l.bounds.used_up ≡ false;
       turns : AreLeft l.fn.bounds.turns l.bounds.turns;
+      lasts : OutlastRest l.fn.walk l.fn.bounds.turns → OutlastRest l.walk l.bounds.turns;
       callable : goal.F-IsAlwaysCallable g l.compute;
       left : (t : Tree) → Whole (words_of (code_of asked)) t → (rest : List ℕ)
           → ReplacedInTurn puts text l.compute (start_of (request_of l.walk)) (end_of asked)
           (first_of l.bounds.most (left_of l.walk t)) rest
-          → (new : List ℕ) × (chars l.output.items ++ rest ≡ chars l.fn.output.items ++ new)
+          → (new : List ℕ) × (g.S.Text.characters l.output.items ++ rest ≡ g.S.Text.characters l.fn.output.items ++ new)
           × ReplacedInTurn puts text l.fn.compute (start_of asked) (end_of asked)
           (first_of l.fn.bounds.most (left_of l.fn.walk t)) new;
     }

@@ -1,6 +1,5 @@
-use Rattle.std.proofs.Common.{◌≡◌, ◌++◌, ◌∷◌, [], ℕ, List, Bor, map, ap, ◌∙◌}
+use Rattle.std.proofs.Common.{◌≡◌, ◌++◌, ◌∷◌, [], ℕ, List, map, ap, ◌∙◌}
 use Rattle.std.proofs.lemmas.List.{map-append}
-use Rattle.std.specs.Str.{chars}
 use Rattle.std.specs.List.{slice_range}
 use Rattle.sre_engine.specs.Codes.{words_of}
 use Rattle.sre_engine.specs.Requests.{string_of, start_of, end_of, code_of}
@@ -19,18 +18,18 @@ walk-preserved g c =
     let gives = told.0 in
     let takes = told.2 in
     let asked = request_of c.args.walk.now in
-    let text = chars (string_of asked).now in
+    let text = g.S.StrDrive.text (string_of asked) in
     let words = words_of (code_of asked) in
     let before = c.walk.walk in
     let after = c.next_bounded.new.walk in
     let kept = c.walk.invariant.kept in
     let found = match_shown (shown_of after) in
     let start = start_of (request_of before) in
-    let shown = λ (s : Bor (List ℕ)). chars s.now in
+    let shown = g.S.StrDrive.text in
     let pieces = map shown c.walk.pieces.items in
     let added : map shown c.add_piece.new.pieces.items ≡ pieces ++ slice_range text start found.start ∷ [] =
     cc
-    (c.in_ok-add_piece.ensures.ok, c.string-text.ensures, c.req.ensures, c.walk.invariant.stands.0, told.1.from.0) in
+    (c.in_ok-add_piece.ensures.ok, c.string-text.ensures, c.req.ensures, c.walk.invariant.stands.at, told.1.begins) in
     record {
       kept = kept_on before after (string_of asked) words (end_of asked) gives kept;
       stands =
@@ -40,6 +39,7 @@ walk-preserved g c =
       turns =
           left_on c.args.bounds.now.turns c.walk.bounds.turns c.next_bounded.new.bounds.turns c.walk.invariant.turns
           takes.turns;
+      lasts = λ enough. takes.lasts (c.walk.invariant.lasts enough);
       left = λ t tree.
           pieces_step text pieces (map shown c.add_piece.new.pieces.items) found
           (first_of c.walk.bounds.most (left_of before t))
@@ -56,19 +56,19 @@ pub returns-clause-ok : goal.returns-clause-ok
 returns-clause-ok g c = λ t tree going.
     let stops = rw c.in_default.is at c.in_ok-span.ensures.gives in
     let asked = request_of c.args.walk.now in
-    let text = chars (string_of asked).now in
+    let text = g.S.StrDrive.text (string_of asked) in
     let before = c.walk.walk in
     let start = start_of (request_of before) in
-    let shown = λ (s : Bor (List ℕ)). chars s.now in
+    let shown = g.S.StrDrive.text in
     let pieces = map shown c.walk.pieces.items in
-    let cut : chars c.up_to.result.now ≡ slice_range text start (end_of asked) =
+    let cut : g.S.StrDrive.text c.up_to.result ≡ slice_range text start (end_of asked) =
     cc (
       c.up_to.ensures,
       c.string-text.ensures,
       c.req.ensures,
       c.end-stop.ensures.value,
       c.req-2.ensures,
-      c.walk.invariant.stands.0,
+      c.walk.invariant.stands.at,
     ) in
     let added = ap (map shown) c.in_ok-push.ensures.items
     ∙ map-append shown c.walk.pieces.items (c.up_to.result ∷ [])
@@ -82,3 +82,7 @@ returns-clause-ok g c = λ t tree going.
     c.walk.invariant.kept.words tree)
     added
     (c.walk.invariant.left t tree)
+
+pub returns-clause-lasts : goal.returns-clause-lasts
+returns-clause-lasts g c = λ enough.
+    (rw c.in_default.is at c.in_ok-span.ensures.gives).lasts (c.walk.invariant.lasts enough)

@@ -1,6 +1,4 @@
 use Rattle.std.proofs.Common.{◌≡◌, ◌++◌, map, false}
-use Rattle.std.specs.Str.{chars}
-use Rattle.sre_chars.specs.Texts.{StandsInText}
 use Rattle.sre_engine.specs.Tree.{Tree}
 use Rattle.sre_engine.specs.Grammar.{Whole}
 use Rattle.sre_engine.specs.Codes.{words_of}
@@ -8,6 +6,8 @@ use Rattle.sre_engine.specs.Requests.{string_of, start_of, end_of, code_of}
 use Rattle.sre_engine.specs.Iterators.{request_of, left_of, most_items}
 use Rattle.sre_recipes.specs.Pieces.{pieces_between}
 use Rattle.sre_recipes.specs.Bounded.{first_of, AreLeft}
+use Rattle.sre_recipes.specs.Limits.{OutlastRest}
+use Rattle.sre_recipes.specs.Spans.{StandsAt}
 use Rattle.sre_recipes.proofs.Steps.{Kept}
 use Rattle.sre_recipes.proofs.divide.add_pieces.Given as goal
 
@@ -16,15 +16,16 @@ invariant-walk g l =
     let asked = request_of l.fn.walk in
     record {
       kept : Kept l.walk (string_of asked) (words_of (code_of asked)) (end_of asked);
-      stands : StandsInText (string_of asked).now l.last (start_of (request_of l.walk));
+      stands : StandsAt (g.S.StrDrive.stands (string_of asked)) l.last (start_of (request_of l.walk));
       going : l.bounds.used_up ≡ false;
       turns : AreLeft l.fn.bounds.turns l.bounds.turns;
+      lasts : OutlastRest l.fn.walk l.fn.bounds.turns → OutlastRest l.walk l.bounds.turns;
       left : (t : Tree) → Whole (words_of (code_of asked)) t
-          → map (λ s. chars s.now) l.pieces.items
-          ++ pieces_between (chars (string_of asked).now) (start_of (request_of l.walk)) (end_of asked)
+          → map g.S.StrDrive.text l.pieces.items
+          ++ pieces_between (g.S.StrDrive.text (string_of asked)) (start_of (request_of l.walk)) (end_of asked)
           (first_of l.bounds.most (left_of l.walk t))
-          ≡ map (λ s. chars s.now) l.fn.pieces.items
-          ++ pieces_between (chars (string_of asked).now) (start_of asked) (end_of asked)
+          ≡ map g.S.StrDrive.text l.fn.pieces.items
+          ++ pieces_between (g.S.StrDrive.text (string_of asked)) (start_of asked) (end_of asked)
           (first_of l.fn.bounds.most (left_of l.fn.walk t));
     }
 

@@ -1,12 +1,11 @@
 use Rattle.std.proofs.Common.{◌≡◌, ◌++◌, ◌∷◌, [], ℕ, List, Some, map, ap, ◌∙◌}
 use Rattle.std.proofs.lemmas.List.{map-append}
-use Rattle.std.specs.Str.{chars}
 use Rattle.std.specs.List.{slice_range}
 use Rattle.sre_engine.specs.Codes.{words_of}
 use Rattle.sre_engine.specs.Requests.{string_of, start_of, end_of, code_of}
 use Rattle.sre_engine.specs.Iterators.{request_of, shown_of, left_of}
 use Rattle.sre_engine.specs.Walks.{match_shown}
-use Rattle.sre_recipes.specs.Captured.{group_shown}
+use Rattle.std.specs.Option.{option_map}
 use Rattle.sre_recipes.specs.Pieces.{first_groups, pieces_and_groups}
 use Rattle.sre_recipes.specs.Bounded.{first_of}
 use Rattle.sre_recipes.proofs.Bounding.{left_on, taken_step, stopped}
@@ -20,7 +19,7 @@ walk-preserved g c =
     let gives = told.0 in
     let takes = told.2 in
     let asked = request_of c.args.walk.now in
-    let text = chars (string_of asked).now in
+    let text = g.S.StrDrive.text (string_of asked) in
     let words = words_of (code_of asked) in
     let several = c.args.groups in
     let before = c.walk.walk in
@@ -28,15 +27,15 @@ walk-preserved g c =
     let kept = c.walk.invariant.kept in
     let found = match_shown (shown_of after) in
     let start = start_of (request_of before) in
-    let pieces = map group_shown c.walk.pieces.items in
-    let longer = map group_shown c.add_with_groups.new.pieces.items in
+    let pieces = map (option_map g.S.StrDrive.text) c.walk.pieces.items in
+    let longer = map (option_map g.S.StrDrive.text) c.add_with_groups.new.pieces.items in
     let added : longer ≡ (pieces ++ Some (slice_range text start found.start) ∷ []) ++ first_groups text several found =
     cc (
       c.in_ok-add_with_groups.ensures.ok,
       c.string-text.ensures,
       c.req.ensures,
       c.state.ensures,
-      c.walk.invariant.stands.0,
+      c.walk.invariant.stands.at,
     ) in
     record {
       kept = kept_on before after (string_of asked) words (end_of asked) gives kept;
@@ -47,10 +46,11 @@ walk-preserved g c =
       turns =
           left_on c.args.bounds.now.turns c.walk.bounds.turns c.next_bounded.new.bounds.turns c.walk.invariant.turns
           takes.turns;
+      lasts = λ enough. takes.lasts (c.walk.invariant.lasts enough);
       left = λ t tree.
           groups_step text several pieces longer found (first_of c.walk.bounds.most (left_of before t))
           (first_of c.next_bounded.new.bounds.most (left_of after t)) start (start_of (request_of after)) (end_of asked)
-          (map group_shown c.args.pieces.now.items
+          (map (option_map g.S.StrDrive.text) c.args.pieces.now.items
           ++ pieces_and_groups text several (start_of asked) (end_of asked)
           (first_of c.args.bounds.now.most (left_of c.args.walk.now t)))
           (taken_step before after c.walk.bounds c.next_bounded.new.bounds words t gives takes kept.words tree)
@@ -62,29 +62,33 @@ pub returns-clause-ok : goal.returns-clause-ok
 returns-clause-ok g c = λ t tree going.
     let stops = rw c.in_default.is at c.in_ok-span.ensures.gives in
     let asked = request_of c.args.walk.now in
-    let text = chars (string_of asked).now in
+    let text = g.S.StrDrive.text (string_of asked) in
     let several = c.args.groups in
     let before = c.walk.walk in
     let start = start_of (request_of before) in
-    let pieces = map group_shown c.walk.pieces.items in
-    let cut : chars c.up_to.result.now ≡ slice_range text start (end_of asked) =
+    let pieces = map (option_map g.S.StrDrive.text) c.walk.pieces.items in
+    let cut : g.S.StrDrive.text c.up_to.result ≡ slice_range text start (end_of asked) =
     cc (
       c.up_to.ensures,
       c.string-text.ensures,
       c.req.ensures,
       c.end-stop.ensures.value,
       c.req-2.ensures,
-      c.walk.invariant.stands.0,
+      c.walk.invariant.stands.at,
     ) in
-    let added = ap (map group_shown) c.in_ok-push.ensures.items
-    ∙ map-append group_shown c.walk.pieces.items (Some c.up_to.result ∷ [])
+    let added = ap (map (option_map g.S.StrDrive.text)) c.in_ok-push.ensures.items
+    ∙ map-append (option_map g.S.StrDrive.text) c.walk.pieces.items (Some c.up_to.result ∷ [])
     ∙ ap (λ (cs : List ℕ). pieces ++ Some cs ∷ []) cut in
-    groups_end text several pieces (map group_shown c.push.new.list.items)
+    groups_end text several pieces (map (option_map g.S.StrDrive.text) c.push.new.list.items)
     (first_of c.walk.bounds.most (left_of before t)) start (end_of asked)
-    (map group_shown c.args.pieces.now.items
+    (map (option_map g.S.StrDrive.text) c.args.pieces.now.items
     ++ pieces_and_groups text several (start_of asked) (end_of asked)
     (first_of c.args.bounds.now.most (left_of c.args.walk.now t)))
     (stopped before c.walk.bounds c.next_bounded.new.bounds (words_of (code_of asked)) t stops going
     c.walk.invariant.kept.words tree)
     added
     (c.walk.invariant.left t tree)
+
+pub returns-clause-lasts : goal.returns-clause-lasts
+returns-clause-lasts g c = λ enough.
+    (rw c.in_default.is at c.in_ok-span.ensures.gives).lasts (c.walk.invariant.lasts enough)

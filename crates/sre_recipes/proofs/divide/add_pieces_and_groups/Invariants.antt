@@ -1,31 +1,33 @@
 use Rattle.std.proofs.Common.{◌≡◌, ◌++◌, map, false}
-use Rattle.std.specs.Str.{chars}
-use Rattle.sre_chars.specs.Texts.{StandsInText}
 use Rattle.sre_engine.specs.Tree.{Tree}
 use Rattle.sre_engine.specs.Grammar.{Whole}
 use Rattle.sre_engine.specs.Codes.{words_of}
 use Rattle.sre_engine.specs.Requests.{string_of, start_of, end_of, code_of}
 use Rattle.sre_engine.specs.Iterators.{request_of, left_of, most_items}
-use Rattle.sre_recipes.specs.Captured.{group_shown}
+use Rattle.std.specs.Option.{option_map}
 use Rattle.sre_recipes.specs.Pieces.{pieces_and_groups}
 use Rattle.sre_recipes.specs.Bounded.{first_of, AreLeft}
+use Rattle.sre_recipes.specs.Limits.{OutlastRest}
+use Rattle.sre_recipes.specs.Spans.{StandsAt}
 use Rattle.sre_recipes.proofs.Steps.{Kept}
 use Rattle.sre_recipes.proofs.divide.add_pieces_and_groups.Given as goal
 
 abbrev pub invariant-walk : goal.invariant-walk
 invariant-walk g l =
     let asked = request_of l.fn.walk in
+    let text = g.S.StrDrive.text (string_of asked) in
     record {
       kept : Kept l.walk (string_of asked) (words_of (code_of asked)) (end_of asked);
-      stands : StandsInText (string_of asked).now l.last (start_of (request_of l.walk));
+      stands : StandsAt (g.S.StrDrive.stands (string_of asked)) l.last (start_of (request_of l.walk));
       going : l.bounds.used_up ≡ false;
       turns : AreLeft l.fn.bounds.turns l.bounds.turns;
+      lasts : OutlastRest l.fn.walk l.fn.bounds.turns → OutlastRest l.walk l.bounds.turns;
       left : (t : Tree) → Whole (words_of (code_of asked)) t
-          → map group_shown l.pieces.items
-          ++ pieces_and_groups (chars (string_of asked).now) l.groups (start_of (request_of l.walk)) (end_of asked)
+          → map (option_map g.S.StrDrive.text) l.pieces.items
+          ++ pieces_and_groups text l.groups (start_of (request_of l.walk)) (end_of asked)
           (first_of l.bounds.most (left_of l.walk t))
-          ≡ map group_shown l.fn.pieces.items
-          ++ pieces_and_groups (chars (string_of asked).now) l.groups (start_of asked) (end_of asked)
+          ≡ map (option_map g.S.StrDrive.text) l.fn.pieces.items
+          ++ pieces_and_groups text l.groups (start_of asked) (end_of asked)
           (first_of l.fn.bounds.most (left_of l.fn.walk t));
     }
 

@@ -1,5 +1,4 @@
-use Rattle.std.proofs.Common.{◌≡◌, ◌++◌, ◌∷◌, [], ℕ, List, Bor, map, ap, ◌∙◌, subst}
-use Rattle.std.specs.Str.{chars}
+use Rattle.std.proofs.Common.{◌≡◌, ◌++◌, ◌∷◌, [], ℕ, List, map, ap, ◌∙◌, subst}
 use Rattle.std.specs.List.{slice_range}
 use Rattle.sre_engine.specs.Codes.{words_of}
 use Rattle.sre_engine.specs.Requests.{string_of, code_of}
@@ -25,14 +24,17 @@ walk-preserved g c =
     let found = match_shown (shown_of after) in
     let from = c.in-Some.span.start in
     let to = c.in-Some.span.end in
-    let span = subst (λ (x : Bor (List ℕ)). IsSpan x.now (shown_of after) from to) c.walk.invariant.string told.1 in
-    let shown = λ (s : Bor (List ℕ)). chars s.now in
+    let stands = g.S.StrDrive.stands in
+    let span = subst (λ (x : g.row.S.Denot). IsSpan (stands x) (shown_of after) from to) c.walk.invariant.string told.1
+    in
+    let shown = g.S.StrDrive.text in
     let texts = map shown c.walk.all.items in
-    let added : map shown c.add_text.new.all.items ≡ texts ++ slice_of (chars whole.now) found ∷ [] =
+    let added : map shown c.add_text.new.all.items ≡ texts ++ slice_of (g.S.StrDrive.text whole) found ∷ [] =
     c.in_ok-add_text.ensures.ok
-    ∙ ap (λ (x : Bor (List ℕ)). texts ++ slice_range (chars x.now) from.position to.position ∷ [])
+    ∙ ap (λ (x : g.row.S.Denot). texts ++ slice_range (g.S.StrDrive.text x) from.position to.position ∷ [])
     (c.string-text.ensures ∙ ap string_of c.req.ensures)
-    ∙ ap (λ (cs : List ℕ). texts ++ cs ∷ []) (span_slice whole.now (shown_of after) from to span) in
+    ∙ ap (λ (cs : List ℕ). texts ++ cs ∷ [])
+    (span_slice (stands whole) (g.S.StrDrive.text whole) (shown_of after) from to span) in
     record {
       string = gives.request.string ∙ c.walk.invariant.string;
       code = gives.request.pattern_codes ∙ c.walk.invariant.code;
@@ -40,12 +42,13 @@ walk-preserved g c =
       turns =
           left_on c.args.bounds.now.turns c.walk.bounds.turns c.next_bounded.new.bounds.turns c.walk.invariant.turns
           takes.turns;
+      lasts = λ enough. takes.lasts (c.walk.invariant.lasts enough);
       left = λ t tree.
-          listed_step (slice_of (chars whole.now)) texts (map shown c.add_text.new.all.items) found
+          listed_step (slice_of (g.S.StrDrive.text whole)) texts (map shown c.add_text.new.all.items) found
           (first_of c.walk.bounds.most (left_of before t))
           (first_of c.next_bounded.new.bounds.most (left_of after t))
           (map shown c.args.all.now.items
-          ++ map (slice_of (chars whole.now)) (first_of c.args.bounds.now.most (left_of c.args.walk.now t)))
+          ++ map (slice_of (g.S.StrDrive.text whole)) (first_of c.args.bounds.now.most (left_of c.args.walk.now t)))
           (taken_step before after c.walk.bounds c.next_bounded.new.bounds (words_of (code_of asked)) t gives takes
           (ap words_of c.walk.invariant.code) tree)
           added (c.walk.invariant.left t tree);
@@ -55,11 +58,15 @@ pub returns-clause-ok : goal.returns-clause-ok
 returns-clause-ok g c = λ t tree going.
     let stops = rw c.in_default.is at c.in_ok-span.ensures.gives in
     let asked = request_of c.args.walk.now in
-    let slice = slice_of (chars (string_of asked).now) in
-    let shown = λ (s : Bor (List ℕ)). chars s.now in
+    let slice = slice_of (g.S.StrDrive.text (string_of asked)) in
+    let shown = g.S.StrDrive.text in
     none_left slice (map shown c.walk.all.items) (first_of c.walk.bounds.most (left_of c.walk.walk t))
     (map shown c.args.all.now.items
     ++ map slice (first_of c.args.bounds.now.most (left_of c.args.walk.now t)))
     (stopped c.walk.walk c.walk.bounds c.next_bounded.new.bounds (words_of (code_of asked)) t stops going
     (ap words_of c.walk.invariant.code) tree)
     (c.walk.invariant.left t tree)
+
+pub returns-clause-lasts : goal.returns-clause-lasts
+returns-clause-lasts g c = λ enough.
+    (rw c.in_default.is at c.in_ok-span.ensures.gives).lasts (c.walk.invariant.lasts enough)

@@ -1,5 +1,4 @@
 use Rattle.std.proofs.Common.{◌≡◌, ◌++◌, map, false}
-use Rattle.std.specs.Str.{chars}
 use Rattle.sre_engine.specs.Tree.{Tree}
 use Rattle.sre_engine.specs.Grammar.{Whole}
 use Rattle.sre_engine.specs.Codes.{words_of}
@@ -7,6 +6,7 @@ use Rattle.sre_engine.specs.Requests.{string_of, code_of}
 use Rattle.sre_engine.specs.Iterators.{request_of, left_of, most_items}
 use Rattle.sre_recipes.specs.Slices.{slice_of}
 use Rattle.sre_recipes.specs.Bounded.{first_of, AreLeft}
+use Rattle.sre_recipes.specs.Limits.{OutlastRest}
 use Rattle.sre_recipes.proofs.find.add_texts.Given as goal
 
 abbrev pub invariant-walk : goal.invariant-walk
@@ -15,11 +15,13 @@ invariant-walk g l = record {
   code : code_of (request_of l.walk) ≡ code_of (request_of l.fn.walk);
   going : l.bounds.used_up ≡ false;
   turns : AreLeft l.fn.bounds.turns l.bounds.turns;
+  lasts : OutlastRest l.fn.walk l.fn.bounds.turns → OutlastRest l.walk l.bounds.turns;
   left : (t : Tree) → Whole (words_of (code_of (request_of l.fn.walk))) t
-      → map (λ s. chars s.now) l.all.items
-      ++ map (slice_of (chars (string_of (request_of l.fn.walk)).now)) (first_of l.bounds.most (left_of l.walk t))
-      ≡ map (λ s. chars s.now) l.fn.all.items
-      ++ map (slice_of (chars (string_of (request_of l.fn.walk)).now))
+      → map g.S.StrDrive.text l.all.items
+      ++ map (slice_of (g.S.StrDrive.text (string_of (request_of l.fn.walk))))
+      (first_of l.bounds.most (left_of l.walk t))
+      ≡ map g.S.StrDrive.text l.fn.all.items
+      ++ map (slice_of (g.S.StrDrive.text (string_of (request_of l.fn.walk))))
       (first_of l.fn.bounds.most (left_of l.fn.walk t));
 }
 

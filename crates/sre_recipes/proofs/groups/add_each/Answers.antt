@@ -1,5 +1,4 @@
-use Rattle.std.proofs.Common.{◌≡◌, ◌++◌, ◌∷◌, [], ℕ, List, Bor, map, ap, ◌∙◌}
-use Rattle.std.specs.Str.{chars}
+use Rattle.std.proofs.Common.{◌≡◌, ◌++◌, ◌∷◌, [], map, ap, ◌∙◌}
 use Rattle.sre_engine.specs.Codes.{words_of}
 use Rattle.sre_engine.specs.Requests.{string_of, code_of}
 use Rattle.sre_engine.specs.Iterators.{request_of, shown_of, left_of}
@@ -21,11 +20,11 @@ walk-preserved g c =
     let before = c.walk.walk in
     let after = c.next_bounded.new.walk in
     let found = match_shown (shown_of after) in
-    let shown = captured (chars whole.now) in
-    let all = map captures_shown c.walk.all.items in
-    let added : map captures_shown c.add_captures.new.all.items ≡ all ++ shown found ∷ [] =
+    let shown = captured (g.S.StrDrive.text whole) in
+    let all = map (captures_shown g.S.StrDrive.text) c.walk.all.items in
+    let added : map (captures_shown g.S.StrDrive.text) c.add_captures.new.all.items ≡ all ++ shown found ∷ [] =
     c.in_ok-add_captures.ensures.ok
-    ∙ ap (λ (x : Bor (List ℕ)). all ++ captured (chars x.now) (match_shown c.state.result.now) ∷ [])
+    ∙ ap (λ (x : g.row.S.Denot). all ++ captured (g.S.StrDrive.text x) (match_shown c.state.result.now) ∷ [])
     (c.string-text.ensures ∙ ap string_of c.req.ensures)
     ∙ ap (λ s. all ++ shown (match_shown s) ∷ []) c.state.ensures in
     record {
@@ -35,11 +34,12 @@ walk-preserved g c =
       turns =
           left_on c.args.bounds.now.turns c.walk.bounds.turns c.next_bounded.new.bounds.turns c.walk.invariant.turns
           takes.turns;
+      lasts = λ enough. takes.lasts (c.walk.invariant.lasts enough);
       left = λ t tree.
-          listed_step shown all (map captures_shown c.add_captures.new.all.items) found
+          listed_step shown all (map (captures_shown g.S.StrDrive.text) c.add_captures.new.all.items) found
           (first_of c.walk.bounds.most (left_of before t))
           (first_of c.next_bounded.new.bounds.most (left_of after t))
-          (map captures_shown c.args.all.now.items
+          (map (captures_shown g.S.StrDrive.text) c.args.all.now.items
           ++ map shown (first_of c.args.bounds.now.most (left_of c.args.walk.now t)))
           (taken_step before after c.walk.bounds c.next_bounded.new.bounds (words_of (code_of asked)) t gives takes
           (ap words_of c.walk.invariant.code) tree)
@@ -50,10 +50,15 @@ pub returns-clause-ok : goal.returns-clause-ok
 returns-clause-ok g c = λ t tree going.
     let stops = rw c.in_default.is at c.in_ok-span.ensures.gives in
     let asked = request_of c.args.walk.now in
-    let shown = captured (chars (string_of asked).now) in
-    none_left shown (map captures_shown c.walk.all.items) (first_of c.walk.bounds.most (left_of c.walk.walk t))
-    (map captures_shown c.args.all.now.items
+    let shown = captured (g.S.StrDrive.text (string_of asked)) in
+    none_left shown (map (captures_shown g.S.StrDrive.text) c.walk.all.items)
+    (first_of c.walk.bounds.most (left_of c.walk.walk t))
+    (map (captures_shown g.S.StrDrive.text) c.args.all.now.items
     ++ map shown (first_of c.args.bounds.now.most (left_of c.args.walk.now t)))
     (stopped c.walk.walk c.walk.bounds c.next_bounded.new.bounds (words_of (code_of asked)) t stops going
     (ap words_of c.walk.invariant.code) tree)
     (c.walk.invariant.left t tree)
+
+pub returns-clause-lasts : goal.returns-clause-lasts
+returns-clause-lasts g c = λ enough.
+    (rw c.in_default.is at c.in_ok-span.ensures.gives).lasts (c.walk.invariant.lasts enough)

@@ -1,5 +1,4 @@
 use Rattle.std.proofs.Common.{◌≡◌, ◌++◌, map, false}
-use Rattle.std.specs.Str.{chars}
 use Rattle.sre_engine.specs.Tree.{Tree}
 use Rattle.sre_engine.specs.Grammar.{Whole}
 use Rattle.sre_engine.specs.Codes.{words_of}
@@ -8,6 +7,7 @@ use Rattle.sre_engine.specs.Iterators.{request_of, left_of, most_items}
 use Rattle.sre_recipes.specs.Slices.{captured}
 use Rattle.sre_recipes.specs.Captured.{captures_shown}
 use Rattle.sre_recipes.specs.Bounded.{first_of, AreLeft}
+use Rattle.sre_recipes.specs.Limits.{OutlastRest}
 use Rattle.sre_recipes.proofs.groups.add_each.Given as goal
 
 abbrev pub invariant-walk : goal.invariant-walk
@@ -18,11 +18,12 @@ invariant-walk g l =
       code : code_of (request_of l.walk) ≡ code_of asked;
       going : l.bounds.used_up ≡ false;
       turns : AreLeft l.fn.bounds.turns l.bounds.turns;
+      lasts : OutlastRest l.fn.walk l.fn.bounds.turns → OutlastRest l.walk l.bounds.turns;
       left : (t : Tree) → Whole (words_of (code_of asked)) t
-          → map captures_shown l.all.items
-          ++ map (captured (chars (string_of asked).now)) (first_of l.bounds.most (left_of l.walk t))
-          ≡ map captures_shown l.fn.all.items
-          ++ map (captured (chars (string_of asked).now)) (first_of l.fn.bounds.most (left_of l.fn.walk t));
+          → map (captures_shown g.S.StrDrive.text) l.all.items
+          ++ map (captured (g.S.StrDrive.text (string_of asked))) (first_of l.bounds.most (left_of l.walk t))
+          ≡ map (captures_shown g.S.StrDrive.text) l.fn.all.items
+          ++ map (captured (g.S.StrDrive.text (string_of asked))) (first_of l.fn.bounds.most (left_of l.fn.walk t));
     }
 
 abbrev pub decreases-walk : goal.decreases-walk

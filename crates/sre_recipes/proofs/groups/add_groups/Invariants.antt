@@ -1,17 +1,16 @@
 use Rattle.std.proofs.Common.{◌≡◌, ◌≤◌, ◌-◌, ◌++◌, map}
-use Rattle.std.specs.Str.{chars}
 use Rattle.std.specs.List.{range_with_len}
 use Rattle.sre_engine.specs.Walks.{match_shown}
 use Rattle.sre_recipes.specs.Slices.{numbered_group}
-use Rattle.sre_recipes.specs.Captured.{group_shown}
+use Rattle.std.specs.Option.{option_map}
 use Rattle.sre_recipes.proofs.groups.add_groups.Given as goal
 
 abbrev pub invariant-group : goal.invariant-group
 invariant-group g l = record {
   few : l.count ≤ l.several;
-  so_far : map group_shown l.groups.items
-      ≡ map group_shown l.fn.groups.items
-      ++ map (numbered_group (chars l.text) (match_shown l.state)) (range_with_len l.first l.count);
+  so_far : map (option_map g.S.StrDrive.text) l.groups.items
+      ≡ map (option_map g.S.StrDrive.text) l.fn.groups.items
+      ++ map (numbered_group (g.S.StrDrive.text l.text) (match_shown l.state)) (range_with_len l.first l.count);
 }
 
 abbrev pub decreases-group : goal.decreases-group

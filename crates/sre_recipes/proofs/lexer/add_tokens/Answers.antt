@@ -1,6 +1,4 @@
-use Rattle.std.proofs.Common.{◌≡◌, ◌++◌, ℕ, List, Bor, map, ap, sym, ◌∙◌, subst}
-use Rattle.std.specs.Str.{chars}
-use Rattle.sre_chars.specs.Texts.{StandsInText}
+use Rattle.std.proofs.Common.{◌≡◌, ◌++◌, map, ap, sym, ◌∙◌, subst}
 use Rattle.sre_engine.specs.Codes.{words_of}
 use Rattle.sre_engine.specs.Requests.{string_of, start_of, end_of, code_of}
 use Rattle.sre_engine.specs.Answers.{Shown}
@@ -8,6 +6,7 @@ use Rattle.sre_engine.specs.Iterators.{request_of, shown_of, left_of}
 use Rattle.sre_engine.specs.Walks.{match_shown}
 use Rattle.sre_recipes.specs.Lexed.{reached, lexeme_of, lexeme_shown}
 use Rattle.sre_recipes.specs.Adjoining.{adjoining, unless_empty}
+use Rattle.sre_recipes.specs.Spans.{StandsAt}
 use Rattle.sre_recipes.proofs.Steps.{walk_step, kept_on}
 use Rattle.sre_recipes.proofs.Written.{tokens_step, none_left, reached_on}
 use Rattle.sre_recipes.proofs.lexer.add_tokens.Goals as goal
@@ -18,7 +17,7 @@ walk-preserved g c =
     let gives = told.gives in
     let asked = request_of c.args.walk.now in
     let whole = string_of asked in
-    let text = chars whole.now in
+    let text = g.S.StrDrive.text whole in
     let words = words_of (code_of asked) in
     let before = c.walk.walk in
     let after = c.next_adjoining.new.walk in
@@ -26,21 +25,21 @@ walk-preserved g c =
     let found = match_shown (shown_of after) in
     let start = start_of (request_of before) in
     let next = start_of (request_of after) in
-    let tokens = map lexeme_shown c.walk.all.tokens.items in
-    let new = map lexeme_shown c.add_token.new.all.tokens.items in
+    let tokens = map (lexeme_shown g.S.StrDrive.text) c.walk.all.tokens.items in
+    let new = map (lexeme_shown g.S.StrDrive.text) c.add_token.new.all.tokens.items in
     let end = c.add_token.new.all.end in
     let added : new ≡ tokens ++ map (lexeme_of text) (unless_empty found) =
     cc (c.in_ok-add_token.ensures.ok, c.string-text.ensures, c.req.ensures, c.state.ensures) in
-    let stands = subst (λ (x : Bor (List ℕ)). StandsInText x.now end c.state.result.now.cursor.position)
+    let stands = subst (λ (x : g.row.S.Denot). StandsAt (g.S.StrDrive.stands x) end c.state.result.now.cursor.position)
     (c.string-text.ensures ∙ ap string_of c.req.ensures) c.in_ok-add_token.ensures.end in
     record {
       kept = kept_on before after whole words (end_of asked) gives kept;
       stands =
           rw gives.request.start
-          (subst (λ (s : Shown). StandsInText whole.now end s.cursor.position) c.state.ensures stands);
+          (subst (λ (s : Shown). StandsAt (g.S.StrDrive.stands whole) end s.cursor.position) c.state.ensures stands);
       left = λ t tree.
           tokens_step text tokens new found (left_of before t) (left_of after t) start next
-          (map lexeme_shown c.args.all.now.tokens.items
+          (map (lexeme_shown g.S.StrDrive.text) c.args.all.now.tokens.items
           ++ map (lexeme_of text) (adjoining (start_of asked) (left_of c.args.walk.now t)))
           (walk_step before after words t gives kept.words tree) told.here gives.request.start added
           (c.walk.invariant.left t tree);
@@ -55,10 +54,10 @@ pub returns-clause-ok : goal.returns-clause-ok
 returns-clause-ok g c = λ t tree.
     let none = (rw c.in_default.is at c.in_ok-span.ensures.gives).none t (rw c.walk.invariant.kept.words tree) in
     let asked = request_of c.args.walk.now in
-    let lexeme = lexeme_of (chars (string_of asked).now) in
-    none_left lexeme (map lexeme_shown c.walk.all.tokens.items)
+    let lexeme = lexeme_of (g.S.StrDrive.text (string_of asked)) in
+    none_left lexeme (map (lexeme_shown g.S.StrDrive.text) c.walk.all.tokens.items)
     (adjoining (start_of (request_of c.walk.walk)) (left_of c.walk.walk t))
-    (map lexeme_shown c.args.all.now.tokens.items
+    (map (lexeme_shown g.S.StrDrive.text) c.args.all.now.tokens.items
     ++ map lexeme (adjoining (start_of asked) (left_of c.args.walk.now t)))
     none (c.walk.invariant.left t tree)
 
@@ -66,5 +65,5 @@ pub returns-clause-end : goal.returns-clause-end
 returns-clause-end g c = λ t tree.
     let none = (rw c.in_default.is at c.in_ok-span.ensures.gives).none t (rw c.walk.invariant.kept.words tree) in
     let start = start_of (request_of c.walk.walk) in
-    subst (StandsInText (string_of (request_of c.args.walk.now)).now c.walk.all.end)
+    subst (StandsAt (g.S.StrDrive.stands (string_of (request_of c.args.walk.now))) c.walk.all.end)
     (ap (reached start) (sym none) ∙ c.walk.invariant.end t tree) c.walk.invariant.stands

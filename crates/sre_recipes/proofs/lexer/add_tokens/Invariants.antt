@@ -1,6 +1,4 @@
 use Rattle.std.proofs.Common.{◌≡◌, ◌++◌, map}
-use Rattle.std.specs.Str.{chars}
-use Rattle.sre_chars.specs.Texts.{StandsInText}
 use Rattle.sre_engine.specs.Tree.{Tree}
 use Rattle.sre_engine.specs.Grammar.{Whole}
 use Rattle.sre_engine.specs.Codes.{words_of}
@@ -8,6 +6,7 @@ use Rattle.sre_engine.specs.Requests.{string_of, start_of, end_of, code_of}
 use Rattle.sre_engine.specs.Iterators.{request_of, left_of, most_items}
 use Rattle.sre_recipes.specs.Lexed.{reached, lexeme_of, lexeme_shown}
 use Rattle.sre_recipes.specs.Adjoining.{adjoining}
+use Rattle.sre_recipes.specs.Spans.{StandsAt}
 use Rattle.sre_recipes.proofs.Steps.{Kept}
 use Rattle.sre_recipes.proofs.lexer.add_tokens.Given as goal
 
@@ -17,12 +16,12 @@ invariant-walk g l =
     let start = start_of (request_of l.walk) in
     record {
       kept : Kept l.walk (string_of asked) (words_of (code_of asked)) (end_of asked);
-      stands : StandsInText (string_of asked).now l.all.end start;
+      stands : StandsAt (g.S.StrDrive.stands (string_of asked)) l.all.end start;
       left : (t : Tree) → Whole (words_of (code_of asked)) t
-          → map lexeme_shown l.all.tokens.items
-          ++ map (lexeme_of (chars (string_of asked).now)) (adjoining start (left_of l.walk t))
-          ≡ map lexeme_shown l.fn.all.tokens.items
-          ++ map (lexeme_of (chars (string_of asked).now)) (adjoining (start_of asked) (left_of l.fn.walk t));
+          → map (lexeme_shown g.S.StrDrive.text) l.all.tokens.items
+          ++ map (lexeme_of (g.S.StrDrive.text (string_of asked))) (adjoining start (left_of l.walk t))
+          ≡ map (lexeme_shown g.S.StrDrive.text) l.fn.all.tokens.items
+          ++ map (lexeme_of (g.S.StrDrive.text (string_of asked))) (adjoining (start_of asked) (left_of l.fn.walk t));
       end : (t : Tree) → Whole (words_of (code_of asked)) t
           → reached start (adjoining start (left_of l.walk t))
           ≡ reached (start_of asked) (adjoining (start_of asked) (left_of l.fn.walk t));

@@ -9,4 +9,4 @@ pub returns-then-not-begins_at-clause-gives : goal.returns-then-not-begins_at-cl
 returns-then-not-begins_at-clause-gives g c =
     let told = rw c.in-Some.is at c.in_ok-span.ensures.gives in
     gap_none c.args.walk.now c.next_span.new.walk told.0
-    (cc (c.begins_at.ensures, c.if-not-begins_at.true, told.1.from.0, c.requires))
+    (cc (c.begins_at.ensures, c.if-not-begins_at.true, told.1.begins, c.requires))

@@ -1,6 +1,4 @@
 use Rattle.std.proofs.Common.{◌≤◌, ◌++◌, ℕ, map, ap, ◌∙◌, subst}
-use Rattle.std.specs.Str.{chars}
-use Rattle.sre_chars.specs.Texts.{StandsInText}
 use Rattle.sre_engine.specs.Found.{walk}
 use Rattle.sre_engine.specs.Requests.{string_of, start_of, end_of, asked_of}
 use Rattle.sre_recipes.specs.Lexed.{reached, lexeme_of, lexeme_shown}
@@ -12,14 +10,15 @@ pub returns-clause-ok : goal.returns-clause-ok
 returns-clause-ok g c = λ t tree.
     let inside = subst (λ (p : ℕ). p ≤ end_of c.args.req) c.start.ensures.value c.start.ensures.in_window in
     let asked = asked_of c.args.req in
-    let lexeme = lexeme_of (chars (string_of c.args.req).now) in
+    let lexeme = lexeme_of (g.S.StrDrive.text (string_of c.args.req)) in
     c.in_ok-add_all_tokens.ensures.ok t tree
-    ∙ ap (λ tokens. map lexeme_shown tokens ++ map lexeme (adjoining asked.start (walk asked t))) c.new.ensures.items
+    ∙ ap (λ tokens. map (lexeme_shown g.S.StrDrive.text) tokens ++ map lexeme (adjoining asked.start (walk asked t)))
+    c.new.ensures.items
     ∙ ap (map lexeme) (walk_tokens asked t inside)
 
 pub returns-clause-end : goal.returns-clause-end
 returns-clause-end g c = λ t tree.
     let inside = subst (λ (p : ℕ). p ≤ end_of c.args.req) c.start.ensures.value c.start.ensures.in_window in
-    subst (StandsInText (string_of c.args.req).now c.add_all_tokens.new.all.end)
-    (ap (reached (start_of c.args.req)) (walk_tokens (asked_of c.args.req) t inside))
-    (c.in_ok-add_all_tokens.ensures.end t tree)
+    let told = c.in_ok-add_all_tokens.ensures.end t tree in
+    subst (g.S.StrDrive.stands (string_of c.args.req) c.add_all_tokens.new.all.end)
+    (told.at ∙ ap (reached (start_of c.args.req)) (walk_tokens (asked_of c.args.req) t inside)) told.there

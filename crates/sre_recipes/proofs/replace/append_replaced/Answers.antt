@@ -1,5 +1,4 @@
 use Rattle.std.proofs.Common.{◌≡◌, ◌++◌, ℕ, List, ap, ◌∙◌}
-use Rattle.std.specs.Str.{chars}
 use Rattle.std.specs.List.{slice_range}
 use Rattle.sre_engine.specs.Codes.{words_of}
 use Rattle.sre_engine.specs.Requests.{string_of, start_of, end_of, code_of}
@@ -18,22 +17,23 @@ walk-preserved g c =
     let gives = told.0 in
     let takes = told.2 in
     let asked = request_of c.args.walk.now in
-    let text = chars (string_of asked).now in
+    let text = g.S.StrDrive.text (string_of asked) in
     let words = words_of (code_of asked) in
     let before = c.walk.walk in
     let after = c.next_bounded.new.walk in
     let kept = c.walk.invariant.kept in
     let found = match_shown (shown_of after) in
     let start = start_of (request_of before) in
-    let new = written text c.args.template.now in
-    let output = chars c.walk.output.items in
-    let added : chars c.append_match.new.output.items ≡ (output ++ slice_range text start found.start) ++ new found =
+    let new = written g.S.StrDrive.text text c.args.template.now in
+    let output = g.S.Text.characters c.walk.output.items in
+    let added : g.S.Text.characters c.append_match.new.output.items
+    ≡ (output ++ slice_range text start found.start) ++ new found =
     cc (
       c.in_ok-append_match.ensures.ok,
       c.string-text.ensures,
       c.req.ensures,
       c.state.ensures,
-      c.walk.invariant.stands.0,
+      c.walk.invariant.stands.at,
     ) in
     record {
       kept = kept_on before after (string_of asked) words (end_of asked) gives kept;
@@ -44,12 +44,13 @@ walk-preserved g c =
       turns =
           left_on c.args.bounds.now.turns c.walk.bounds.turns c.next_bounded.new.bounds.turns c.walk.invariant.turns
           takes.turns;
-      utf8 = c.in_ok-append_match.ensures.utf8;
+      lasts = λ enough. takes.lasts (c.walk.invariant.lasts enough);
+      is_text = c.in_ok-append_match.ensures.written;
       left = λ t tree.
-          replaced_step text new output (chars c.append_match.new.output.items) found
+          replaced_step text new output (g.S.Text.characters c.append_match.new.output.items) found
           (first_of c.walk.bounds.most (left_of before t))
           (first_of c.next_bounded.new.bounds.most (left_of after t)) start (start_of (request_of after)) (end_of asked)
-          (chars c.args.output.now.items
+          (g.S.Text.characters c.args.output.now.items
           ++ replaced text new (start_of asked) (end_of asked)
           (first_of c.args.bounds.now.most (left_of c.args.walk.now t)))
           (taken_step before after c.walk.bounds c.next_bounded.new.bounds words t gives takes kept.words tree)
@@ -61,24 +62,29 @@ pub returns-clause-ok : goal.returns-clause-ok
 returns-clause-ok g c = λ t tree going.
     let stops = rw c.in_default.is at c.in_ok-span.ensures.gives in
     let asked = request_of c.args.walk.now in
-    let text = chars (string_of asked).now in
+    let text = g.S.StrDrive.text (string_of asked) in
     let before = c.walk.walk in
     let start = start_of (request_of before) in
-    let new = written text c.args.template.now in
-    let output = chars c.walk.output.items in
-    let cut : chars c.up_to.result.now ≡ slice_range text start (end_of asked) =
+    let new = written g.S.StrDrive.text text c.args.template.now in
+    let output = g.S.Text.characters c.walk.output.items in
+    let cut : g.S.StrDrive.text c.up_to.result ≡ slice_range text start (end_of asked) =
     cc (
       c.up_to.ensures,
       c.string-text.ensures,
       c.req.ensures,
       c.end-stop.ensures.value,
       c.req-2.ensures,
-      c.walk.invariant.stands.0,
+      c.walk.invariant.stands.at,
     ) in
-    replaced_end text new output (chars c.append.new.output.items) (first_of c.walk.bounds.most (left_of before t))
+    replaced_end text new output (g.S.Text.characters c.append_to.new.output.items)
+    (first_of c.walk.bounds.most (left_of before t))
     start (end_of asked)
-    (chars c.args.output.now.items
+    (g.S.Text.characters c.args.output.now.items
     ++ replaced text new (start_of asked) (end_of asked) (first_of c.args.bounds.now.most (left_of c.args.walk.now t)))
     (stopped before c.walk.bounds c.next_bounded.new.bounds (words_of (code_of asked)) t stops going
     c.walk.invariant.kept.words tree)
-    (c.in_ok-append.ensures.ok ∙ ap (λ (cs : List ℕ). output ++ cs) cut) (c.walk.invariant.left t tree)
+    (c.in_ok-append_to.ensures.ok ∙ ap (λ (cs : List ℕ). output ++ cs) cut) (c.walk.invariant.left t tree)
+
+pub returns-clause-lasts : goal.returns-clause-lasts
+returns-clause-lasts g c = λ enough.
+    (rw c.in_default.is at c.in_ok-span.ensures.gives).lasts (c.walk.invariant.lasts enough)

@@ -1,6 +1,4 @@
 use Rattle.std.proofs.Common.{◌≡◌, ◌++◌, false}
-use Rattle.std.specs.Str.{chars, IsUtf8}
-use Rattle.sre_chars.specs.Texts.{StandsInText}
 use Rattle.sre_engine.specs.Tree.{Tree}
 use Rattle.sre_engine.specs.Grammar.{Whole}
 use Rattle.sre_engine.specs.Codes.{words_of}
@@ -8,25 +6,28 @@ use Rattle.sre_engine.specs.Requests.{string_of, start_of, end_of, code_of}
 use Rattle.sre_engine.specs.Iterators.{request_of, left_of, most_items}
 use Rattle.sre_recipes.specs.Templates.{written, replaced}
 use Rattle.sre_recipes.specs.Bounded.{first_of, AreLeft}
+use Rattle.sre_recipes.specs.Limits.{OutlastRest}
+use Rattle.sre_recipes.specs.Spans.{StandsAt}
 use Rattle.sre_recipes.proofs.Steps.{Kept}
 use Rattle.sre_recipes.proofs.replace.append_replaced.Given as goal
 
 abbrev pub invariant-walk : goal.invariant-walk
 invariant-walk g l =
     let asked = request_of l.fn.walk in
-    let text = chars (string_of asked).now in
+    let text = g.S.StrDrive.text (string_of asked) in
     record {
       kept : Kept l.walk (string_of asked) (words_of (code_of asked)) (end_of asked);
-      stands : StandsInText (string_of asked).now l.last (start_of (request_of l.walk));
-      utf8 : IsUtf8 l.output.items;
+      stands : StandsAt (g.S.StrDrive.stands (string_of asked)) l.last (start_of (request_of l.walk));
+      is_text : g.S.Text.IsText l.output.items;
       going : l.bounds.used_up ≡ false;
       turns : AreLeft l.fn.bounds.turns l.bounds.turns;
+      lasts : OutlastRest l.fn.walk l.fn.bounds.turns → OutlastRest l.walk l.bounds.turns;
       left : (t : Tree) → Whole (words_of (code_of asked)) t
-          → chars l.output.items
-          ++ replaced text (written text l.template) (start_of (request_of l.walk)) (end_of asked)
+          → g.S.Text.characters l.output.items
+          ++ replaced text (written g.S.StrDrive.text text l.template) (start_of (request_of l.walk)) (end_of asked)
           (first_of l.bounds.most (left_of l.walk t))
-          ≡ chars l.fn.output.items
-          ++ replaced text (written text l.template) (start_of asked) (end_of asked)
+          ≡ g.S.Text.characters l.fn.output.items
+          ++ replaced text (written g.S.StrDrive.text text l.template) (start_of asked) (end_of asked)
           (first_of l.fn.bounds.most (left_of l.fn.walk t));
     }
 

@@ -1,6 +1,9 @@
-use Rattle.std.proofs.Common.{[], ap, ◌∙◌, unwrap_or}
-use Rattle.std.proofs.lemmas.Str.{chars-nil}
+use Rattle.std.proofs.Common.{[], ap, ◌∙◌, arith, unwrap_or}
+use Rattle.sre_recipes.proofs.Cuts.{nothing_between}
 use Rattle.sre_recipes.proofs.replace.piece_text.Goals as goal
 
 pub returns-in-None : goal.returns-in-None
-returns-in-None g c = rw c.in-Group.is (chars-nil ∙ ap (λ o. unwrap_or o []) c.in-None.ensures)
+returns-in-None g c =
+    let end = c.args.span.now.end.position in
+    let none = nothing_between (g.S.StrDrive.text c.args.text) end end (omega arith) in
+    rw c.in-Group.is (c.between-in-None.ensures ∙ none ∙ ap (λ o. unwrap_or o []) c.in-None.ensures)

@@ -1,7 +1,7 @@
 use Rattle.std.proofs.Common.{◌≡◌, ◌++◌, ℕ, List, ap, sym, ◌∙◌, subst}
 use Rattle.std.proofs.lemmas.Str.{chars-append, IsUtf8-append}
 use Rattle.std.specs.Str.{chars, IsUtf8}
-use Rattle.sre_recipes.proofs.replace.append.Goals as goal
+use Rattle.sre_recipes.proofs.texts.append_text.Goals as goal
 
 pub returns-clause-ok : goal.returns-clause-ok
 returns-clause-ok g c =

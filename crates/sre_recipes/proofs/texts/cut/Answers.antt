@@ -5,7 +5,7 @@ use Rattle.std.specs.Str.{chars}
 use Rattle.sre_chars.specs.Texts.{offset_of}
 use Rattle.sre_chars.proofs.TextPlaces.{offset_boundary}
 use Rattle.sre_recipes.proofs.Cuts.{offset_order, slice_encodes}
-use Rattle.sre_recipes.proofs.slice.between.Goals as goal
+use Rattle.sre_recipes.proofs.texts.cut.Goals as goal
 
 pub range-requires-clause-start_le_end : goal.range-requires-clause-start_le_end
 range-requires-clause-start_le_end c =
