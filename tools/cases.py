@@ -6,9 +6,11 @@
 Below crates/NAME/cases, and in examples/ for `sre_cases`, stand files for the program NAME. `{TEXT*N}` in a file of
 lines or answers is TEXT N times.
 
-    X.txt           lines; X.expected has the answers, and X.fault the line that the program ends with, if it has one
-    files.jsonl     whole files, with the answers and the fault
-    no_cases.jsonl  lines that are no cases: each is tried as the fourth line of a file
+    X.txt           lines; X.expected has the answers, X.fault the line that the program ends with, if it has one, and
+                    X.flags the flags that stand before the file's name, if there are any
+    files.jsonl     whole files, with the answers, the fault and the flags
+    no_cases.jsonl  lines that are no cases, each with its cause: it is tried as the fourth line of a file, with and
+                    without --explain
     calls.jsonl     arguments, with the answers and the fault; `to` and `faults_to` name a file that is written in place
                     of the two outputs
 
@@ -26,7 +28,8 @@ import hostile
 import large
 
 ROOT = os.path.dirname(os.path.dirname(os.path.realpath(__file__)))
-BEFORE, ANSWER, BEHIND = b"# all lines count\n\ncheck -\n", b"refused\n", b"\ncheck -\n"
+BEFORE, BEHIND = b"# all lines count\n\ncheck -\n", b"\ncheck -\n"
+ANSWER, EXPLAINED = b"refused\n", b"refused Truncated 0\n"
 
 
 def read(path):
@@ -94,8 +97,9 @@ def calls_of_lines(folder, name, room):
     has_lines = os.path.isfile(f"{path}.txt")
     file = room.file(expanded(read(f"{path}.txt"))) if has_lines else f"{name}.txt"
     answers = expanded(read(f"{path}.expected"))
+    flags = read(f"{path}.flags").split() if os.path.isfile(f"{path}.flags") else []
     # lines without an answer would be compared with nothing
-    yield f"case file {name}", Call([file], answers, fault) if answers or fault else None
+    yield f"case file {name}", Call([*flags, file], answers, fault) if answers or fault else None
 
 
 def rows(folder, name):
@@ -115,10 +119,13 @@ def calls_of(folder, room):
     for name in sorted(it[: -len(".expected")] for it in os.listdir(folder) if it.endswith(".expected")):
         yield from calls_of_lines(folder, name, room)
     for label, row in rows(folder, "files"):
-        yield label, Call([room.file(octets(row, "file"))], octets(row, "answers"), octets(row, "fault"))
-    for label, line in rows(folder, "no_cases"):
+        arguments = [*row.get("flags", []), room.file(octets(row, "file"))]
+        yield label, Call(arguments, octets(row, "answers"), octets(row, "fault"))
+    for label, (line, cause) in rows(folder, "no_cases"):
         file = room.file(BEFORE + line.encode("latin-1") + BEHIND)
         yield label, Call([file], ANSWER, b"line 4: not a case\n")
+        explained = f"line 4: not a case: {cause}\n".encode()
+        yield f"{label}, explained", Call(["--explain", file], EXPLAINED, explained)
     for label, row in rows(folder, "calls"):
         ends = [row.get(it) for it in ("to", "faults_to")]
         arguments = [it.encode("latin-1") for it in row["arguments"]]

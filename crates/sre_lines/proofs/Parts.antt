@@ -1,14 +1,17 @@
 -- Pieces that are written one behind the other: where a write fails, a part of all of them stands there.
-use Rattle.std.proofs.Common.{ℕ, ◌≡◌, ◌∙◌, List, [], ◌∷◌, ◌++◌, Option, Result, Ok, Err, sym, ap, subst, append_assoc}
-use Rattle.std.specs.Prelude.{OnOk, OnErr, String, string_bytes}
-use Rattle.std.specs.Global.{Global}
+use Rattle.std.proofs.Common.{ℕ, ◌≡◌, ◌∙◌, List, ◌++◌, Option, Result, Ok, Err, sym, ap, subst, append_assoc}
+use Rattle.std.specs.Prelude.{OnOk, OnErr}
 use Rattle.std.specs.Io.KnownBytes.{Appends}
 use Rattle.std.proofs.KnownBytes.{Appends-trans}
 use Rattle.sre_lines.specs.Output.{AppendsPart}
+use Rattle.sre_chars.specs.Tables.{Table}
 use Rattle.sre_lines.specs.Answers.{fault_text}
-use Rattle.sre_lines.specs.Program.{Arguments, Reading, IsArgument, AnswersFile, AnswersNamed, ProgramRun}
-use Rattle.sre_lines.specs.Program.{end_of, fault_line, Tells}
+use Rattle.sre_lines.specs.Lines.{lines_of, StopsAt, IsNoCaseAt}
+use Rattle.sre_lines.specs.Program.{Reading, AnswersFile, IsFaultOf, IsEndOf, FileRun, end_of, Tells, TellsFault}
+use Rattle.std.specs.declared.io.Error.{Error}
 use Rattle.sre_lines.specs.declared.cases.CaseFault.{CaseFault}
+use Rattle.sre_lines.specs.declared.cases.CaseFault.TheVariants.{CannotRead, NotACase}
+use Rattle.sre_lines.specs.declared.cases.Detail.{Detail}
 use Rattle.sre_lines.specs.declared.program.Ending.{Ending}
 use Rattle.sre_lines.specs.declared.program.Ending.TheVariants.{AllAnswered, Told, Untold}
 
@@ -38,32 +41,61 @@ behind_part old mid new front bytes said (Err e) same a (part, rest, split, b) =
 )
 
 -- what is told of a fault at which the program ends
-told : (old new : Option (List ℕ)) (fault : CaseFault) (argument : Result (String Global) CaseFault) (ending : Ending)
-    → end_of ending ≡ Err fault → (ending ≡ Told fault → Appends old new (fault_line fault argument))
-    → (ending ≡ Untold fault → AppendsPart old new (fault_line fault argument)) → Tells old new argument ending
-told old new fault argument AllAnswered is line part = absurd (cc)
-told old new fault argument (Told f) is line part =
+pub told : (old new : Option (List ℕ)) (name end : List ℕ) (fault : CaseFault) (ending : Ending)
+    → end_of ending ≡ Err fault → (ending ≡ Told fault → Appends old new (fault_text fault name ++ end))
+    → (ending ≡ Untold fault → AppendsPart old new (fault_text fault name ++ end)) → Tells old new name end ending
+told old new name end fault AllAnswered is line part = absurd (cc)
+told old new name end fault (Told f) is line part =
     let same : f ≡ fault = cc in
-    subst (λ (x : CaseFault). Appends old new (fault_line x argument)) (sym same) (line (ap Told same))
-told old new fault argument (Untold f) is line part =
+    subst (λ (x : CaseFault). Appends old new (fault_text x name ++ end)) (sym same) (line (ap Told same))
+told old new name end fault (Untold f) is line part =
     let same : f ≡ fault = cc in
-    subst (λ (x : CaseFault). AppendsPart old new (fault_line x argument)) (sym same) (part (ap Untold same))
+    subst (λ (x : CaseFault). AppendsPart old new (fault_text x name ++ end)) (sym same) (part (ap Untold same))
 
--- a run that stops at a fault of its file
-pub stopped_run : (Reads : List ℕ → Reading → Type 0) (args : Arguments) (out out' faults faults' : Option (List ℕ))
-    (name : String Global) (asked shown : List ℕ) (fault : CaseFault) (ending : Ending) → asked ≡ string_bytes name
-    → shown ≡ string_bytes name → IsArgument args (Ok name)
-    → (file : Reading) × Reads asked file × AnswersFile out out' file (Err fault) → end_of ending ≡ Err fault
-    → (ending ≡ Told fault → Appends faults faults' (fault_text fault shown ++ 10 ∷ []))
-    → (ending ≡ Untold fault → AppendsPart faults faults' (fault_text fault shown ++ 10 ∷ []))
-    → ProgramRun Reads args out out' faults faults' ending
-stopped_run Reads args out out' faults faults' name asked shown fault ending a b is (file, read, said) end line part =
-    let Line : List ℕ → Type 0 = λ text. Appends faults faults' (fault_text fault text ++ 10 ∷ []) in
-    let Part : List ℕ → Type 0 = λ text. AppendsPart faults faults' (fault_text fault text ++ 10 ∷ []) in
-    let Read : List ℕ → Type 0 = λ text. Reads text file in
-    let To : Result (Unit {0}) CaseFault → Type 0 = λ e. AnswersNamed Reads out out' (Ok name) e in record {
-      argument = Ok name;
-      is_argument = is;
-      answers = subst To (sym end) (file, subst Read a read, said);
-      tells = told faults faults' fault (Ok name) ending end (λ e. subst Line b (line e)) (λ e. subst Part b (part e));
+-- the same with what stands behind the fault's text
+pub told_fault : (detail : Detail) (file : Reading) (old new : Option (List ℕ)) (name end : List ℕ) (fault : CaseFault)
+    (ending : Ending) → end_of ending ≡ Err fault → IsEndOf detail file fault end
+    → (ending ≡ Told fault → Appends old new (fault_text fault name ++ end))
+    → (ending ≡ Untold fault → AppendsPart old new (fault_text fault name ++ end))
+    → TellsFault detail file old new name ending
+told_fault detail file old new name end fault AllAnswered is at line part = absurd (cc)
+told_fault detail file old new name end fault (Told f) is at line part =
+    let same : f ≡ fault = cc in
+    subst (λ (x : CaseFault). (end : List ℕ) × IsEndOf detail file x end × Appends old new (fault_text x name ++ end))
+    (sym same) (end, at, line (ap Told same))
+told_fault detail file old new name end fault (Untold f) is at line part =
+    let same : f ≡ fault = cc in
+    subst (λ (x : CaseFault).
+    (end : List ℕ) × IsEndOf detail file x end × AppendsPart old new (fault_text x name ++ end))
+    (sym same) (end, at, part (ap Untold same))
+
+-- where that stops at a fault, which is told
+pub stopped_file : (detail : Detail) (file : Reading) (out out' faults faults' : Option (List ℕ)) (name end : List ℕ)
+    (fault : CaseFault) (ending : Ending) → AnswersFile detail out out' file (Err fault) → end_of ending ≡ Err fault
+    → IsEndOf detail file fault end
+    → (ending ≡ Told fault → Appends faults faults' (fault_text fault name ++ end))
+    → (ending ≡ Untold fault → AppendsPart faults faults' (fault_text fault name ++ end))
+    → FileRun detail file out out' faults faults' name ending
+stopped_file detail file out out' faults faults' name end fault ending answers is at line part = record {
+  answers = subst (λ r. AnswersFile detail out out' file r) (sym is) answers;
+  tells = told_fault detail file faults faults' name end fault ending is at line part;
+}
+
+pub unread_file : (detail : Detail) (error : Error) (out out' faults faults' : Option (List ℕ)) (name : List ℕ)
+    (fault : CaseFault) (ending : Ending) → end_of ending ≡ Err fault → IsFaultOf error CannotRead fault → out' ≡ out
+    → TellsFault detail (Err error) faults faults' name ending
+    → FileRun detail (Err error) out out' faults faults' name ending
+unread_file detail error out out' faults faults' name fault ending is of same tells = record {
+  answers = subst (λ r. AnswersFile detail out out' (Err error) r) (sym is) (of, same);
+  tells = tells;
+}
+
+-- the line at which a file stops is no case
+pub no_case_at : (detail : Detail) (table : Table) (old new : Option (List ℕ)) (file : List ℕ) (fault : CaseFault)
+    → StopsAt detail table old new (lines_of file) fault → (n : ℕ) → fault ≡ NotACase n → IsNoCaseAt file n
+no_case_at detail table old new file fault stops n is =
+    let found = stops.no_case n is in record {
+      line = stops.line;
+      at = record { before = stops.before; after = stops.after; split = stops.split; counted = found.0 };
+      is = found.1;
     }

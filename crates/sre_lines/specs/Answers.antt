@@ -3,6 +3,11 @@ use Rattle.std.specs.Prelude.{ℕ, ◌≤◌, Bool, true, false, Option, Some, N
 use Rattle.std.specs.Fmt.{decimal}
 use Rattle.std.specs.List.{flat_map}
 use Rattle.sre_growth.specs.Refusal.{Refused}
+use Rattle.sre_engine.specs.Refusals.{place_of}
+use Rattle.sre_code.specs.declared.code.error.CodeError.{CodeError}
+use Rattle.sre_code.specs.declared.code.error.CodeError.TheVariants.{Memory, Truncated, UnknownOpcode, UnknownAt}
+use Rattle.sre_code.specs.declared.code.error.CodeError.TheVariants.{UnknownCategory, BadSkip, BadCounts, BadItem}
+use Rattle.sre_code.specs.declared.code.error.CodeError.TheVariants.{BadSet, BadInfo, TrailingWords}
 use Rattle.sre_lines.specs.declared.cases.CaseFault.{CaseFault}
 use Rattle.sre_lines.specs.declared.cases.CaseFault.TheVariants.{Usage, CannotRead, NotACase, NoMemory, OutputFailed}
 
@@ -29,6 +34,24 @@ hints_text width prefix literal first_set =
 abbrev pub marks_text : List (Option ℕ) → List ℕ
 marks_text [] = codes "none"
 marks_text (mark ∷ marks) = number_text mark ++ flat_map (λ m. 44 ∷ number_text m) marks
+
+-- the name of a refusal's cause
+abbrev pub refusal_name : CodeError → List ℕ
+refusal_name Memory = codes "Memory"
+refusal_name (Truncated place) = codes "Truncated"
+refusal_name (UnknownOpcode place) = codes "UnknownOpcode"
+refusal_name (UnknownAt place) = codes "UnknownAt"
+refusal_name (UnknownCategory place) = codes "UnknownCategory"
+refusal_name (BadSkip place) = codes "BadSkip"
+refusal_name (BadCounts place) = codes "BadCounts"
+refusal_name (BadItem place) = codes "BadItem"
+refusal_name (BadSet place) = codes "BadSet"
+refusal_name (BadInfo place) = codes "BadInfo"
+refusal_name (TrailingWords place) = codes "TrailingWords"
+
+-- a refusal with its cause, and the place of the word at which that was seen
+abbrev pub refusal_text : CodeError → List ℕ
+refusal_text error = codes "refused " ++ refusal_name error ++ codes " " ++ decimal (place_of error)
 
 -- the line of a fault
 abbrev pub fault_text : CaseFault → List ℕ → List ℕ

@@ -1,5 +1,6 @@
 pub mod Answers
 pub mod Cases
+pub mod Causes
 pub mod Fields
 pub mod Lines
 pub mod Output

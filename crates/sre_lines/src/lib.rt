@@ -3,6 +3,7 @@
 
 pub mod answer;
 pub mod cases;
+pub mod cause;
 pub mod line;
 mod number;
 mod output;
