@@ -7,10 +7,12 @@ Below crates/NAME/cases, and in examples/ for `sre_cases`, stand files for the p
 lines or answers is TEXT N times.
 
     X.txt           lines; X.expected has the answers, X.fault the line that the program ends with, if it has one, and
-                    X.flags the flags that stand before the file's name, if there are any
+                    X.flags the flags that stand before the file's name, if there are any. A file NAME.table lies where
+                    the program runs
     files.jsonl     whole files, with the answers, the fault and the flags
     no_cases.jsonl  lines that are no cases, each with its cause: it is tried as the fourth line of a file, with and
                     without --explain
+    tables.jsonl    files that are no tables, each with its cause: it is tried as the table, with and without --explain
     calls.jsonl     arguments, with the answers and the fault; `to` and `faults_to` name a file that is written in place
                     of the two outputs
 
@@ -20,6 +22,7 @@ words (`hostile.py`), and large ones (`large.py`).
 import json
 import os
 import re
+import shutil
 import subprocess
 import sys
 import tempfile
@@ -126,6 +129,11 @@ def calls_of(folder, room):
         yield label, Call([file], ANSWER, b"line 4: not a case\n")
         explained = f"line 4: not a case: {cause}\n".encode()
         yield f"{label}, explained", Call(["--explain", file], EXPLAINED, explained)
+    for label, (table, cause) in rows(folder, "tables"):
+        file, cases = room.file(table.encode("latin-1")), room.file(BEHIND)
+        yield label, Call(["--table", file, cases], b"", f"{file}: not a table\n".encode())
+        explained = f"{file}: not a table: {cause}\n".encode()
+        yield f"{label}, explained", Call(["--table", file, "--explain", cases], b"", explained)
     for label, row in rows(folder, "calls"):
         ends = [row.get(it) for it in ("to", "faults_to")]
         arguments = [it.encode("latin-1") for it in row["arguments"]]
@@ -147,6 +155,8 @@ class Cases:
     def files(self, folder, name):
         with tempfile.TemporaryDirectory(prefix="cases-") as at:
             room = Room(at)
+            for table in filter(lambda it: it.endswith(".table"), os.listdir(folder)):
+                shutil.copy(f"{folder}/{table}", at)
             room_calls = list(calls_of(folder, room))
             with open(f"{at}/case.txt", "w", encoding="ascii") as file:
                 file.write(read(f"{ROOT}/crates/sre_cases/data/case.txt"))

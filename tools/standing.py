@@ -38,7 +38,7 @@ HANDLES = "Handles allowed: none.\n"
 READ = {
     "must-fail": r".*\.edit",
     "wrong": r".*\.(edit|right)",
-    "cases": r".*\.(txt|expected|fault|flags)|(files|no_cases|calls)\.jsonl",
+    "cases": r".*\.(txt|expected|fault|flags|table)|(files|no_cases|tables|calls)\.jsonl",
 }
 
 GROWTHS = ("from_slice", "push", "resize")

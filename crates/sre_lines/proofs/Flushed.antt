@@ -9,7 +9,8 @@ use Rattle.std.proofs.lemmas.List.Splits.{length-slice_split}
 use Rattle.sre_chars.specs.Tables.{Table}
 use Rattle.sre_lines.specs.declared.cases.Detail.{Detail}
 use Rattle.sre_lines.specs.declared.cases.CaseFault.{CaseFault}
-use Rattle.sre_lines.specs.declared.cases.CaseFault.TheVariants.{Usage, CannotRead, NotACase, NoMemory, OutputFailed}
+use Rattle.sre_lines.specs.declared.cases.CaseFault.TheVariants.{Usage, CannotRead, NotATable, NotACase, NoMemory}
+use Rattle.sre_lines.specs.declared.cases.CaseFault.TheVariants.{OutputFailed}
 use Rattle.sre_lines.specs.Lines.{lines_of, IsAnswered, AreAnswered, Answered, IsBegun, StopsAt}
 
 -- the last of some lines
@@ -65,6 +66,7 @@ goes_on (Some known) (Some all) first others appended = appended ∙ sym (append
 abbrev IsFailedWrite : CaseFault → Type 0
 IsFailedWrite Usage = ⊥
 IsFailedWrite CannotRead = ⊥
+IsFailedWrite NotATable = ⊥
 IsFailedWrite (NotACase n) = ⊥
 IsFailedWrite NoMemory = ⊥
 IsFailedWrite OutputFailed = Unit {0}
@@ -94,6 +96,7 @@ begun_too : (detail : Detail) (table : Table) (fault : CaseFault) (line part : L
     → IsBegun detail table fault line part → IsBegun detail table OutputFailed line part
 begun_too detail table Usage line part begun = inl begun
 begun_too detail table CannotRead line part begun = inl begun
+begun_too detail table NotATable line part begun = inl begun
 begun_too detail table (NotACase n) line part begun = inl begun
 begun_too detail table NoMemory line part begun = inl begun
 begun_too detail table OutputFailed line part begun = begun

@@ -10,3 +10,4 @@ pub mod Lines
 pub mod Causes
 pub mod Parted
 pub mod LineAt
+pub mod TableFiles

@@ -1,19 +1,24 @@
 -- Pieces that are written one behind the other: where a write fails, a part of all of them stands there.
-use Rattle.std.proofs.Common.{ℕ, ◌≡◌, ◌∙◌, List, ◌++◌, Option, Result, Ok, Err, sym, ap, subst, append_assoc}
-use Rattle.std.specs.Prelude.{OnOk, OnErr}
+use Rattle.std.proofs.Common.{ℕ, ◌≡◌, ◌∙◌, List, ◌++◌, Option, Some, None, Result, Ok, Err}
+use Rattle.std.proofs.Common.{refl, sym, ap, subst, append_assoc, inl, inr}
+use Rattle.std.specs.Prelude.{OnOk, OnErr, IfOk, Vec, String, string_bytes}
+use Rattle.std.specs.Global.{Global}
 use Rattle.std.specs.Io.KnownBytes.{Appends}
 use Rattle.std.proofs.KnownBytes.{Appends-trans}
 use Rattle.sre_lines.specs.Output.{AppendsPart}
-use Rattle.sre_chars.specs.Tables.{Table}
+use Rattle.sre_chars.specs.Tables.{Table, ascii_table}
 use Rattle.sre_lines.specs.Answers.{fault_text}
 use Rattle.sre_lines.specs.Lines.{lines_of, StopsAt, IsNoCaseAt}
-use Rattle.sre_lines.specs.Program.{Reading, AnswersFile, IsFaultOf, IsEndOf, FileRun, end_of, Tells, TellsFault}
+use Rattle.sre_lines.specs.Program.{Reading, AnswersFile, IsFaultOf, IsEndOf, FileRun, end_of, Tells}
+use Rattle.sre_lines.specs.Program.{TellsFault, IsTablelessEnd, IsTableFault, IsTableless, IsTable, CallRun}
 use Rattle.std.specs.declared.io.Error.{Error}
 use Rattle.sre_lines.specs.declared.cases.CaseFault.{CaseFault}
 use Rattle.sre_lines.specs.declared.cases.CaseFault.TheVariants.{CannotRead, NotACase}
 use Rattle.sre_lines.specs.declared.cases.Detail.{Detail}
 use Rattle.sre_lines.specs.declared.program.Ending.{Ending}
 use Rattle.sre_lines.specs.declared.program.Ending.TheVariants.{AllAnswered, Told, Untold}
+use Rattle.sre_lines.specs.declared.program.Call.{Call}
+use Rattle.sre_lines.specs.TableFiles.{table_text}
 
 -- what a failed write of the front leaves
 pub front_part : {T E : Type 0} (old new : Option (List ℕ)) (front end : List ℕ) (r : Result T E)
@@ -53,42 +58,94 @@ told old new name end fault (Untold f) is line part =
     subst (λ (x : CaseFault). AppendsPart old new (fault_text x name ++ end)) (sym same) (part (ap Untold same))
 
 -- the same with what stands behind the fault's text
-pub told_fault : (detail : Detail) (file : Reading) (old new : Option (List ℕ)) (name end : List ℕ) (fault : CaseFault)
-    (ending : Ending) → end_of ending ≡ Err fault → IsEndOf detail file fault end
+pub told_fault : (Ends : CaseFault → List ℕ → Type 0) (old new : Option (List ℕ)) (name end : List ℕ)
+    (fault : CaseFault) (ending : Ending) → end_of ending ≡ Err fault → Ends fault end
     → (ending ≡ Told fault → Appends old new (fault_text fault name ++ end))
     → (ending ≡ Untold fault → AppendsPart old new (fault_text fault name ++ end))
-    → TellsFault detail file old new name ending
-told_fault detail file old new name end fault AllAnswered is at line part = absurd (cc)
-told_fault detail file old new name end fault (Told f) is at line part =
+    → TellsFault Ends old new name ending
+told_fault Ends old new name end fault AllAnswered is at line part = absurd (cc)
+told_fault Ends old new name end fault (Told f) is at line part =
     let same : f ≡ fault = cc in
-    subst (λ (x : CaseFault). (end : List ℕ) × IsEndOf detail file x end × Appends old new (fault_text x name ++ end))
-    (sym same) (end, at, line (ap Told same))
-told_fault detail file old new name end fault (Untold f) is at line part =
+    subst (λ (x : CaseFault). (end : List ℕ) × Ends x end × Appends old new (fault_text x name ++ end)) (sym same)
+    (end, at, line (ap Told same))
+told_fault Ends old new name end fault (Untold f) is at line part =
     let same : f ≡ fault = cc in
-    subst (λ (x : CaseFault).
-    (end : List ℕ) × IsEndOf detail file x end × AppendsPart old new (fault_text x name ++ end))
-    (sym same) (end, at, part (ap Untold same))
+    subst (λ (x : CaseFault). (end : List ℕ) × Ends x end × AppendsPart old new (fault_text x name ++ end)) (sym same)
+    (end, at, part (ap Untold same))
 
 -- where that stops at a fault, which is told
-pub stopped_file : (detail : Detail) (file : Reading) (out out' faults faults' : Option (List ℕ)) (name end : List ℕ)
-    (fault : CaseFault) (ending : Ending) → AnswersFile detail out out' file (Err fault) → end_of ending ≡ Err fault
-    → IsEndOf detail file fault end
+pub stopped_file : (detail : Detail) (table : Table) (file : Reading) (out out' faults faults' : Option (List ℕ))
+    (name end : List ℕ) (fault : CaseFault) (ending : Ending) → AnswersFile detail table out out' file (Err fault)
+    → end_of ending ≡ Err fault → IsEndOf detail file fault end
     → (ending ≡ Told fault → Appends faults faults' (fault_text fault name ++ end))
     → (ending ≡ Untold fault → AppendsPart faults faults' (fault_text fault name ++ end))
-    → FileRun detail file out out' faults faults' name ending
-stopped_file detail file out out' faults faults' name end fault ending answers is at line part = record {
-  answers = subst (λ r. AnswersFile detail out out' file r) (sym is) answers;
-  tells = told_fault detail file faults faults' name end fault ending is at line part;
+    → FileRun detail table file out out' faults faults' name ending
+stopped_file detail table file out out' faults faults' name end fault ending answers is at line part = record {
+  answers = subst (λ r. AnswersFile detail table out out' file r) (sym is) answers;
+  tells =
+      told_fault (λ fault end. IsEndOf detail file fault end) faults faults' name end fault ending is at line part;
 }
 
-pub unread_file : (detail : Detail) (error : Error) (out out' faults faults' : Option (List ℕ)) (name : List ℕ)
-    (fault : CaseFault) (ending : Ending) → end_of ending ≡ Err fault → IsFaultOf error CannotRead fault → out' ≡ out
-    → TellsFault detail (Err error) faults faults' name ending
-    → FileRun detail (Err error) out out' faults faults' name ending
-unread_file detail error out out' faults faults' name fault ending is of same tells = record {
-  answers = subst (λ r. AnswersFile detail out out' (Err error) r) (sym is) (of, same);
+-- a file that was not read
+pub unread_file : (detail : Detail) (table : Table) (error : Error) (out out' faults faults' : Option (List ℕ))
+    (name : List ℕ) (fault : CaseFault) (ending : Ending) → end_of ending ≡ Err fault
+    → IsFaultOf error CannotRead fault → out' ≡ out
+    → TellsFault (λ fault end. IsEndOf detail (Err error) fault end) faults faults' name ending
+    → FileRun detail table (Err error) out out' faults faults' name ending
+unread_file detail table error out out' faults faults' name fault ending is of same tells = record {
+  answers = subst (λ r. AnswersFile detail table out out' (Err error) r) (sym is) (of, same);
   tells = tells;
 }
+
+-- a file that is no table, or memory refused to it
+pub no_table : (detail : Detail) (file : Vec ℕ Global) (old new : Option (List ℕ)) (name end : List ℕ)
+    (fault : CaseFault) (ending : Ending) → IsTableFault (Ok file) fault → IsTablelessEnd detail (Ok file) fault end
+    → end_of ending ≡ Err fault → (ending ≡ Told fault → Appends old new (fault_text fault name ++ end))
+    → (ending ≡ Untold fault → AppendsPart old new (fault_text fault name ++ end))
+    → IsTableless detail (Ok file) old new name ending
+no_table detail file old new name end fault ending of at is line part = record {
+  fault = fault;
+  ends = is;
+  is = of;
+  tells = told_fault (λ fault end. IsTablelessEnd detail (Ok file) fault end) old new name end fault ending is at line
+      part;
+}
+
+-- a run by the table that the arguments name
+pub tabled : (Reads : List ℕ → Reading → Type 0) (call : Call) (table : Table)
+    (out out' faults faults' : Option (List ℕ)) (ending : Ending) → IsTable Reads call.table table
+    → (file : Reading) × Reads (string_bytes call.file) file
+    × FileRun call.detail table file out out' faults faults' (string_bytes call.file) ending
+    → CallRun Reads (Ok call) out out' faults faults' ending
+tabled Reads call table out out' faults faults' ending is (file, read, runs) =
+    inl (record { table = table; is_table = is; file = file; read = read; runs = runs })
+
+pub tableless : (Reads : List ℕ → Reading → Type 0) (call : Call) (name : String Global)
+    (out out' faults faults' : Option (List ℕ)) (ending : Ending) → call.table ≡ Some name → out' ≡ out
+    → (file : Reading) × Reads (string_bytes name) file
+    × IsTableless call.detail file faults faults' (string_bytes name) ending
+    → CallRun Reads (Ok call) out out' faults faults' ending
+tableless Reads call name out out' faults faults' ending named same (file, read, runs) =
+    inr (record { name = name; named = named; file = file; read = read; written = same; runs = runs })
+
+pub no_name : (Reads : List ℕ → Reading → Type 0) (named : Option (String Global)) → named ≡ None
+    → IsTable Reads named ascii_table
+no_name Reads None is = refl
+no_name Reads (Some name) is = absurd (cc)
+
+pub by_name : (Reads : List ℕ → Reading → Type 0) (named : Option (String Global)) (name : String Global)
+    (table : Table) → named ≡ Some name
+    → (file : Vec ℕ Global) × Reads (string_bytes name) (Ok file) × (table_text table ≡ file.items)
+    → IsTable Reads named table
+by_name Reads None name table is read = absurd (cc)
+by_name Reads (Some other) name table is (file, read, written) =
+    let same : other ≡ name = cc in
+    (file, subst (λ (n : String Global). Reads (string_bytes n) (Ok file)) (sym same) read, written)
+
+-- what follows of a value
+pub where_value : {T E : Type 0} (P Q : T → Type 0) (r : Result T E) → ((x : T) → P x → Q x) → IfOk r P → IfOk r Q
+where_value P Q (Ok x) f p = f x p
+where_value P Q (Err e) f p = tt
 
 -- the line at which a file stops is no case
 pub no_case_at : (detail : Detail) (table : Table) (old new : Option (List ℕ)) (file : List ℕ) (fault : CaseFault)

@@ -5,3 +5,4 @@ pub mod Fields
 pub mod Lines
 pub mod Output
 pub mod Program
+pub mod TableFiles

@@ -6,7 +6,8 @@ use Rattle.sre_chars.specs.Tables.{Table}
 use Rattle.sre_lines.specs.declared.line.Case.{Case}
 use Rattle.sre_lines.specs.declared.cases.Detail.{Detail}
 use Rattle.sre_lines.specs.declared.cases.CaseFault.{CaseFault}
-use Rattle.sre_lines.specs.declared.cases.CaseFault.TheVariants.{Usage, CannotRead, NotACase, NoMemory, OutputFailed}
+use Rattle.sre_lines.specs.declared.cases.CaseFault.TheVariants.{Usage, CannotRead, NotATable, NotACase, NoMemory}
+use Rattle.sre_lines.specs.declared.cases.CaseFault.TheVariants.{OutputFailed}
 use Rattle.sre_lines.specs.Fields.{case_text, IsCase}
 use Rattle.sre_lines.specs.Cases.{IsAnswer}
 
@@ -55,6 +56,7 @@ pub record IsNoCase (line : List ℕ) : Type 0 where
 abbrev pub IsBegun : Detail → Table → CaseFault → List ℕ → List ℕ → Type 0
 IsBegun detail table Usage line part = part ≡ []
 IsBegun detail table CannotRead line part = part ≡ []
+IsBegun detail table NotATable line part = part ≡ []
 IsBegun detail table (NotACase n) line part = part ≡ []
 IsBegun detail table NoMemory line part = part ≡ []
 IsBegun detail table OutputFailed line part =

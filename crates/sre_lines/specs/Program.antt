@@ -1,5 +1,5 @@
 -- What the program is given, and how it ends.
-use Rattle.std.specs.Prelude.{ℕ, ◌≡◌, ◌≢◌, ◌⊎◌, ◌++◌, ◌∷◌, [], List, Option, Result, Ok, Err, String, Vec, string_bytes}
+use Rattle.std.specs.Prelude.{ℕ, ◌≡◌, ◌≢◌, ◌⊎◌, ◌++◌, ◌∷◌, [], List, Option, None, Some, Result, Ok, Err, String, Vec, string_bytes}
 use Rattle.std.specs.Prelude.{codes}
 use Rattle.std.specs.Global.{Global}
 use Rattle.std.specs.Vec.Iter.{into_iter_items}
@@ -8,16 +8,20 @@ use Rattle.std.specs.IoError.{error_kind}
 use Rattle.std.specs.declared.vec.IntoIter.{IntoIter}
 use Rattle.std.specs.declared.io.Error.{Error}
 use Rattle.std.specs.declared.io.ErrorKind.TheVariants.{OutOfMemory, NotFound, PermissionDenied, IsADirectory}
-use Rattle.sre_chars.specs.Tables.{ascii_table}
+use Rattle.sre_chars.specs.Tables.{Table, ascii_table}
+use Rattle.sre_chars.specs.Lists.{lists_fault}
+use Rattle.sre_chars.specs.declared.table.UniError.{UniError}
 use Rattle.sre_lines.specs.declared.cases.CaseFault.{CaseFault}
-use Rattle.sre_lines.specs.declared.cases.CaseFault.TheVariants.{Usage, CannotRead, NotACase, NoMemory, OutputFailed}
+use Rattle.sre_lines.specs.declared.cases.CaseFault.TheVariants.{Usage, CannotRead, NotATable, NotACase, NoMemory}
+use Rattle.sre_lines.specs.declared.cases.CaseFault.TheVariants.{OutputFailed}
 use Rattle.sre_lines.specs.declared.cases.Detail.{Detail}
 use Rattle.sre_lines.specs.declared.cases.Detail.TheVariants.{Plain, Explained}
 use Rattle.sre_lines.specs.declared.cause.Cause.{Cause}
 use Rattle.sre_lines.specs.declared.program.Call.{Call}
 use Rattle.sre_lines.specs.declared.program.Ending.{Ending}
 use Rattle.sre_lines.specs.declared.program.Ending.TheVariants.{AllAnswered, Told, Untold}
-use Rattle.sre_lines.specs.Answers.{fault_text, IsFaultOfCases}
+use Rattle.sre_lines.specs.Answers.{fault_text, uni_text, IsFaultOfCases}
+use Rattle.sre_lines.specs.TableFiles.{table_text}
 use Rattle.sre_lines.specs.Causes.{IsCause, cause_text}
 use Rattle.sre_lines.specs.Lines.{lines_of, Answered, StopsAt, IsLineAt}
 use Rattle.sre_lines.specs.Output.{AppendsPart}
@@ -35,13 +39,20 @@ pub record IsFaultOf (error : Error) (usual fault : CaseFault) : Type 0 where
   pub memory : error_kind error ≡ OutOfMemory → fault ≡ NoMemory
   pub other : error_kind error ≢ OutOfMemory → fault ≡ usual
 
--- what arguments behind the program's name ask: one is a file, and a flag before it asks for causes as well
+-- what arguments behind the program's name ask: one is a file, `--explain` before it asks for causes as well, and
+-- `--table TABLE` for another table than that of ASCII; both may stand there in either order
 abbrev pub Asks : List (String Global) → Call → Type 0
 Asks [] call = ⊥
-Asks (file ∷ []) call = (call.detail ≡ Plain) × (call.file ≡ file)
+Asks (file ∷ []) call = (call.detail ≡ Plain) × (call.table ≡ None) × (call.file ≡ file)
 Asks (flag ∷ file ∷ []) call =
-    (string_bytes flag ≡ codes "--explain") × (call.detail ≡ Explained) × (call.file ≡ file)
-Asks (first ∷ second ∷ third ∷ others) call = ⊥
+    (string_bytes flag ≡ codes "--explain") × (call.detail ≡ Explained) × (call.table ≡ None) × (call.file ≡ file)
+Asks (flag ∷ table ∷ file ∷ []) call =
+    (string_bytes flag ≡ codes "--table") × (call.detail ≡ Plain) × (call.table ≡ Some table) × (call.file ≡ file)
+Asks (first ∷ second ∷ third ∷ file ∷ []) call =
+    (call.detail ≡ Explained) × (call.file ≡ file)
+    × (((string_bytes first ≡ codes "--explain") × (string_bytes second ≡ codes "--table") × (call.table ≡ Some third))
+    ⊎ ((string_bytes first ≡ codes "--table") × (string_bytes third ≡ codes "--explain") × (call.table ≡ Some second)))
+Asks (first ∷ second ∷ third ∷ fourth ∷ fifth ∷ others) call = ⊥
 
 -- what the arguments ask, or that they ask nothing
 abbrev pub IsCallOf : List (String Global) → Result Call CaseFault → Type 0
@@ -58,13 +69,13 @@ IsCall (Err error) (Ok call) = ⊥
 IsCall (Err error) (Err fault) = IsFaultOf error Usage fault
 
 -- what is written for a file as it was read, and the fault at which that stops
-abbrev pub AnswersFile : Detail → Option (List ℕ) → Option (List ℕ) → Reading → Result (Unit {0}) CaseFault
+abbrev pub AnswersFile : Detail → Table → Option (List ℕ) → Option (List ℕ) → Reading → Result (Unit {0}) CaseFault
     → Type 0
-AnswersFile detail old new (Ok file) (Ok done) = Answered detail ascii_table old new (lines_of file.items)
-AnswersFile detail old new (Ok file) (Err fault) =
-    IsFaultOfCases fault × StopsAt detail ascii_table old new (lines_of file.items) fault
-AnswersFile detail old new (Err error) (Ok done) = ⊥
-AnswersFile detail old new (Err error) (Err fault) = IsFaultOf error CannotRead fault × (new ≡ old)
+AnswersFile detail table old new (Ok file) (Ok done) = Answered detail table old new (lines_of file.items)
+AnswersFile detail table old new (Ok file) (Err fault) =
+    IsFaultOfCases fault × StopsAt detail table old new (lines_of file.items) fault
+AnswersFile detail table old new (Err error) (Ok done) = ⊥
+AnswersFile detail table old new (Err error) (Err fault) = IsFaultOf error CannotRead fault × (new ≡ old)
 
 -- the fault at which the program ends
 abbrev pub end_of : Ending → Result (Unit {0}) CaseFault
@@ -90,6 +101,7 @@ IsEnd Explained file (NotACase number) end =
     (cause : Cause) × IsCauseAt file number cause × (end ≡ codes ": " ++ cause_text cause ++ 10 ∷ [])
 IsEnd Explained file Usage end = end ≡ 10 ∷ []
 IsEnd Explained file CannotRead end = end ≡ 10 ∷ []
+IsEnd Explained file NotATable end = end ≡ 10 ∷ []
 IsEnd Explained file NoMemory end = end ≡ 10 ∷ []
 IsEnd Explained file OutputFailed end = end ≡ 10 ∷ []
 
@@ -113,26 +125,80 @@ Tells old new name end AllAnswered = new ≡ old
 Tells old new name end (Told fault) = Appends old new (fault_text fault name ++ end)
 Tells old new name end (Untold fault) = AppendsPart old new (fault_text fault name ++ end)
 
--- a fault that is told
-abbrev pub TellsFault : Detail → Reading → Option (List ℕ) → Option (List ℕ) → List ℕ → Ending → Type 0
-TellsFault detail file old new name AllAnswered = new ≡ old
-TellsFault detail file old new name (Told fault) =
-    (end : List ℕ) × IsEndOf detail file fault end × Appends old new (fault_text fault name ++ end)
-TellsFault detail file old new name (Untold fault) =
-    (end : List ℕ) × IsEndOf detail file fault end × AppendsPart old new (fault_text fault name ++ end)
+-- the same of a file that is no table: the fault of its lists, or that there are no four of them
+abbrev pub IsTableEnd : Detail → List ℕ → List ℕ → Type 0
+IsTableEnd Plain file end = end ≡ 10 ∷ []
+IsTableEnd Explained file end =
+    (end ≡ codes ": not four lists of numbers\n")
+    ⊎ ((table : Table) × (error : UniError) × (table_text table ≡ file) × (lists_fault table ≡ Some error)
+    × (end ≡ codes ": " ++ uni_text error ++ 10 ∷ []))
 
--- a run over a file of this name as it was read
-pub record FileRun (detail : Detail) (file : Reading) (out out' faults faults' : Option (List ℕ)) (name : List ℕ)
+abbrev pub IsTablelessEnd : Detail → Reading → CaseFault → List ℕ → Type 0
+IsTablelessEnd detail (Err error) fault end = IsEndOf detail (Err error) fault end
+IsTablelessEnd detail (Ok file) NotATable end = IsTableEnd detail file.items end
+IsTablelessEnd detail (Ok file) Usage end = end ≡ 10 ∷ []
+IsTablelessEnd detail (Ok file) CannotRead end = end ≡ 10 ∷ []
+IsTablelessEnd detail (Ok file) (NotACase line) end = end ≡ 10 ∷ []
+IsTablelessEnd detail (Ok file) NoMemory end = end ≡ 10 ∷ []
+IsTablelessEnd detail (Ok file) OutputFailed end = end ≡ 10 ∷ []
+
+-- a fault that is told, with such an end
+abbrev pub TellsFault : (CaseFault → List ℕ → Type 0) → Option (List ℕ) → Option (List ℕ) → List ℕ → Ending → Type 0
+TellsFault Ends old new name AllAnswered = new ≡ old
+TellsFault Ends old new name (Told fault) =
+    (end : List ℕ) × Ends fault end × Appends old new (fault_text fault name ++ end)
+TellsFault Ends old new name (Untold fault) =
+    (end : List ℕ) × Ends fault end × AppendsPart old new (fault_text fault name ++ end)
+
+-- a run by a table over a file of this name as it was read
+pub record FileRun (detail : Detail) (table : Table) (file : Reading) (out out' faults faults' : Option (List ℕ))
+    (name : List ℕ) (ending : Ending) : Type 0 where
+  pub answers : AnswersFile detail table out out' file (end_of ending)
+  pub tells : TellsFault (λ fault end. IsEndOf detail file fault end) faults faults' name ending
+
+-- the table by which is answered: that of ASCII, or the one that a named file is written as
+abbrev pub IsTable : (List ℕ → Reading → Type 0) → Option (String Global) → Table → Type 0
+IsTable Reads None table = table ≡ ascii_table
+IsTable Reads (Some name) table =
+    (file : Vec ℕ Global) × Reads (string_bytes name) (Ok file) × (table_text table ≡ file.items)
+
+-- why a file gives no table
+abbrev pub IsTableFault : Reading → CaseFault → Type 0
+IsTableFault (Ok file) fault = (fault ≡ NotATable) ⊎ (fault ≡ NoMemory)
+IsTableFault (Err error) fault = IsFaultOf error CannotRead fault
+
+-- a run that has no table, since the file of this name gives none, which is told
+pub record IsTableless (detail : Detail) (file : Reading) (faults faults' : Option (List ℕ)) (name : List ℕ)
     (ending : Ending) : Type 0 where
-  pub answers : AnswersFile detail out out' file (end_of ending)
-  pub tells : TellsFault detail file faults faults' name ending
+  pub fault : CaseFault
+  pub ends : end_of ending ≡ Err fault
+  pub is : IsTableFault file fault
+  pub tells : TellsFault (λ fault end. IsTablelessEnd detail file fault end) faults faults' name ending
+
+-- what the arguments ask is answered by the table
+pub record TabledRun (Reads : List ℕ → Reading → Type 0) (call : Call) (out out' faults faults' : Option (List ℕ))
+    (ending : Ending) : Type 0 where
+  pub table : Table
+  pub is_table : IsTable Reads call.table table
+  pub file : Reading
+  pub read : Reads (string_bytes call.file) file
+  pub runs : FileRun call.detail table file out out' faults faults' (string_bytes call.file) ending
+
+-- or the table's file gives none
+pub record NoTableRun (Reads : List ℕ → Reading → Type 0) (call : Call) (out out' faults faults' : Option (List ℕ))
+    (ending : Ending) : Type 0 where
+  pub name : String Global
+  pub named : call.table ≡ Some name
+  pub file : Reading
+  pub read : Reads (string_bytes name) file
+  pub written : out' ≡ out
+  pub runs : IsTableless call.detail file faults faults' (string_bytes name) ending
 
 -- the run for what the arguments ask; where they ask nothing, that is told
 abbrev pub CallRun : (List ℕ → Reading → Type 0) → Result Call CaseFault → Option (List ℕ) → Option (List ℕ)
     → Option (List ℕ) → Option (List ℕ) → Ending → Type 0
 CallRun Reads (Ok call) out out' faults faults' ending =
-    (file : Reading) × Reads (string_bytes call.file) file
-    × FileRun call.detail file out out' faults faults' (string_bytes call.file) ending
+    TabledRun Reads call out out' faults faults' ending ⊎ NoTableRun Reads call out out' faults faults' ending
 CallRun Reads (Err fault) out out' faults faults' ending =
     (end_of ending ≡ Err fault) × (out' ≡ out) × Tells faults faults' (codes "FILE") (10 ∷ []) ending
 

@@ -37,6 +37,8 @@ pub enum CaseFault {
     Usage,
     /// The file cannot be read.
     CannotRead,
+    /// The file is no table.
+    NotATable,
     /// The line of this number is no case; all lines count, from 1 on.
     NotACase(u64),
     /// Memory was refused outside a case.
@@ -374,6 +376,7 @@ pub(crate) fn write_line<W: Write>(
     match fault {
         CaseFault::Usage => write_both(b"usage: sre_cases FILE", end, out),
         CaseFault::CannotRead => write_three(name.as_bytes(), b": cannot be read", end, out),
+        CaseFault::NotATable => write_three(name.as_bytes(), b": not a table", end, out),
         CaseFault::NotACase(line) => write_no_case(*line, end, out),
         CaseFault::NoMemory => write_both(b"no memory", end, out),
         CaseFault::OutputFailed => write_both(b"output failed", end, out),

@@ -8,3 +8,4 @@ pub mod line;
 mod number;
 mod output;
 pub mod program;
+pub mod table;
