@@ -6,9 +6,13 @@
 Below crates/NAME/cases, and in examples/ for `sre_cases`, stand files for the program NAME. `{TEXT*N}` in a file of
 lines or answers is TEXT N times.
 
-    X.txt           lines; X.expected has the answers, and X.fault the line that the program ends with, if it has one
-    files.jsonl     whole files, with the answers and the fault
-    no_cases.jsonl  lines that are no cases: each is tried as the fourth line of a file
+    X.txt           lines; X.expected has the answers, X.fault the line that the program ends with, if it has one, and
+                    X.flags the flags that stand before the file's name, if there are any. A file NAME.table lies where
+                    the program runs
+    files.jsonl     whole files, with the answers, the fault and the flags
+    no_cases.jsonl  lines that are no cases, each with its cause: it is tried as the fourth line of a file, with and
+                    without --explain
+    tables.jsonl    files that are no tables, each with its cause: it is tried as the table, with and without --explain
     calls.jsonl     arguments, with the answers and the fault; `to` and `faults_to` name a file that is written in place
                     of the two outputs
 
@@ -18,6 +22,7 @@ words (`hostile.py`), and large ones (`large.py`). The lines of `sre_cases` are 
 import json
 import os
 import re
+import shutil
 import subprocess
 import sys
 import tempfile
@@ -27,7 +32,8 @@ import hostile
 import large
 
 ROOT = os.path.dirname(os.path.dirname(os.path.realpath(__file__)))
-BEFORE, ANSWER, BEHIND = b"# all lines count\n\ncheck -\n", b"refused\n", b"\ncheck -\n"
+BEFORE, BEHIND = b"# all lines count\n\ncheck -\n", b"\ncheck -\n"
+ANSWER, EXPLAINED = b"refused\n", b"refused Truncated 0\n"
 
 
 def read(path):
@@ -95,8 +101,9 @@ def calls_of_lines(folder, name, room):
     has_lines = os.path.isfile(f"{path}.txt")
     file = room.file(expanded(read(f"{path}.txt"))) if has_lines else f"{name}.txt"
     answers = expanded(read(f"{path}.expected"))
+    flags = read(f"{path}.flags").split() if os.path.isfile(f"{path}.flags") else []
     # lines without an answer would be compared with nothing
-    yield f"case file {name}", Call([file], answers, fault) if answers or fault else None
+    yield f"case file {name}", Call([*flags, file], answers, fault) if answers or fault else None
 
 
 def lines_of(folder):
@@ -122,10 +129,18 @@ def calls_of(folder, room):
     for name in sorted(it[: -len(".expected")] for it in os.listdir(folder) if it.endswith(".expected")):
         yield from calls_of_lines(folder, name, room)
     for label, row in rows(folder, "files"):
-        yield label, Call([room.file(octets(row, "file"))], octets(row, "answers"), octets(row, "fault"))
-    for label, line in rows(folder, "no_cases"):
+        arguments = [*row.get("flags", []), room.file(octets(row, "file"))]
+        yield label, Call(arguments, octets(row, "answers"), octets(row, "fault"))
+    for label, (line, cause) in rows(folder, "no_cases"):
         file = room.file(BEFORE + line.encode("latin-1") + BEHIND)
         yield label, Call([file], ANSWER, b"line 4: not a case\n")
+        explained = f"line 4: not a case: {cause}\n".encode()
+        yield f"{label}, explained", Call(["--explain", file], EXPLAINED, explained)
+    for label, (table, cause) in rows(folder, "tables"):
+        file, cases = room.file(table.encode("latin-1")), room.file(BEHIND)
+        yield label, Call(["--table", file, cases], b"", f"{file}: not a table\n".encode())
+        explained = f"{file}: not a table: {cause}\n".encode()
+        yield f"{label}, explained", Call(["--table", file, "--explain", cases], b"", explained)
     for label, row in rows(folder, "calls"):
         ends = [row.get(it) for it in ("to", "faults_to")]
         arguments = [it.encode("latin-1") for it in row["arguments"]]
@@ -147,6 +162,8 @@ class Cases:
     def files(self, folder, name):
         with tempfile.TemporaryDirectory(prefix="cases-") as at:
             room = Room(at)
+            for table in filter(lambda it: it.endswith(".table"), os.listdir(folder)):
+                shutil.copy(f"{folder}/{table}", at)
             room_calls = list(calls_of(folder, room))
             with open(f"{at}/case.txt", "w", encoding="ascii") as file:
                 file.write(read(f"{ROOT}/crates/sre_cases/data/case.txt"))

@@ -384,5 +384,5 @@ def unknown_letters(listing, asked):
         return None
     names, letters = (list(dict.fromkeys(each)) for each in zip(*found))
     shown = ' '.join(map(repr, letters[:8])) + ' ...' * (len(letters) > 8)
-    return (f"the program's table knows ASCII alone, so its answer may differ from Python's: "
+    return (f"the program's table knows ASCII alone, so its answer may differ from Python's (--table gives another): "
             f'{", ".join(names)} asked of {shown}')

@@ -38,7 +38,7 @@ HANDLES = "Handles allowed: none.\n"
 READ = {
     "must-fail": r".*\.edit",
     "wrong": r".*\.(edit|right)",
-    "cases": r".*\.(txt|expected|fault)|(files|no_cases|calls)\.jsonl",
+    "cases": r".*\.(txt|expected|fault|flags|table)|(files|no_cases|tables|calls)\.jsonl",
 }
 
 GROWTHS = ("from_slice", "push", "resize")
@@ -157,7 +157,7 @@ def unread():
         for part, form in READ.items():
             for path in listed(f"{ROOT}/crates/{name}/{part}", ""):
                 begun, end = os.path.splitext(path)
-                is_alone = end in (".txt", ".fault") and not os.path.isfile(f"{begun}.expected")
+                is_alone = end in (".txt", ".fault", ".flags") and not os.path.isfile(f"{begun}.expected")
                 if is_alone or not os.path.isfile(path) or not re.fullmatch(form, os.path.basename(path)):
                     yield f"{os.path.relpath(path, ROOT)}: nothing reads it"
 

@@ -1,7 +1,8 @@
 #!/usr/bin/env python3
-"""Writes the letters, cases and digits of this Python's `re` past ASCII, as a Rust file that makes a `UniTable`.
+"""Writes the letters, cases and digits of this Python's `re` past ASCII, as a table for the library or the program.
 
     unicode.py > src/unicode.rt        for `mod unicode;`: the function `table` makes the table
+    unicode.py --lines > FILE          for `sre_cases --table FILE CASES` (docs/PROGRAM.md)
     unicode.py --against FILE          counts the characters that a table of FILE takes otherwise
 
 `\\w` over a `str` is what this Python's own `str.isalnum` says of each character, besides `_`, and `\\d` is its
@@ -86,6 +87,11 @@ def shown(name, pairs):
     return "\n".join([head, *(it.rstrip() for it in rows), "];"])
 
 
+def lines_of(held):
+    """The lists as the program reads them, a line each."""
+    return [f"{name.lower()} {','.join(f'{low},{high}' for low, high in pairs) or '-'}" for name, pairs in held.items()]
+
+
 def file_of(held):
     version = ".".join(map(str, sys.version_info[:2]))
     head = HEAD.format(python=version, unicode=unicodedata.unidata_version.removesuffix(".0"))
@@ -128,6 +134,9 @@ def main(words):
     if len(words) == 2 and words[0] == "--against":
         print(f"Unicode {unicodedata.unidata_version}")
         print(*differences(lists(), read(words[1])), sep="\n")
+        return 0
+    if words == ["--lines"]:
+        print(*lines_of(lists()), sep="\n")
         return 0
     if words:
         print(__doc__.strip())

@@ -7,14 +7,13 @@
     words.py --rust NAME PATTERN ..     writes each pattern's words as a constant, and the numbers of its named groups
     words.py --tree PATTERN             writes the pattern's tree as a Rust expression of `Part`
 
-With --explain a case's words are listed item by item, and with --run the program answers it. The
-words of a pattern are those that CPython's own compiler makes, and the answers those of CPython's
-`re`. Where a text has letters past ASCII, which the program's table doesn't know, and the words ask
-about such letters, a line on standard error says so. Flags are joined: `-f im` is `-f i -f m`.
+With --explain a case's words are listed item by item, and with --run the program answers it. The words of a pattern
+are those that CPython's own compiler makes, and the answers those of CPython's `re`. Where a text has letters past
+ASCII, which the program's table doesn't know, and the words ask about such letters, a line on standard error says so,
+unless --table names one that the program is to read (unicode.py --lines). Flags are joined: `-f im` is `-f i -f m`.
 
-It runs under CPython 3.11 to 3.13 and needs nothing else. The status is 0; or 1 where --run finds
-that the answers differ, or --explain that the words are refused; or 2 behind a line on standard
-error for each fault.
+It runs under CPython 3.11 to 3.13 and needs nothing else. The status is 0; or 1 where --run finds that the answers
+differ, or --explain that the words are refused; or 2 behind a line on standard error for each fault.
 """
 
 import argparse
@@ -51,6 +50,7 @@ MAGICS = (20220615, 20221023, 20230612)
 FLAGS = {'i': re.I, 'm': re.M, 's': re.S, 'x': re.X, 'a': re.A, 'u': re.U, 'L': re.L}
 VERBS = ('match', 'search', 'walk', 'check')
 KEYS = ('name', 'flags', 'verb', 'window', 'pattern', 'text', 'bytes')
+WITH_VALUES = ('--flags', '--window', '--run', '--table', '--seconds', '--tree')
 
 
 class Fault(Exception):
@@ -340,7 +340,7 @@ def compare(options, line, names, expected):
     with tempfile.TemporaryDirectory() as room, limited(options.seconds, options.run):
         path = os.path.join(room, 'cases')
         write_lines(path, [line])
-        done = subprocess.run([options.run, path], capture_output=True, text=True, check=False)
+        done = subprocess.run([options.run, *options.table, path], capture_output=True, text=True, check=False)
     ours = (done.stdout + done.stderr).strip() or f'nothing, and status {done.returncode}'
     print(f'case    {line}')
     if names:
@@ -368,7 +368,7 @@ def with_values(given):
     joined, given = [], iter(given)
     for word in given:
         option = long.get(word, word)
-        value = next(given, None) if option in ('--flags', '--window', '--run', '--seconds', '--tree') else None
+        value = next(given, None) if option in WITH_VALUES else None
         joined.append(word if value is None else f'{option}={value}')
     return joined
 
@@ -402,6 +402,7 @@ def arguments():
     add('--raw', action='store_true', help='in place of a pattern there are words, as a case has them')
     add('--explain', action='store_true', help='list the words, item by item, or up to where they are refused')
     add('--run', metavar='PROGRAM', help="run sre_cases, and compare its answer with Python's")
+    add('--table', type=lambda it: ['--table', it], default=[], metavar='FILE', help='a table for --run (unicode.py)')
     add('--seconds', type=seconds_of, default=20, metavar='N', help='what --run gives the program, and Python (20)')
     add = parser.add_mutually_exclusive_group().add_argument
     add('--cases', nargs=2, metavar=('FILE', 'NAME'), help='write a case file from patterns')
@@ -442,7 +443,7 @@ def one_case(options):
     asked = Asked(verb, characters(''.join(options.words[2:]), options.bytes, options.escapes),
                   window_of(options.window), options.match_all, options.must_advance)
     note = unknown_letters(listing, asked)
-    if note:
+    if note and not options.table:
         print(f'{COMMAND}: {note}', file=sys.stderr)
     line = case_line(listing.words, asked)
     if options.explain:

@@ -1,18 +1,18 @@
 -- The lines of a file, answered one after the other.
-use Rattle.std.proofs.Common.{◌≡◌, ◌==◌, ◌+◌, ◌≤◌, ℕ, suc, List, [], ◌∷◌, ◌++◌, Bool, true, false, Option, Some, None}
-use Rattle.std.proofs.Common.{Result, Ok, Err, length, get_or, refl, sym, ap, ◌∙◌, arith, inr}
+use Rattle.std.proofs.Common.{◌≡◌, ◌+◌, ◌≤◌, ℕ, suc, List, [], ◌∷◌, ◌++◌, Option, Some, None}
+use Rattle.std.proofs.Common.{Result, Ok, Err, length, refl, sym, ap, ◌∙◌, arith, inr}
 use Rattle.std.proofs.Common.{append_assoc, length-append}
-use Rattle.std.proofs.lemmas.Bool.{eqb-true}
-use Rattle.std.proofs.lemmas.List.{get_or_default, append-nil}
-use Rattle.std.specs.Prelude.{All, Contains, OnOk, OnErr, IfErr, codes}
+use Rattle.std.proofs.lemmas.List.{append-nil}
+use Rattle.std.specs.Prelude.{Contains, OnOk, OnErr, IfErr, codes}
 use Rattle.std.specs.Io.KnownBytes.{Appends}
-use Rattle.std.proofs.lemmas.List.Splits.{slice_split_at, slice_split_none}
-use Rattle.sre_chars.specs.Tables.{Table, ascii_table}
+use Rattle.sre_chars.specs.Tables.{Table}
 use Rattle.sre_lines.specs.declared.line.Case.{Case}
 use Rattle.sre_lines.specs.declared.cases.CaseFault.{CaseFault}
+use Rattle.sre_lines.specs.declared.cases.Detail.{Detail}
 use Rattle.sre_lines.specs.declared.cases.CaseFault.TheVariants.{NotACase, OutputFailed}
 use Rattle.sre_lines.specs.Fields.{case_text, IsCase}
 use Rattle.sre_lines.specs.Cases.{IsAnswer}
+use Rattle.sre_lines.proofs.Parted.{first_part_at, only_part_at}
 use Rattle.sre_lines.specs.Lines.{lines_of, IsAnswered, AreAnswered, Answered, IsNoCase, IsBegun, StopsAt}
 
 -- what follows of an answer follows where it is there, and of a fault likewise
@@ -36,41 +36,43 @@ appends_both (Some k) None c xs ys first second = absurd first
 appends_both (Some k) (Some l) None xs ys first second = absurd second
 appends_both (Some k) (Some l) (Some m) xs ys first second = rw (second, first) (append_assoc k xs ys)
 
-answered_both : (lines more : List (List ℕ)) (xs ys : List ℕ) → AreAnswered lines xs → AreAnswered more ys
-    → AreAnswered (lines ++ more) (xs ++ ys)
-answered_both [] more xs ys first second = rw first second
-answered_both (line ∷ lines) more xs ys first second = (
+answered_both : (detail : Detail) (table : Table) (lines more : List (List ℕ)) (xs ys : List ℕ)
+    → AreAnswered detail table lines xs → AreAnswered detail table more ys
+    → AreAnswered detail table (lines ++ more) (xs ++ ys)
+answered_both detail table [] more xs ys first second = rw first second
+answered_both detail table (line ∷ lines) more xs ys first second = (
   first.0,
   first.1 ++ ys,
   first.2,
-  answered_both lines more first.1 ys first.3 second,
+  answered_both detail table lines more first.1 ys first.3 second,
   rw first.4
       (append_assoc first.0 first.1 ys),
 )
 
 -- nothing is written, and nothing more
-pub none_answered : (known : Option (List ℕ)) → Answered known known []
-none_answered known = record { out = []; answers = refl; appended = appends_none known }
+pub none_answered : (detail : Detail) (table : Table) (known : Option (List ℕ)) → Answered detail table known known []
+none_answered detail table known = record { out = []; answers = refl; appended = appends_none known }
 
-pub all_answered : (a b c : Option (List ℕ)) (lines more : List (List ℕ)) → Answered a b lines → Answered b c more
-    → Answered a c (lines ++ more)
-all_answered a b c lines more first second = record {
+pub all_answered : (detail : Detail) (table : Table) (a b c : Option (List ℕ)) (lines more : List (List ℕ))
+    → Answered detail table a b lines → Answered detail table b c more → Answered detail table a c (lines ++ more)
+all_answered detail table a b c lines more first second = record {
   out = first.out ++ second.out;
-  answers = answered_both lines more first.out second.out first.answers second.answers;
+  answers = answered_both detail table lines more first.out second.out first.answers second.answers;
   appended = appends_both a b c first.out second.out first.appended second.appended;
 }
 
 -- one line
-one_answered : (a b : Option (List ℕ)) (line out : List ℕ) → IsAnswered line out → Appends a b out
-    → Answered a b (line ∷ [])
-one_answered a b line out is appended =
+one_answered : (detail : Detail) (table : Table) (a b : Option (List ℕ)) (line out : List ℕ)
+    → IsAnswered detail table line out → Appends a b out → Answered detail table a b (line ∷ [])
+one_answered detail table a b line out is appended =
     record { out = out; answers = (out, [], is, refl, sym (append-nil out)); appended = appended }
 
-pub case_answered : (a b : Option (List ℕ)) (line : List ℕ) (case : Case) (words text answer : List ℕ)
-    → case_text case words text ≡ line → IsCase case words text
-    → IsAnswer ascii_table case words text answer → Appends a b (answer ++ 10 ∷ []) → Answered a b (line ∷ [])
-case_answered a b line case words text answer written lawful says appended =
-    one_answered a b line (answer ++ 10 ∷ [])
+pub case_answered : (detail : Detail) (table : Table) (a b : Option (List ℕ)) (line : List ℕ) (case : Case)
+    (words text answer : List ℕ) → case_text case words text ≡ line → IsCase case words text
+    → IsAnswer detail table case words text answer → Appends a b (answer ++ 10 ∷ [])
+    → Answered detail table a b (line ∷ [])
+case_answered detail table a b line case words text answer written lawful says appended =
+    one_answered detail table a b line (answer ++ 10 ∷ [])
     (inr (
       answer,
       record
@@ -80,28 +82,28 @@ case_answered a b line case words text answer written lawful says appended =
     appended
 
 -- the answer where memory was refused
-pub memory_answer : {U E : Type 0} (a b : Option (List ℕ)) (table : Table) (case : Case) (words text : List ℕ)
-    (r : Result U E) → OnOk r (Appends a b (codes "memory" ++ 10 ∷ []))
-    → OnOk r ((said : List ℕ) × IsAnswer table case words text said × Appends a b (said ++ 10 ∷ []))
-memory_answer a b table case words text (Ok u) appended = (codes "memory", inr (inr refl), appended)
-memory_answer a b table case words text (Err e) appended = tt
+pub memory_answer : {U E : Type 0} (a b : Option (List ℕ)) (detail : Detail) (table : Table) (case : Case)
+    (words text : List ℕ) (r : Result U E) → OnOk r (Appends a b (codes "memory" ++ 10 ∷ []))
+    → OnOk r ((said : List ℕ) × IsAnswer detail table case words text said × Appends a b (said ++ 10 ∷ []))
+memory_answer a b detail table case words text (Ok u) appended = (codes "memory", inr (inr refl), appended)
+memory_answer a b detail table case words text (Err e) appended = tt
 
 -- a write that failed within an answer
-pub answer_begun : {U E : Type 0} (a b : Option (List ℕ)) (table : Table) (case : Case) (words text said bytes : List ℕ)
-    (r : Result U E)
-    → IsAnswer table case words text said → bytes ≡ said ++ 10 ∷ []
+pub answer_begun : {U E : Type 0} (a b : Option (List ℕ)) (detail : Detail) (table : Table) (case : Case)
+    (words text said bytes : List ℕ) (r : Result U E)
+    → IsAnswer detail table case words text said → bytes ≡ said ++ 10 ∷ []
     → OnErr r ((part rest : List ℕ) × (part ++ rest ≡ bytes) × Appends a b part)
-    → OnErr r ((said part rest : List ℕ) × IsAnswer table case words text said × (part ++ rest ≡ said ++ 10 ∷ [])
-    × Appends a b part)
-answer_begun a b table case words text said bytes (Ok u) answer is part = tt
-answer_begun a b table case words text said bytes (Err e) answer is part =
+    → OnErr r ((said part rest : List ℕ) × IsAnswer detail table case words text said
+    × (part ++ rest ≡ said ++ 10 ∷ []) × Appends a b part)
+answer_begun a b detail table case words text said bytes (Ok u) answer is part = tt
+answer_begun a b detail table case words text said bytes (Err e) answer is part =
     (said, part.0, part.1, answer, part.2 ∙ is, part.3)
 
-pub case_begun : (a b : Option (List ℕ)) (line : List ℕ) (case : Case) (words text said part rest : List ℕ)
-    → case_text case words text ≡ line → IsCase case words text → IsAnswer ascii_table case words text said
-    → part ++ rest ≡ said ++ 10 ∷ [] → Appends a b part
-    → (part : List ℕ) × IsBegun OutputFailed line part × Appends a b part
-case_begun a b line case words text said part rest written lawful says is appended = (
+pub case_begun : (detail : Detail) (table : Table) (a b : Option (List ℕ)) (line : List ℕ) (case : Case)
+    (words text said part rest : List ℕ) → case_text case words text ≡ line → IsCase case words text
+    → IsAnswer detail table case words text said → part ++ rest ≡ said ++ 10 ∷ [] → Appends a b part
+    → (part : List ℕ) × IsBegun detail table OutputFailed line part × Appends a b part
+case_begun detail table a b line case words text said part rest written lawful says is appended = (
   part,
   inr (
     rest,
@@ -115,24 +117,27 @@ case_begun a b line case words text said part rest written lawful says is append
 )
 
 -- lines up to a place of the file are answered, and the others are left
-pub record SoFar (file left : List ℕ) (number : ℕ) (old new : Option (List ℕ)) : Type 0 where
+pub record SoFar (detail : Detail) (table : Table) (file left : List ℕ) (number : ℕ) (old new : Option (List ℕ))
+    : Type 0 where
   pub before : List (List ℕ)
   pub lines : lines_of file ≡ before ++ lines_of left
-  pub answered : Answered old new before
+  pub answered : Answered detail table old new before
   pub counted : number ≡ length before
   pub room : number + length left ≤ length file
 
-pub at_first : (file : List ℕ) (known : Option (List ℕ)) → SoFar file file 0 known known
-at_first file known =
-    record { before = []; lines = refl; answered = none_answered known; counted = refl; room = omega arith }
+pub at_first : (detail : Detail) (table : Table) (file : List ℕ) (known : Option (List ℕ))
+    → SoFar detail table file file 0 known known
+at_first detail table file known =
+    record { before = []; lines = refl; answered = none_answered detail table known; counted = refl; room = omega arith }
 
 -- the next line is not answered
-pub stops_at : (file left line : List ℕ) (after : List (List ℕ)) (number : ℕ) (a b c : Option (List ℕ))
-    (fault : CaseFault)
-    → SoFar file left number a b → lines_of left ≡ line ∷ after
-    → (part : List ℕ) × IsBegun fault line part × Appends b c part
-    → ((m : ℕ) → fault ≡ NotACase m → (m ≡ number + 1) × IsNoCase line) → StopsAt a c (lines_of file) fault
-stops_at file left line after number a b c fault so_far next begun no_case = record {
+pub stops_at : (detail : Detail) (table : Table) (file left line : List ℕ) (after : List (List ℕ)) (number : ℕ)
+    (a b c : Option (List ℕ)) (fault : CaseFault)
+    → SoFar detail table file left number a b → lines_of left ≡ line ∷ after
+    → (part : List ℕ) × IsBegun detail table fault line part × Appends b c part
+    → ((m : ℕ) → fault ≡ NotACase m → (m ≡ number + 1) × IsNoCase line)
+    → StopsAt detail table a c (lines_of file) fault
+stops_at detail table file left line after number a b c fault so_far next begun no_case = record {
   before = so_far.before;
   line = line;
   after = after;
@@ -145,41 +150,32 @@ stops_at file left line after number a b c fault so_far next begun no_case = rec
   no_case = λ m is. let found = no_case m is in (omega (arith, found.0, so_far.counted), found.1);
 }
 
-not_true : (b : Bool) → ¬ (b ≡ true) → b ≡ false
-not_true true other = absurd (other refl)
-not_true false other = refl
-
-no_line_end : (xs : List ℕ) → ¬ (Contains xs 10) → All (λ b. (b == 10) ≡ false) xs
-no_line_end xs none k d within =
-    not_true (get_or xs k d == 10)
-    (λ test. none (k, within, get_or_default xs k 10 d within ∙ eqb-true (get_or xs k d) 10 test))
-
 -- what is left begins with a line
-module _ (file left line others : List ℕ) (number : ℕ) (a b : Option (List ℕ)) (so_far : SoFar file left number a b)
-    (cut : line ++ 10 ∷ others ≡ left) (none : ¬ (Contains line 10)) where
+module _ (detail : Detail) (table : Table) (file left line others : List ℕ) (number : ℕ) (a b : Option (List ℕ))
+    (so_far : SoFar detail table file left number a b) (cut : line ++ 10 ∷ others ≡ left) (none : ¬ (Contains line 10)) where
   pub first_line : lines_of left ≡ line ∷ lines_of others
-  first_line = rw (sym cut) (slice_split_at (λ b. b == 10) line 10 others (no_line_end line none) refl)
+  first_line = first_part_at 10 left line others cut none
 
   shorter : length left ≡ length line + suc (length others)
   shorter = sym (ap length cut) ∙ length-append line (10 ∷ others)
 
-  pub one_line_more : (c : Option (List ℕ)) (n : ℕ) → Answered b c (line ∷ []) → n ≡ number + 1
-      → SoFar file others n a c
+  pub one_line_more : (c : Option (List ℕ)) (n : ℕ) → Answered detail table b c (line ∷ []) → n ≡ number + 1
+      → SoFar detail table file others n a c
   one_line_more c n answered next = record {
     before = so_far.before ++ line ∷ [];
     lines = so_far.lines ∙ ap (λ ls. so_far.before ++ ls) first_line
         ∙ sym (append_assoc so_far.before (line ∷ []) (lines_of others));
-    answered = all_answered a b c so_far.before (line ∷ []) so_far.answered answered;
+    answered = all_answered detail table a b c so_far.before (line ∷ []) so_far.answered answered;
     counted = omega (arith, next, so_far.counted, length-append so_far.before (line ∷ []));
     room = omega (arith, next, so_far.room, shorter);
   }
 
 -- what is left is the last line
-module _ (file left : List ℕ) (number : ℕ) (a b : Option (List ℕ)) (so_far : SoFar file left number a b)
-    (none : ¬ (Contains left 10)) where
+module _ (detail : Detail) (table : Table) (file left : List ℕ) (number : ℕ) (a b : Option (List ℕ))
+    (so_far : SoFar detail table file left number a b) (none : ¬ (Contains left 10)) where
   pub last_line : lines_of left ≡ left ∷ []
-  last_line = slice_split_none (λ b. b == 10) left (no_line_end left none)
+  last_line = only_part_at 10 left none
 
-  pub all_lines : (c : Option (List ℕ)) → Answered b c (left ∷ []) → Answered a c (lines_of file)
+  pub all_lines : (c : Option (List ℕ)) → Answered detail table b c (left ∷ []) → Answered detail table a c (lines_of file)
   all_lines c answered =
-      rw (so_far.lines, last_line) (all_answered a b c so_far.before (left ∷ []) so_far.answered answered)
+      rw (so_far.lines, last_line) (all_answered detail table a b c so_far.before (left ∷ []) so_far.answered answered)

@@ -6,24 +6,27 @@ use Rattle.std.specs.Io.KnownBytes.{Appends, Keeps}
 use Rattle.std.proofs.KnownBytes.{Appends-kept}
 use Rattle.std.proofs.lemmas.List.{append-nil}
 use Rattle.std.proofs.lemmas.List.Splits.{length-slice_split}
+use Rattle.sre_chars.specs.Tables.{Table}
+use Rattle.sre_lines.specs.declared.cases.Detail.{Detail}
 use Rattle.sre_lines.specs.declared.cases.CaseFault.{CaseFault}
-use Rattle.sre_lines.specs.declared.cases.CaseFault.TheVariants.{Usage, CannotRead, NotACase, NoMemory, OutputFailed}
+use Rattle.sre_lines.specs.declared.cases.CaseFault.TheVariants.{Usage, CannotRead, NotATable, NotACase, NoMemory}
+use Rattle.sre_lines.specs.declared.cases.CaseFault.TheVariants.{OutputFailed}
 use Rattle.sre_lines.specs.Lines.{lines_of, IsAnswered, AreAnswered, Answered, IsBegun, StopsAt}
 
 -- the last of some lines
-record Last (lines : List (List ℕ)) (out : List ℕ) : Type 0 where
+record Last (detail : Detail) (table : Table) (lines : List (List ℕ)) (out : List ℕ) : Type 0 where
   before : List (List ℕ)
   line : List ℕ
   first : List ℕ
   others : List ℕ
   split : lines ≡ before ++ line ∷ []
-  answered : AreAnswered before first
-  is : IsAnswered line others
+  answered : AreAnswered detail table before first
+  is : IsAnswered detail table line others
   both : out ≡ first ++ others
 
-last_of : (line : List ℕ) (lines : List (List ℕ)) (out : List ℕ) → AreAnswered (line ∷ lines) out
-    → Last (line ∷ lines) out
-last_of line [] out (first, others, is, none, both) = record {
+last_of : (detail : Detail) (table : Table) (line : List ℕ) (lines : List (List ℕ)) (out : List ℕ)
+    → AreAnswered detail table (line ∷ lines) out → Last detail table (line ∷ lines) out
+last_of detail table line [] out (first, others, is, none, both) = record {
   before = [];
   line = line;
   first = [];
@@ -33,8 +36,8 @@ last_of line [] out (first, others, is, none, both) = record {
   is = is;
   both = both ∙ ap (λ more. first ++ more) none ∙ append-nil first;
 }
-last_of line (next ∷ lines) out (first, others, is, more, both) =
-    let last = last_of next lines others more in record {
+last_of detail table line (next ∷ lines) out (first, others, is, more, both) =
+    let last = last_of detail table next lines others more in record {
       before = line ∷ last.before;
       line = last.line;
       first = first ++ last.first;
@@ -63,6 +66,7 @@ goes_on (Some known) (Some all) first others appended = appended ∙ sym (append
 abbrev IsFailedWrite : CaseFault → Type 0
 IsFailedWrite Usage = ⊥
 IsFailedWrite CannotRead = ⊥
+IsFailedWrite NotATable = ⊥
 IsFailedWrite (NotACase n) = ⊥
 IsFailedWrite NoMemory = ⊥
 IsFailedWrite OutputFailed = Unit {0}
@@ -70,11 +74,11 @@ IsFailedWrite OutputFailed = Unit {0}
 no_case_number : (n : ℕ) → OutputFailed ≢ NotACase n
 no_case_number n is = subst IsFailedWrite is tt
 
-stops_behind : (old new : Option (List ℕ)) (lines : List (List ℕ)) → 0 < length lines → Answered old new lines
-    → StopsAt old new lines OutputFailed
-stops_behind old new [] some answered = absurd (omega (arith, some))
-stops_behind old new (line ∷ lines) some answered =
-    let last = last_of line lines answered.out answered.answers in record {
+stops_behind : (detail : Detail) (table : Table) (old new : Option (List ℕ)) (lines : List (List ℕ))
+    → 0 < length lines → Answered detail table old new lines → StopsAt detail table old new lines OutputFailed
+stops_behind detail table old new [] some answered = absurd (omega (arith, some))
+stops_behind detail table old new (line ∷ lines) some answered =
+    let last = last_of detail table line lines answered.out answered.answers in record {
       before = last.before;
       line = last.line;
       after = [];
@@ -82,23 +86,25 @@ stops_behind old new (line ∷ lines) some answered =
       reached = reached old last.first;
       answered = record { out = last.first; answers = last.answered; appended = reaches old last.first };
       part = last.others;
-      begun = inr ([], subst (λ out. IsAnswered last.line out) (sym (append-nil last.others)) last.is);
+      begun = inr ([], subst (λ out. IsAnswered detail table last.line out) (sym (append-nil last.others)) last.is);
       appended = goes_on old new last.first last.others
           (subst (λ out. Appends old new out) last.both answered.appended);
       no_case = λ n is. absurd (no_case_number n is);
     }
 
-begun_too : (fault : CaseFault) (line part : List ℕ) → IsBegun fault line part → IsBegun OutputFailed line part
-begun_too Usage line part begun = inl begun
-begun_too CannotRead line part begun = inl begun
-begun_too (NotACase n) line part begun = inl begun
-begun_too NoMemory line part begun = inl begun
-begun_too OutputFailed line part begun = begun
+begun_too : (detail : Detail) (table : Table) (fault : CaseFault) (line part : List ℕ)
+    → IsBegun detail table fault line part → IsBegun detail table OutputFailed line part
+begun_too detail table Usage line part begun = inl begun
+begun_too detail table CannotRead line part begun = inl begun
+begun_too detail table NotATable line part begun = inl begun
+begun_too detail table (NotACase n) line part begun = inl begun
+begun_too detail table NoMemory line part begun = inl begun
+begun_too detail table OutputFailed line part begun = begun
 
-stops_too : (old reached new : Option (List ℕ)) (lines : List (List ℕ)) (fault : CaseFault)
-    → StopsAt old reached lines fault → Keeps reached new
-    → StopsAt old new lines OutputFailed
-stops_too old reached new lines fault stops keeps = record {
+stops_too : (detail : Detail) (table : Table) (old reached new : Option (List ℕ)) (lines : List (List ℕ))
+    (fault : CaseFault) → StopsAt detail table old reached lines fault → Keeps reached new
+    → StopsAt detail table old new lines OutputFailed
+stops_too detail table old reached new lines fault stops keeps = record {
   before = stops.before;
   line = stops.line;
   after = stops.after;
@@ -106,24 +112,25 @@ stops_too old reached new lines fault stops keeps = record {
   reached = stops.reached;
   answered = stops.answered;
   part = stops.part;
-  begun = begun_too fault stops.line stops.part stops.begun;
+  begun = begun_too detail table fault stops.line stops.part stops.begun;
   appended = Appends-kept _ _ _ _ stops.appended keeps;
   no_case = λ n is. absurd (no_case_number n is);
 }
 
-answered_kept : (old reached new : Option (List ℕ)) (lines : List (List ℕ)) → Answered old reached lines
-    → Keeps reached new → Answered old new lines
-answered_kept old reached new lines answered keeps =
+answered_kept : (detail : Detail) (table : Table) (old reached new : Option (List ℕ)) (lines : List (List ℕ))
+    → Answered detail table old reached lines → Keeps reached new → Answered detail table old new lines
+answered_kept detail table old reached new lines answered keeps =
     record { out = answered.out; answers = answered.answers; appended = Appends-kept _ _ _ _ answered.appended keeps }
 
 some_line : (file : List ℕ) → 0 < length (lines_of file)
 some_line file = omega (arith, length-slice_split (λ b. b == 10) file)
 
-pub failed_flush : (old reached new : Option (List ℕ)) (file : List ℕ) (ran : Result (Unit {0}) CaseFault)
-    → OnOk ran (Answered old reached (lines_of file)) → IfErr ran (StopsAt old reached (lines_of file))
-    → Keeps reached new
-    → StopsAt old new (lines_of file) OutputFailed
-failed_flush old reached new file (Ok done) answered stops keeps =
-    stops_behind old new (lines_of file) (some_line file) (answered_kept old reached new (lines_of file) answered keeps)
-failed_flush old reached new file (Err fault) answered stops keeps =
-    stops_too old reached new (lines_of file) fault stops keeps
+pub failed_flush : (detail : Detail) (table : Table) (old reached new : Option (List ℕ)) (file : List ℕ)
+    (ran : Result (Unit {0}) CaseFault) → OnOk ran (Answered detail table old reached (lines_of file))
+    → IfErr ran (StopsAt detail table old reached (lines_of file)) → Keeps reached new
+    → StopsAt detail table old new (lines_of file) OutputFailed
+failed_flush detail table old reached new file (Ok done) answered stops keeps =
+    stops_behind detail table old new (lines_of file) (some_line file)
+    (answered_kept detail table old reached new (lines_of file) answered keeps)
+failed_flush detail table old reached new file (Err fault) answered stops keeps =
+    stops_too detail table old reached new (lines_of file) fault stops keeps

@@ -7,3 +7,7 @@ pub mod Parts
 pub mod WalkTexts
 pub mod Words
 pub mod Lines
+pub mod Causes
+pub mod Parted
+pub mod LineAt
+pub mod TableFiles

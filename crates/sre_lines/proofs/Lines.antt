@@ -60,7 +60,7 @@ hex_lacks (b ∷ bytes) =
     lacks_cons 32 (digit_glyph false (b / 16)) (digit_glyph false (b % 16) ∷ hex_text bytes) (glyph_lacks (b / 16))
     (lacks_cons 32 (digit_glyph false (b % 16)) (hex_text bytes) (glyph_lacks (b % 16)) (hex_lacks bytes))
 
-form_lacks : (form : TextForm) (at : ℕ) → at < 98 → Lacks (form_text form) at
+pub form_lacks : (form : TextForm) (at : ℕ) → at < 98 → Lacks (form_text form) at
 form_lacks Bytes at low = lacks_cons at 98 [] (omega arith) (lacks_nil at)
 form_lacks Utf8 at low = lacks_cons at 115 [] (omega arith) (lacks_nil at)
 

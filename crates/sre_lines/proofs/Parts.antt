@@ -1,16 +1,24 @@
 -- Pieces that are written one behind the other: where a write fails, a part of all of them stands there.
-use Rattle.std.proofs.Common.{ℕ, ◌≡◌, ◌∙◌, List, [], ◌∷◌, ◌++◌, Option, Result, Ok, Err, sym, ap, subst, append_assoc}
-use Rattle.std.specs.Prelude.{OnOk, OnErr, String, string_bytes}
+use Rattle.std.proofs.Common.{ℕ, ◌≡◌, ◌∙◌, List, ◌++◌, Option, Some, None, Result, Ok, Err}
+use Rattle.std.proofs.Common.{refl, sym, ap, subst, append_assoc, inl, inr}
+use Rattle.std.specs.Prelude.{OnOk, OnErr, IfOk, Vec, String, string_bytes}
 use Rattle.std.specs.Global.{Global}
 use Rattle.std.specs.Io.KnownBytes.{Appends}
 use Rattle.std.proofs.KnownBytes.{Appends-trans}
 use Rattle.sre_lines.specs.Output.{AppendsPart}
+use Rattle.sre_chars.specs.Tables.{Table, ascii_table}
 use Rattle.sre_lines.specs.Answers.{fault_text}
-use Rattle.sre_lines.specs.Program.{Arguments, Reading, IsArgument, AnswersFile, AnswersNamed, ProgramRun}
-use Rattle.sre_lines.specs.Program.{end_of, fault_line, Tells}
+use Rattle.sre_lines.specs.Lines.{lines_of, StopsAt, IsNoCaseAt}
+use Rattle.sre_lines.specs.Program.{Reading, AnswersFile, IsFaultOf, IsEndOf, FileRun, end_of, Tells}
+use Rattle.sre_lines.specs.Program.{TellsFault, IsTablelessEnd, IsTableFault, IsTableless, IsTable, CallRun}
+use Rattle.std.specs.declared.io.Error.{Error}
 use Rattle.sre_lines.specs.declared.cases.CaseFault.{CaseFault}
+use Rattle.sre_lines.specs.declared.cases.CaseFault.TheVariants.{CannotRead, NotACase}
+use Rattle.sre_lines.specs.declared.cases.Detail.{Detail}
 use Rattle.sre_lines.specs.declared.program.Ending.{Ending}
 use Rattle.sre_lines.specs.declared.program.Ending.TheVariants.{AllAnswered, Told, Untold}
+use Rattle.sre_lines.specs.declared.program.Call.{Call}
+use Rattle.sre_lines.specs.TableFiles.{table_text}
 
 -- what a failed write of the front leaves
 pub front_part : {T E : Type 0} (old new : Option (List ℕ)) (front end : List ℕ) (r : Result T E)
@@ -38,32 +46,113 @@ behind_part old mid new front bytes said (Err e) same a (part, rest, split, b) =
 )
 
 -- what is told of a fault at which the program ends
-told : (old new : Option (List ℕ)) (fault : CaseFault) (argument : Result (String Global) CaseFault) (ending : Ending)
-    → end_of ending ≡ Err fault → (ending ≡ Told fault → Appends old new (fault_line fault argument))
-    → (ending ≡ Untold fault → AppendsPart old new (fault_line fault argument)) → Tells old new argument ending
-told old new fault argument AllAnswered is line part = absurd (cc)
-told old new fault argument (Told f) is line part =
+pub told : (old new : Option (List ℕ)) (name end : List ℕ) (fault : CaseFault) (ending : Ending)
+    → end_of ending ≡ Err fault → (ending ≡ Told fault → Appends old new (fault_text fault name ++ end))
+    → (ending ≡ Untold fault → AppendsPart old new (fault_text fault name ++ end)) → Tells old new name end ending
+told old new name end fault AllAnswered is line part = absurd (cc)
+told old new name end fault (Told f) is line part =
     let same : f ≡ fault = cc in
-    subst (λ (x : CaseFault). Appends old new (fault_line x argument)) (sym same) (line (ap Told same))
-told old new fault argument (Untold f) is line part =
+    subst (λ (x : CaseFault). Appends old new (fault_text x name ++ end)) (sym same) (line (ap Told same))
+told old new name end fault (Untold f) is line part =
     let same : f ≡ fault = cc in
-    subst (λ (x : CaseFault). AppendsPart old new (fault_line x argument)) (sym same) (part (ap Untold same))
+    subst (λ (x : CaseFault). AppendsPart old new (fault_text x name ++ end)) (sym same) (part (ap Untold same))
 
--- a run that stops at a fault of its file
-pub stopped_run : (Reads : List ℕ → Reading → Type 0) (args : Arguments) (out out' faults faults' : Option (List ℕ))
-    (name : String Global) (asked shown : List ℕ) (fault : CaseFault) (ending : Ending) → asked ≡ string_bytes name
-    → shown ≡ string_bytes name → IsArgument args (Ok name)
-    → (file : Reading) × Reads asked file × AnswersFile out out' file (Err fault) → end_of ending ≡ Err fault
-    → (ending ≡ Told fault → Appends faults faults' (fault_text fault shown ++ 10 ∷ []))
-    → (ending ≡ Untold fault → AppendsPart faults faults' (fault_text fault shown ++ 10 ∷ []))
-    → ProgramRun Reads args out out' faults faults' ending
-stopped_run Reads args out out' faults faults' name asked shown fault ending a b is (file, read, said) end line part =
-    let Line : List ℕ → Type 0 = λ text. Appends faults faults' (fault_text fault text ++ 10 ∷ []) in
-    let Part : List ℕ → Type 0 = λ text. AppendsPart faults faults' (fault_text fault text ++ 10 ∷ []) in
-    let Read : List ℕ → Type 0 = λ text. Reads text file in
-    let To : Result (Unit {0}) CaseFault → Type 0 = λ e. AnswersNamed Reads out out' (Ok name) e in record {
-      argument = Ok name;
-      is_argument = is;
-      answers = subst To (sym end) (file, subst Read a read, said);
-      tells = told faults faults' fault (Ok name) ending end (λ e. subst Line b (line e)) (λ e. subst Part b (part e));
+-- the same with what stands behind the fault's text
+pub told_fault : (Ends : CaseFault → List ℕ → Type 0) (old new : Option (List ℕ)) (name end : List ℕ)
+    (fault : CaseFault) (ending : Ending) → end_of ending ≡ Err fault → Ends fault end
+    → (ending ≡ Told fault → Appends old new (fault_text fault name ++ end))
+    → (ending ≡ Untold fault → AppendsPart old new (fault_text fault name ++ end))
+    → TellsFault Ends old new name ending
+told_fault Ends old new name end fault AllAnswered is at line part = absurd (cc)
+told_fault Ends old new name end fault (Told f) is at line part =
+    let same : f ≡ fault = cc in
+    subst (λ (x : CaseFault). (end : List ℕ) × Ends x end × Appends old new (fault_text x name ++ end)) (sym same)
+    (end, at, line (ap Told same))
+told_fault Ends old new name end fault (Untold f) is at line part =
+    let same : f ≡ fault = cc in
+    subst (λ (x : CaseFault). (end : List ℕ) × Ends x end × AppendsPart old new (fault_text x name ++ end)) (sym same)
+    (end, at, part (ap Untold same))
+
+-- where that stops at a fault, which is told
+pub stopped_file : (detail : Detail) (table : Table) (file : Reading) (out out' faults faults' : Option (List ℕ))
+    (name end : List ℕ) (fault : CaseFault) (ending : Ending) → AnswersFile detail table out out' file (Err fault)
+    → end_of ending ≡ Err fault → IsEndOf detail file fault end
+    → (ending ≡ Told fault → Appends faults faults' (fault_text fault name ++ end))
+    → (ending ≡ Untold fault → AppendsPart faults faults' (fault_text fault name ++ end))
+    → FileRun detail table file out out' faults faults' name ending
+stopped_file detail table file out out' faults faults' name end fault ending answers is at line part = record {
+  answers = subst (λ r. AnswersFile detail table out out' file r) (sym is) answers;
+  tells =
+      told_fault (λ fault end. IsEndOf detail file fault end) faults faults' name end fault ending is at line part;
+}
+
+-- a file that was not read
+pub unread_file : (detail : Detail) (table : Table) (error : Error) (out out' faults faults' : Option (List ℕ))
+    (name : List ℕ) (fault : CaseFault) (ending : Ending) → end_of ending ≡ Err fault
+    → IsFaultOf error CannotRead fault → out' ≡ out
+    → TellsFault (λ fault end. IsEndOf detail (Err error) fault end) faults faults' name ending
+    → FileRun detail table (Err error) out out' faults faults' name ending
+unread_file detail table error out out' faults faults' name fault ending is of same tells = record {
+  answers = subst (λ r. AnswersFile detail table out out' (Err error) r) (sym is) (of, same);
+  tells = tells;
+}
+
+-- a file that is no table, or memory refused to it
+pub no_table : (detail : Detail) (file : Vec ℕ Global) (old new : Option (List ℕ)) (name end : List ℕ)
+    (fault : CaseFault) (ending : Ending) → IsTableFault (Ok file) fault → IsTablelessEnd detail (Ok file) fault end
+    → end_of ending ≡ Err fault → (ending ≡ Told fault → Appends old new (fault_text fault name ++ end))
+    → (ending ≡ Untold fault → AppendsPart old new (fault_text fault name ++ end))
+    → IsTableless detail (Ok file) old new name ending
+no_table detail file old new name end fault ending of at is line part = record {
+  fault = fault;
+  ends = is;
+  is = of;
+  tells = told_fault (λ fault end. IsTablelessEnd detail (Ok file) fault end) old new name end fault ending is at line
+      part;
+}
+
+-- a run by the table that the arguments name
+pub tabled : (Reads : List ℕ → Reading → Type 0) (call : Call) (table : Table)
+    (out out' faults faults' : Option (List ℕ)) (ending : Ending) → IsTable Reads call.table table
+    → (file : Reading) × Reads (string_bytes call.file) file
+    × FileRun call.detail table file out out' faults faults' (string_bytes call.file) ending
+    → CallRun Reads (Ok call) out out' faults faults' ending
+tabled Reads call table out out' faults faults' ending is (file, read, runs) =
+    inl (record { table = table; is_table = is; file = file; read = read; runs = runs })
+
+pub tableless : (Reads : List ℕ → Reading → Type 0) (call : Call) (name : String Global)
+    (out out' faults faults' : Option (List ℕ)) (ending : Ending) → call.table ≡ Some name → out' ≡ out
+    → (file : Reading) × Reads (string_bytes name) file
+    × IsTableless call.detail file faults faults' (string_bytes name) ending
+    → CallRun Reads (Ok call) out out' faults faults' ending
+tableless Reads call name out out' faults faults' ending named same (file, read, runs) =
+    inr (record { name = name; named = named; file = file; read = read; written = same; runs = runs })
+
+pub no_name : (Reads : List ℕ → Reading → Type 0) (named : Option (String Global)) → named ≡ None
+    → IsTable Reads named ascii_table
+no_name Reads None is = refl
+no_name Reads (Some name) is = absurd (cc)
+
+pub by_name : (Reads : List ℕ → Reading → Type 0) (named : Option (String Global)) (name : String Global)
+    (table : Table) → named ≡ Some name
+    → (file : Vec ℕ Global) × Reads (string_bytes name) (Ok file) × (table_text table ≡ file.items)
+    → IsTable Reads named table
+by_name Reads None name table is read = absurd (cc)
+by_name Reads (Some other) name table is (file, read, written) =
+    let same : other ≡ name = cc in
+    (file, subst (λ (n : String Global). Reads (string_bytes n) (Ok file)) (sym same) read, written)
+
+-- what follows of a value
+pub where_value : {T E : Type 0} (P Q : T → Type 0) (r : Result T E) → ((x : T) → P x → Q x) → IfOk r P → IfOk r Q
+where_value P Q (Ok x) f p = f x p
+where_value P Q (Err e) f p = tt
+
+-- the line at which a file stops is no case
+pub no_case_at : (detail : Detail) (table : Table) (old new : Option (List ℕ)) (file : List ℕ) (fault : CaseFault)
+    → StopsAt detail table old new (lines_of file) fault → (n : ℕ) → fault ≡ NotACase n → IsNoCaseAt file n
+no_case_at detail table old new file fault stops n is =
+    let found = stops.no_case n is in record {
+      line = stops.line;
+      at = record { before = stops.before; after = stops.after; split = stops.split; counted = found.0 };
+      is = found.1;
     }

@@ -3,8 +3,16 @@ use Rattle.std.specs.Prelude.{ℕ, ◌≤◌, Bool, true, false, Option, Some, N
 use Rattle.std.specs.Fmt.{decimal}
 use Rattle.std.specs.List.{flat_map}
 use Rattle.sre_growth.specs.Refusal.{Refused}
+use Rattle.sre_chars.specs.declared.table.UniError.{UniError}
+use Rattle.sre_chars.specs.declared.table.UniError.TheVariants.{Memory as No-Memory, Unsorted, AsciiEntry, NotScalar}
+use Rattle.sre_engine.specs.Refusals.{place_of}
+use Rattle.sre_code.specs.declared.code.error.CodeError.{CodeError}
+use Rattle.sre_code.specs.declared.code.error.CodeError.TheVariants.{Memory, Truncated, UnknownOpcode, UnknownAt}
+use Rattle.sre_code.specs.declared.code.error.CodeError.TheVariants.{UnknownCategory, BadSkip, BadCounts, BadItem}
+use Rattle.sre_code.specs.declared.code.error.CodeError.TheVariants.{BadSet, BadInfo, TrailingWords}
 use Rattle.sre_lines.specs.declared.cases.CaseFault.{CaseFault}
-use Rattle.sre_lines.specs.declared.cases.CaseFault.TheVariants.{Usage, CannotRead, NotACase, NoMemory, OutputFailed}
+use Rattle.sre_lines.specs.declared.cases.CaseFault.TheVariants.{Usage, CannotRead, NotATable, NotACase, NoMemory}
+use Rattle.sre_lines.specs.declared.cases.CaseFault.TheVariants.{OutputFailed}
 
 abbrev pub yes_no_text : Bool → List ℕ
 yes_no_text true = codes "yes"
@@ -30,10 +38,36 @@ abbrev pub marks_text : List (Option ℕ) → List ℕ
 marks_text [] = codes "none"
 marks_text (mark ∷ marks) = number_text mark ++ flat_map (λ m. 44 ∷ number_text m) marks
 
+-- the name of a refusal's cause
+abbrev pub refusal_name : CodeError → List ℕ
+refusal_name Memory = codes "Memory"
+refusal_name (Truncated place) = codes "Truncated"
+refusal_name (UnknownOpcode place) = codes "UnknownOpcode"
+refusal_name (UnknownAt place) = codes "UnknownAt"
+refusal_name (UnknownCategory place) = codes "UnknownCategory"
+refusal_name (BadSkip place) = codes "BadSkip"
+refusal_name (BadCounts place) = codes "BadCounts"
+refusal_name (BadItem place) = codes "BadItem"
+refusal_name (BadSet place) = codes "BadSet"
+refusal_name (BadInfo place) = codes "BadInfo"
+refusal_name (TrailingWords place) = codes "TrailingWords"
+
+-- a refusal with its cause, and the place of the word at which that was seen
+abbrev pub refusal_text : CodeError → List ℕ
+refusal_text error = codes "refused " ++ refusal_name error ++ codes " " ++ decimal (place_of error)
+
+-- what is wrong with a table's lists
+abbrev pub uni_text : UniError → List ℕ
+uni_text No-Memory = codes "no memory"
+uni_text Unsorted = codes "an entry is not above the one before"
+uni_text AsciiEntry = codes "an entry is below 128"
+uni_text NotScalar = codes "a number is no character's"
+
 -- the line of a fault
 abbrev pub fault_text : CaseFault → List ℕ → List ℕ
 fault_text Usage name = codes "usage: sre_cases FILE"
 fault_text CannotRead name = name ++ codes ": cannot be read"
+fault_text NotATable name = name ++ codes ": not a table"
 fault_text (NotACase line) name = codes "line " ++ decimal line ++ codes ": not a case"
 fault_text NoMemory name = codes "no memory"
 fault_text OutputFailed name = codes "output failed"
@@ -42,6 +76,7 @@ fault_text OutputFailed name = codes "output failed"
 abbrev pub IsFaultOfCases : CaseFault → Type 0
 IsFaultOfCases Usage = ⊥
 IsFaultOfCases CannotRead = ⊥
+IsFaultOfCases NotATable = ⊥
 IsFaultOfCases (NotACase line) = 1 ≤ line
 IsFaultOfCases NoMemory = Refused
 IsFaultOfCases OutputFailed = Unit {0}

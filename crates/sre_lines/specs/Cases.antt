@@ -1,5 +1,5 @@
 -- What a case asks, and how it is answered.
-use Rattle.std.specs.Prelude.{ℕ, ◌≡◌, ◌⊎◌, ◌++◌, Bool, true, false, List, [], ◌∷◌, length, min, Option, Some, None}
+use Rattle.std.specs.Prelude.{ℕ, ◌≡◌, ◌≢◌, ◌≤◌, ◌⊎◌, ◌++◌, Bool, true, false, List, [], ◌∷◌, length, min, Option, Some, None}
 use Rattle.std.specs.Prelude.{codes}
 use Rattle.std.specs.Fmt.{decimal, signed_decimal}
 use Rattle.std.specs.List.{flat_map}
@@ -10,6 +10,11 @@ use Rattle.sre_engine.specs.Grammar.{Whole, IsCode}
 use Rattle.sre_engine.specs.Hinted.{Confirmed}
 use Rattle.sre_engine.specs.Found.{Asked, Match, matched, found, walk}
 use Rattle.sre_engine.specs.Hints.{Hints}
+use Rattle.sre_engine.specs.Refusals.{place_of}
+use Rattle.sre_code.specs.declared.code.error.CodeError.{CodeError}
+use Rattle.sre_code.specs.declared.code.error.CodeError.TheVariants.{Memory}
+use Rattle.sre_lines.specs.declared.cases.Detail.{Detail}
+use Rattle.sre_lines.specs.declared.cases.Detail.TheVariants.{Plain, Explained}
 use Rattle.sre_lines.specs.declared.line.Case.{Case}
 use Rattle.sre_lines.specs.declared.line.Case.TheVariants.{Check, Find}
 use Rattle.sre_lines.specs.declared.line.Finding.{Finding}
@@ -19,7 +24,7 @@ use Rattle.sre_lines.specs.declared.line.TextForm.{TextForm}
 use Rattle.sre_lines.specs.declared.line.TextForm.TheVariants.{Bytes, Utf8}
 use Rattle.sre_lines.specs.declared.line.Window.{Window}
 use Rattle.sre_lines.specs.declared.line.Window.TheVariants.{Whole as Whole-Text, Span}
-use Rattle.sre_lines.specs.Answers.{hints_text, marks_text}
+use Rattle.sre_lines.specs.Answers.{hints_text, marks_text, refusal_text}
 
 -- the characters that the bytes of a text stand for
 abbrev pub characters : TextForm → List ℕ → List ℕ
@@ -86,9 +91,16 @@ IsAnswerOf t table Check words text answer =
 IsAnswerOf t table (Find finding subject) words text answer =
     answer ≡ found_text finding (asked subject table (characters subject.text text)) t
 
--- the answer to a case: that of its words' tree, `refused` where they have none, or `memory`
-abbrev pub IsAnswer : Table → Case → List ℕ → List ℕ → List ℕ → Type 0
-IsAnswer table case words text answer =
+-- what is answered to words that are no code: where causes are told, a `check` tells a cause and its place as well
+abbrev pub IsRefusal : Detail → Case → List ℕ → List ℕ → Type 0
+IsRefusal Plain case words answer = answer ≡ codes "refused"
+IsRefusal Explained Check words answer =
+    (error : CodeError) × (error ≢ Memory) × (place_of error ≤ length words) × (answer ≡ refusal_text error)
+IsRefusal Explained (Find finding subject) words answer = answer ≡ codes "refused"
+
+-- the answer to a case: that of its words' tree, a refusal where they have none, or `memory`
+abbrev pub IsAnswer : Detail → Table → Case → List ℕ → List ℕ → List ℕ → Type 0
+IsAnswer detail table case words text answer =
     ((t : Tree) × Whole words t × IsAnswerOf t table case words text answer)
-    ⊎ ((¬ (IsCode words)) × (answer ≡ codes "refused"))
+    ⊎ ((¬ (IsCode words)) × IsRefusal detail case words answer)
     ⊎ (answer ≡ codes "memory")

@@ -2,9 +2,11 @@
 
 ghost use Rattle.std.specs.Prelude.{◌≡◌, ◌++◌, codes, OnOk, string_bytes};
 ghost use Rattle.std.specs.Fmt.{decimal, signed_decimal};
+ghost use Rattle.sre_engine.specs.Refusals.{place_of};
 ghost use Rattle.sre_lines.specs.Answers.{hints_text, marks_text, number_text, yes_no_text};
+ghost use Rattle.sre_lines.specs.Answers.{refusal_name, refusal_text};
 
-use sre_engine::code::Hints;
+use sre_engine::code::{CodeError, Hints};
 use std::alloc::{AllocError, Allocator};
 
 /// Appends the answer to a `check` of words that are a code.
@@ -31,6 +33,37 @@ fn yes_or_no(holds: bool) -> &'static str
     ensures { result.now ≡ yes_no_text holds }
 {
     if holds { "yes" } else { "no" }
+}
+
+/// Appends that words are refused, with the cause and the place of the word at which it was seen.
+pub fn push_refusal<A: Allocator>(
+    answer: &mut String<A>,
+    error: CodeError,
+) -> Result<(), AllocError>
+    ensures { OnOk result (string_bytes answer.new ≡ string_bytes answer.old ++ refusal_text error) }
+{
+    let (name, place) = name_and_place(error);
+    write!(answer, "refused {name} {place}")
+}
+
+// The name of a cause, and the place that it carries.
+fn name_and_place(error: CodeError) -> (&'static str, usize)
+    ensures name { result.0.now ≡ refusal_name error }
+    ensures place { result.1 ≡ place_of error }
+{
+    match error {
+        CodeError::Memory => ("Memory", 0),
+        CodeError::Truncated(place) => ("Truncated", place),
+        CodeError::UnknownOpcode(place) => ("UnknownOpcode", place),
+        CodeError::UnknownAt(place) => ("UnknownAt", place),
+        CodeError::UnknownCategory(place) => ("UnknownCategory", place),
+        CodeError::BadSkip(place) => ("BadSkip", place),
+        CodeError::BadCounts(place) => ("BadCounts", place),
+        CodeError::BadItem(place) => ("BadItem", place),
+        CodeError::BadSet(place) => ("BadSet", place),
+        CodeError::BadInfo(place) => ("BadInfo", place),
+        CodeError::TrailingWords(place) => ("TrailingWords", place),
+    }
 }
 
 /// Appends where a match starts and ends, positions of characters.

@@ -1,6 +1,6 @@
 //! The cases of a file, and their answers.
 
-ghost use Rattle.std.specs.Prelude.{◌≡◌, ◌≤◌, ◌++◌, ◌∷◌, [], ℕ, List, IfErr, OnErr, OnOk, codes, string_bytes};
+ghost use Rattle.std.specs.Prelude.{◌≡◌, ◌≢◌, ◌≤◌, ◌++◌, ◌∷◌, [], ℕ, List, IfErr, OnErr, OnOk, codes, string_bytes, length};
 ghost use Rattle.std.specs.Fmt.{decimal};
 ghost use Rattle.std.specs.Io.KnownBytes.{Appends};
 ghost use Rattle.sre_lines.specs.Answers.{fault_text, IsFaultOfCases};
@@ -9,19 +9,20 @@ ghost use Rattle.sre_engine.specs.Tree.{Tree};
 ghost use Rattle.sre_engine.specs.Grammar.{Whole};
 ghost use Rattle.sre_engine.specs.Codes.{words_of, uni_of};
 ghost use Rattle.sre_engine.specs.Requests.{asked_of, code_of};
-ghost use Rattle.sre_lines.specs.Cases.{IsAnswer, IsAnswerOf, asked, found_text};
+ghost use Rattle.sre_engine.specs.Refusals.{place_of};
+ghost use Rattle.sre_lines.specs.Cases.{IsAnswer, IsAnswerOf, IsRefusal, asked, found_text};
 ghost use Rattle.sre_lines.specs.Fields.{IsCase};
 ghost use Rattle.sre_lines.specs.Lines.{lines_of, Answered, IsNoCase, IsBegun, StopsAt};
 ghost use Rattle.sre_lines.specs.Output.{AppendsPart};
 
 mod walked;
 
-use crate::answer::{push_hints, push_match};
+use crate::answer::{push_hints, push_match, push_refusal};
 use crate::cases::walked::push_walk;
 use crate::line::{
     Case, Finding, LineFault, Operands, Subject, TextForm, Window, read_case, split_once,
 };
-use crate::output::{write_both, write_whole};
+use crate::output::{write_both, write_three, write_whole};
 use itoa::Buffer;
 use sre_engine::code::CodeError;
 use sre_engine::engine::{SreError, State};
@@ -36,12 +37,23 @@ pub enum CaseFault {
     Usage,
     /// The file cannot be read.
     CannotRead,
+    /// The file is no table.
+    NotATable,
     /// The line of this number is no case; all lines count, from 1 on.
     NotACase(u64),
     /// Memory was refused outside a case.
     NoMemory,
     /// A write failed.
     OutputFailed,
+}
+
+/// How much is told of a fault, and of words that are refused.
+#[derive(Clone, Copy)]
+pub enum Detail {
+    /// That there is one.
+    Plain,
+    /// Its cause as well.
+    Explained,
 }
 
 /// Answers the lines of a file in order, a line for each case. Lines end at byte 10, also the last
@@ -51,9 +63,11 @@ pub enum CaseFault {
 /// then, and after a failed write perhaps a part of the next one, with nothing behind it. A refusal of
 /// memory to a case itself is its answer `memory`.
 pub fn run_cases<W: Write>(alloc: Global, file: &[u8], out: &mut W) -> Result<(), CaseFault>
-    ensures answers { OnOk result (Answered (W.contents out.old) (W.contents out.new) (lines_of file.now)) }
+    ensures answers { OnOk result (Answered Detail.Plain ascii_table (W.contents out.old) (W.contents out.new)
+        (lines_of file.now)) }
     ensures faults { IfErr result IsFaultOfCases }
-    ensures stopped { IfErr result (StopsAt (W.contents out.old) (W.contents out.new) (lines_of file.now)) }
+    ensures stopped { IfErr result (StopsAt Detail.Plain ascii_table (W.contents out.old) (W.contents out.new)
+        (lines_of file.now)) }
 {
     answer_lines(alloc, alloc, file, out)
 }
@@ -65,13 +79,41 @@ pub fn answer_lines<A: Allocator + Copy, W: Write>(
     file: &[u8],
     out: &mut W,
 ) -> Result<(), CaseFault>
-    ensures answers { OnOk result (Answered (W.contents out.old) (W.contents out.new) (lines_of file.now)) }
+    ensures answers { OnOk result (Answered Detail.Plain ascii_table (W.contents out.old) (W.contents out.new)
+        (lines_of file.now)) }
     ensures faults { IfErr result IsFaultOfCases }
-    ensures stopped { IfErr result (StopsAt (W.contents out.old) (W.contents out.new) (lines_of file.now)) }
+    ensures stopped { IfErr result (StopsAt Detail.Plain ascii_table (W.contents out.old) (W.contents out.new)
+        (lines_of file.now)) }
+{
+    answer_lines_by(
+        alloc,
+        heap,
+        Detail::Plain,
+        UniTable::ascii(alloc),
+        file,
+        out,
+    )
+}
+
+/// Answers the lines as [`answer_lines`] does, by a table, and with the causes of refusals where `detail` says so.
+pub fn answer_lines_by<A: Allocator + Copy, W: Write>(
+    alloc: Global,
+    heap: A,
+    detail: Detail,
+    table: UniTable,
+    file: &[u8],
+    out: &mut W,
+) -> Result<(), CaseFault>
+    ensures answers { OnOk result (Answered detail table.entry (W.contents out.old) (W.contents out.new)
+        (lines_of file.now)) }
+    ensures faults { IfErr result IsFaultOfCases }
+    ensures stopped { IfErr result (StopsAt detail table.entry (W.contents out.old) (W.contents out.new)
+        (lines_of file.now)) }
 {
     let mut desk = Desk {
         alloc,
-        table: UniTable::ascii(alloc),
+        detail,
+        table,
         operands: Operands {
             words: Vec::new(heap),
             text: Vec::new(heap),
@@ -98,6 +140,7 @@ pub fn answer_lines<A: Allocator + Copy, W: Write>(
 #[derive(Drop)]
 struct Desk<A: Allocator + Copy> {
     alloc: Global,
+    detail: Detail,
     table: UniTable,
     operands: Operands<A>,
     state: State<A>,
@@ -112,11 +155,12 @@ fn answer_line<A: Allocator + Copy, W: Write>(
     out: &mut W,
 ) -> Result<(), CaseFault>
     requires number { 1 ≤ number }
-    requires table { desk.old.table ≡ ascii_table }
-    ensures table { desk.new.table ≡ ascii_table }
-    ensures answers { OnOk result (Answered (W.contents out.old) (W.contents out.new) (line.now ∷ [])) }
+    ensures table { desk.new.table ≡ desk.old.table }
+    ensures detail { desk.new.detail ≡ desk.old.detail }
+    ensures answers { OnOk result (Answered desk.old.detail desk.old.table (W.contents out.old) (W.contents out.new)
+        (line.now ∷ [])) }
     ensures faults { IfErr result IsFaultOfCases }
-    ensures begun { IfErr result (λ fault. (part : List ℕ) × IsBegun fault line.now part
+    ensures begun { IfErr result (λ fault. (part : List ℕ) × IsBegun desk.old.detail desk.old.table fault line.now part
         × Appends (W.contents out.old) (W.contents out.new) part) }
     ensures no_case { IfErr result
         (λ fault. (n : ℕ) → fault ≡ CaseFault.NotACase n → (n ≡ number) × IsNoCase line.now) }
@@ -143,16 +187,18 @@ fn write_answer<A: Allocator + Copy, W: Write>(
 ) -> io::Result<()>
     requires { IsCase case desk.old.operands.words.items desk.old.operands.text.items }
     ensures table { desk.new.table ≡ desk.old.table }
+    ensures detail { desk.new.detail ≡ desk.old.detail }
     ensures answer { OnOk result ((said : List ℕ)
-        × IsAnswer desk.old.table case desk.old.operands.words.items desk.old.operands.text.items said
+        × IsAnswer desk.old.detail desk.old.table case desk.old.operands.words.items desk.old.operands.text.items said
         × Appends (W.contents out.old) (W.contents out.new) (said ++ 10 ∷ [])) }
     ensures part { OnErr result ((said part rest : List ℕ)
-        × IsAnswer desk.old.table case desk.old.operands.words.items desk.old.operands.text.items said
+        × IsAnswer desk.old.detail desk.old.table case desk.old.operands.words.items desk.old.operands.text.items said
         × (part ++ rest ≡ said ++ 10 ∷ []) × Appends (W.contents out.old) (W.contents out.new) part) }
 {
     desk.answer.clear();
     let answered = push_answer(
         desk.alloc,
+        desk.detail,
         &desk.table,
         case,
         &desk.operands,
@@ -168,6 +214,7 @@ fn write_answer<A: Allocator + Copy, W: Write>(
 // Appends the answer to a case, with the byte that ends its line.
 fn push_answer<A: Allocator + Copy>(
     alloc: Global,
+    detail: Detail,
     table: &UniTable,
     case: Case,
     operands: &Operands<A>,
@@ -176,16 +223,17 @@ fn push_answer<A: Allocator + Copy>(
 ) -> Result<(), AllocError>
     requires { IsCase case operands.now.words.items operands.now.text.items }
     ensures { OnOk result
-        ((said : List ℕ) × IsAnswer table.now case operands.now.words.items operands.now.text.items said
+        ((said : List ℕ) × IsAnswer detail table.now case operands.now.words.items operands.now.text.items said
         × (string_bytes answer.new ≡ string_bytes answer.old ++ (said ++ 10 ∷ []))) }
 {
-    push_verdict(alloc, table, case, operands, state, answer)?;
+    push_verdict(alloc, detail, table, case, operands, state, answer)?;
     answer.push_str("\n")
 }
 
 // Appends the answer to a case.
 fn push_verdict<A: Allocator + Copy>(
     alloc: Global,
+    detail: Detail,
     table: &UniTable,
     case: Case,
     operands: &Operands<A>,
@@ -194,14 +242,31 @@ fn push_verdict<A: Allocator + Copy>(
 ) -> Result<(), AllocError>
     requires { IsCase case operands.now.words.items operands.now.text.items }
     ensures { OnOk result
-        ((said : List ℕ) × IsAnswer table.now case operands.now.words.items operands.now.text.items said
+        ((said : List ℕ) × IsAnswer detail table.now case operands.now.words.items operands.now.text.items said
         × (string_bytes answer.new ≡ string_bytes answer.old ++ said)) }
 {
     let heap = *operands.words.allocator();
     match Code::check(alloc, operands.words.as_slice(), table) {
         Ok(code) => push_code_answer(heap, code, case, operands.text.as_slice(), state, answer),
         Err(CodeError::Memory) => Err(AllocError),
-        Err(_) => answer.push_str("refused"),
+        Err(error) => push_cause(detail, case, error, answer),
+    }
+}
+
+// Appends that words are refused; the cause as well where a `check` tells it.
+fn push_cause<A: Allocator>(
+    detail: Detail,
+    case: Case,
+    error: CodeError,
+    answer: &mut String<A>,
+) -> Result<(), AllocError>
+    requires { error ≢ CodeError.Memory }
+    ensures { (words : List ℕ) → place_of error ≤ length words → OnOk result ((said : List ℕ)
+        × IsRefusal detail case words said × (string_bytes answer.new ≡ string_bytes answer.old ++ said)) }
+{
+    match (detail, case) {
+        (Detail::Explained, Case::Check) => push_refusal(answer, error),
+        _ => answer.push_str("refused"),
     }
 }
 
@@ -290,36 +355,42 @@ pub fn write_fault<W: Write>(fault: &CaseFault, name: &str, out: &mut W) -> Resu
         (fault_text fault.now name.now ++ 10 ∷ [])) }
     ensures failed { IfErr result (λ failure. failure ≡ CaseFault.OutputFailed) }
 {
-    match write_line(fault, name, out) {
+    match write_line(fault, name, b"\n", out) {
         Ok(()) => Ok(()),
         Err(_) => Err(CaseFault::OutputFailed),
     }
 }
 
-// Writes the line that tells a fault.
-fn write_line<W: Write>(fault: &CaseFault, name: &str, out: &mut W) -> io::Result<()>
+/// Writes the text of a fault, with `name` where the file is named, and `end` directly behind it.
+pub(crate) fn write_line<W: Write>(
+    fault: &CaseFault,
+    name: &str,
+    end: &[u8],
+    out: &mut W,
+) -> io::Result<()>
     ensures line { OnOk result (Appends (W.contents out.old) (W.contents out.new)
-        (fault_text fault.now name.now ++ 10 ∷ [])) }
+        (fault_text fault.now name.now ++ end.now)) }
     ensures part { OnErr result (AppendsPart (W.contents out.old) (W.contents out.new)
-        (fault_text fault.now name.now ++ 10 ∷ [])) }
+        (fault_text fault.now name.now ++ end.now)) }
 {
     match fault {
-        CaseFault::Usage => write_whole(b"usage: sre_cases FILE\n", out),
-        CaseFault::CannotRead => write_both(name.as_bytes(), b": cannot be read\n", out),
-        CaseFault::NotACase(line) => write_no_case(*line, out),
-        CaseFault::NoMemory => write_whole(b"no memory\n", out),
-        CaseFault::OutputFailed => write_whole(b"output failed\n", out),
+        CaseFault::Usage => write_both(b"usage: sre_cases FILE", end, out),
+        CaseFault::CannotRead => write_three(name.as_bytes(), b": cannot be read", end, out),
+        CaseFault::NotATable => write_three(name.as_bytes(), b": not a table", end, out),
+        CaseFault::NotACase(line) => write_no_case(*line, end, out),
+        CaseFault::NoMemory => write_both(b"no memory", end, out),
+        CaseFault::OutputFailed => write_both(b"output failed", end, out),
     }
 }
 
-// Writes the line that tells that a line is no case.
-fn write_no_case<W: Write>(line: u64, out: &mut W) -> io::Result<()>
+// Writes that a line is no case.
+fn write_no_case<W: Write>(line: u64, end: &[u8], out: &mut W) -> io::Result<()>
     ensures line { OnOk result (Appends (W.contents out.old) (W.contents out.new)
-        (codes "line " ++ (decimal line ++ codes ": not a case\n"))) }
+        (codes "line " ++ (decimal line ++ (codes ": not a case" ++ end.now)))) }
     ensures part { OnErr result (AppendsPart (W.contents out.old) (W.contents out.new)
-        (codes "line " ++ (decimal line ++ codes ": not a case\n"))) }
+        (codes "line " ++ (decimal line ++ (codes ": not a case" ++ end.now)))) }
 {
     let mut digits = Buffer::new();
     write_whole(b"line ", out)?;
-    write_both(digits.format(line).as_bytes(), b": not a case\n", out)
+    write_three(digits.format(line).as_bytes(), b": not a case", end, out)
 }

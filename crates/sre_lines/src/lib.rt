@@ -3,7 +3,9 @@
 
 pub mod answer;
 pub mod cases;
+pub mod cause;
 pub mod line;
 mod number;
 mod output;
 pub mod program;
+pub mod table;

@@ -35,9 +35,9 @@ impl From<Refusal> for LineFault {
     }
 }
 
-// What a case begins with.
+/// What a case begins with.
 #[derive(Clone, Copy)]
-enum Verb {
+pub(crate) enum Verb {
     Check,
     Find(Finding),
 }
@@ -127,8 +127,8 @@ pub fn read_case<A: Allocator>(line: &[u8], operands: &mut Operands<A>) -> Resul
     }
 }
 
-// The verb that a field writes.
-fn verb_of(field: &[u8]) -> Option<Verb>
+/// The verb that a field writes.
+pub(crate) fn verb_of(field: &[u8]) -> Option<Verb>
     ensures written { IfSome result (λ verb. verb_text verb ≡ field.now) }
     ensures refused { IfNone result ((verb : Verb) → verb_text verb ≢ field.now) }
 {
@@ -178,8 +178,11 @@ fn read_subject<A: Allocator>(
     })
 }
 
-// Reads numbers up to 4294967295 divided by commas, or `-` for none.
-fn read_words<A: Allocator>(field: &[u8], words: &mut Vec<u32, A>) -> Result<(), LineFault>
+/// Reads numbers up to 4294967295 divided by commas, or `-` for none.
+pub(crate) fn read_words<A: Allocator>(
+    field: &[u8],
+    words: &mut Vec<u32, A>,
+) -> Result<(), LineFault>
     ensures read { OnOk result (words_text words.new.items ≡ field.now) }
     ensures fit { OnOk result (AreWords words.new.items) }
     ensures refused { result ≡ Err LineFault.NotACase → (ws : List ℕ) → AreWords ws → words_text ws ≢ field.now }
@@ -248,8 +251,8 @@ fn read_text<A: Allocator>(field: &[u8], text: &mut Vec<u8, A>) -> Result<TextFo
     Ok(form)
 }
 
-// The form of a text that a letter tells.
-fn form_of(letter: &[u8]) -> Option<TextForm>
+/// The form of a text that a letter tells.
+pub(crate) fn form_of(letter: &[u8]) -> Option<TextForm>
     ensures written { IfSome result (λ form. form_text form ≡ letter.now) }
     ensures refused { IfNone result ((form : TextForm) → form_text form ≢ letter.now) }
 {
@@ -270,8 +273,8 @@ fn is_text(form: TextForm, bytes: &[u8]) -> bool
     }
 }
 
-// The window that a field writes.
-fn window_of(field: &[u8]) -> Option<Window>
+/// The window that a field writes.
+pub(crate) fn window_of(field: &[u8]) -> Option<Window>
     ensures written { IfSome result (λ window. window_text window ≡ field.now) }
     ensures fits { IfSome result IsWindow }
     ensures refused { IfNone result ((window : Window) → IsWindow window → window_text window ≢ field.now) }
@@ -290,8 +293,8 @@ fn window_of(field: &[u8]) -> Option<Window>
     })
 }
 
-// The flags that a field writes.
-fn flags_of(field: &[u8]) -> Option<Flags>
+/// The flags that a field writes.
+pub(crate) fn flags_of(field: &[u8]) -> Option<Flags>
     ensures written { IfSome result (λ flags. flags_text flags ≡ field.now) }
     ensures refused { IfNone result ((flags : Flags) → flags_text flags ≢ field.now) }
 {

@@ -68,8 +68,8 @@ fn hex_byte(high: u8, low: u8) -> Option<u8>
     Some(16 * hex_digit(high)? + hex_digit(low)?)
 }
 
-// The number that a lower-case hexadecimal digit writes.
-fn hex_digit(digit: u8) -> Option<u8>
+/// The number that a lower-case hexadecimal digit writes.
+pub fn hex_digit(digit: u8) -> Option<u8>
     ensures read { IfSome result (λ n. (n < 16) × (digit ≡ digit_glyph false n)) }
     ensures refused { IfNone result ((n : ℕ) → n < 16 → digit ≢ digit_glyph false n) }
 {

@@ -37,3 +37,14 @@ pub fn write_both<W: Write>(front: &[u8], end: &[u8], out: &mut W) -> io::Result
     write_whole(front, out)?;
     write_whole(end, out)
 }
+
+/// Writes three pieces, one directly behind the other; after an error a part of them stands there.
+pub fn write_three<W: Write>(front: &[u8], middle: &[u8], end: &[u8], out: &mut W) -> io::Result<()>
+    ensures whole { OnOk result (Appends (W.contents out.old) (W.contents out.new)
+        (front.now ++ (middle.now ++ end.now))) }
+    ensures part { OnErr result (AppendsPart (W.contents out.old) (W.contents out.new)
+        (front.now ++ (middle.now ++ end.now))) }
+{
+    write_whole(front, out)?;
+    write_both(middle, end, out)
+}

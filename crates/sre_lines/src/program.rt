@@ -1,16 +1,24 @@
 //! What the program does with its arguments and its file.
 
-ghost use Rattle.std.specs.Prelude.{◌≡◌, ◌≢◌, ◌++◌, ◌∷◌, [], Err, IfErr, OnOk};
-ghost use Rattle.std.specs.Fn.{FnOnceReturnsAt};
+ghost use Rattle.std.specs.Prelude.{◌≡◌, ◌≢◌, ◌++◌, ◌∷◌, [], ℕ, List, Some, Ok, Err, IfOk, IfErr, OnOk, codes};
+ghost use Rattle.std.specs.Fn.{FnReturnsAt};
+ghost use Rattle.std.specs.Vec.Iter.{into_iter_items};
 ghost use Rattle.std.specs.Io.Buffered.{writer_contents, writer_buffer};
 ghost use Rattle.std.specs.Io.KnownBytes.{Appends};
 ghost use Rattle.std.specs.Process.{exit_status};
-ghost use Rattle.sre_lines.specs.Answers.{fault_text, IsFaultOfCases};
-ghost use Rattle.sre_lines.specs.Lines.{lines_of, Answered, StopsAt};
+ghost use Rattle.sre_lines.specs.Answers.{fault_text, uni_text, IsFaultOfCases};
+ghost use Rattle.sre_lines.specs.Lines.{lines_of, Answered, StopsAt, IsNoCaseAt};
 ghost use Rattle.sre_lines.specs.Output.{AppendsPart};
-ghost use Rattle.sre_lines.specs.Program.{IsFaultOf, IsArgument, AnswersFile, end_of, status_of, ProgramRun};
+ghost use Rattle.sre_lines.specs.Program.{IsFaultOf, IsCall, IsCallOf, IsEnd, IsUnreadEnd, IsEndOf, FileRun};
+ghost use Rattle.sre_chars.specs.Tables.{Table};
+ghost use Rattle.sre_chars.specs.Lists.{lists_fault};
+ghost use Rattle.sre_lines.specs.Program.{TellsFault, IsTableEnd, IsTableless, CallRun, end_of, status_of, ProgramRun};
+ghost use Rattle.sre_lines.specs.TableFiles.{table_text};
 
-use crate::cases::{CaseFault, run_cases, write_fault};
+use crate::cases::{CaseFault, Detail, answer_lines_by, write_line};
+use crate::cause::{cause_of, line_at};
+use crate::table::{TableFault, read_table};
+use sre_engine::{UniError, UniTable};
 use std::alloc::Global;
 use std::env::Args;
 use std::io::{self, BufWriter, ErrorKind, Write};
@@ -39,11 +47,24 @@ impl Ending {
     }
 }
 
-/// Answers the cases of the file that the one argument names, which `read` reads. Where that stops at a
-/// fault, the line that tells it is written to `faults`.
+/// What the arguments ask.
+#[derive(Drop)]
+pub struct Call {
+    /// Whether causes are told as well.
+    pub detail: Detail,
+    /// The name of the table's file; without one the table is that of ASCII.
+    pub table: Option<String>,
+    /// The name of the file of cases.
+    pub file: String,
+}
+
+/// Answers the cases of the file that the arguments name, which `read` reads. Where that stops at a fault, the line that
+/// tells it is written to `faults`.
 ///
-/// The first argument is the program's name. The arguments are an error where one is no UTF-8. No answer is left in
-/// the buffer of `out`, unless a write failed.
+/// The first argument is the program's name. The last one is the file's. Before it `--explain` asks for the causes of
+/// faults, and of the refusals that a `check` is answered, and `--table TABLE` for the answers by the table that the file
+/// TABLE is written as; without it the table is that of ASCII. The arguments are an error where one is no UTF-8. No answer
+/// is left in the buffer of `out`, unless a write failed.
 pub fn run<F, W, E>(
     alloc: Global,
     args: io::Result<Args>,
@@ -52,22 +73,18 @@ pub fn run<F, W, E>(
     faults: &mut E,
 ) -> Ending
 where
-    F: FnOnce(&str) -> io::Result<Vec<u8>>,
+    F: Fn(&str) -> io::Result<Vec<u8>>,
     W: Write + Drop,
     E: Write,
     requires { F.IsAlwaysCallable read }
-    ensures run { ProgramRun (FnOnceReturnsAt F.FnOnce read) args (writer_contents W.contents out.old)
+    ensures run { ProgramRun (FnReturnsAt F.Fn read) args (writer_contents W.contents out.old)
         (writer_contents W.contents out.new) (E.contents faults.old) (E.contents faults.new) result }
     ensures flushed { writer_buffer out.old ≡ [] → end_of result ≢ Err CaseFault.OutputFailed
         → writer_buffer out.new ≡ [] }
 {
-    let name = match argument(args) {
-        Ok(name) => name,
-        Err(fault) => return tell(fault, "FILE", faults),
-    };
-    match answer_file(alloc, name.as_str(), read, out) {
-        Ok(()) => Ending::AllAnswered,
-        Err(fault) => tell(fault, name.as_str(), faults),
+    match call_of(args) {
+        Ok(call) => answer_call(alloc, &call, read, out, faults),
+        Err(fault) => tell(fault, "FILE", faults),
     }
 }
 
@@ -79,24 +96,121 @@ pub fn tell<E: Write>(fault: CaseFault, name: &str, faults: &mut E) -> Ending
     ensures part { result ≡ Ending.Untold fault
         → AppendsPart (E.contents faults.old) (E.contents faults.new) (fault_text fault name.now ++ 10 ∷ []) }
 {
-    match write_fault(&fault, name, faults) {
+    tell_with(fault, name, "\n", faults)
+}
+
+// The same with another end of the line.
+fn tell_with<E: Write>(fault: CaseFault, name: &str, end: &str, faults: &mut E) -> Ending
+    ensures fault { end_of result ≡ Err fault }
+    ensures line { result ≡ Ending.Told fault
+        → Appends (E.contents faults.old) (E.contents faults.new) (fault_text fault name.now ++ end.now) }
+    ensures part { result ≡ Ending.Untold fault
+        → AppendsPart (E.contents faults.old) (E.contents faults.new) (fault_text fault name.now ++ end.now) }
+{
+    match write_line(&fault, name, end.as_bytes(), faults) {
         Ok(()) => Ending::Told(fault),
         Err(_) => Ending::Untold(fault),
     }
 }
 
-// The one argument behind the program's name.
-fn argument(args: io::Result<Args>) -> Result<String, CaseFault>
-    ensures { IsArgument args result }
+// What the arguments ask.
+fn call_of(args: io::Result<Args>) -> Result<Call, CaseFault>
+    ensures { IsCall args result }
 {
     let mut args = match args {
         Ok(args) => args,
         Err(error) => return Err(memory_or(&error, CaseFault::Usage)),
     };
+    match args.next() {
+        Some(_program) => asked(args),
+        None => Err(CaseFault::Usage),
+    }
+}
+
+// What the arguments behind the program's name ask.
+fn asked(mut args: Args) -> Result<Call, CaseFault>
+    ensures { IsCallOf (into_iter_items args) result }
+{
     match (args.next(), args.next(), args.next()) {
-        (Some(_program), Some(name), None) => Ok(name),
+        (Some(file), None, _) => Ok(Call {
+            detail: Detail::Plain,
+            table: None,
+            file,
+        }),
+        (Some(flag), Some(file), None) => explained(flag, file),
+        (Some(first), Some(second), Some(third)) => asked_by_table(first, second, third, args),
         _ => Err(CaseFault::Usage),
     }
+}
+
+// What a flag and a file ask.
+fn explained(flag: String, file: String) -> Result<Call, CaseFault>
+    ensures { IsCallOf (flag ∷ file ∷ []) result }
+{
+    if flag.as_str() == "--explain" {
+        return Ok(Call {
+            detail: Detail::Explained,
+            table: None,
+            file,
+        });
+    }
+    Err(CaseFault::Usage)
+}
+
+// What three arguments and those behind them ask.
+fn asked_by_table(
+    first: String,
+    second: String,
+    third: String,
+    mut args: Args,
+) -> Result<Call, CaseFault>
+    ensures { IsCallOf (first ∷ second ∷ third ∷ into_iter_items args) result }
+{
+    match (args.next(), args.next()) {
+        (None, _) => by_table(first, second, third),
+        (Some(file), None) => explained_by_table(first, second, third, file),
+        _ => Err(CaseFault::Usage),
+    }
+}
+
+// What a flag, a table and a file ask.
+fn by_table(flag: String, table: String, file: String) -> Result<Call, CaseFault>
+    ensures { IsCallOf (flag ∷ table ∷ file ∷ []) result }
+{
+    if flag.as_str() == "--table" {
+        return Ok(Call {
+            detail: Detail::Plain,
+            table: Some(table),
+            file,
+        });
+    }
+    Err(CaseFault::Usage)
+}
+
+// What both flags ask, in either order.
+fn explained_by_table(
+    first: String,
+    second: String,
+    third: String,
+    file: String,
+) -> Result<Call, CaseFault>
+    ensures { IsCallOf (first ∷ second ∷ third ∷ file ∷ []) result }
+{
+    if first.as_str() == "--explain" && second.as_str() == "--table" {
+        return Ok(Call {
+            detail: Detail::Explained,
+            table: Some(third),
+            file,
+        });
+    }
+    if first.as_str() == "--table" && third.as_str() == "--explain" {
+        return Ok(Call {
+            detail: Detail::Explained,
+            table: Some(second),
+            file,
+        });
+    }
+    Err(CaseFault::Usage)
 }
 
 // The fault of an error: want of memory, or else the usual one.
@@ -110,42 +224,229 @@ fn memory_or(error: &io::Error, usual: CaseFault) -> CaseFault
     }
 }
 
-// Answers the cases of the file of this name.
-fn answer_file<F, W>(
+// Answers what the arguments ask, by the table that they name.
+fn answer_call<F, W, E>(
     alloc: Global,
-    name: &str,
+    call: &Call,
     read: F,
     out: &mut BufWriter<W>,
-) -> Result<(), CaseFault>
+    faults: &mut E,
+) -> Ending
 where
-    F: FnOnce(&str) -> io::Result<Vec<u8>>,
+    F: Fn(&str) -> io::Result<Vec<u8>>,
     W: Write + Drop,
+    E: Write,
     requires { F.IsAlwaysCallable read }
-    ensures answers { (file : _) × FnOnceReturnsAt F.FnOnce read name.now file
-        × AnswersFile (writer_contents W.contents out.old) (writer_contents W.contents out.new) file result }
-    ensures flushed { writer_buffer out.old ≡ [] → result ≢ Err CaseFault.OutputFailed
+    ensures run { CallRun (FnReturnsAt F.Fn read) (Ok call.now) (writer_contents W.contents out.old)
+        (writer_contents W.contents out.new) (E.contents faults.old) (E.contents faults.new) result }
+    ensures flushed { writer_buffer out.old ≡ [] → end_of result ≢ Err CaseFault.OutputFailed
+        → writer_buffer out.new ≡ [] }
+{
+    let file = call.file.as_str();
+    let Some(name) = &call.table else {
+        let table = UniTable::ascii(alloc);
+        return answer_named(alloc, call.detail, table, file, &read, out, faults);
+    };
+    match read_named(alloc, call.detail, name.as_str(), &read, faults) {
+        Ok(table) => answer_named(alloc, call.detail, table, file, &read, out, faults),
+        Err(ending) => ending,
+    }
+}
+
+// Reads the table of this name, and tells where there is none.
+fn read_named<F, E>(
+    alloc: Global,
+    detail: Detail,
+    name: &str,
+    read: &F,
+    faults: &mut E,
+) -> Result<UniTable, Ending>
+where
+    F: Fn(&str) -> io::Result<Vec<u8>>,
+    E: Write,
+    requires { F.IsAlwaysCallable read.now }
+    ensures table { IfOk result (λ table. (file : _) × FnReturnsAt F.Fn read.now name.now (Ok file)
+        × (table_text table ≡ file.items)) }
+    ensures told { OnOk result (E.contents faults.new ≡ E.contents faults.old) }
+    ensures none { IfErr result (λ ending. (file : _) × FnReturnsAt F.Fn read.now name.now file
+        × IsTableless detail file (E.contents faults.old) (E.contents faults.new) name.now ending) }
+{
+    match read(name) {
+        Ok(file) => table_read(alloc, detail, file, name, faults),
+        Err(error) => Err(tell_unread(detail, error, name, faults)),
+    }
+}
+
+// The table that a file is written as; where it is none, that is told.
+fn table_read<E: Write>(
+    alloc: Global,
+    detail: Detail,
+    file: Vec<u8>,
+    name: &str,
+    faults: &mut E,
+) -> Result<UniTable, Ending>
+    ensures table { IfOk result (λ table. table_text table ≡ file.items) }
+    ensures told { OnOk result (E.contents faults.new ≡ E.contents faults.old) }
+    ensures none { IfErr result (λ ending.
+        IsTableless detail (Ok file) (E.contents faults.old) (E.contents faults.new) name.now ending) }
+{
+    match read_table(alloc, file.as_slice()) {
+        Ok(table) => Ok(table),
+        Err(TableFault::NoMemory) => Err(tell_with(CaseFault::NoMemory, name, "\n", faults)),
+        Err(TableFault::Form) => {
+            let end = form_end(detail);
+            Err(tell_with(CaseFault::NotATable, name, end, faults))
+        }
+        Err(TableFault::Lists(error)) => {
+            let end = lists_end(detail, error);
+            Err(tell_with(CaseFault::NotATable, name, end, faults))
+        }
+    }
+}
+
+// What ends the line that a file has no four lists.
+fn form_end(detail: Detail) -> &'static str
+    ensures { (file : List ℕ) → IsTableEnd detail file result.now }
+{
+    match detail {
+        Detail::Plain => "\n",
+        Detail::Explained => ": not four lists of numbers\n",
+    }
+}
+
+// What ends the line that the lists of a file have a fault.
+fn lists_end(detail: Detail, error: UniError) -> &'static str
+    ensures { (file : List ℕ) (table : Table) → table_text table ≡ file → lists_fault table ≡ Some error
+        → IsTableEnd detail file result.now }
+{
+    match detail {
+        Detail::Plain => "\n",
+        Detail::Explained => uni_end(error),
+    }
+}
+
+// The same where causes are told.
+fn uni_end(error: UniError) -> &'static str
+    ensures { result.now ≡ codes ": " ++ uni_text error ++ 10 ∷ [] }
+{
+    match error {
+        UniError::Memory => ": no memory\n",
+        UniError::Unsorted => ": an entry is not above the one before\n",
+        UniError::AsciiEntry => ": an entry is below 128\n",
+        UniError::NotScalar => ": a number is no character's\n",
+    }
+}
+
+// Answers the cases of the file of this name by a table, and tells the fault at which that stops.
+fn answer_named<F, W, E>(
+    alloc: Global,
+    detail: Detail,
+    table: UniTable,
+    name: &str,
+    read: &F,
+    out: &mut BufWriter<W>,
+    faults: &mut E,
+) -> Ending
+where
+    F: Fn(&str) -> io::Result<Vec<u8>>,
+    W: Write + Drop,
+    E: Write,
+    requires { F.IsAlwaysCallable read.now }
+    ensures run { (file : _) × FnReturnsAt F.Fn read.now name.now file
+        × FileRun detail table.entry file (writer_contents W.contents out.old) (writer_contents W.contents out.new)
+        (E.contents faults.old) (E.contents faults.new) name.now result }
+    ensures flushed { writer_buffer out.old ≡ [] → end_of result ≢ Err CaseFault.OutputFailed
         → writer_buffer out.new ≡ [] }
 {
     match read(name) {
-        Ok(file) => answer_bytes(alloc, file.as_slice(), out),
-        Err(error) => Err(memory_or(&error, CaseFault::CannotRead)),
+        Ok(file) => answer_file(alloc, detail, table, file, name, out, faults),
+        Err(error) => tell_unread(detail, error, name, faults),
+    }
+}
+
+// Tells that the file could not be read.
+fn tell_unread<E: Write>(detail: Detail, error: io::Error, name: &str, faults: &mut E) -> Ending
+    ensures fault { (fault : CaseFault) × (end_of result ≡ Err fault) × IsFaultOf error CaseFault.CannotRead fault }
+    ensures told { TellsFault (λ fault end. IsEndOf detail (Err error) fault end) (E.contents faults.old) (E.contents faults.new) name.now result }
+{
+    let end = unread_end(detail, &error);
+    tell_with(memory_or(&error, CaseFault::CannotRead), name, end, faults)
+}
+
+// What ends the line that a file could not be read.
+fn unread_end(detail: Detail, error: &io::Error) -> &'static str
+    ensures { (fault : CaseFault) → IsEndOf detail (Err error.now) fault result.now }
+{
+    match detail {
+        Detail::Plain => "\n",
+        Detail::Explained => kind_end(error),
+    }
+}
+
+// The same where causes are told.
+fn kind_end(error: &io::Error) -> &'static str
+    ensures { IsUnreadEnd error.now result.now }
+{
+    match error.kind() {
+        ErrorKind::NotFound => ": no such file\n",
+        ErrorKind::PermissionDenied => ": no permission\n",
+        ErrorKind::IsADirectory => ": a folder\n",
+        _ => "\n",
+    }
+}
+
+// Answers the cases of a file, and tells the fault at which that stops.
+fn answer_file<W: Write + Drop, E: Write>(
+    alloc: Global,
+    detail: Detail,
+    table: UniTable,
+    file: Vec<u8>,
+    name: &str,
+    out: &mut BufWriter<W>,
+    faults: &mut E,
+) -> Ending
+    ensures run { FileRun detail table.entry (Ok file) (writer_contents W.contents out.old) (writer_contents W.contents out.new)
+        (E.contents faults.old) (E.contents faults.new) name.now result }
+    ensures flushed { end_of result ≢ Err CaseFault.OutputFailed → writer_buffer out.new ≡ [] }
+{
+    match answer_bytes(alloc, detail, table, file.as_slice(), out) {
+        Ok(()) => Ending::AllAnswered,
+        Err(fault) => {
+            let end = fault_end(detail, file.as_slice(), fault);
+            tell_with(fault, name, end, faults)
+        }
+    }
+}
+
+// What ends the line of a fault of a file.
+fn fault_end(detail: Detail, file: &[u8], fault: CaseFault) -> &'static str
+    requires { (n : ℕ) → fault ≡ CaseFault.NotACase n → IsNoCaseAt file.now n }
+    ensures { IsEnd detail file.now fault result.now }
+{
+    match (detail, fault) {
+        (Detail::Explained, CaseFault::NotACase(number)) => {
+            cause_of(line_at(file, number)).told()
+        }
+        _ => "\n",
     }
 }
 
 // Answers the cases of a file, and leaves no answer in a buffer.
 fn answer_bytes<W: Write + Drop>(
     alloc: Global,
+    detail: Detail,
+    table: UniTable,
     file: &[u8],
     out: &mut BufWriter<W>,
 ) -> Result<(), CaseFault>
-    ensures answers { OnOk result (Answered (writer_contents W.contents out.old) (writer_contents W.contents out.new)
-        (lines_of file.now)) }
+    ensures answers { OnOk result (Answered detail table.entry (writer_contents W.contents out.old)
+        (writer_contents W.contents out.new) (lines_of file.now)) }
     ensures faults { IfErr result IsFaultOfCases }
-    ensures stopped { IfErr result (StopsAt (writer_contents W.contents out.old) (writer_contents W.contents out.new)
-        (lines_of file.now)) }
+    ensures stopped { IfErr result (StopsAt detail table.entry (writer_contents W.contents out.old)
+        (writer_contents W.contents out.new) (lines_of file.now)) }
     ensures flushed { result ≢ Err CaseFault.OutputFailed → writer_buffer out.new ≡ [] }
 {
-    let ran = run_cases(alloc, file, out);
+    let ran = answer_lines_by(alloc, alloc, detail, table, file, out);
     // The answers before a fault are written too.
     match out.flush() {
         Ok(()) => ran,

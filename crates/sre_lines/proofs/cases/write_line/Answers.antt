@@ -7,15 +7,27 @@ use Rattle.sre_lines.proofs.cases.write_line.Goals as goal
 
 pub returns-in-CannotRead-clause-line : goal.returns-in-CannotRead-clause-line
 returns-in-CannotRead-clause-line g c = rw (c.in-CannotRead.is, append_assoc)
-    (subst (λ (name : List ℕ). OnOk c.write_both.result (Appends (g.W.Write.contents c.args.out.now)
-    (g.W.Write.contents c.write_both.new.out) (name ++ codes ": cannot be read\n"))) c.as_bytes.ensures.value
-    c.write_both.ensures.whole)
+    (subst (λ (name : List ℕ). OnOk c.write_three.result (Appends (g.W.Write.contents c.args.out.now)
+    (g.W.Write.contents c.write_three.new.out) (name ++ (codes ": cannot be read" ++ c.args.end.now))))
+    c.as_bytes.ensures.value c.write_three.ensures.whole)
 
 pub returns-in-CannotRead-clause-part : goal.returns-in-CannotRead-clause-part
 returns-in-CannotRead-clause-part g c = rw (c.in-CannotRead.is, append_assoc)
-    (subst (λ (name : List ℕ). OnErr c.write_both.result (AppendsPart (g.W.Write.contents c.args.out.now)
-    (g.W.Write.contents c.write_both.new.out) (name ++ codes ": cannot be read\n"))) c.as_bytes.ensures.value
-    c.write_both.ensures.part)
+    (subst (λ (name : List ℕ). OnErr c.write_three.result (AppendsPart (g.W.Write.contents c.args.out.now)
+    (g.W.Write.contents c.write_three.new.out) (name ++ (codes ": cannot be read" ++ c.args.end.now))))
+    c.as_bytes.ensures.value c.write_three.ensures.part)
+
+pub returns-in-NotATable-clause-line : goal.returns-in-NotATable-clause-line
+returns-in-NotATable-clause-line g c = rw (c.in-NotATable.is, append_assoc)
+    (subst (λ (name : List ℕ). OnOk c.write_three-in-NotATable.result (Appends (g.W.Write.contents c.args.out.now)
+    (g.W.Write.contents c.write_three-in-NotATable.new.out) (name ++ (codes ": not a table" ++ c.args.end.now))))
+    c.as_bytes-in-NotATable.ensures.value c.write_three-in-NotATable.ensures.whole)
+
+pub returns-in-NotATable-clause-part : goal.returns-in-NotATable-clause-part
+returns-in-NotATable-clause-part g c = rw (c.in-NotATable.is, append_assoc)
+    (subst (λ (name : List ℕ). OnErr c.write_three-in-NotATable.result (AppendsPart (g.W.Write.contents c.args.out.now)
+    (g.W.Write.contents c.write_three-in-NotATable.new.out) (name ++ (codes ": not a table" ++ c.args.end.now))))
+    c.as_bytes-in-NotATable.ensures.value c.write_three-in-NotATable.ensures.part)
 
 pub returns-in-NotACase-clause-line : goal.returns-in-NotACase-clause-line
 returns-in-NotACase-clause-line g c = rw (c.in-NotACase.is) (simp append_assoc c.write_no_case.ensures.line)
@@ -24,7 +36,7 @@ pub returns-in-NotACase-clause-part : goal.returns-in-NotACase-clause-part
 returns-in-NotACase-clause-part g c = rw (c.in-NotACase.is) (simp append_assoc c.write_no_case.ensures.part)
 
 pub returns-in-OutputFailed-clause-line : goal.returns-in-OutputFailed-clause-line
-returns-in-OutputFailed-clause-line g c = rw c.in-OutputFailed.is c.write_whole-in-OutputFailed.ensures.whole
+returns-in-OutputFailed-clause-line g c = rw c.in-OutputFailed.is c.write_both-in-OutputFailed.ensures.whole
 
 pub returns-in-OutputFailed-clause-part : goal.returns-in-OutputFailed-clause-part
-returns-in-OutputFailed-clause-part g c = rw c.in-OutputFailed.is c.write_whole-in-OutputFailed.ensures.part
+returns-in-OutputFailed-clause-part g c = rw c.in-OutputFailed.is c.write_both-in-OutputFailed.ensures.part

@@ -4,5 +4,5 @@ use Rattle.sre_lines.proofs.program.answer_bytes.Goals as goal
 
 pub returns-in-Err-clause-stopped : goal.returns-in-Err-clause-stopped
 returns-in-Err-clause-stopped g c =
-    failed_flush _ _ _ c.args.file.now c.run_cases-ran.result c.run_cases-ran.ensures.answers
-    c.run_cases-ran.ensures.stopped c.flush.ensures.bytes
+    failed_flush c.args.detail c.args.table _ _ _ c.args.file.now c.answer_lines_by-ran.result
+    c.answer_lines_by-ran.ensures.answers c.answer_lines_by-ran.ensures.stopped c.flush.ensures.bytes

@@ -1,10 +1,16 @@
--- The fault of the file is told with the file's name.
-use Rattle.sre_lines.proofs.Parts.{stopped_run}
+-- Where the arguments ask nothing, that is told.
+use Rattle.std.proofs.Common.{refl, codes, [], ◌∷◌, Err}
+use Rattle.sre_lines.proofs.Parts.{told}
 use Rattle.sre_lines.proofs.program.run.Goals as goal
 
-pub returns-clause-run : goal.returns-clause-run
-returns-clause-run g c =
-    stopped_run _ _ _ _ _ _ c.in-Ok.name c.as_str.result.now c.as_str-in-Err-answer_file.result.now
-    c.in-Err-answer_file.fault _ c.as_str.ensures.value c.as_str-in-Err-answer_file.ensures.value c.in-Ok.ensures
-    c.in-Err-answer_file.ensures.answers c.tell-in-Err-answer_file.ensures.fault c.tell-in-Err-answer_file.ensures.line
-    c.tell-in-Err-answer_file.ensures.part
+pub returns-in-Err-clause-run : goal.returns-in-Err-clause-run
+returns-in-Err-clause-run g c = record {
+  call = Err c.in-Err.fault;
+  is_call = c.in-Err.ensures;
+  runs = (
+    c.tell.ensures.fault,
+    refl,
+    told _ _ (codes "FILE") (10 ∷ []) c.in-Err.fault c.tell.result c.tell.ensures.fault c.tell.ensures.line
+        c.tell.ensures.part,
+  );
+}

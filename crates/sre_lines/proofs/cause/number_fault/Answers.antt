@@ -1,0 +1,28 @@
+-- Digits that are refused write a greater number.
+use Rattle.std.proofs.Common.{rules, ◌≡◌, ◌+◌, length, get_or, sym, ap, ◌∙◌}
+use Rattle.std.specs.Str.Parse.{IsNumeral, digits_value}
+use Rattle.std.proofs.lemmas.Fmt.{digits_value-decimal}
+use Rattle.sre_lines.proofs.Causes.{digits_model, too_large}
+use Rattle.sre_lines.proofs.cause.number_fault.Goals.{else-digits-gt1-via-then-digits-gt1+else-digits-eq48}
+use Rattle.sre_lines.proofs.cause.number_fault.Goals.{else-digits-gt1-via-else-digits-gt1}
+use Rattle.sre_lines.proofs.cause.number_fault.Goals as goal
+
+pub returns-in_default-clause-fault : goal.returns-in_default-clause-fault
+returns-in_default-clause-fault c =
+    let numeral : IsNumeral 10 c.args.digits.now = search rules in
+    let value : digits_value 10 c.args.digits.now ≡ c.in-Some.number =
+    sym (ap (λ ds. digits_value 10 ds) c.in-Some.ensures.written)
+    ∙ digits_value-decimal digits_model c.in-Some.number (search rules) in (numeral, search rules)
+
+pub returns-in_default-2-clause-fault : goal.returns-in_default-2-clause-fault
+returns-in_default-2-clause-fault c =
+    let numeral : IsNumeral 10 c.args.digits.now = search rules in
+    let zero_alone : get_or c.args.digits.now 0 0 ≡ 48 → length c.args.digits.now ≡ 1 =
+    elim c.else-digits-gt1.branch [
+      | else-digits-gt1-via-then-digits-gt1+else-digits-eq48 w ↦ λ is. absurd (search rules)
+      | else-digits-gt1-via-else-digits-gt1 w ↦ λ is. search rules
+    ] in (
+      numeral,
+      too_large c.args.digits.now (c.args.most + 1) numeral zero_alone (search rules)
+          (λ n below. c.in_default.ensures.refused n (search rules)),
+    )

@@ -1,0 +1,6 @@
+-- Behind the program's name stands what is asked.
+use Rattle.std.proofs.Common.{inl}
+use Rattle.sre_lines.proofs.program.call_of.Goals as goal
+
+pub returns-in-Some : goal.returns-in-Some
+returns-in-Some c = rw c.in-Ok.is (inl (c.in-Some._program, _, c.in-Some.ensures.items, c.asked.ensures))

@@ -1,0 +1,24 @@
+-- Where a file is no table, that is told, with its cause where that is asked.
+use Rattle.std.proofs.Common.{inl, inr, refl, ap, ◌∙◌, [], ◌∷◌, Err}
+use Rattle.sre_lines.specs.declared.cases.CaseFault.TheVariants.{NotATable, NoMemory}
+use Rattle.sre_lines.proofs.Parts.{no_table}
+use Rattle.sre_lines.proofs.program.table_read.Goals as goal
+
+pub returns-in-Err-NoMemory-clause-none : goal.returns-in-Err-NoMemory-clause-none
+returns-in-Err-NoMemory-clause-none g c =
+    no_table c.args.detail c.args.file _ _ c.args.name.now (10 ∷ []) NoMemory c.tell_with.result (inr refl) refl
+    c.tell_with.ensures.fault c.tell_with.ensures.line c.tell_with.ensures.part
+
+pub returns-in-Err-Form-clause-none : goal.returns-in-Err-Form-clause-none
+returns-in-Err-Form-clause-none g c =
+    no_table c.args.detail c.args.file _ _ c.args.name.now c.form_end-end.result.now NotATable
+    c.tell_with-in-Err-Form.result (inl refl) (c.form_end-end.ensures c.args.file.items)
+    c.tell_with-in-Err-Form.ensures.fault c.tell_with-in-Err-Form.ensures.line c.tell_with-in-Err-Form.ensures.part
+
+pub returns-clause-none : goal.returns-clause-none
+returns-clause-none g c =
+    let (table, written, is) = c.in-Err-Lists.ensures.lists c.in-Err-Lists.error (ap Err c.in-Err-Lists.field-0-is) in
+    no_table c.args.detail c.args.file _ _ c.args.name.now c.lists_end-end.result.now NotATable
+    c.tell_with-in-Err-Lists.result (inl refl)
+    (c.lists_end-end.ensures c.args.file.items table (written ∙ c.as_slice.ensures.value) is)
+    c.tell_with-in-Err-Lists.ensures.fault c.tell_with-in-Err-Lists.ensures.line c.tell_with-in-Err-Lists.ensures.part

@@ -1,0 +1,7 @@
+use Rattle.std.proofs.Common.{◌≡◌, ◌*◌, take}
+use Rattle.sre_lines.specs.TableFiles.{numbers_of}
+use Rattle.sre_lines.proofs.table.paired.Given as goal
+
+-- the pairs so far are the numbers so far
+abbrev pub invariant-loop-i : goal.invariant-loop-i
+invariant-loop-i l = numbers_of l.pairs.items ≡ take (2 * l.i) l.numbers

@@ -1,0 +1,154 @@
+//! A table read from a file: four lines, `lower`, `upper`, `alnum` and `digits`, each with the numbers of a list.
+//!
+//! Behind the name and a space stand the numbers as a case has its words, two for each entry: a character and what it is
+//! in the other case, or the first and the last of a run of characters.
+
+ghost use Rattle.std.specs.Prelude.{◌≡◌, ◌≢◌, ◌++◌, Err, Some, IfOk};
+ghost use Rattle.sre_chars.specs.Tables.{Table};
+ghost use Rattle.sre_chars.specs.Lists.{lists_fault, table_with};
+ghost use Rattle.sre_lines.specs.Fields.{words_text};
+ghost use Rattle.sre_lines.specs.TableFiles.{list_text, table_text, numbers_of};
+
+use crate::line::{LineFault, read_words, split_once};
+use sre_engine::{UniError, UniTable};
+use std::alloc::Global;
+
+/// Why a file gave no table.
+#[derive(Clone, Copy)]
+pub enum TableFault {
+    /// It has not just the four lines of a table.
+    Form,
+    /// The first fault of its lists, which is never a want of memory.
+    Lists(UniError),
+    /// Memory was refused.
+    NoMemory,
+}
+
+/// Reads a table: the file is what it is written as.
+pub fn read_table(alloc: Global, file: &[u8]) -> Result<UniTable, TableFault>
+    ensures read { IfOk result (λ table. table_text table ≡ file.now) }
+    ensures lists { (error : UniError) → result ≡ Err (TableFault.Lists error) → (table : Table)
+        × (table_text table ≡ file.now) × (lists_fault table ≡ Some error) }
+{
+    match read_lists(alloc, file) {
+        Ok(lists) => table_of(
+            alloc,
+            lists.lower.as_slice(),
+            lists.upper.as_slice(),
+            lists.alnum.as_slice(),
+            lists.digits.as_slice(),
+        ),
+        Err(LineFault::NotACase) => Err(TableFault::Form),
+        Err(LineFault::NoMemory) => Err(TableFault::NoMemory),
+    }
+}
+
+// The lists of a table.
+#[derive(Drop)]
+struct Lists {
+    lower: Vec<(u32, u32)>,
+    upper: Vec<(u32, u32)>,
+    alnum: Vec<(u32, u32)>,
+    digits: Vec<(u32, u32)>,
+}
+
+// Reads the four lists.
+fn read_lists(alloc: Global, file: &[u8]) -> Result<Lists, LineFault>
+    ensures read { IfOk result (λ lists. table_text
+        (table_with lists.lower.items lists.upper.items lists.alnum.items lists.digits.items) ≡ file.now) }
+{
+    let (lower, rest) = read_list(alloc, file, b"lower")?;
+    let (upper, rest) = read_list(alloc, rest, b"upper")?;
+    let (alnum, rest) = read_list(alloc, rest, b"alnum")?;
+    let (digits, rest) = read_list(alloc, rest, b"digits")?;
+    if !rest.is_empty() {
+        return Err(LineFault::NotACase);
+    }
+    Ok(Lists {
+        lower,
+        upper,
+        alnum,
+        digits,
+    })
+}
+
+// The table of four lists.
+fn table_of(
+    alloc: Global,
+    lower: &[(u32, u32)],
+    upper: &[(u32, u32)],
+    alnum: &[(u32, u32)],
+    digits: &[(u32, u32)],
+) -> Result<UniTable, TableFault>
+    ensures table { IfOk result (λ table. table ≡ table_with lower.now upper.now alnum.now digits.now) }
+    ensures lists { (error : UniError) → result ≡ Err (TableFault.Lists error)
+        → lists_fault (table_with lower.now upper.now alnum.now digits.now) ≡ Some error }
+{
+    let mut table = match UniTable::new(alloc, lower, upper, alnum) {
+        Ok(table) => table,
+        Err(error) => return Err(fault_of(error)),
+    };
+    match table.set_digits(digits) {
+        Ok(()) => Ok(table),
+        Err(error) => Err(fault_of(error)),
+    }
+}
+
+// Why the lists of a file gave no table.
+fn fault_of(error: UniError) -> TableFault
+    ensures memory { error ≡ UniError.Memory → result ≡ TableFault.NoMemory }
+    ensures other { error ≢ UniError.Memory → result ≡ TableFault.Lists error }
+{
+    match error {
+        UniError::Memory => TableFault::NoMemory,
+        _ => TableFault::Lists(error),
+    }
+}
+
+// Reads the list of a name, and gives what stands behind its line.
+fn read_list<'f>(
+    alloc: Global,
+    file: &'f [u8],
+    name: &[u8],
+) -> Result<(Vec<(u32, u32)>, &'f [u8]), LineFault>
+    ensures read { IfOk result (λ found. list_text name.now found.0.items ++ found.1.now ≡ file.now) }
+{
+    let Some((line, rest)) = split_once(file, b'\n') else {
+        return Err(LineFault::NotACase);
+    };
+    let Some((word, field)) = split_once(line, b' ') else {
+        return Err(LineFault::NotACase);
+    };
+    if word != name {
+        return Err(LineFault::NotACase);
+    }
+    match read_pairs(alloc, field) {
+        Ok(pairs) => Ok((pairs, rest)),
+        Err(fault) => Err(fault),
+    }
+}
+
+// Reads pairs as the numbers of all of them.
+fn read_pairs(alloc: Global, field: &[u8]) -> Result<Vec<(u32, u32)>, LineFault>
+    ensures read { IfOk result (λ pairs. words_text (numbers_of pairs.items) ≡ field.now) }
+{
+    let mut numbers = Vec::new(alloc);
+    match read_words(field, &mut numbers) {
+        Ok(()) => paired(alloc, numbers.as_slice()),
+        Err(fault) => Err(fault),
+    }
+}
+
+// The pairs of numbers.
+fn paired(alloc: Global, numbers: &[u32]) -> Result<Vec<(u32, u32)>, LineFault>
+    ensures read { IfOk result (λ pairs. numbers_of pairs.items ≡ numbers.now) }
+{
+    if numbers.len() % 2 != 0 {
+        return Err(LineFault::NotACase);
+    }
+    let mut pairs = Vec::new(alloc);
+    for i in 0..numbers.len() / 2 {
+        sre_growth::push(&mut pairs, (numbers[2 * i], numbers[2 * i + 1]))?;
+    }
+    Ok(pairs)
+}
