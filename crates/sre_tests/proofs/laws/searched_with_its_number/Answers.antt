@@ -1,0 +1,36 @@
+use Rattle.std.proofs.Common.{◌≡◌, ℕ, Bool, List, length, Option, Some, None, Result, Ok, IfOk, refl, subst, arith}
+use Rattle.sre_engine.specs.Grammar.{Whole}
+use Rattle.sre_engine.specs.Codes.{words_of, items_of}
+use Rattle.sre_engine.specs.EnoughTurns.{IsWindow, AreEnoughFor}
+use Rattle.sre_engine.specs.Requests.{asked_of, code_of}
+use Rattle.sre_tests.proofs.laws.searched_with_its_number.Goals as goal
+
+-- what is said of a call that is given up holds of one that was
+given_up : {E : Type 0} (R : Type 0) (told : Result (Option Bool) E) → IfOk told (λ t. t ≡ None → R)
+    → Some told ≡ Some (Ok None) → R
+given_up R told said is =
+    let same : told ≡ Ok None = cc in
+    subst (λ r. IfOk r (λ t. t ≡ None → R)) same said refl
+
+pub returns : goal.returns
+returns g c =
+    let req = c.args.req in
+    let code = code_of req in
+    let same : c.pattern_codes-code.result ≡ code = c.pattern_codes-code.ensures in
+    let t = c.words-words.ensures.tree in
+    let whole : Whole (words_of c.pattern_codes-code.result) t.0 =
+    subst (λ (ws : List ℕ). Whole ws t.0) c.words-words.ensures.same t.1 in
+    let number : AreEnoughFor (length (items_of code)) t.0 c.args.characters c.in_ok-turns.turns =
+    subst (λ k. AreEnoughFor (length (items_of k)) t.0 c.args.characters c.in_ok-turns.turns) same
+    (c.in_ok-turns.ensures.enough t.0 whole) in
+    let window : IsWindow c.args.characters (asked_of req) =
+    record { order = omega (arith, c.start-start.ensures.value, c.start-start.ensures.in_window); within = c.requires }
+    in
+    given_up _ c.search_within.result
+    (c.search_within.ensures.enough
+    (record {
+      tree = t.0;
+      whole = subst (λ k. Whole (words_of k) t.0) same whole;
+      remembered = number.remembered (asked_of req) window;
+      more = number.more (asked_of req) window;
+    }))
