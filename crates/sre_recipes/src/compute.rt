@@ -152,7 +152,7 @@ where
 /// // The words of `a`.
 /// let code = Code::check(alloc, &[16, 97, 1], &uni)?;
 /// let mut several = 0;
-/// let new = replace_with(alloc, Request::new("éaba", 0, usize::MAX, code, false), |found| {
+/// let new = replace_with(alloc, Request::whole("éaba", code), |found| {
 ///     several += 1;
 ///     format!(in alloc; "<{several}{}>", found.get(0).unwrap_or_default())
 /// })?;

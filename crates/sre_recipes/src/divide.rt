@@ -100,7 +100,7 @@ fn add_all_pieces<S: Text, A: Allocator + Copy>(
 /// ```
 /// // The words of `,`.
 /// let code = Code::check(alloc, &[16, 44, 1], &uni)?;
-/// let pieces = split(alloc, Request::new("é,,b", 0, usize::MAX, code, false))?;
+/// let pieces = split(alloc, Request::whole("é,,b", code))?;
 /// assert!(pieces.as_slice() == ["é", "", "b"].as_slice());
 /// ```
 ///
@@ -129,7 +129,7 @@ pub fn split<S: Text, A: Allocator + Copy>(
 /// ```
 /// // The words of `,`.
 /// let code = Code::check(alloc, &[16, 44, 1], &uni)?;
-/// let whole = Request::new("é,b,c", 0, usize::MAX, code, false);
+/// let whole = Request::whole("é,b,c", code);
 /// if let Some(two) = split_bounded(alloc, whole, &mut Bounds::first(1))? {
 ///     assert!(two.as_slice() == ["é", "b,c"].as_slice());
 /// }
@@ -245,7 +245,7 @@ fn add_all_with_groups<S: Text, A: Allocator + Copy>(
 /// // The words of `(,)|;`.
 /// let words = [7, 9, 17, 0, 16, 44, 17, 1, 15, 7, 5, 16, 59, 15, 2, 0, 1];
 /// let code = Code::check(alloc, &words, &uni)?;
-/// let pieces = split_groups(alloc, Request::new("é,b;c", 0, usize::MAX, code, false), 1)?;
+/// let pieces = split_groups(alloc, Request::whole("é,b;c", code), 1)?;
 /// assert!(pieces.as_slice() == [Some("é"), Some(","), Some("b"), None, Some("c")].as_slice());
 /// ```
 ///

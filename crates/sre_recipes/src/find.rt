@@ -90,7 +90,7 @@ fn add_all_texts<S: Text, A: Allocator + Copy>(
 /// ```
 /// // The words of `a`.
 /// let code = Code::check(alloc, &[16, 97, 1], &uni)?;
-/// let all = find_all(alloc, Request::new("éaba", 0, usize::MAX, code, false))?;
+/// let all = find_all(alloc, Request::whole("éaba", code))?;
 /// assert!(all.as_slice() == ["a", "a"].as_slice());
 /// ```
 ///
@@ -118,7 +118,7 @@ pub fn find_all<S: Text, A: Allocator + Copy>(
 /// ```
 /// // The words of `a`.
 /// let code = Code::check(alloc, &[16, 97, 1], &uni)?;
-/// let whole = Request::new("éaba", 0, usize::MAX, code, false);
+/// let whole = Request::whole("éaba", code);
 /// if let Some(one) = find_bounded(alloc, whole, &mut Bounds::first(1))? {
 ///     assert!(one.as_slice() == ["a"].as_slice());
 /// }
@@ -217,7 +217,7 @@ pub fn search_text<S: Text, A: Allocator + Copy>(
 /// ```
 /// // The words of `b`.
 /// let code = Code::check(alloc, &[16, 98, 1], &uni)?;
-/// assert!(is_match(alloc, Request::new("abc", 0, usize::MAX, code, false))?);
+/// assert!(is_match(alloc, Request::whole("abc", code))?);
 /// ```
 ///
 /// # Errors

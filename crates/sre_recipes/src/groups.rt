@@ -207,7 +207,7 @@ fn add_all_captures<S: Text, A: Allocator + Copy>(
 /// // The words of `(a)|b`.
 /// let words = [7, 9, 17, 0, 16, 97, 17, 1, 15, 7, 5, 16, 98, 15, 2, 0, 1];
 /// let code = Code::check(alloc, &words, &uni)?;
-/// for found in &all_captures(alloc, Request::new("éab", 0, usize::MAX, code, false))? {
+/// for found in &all_captures(alloc, Request::whole("éab", code))? {
 ///     println!(rt; "{:?}", (found.get(0), found.get(1)))?; // (Some("a"), Some("a")), and (Some("b"), None)
 /// }
 /// ```

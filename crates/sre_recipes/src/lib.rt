@@ -10,7 +10,7 @@
 //! let uni = UniTable::ascii(alloc);
 //! let words = [7, 9, 17, 0, 16, 97, 17, 1, 15, 7, 5, 16, 98, 15, 2, 0, 1];
 //! let code = Code::check(alloc, &words, &uni)?;
-//! let whole = Request::new("xaéb", 0, usize::MAX, code, false);
+//! let whole = Request::whole("xaéb", code);
 //! assert!(find_all(alloc, whole)?.as_slice() == ["a", "b"].as_slice());
 //! assert!(split(alloc, whole)?.as_slice() == ["x", "é", ""].as_slice());
 //! let template = [Piece::Text("<"), Piece::Group(1), Piece::Text(">")];

@@ -236,7 +236,7 @@ fn replaced_bytes<'t, A: Allocator + Copy>(
 /// // The words of `(a)`.
 /// let code = Code::check(alloc, &[17, 0, 16, 97, 17, 1, 1], &uni)?;
 /// let template = [Piece::Text("<"), Piece::Group(1), Piece::Text(">")];
-/// let new = replace_all(alloc, Request::new("éab", 0, usize::MAX, code, false), &template)?;
+/// let new = replace_all(alloc, Request::whole("éab", code), &template)?;
 /// assert!(new.as_str() == "é<a>b");
 /// ```
 ///
@@ -265,7 +265,7 @@ pub fn replace_all<A: Allocator + Copy>(
 /// ```
 /// // The words of `a`.
 /// let code = Code::check(alloc, &[16, 97, 1], &uni)?;
-/// let whole = Request::new("aéa", 0, usize::MAX, code, false);
+/// let whole = Request::whole("aéa", code);
 /// if let Some(new) = replace_bounded(alloc, whole, &mut Bounds::first(1), &[Piece::Text("b")])? {
 ///     assert!(new.as_str() == "béa");
 /// }
@@ -306,7 +306,7 @@ pub fn replace_bounded<A: Allocator + Copy>(
 /// let code = Code::check(alloc, &[17, 0, 16, 97, 17, 1, 1], &uni)?;
 /// let text = b"\xffab".as_slice();
 /// let template = [PieceOf::Text(b"<".as_slice()), PieceOf::Group(1)];
-/// let new = replace_all_bytes(alloc, Request::new(text, 0, usize::MAX, code, false), &template)?;
+/// let new = replace_all_bytes(alloc, Request::whole(text, code), &template)?;
 /// assert!(new.as_slice() == b"\xff<ab".as_slice());
 /// ```
 ///

@@ -87,7 +87,7 @@ fn unicode_digits_are_those_of_cpython(rt: HostRuntime) -> Result<(), Fail> {
     uni.set_digits(ranges.get(1..).unwrap_or_default())?;
     let code = Code::check(alloc, UNI_DIGIT, &uni)?;
     let text = scalar_values(alloc)?;
-    let req = Request::new(text.as_str(), 0, usize::MAX, code, false);
+    let req = Request::whole(text.as_str(), code);
     let all = all_matches(req, &mut State::new(alloc))?;
     assert!(rt; all.len() == 770 && are_found(&all, &OF_CPYTHON) && are_found(&all, &LATER));
     Ok(())

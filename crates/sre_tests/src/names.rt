@@ -98,7 +98,7 @@ fn the_example_at_the_root_runs(rt: HostRuntime) -> Result<(), Fail> {
     let uni = UniTable::ascii(alloc);
     let code = Code::check(alloc, &[17, 0, 16, 97, 17, 1, 16, 98, 1], &uni)?;
     let mut state = State::new(alloc);
-    let found = state.search(Request::new("xab", 0, usize::MAX, code, false))?;
+    let found = state.search(Request::whole("xab", code))?;
     assert!(rt; found && state.start() == 1 && state.cursor().position() == 3);
     assert!(rt; state.marks().get(0) == (Some(1), Some(2)));
     Ok(())

@@ -17,7 +17,7 @@ const BETWEEN: &[u32] = &[
 fn a_walk_shows_texts(rt: HostRuntime) -> Result<(), Fail> {
     let uni = UniTable::ascii(rt.alloc());
     let code = Code::check(rt.alloc(), BETWEEN, &uni)?;
-    let whole = Request::new("éb€éb€b", 0, usize::MAX, code, false);
+    let whole = Request::whole("éb€éb€b", code);
     let mut walk = SearchIter::new(whole, State::new(rt.alloc()));
     'walk: while let Some(item) = walk.next() {
         item?;
@@ -35,7 +35,7 @@ fn the_example_at_the_root_runs(rt: HostRuntime) -> Result<(), Fail> {
     let uni = UniTable::ascii(alloc);
     let words = [7, 9, 17, 0, 16, 97, 17, 1, 15, 7, 5, 16, 98, 15, 2, 0, 1];
     let code = Code::check(alloc, &words, &uni)?;
-    let whole = Request::new("xaéb", 0, usize::MAX, code, false);
+    let whole = Request::whole("xaéb", code);
     assert!(rt; find_all(alloc, whole)?.as_slice() == ["a", "b"].as_slice());
     assert!(rt; split(alloc, whole)?.as_slice() == ["x", "é", ""].as_slice());
     let template = [Piece::Text("<"), Piece::Group(1), Piece::Text(">")];
