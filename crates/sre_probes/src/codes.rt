@@ -1,10 +1,10 @@
 //! What a check says of words, and a table of a character.
 
-use crate::probe::{Desk, cut, number_of, word_of};
+use crate::probe::{Desk, number_of, word_of};
 use sre_engine::string::{category, lower_ascii, lower_unicode, upper_ascii, upper_unicode};
 use sre_engine::{Code, CodeError, SreCatCode, UniTable};
 use sre_lines::answer::push_hints;
-use sre_lines::line::{Case, read_case};
+use sre_lines::line::{Case, read_case, split_once};
 use std::alloc::{AllocError, Global};
 
 /// Appends what a code shows of its words, or why they are refused.
@@ -34,11 +34,13 @@ pub(crate) fn push_enough(
     rest: &[u8],
     answer: &mut String,
 ) -> Result<(), AllocError> {
-    let (field, case) = cut(rest, b' ');
-    let (Some(characters), Ok(Case::Check)) = (
-        number_of(field),
-        read_case(case.unwrap_or_default(), &mut desk.operands),
-    ) else {
+    let Some((field, case)) = split_once(rest, b' ') else {
+        return answer.push_str("no case");
+    };
+    let Some(characters) = number_of(field) else {
+        return answer.push_str("no number");
+    };
+    let Ok(Case::Check) = read_case(case, &mut desk.operands) else {
         return answer.push_str("no case");
     };
     let Ok(code) = Code::check(desk.alloc, desk.operands.words.as_slice(), table) else {
