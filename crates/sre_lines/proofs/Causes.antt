@@ -1,6 +1,7 @@
 -- Why a line is no case: what is known of the fields that are read.
 use Rattle.std.proofs.Common.{◌≡◌, ◌≢◌, ◌==◌, ◌+◌, ◌*◌, ◌/◌, ◌%◌, ◌^◌, ◌≤◌, ◌<◌, ℕ, List, [], ◌∷◌, ◌++◌, map}
-use Rattle.std.proofs.Common.{true, false, Option, Some, None, length, get_or, refl, sym, ap, subst, ◌∙◌, arith, append_assoc}
+use Rattle.std.proofs.Common.{true, false, Option, Some, None, length, get_or, refl, sym, ap, subst, ◌∙◌, arith}
+use Rattle.std.proofs.Common.{append_assoc}
 use Rattle.std.specs.Prelude.{All, Contains, IfSome, IfNone, codes}
 use Rattle.std.specs.Fmt.{decimal, digit_glyph}
 use Rattle.std.specs.Int.{IsInRange}
@@ -52,7 +53,8 @@ pub too_large : (digits : List ℕ) (bound : ℕ) → IsNumeral 10 digits → (g
     → bound ≤ 2 ^ 64 → ((n : ℕ) → n < bound → decimal n ≢ digits) → bound ≤ digits_value 10 digits
 too_large digits bound numeral zero_alone small none =
     not_below (digits_value 10 digits) bound (λ below. none (digits_value 10 digits) below
-    (decimal-digits_value digits_model digits (digits_model.from digits numeral.1) numeral.0 zero_alone (omega (arith, below, small))))
+    (decimal-digits_value digits_model digits (digits_model.from digits numeral.1) numeral.0 zero_alone
+    (omega (arith, below, small))))
 
 -- What follows where there is no fault, and where there is one.
 
@@ -159,7 +161,8 @@ pub other_form : (field head digits : List ℕ) → head ++ 58 ∷ digits ≡ fi
     → ((form : TextForm) → form_text form ≢ head)
     → (form : TextForm) (digits' : List ℕ) → form_text form ++ (58 ∷ digits') ≢ field
 other_form field head digits cut none other form digits' is =
-    other form (cut_once 58 (form_text form) digits' head digits (form_lacks form 58 (omega arith)) none (is ∙ sym cut)).0
+    other form (cut_once 58 (form_text form) digits' head digits (form_lacks form 58 (omega arith)) none
+    (is ∙ sym cut)).0
 
 pub bytes_field : (field head digits : List ℕ) (form : TextForm) → head ++ 58 ∷ digits ≡ field → form_text form ≡ head
     → length digits % 2 ≡ 0 → All IsHexDigit digits → IsBytes field
@@ -284,4 +287,5 @@ pub no_find : (line command rest : List ℕ) (finding : Finding) → IsNoCase li
     → IsSubject subject text → words_text words ++ subject_text subject text ≢ rest
 no_find line command rest finding other cut is subject words text fit lawful written =
     other.not_written (Find finding subject) words text (fit, lawful)
-    (ap (λ v. v ++ (32 ∷ (words_text words ++ subject_text subject text))) is ∙ ap (λ r. command ++ 32 ∷ r) written ∙ cut)
+    (ap (λ v. v ++ (32 ∷ (words_text words ++ subject_text subject text))) is
+    ∙ ap (λ r. command ++ 32 ∷ r) written ∙ cut)

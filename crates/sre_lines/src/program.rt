@@ -58,13 +58,13 @@ pub struct Call {
     pub file: String,
 }
 
-/// Answers the cases of the file that the arguments name, which `read` reads. Where that stops at a fault, the line that
-/// tells it is written to `faults`.
+/// Answers the cases of the file that the arguments name, which `read` reads. Where that stops at a fault, the line
+/// that tells it is written to `faults`.
 ///
 /// The first argument is the program's name. The last one is the file's. Before it `--explain` asks for the causes of
-/// faults, and of the refusals that a `check` is answered, and `--table TABLE` for the answers by the table that the file
-/// TABLE is written as; without it the table is that of ASCII. The arguments are an error where one is no UTF-8. No answer
-/// is left in the buffer of `out`, unless a write failed.
+/// faults, and of the refusals that a `check` is answered, and `--table TABLE` for the answers by the table that the
+/// file TABLE is written as; without it the table is that of ASCII. The arguments are an error where one is no UTF-8.
+/// No answer is left in the buffer of `out`, unless a write failed.
 pub fn run<F, W, E>(
     alloc: Global,
     args: io::Result<Args>,
@@ -367,7 +367,8 @@ where
 // Tells that the file could not be read.
 fn tell_unread<E: Write>(detail: Detail, error: io::Error, name: &str, faults: &mut E) -> Ending
     ensures fault { (fault : CaseFault) × (end_of result ≡ Err fault) × IsFaultOf error CaseFault.CannotRead fault }
-    ensures told { TellsFault (λ fault end. IsEndOf detail (Err error) fault end) (E.contents faults.old) (E.contents faults.new) name.now result }
+    ensures told { TellsFault (λ fault end. IsEndOf detail (Err error) fault end) (E.contents faults.old)
+        (E.contents faults.new) name.now result }
 {
     let end = unread_end(detail, &error);
     tell_with(memory_or(&error, CaseFault::CannotRead), name, end, faults)
@@ -405,8 +406,8 @@ fn answer_file<W: Write + Drop, E: Write>(
     out: &mut BufWriter<W>,
     faults: &mut E,
 ) -> Ending
-    ensures run { FileRun detail table.entry (Ok file) (writer_contents W.contents out.old) (writer_contents W.contents out.new)
-        (E.contents faults.old) (E.contents faults.new) name.now result }
+    ensures run { FileRun detail table.entry (Ok file) (writer_contents W.contents out.old)
+        (writer_contents W.contents out.new) (E.contents faults.old) (E.contents faults.new) name.now result }
     ensures flushed { end_of result ≢ Err CaseFault.OutputFailed → writer_buffer out.new ≡ [] }
 {
     match answer_bytes(alloc, detail, table, file.as_slice(), out) {

@@ -1,7 +1,7 @@
 //! A table read from a file: four lines, `lower`, `upper`, `alnum` and `digits`, each with the numbers of a list.
 //!
-//! Behind the name and a space stand the numbers as a case has its words, two for each entry: a character and what it is
-//! in the other case, or the first and the last of a run of characters.
+//! Behind the name and a space stand the numbers as a case has its words, two for each entry: a character and what it
+//! is in the other case, or the first and the last of a run of characters.
 
 ghost use Rattle.std.specs.Prelude.{◌≡◌, ◌≢◌, ◌++◌, Err, Some, IfOk};
 ghost use Rattle.sre_chars.specs.Tables.{Table};
