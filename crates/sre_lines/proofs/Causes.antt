@@ -54,7 +54,7 @@ pub too_large : (digits : List ℕ) (bound : ℕ) → IsNumeral 10 digits → (g
 too_large digits bound numeral zero_alone small none =
     not_below (digits_value 10 digits) bound (λ below. none (digits_value 10 digits) below
     (decimal-digits_value digits_model digits (digits_model.from digits numeral.1) numeral.0 zero_alone
-        (omega (arith, below, small))))
+    (omega (arith, below, small))))
 
 -- What follows where there is no fault, and where there is one.
 
@@ -162,7 +162,7 @@ pub other_form : (field head digits : List ℕ) → head ++ 58 ∷ digits ≡ fi
     → (form : TextForm) (digits' : List ℕ) → form_text form ++ (58 ∷ digits') ≢ field
 other_form field head digits cut none other form digits' is =
     other form (cut_once 58 (form_text form) digits' head digits (form_lacks form 58 (omega arith)) none
-        (is ∙ sym cut)).0
+    (is ∙ sym cut)).0
 
 pub bytes_field : (field head digits : List ℕ) (form : TextForm) → head ++ 58 ∷ digits ≡ field → form_text form ≡ head
     → length digits % 2 ≡ 0 → All IsHexDigit digits → IsBytes field
@@ -287,5 +287,5 @@ pub no_find : (line command rest : List ℕ) (finding : Finding) → IsNoCase li
     → IsSubject subject text → words_text words ++ subject_text subject text ≢ rest
 no_find line command rest finding other cut is subject words text fit lawful written =
     other.not_written (Find finding subject) words text (fit, lawful)
-    (ap (λ v. v ++ (32 ∷ (words_text words ++ subject_text subject text))) is ∙ ap (λ r. command ++ 32 ∷ r) written
-        ∙ cut)
+    (ap (λ v. v ++ (32 ∷ (words_text words ++ subject_text subject text))) is
+    ∙ ap (λ r. command ++ 32 ∷ r) written ∙ cut)

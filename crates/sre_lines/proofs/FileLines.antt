@@ -159,7 +159,7 @@ stops_at detail table file left line after number a b c fault so_far next begun 
 -- what is left begins with a line
 module _ (detail : Detail) (table : Table) (file left line others : List ℕ) (number : ℕ) (a b : Option (List ℕ))
     (so_far : SoFar detail table file left number a b) (cut : line ++ 10 ∷ others ≡ left)
-        (none : ¬ (Contains line 10)) where
+    (none : ¬ (Contains line 10)) where
   pub first_line : lines_of left ≡ line ∷ lines_of others
   first_line = first_part_at 10 left line others cut none
 
@@ -183,7 +183,7 @@ module _ (detail : Detail) (table : Table) (file left : List ℕ) (number : ℕ)
   pub last_line : lines_of left ≡ left ∷ []
   last_line = only_part_at 10 left none
 
-  pub all_lines : (c : Option (List ℕ)) → Answered detail table b c (left ∷ []) → Answered detail table a c
-      (lines_of file)
+  pub all_lines : (c : Option (List ℕ)) → Answered detail table b c (left ∷ [])
+      → Answered detail table a c (lines_of file)
   all_lines c answered =
       rw (so_far.lines, last_line) (all_answered detail table a b c so_far.before (left ∷ []) so_far.answered answered)

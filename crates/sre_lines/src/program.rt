@@ -61,7 +61,7 @@ pub struct Call {
 /// Answers the cases of the file that the arguments name, which `read` reads. Where that stops at a fault, the line
 /// that tells it is written to `faults`.
 ///
-/// The first argument is the program's name, and the last one the file's. Before it `--explain` asks for the causes of
+/// The first argument is the program's name. The last one is the file's. Before it `--explain` asks for the causes of
 /// faults, and of the refusals that a `check` is answered, and `--table TABLE` for the answers by the table that the
 /// file TABLE is written as; without it the table is that of ASCII. The arguments are an error where one is no UTF-8.
 /// No answer is left in the buffer of `out`, unless a write failed.

@@ -6,8 +6,8 @@ abbrev pub invariant-lines : goal.invariant-lines
 invariant-lines g l = record {
   table : l.desk.table ≡ l.fn.table;
   detail : l.desk.detail ≡ l.fn.detail;
-  so_far : SoFar l.fn.detail l.fn.table l.fn.file l.left l.number (g.W.Write.contents l.initial.out)
-      (g.W.Write.contents l.out);
+  so_far : SoFar l.fn.detail l.fn.table l.fn.file l.left l.number
+      (g.W.Write.contents l.initial.out) (g.W.Write.contents l.out);
 }
 
 abbrev pub decreases-lines : goal.decreases-lines

@@ -15,7 +15,7 @@ returns-clause-line g c =
     behind_whole _ _ _ (codes "line ") _ (decimal c.args.line ++ (codes ": not a case" ++ c.args.end.now))
     c.write_three.result
     (ap (λ (l : List ℕ). l ++ (codes ": not a case" ++ c.args.end.now))
-        (c.as_bytes.ensures.value ∙ c.format.ensures.text))
+    (c.as_bytes.ensures.value ∙ c.format.ensures.text))
     c.in_ok-write_whole.ensures.whole c.write_three.ensures.whole
 
 pub returns-clause-part : goal.returns-clause-part
@@ -23,5 +23,5 @@ returns-clause-part g c =
     behind_part _ _ _ (codes "line ") _ (decimal c.args.line ++ (codes ": not a case" ++ c.args.end.now))
     c.write_three.result
     (ap (λ (l : List ℕ). l ++ (codes ": not a case" ++ c.args.end.now))
-        (c.as_bytes.ensures.value ∙ c.format.ensures.text))
+    (c.as_bytes.ensures.value ∙ c.format.ensures.text))
     c.in_ok-write_whole.ensures.whole c.write_three.ensures.part

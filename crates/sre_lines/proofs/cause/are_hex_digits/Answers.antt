@@ -9,5 +9,5 @@ pub loop-digit-preserved : goal.loop-digit-preserved
 loop-digit-preserved c = All-more IsHexDigit _ _ 0 (search rules) c.loop-digit.invariant (search rules)
 
 pub returns-clause-all : goal.returns-clause-all
-returns-clause-all c _ = rw (take_all c.loop-digit.digit-index c.args.digits.now (search rules)) at
-    c.loop-digit.invariant
+returns-clause-all c _ =
+    rw (take_all c.loop-digit.digit-index c.args.digits.now (search rules)) at c.loop-digit.invariant

@@ -57,7 +57,7 @@ returns c finding =
     c.in-Some.ensures.parts c.in-Some.ensures.first c.in-Some-split_once.ensures.parts
     c.in-Some-split_once.ensures.first c.in-Some-split_once-2.ensures.parts c.in-Some-split_once-2.ensures.first in
     let last = only_part_at 32 c.in-Some-split_once-2.flags.now c.in_default-split_once-3.ensures.none in
-    let all = four ∙ ap (λ ps. c.in-Some.words.now ∷ c.in-Some-split_once.text.now ∷
-        c.in-Some-split_once-2.window.now ∷ ps) last in
+    let all = four
+    ∙ ap (λ ps. c.in-Some.words.now ∷ c.in-Some-split_once.text.now ∷ c.in-Some-split_once-2.window.now ∷ ps) last in
     subst (λ fs. IsCauseOf (verb_text (Find finding)) fs c.field_cause.result) (sym all)
     (c.field_cause.ensures finding)
