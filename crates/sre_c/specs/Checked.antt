@@ -25,7 +25,8 @@ IsFaulty t = lists_fault (table_in t) ≢ None
 abbrev pub TableChecked : Status → SreTable → Type 0
 TableChecked Yes t = (lists_fault (table_in t) ≡ None) × (t.error ≡ 0) × (t.checked ≡ true)
 TableChecked FaultyTable t =
-    ((error : UniError) × (lists_fault (table_in t) ≡ Some error) × (t.error ≡ uni_error_number error)) × (t.checked ≡ false)
+    ((error : UniError) × (lists_fault (table_in t) ≡ Some error) × (t.error ≡ uni_error_number error))
+    × (t.checked ≡ false)
 TableChecked Memory t = ⊥
 TableChecked No t = ⊥
 TableChecked UsedUp t = ⊥

@@ -50,7 +50,7 @@ fn bytes_are_cut_and_written_anew(rt: HostRuntime) -> Result<(), Fail> {
     let uni = UniTable::ascii(alloc);
     let words = [7, 9, 17, 0, 16, 97, 17, 1, 15, 7, 5, 16, 98, 15, 2, 0, 1];
     let code = Code::check(alloc, &words, &uni)?;
-    let whole = Request::new(b"xa\xffb".as_slice(), 0, usize::MAX, code, false);
+    let whole = Request::whole(b"xa\xffb".as_slice(), code);
     let (a, b) = (b"a".as_slice(), b"b".as_slice());
     let (x, other) = (b"x".as_slice(), b"\xff".as_slice());
     assert!(rt; find_all(alloc, whole)?.as_slice() == [a, b].as_slice());
@@ -80,7 +80,7 @@ fn bytes_are_cut_and_written_anew(rt: HostRuntime) -> Result<(), Fail> {
     }
     let lexed = tokens_of(
         alloc,
-        Request::new(b"ab\xff".as_slice(), 0, usize::MAX, code, false),
+        Request::whole(b"ab\xff".as_slice(), code),
     )?;
     assert!(rt; lexed.tokens.len() == 2 && lexed.tokens[1].text == b && lexed.end.offset() == 2);
     Ok(())

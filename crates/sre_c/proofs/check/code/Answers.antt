@@ -10,7 +10,8 @@ pub from_checked-requires-clause-checked : goal.from_checked-requires-clause-che
 from_checked-requires-clause-checked c =
     let given = c.args.given.now in
     let words = given.words.now in
-    subst (λ table. ∥ ((t : Tree) × Whole words t × Confirmed words table t c.hints_told.result) ∥₁) (sym c.requires.table)
+    subst (λ table. ∥ ((t : Tree) × Whole words t × Confirmed words table t c.hints_told.result) ∥₁)
+    (sym c.requires.table)
     (rw c.hints_told.ensures (known_confirmed words (table_in given.table.now) given.hints
     (given.known c.if-given.true)))
 
