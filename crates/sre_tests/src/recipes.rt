@@ -3,7 +3,7 @@
 use sre_engine::{Code, Request, SearchIter, State, UniTable};
 use sre_recipes::{
     Bounds, Piece, PieceOf, all_captures, find_all, find_bounded, group_text, matched_text,
-    replace_all, replace_with, split, split_groups, tokens_of,
+    replace_all, replace_all_bytes, replace_with, split, split_groups, tokens_of,
 };
 use std::test::Fail;
 
@@ -62,7 +62,7 @@ fn bytes_are_cut_and_written_anew(rt: HostRuntime) -> Result<(), Fail> {
         PieceOf::Group(1),
         PieceOf::Text(b">".as_slice()),
     ];
-    assert!(rt; replace_all(alloc, whole, &template)?.as_slice() == b"x<a>\xff<>".as_slice());
+    assert!(rt; replace_all_bytes(alloc, whole, &template)?.as_slice() == b"x<a>\xff<>".as_slice());
     let new = replace_with(
         alloc,
         whole,
