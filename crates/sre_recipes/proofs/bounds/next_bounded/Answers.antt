@@ -9,7 +9,8 @@ returns-clause-gives g c =
     let wanted = sym c.is_spent.ensures ∙ c.if-is_spent.false in (
       told.0,
       told.1,
-      takes_one c.args.walk.now c.next_step.new.walk c.args.bounds.now c.next_step.new.bounds after wanted told.2 c.one_less-bounds.ensures refl refl,
+      takes_one c.args.walk.now c.next_step.new.walk c.args.bounds.now c.next_step.new.bounds after wanted told.2
+          c.one_less-bounds.ensures refl refl,
     )
 
 pub returns-clause-falls : goal.returns-clause-falls
