@@ -80,8 +80,8 @@ lasts_on it next given left gives spent lasts =
     let m = match_shown s in
     let span = gives.request.span in
     let few : runs_of s ≤ 2 * (m.start + 1 - (asked_of r).start) =
-    omega (arith, once (asked_of r) (code_of r) (s.start + 1) s.cursor.position s gives.up_to_match,
-        gives.counted.again) in
+    omega
+    (arith, once (asked_of r) (code_of r) (s.start + 1) s.cursor.position s gives.up_to_match, gives.counted.again) in
     let after : OutlastWalk (asked_after (asked_of r) m) (code_of r) left =
     outlast_after (asked_of r) (code_of r) m given left (runs_of s) gives.request.from span.forward span.inside
     (falls_by it next gives) spent few lasts in
