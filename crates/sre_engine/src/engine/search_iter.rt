@@ -10,7 +10,7 @@ use crate::engine::walk::{step_by, step_within};
 use sre_chars::string::{StrDrive, StringCursor};
 use sre_machine::turns::Halt;
 use sre_request::Request;
-use std::alloc::Allocator;
+use std::alloc::{Allocator, Global};
 
 /// The matches of a window, each searched from the end of the one before.
 ///
@@ -32,7 +32,7 @@ use std::alloc::Allocator;
 /// assert!(starts == 0 + 2);
 /// ```
 #[derive(Drop)]
-pub struct SearchIter<'a, S: StrDrive, A: Allocator + Copy> {
+pub struct SearchIter<'a, S: StrDrive, A: Allocator + Copy = Global> {
     req: Request<'a, S>,
     state: State<A>,
     cursor: StringCursor,

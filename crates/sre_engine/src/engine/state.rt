@@ -28,7 +28,7 @@ use sre_growth::Refusal;
 use sre_machine::memo::Memo;
 use sre_machine::turns::{Begun, Halt, run_from};
 use sre_request::Request;
-use std::alloc::{AllocError, AllocFailed, Allocator};
+use std::alloc::{AllocError, AllocFailed, Allocator, Global};
 use std::marker::Model;
 use thiserror::Error;
 
@@ -75,7 +75,7 @@ impl<T: Drop> From<AllocFailed<T>> for SreError {
 ///
 /// A state serves any number of searches, over texts of any kind. Its memory is kept from one to the next.
 #[derive(Drop)]
-pub struct State<A: Allocator + Copy> {
+pub struct State<A: Allocator + Copy = Global> {
     board: Board<A>,
     memo: Memo<A>,
     start: usize,

@@ -21,12 +21,12 @@ use crate::engine::walk::step_by;
 use sre_chars::string::{StrDrive, StringCursor};
 use sre_growth::Refusal;
 use sre_request::Request;
-use std::alloc::Allocator;
+use std::alloc::{Allocator, Global};
 
 /// A match: where it starts and ends, in characters, the positions of its marks as `Marks::raw` gives them, and the
 /// index of the group that was closed last, counted from 1, or -1 where there is none.
 #[derive(Drop)]
-pub struct Found<A: Allocator> {
+pub struct Found<A: Allocator = Global> {
     pub start: usize,
     pub end: usize,
     pub marks: Vec<Option<usize>, A>,
