@@ -88,6 +88,19 @@ fn push_first<S: Haystack, A: Allocator + Copy>(
     }
 }
 
+// Appends the first match of a walk over spans, or each of them. It is a function of its own, so that the walk is dropped
+// in one place.
+fn push_told<S: Haystack, A: Allocator + Copy>(
+    walk: &mut SpanIter<'_, '_, S, A>,
+    finding: Finding,
+    answer: &mut String,
+) -> Result<(), AllocError> {
+    match finding {
+        Finding::Search => push_first(walk, answer),
+        _ => push_spans(walk, answer),
+    }
+}
+
 /// Appends what a call finds, or each match of a walk, where a finder of spans is asked.
 pub(crate) fn push_by_spans<S: Haystack, A: Allocator + Copy>(
     alloc: Global,
@@ -104,8 +117,5 @@ pub(crate) fn push_by_spans<S: Haystack, A: Allocator + Copy>(
     }
     let finder = SpanFinder::new(alloc, req.pattern_codes(), encoding);
     let mut walk = finder.walk(req, State::new(heap));
-    if let Finding::Search = finding {
-        return push_first(&mut walk, answer);
-    }
-    push_spans(&mut walk, answer)
+    push_told(&mut walk, finding, answer)
 }
