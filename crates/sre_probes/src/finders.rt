@@ -88,8 +88,8 @@ fn push_first<S: Haystack, A: Allocator + Copy>(
     }
 }
 
-// Appends the first match of a walk over spans, or each of them. It is a function of its own, so that the walk is dropped
-// in one place.
+// Appends the first match of a walk over spans, or each of them: a function of its own, so that the walk is dropped in
+// one place.
 fn push_told<S: Haystack, A: Allocator + Copy>(
     walk: &mut SpanIter<'_, '_, S, A>,
     finding: Finding,
