@@ -3,7 +3,9 @@ use Rattle.std.proofs.Common.{◌≡◌, ◌∙◌, ℕ, List, [], ◌∷◌, �
 use Rattle.std.proofs.Common.{append_assoc}
 use Rattle.sre_engine.specs.Tree.{Tree}
 use Rattle.sre_engine.specs.Grammar.{Whole}
-use Rattle.sre_engine.specs.Found.{Asked, Match, walk}
+use Rattle.sre_engine.specs.Marks.{Marks, no_marks}
+use Rattle.sre_engine.specs.Found.{Match}
+use Rattle.sre_finder.specs.Spans.{match_with}
 use Rattle.sre_lines.specs.Cases.{span_text, gap_text, others_text, walk_text}
 
 -- what is still to come of the matches that are left, at first or behind a span
@@ -16,32 +18,35 @@ next_text : (first : Bool) (m : Match) (ms : List Match)
 next_text true m ms = refl
 next_text false m ms = append_assoc (gap_text false) (span_text m) (others_text ms)
 
--- of the walk over a code's words, `now` stands there, behind `before`
-pub record Written (words : List ℕ) (asked : Asked) (before now : List ℕ) (first : Bool) (left : Tree → List Match)
-    : Type 0 where
-  pub whole : (t : Tree) → Whole words t → now ++ rest_text first (left t) ≡ before ++ walk_text (walk asked t)
+-- of the matches of a code's words, `now` stands there, behind `before`
+pub record Written (words : List ℕ) (all : Tree → List Match) (before now : List ℕ) (first : Bool)
+    (left : Tree → List Match) : Type 0 where
+  pub whole : (t : Tree) → Whole words t → now ++ rest_text first (left t) ≡ before ++ walk_text (all t)
 
-module _ (words : List ℕ) (asked : Asked) (before now : List ℕ) (left : Tree → List Match) where
+module _ (words : List ℕ) (all : Tree → List Match) (before now : List ℕ) (left : Tree → List Match) where
   -- nothing is written yet
-  pub none_written : now ≡ before → ((t : Tree) → left t ≡ walk asked t)
-      → Written words asked before now true left
-  none_written same all = record { whole = λ t is. rw (same, all t) refl }
+  pub none_written : now ≡ before → ((t : Tree) → left t ≡ all t)
+      → Written words all before now true left
+  none_written same each = record { whole = λ t is. rw (same, each t) refl }
 
-  -- a span more
-  pub one_written : (first : Bool) (m : Match) (after : Tree → List Match) (more : List ℕ)
-      → Written words asked before now first left → ((t : Tree) → Whole words t → left t ≡ m ∷ after t)
-      → more ≡ (now ++ gap_text first) ++ span_text m → Written words asked before more false after
-  one_written first m after more written next grown = record {
+  -- a span more, whatever marks its match has
+  pub one_written : (first : Bool) (start end : ℕ) (after : Tree → List Match) (more : List ℕ)
+      → Written words all before now first left
+      → ((t : Tree) → Whole words t → (marks : Marks) × (left t ≡ match_with start end marks ∷ after t))
+      → more ≡ (now ++ gap_text first) ++ span_text (match_with start end no_marks)
+      → Written words all before more false after
+  one_written first start end after more written next grown = record {
     whole = λ t is.
+        let m : Match = match_with start end (next t is).0 in
         ap (λ bytes. bytes ++ others_text (after t)) grown
         ∙ append_assoc (now ++ gap_text first) (span_text m) (others_text (after t))
         ∙ append_assoc now (gap_text first) (span_text m ++ others_text (after t))
         ∙ ap (λ text. now ++ text) (sym (next_text first m (after t)))
-        ∙ ap (λ ms. now ++ rest_text first ms) (sym (next t is))
+        ∙ ap (λ ms. now ++ rest_text first ms) (sym (next t is).1)
         ∙ written.whole t is;
   }
 
   -- all are written
-  pub all_written : (first : Bool) → Written words asked before now first left → (t : Tree) → Whole words t
-      → left t ≡ [] → now ++ rest_text first [] ≡ before ++ walk_text (walk asked t)
+  pub all_written : (first : Bool) → Written words all before now first left → (t : Tree) → Whole words t
+      → left t ≡ [] → now ++ rest_text first [] ≡ before ++ walk_text (all t)
   all_written first written t is none = ap (λ ms. now ++ rest_text first ms) (sym none) ∙ written.whole t is

@@ -19,7 +19,7 @@ ghost use Rattle.sre_lines.specs.Output.{AppendsPart};
 mod walked;
 
 use crate::answer::{push_hints, push_match, push_refusal};
-use crate::cases::walked::push_walk;
+use crate::cases::walked::push_matches;
 use crate::line::{
     Case, Finding, LineFault, Operands, Subject, TextForm, Window, read_case, split_once,
 };
@@ -28,6 +28,7 @@ use itoa::Buffer;
 use sre_engine::code::CodeError;
 use sre_engine::engine::{SreError, State};
 use sre_engine::{Code, Request, StrDrive, UniTable};
+use sre_finder::{Encoding, Haystack};
 use std::alloc::{AllocError, Allocator, Global};
 use std::io::{self, Write};
 
@@ -248,7 +249,10 @@ fn push_verdict<A: Allocator + Copy>(
 {
     let heap = *operands.words.allocator();
     match Code::check(alloc, operands.words.as_slice(), table) {
-        Ok(code) => push_code_answer(heap, code, case, operands.text.as_slice(), state, answer),
+        Ok(code) => {
+            let text = operands.text.as_slice();
+            push_code_answer(alloc, heap, code, case, text, state, answer)
+        }
         Err(CodeError::Memory) => Err(AllocError),
         Err(error) => push_cause(detail, case, error, answer),
     }
@@ -273,6 +277,7 @@ fn push_cause<A: Allocator>(
 
 // Appends the answer to a case whose words are a code.
 fn push_code_answer<A: Allocator + Copy>(
+    alloc: Global,
     heap: A,
     code: Code<'_>,
     case: Case,
@@ -288,20 +293,27 @@ fn push_code_answer<A: Allocator + Copy>(
     match case {
         Case::Check => push_hints(answer, &code.hints()),
         Case::Find(finding, subject) => match subject.text {
-            TextForm::Bytes => push_found(
-                heap,
-                finding,
-                request(text, subject, code),
-                state,
-                answer,
-            ),
+            TextForm::Bytes => {
+                let request = request(text, subject, code);
+                push_found(alloc, heap, finding, request, Encoding::Bytes, state, answer)
+            }
             TextForm::Utf8 => {
                 let Ok(text) = str::from_utf8(text) else {
                     unreachable!()
                 };
-                push_found(heap, finding, request(text, subject, code), state, answer)
+                let (request, encoding) = (request(text, subject, code), encoding(text));
+                push_found(alloc, heap, finding, request, encoding, state, answer)
             }
         },
+    }
+}
+
+// As what automata read a text.
+fn encoding(text: &str) -> Encoding {
+    if text.is_ascii() {
+        Encoding::Ascii
+    } else {
+        Encoding::Utf8
     }
 }
 
@@ -320,11 +332,14 @@ fn request<'a, S: StrDrive>(text: S, subject: Subject, code: Code<'a>) -> Reques
     request
 }
 
-// Appends the match that is found, or `no`; of a walk, all matches, with a state of its own on `heap`.
-fn push_found<S: StrDrive, A: Allocator + Copy>(
+// Appends the match that is found, or `no`; of a walk, all matches, with a state of its own on `heap`. Where a window is
+// long, automata on `alloc` read the text, as `encoding` says.
+fn push_found<S: Haystack, A: Allocator + Copy>(
+    alloc: Global,
     heap: A,
     finding: Finding,
     request: Request<'_, S>,
+    encoding: Encoding,
     state: &mut State<A>,
     answer: &mut String<A>,
 ) -> Result<(), AllocError>
@@ -335,7 +350,7 @@ fn push_found<S: StrDrive, A: Allocator + Copy>(
     let found = match finding {
         Finding::Match => state.pymatch(&request),
         Finding::Search => state.search(request),
-        Finding::Walk => return push_walk(heap, request, answer),
+        Finding::Walk => return push_matches(alloc, heap, request, encoding, answer),
     };
     match found {
         Ok(true) => {

@@ -6,15 +6,39 @@ ghost use Rattle.sre_engine.specs.Grammar.{Whole};
 ghost use Rattle.sre_engine.specs.Found.{walk};
 ghost use Rattle.sre_engine.specs.Codes.{words_of};
 ghost use Rattle.sre_engine.specs.Requests.{asked_of, code_of};
+ghost use Rattle.sre_finder.specs.SpanIters.{request_of, left_of};
 ghost use Rattle.sre_lines.specs.Cases.{gap_text, walk_text};
 
 use crate::answer::push_span;
 use sre_engine::engine::SreError;
 use sre_engine::{Request, SearchIter, State, StrDrive};
-use std::alloc::{AllocError, Allocator};
+use sre_finder::{Encoding, Haystack, SpanFinder, SpanIter};
+use std::alloc::{AllocError, Allocator, Global};
+
+// From how many characters on a window is long enough for automata: to make them takes some hundred thousands of
+// instructions, as was measured, and more over UTF-8.
+const LONG: usize = 1 << 15;
 
 /// Appends the spans of all matches as they come, divided by spaces, or `none`. No match is kept.
-pub fn push_walk<S: StrDrive, A: Allocator + Copy>(
+pub fn push_matches<S: Haystack, A: Allocator + Copy>(
+    alloc: Global,
+    heap: A,
+    request: Request<'_, S>,
+    encoding: Encoding,
+    answer: &mut String<A>,
+) -> Result<(), AllocError>
+    ensures { (t : Tree) → Whole (words_of (code_of request.entry)) t → OnOk result
+        (string_bytes answer.new ≡ string_bytes answer.old ++ walk_text (walk (asked_of request.entry) t)) }
+{
+    if request.end() - request.start() < LONG {
+        push_walk(heap, request, answer)
+    } else {
+        push_spans(alloc, heap, request, encoding, answer)
+    }
+}
+
+// Appends them by the machine alone.
+fn push_walk<S: StrDrive, A: Allocator + Copy>(
     heap: A,
     request: Request<'_, S>,
     answer: &mut String<A>,
@@ -31,6 +55,47 @@ pub fn push_walk<S: StrDrive, A: Allocator + Copy>(
         push_gap(answer, first)?;
         let state = matches.state();
         push_span(answer, state.start(), state.cursor().position())?;
+        first = false;
+    }
+    if first {
+        return answer.push_str("none");
+    }
+    Ok(())
+}
+
+// Appends them by a finder, whose automata tell spans, or where the next match can begin. Where they tell nothing, or
+// memory for them is refused, the machine tells all.
+fn push_spans<S: Haystack, A: Allocator + Copy>(
+    alloc: Global,
+    heap: A,
+    request: Request<'_, S>,
+    encoding: Encoding,
+    answer: &mut String<A>,
+) -> Result<(), AllocError>
+    ensures { (t : Tree) → Whole (words_of (code_of request.entry)) t → OnOk result
+        (string_bytes answer.new ≡ string_bytes answer.old ++ walk_text (walk (asked_of request.entry) t)) }
+{
+    let finder = SpanFinder::new(alloc, request.pattern_codes(), encoding);
+    let mut matches = finder.walk(request, State::new(heap));
+    push_left(&mut matches, answer)
+}
+
+// Appends the spans that are left of a walk, or `none`. It is a function of its own, so that the walk is dropped in one
+// place.
+fn push_left<S: Haystack, A: Allocator + Copy>(
+    matches: &mut SpanIter<'_, '_, S, A>,
+    answer: &mut String<A>,
+) -> Result<(), AllocError>
+    ensures { (t : Tree) → Whole (words_of (code_of (request_of matches.old))) t → OnOk result
+        (string_bytes answer.new ≡ string_bytes answer.old ++ walk_text (left_of matches.old t)) }
+{
+    let mut first = true;
+    'matches: while let Some(found) = matches.next() {
+        let Ok(span) = found else {
+            return Err(AllocError);
+        };
+        push_gap(answer, first)?;
+        push_span(answer, span.start, span.end)?;
         first = false;
     }
     if first {

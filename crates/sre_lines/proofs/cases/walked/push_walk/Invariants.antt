@@ -1,6 +1,7 @@
 use Rattle.std.proofs.Common.{◌≡◌, string_bytes}
 use Rattle.sre_engine.specs.Codes.{words_of}
 use Rattle.sre_engine.specs.Requests.{asked_of, code_of}
+use Rattle.sre_engine.specs.Found.{walk}
 use Rattle.sre_engine.specs.Iterators.{request_of, left_of}
 use Rattle.sre_lines.proofs.WalkTexts.{Written}
 use Rattle.sre_lines.proofs.cases.walked.push_walk.Given as goal
@@ -9,5 +10,5 @@ use Rattle.sre_lines.proofs.cases.walked.push_walk.Given as goal
 abbrev pub invariant-matches : goal.invariant-matches
 invariant-matches g l =
     (code_of (request_of l.matches) ≡ code_of l.fn.request)
-    × Written (words_of (code_of l.fn.request)) (asked_of l.fn.request) (string_bytes l.initial.answer)
+    × Written (words_of (code_of l.fn.request)) (λ t. walk (asked_of l.fn.request) t) (string_bytes l.initial.answer)
     (string_bytes l.answer) l.first (λ t. left_of l.matches t)
