@@ -161,7 +161,8 @@ returns-in-Some-clause-ok g c = λ t whole.
     let from : a.start ≤ c.prefix_start-start.result = omega (arith, at, here.front.from, there.0) in
     let behind : c.behind_literals-behind.result.position ≡ c.prefix_start-start.result + c.args.prefix.now.literals =
     omega (arith, c.behind_literals-behind.ensures.position, c.prefix_start-start.ensures) in
-    let decides = decided_behind a (code_of asked) vs _ _ is some c.prefix_start-start.result stands (run_of asked) refl t
+    let decides = decided_behind a (code_of asked) vs _ _ is some c.prefix_start-start.result stands (run_of asked)
+    refl t
     whole c.behind_literals-behind.result.position behind c.in_ok-end.field-0 c.attempt.new.board.marks
     (c.in_ok-end.ensures.found t whole) in
     let match = some_at (stands_in asked) a t c.prefix_start-start.result c.in_ok-end.field-0 c.attempt.new.board.marks
@@ -220,7 +221,8 @@ returns-in-Some-clause-up_to_match g c = λ _.
     let decides = decided_behind a (code_of asked) vs _ _ is some c.prefix_start-start.result stands (run_of asked) refl
     tree.0 tree.1 c.behind_literals-behind.result.position behind c.in_ok-end.field-0 c.attempt.new.board.marks
     (c.in_ok-end.ensures.found tree.0 tree.1) in
-    let match = some_at (stands_in asked) a tree.0 c.prefix_start-start.result c.in_ok-end.field-0 c.attempt.new.board.marks
+    let match = some_at (stands_in asked) a tree.0 c.prefix_start-start.result c.in_ok-end.field-0
+    c.attempt.new.board.marks
     decides c.in-Some.end c.in-Some.is in
     let far = far_end a (code_of asked) vs _ _ is some c.prefix_start-start.result stands tree.0 tree.1 _ match.1 in
     counts_placed a (code_of asked) vs _ _ _ (c.prefix_start-start.result + 1) _ _ is ran (omega arith)
@@ -264,7 +266,8 @@ place-preserved g c =
           let behind : c.behind_literals-behind.result.position
           ≡ c.prefix_start-start.result + c.args.prefix.now.literals =
           omega (arith, c.behind_literals-behind.ensures.position, c.prefix_start-start.ensures) in
-          let decides = decided_behind a (code_of asked) vs _ _ is some c.prefix_start-start.result stands (run_of asked)
+          let decides = decided_behind a (code_of asked) vs _ _ is some c.prefix_start-start.result stands (run_of
+          asked)
           refl t whole c.behind_literals-behind.result.position behind c.in_ok-end.field-0 c.attempt.new.board.marks
           (c.in_ok-end.ensures.found t whole) in
           let none = none_at (stands_in asked) a t c.prefix_start-start.result c.in_ok-end.field-0
