@@ -51,9 +51,9 @@ returns-then-is_past-clause-ok g c = λ t whole.
     let inv = c.place.invariant in
     let here = c.find.ensures.here in
     let there = c.find.ensures.found c.place-test.true in
-    let at : c.find.new.spot.cursor.position - c.find.new.spot.matched ≡ c.start_of-start.result =
-    omega (arith, there.0, c.start_of-start.ensures) in
-    let before : NoneBefore a t c.start_of-start.result =
+    let at : c.find.new.spot.cursor.position - c.find.new.spot.matched ≡ c.prefix_start-start.result =
+    omega (arith, there.0, c.prefix_start-start.ensures) in
+    let before : NoneBefore a t c.prefix_start-start.result =
     subst (NoneBefore a t) at (none_unplaced a (code_of asked) vs _ _ is some t whole _ _ (inv.none t whole) there.1) in
     answers_no (stands_in asked) _ _
     (past_none a (code_of asked) c.last_start-last.result t _ c.last_start-last.ensures whole
@@ -106,17 +106,17 @@ returns-in_err-end-clause-counts g c =
     let inv = c.place.invariant in
     let here = c.find.ensures.here in
     let there = c.find.ensures.found c.place-test.true in
-    let at : c.find.new.spot.cursor.position - c.find.new.spot.matched ≡ c.start_of-start.result =
-    omega (arith, there.0, c.start_of-start.ensures) in
-    let stands : Stands a.text vs a.end c.start_of-start.result =
+    let at : c.find.new.spot.cursor.position - c.find.new.spot.matched ≡ c.prefix_start-start.result =
+    omega (arith, there.0, c.prefix_start-start.ensures) in
+    let stands : Stands a.text vs a.end c.prefix_start-start.result =
     subst (λ p. Stands a.text vs a.end p) at (complete a.text vs a.start a.end _ _ _ here there.0) in
-    let from : a.start ≤ c.start_of-start.result = omega (arith, at, here.front.from, there.0) in
+    let from : a.start ≤ c.prefix_start-start.result = omega (arith, at, here.front.from, there.0) in
     let forward = there.1.forward in
     let fits = c.is_past.ensures.fits c.if-is_past.false in
-    let ran = ran_place a (code_of asked) c.last_start-last.result _ _ _ c.start_of-start.result
+    let ran = ran_place a (code_of asked) c.last_start-last.result _ _ _ c.prefix_start-start.result
     c.last_start-last.ensures fits (omega (arith, inv.here.front.from)) (omega (arith, at, forward)) inv.ran
     c.attempt.ensures.counted vs _ _ is c.requires.more stands in
-    counts_placed a (code_of asked) vs _ _ _ (c.start_of-start.result + 1) _ _ is ran (omega (arith, stands.within))
+    counts_placed a (code_of asked) vs _ _ _ (c.prefix_start-start.result + 1) _ _ is ran (omega (arith, stands.within))
     (omega (arith, here.cost, here.front.within, here.front.from))
 
 pub returns-in-Some-clause-counts : goal.returns-in-Some-clause-counts
@@ -129,17 +129,17 @@ returns-in-Some-clause-counts g c =
     let inv = c.place.invariant in
     let here = c.find.ensures.here in
     let there = c.find.ensures.found c.place-test.true in
-    let at : c.find.new.spot.cursor.position - c.find.new.spot.matched ≡ c.start_of-start.result =
-    omega (arith, there.0, c.start_of-start.ensures) in
-    let stands : Stands a.text vs a.end c.start_of-start.result =
+    let at : c.find.new.spot.cursor.position - c.find.new.spot.matched ≡ c.prefix_start-start.result =
+    omega (arith, there.0, c.prefix_start-start.ensures) in
+    let stands : Stands a.text vs a.end c.prefix_start-start.result =
     subst (λ p. Stands a.text vs a.end p) at (complete a.text vs a.start a.end _ _ _ here there.0) in
-    let from : a.start ≤ c.start_of-start.result = omega (arith, at, here.front.from, there.0) in
+    let from : a.start ≤ c.prefix_start-start.result = omega (arith, at, here.front.from, there.0) in
     let forward = there.1.forward in
     let fits = c.is_past.ensures.fits c.if-is_past.false in
-    let ran = ran_place a (code_of asked) c.last_start-last.result _ _ _ c.start_of-start.result
+    let ran = ran_place a (code_of asked) c.last_start-last.result _ _ _ c.prefix_start-start.result
     c.last_start-last.ensures fits (omega (arith, inv.here.front.from)) (omega (arith, at, forward)) inv.ran
     c.attempt.ensures.counted vs _ _ is c.requires.more stands in
-    counts_placed a (code_of asked) vs _ _ _ (c.start_of-start.result + 1) _ _ is ran (omega (arith, stands.within))
+    counts_placed a (code_of asked) vs _ _ _ (c.prefix_start-start.result + 1) _ _ is ran (omega (arith, stands.within))
     (omega (arith, here.cost, here.front.within, here.front.from))
 
 pub returns-in-Some-clause-ok : goal.returns-in-Some-clause-ok
@@ -152,21 +152,22 @@ returns-in-Some-clause-ok g c = λ t whole.
     let inv = c.place.invariant in
     let here = c.find.ensures.here in
     let there = c.find.ensures.found c.place-test.true in
-    let at : c.find.new.spot.cursor.position - c.find.new.spot.matched ≡ c.start_of-start.result =
-    omega (arith, there.0, c.start_of-start.ensures) in
-    let stands : Stands a.text vs a.end c.start_of-start.result =
+    let at : c.find.new.spot.cursor.position - c.find.new.spot.matched ≡ c.prefix_start-start.result =
+    omega (arith, there.0, c.prefix_start-start.ensures) in
+    let stands : Stands a.text vs a.end c.prefix_start-start.result =
     subst (λ p. Stands a.text vs a.end p) at (complete a.text vs a.start a.end _ _ _ here there.0) in
-    let before : NoneBefore a t c.start_of-start.result =
+    let before : NoneBefore a t c.prefix_start-start.result =
     subst (NoneBefore a t) at (none_unplaced a (code_of asked) vs _ _ is some t whole _ _ (inv.none t whole) there.1) in
-    let from : a.start ≤ c.start_of-start.result = omega (arith, at, here.front.from, there.0) in
-    let behind : c.behind_literals-behind.result.position ≡ c.start_of-start.result + c.args.prefix.now.literals =
-    omega (arith, c.behind_literals-behind.ensures.position, c.start_of-start.ensures) in
-    let decides = decided_behind a (code_of asked) vs _ _ is some c.start_of-start.result stands (run_of asked) refl t
+    let from : a.start ≤ c.prefix_start-start.result = omega (arith, at, here.front.from, there.0) in
+    let behind : c.behind_literals-behind.result.position ≡ c.prefix_start-start.result + c.args.prefix.now.literals =
+    omega (arith, c.behind_literals-behind.ensures.position, c.prefix_start-start.ensures) in
+    let decides = decided_behind a (code_of asked) vs _ _ is some c.prefix_start-start.result stands (run_of asked)
+    refl t
     whole c.behind_literals-behind.result.position behind c.in_ok-end.field-0 c.attempt.new.board.marks
     (c.in_ok-end.ensures.found t whole) in
-    let match = some_at (stands_in asked) a t c.start_of-start.result c.in_ok-end.field-0 c.attempt.new.board.marks
+    let match = some_at (stands_in asked) a t c.prefix_start-start.result c.in_ok-end.field-0 c.attempt.new.board.marks
     decides c.in-Some.end c.in-Some.is in
-    answers_yes (stands_in asked) _ c.start_of-start.result c.in-Some.end _ refl refl match.0
+    answers_yes (stands_in asked) _ c.prefix_start-start.result c.in-Some.end _ refl refl match.0
     (found_first a t _ _ before match.1 from (omega (arith, stands.within)) refl)
 
 pub returns-in-Some-clause-span : goal.returns-in-Some-clause-span
@@ -179,18 +180,18 @@ returns-in-Some-clause-span g c = λ _.
     let inv = c.place.invariant in
     let here = c.find.ensures.here in
     let there = c.find.ensures.found c.place-test.true in
-    let at : c.find.new.spot.cursor.position - c.find.new.spot.matched ≡ c.start_of-start.result =
-    omega (arith, there.0, c.start_of-start.ensures) in
-    let stands : Stands a.text vs a.end c.start_of-start.result =
+    let at : c.find.new.spot.cursor.position - c.find.new.spot.matched ≡ c.prefix_start-start.result =
+    omega (arith, there.0, c.prefix_start-start.ensures) in
+    let stands : Stands a.text vs a.end c.prefix_start-start.result =
     subst (λ p. Stands a.text vs a.end p) at (complete a.text vs a.start a.end _ _ _ here there.0) in
     let tree = code_tree (words_of (code_of asked)) (hints_of (code_of asked)) (code_of asked).checked in
-    let from : a.start ≤ c.start_of-start.result = omega (arith, at, here.front.from, there.0) in
-    let behind : c.behind_literals-behind.result.position ≡ c.start_of-start.result + c.args.prefix.now.literals =
-    omega (arith, c.behind_literals-behind.ensures.position, c.start_of-start.ensures) in
-    let decides = decided_behind a (code_of asked) vs _ _ is some c.start_of-start.result stands (run_of asked) refl
+    let from : a.start ≤ c.prefix_start-start.result = omega (arith, at, here.front.from, there.0) in
+    let behind : c.behind_literals-behind.result.position ≡ c.prefix_start-start.result + c.args.prefix.now.literals =
+    omega (arith, c.behind_literals-behind.ensures.position, c.prefix_start-start.ensures) in
+    let decides = decided_behind a (code_of asked) vs _ _ is some c.prefix_start-start.result stands (run_of asked) refl
     tree.0 tree.1 c.behind_literals-behind.result.position behind c.in_ok-end.field-0 c.attempt.new.board.marks
     (c.in_ok-end.ensures.found tree.0 tree.1) in
-    let s = span_at (stands_in asked) a tree.0 c.start_of-start.result c.in_ok-end.field-0 c.attempt.new.board.marks
+    let s = span_at (stands_in asked) a tree.0 c.prefix_start-start.result c.in_ok-end.field-0 c.attempt.new.board.marks
     decides (omega (arith, stands.within)) c.in-Some.end c.in-Some.is in
     (from, record { starts = refl; forward = s.0; inside = s.1 })
 
@@ -204,26 +205,27 @@ returns-in-Some-clause-up_to_match g c = λ _.
     let inv = c.place.invariant in
     let here = c.find.ensures.here in
     let there = c.find.ensures.found c.place-test.true in
-    let at : c.find.new.spot.cursor.position - c.find.new.spot.matched ≡ c.start_of-start.result =
-    omega (arith, there.0, c.start_of-start.ensures) in
-    let stands : Stands a.text vs a.end c.start_of-start.result =
+    let at : c.find.new.spot.cursor.position - c.find.new.spot.matched ≡ c.prefix_start-start.result =
+    omega (arith, there.0, c.prefix_start-start.ensures) in
+    let stands : Stands a.text vs a.end c.prefix_start-start.result =
     subst (λ p. Stands a.text vs a.end p) at (complete a.text vs a.start a.end _ _ _ here there.0) in
-    let from : a.start ≤ c.start_of-start.result = omega (arith, at, here.front.from, there.0) in
+    let from : a.start ≤ c.prefix_start-start.result = omega (arith, at, here.front.from, there.0) in
     let forward = there.1.forward in
     let fits = c.is_past.ensures.fits c.if-is_past.false in
-    let ran = ran_place a (code_of asked) c.last_start-last.result _ _ _ c.start_of-start.result
+    let ran = ran_place a (code_of asked) c.last_start-last.result _ _ _ c.prefix_start-start.result
     c.last_start-last.ensures fits (omega (arith, inv.here.front.from)) (omega (arith, at, forward)) inv.ran
     c.attempt.ensures.counted vs _ _ is c.requires.more stands in
     let tree = code_tree (words_of (code_of asked)) (hints_of (code_of asked)) (code_of asked).checked in
-    let behind : c.behind_literals-behind.result.position ≡ c.start_of-start.result + c.args.prefix.now.literals =
-    omega (arith, c.behind_literals-behind.ensures.position, c.start_of-start.ensures) in
-    let decides = decided_behind a (code_of asked) vs _ _ is some c.start_of-start.result stands (run_of asked) refl
+    let behind : c.behind_literals-behind.result.position ≡ c.prefix_start-start.result + c.args.prefix.now.literals =
+    omega (arith, c.behind_literals-behind.ensures.position, c.prefix_start-start.ensures) in
+    let decides = decided_behind a (code_of asked) vs _ _ is some c.prefix_start-start.result stands (run_of asked) refl
     tree.0 tree.1 c.behind_literals-behind.result.position behind c.in_ok-end.field-0 c.attempt.new.board.marks
     (c.in_ok-end.ensures.found tree.0 tree.1) in
-    let match = some_at (stands_in asked) a tree.0 c.start_of-start.result c.in_ok-end.field-0 c.attempt.new.board.marks
+    let match = some_at (stands_in asked) a tree.0 c.prefix_start-start.result c.in_ok-end.field-0
+    c.attempt.new.board.marks
     decides c.in-Some.end c.in-Some.is in
-    let far = far_end a (code_of asked) vs _ _ is some c.start_of-start.result stands tree.0 tree.1 _ match.1 in
-    counts_placed a (code_of asked) vs _ _ _ (c.start_of-start.result + 1) _ _ is ran (omega arith)
+    let far = far_end a (code_of asked) vs _ _ is some c.prefix_start-start.result stands tree.0 tree.1 _ match.1 in
+    counts_placed a (code_of asked) vs _ _ _ (c.prefix_start-start.result + 1) _ _ is ran (omega arith)
     (omega (arith, here.cost, here.front.from, there.0, at, far))
 
 pub place-preserved : goal.place-preserved
@@ -236,18 +238,18 @@ place-preserved g c =
     let inv = c.place.invariant in
     let here = c.find.ensures.here in
     let there = c.find.ensures.found c.place-test.true in
-    let at : c.find.new.spot.cursor.position - c.find.new.spot.matched ≡ c.start_of-start.result =
-    omega (arith, there.0, c.start_of-start.ensures) in
-    let stands : Stands a.text vs a.end c.start_of-start.result =
+    let at : c.find.new.spot.cursor.position - c.find.new.spot.matched ≡ c.prefix_start-start.result =
+    omega (arith, there.0, c.prefix_start-start.ensures) in
+    let stands : Stands a.text vs a.end c.prefix_start-start.result =
     subst (λ p. Stands a.text vs a.end p) at (complete a.text vs a.start a.end _ _ _ here there.0) in
-    let from : a.start ≤ c.start_of-start.result = omega (arith, at, here.front.from, there.0) in
+    let from : a.start ≤ c.prefix_start-start.result = omega (arith, at, here.front.from, there.0) in
     let forward = there.1.forward in
     let fits = c.is_past.ensures.fits c.if-is_past.false in
-    let ran = ran_place a (code_of asked) c.last_start-last.result _ _ _ c.start_of-start.result
+    let ran = ran_place a (code_of asked) c.last_start-last.result _ _ _ c.prefix_start-start.result
     c.last_start-last.ensures fits (omega (arith, inv.here.front.from)) (omega (arith, at, forward)) inv.ran
     c.attempt.ensures.counted vs _ _ is c.requires.more stands in
     let on = c.go_on-spot.ensures in
-    let passed : NoPlace a.text vs a.end (c.start_of-start.result + 1)
+    let passed : NoPlace a.text vs a.end (c.prefix_start-start.result + 1)
     (c.go_on-spot.result.cursor.position - c.go_on-spot.result.matched) =
     subst (λ p. NoPlace a.text vs a.end (p + 1)
     (c.go_on-spot.result.cursor.position - c.go_on-spot.result.matched)) at on.passed in
@@ -258,16 +260,17 @@ place-preserved g c =
       fresh = search rules;
       remembers = search rules;
       none = λ t whole.
-          let before : NoneBefore a t c.start_of-start.result =
+          let before : NoneBefore a t c.prefix_start-start.result =
           subst (NoneBefore a t) at
           (none_unplaced a (code_of asked) vs _ _ is some t whole _ _ (inv.none t whole) there.1) in
           let behind : c.behind_literals-behind.result.position
-          ≡ c.start_of-start.result + c.args.prefix.now.literals =
-          omega (arith, c.behind_literals-behind.ensures.position, c.start_of-start.ensures) in
-          let decides = decided_behind a (code_of asked) vs _ _ is some c.start_of-start.result stands (run_of asked)
+          ≡ c.prefix_start-start.result + c.args.prefix.now.literals =
+          omega (arith, c.behind_literals-behind.ensures.position, c.prefix_start-start.ensures) in
+          let decides = decided_behind a (code_of asked) vs _ _ is some c.prefix_start-start.result stands (run_of
+          asked)
           refl t whole c.behind_literals-behind.result.position behind c.in_ok-end.field-0 c.attempt.new.board.marks
           (c.in_ok-end.ensures.found t whole) in
-          let none = none_at (stands_in asked) a t c.start_of-start.result c.in_ok-end.field-0
+          let none = none_at (stands_in asked) a t c.prefix_start-start.result c.in_ok-end.field-0
           c.attempt.new.board.marks decides c.in_default.is in
           none_unplaced a (code_of asked) vs _ _ is some t whole _ _ (none_further a t _ before none) passed;
       ran = ran_later a (code_of asked) _ _ _ ran passed.forward;
@@ -280,7 +283,7 @@ place-preserved g c =
           c.attempt.ensures.restarted;
       costs = λ limited.
           let behind : a.start ≤ c.behind_literals-behind.result.position =
-          omega (arith, from, c.behind_literals-behind.ensures.position, c.start_of-start.ensures) in
+          omega (arith, from, c.behind_literals-behind.ensures.position, c.prefix_start-start.ensures) in
           since_run asked _ _ c.behind_literals-behind.result _ _ _ _ _ (inv.costs limited)
           (c.in_ok-end.ensures.settles limited c.in_default.is) behind c.attempt.ensures.counted;
     }
@@ -293,11 +296,11 @@ returns-in_err-end-clause-given_up g c =
     let inv = c.place.invariant in
     let here = c.find.ensures.here in
     let there = c.find.ensures.found c.place-test.true in
-    let at : c.find.new.spot.cursor.position - c.find.new.spot.matched ≡ c.start_of-start.result =
-    omega (arith, there.0, c.start_of-start.ensures) in
-    let from : a.start ≤ c.start_of-start.result = omega (arith, at, here.front.from, there.0) in
+    let at : c.find.new.spot.cursor.position - c.find.new.spot.matched ≡ c.prefix_start-start.result =
+    omega (arith, there.0, c.prefix_start-start.ensures) in
+    let from : a.start ≤ c.prefix_start-start.result = omega (arith, at, here.front.from, there.0) in
     let behind : a.start ≤ c.behind_literals-behind.result.position =
-    omega (arith, from, c.behind_literals-behind.ensures.position, c.start_of-start.ensures) in
+    omega (arith, from, c.behind_literals-behind.ensures.position, c.prefix_start-start.ensures) in
     let limited = gives_up_limited _ _ c.in_err-end.field-0.0 c.in_err-end.ensures.halted e in
     since_given_up asked _ c.behind_literals-behind.result _ _ _ _ _ (inv.costs limited)
     (c.in_err-end.ensures.given_up e) behind c.attempt.ensures.counted)

@@ -36,33 +36,33 @@ returns-then-may_end-clause-ok g c = λ t whole.
     let inv = c.place.invariant in
     let here = c.find.ensures.here in
     let there = c.find.ensures.found c.place-test.true in
-    let at : c.find.new.spot.cursor.position - c.find.new.spot.matched ≡ c.start_of.result =
-    omega (arith, there.0, c.start_of.ensures) in
-    let stands : Stands a.text vs a.end c.start_of.result =
+    let at : c.find.new.spot.cursor.position - c.find.new.spot.matched ≡ c.prefix_start.result =
+    omega (arith, there.0, c.prefix_start.ensures) in
+    let stands : Stands a.text vs a.end c.prefix_start.result =
     subst (λ p. Stands a.text vs a.end p) at (complete a.text vs a.start a.end _ _ _ here there.0) in
-    let before : NoneBefore a t c.start_of.result =
+    let before : NoneBefore a t c.prefix_start.result =
     subst (NoneBefore a t) at (none_unplaced a (code_of asked) vs _ _ is some t whole _ _ (inv.none t whole) there.1) in
-    let from : a.start ≤ c.start_of.result = omega (arith, at, here.front.from, there.0) in
-    let ends : c.find.new.spot.cursor.position ≡ c.start_of.result + length vs =
-    omega (arith, c.start_of.ensures, there.0, here.front.from) in
-    let match = whole_at a (code_of asked) vs _ _ is some c.start_of.result stands c.requires.all t whole
+    let from : a.start ≤ c.prefix_start.result = omega (arith, at, here.front.from, there.0) in
+    let ends : c.find.new.spot.cursor.position ≡ c.prefix_start.result + length vs =
+    omega (arith, c.prefix_start.ensures, there.0, here.front.from) in
+    let match = whole_at a (code_of asked) vs _ _ is some c.prefix_start.result stands c.requires.all t whole
     c.find.new.spot.cursor.position ends from in
     let taken : (not a.match_all || nat_eq c.find.new.spot.cursor.position a.end) ≡ true =
     sym c.may_end.ensures ∙ c.if-may_end.true in
     let marks : no_marks ≡ c.place.self-inside.board.marks = sym (ap (λ (b : BoardValue). b.marks) inv.fresh) in
-    let found_ : at_start a t c.start_of.result
+    let found_ : at_start a t c.prefix_start.result
     ≡ Some (record {
-      start = c.start_of.result;
+      start = c.prefix_start.result;
       end = c.find.new.spot.cursor.position;
       marks = c.place.self-inside.board.marks;
     }) =
     match
     ∙ rw taken (ap (λ (m : Marks). Some (record {
-      start = c.start_of.result;
+      start = c.prefix_start.result;
       end = c.find.new.spot.cursor.position;
       marks = m;
     })) marks) in
-    answers_yes (stands_in asked) _ c.start_of.result c.find.new.spot.cursor _ refl refl c.find.ensures.stands
+    answers_yes (stands_in asked) _ c.prefix_start.result c.find.new.spot.cursor _ refl refl c.find.ensures.stands
     (found_first a t _ _ before found_ from (omega (arith, stands.within)) refl)
 
 pub returns-clause-counts : goal.returns-clause-counts
