@@ -295,7 +295,15 @@ fn push_code_answer<A: Allocator + Copy>(
         Case::Find(finding, subject) => match subject.text {
             TextForm::Bytes => {
                 let request = request(text, subject, code);
-                push_found(alloc, heap, finding, request, Encoding::Bytes, state, answer)
+                push_found(
+                    alloc,
+                    heap,
+                    finding,
+                    request,
+                    Encoding::Bytes,
+                    state,
+                    answer,
+                )
             }
             TextForm::Utf8 => {
                 let Ok(text) = str::from_utf8(text) else {

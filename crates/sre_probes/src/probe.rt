@@ -170,7 +170,16 @@ pub(crate) fn push_plain<A: Allocator + Copy>(
             let req = request(text, subject, code);
             match asked {
                 Asked::Recipe(recipe) => push_recipe(heap, state, recipe, finding, req, answer),
-                _ => push_found(desk.alloc, heap, state, asked, finding, seen(text), req, answer),
+                _ => push_found(
+                    desk.alloc,
+                    heap,
+                    state,
+                    asked,
+                    finding,
+                    seen(text),
+                    req,
+                    answer,
+                ),
             }
         }
         _ => push_found(

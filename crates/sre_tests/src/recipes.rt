@@ -78,10 +78,7 @@ fn bytes_are_cut_and_written_anew(rt: HostRuntime) -> Result<(), Fail> {
     if let Some(one) = find_bounded(alloc, whole, &mut Bounds::first(1))? {
         assert!(rt; one.as_slice() == [a].as_slice());
     }
-    let lexed = tokens_of(
-        alloc,
-        Request::whole(b"ab\xff".as_slice(), code),
-    )?;
+    let lexed = tokens_of(alloc, Request::whole(b"ab\xff".as_slice(), code))?;
     assert!(rt; lexed.tokens.len() == 2 && lexed.tokens[1].text == b && lexed.end.offset() == 2);
     Ok(())
 }

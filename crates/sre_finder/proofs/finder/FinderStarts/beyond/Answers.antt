@@ -19,7 +19,7 @@ returns-clause-none g c = λ t whole.
     rw c.in-Some-automata.is at c.self-2.invariant in
     let code : c.self-2.inside.code ≡ code_of asked = search rules in
     let covers = covers_same _ _ _ _ c.in-Some-automata.automata own refl code t
-        (items_whole asked.pattern_codes t whole) in
+    (items_whole asked.pattern_codes t whole) in
     let seen = subst (λ n. SeenAs (c.self-2.inside.encoding) a.text place n hay) c.end_in-end.ensures.end
     (subst (λ l. SeenAs (c.self-2.inside.encoding) l place c.end_in-end.result.position hay)
     (ap g.S.StrDrive.text c.string-text.ensures) c.in-Some.ensures) in

@@ -17,7 +17,9 @@ matches-preserved g c =
           (string_bytes c.args.answer.now) (string_bytes c.matches.answer) (λ t. left_of c.matches.matches t)
           c.matches.first (shown_of c.next.new.self).start (shown_of c.next.new.self).cursor.position
           (λ t. left_of c.next.new.self t) (string_bytes c.push_span.new.answer) c.matches.invariant.1
-          (λ t is. ((shown_of c.next.new.self).marks,
-          gives.first t (subst (λ code. Whole (words_of code) t) (sym same) is)))
+          (λ t is. (
+            (shown_of c.next.new.self).marks,
+            gives.first t (subst (λ code. Whole (words_of code) t) (sym same) is),
+          ))
           (search rules),
     )
