@@ -183,7 +183,7 @@ fn two_runs_searched<S: StrDrive>(
     ensures { IfOk result (λ told. told ≡ None → Refused) }
 {
     let mut turns = 35_347_313;
-    state.search_within(Request::whole(text, code), &mut turns)
+    state.search_within(Request::new(text, 0, usize::MAX, code, false), &mut turns)
 }
 
 // And who asks a code for its number knows how many turns answer a search by it of any text of up to so many
