@@ -2,7 +2,7 @@
 //! Each answers as `shown` does, which asks the machine alone.
 
 ghost use Rattle.std.specs.Prelude.{◌≡◌};
-ghost use Rattle.sre_engine.specs.Requests.{code_of};
+ghost use Rattle.sre_finder.specs.SpanIters.{request_of, has_ended};
 
 use crate::shown::{push_answer, push_state};
 use sre_engine::{Request, State, StrDrive};
@@ -50,7 +50,10 @@ fn push_span<S: Haystack, A: Allocator + Copy>(
     start: usize,
     end: usize,
     answer: &mut String,
-) -> Result<(), AllocError> {
+) -> Result<(), AllocError>
+    ensures req { request_of walk.new ≡ request_of walk.old }
+    ensures ended { has_ended walk.new ≡ has_ended walk.old }
+{
     let Ok(is_shown) = walk.show() else {
         return Err(AllocError);
     };
