@@ -30,7 +30,7 @@ class Table(Structure):
 
 class Hints(Structure):
     _fields_ = [
-        *((name, c_uint32) for name in ("width", "prefix", "prefix_skip", "most_counts")),
+        *((name, c_uint32) for name in ("width", "prefix", "prefix_skip", "most_counts", "asked_from")),
         *((name, c_bool) for name in ("has_width", "has_prefix", "literal", "first_set", "refers")),
     ]
 

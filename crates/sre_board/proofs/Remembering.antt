@@ -46,7 +46,7 @@ alike_onward ws x y z a b =
 pub hopeless_alike : (r : Run) (inside : Bool) (x y : Spot) → Alike r.words x y → Hopeless r inside x
     → Hopeless r inside y
 hopeless_alike r inside x y a h = record {
-  none = λ z os n b d. h.none z os n (alike_onward r.words x y z a b) d;
+  none = λ z os n b unmarked d. h.none z os n (alike_onward r.words x y z a b) unmarked d;
 }
 
 -- where no spot is kept, none is kept that is not hopeless

@@ -78,12 +78,13 @@ typedef struct sre_table {
 /* The table that knows ASCII alone, as a constant to fill a struct with. */
 #define SRE_ASCII {SRE_NO_PAIRS, 0, SRE_NO_PAIRS, 0, SRE_NO_PAIRS, 0, SRE_NO_PAIRS, 0, 0, false}
 
-/* What the words' information block claims and their tree confirms, and two numbers of the tree. */
+/* What the words' information block claims and their tree confirms, and three numbers of the tree. */
 typedef struct sre_hints {
   uint32_t width;       /* no match is shorter; 0 where that is not confirmed */
   uint32_t prefix;      /* each match begins with so many literal characters; 0 where that is not confirmed */
   uint32_t prefix_skip; /* so many of them need not be matched again */
   uint32_t most_counts; /* up to which count characters of a run make a difference */
+  uint32_t asked_from;  /* from which group on groups are asked for, counted from 0; 4294967295 where none is */
   bool has_width;
   bool has_prefix;
   bool literal;   /* the prefix is all that a match has */

@@ -5,7 +5,7 @@ use Rattle.std.proofs.Math.Logic.{∥∥₁_map, ∥∥₁_elim}
 use Rattle.sre_chars.specs.Tables.{Table}
 use Rattle.sre_model.specs.Tree.{Tree}
 use Rattle.sre_model.specs.Grammar.{Whole, IsCode}
-use Rattle.sre_model.specs.References.{refers}
+use Rattle.sre_model.specs.References.{refers, asked_from}
 use Rattle.sre_model.specs.RunCounts.{most_counts}
 use Rattle.sre_model.proofs.Unique.{whole_same}
 use Rattle.sre_model.proofs.Props.{kept_tree}
@@ -24,6 +24,11 @@ module _ (words : List ℕ) (table : Table) (h : SreHints) (known : ∥ IsKnown 
   known_references t whole =
       ∥∥₁_elim known (hlevel props)
       (λ k. k.hints.reference ∙ ap refers (whole_same words k.tree t k.whole whole))
+
+  pub known_asked : (t : Tree) → Whole words t → h.asked_from ≡ asked_from t
+  known_asked t whole =
+      ∥∥₁_elim known (hlevel props)
+      (λ k. k.hints.asked ∙ ap asked_from (whole_same words k.tree t k.whole whole))
 
   pub known_counts : (t : Tree) → Whole words t → refers t ≡ false → h.most_counts ≡ most_counts t
   known_counts t whole none =

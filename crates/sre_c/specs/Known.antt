@@ -5,7 +5,7 @@ use Rattle.sre_chars.specs.Tables.{Table}
 use Rattle.sre_chars.specs.Lists.{lent_table}
 use Rattle.sre_model.specs.Tree.{Tree}
 use Rattle.sre_model.specs.Grammar.{Whole}
-use Rattle.sre_model.specs.References.{refers}
+use Rattle.sre_model.specs.References.{refers, asked_from}
 use Rattle.sre_model.specs.RunCounts.{most_counts}
 use Rattle.sre_code.specs.Hinted.{Confirmed}
 use Rattle.sre_code.specs.declared.code.Hints.{Hints}
@@ -29,6 +29,7 @@ hints_told h = record {
 pub record AreHints (words : List ℕ) (table : Table) (t : Tree) (h : SreHints) : Type 0 where
   pub confirmed : Confirmed words table t (hints_told h)
   pub reference : h.refers ≡ refers t
+  pub asked : h.asked_from ≡ asked_from t
   pub counts : refers t ≡ false → h.most_counts ≡ most_counts t
 
 -- words are a code, whose hints are these

@@ -27,6 +27,7 @@ fn hints(code: &Code<'_>) -> SreHints
         prefix,
         prefix_skip,
         most_counts: code.most_counts(),
+        asked_from: code.asked_from(),
         has_width: hints.width.is_some(),
         has_prefix: hints.prefix.is_some(),
         literal: hints.literal,
@@ -100,6 +101,7 @@ pub fn code<'a>(
             uni,
             hints_told(hints),
             hints.refers,
+            hints.asked_from,
             hints.most_counts,
         ));
     }

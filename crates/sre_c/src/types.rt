@@ -24,7 +24,7 @@ pub struct SreTable<'a> {
         → lists_fault (lent_table lower.now upper.now alnum.now digits.now) ≡ None },
 }
 
-/// What the words claim and their tree confirms, and two numbers of the tree.
+/// What the words claim and their tree confirms, and three numbers of the tree.
 #[repr(C)]
 #[derive(Clone, Copy)]
 pub struct SreHints {
@@ -36,6 +36,9 @@ pub struct SreHints {
     pub prefix_skip: u32,
     /// Up to which number the characters of a run make a difference, where nothing refers.
     pub most_counts: u32,
+    /// From which group on groups are asked for, counted from 0: 0 where a condition is among the items, and 4294967295
+    /// where nothing refers.
+    pub asked_from: u32,
     pub has_width: bool,
     pub has_prefix: bool,
     /// The prefix is all that a match has.

@@ -17,6 +17,7 @@ pub mod Prefixes
 pub mod Claimed
 pub mod FirstSets
 pub mod Scanning
+pub mod Asking
 pub mod ScanningLoops
 pub mod PassedParts
 pub mod CappedTurns

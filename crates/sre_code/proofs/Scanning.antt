@@ -49,11 +49,11 @@ run_has_four GreedyRun = refl
 run_has_four LazyRun = refl
 run_has_four PossessiveRun = refl
 
-until_has_one : (o : Order) → own_words (role (until_opcode o)) ≡ Some 1
+pub until_has_one : (o : Order) → own_words (role (until_opcode o)) ≡ Some 1
 until_has_one Greedy = refl
 until_has_one Lazy = refl
 
-look_has_three : (sign : Sign) → own_words (role (look_opcode sign)) ≡ Some 3
+pub look_has_three : (sign : Sign) → own_words (role (look_opcode sign)) ≡ Some 3
 look_has_three Positive = refl
 look_has_three Negative = refl
 

@@ -18,6 +18,7 @@ ghost use Rattle.sre_code.specs.Refusals.{place_of};
 ghost use Rattle.sre_code.specs.EnoughTurns.{AreEnoughFor, HasNoNumber};
 ghost use Rattle.sre_growth.specs.Refusal.{Refused};
 
+mod asked;
 mod block;
 pub(crate) mod borders;
 mod branch;
@@ -66,9 +67,11 @@ pub struct Code<'a> {
     uni: &'a LentTable<'a>,
     hints: Hints,
     refers: bool,
+    asked_from: u32,
     most_counts: u32,
     ghost behind: { items.now ≡ behind_block words.now },
     ghost scanned: { (tree : Tree) → Whole words.now tree → refers ≡ references.refers tree },
+    ghost asked: { (tree : Tree) → Whole words.now tree → asked_from ≡ references.asked_from tree },
     ghost counted: { (tree : Tree) → Whole words.now tree → references.refers tree ≡ false
         → most_counts ≡ run_counts.most_counts tree },
     pub ghost checked: { ∥ ((tree : Tree) × Whole words.now tree × Confirmed words.now uni.now tree hints) ∥₁ },
@@ -128,18 +131,21 @@ impl<'a> Code<'a> {
     /// The view of words that a check passed before, from what was told of them then. Nothing is checked anew, and the
     /// time does not grow with the words.
     ///
-    /// `hints`, `refers` and `most_counts` are what [`Code::hints`], [`Code::refers`] and [`Code::most_counts`] told
-    /// of a code of the same words and a table of the same characters.
+    /// `hints`, `refers`, `asked_from` and `most_counts` are what [`Code::hints`], [`Code::refers`],
+    /// [`Code::asked_from`] and [`Code::most_counts`] told of a code of the same words and a table of the same
+    /// characters.
     #[inline]
     pub fn from_checked(
         words: &'a [u32],
         uni: &'a LentTable<'a>,
         hints: Hints,
         refers: bool,
+        asked_from: u32,
         most_counts: u32,
     ) -> Code<'a>
         requires checked { ∥ ((tree : Tree) × Whole words.now tree × Confirmed words.now uni.now tree hints) ∥₁ }
         requires scanned { (tree : Tree) → Whole words.now tree → refers ≡ references.refers tree }
+        requires asked { (tree : Tree) → Whole words.now tree → asked_from ≡ references.asked_from tree }
         requires counted { (tree : Tree) → Whole words.now tree → references.refers tree ≡ false
             → most_counts ≡ run_counts.most_counts tree }
         ensures words { words_of result ≡ words.now }
@@ -156,6 +162,7 @@ impl<'a> Code<'a> {
             uni,
             hints,
             refers,
+            asked_from,
             most_counts,
         }
     }
@@ -206,6 +213,16 @@ impl<'a> Code<'a> {
         ensures { (tree : Tree) → Whole (words_of self.now) tree → result ≡ references.refers tree }
     {
         self.refers
+    }
+
+    /// From which group on the code asks for groups, counted from 0: no reference in it is to one before. It is 0 where a
+    /// condition is in the code, and 4294967295 where it has neither. So marks that end before those of this group, the
+    /// first of which is twice its number, change nothing of what the items pass.
+    #[inline(always)]
+    pub fn asked_from(&self) -> u32
+        ensures { (tree : Tree) → Whole (words_of self.now) tree → result ≡ references.asked_from tree }
+    {
+        self.asked_from
     }
 
     /// Up to which number the characters that one instruction goes over make a difference: the greatest count of the

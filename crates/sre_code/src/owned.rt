@@ -24,9 +24,11 @@ pub struct OwnedCode {
     uni: UniTable,
     hints: Hints,
     refers: bool,
+    asked_from: u32,
     most_counts: u32,
     ghost checked: { ∥ ((tree : Tree) × Whole words.items tree × Confirmed words.items uni tree hints) ∥₁ },
     ghost scanned: { (tree : Tree) → Whole words.items tree → refers ≡ references.refers tree },
+    ghost asked: { (tree : Tree) → Whole words.items tree → asked_from ≡ references.asked_from tree },
     ghost counted: { (tree : Tree) → Whole words.items tree → references.refers tree ≡ false
         → most_counts ≡ run_counts.most_counts tree },
 }
@@ -41,6 +43,41 @@ fn copied(alloc: Global, words: &[u32]) -> Result<Vec<u32>, CodeError>
         Ok(list) => Ok(list),
         Err(refusal) => Err(CodeError::from(refusal)),
     }
+}
+
+// A copy of words, and what their check told of them.
+#[derive(Drop)]
+struct CheckedCopy {
+    words: Vec<u32>,
+    hints: Hints,
+    refers: bool,
+    asked_from: u32,
+    most_counts: u32,
+    ghost scanned: { (tree : Tree) → Whole words.items tree → refers ≡ references.refers tree },
+    ghost asked: { (tree : Tree) → Whole words.items tree → asked_from ≡ references.asked_from tree },
+    ghost counted: { (tree : Tree) → Whole words.items tree → references.refers tree ≡ false
+        → most_counts ≡ run_counts.most_counts tree },
+}
+
+// Checks words, and copies them.
+fn checked_copy(alloc: Global, words: &[u32], uni: &UniTable) -> Result<CheckedCopy, CodeError>
+    ensures words { IfOk result (λ copy. copy.words.items ≡ words.now) }
+    ensures checked { IfOk result
+        (λ copy. ∥ ((tree : Tree) × Whole words.now tree × Confirmed words.now uni.now tree copy.hints) ∥₁) }
+    ensures tree { OnOk result (IsCode words.now) }
+    ensures refused { IfErr result (λ e. e ≢ CodeError.Memory → (tree : Tree) → ¬ (Whole words.now tree)) }
+    ensures place { IfErr result (λ e. place_of e ≤ length words.now) }
+    ensures grows { IfErr result (λ e. e ≡ CodeError.Memory → Refused) }
+{
+    let code = Code::check(alloc, words, uni)?;
+    let copy = copied(alloc, words)?;
+    Ok(CheckedCopy {
+        words: copy,
+        hints: code.hints(),
+        refers: code.refers(),
+        asked_from: code.asked_from(),
+        most_counts: code.most_counts(),
+    })
 }
 
 impl OwnedCode {
@@ -66,16 +103,26 @@ impl OwnedCode {
         ensures place { IfErr result (λ e. place_of e ≤ length words.now) }
         ensures grows { IfErr result (λ e. e ≡ CodeError.Memory → Refused) }
     {
-        let code = Code::check(alloc, words, &uni)?;
-        let (hints, refers, most_counts) = (code.hints(), code.refers(), code.most_counts());
-        let words = copied(alloc, words)?;
-        Ok(OwnedCode {
-            words,
-            uni,
-            hints,
-            refers,
-            most_counts,
-        })
+        match checked_copy(alloc, words, &uni) {
+            Ok(copy) => {
+                let CheckedCopy {
+                    words,
+                    hints,
+                    refers,
+                    asked_from,
+                    most_counts,
+                } = copy;
+                Ok(OwnedCode {
+                    words,
+                    uni,
+                    hints,
+                    refers,
+                    asked_from,
+                    most_counts,
+                })
+            }
+            Err(error) => Err(error),
+        }
     }
 
     /// The code: the words that are kept, with the table. The time does not grow with the words.
@@ -88,6 +135,7 @@ impl OwnedCode {
             &self.uni,
             self.hints,
             self.refers,
+            self.asked_from,
             self.most_counts,
         )
     }

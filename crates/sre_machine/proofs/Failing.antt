@@ -1,6 +1,6 @@
 -- Instructions that are known to fail, and those that are tried.
 use Rattle.std.proofs.Common.{◌≡◌, ℕ, Bool, true, false, List, ◌∷◌, Result, Ok, Err, IfOk, refl, subst, sym}
-use Rattle.std.proofs.Common.{◌∙◌}
+use Rattle.std.proofs.Common.{◌∙◌, ◌≤◌, arith}
 use Rattle.std.proofs.lemmas.Bool.{true≢false}
 use Rattle.sre_chars.specs.declared.string.StrDrive.{Ghosts}
 use Rattle.sre_chars.specs.declared.string.StringCursor.{StringCursor}
@@ -14,9 +14,9 @@ use Rattle.sre_turns.specs.declared.Next.{Next}
 use Rattle.sre_turns.specs.declared.Point.TheVariants.{Instruction}
 use Rattle.sre_model.specs.Tree.{Tree}
 use Rattle.sre_model.specs.Grammar.{Whole}
-use Rattle.sre_model.specs.References.{refers}
+use Rattle.sre_model.specs.References.{refers, asked_from}
 use Rattle.sre_model.proofs.TreeOf.{tree_of}
-use Rattle.sre_turns.specs.MovesAtReferences.{HasReference}
+use Rattle.sre_turns.specs.MovesAtReferences.{HasReference, Asks}
 use Rattle.sre_code.specs.Codes.{words_of, items_of}
 use Rattle.sre_code.specs.declared.code.Code.{Code}
 use Rattle.sre_code.proofs.Checked.{whole_of, whole_items}
@@ -31,7 +31,7 @@ use Rattle.sre_turns.specs.Moves.{spot_at}
 use Rattle.sre_board.specs.Failures.{Kept, HoldsOneMore, Remembers}
 use Rattle.sre_board.proofs.Remembering.{remembers_more}
 use Rattle.sre_machine.specs.Memos.{MemoValue}
-use Rattle.sre_machine.proofs.Paying.{grants_nothing, pays_closed}
+use Rattle.sre_machine.proofs.Paying.{grants_nothing, pays_left}
 
 -- a mark was made, or none: the machine may stand there still
 pub stays_tried : (r : Run) (place : ℕ) (cursor : StringCursor) (b c : BoardValue) (made : Bool)
@@ -54,10 +54,17 @@ turn_goes_on r place cursor b c d m m' (Err e) goes paid turn = turn
 
 -- it is paid, where failures are not kept, or where it is no run without a greatest count
 pub paid_so : {S : Type 0} {text : Ghosts S} (r : Request S text) (place : ℕ) (m m' : MemoValue) (keeps : Bool)
-    → m.is_open ≡ keeps → (keeps ≡ true → RunsOn (run_of r).words place → ⊥) → (l l' : Limit)
+    → (keeps ≡ false → m.is_open ≡ true → HasReference (run_of r).words)
+    → (keeps ≡ true → RunsOn (run_of r).words place → ⊥) → (l l' : Limit)
     → ((RunsOn (run_of r).words place → ⊥) → Pays r m l m' l') → Pays r m l m' l'
-paid_so r place m m' true e off l l' paid = paid (off refl)
-paid_so r place m m' false e off l l' paid = pays_closed r m m' l l' e
+paid_so r place m m' true left off l l' paid = paid (off refl)
+paid_so r place m m' false left off l l' paid = pays_left r m m' l l' (left refl)
+
+-- what is left alone where failures are not kept is left alone where the memo is closed
+pub closed_so : (m m' : MemoValue) (keeps : Bool) → (keeps ≡ true → m.is_open ≡ true) → (keeps ≡ false → m' ≡ m)
+    → m.is_open ≡ false → m' ≡ m
+closed_so m m' true opened same closed = absurd (true≢false (sym (opened refl) ∙ closed))
+closed_so m m' false opened same closed = same refl
 
 -- the same with one toll
 pub turn_tried : {S : Type 0} {text : Ghosts S} {E : Type 0} (r : Request S text) (place : ℕ) (cursor : StringCursor)
@@ -73,6 +80,16 @@ pub turn_left : {S : Type 0} {text : Ghosts S} (r : Request S text) (place : ℕ
     (b c : BoardValue) (m m' : MemoValue) → GivesUp r place cursor b m c m' → Takes r place cursor b m next.Back c m'
 turn_left r place cursor b c m m' left all limit x =
     let g = left all limit x in (limit, grants_nothing limit, g.0, g.1)
+
+-- the groups that the words ask for are those from the one on that their code tells
+pub asked_few : {S : Type 0} {text : Ghosts S} (r : Request S text) (code : Code) (least : ℕ) → code ≡ code_of r
+    → ((t : Tree) → Whole (words_of code) t → least ≡ asked_from t) → (g : ℕ) → Asks (run_of r).words g → least ≤ g
+asked_few r code least same tells g asks =
+    let asked : Asks (items_of code) g = subst (λ c. Asks (items_of c) g) (sym same) asks in
+    let t = tree_of (items_of code) in
+    let w = whole_of code in
+    let is : least ≡ asked_from t = tells t (whole_items code t w) in
+    omega (arith, is, asked.1 t w)
 
 -- a code that says so has no reference
 pub none_refers : (code : Code) (told : Bool) → ((t : Tree) → Whole (words_of code) t → told ≡ refers t) → told ≡ false

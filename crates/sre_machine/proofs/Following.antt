@@ -337,14 +337,6 @@ pub passed_up : {T E : Type 0} (result : Result T E) (e : E) (P : E → Type 0) 
 passed_up (Ok t) e P h p = absurd h
 passed_up (Err y) e P h p = subst P (sym h) p
 
--- words of which there is room for failures have no reference
-pub plain_told : {S : Type 0} {text : Ghosts S} (r : Request S text) (code : Code) (told : Bool) → code ≡ code_of r
-    → ((t : Tree) → Whole (words_of code) t → told ≡ refers t) → Remembering r → not told ≡ true
-plain_told r code true same tells pl =
-    absurd (no_reference (run_of r).words pl.plain.tree pl.plain.whole pl.plain.no_reference
-    (referring_words r code true same tells refl))
-plain_told r code false same tells pl = refl
-
 -- what a turn goes over while failures are kept counts for so much
 pub each_most : {S : Type 0} {text : Ghosts S} (r : Request S text) (code : Code) (most counted window passed : ℕ)
     → code ≡ code_of r → ((t : Tree) → Whole (words_of code) t → refers t ≡ false → most ≡ most_counts t)

@@ -27,6 +27,7 @@ use Rattle.sre_turns.proofs.Hopeless.{no_reference}
 use Rattle.sre_turns.proofs.Moving.{arrived_at, arrived_once}
 use Rattle.sre_turns.proofs.OpenMarks.{none_open, none_tried}
 use Rattle.sre_turns.proofs.Start.{none_inside}
+use Rattle.sre_turns.specs.MovesAtReferences.{HasReference}
 use Rattle.sre_turns.proofs.Trying.{trying_goes, trying_tries}
 use Rattle.sre_model.proofs.Words.{opcode_within}
 use Rattle.sre_board.specs.Failures.{BitsStay, BitsKept, Capacity, HasBit, HasRow, HasSlots, IsOpen, Laid, NewRow}
@@ -39,7 +40,7 @@ use Rattle.sre_request.specs.Runs.{run_of}
 use Rattle.sre_machine.specs.Memos.{MemoValue}
 use Rattle.sre_model.specs.Grammar.{Opcode}
 use Rattle.sre_machine.specs.Paying.{Pays, Remembering, Holding, weight}
-use Rattle.sre_machine.proofs.Paying.{pays_refused, pays_nothing, pays_closed}
+use Rattle.sre_machine.proofs.Paying.{pays_refused, pays_nothing, pays_left}
 
 -- a place was prepared under the loops of a board
 pub record PreparedAt {S : Type 0} {text : Ghosts S} (r : Request S text) (place : ℕ) (b : BoardValue)
@@ -260,23 +261,24 @@ module _ {S : Type 0} {text : Ghosts S} (r : Request S text) (place : ℕ) (curs
     (m : MemoValue) (all : List Way) (limit : Limit)
     (x : Arrives (run_of r) all limit (Instruction place) cursor b) where
   -- an instruction is gone on with, where failures are not kept, or where it brings no toll
-  pub goes_on_so : (keeps : Bool) → m.is_open ≡ keeps
+  pub goes_on_so : (keeps : Bool) → (keeps ≡ false → m.is_open ≡ true → HasReference (run_of r).words)
       → (keeps ≡ true → (o : SreOpcode) → Opcode (run_of r).words place o
       → units (run_of r).words (run_of r).subject.end place (role o) ≡ 0)
       → (more : Limit) × Grants limit more × Goes (run_of r) all more (Instruction place) cursor b
       × ((RunsOn (run_of r).words place → ⊥) → Pays r m limit m more)
-  goes_on_so keeps e free =
+  goes_on_so keeps left free =
       let code = run_code (run_of r) (spot (Instruction place) cursor b) x.runs in
       let k : ℕ = units (run_of r).words (run_of r).subject.end place (role code.0) in (
         raised k limit,
         record { turns = refl; taken = refl; granted = refl; start = refl },
         arrived_at code.0 code.1 x,
-        λ counted. paid k keeps e (λ h. free h code.0 code.1),
+        λ counted. paid k keeps left (λ h. free h code.0 code.1),
       )
     where
-      paid : (k : ℕ) (keeps : Bool) → m.is_open ≡ keeps → (keeps ≡ true → k ≡ 0) → Pays r m limit m (raised k limit)
-      paid k true e none = pays_nothing r m m limit (raised k limit) refl (λ h. h) refl (omega (arith, none refl))
-      paid k false e none = pays_closed r m m limit (raised k limit) e
+      paid : (k : ℕ) (keeps : Bool) → (keeps ≡ false → m.is_open ≡ true → HasReference (run_of r).words)
+          → (keeps ≡ true → k ≡ 0) → Pays r m limit m (raised k limit)
+      paid k true left none = pays_nothing r m m limit (raised k limit) refl (λ h. h) refl (omega (arith, none refl))
+      paid k false left none = pays_left r m m limit (raised k limit) (left refl)
 
 -- a run brings tolls
 pub branches_not : {S : Type 0} {text : Ghosts S} (r : Request S text) (place : ℕ)

@@ -1,10 +1,11 @@
 -- Tolls that are paid one after the other.
 use Rattle.std.proofs.Common.{◌≡◌, ℕ, inl, inr, true, false, List, refl, sym, ◌∙◌, subst, arith}
-use Rattle.std.proofs.lemmas.Bool.{true≢false}
 use Rattle.sre_chars.specs.declared.string.StrDrive.{Ghosts}
 use Rattle.sre_growth.specs.Refusal.{Refused}
 use Rattle.sre_turns.specs.Limits.{Limit, Grants}
 use Rattle.sre_turns.specs.Moves.{Spot}
+use Rattle.sre_turns.specs.MovesAtReferences.{HasReference}
+use Rattle.sre_turns.proofs.Hopeless.{no_reference}
 use Rattle.sre_board.specs.Accounts.{Account}
 use Rattle.sre_board.specs.Failures.{Kept}
 use Rattle.sre_request.specs.declared.request.Request.{Request}
@@ -50,8 +51,13 @@ module _ {S : Type 0} {text : Ghosts S} (r : Request S text) where
   pub pays_refused : (m m' : MemoValue) (l l' : Limit) → Refused → Pays r m l m' l'
   pays_refused m m' l l' refused = record { paid = λ pl keeps start n h. inl refused }
 
-  pub pays_closed : (m m' : MemoValue) (l l' : Limit) → m.is_open ≡ false → Pays r m l m' l'
-  pays_closed m m' l l' closed = record { paid = λ pl keeps start n h. absurd (true≢false (sym keeps ∙ closed)) }
+  -- where words have a reference nothing is promised
+  pub pays_left : (m m' : MemoValue) (l l' : Limit) → (m.is_open ≡ true → HasReference (run_of r).words)
+      → Pays r m l m' l'
+  pays_left m m' l l' left = record {
+    paid = λ pl keeps start n h.
+        absurd (no_reference (run_of r).words pl.plain.tree pl.plain.whole pl.plain.no_reference (left keeps));
+  }
 
 pub grants_then : (l l' l'' : Limit) → Grants l l' → Grants l' l'' → Grants l l''
 grants_then l l' l'' g h =

@@ -158,8 +158,7 @@ impl<A: Allocator> Memo<A> {
     }
 
     // Looks at how many steps there were, each body of a loop that was begun being one, too, and at the long stretches
-    // that they went over, of which eight characters count for one. Where the words have references failures are never
-    // kept: then marks tell what comes of a spot.
+    // that they went over, of which eight characters count for one.
     #[inline(never)]
     fn looks<S: StrDrive>(&mut self, req: &Request<'_, S>, board: &mut Board<A>) -> bool
         requires { self.old.patience ≡ 0 }
@@ -170,10 +169,6 @@ impl<A: Allocator> Memo<A> {
     {
         if self.is_open {
             return true;
-        }
-        if req.pattern_codes().refers() {
-            self.patience = usize::MAX;
-            return false;
         }
         let window = req.end().saturating_sub(req.start());
         let bodies = self.waited.saturating_add(board.take_entered());

@@ -9,6 +9,7 @@ ghost use Rattle.sre_turns.specs.declared.Point.TheVariants.{Instruction};
 ghost use Rattle.sre_turns.specs.Fruit.{is_inside};
 ghost use Rattle.sre_turns.specs.Machine.{IsAt, spot};
 ghost use Rattle.sre_turns.specs.MovesAtReferences.{HasReference};
+ghost use Rattle.sre_turns.specs.Asked.{Unmarked};
 ghost use Rattle.sre_board.specs.Failures.{Remembers};
 ghost use Rattle.sre_request.specs.Runs.{run_of, OpcodeAt};
 ghost use Rattle.sre_machine.specs.Turns.{At, Fails, Takes, GivesUp, GoesOn, TriesOn, StaysAt};
@@ -45,6 +46,34 @@ fn may_branch<S: StrDrive>(req: &Request<'_, S>, place: usize, cursor: StringCur
     )
 }
 
+// Whether no mark is set that the words ask for: those that are set end before the first group that is asked for.
+#[inline(always)]
+fn is_unmarked<S: StrDrive, A: Allocator>(req: &Request<'_, S>, board: &Board<A>) -> bool
+    ensures unmarked { result ≡ true → Unmarked (run_of req.now).words board.now.marks }
+    ensures marked { result ≡ false → HasReference (run_of req.now).words }
+{
+    let code = req.pattern_codes();
+    if !code.refers() {
+        return true;
+    }
+    let first = 2 * code.asked_from() as usize;
+    board.marks().raw().len() <= first
+}
+
+// Whether failures are kept by now, and what comes of a spot is told without its marks.
+#[inline(always)]
+fn keeps_failures<S: StrDrive, A: Allocator>(
+    req: &Request<'_, S>,
+    board: &Board<A>,
+    memo: &Memo<A>,
+) -> bool
+    ensures opened { result ≡ true → memo.now.is_open ≡ true }
+    ensures unmarked { result ≡ true → Unmarked (run_of req.now).words board.now.marks }
+    ensures left { result ≡ false → memo.now.is_open ≡ true → HasReference (run_of req.now).words }
+{
+    memo.is_open() && is_unmarked(req, board)
+}
+
 // Keeps an instruction of which nothing came.
 #[inline(never)]
 pub(super) fn keep<S: StrDrive, A: Allocator>(
@@ -54,17 +83,17 @@ pub(super) fn keep<S: StrDrive, A: Allocator>(
     place: usize,
     cursor: StringCursor,
 )
-    requires failed { (HasReference (run_of req.now).words → ⊥) → Fails req.now place cursor.position board.now }
+    requires failed { Unmarked (run_of req.now).words board.now.marks
+        → Fails req.now place cursor.position board.now }
     requires remembers { Remembers (run_of req.now) memo.old.kept }
     ensures remembers { Remembers (run_of req.now) memo.new.kept }
     ensures same { memo.new ≡ record memo.old { kept = memo.new.kept } }
     ensures account { is_inside board.now.choices ≡ false
         → HoldsTried req.now (spot (Instruction place) cursor board.now) memo.old.kept memo.new.kept }
 {
-    let code = req.pattern_codes();
-    let is_plain = !code.refers();
-    if is_plain {
-        memo.keep(code.items(), board, place, cursor.position());
+    if is_unmarked(req, board) {
+        let words = req.pattern_codes().items();
+        memo.keep(words, board, place, cursor.position());
     }
 }
 
@@ -81,6 +110,7 @@ fn has_failed<S: StrDrive, A: Allocator>(
 ) -> bool
     requires remembers { Remembers (run_of req.now) memo.old.kept }
     requires opened { memo.old.is_open ≡ true }
+    requires unmarked { Unmarked (run_of req.now).words board.old.marks }
     ensures remembers { Remembers (run_of req.now) memo.new.kept }
     ensures left { result ≡ true → GivesUp req.now place cursor board.old memo.old board.new memo.new }
     ensures stays { result ≡ false → StaysAt req.now place cursor board.old board.new }
@@ -100,28 +130,32 @@ fn has_failed<S: StrDrive, A: Allocator>(
     }
 }
 
-// Whether an instruction is left at once, since failures are kept by now and it is known to fail. Where it is not, the
-// machine stands there still.
+// Whether an instruction is left at once, since failures are kept and it is known to fail. Where it is not, the machine
+// stands there still.
 #[inline(always)]
 fn is_hopeless<S: StrDrive, A: Allocator>(
     req: &Request<'_, S>,
     board: &mut Board<A>,
     memo: &mut Memo<A>,
+    keeps: bool,
     place: usize,
     cursor: StringCursor,
 ) -> bool
     requires stands { At req.now place cursor }
     requires remembers { Remembers (run_of req.now) memo.old.kept }
+    requires opened { keeps ≡ true → memo.old.is_open ≡ true }
+    requires unmarked { keeps ≡ true → Unmarked (run_of req.now).words board.old.marks }
+    requires left { keeps ≡ false → memo.old.is_open ≡ true → HasReference (run_of req.now).words }
     ensures remembers { Remembers (run_of req.now) memo.new.kept }
     ensures left { result ≡ true → GivesUp req.now place cursor board.old memo.old board.new memo.new }
     ensures stays { result ≡ false → StaysAt req.now place cursor board.old board.new }
     ensures goes { result ≡ false → GoesOn req.now place cursor board.old memo.old board.new memo.new }
-    ensures tries { result ≡ false → memo.old.is_open ≡ true → RunsOn (run_of req.now).words place
+    ensures tries { result ≡ false → keeps ≡ true → RunsOn (run_of req.now).words place
         → TriesOn req.now place cursor board.old memo.old board.new memo.new }
-    ensures closed { memo.old.is_open ≡ false → memo.new ≡ memo.old }
+    ensures closed { keeps ≡ false → memo.new ≡ memo.old }
     ensures still { memo.old.is_open ≡ true → memo.new.is_open ≡ true ⊎ Refused }
 {
-    if !memo.is_open() {
+    if !keeps {
         return false;
     }
     if !may_branch(req, place, cursor) {
@@ -163,8 +197,8 @@ pub(super) fn instruction_or_back<S: StrDrive, A: Allocator>(
     ensures closed { memo.old.is_open ≡ false → memo.new ≡ memo.old }
     ensures still { memo.old.is_open ≡ true → memo.new.is_open ≡ true ⊎ Refused }
 {
-    let keeps = memo.is_open();
-    if is_hopeless(req, board, memo, place, cursor) {
+    let keeps = keeps_failures(req, board, memo);
+    if is_hopeless(req, board, memo, keeps, place, cursor) {
         return Ok(Next::Back);
     }
     if goes_on_endlessly(req, keeps, place, cursor) {

@@ -176,14 +176,13 @@ fn takes_turns(limited: bool, turns: u64, left: &mut u64) -> bool
     true
 }
 
-// Whether turns wait before failures are kept: they are limited, and none are kept yet. Where the words have references
-// none ever are, since then marks tell what comes of a spot.
+// Whether turns wait before failures are kept: they are limited, and none are kept yet.
 #[inline(always)]
-fn may_wait<S: StrDrive, A: Allocator>(req: &Request<'_, S>, memo: &Memo<A>, limited: bool) -> bool
+fn may_wait<A: Allocator>(memo: &Memo<A>, limited: bool) -> bool
     ensures closed { result ≡ true → memo.now.is_open ≡ false }
-    ensures waits { limited ≡ true → memo.now.is_open ≡ false → Remembering req.now → result ≡ true }
+    ensures waits { limited ≡ true → memo.now.is_open ≡ false → result ≡ true }
 {
-    limited && !memo.is_open() && !req.pattern_codes().refers()
+    limited && !memo.is_open()
 }
 
 // Whether turns may be taken with no failure kept.
@@ -232,7 +231,7 @@ fn remembering_turns<L: Ledger, K: Plan, S: StrDrive, A: Allocator>(
     ensures waited_up { limited ≡ true → memo.old.is_open ≡ false → Remembering req.now
         → IfErr result (λ halt. halt ≡ Halt.UsedUp → left.old ≤ left.new + memo.old.waits) }
 {
-    let waits = may_wait(req, memo, limited);
+    let waits = may_wait(memo, limited);
     let mut next = first;
     'turn: loop {
         let turns = turns_due(req, board, memo, limited);

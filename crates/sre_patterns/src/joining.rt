@@ -1,6 +1,6 @@
 //! Parts one after the other.
 
-ghost use Rattle.std.specs.Prelude.{◌≡◌, ℕ, map, OnOk, IfOk};
+ghost use Rattle.std.specs.Prelude.{map, OnOk, IfOk};
 ghost use Rattle.regex_hir.specs.Re.{Re, cat, alt, empty, literal};
 ghost use Rattle.regex_hir.specs.Meaning.{meaning};
 ghost use Rattle.sre_shape.specs.Covers.{IsWider};

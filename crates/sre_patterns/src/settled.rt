@@ -3,7 +3,7 @@
 //! Then a class of all characters is known from the answers up to there. Nothing is known where a table decides: of the
 //! case of letters, and of Unicode's letters and digits.
 
-ghost use Rattle.std.specs.Prelude.{◌≡◌, ◌≢◌, ◌+◌, ℕ, List, length, IfSome};
+ghost use Rattle.std.specs.Prelude.{◌≡◌, ◌+◌, ℕ, IfSome};
 ghost use Rattle.sre_chars.specs.Categories.{category};
 ghost use Rattle.sre_chars.specs.Numbers.{category_number};
 ghost use Rattle.sre_chars.specs.Tables.{Table};

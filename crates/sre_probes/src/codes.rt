@@ -21,7 +21,11 @@ pub(crate) fn push_code(
         Ok(code) => {
             push_hints(answer, &code.hints())?;
             let (items, refers, counts) = (code.items().len(), code.refers(), code.most_counts());
-            write!(answer, " items {items} refers {refers} counts {counts}")
+            write!(
+                answer,
+                " items {items} refers {refers} counts {counts} asked {}",
+                code.asked_from()
+            )
         }
         Err(error) => write!(answer, "{error}, number {}", error.number()),
     }

@@ -1,3 +1,4 @@
+pub mod Asked
 pub mod Moving
 pub mod FirstOutcomes
 pub mod PotentialMoves

@@ -11,7 +11,6 @@ use Rattle.sre_turns.specs.MovesAtReferences.{HasReference}
 use Rattle.sre_turns.specs.declared.Point.{Point}
 use Rattle.sre_turns.specs.Limits.{Limit}
 use Rattle.sre_turns.specs.Machine.{Runs, Waits, otherwise, tried, Arrives, spot}
-use Rattle.sre_turns.specs.declared.Next.TheVariants as next
 use Rattle.std.specs.List.{AllByRecursion}
 use Rattle.sre_turns.specs.Alike.{Alike}
 use Rattle.sre_turns.specs.Limits.{EachChoice, tried_spots}

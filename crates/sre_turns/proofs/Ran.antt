@@ -7,6 +7,7 @@ use Rattle.sre_model.specs.Tree.{Tree, Atomic, Look, Positive, Negative, Empty, 
 use Rattle.sre_model.specs.Tree.{Run, GreedyRun, Trees, Only, Or, Loop, LazyRun, PossessiveRun, PossessiveLoop}
 use Rattle.sre_model.specs.Tree.{Reference, Exists, ExistsElse}
 use Rattle.sre_model.specs.References.{refers, item_refers, some_refers}
+use Rattle.sre_model.specs.References.{asked_from, item_asked_from, some_asked_from}
 use Rattle.sre_model.specs.Marks.{Marks, group}
 use Rattle.sre_model.specs.Subject.{Subject}
 use Rattle.sre_model.specs.Ways.{Way, Body, here, ways, item_ways, branch_ways}
@@ -15,7 +16,7 @@ use Rattle.sre_turns.specs.declared.Frame.{Frame}
 use Rattle.sre_turns.specs.declared.Point.TheVariants.{Instruction, Alternatives}
 use Rattle.sre_model.specs.Standing.{AreWords}
 use Rattle.sre_turns.specs.Moves.{spot_at, Stop, Go}
-use Rattle.sre_turns.specs.MovesAtReferences.{HasReference}
+use Rattle.sre_turns.specs.MovesAtReferences.{Asks}
 use Rattle.sre_turns.specs.Machine.{Runs, turns, stops, goes}
 use Rattle.sre_model.specs.Roles.{ToFail, ToBranch}
 use Rattle.sre_turns.proofs.Moving.{at_instruction}
@@ -33,21 +34,31 @@ use Rattle.sre_turns.proofs.RanInPossessiveLoops.{possessive-ran}
 use Rattle.sre_turns.proofs.RanInRegions.{atomic-ran, ahead-ran, not_ahead-ran}
 use Rattle.sre_turns.proofs.RanAtReferences.{reference-ran, condition-ran, present-followed}
 
+-- what a part of the words asks for, the words do
+abbrev pub AskedIn : List ℕ → Tree → Type 0
+AskedIn ws t = (g : ℕ) → refers t ≡ true → asked_from t ≤ g → Asks ws g
+
+abbrev AskedInItem : List ℕ → Item → Type 0
+AskedInItem ws x = (g : ℕ) → item_refers x ≡ true → item_asked_from x ≤ g → Asks ws g
+
+abbrev AskedInBranch : List ℕ → Trees → Type 0
+AskedInBranch ws ts = (g : ℕ) → some_refers ts ≡ true → some_asked_from ts ≤ g → Asks ws g
+
 mutual
-  pub ran : (ws : List ℕ) (s : Subject) (i j : ℕ) (t : Tree) → AreWords ws → (refers t ≡ true → HasReference ws)
+  pub ran : (ws : List ℕ) (s : Subject) (i j : ℕ) (t : Tree) → AreWords ws → AskedIn ws t
       → Reads ws i j t
       → Ran ws s (Instruction i) j (λ p m. ways s t p m) (λ C p m. cost s t C p m)
   ran ws s i j Empty v has h fs K C p m e f = moved (sym h) (alone (f p m (omega arith) e))
   ran ws s i j (Then item rest) v has h fs K C p m e f =
       rw (flat_map-flat_map (λ (w : Way). K w.stop w.marks)
       (λ (w : Way). ways s rest w.stop w.marks) (item_ways s item p m))
-      (item-ran ws s i h.0 item v (λ y. has (or_left (item_refers item) (refers rest) y)) h.1 fs
+      (item-ran ws s i h.0 item v (λ g y l. has g (or_left (item_refers item) (refers rest) y) (omega (arith, l))) h.1 fs
       (λ q k. followed K (ways s rest q k)) (λ q k. cost s rest C q k) p m e
-      (λ q k l g. ran ws s h.0 j rest v (λ y. has (or_right (item_refers item) (refers rest) y)) h.2 fs K C q k g
+      (λ q k l g. ran ws s h.0 j rest v (λ g y l. has g (or_right (item_refers item) (refers rest) y) (omega (arith, l))) h.2 fs K C q k g
       (λ q' k' l' g'. f q' k' (omega arith) g')))
 
   pub item-ran : (ws : List ℕ) (s : Subject) (i j : ℕ) (x : Item) → AreWords ws
-      → (item_refers x ≡ true → HasReference ws) → ReadsItem ws i j x
+      → AskedInItem ws x → ReadsItem ws i j x
       → Ran ws s (Instruction i) j (λ p m. item_ways s x p m) (λ C p m. item_cost s x C p m)
   item-ran ws s i j Fail v has h fs K C p m e f = turns Stop (at_instruction opcode.FAILURE ToFail refl h.0 refl) stops
   item-ran ws s i j (One t) v has h fs K C p m e f = one-ran ws s i j t h.0 h.1 fs K C p m e f
@@ -89,24 +100,24 @@ mutual
       not_ahead-ran ws s i j (i + 3) (λ q k. ways s body q k) (λ D q k. cost s body D q k)
       (ran ws s (i + 3) (j - 1) body v has b.2) b.3 b.0 back b.1 refl h.0 fs K C p m e f
   item-ran ws s i j (Reference fold g) v has h fs K C p m e f =
-      reference-ran ws s i j g fold (has refl) h.0 h.1.0 h.1.1 fs K C p m e f
+      reference-ran ws s i j g fold (has g refl (omega arith)) h.0 h.1.0 h.1.1 fs K C p m e f
   item-ran ws s i j (Exists g there) v has h fs K C p m e f =
       let inside = reads_within there ws (i + 3) j h.1.2 in
       rw (present-followed K (group m g) (ways s there p m) (here p m))
-      (condition-ran ws s i g (has refl) h.0 h.1.0 (skip_there ws (i + 2) (omega (arith, inside, h.1.1))) fs p m _ _ _ _
-      (ran ws s (i + 3) j there v (λ _. has refl) h.1.2 fs K C p m e f) (moved h.1.1 (alone (f p m (omega arith) e))))
+      (condition-ran ws s i g (has g refl (omega arith)) h.0 h.1.0 (skip_there ws (i + 2) (omega (arith, inside, h.1.1))) fs p m _ _ _ _
+      (ran ws s (i + 3) j there v (λ k _ _. has k refl (omega arith)) h.1.2 fs K C p m e f) (moved h.1.1 (alone (f p m (omega arith) e))))
   item-ran ws s i j (ExistsElse g there absent) v has h fs K C p m e f =
       let yes = reads_within there ws (i + 3) (i + 1 + word ws (i + 2) - 2) h.1.1 in
       let no_ = reads_within absent ws (i + 1 + word ws (i + 2)) j h.1.3 in
       rw (present-followed K (group m g) (ways s there p m) (ways s absent p m))
-      (condition-ran ws s i g (has refl) h.0 h.1.0 (skip_there ws (i + 2) (omega (arith, yes))) fs p m _ _ _ _
-      (ran ws s (i + 3) (i + 1 + word ws (i + 2) - 2) there v (λ _. has refl) h.1.1 fs K (λ a b. suc (C a b)) p m e
+      (condition-ran ws s i g (has g refl (omega arith)) h.0 h.1.0 (skip_there ws (i + 2) (omega (arith, yes))) fs p m _ _ _ _
+      (ran ws s (i + 3) (i + 1 + word ws (i + 2) - 2) there v (λ k _ _. has k refl (omega arith)) h.1.1 fs K (λ a b. suc (C a b)) p m e
       (λ q' k' l' g'. jump-ran ws s (i + 1 + word ws (i + 2) - 2) j (omega (arith, yes, no_)) h.1.2 fs K C q' k'
       (f q' k' l' g')))
-      (ran ws s (i + 1 + word ws (i + 2)) j absent v (λ _. has refl) h.1.3 fs K C p m e f))
+      (ran ws s (i + 1 + word ws (i + 2)) j absent v (λ k _ _. has k refl (omega arith)) h.1.3 fs K C p m e f))
 
   pub branch-ran : (ws : List ℕ) (s : Subject) (q j : ℕ) (ts : Trees) → AreWords ws
-      → (some_refers ts ≡ true → HasReference ws) → ReadsBranch ws q j ts
+      → AskedInBranch ws ts → ReadsBranch ws q j ts
       → (fs : List Frame) (K : Body) (C : Costs) (p : ℕ) (m : Marks) → p ≤ s.end → Follows ws s p (Instruction j) fs K C
       → Runs ws s (spot_at (Alternatives q) fs p m) (followed K (branch_ways s ts p m))
       (branch_cost s ts (λ a b. suc (C a b)) p m)
@@ -119,7 +130,7 @@ mutual
       let l : q + 3 ≤ skip ws q = alternative_long ws q j (Or t ts) h in
       rw (flat_map-append (λ (w : Way). K w.stop w.marks) (ways s t p m) (branch_ways s ts p m))
       (alternative-ran ws s q (word ws q) _ _ fs p m _ _ (word_there ws q (skip_there ws q (omega arith))) (omega arith)
-      (ran ws s (q + 1) (skip ws q - 2) t v (λ y. has (or_left (refers t) (some_refers ts) y)) h.0 fs K
+      (ran ws s (q + 1) (skip ws q - 2) t v (λ g y l. has g (or_left (refers t) (some_refers ts) y) (omega (arith, l))) h.0 fs K
       (λ a b. suc (C a b)) p m e (λ q' k' l' g'. jump-ran ws s
       (skip ws q - 2) j (omega (arith, branch_past ts ws (skip ws q) j h.2)) h.1 fs K C q' k' (f q' k' l' g')))
-      (branch-ran ws s (skip ws q) j ts v (λ y. has (or_right (refers t) (some_refers ts) y)) h.2 fs K C p m e f))
+      (branch-ran ws s (skip ws q) j ts v (λ g y l. has g (or_right (refers t) (some_refers ts) y) (omega (arith, l))) h.2 fs K C p m e f))

@@ -11,7 +11,7 @@ use Rattle.sre_model.specs.Grammar.{Word, word, Opcode, reference_opcode}
 use Rattle.sre_turns.specs.declared.Frame.{Frame}
 use Rattle.sre_turns.specs.declared.Point.TheVariants.{Instruction}
 use Rattle.sre_turns.specs.Moves.{Spot, spot_at, Move, Stop, Go}
-use Rattle.sre_turns.specs.MovesAtReferences.{HasReference, reference_turn, condition_place}
+use Rattle.sre_turns.specs.MovesAtReferences.{Asks, reference_turn, condition_place}
 use Rattle.sre_turns.specs.Machine.{Moves, Runs, turns, stops, goes}
 use Rattle.sre_model.specs.Roles.{ToRefer, ToCheckGroup}
 use Rattle.sre_model.proofs.Families.{reference_role}
@@ -19,10 +19,10 @@ use Rattle.sre_turns.proofs.Moving.{at_instruction}
 use Rattle.sre_model.specs.Cost.{reference_cost, condition_cost}
 use Rattle.sre_turns.proofs.Outcomes.{followed, Ran, moved, alone}
 
-pub reference-ran : (ws : List ℕ) (s : Subject) (i j g : ℕ) (f : Fold) → HasReference ws
+pub reference-ran : (ws : List ℕ) (s : Subject) (i j g : ℕ) (f : Fold) → Asks ws g
     → Opcode ws i (reference_opcode f) → Word ws (i + 1) g → j ≡ i + 2
     → Ran ws s (Instruction i) j (λ p m. reference_ways s f g p m) (λ C p m. reference_cost s f (group m g) C p m)
-reference-ran ws s i j g f refers w there l fs K C p m e after = from (group m g) refl
+reference-ran ws s i j g f asked w there l fs K C p m e after = from (group m g) refl
   where
     x : Spot
     x = spot_at (Instruction i) fs p m
@@ -30,7 +30,7 @@ reference-ran ws s i j g f refers w there l fs K C p m e after = from (group m g
     move : (mv : Move) → mv ≡ reference_turn s f g (i + 2) x → Moves ws s x mv
     move mv is =
         at_instruction (reference_opcode f) ToRefer (reference_role f) w
-        (record { refers = refers; fold = f; number = g; code = w; there = there; is = is })
+        (record { fold = f; number = g; asked = asked; code = w; there = there; is = is })
 
     go : (u : ℕ × ℕ) (y : Bool) → group m g ≡ Some u
         → (nat_le (p + (u.1 - u.0)) s.end && same_folded s f (u.1 - u.0) u.0 p) ≡ y
@@ -61,7 +61,7 @@ present-followed K None present absent = refl
 present-followed K (Some u) present absent = refl
 
 -- a condition, where its parts are known: what follows the yes part ends with a JUMP if there is a no part
-module _ (ws : List ℕ) (s : Subject) (i g : ℕ) (refers : HasReference ws) (w : Opcode ws i opcode.GROUPREF_EXISTS)
+module _ (ws : List ℕ) (s : Subject) (i g : ℕ) (asked : Asks ws g) (w : Opcode ws i opcode.GROUPREF_EXISTS)
     (there : Word ws (i + 1) g) (skips : i + 2 < length ws) where
   pub condition-ran : (fs : List Frame) (p : ℕ) (m : Marks) (present absent : List Way) (yes_ no_ : ℕ)
       → Runs ws s (spot_at (Instruction (i + 3)) fs p m) present yes_
@@ -77,8 +77,8 @@ module _ (ws : List ℕ) (s : Subject) (i g : ℕ) (refers : HasReference ws) (w
       leads t e =
           at_instruction opcode.GROUPREF_EXISTS ToCheckGroup refl w
           (record {
-            refers = refers;
             number = g;
+            asked = asked;
             there = there;
             skips = skips;
             is = ap (λ q. Go (spot_at (Instruction q) fs p m)) e;

@@ -5,7 +5,7 @@ use Rattle.std.proofs.lemmas.Bool.{or_right}
 use Rattle.sre_chars.specs.declared.constants.SreOpcode.TheVariants as opcode
 use Rattle.sre_chars.specs.declared.string.StringCursor.{StringCursor}
 use Rattle.sre_model.specs.Tree.{Tree, Empty, Then}
-use Rattle.sre_model.specs.References.{refers, item_refers}
+use Rattle.sre_model.specs.References.{refers, item_refers, asked_from}
 use Rattle.sre_model.specs.Prefixes.{behind_items}
 use Rattle.sre_model.specs.Marks.{no_marks}
 use Rattle.sre_model.specs.Ways.{Way, first, ways}
@@ -14,7 +14,6 @@ use Rattle.sre_model.specs.Standing.{AreWords}
 use Rattle.sre_turns.specs.Board.{Choice, Else, Keep, Trying, from_region, BoardValue, bare}
 use Rattle.sre_turns.specs.Fruit.{Fruitless, FruitlessWith, is_inside}
 use Rattle.sre_turns.specs.declared.Point.TheVariants.{Instruction}
-use Rattle.sre_turns.specs.MovesAtReferences.{HasReference}
 use Rattle.sre_turns.specs.Limits.{Limit}
 use Rattle.sre_turns.specs.Moves.{spot_at}
 use Rattle.sre_turns.specs.Potential.{potential}
@@ -29,7 +28,7 @@ use Rattle.sre_model.specs.Cost.{cost, ending}
 use Rattle.sre_model.proofs.Unique.{items_same}
 use Rattle.sre_turns.proofs.Outcomes.{region}
 use Rattle.sre_turns.proofs.Placed.{none_placed}
-use Rattle.sre_turns.proofs.Ran.{ran}
+use Rattle.sre_turns.proofs.Ran.{ran, AskedIn}
 
 -- a reference behind some items is one of the whole
 behind_refers : (n : ℕ) (t : Tree) → refers (behind_items n t) ≡ true → refers t ≡ true
@@ -37,10 +36,20 @@ behind_refers zero t e = e
 behind_refers (suc n) Empty e = e
 behind_refers (suc n) (Then x rest) e = or_right (item_refers x) (refers rest) (behind_refers n rest e)
 
--- so the words have one
-pub behind_has : (ws : List ℕ) (n : ℕ) (t : Tree) → WholeItems ws t → refers (behind_items n t) ≡ true
-    → HasReference ws
-behind_has ws n t w e = λ u w'. subst (λ x. refers x ≡ true) (items_same ws t u w w') (behind_refers n t e)
+-- and it asks for no group before those of the whole
+behind_asked : (n : ℕ) (t : Tree) → asked_from t ≤ asked_from (behind_items n t)
+behind_asked zero t = omega arith
+behind_asked (suc n) Empty = omega arith
+behind_asked (suc n) (Then x rest) = let l = behind_asked n rest in omega (arith, l)
+
+-- so the words do
+pub behind_has : (ws : List ℕ) (n : ℕ) (t : Tree) → WholeItems ws t → AskedIn ws (behind_items n t)
+behind_has ws n t w g e l = (
+  λ u w'. subst (λ x. refers x ≡ true) (items_same ws t u w w') (behind_refers n t e),
+  λ u w'.
+      let from : asked_from t ≤ g = omega (arith, l, behind_asked n t) in
+      subst (λ x. asked_from x ≤ g) (items_same ws t u w w') from,
+)
 
 -- the limit of a run of a tree from a place and a cursor, in a window from a start on
 abbrev pub first_limit : Run → ℕ → Tree → StringCursor → ℕ → Limit
@@ -55,7 +64,7 @@ first_limit r i t c start = record {
 
 -- a run from a cursor and a place has the accepted ways of the tree whose words are those from there on
 pub started : (r : Run) (i : ℕ) (t : Tree) (c : StringCursor) (b : BoardValue) (start : ℕ) → AreWords r.words
-    → (refers t ≡ true → HasReference r.words)
+    → AskedIn r.words t
     → Reads r.words i (length r.words - 1) t → Opcode r.words (length r.words - 1) opcode.SUCCESS
     → r.stands c c.position → c.position ≤ r.subject.end → b ≡ bare no_marks
     → ((pl : Regionless r) → SettledIn r pl start (spot_at (Instruction i) [] c.position no_marks))

@@ -1,6 +1,6 @@
 -- Turns at a reference to a group, and at a condition on one.
 use Rattle.std.proofs.Common.{◌≡◌, ℕ, ◌+◌, ◌-◌, ◌<◌, true, false, nat_le, List, length, Some}
-use Rattle.std.proofs.Common.{None, refl}
+use Rattle.std.proofs.Common.{None, refl, sym, ◌∙◌, subst}
 use Rattle.sre_chars.specs.declared.constants.SreOpcode.{SreOpcode}
 use Rattle.sre_chars.specs.declared.constants.SreOpcode.TheVariants as opcode
 use Rattle.sre_chars.specs.declared.string.StringCursor.{StringCursor}
@@ -12,7 +12,7 @@ use Rattle.sre_model.specs.Grammar.{Word, Opcode, reference_opcode}
 use Rattle.sre_turns.specs.Board.{BoardValue}
 use Rattle.sre_turns.specs.declared.Point.TheVariants.{Instruction}
 use Rattle.sre_turns.specs.Moves.{Move, Stop, Go}
-use Rattle.sre_turns.specs.MovesAtReferences.{reference_turn, condition_place}
+use Rattle.sre_turns.specs.MovesAtReferences.{Asks, reference_turn, condition_place}
 use Rattle.sre_model.specs.Roles.{ToRefer, role, ToCheckGroup}
 use Rattle.sre_turns.specs.Limits.{Limit}
 use Rattle.sre_turns.specs.Machine.{Moves, Goes, Later, spot, HasRun}
@@ -21,6 +21,10 @@ use Rattle.sre_model.proofs.Families.{reference_role}
 use Rattle.sre_turns.specs.declared.Next.TheVariants as next
 use Rattle.sre_model.proofs.Words.{same_opcode, word_of, word_within}
 use Rattle.sre_turns.proofs.Moving.{in_role, at_instruction, turn_stops, turn_goes}
+
+-- what is asked for is told by the word that names it
+same_asked : (ws : List ℕ) (k n g : ℕ) → Word ws k n → Word ws k g → Asks ws n → Asks ws g
+same_asked ws k n g w v asked = subst (λ x. Asks ws x) (sym (word_of ws k n w) ∙ word_of ws k g v) asked
 
 -- GROUPREF and its foldings
 pub reference_operand : (r : Run) (fold : Fold) (i : ℕ) (c : StringCursor) → Opcode r.words i (reference_opcode fold)
@@ -46,7 +50,7 @@ module _ (r : Run) (fold : Fold) (i g : ℕ) (c : StringCursor) (b : BoardValue)
   turn_there all limit k mv is =
       let h = (in_role (reference_opcode fold) ToRefer (reference_role fold) w k.runs).1 in
       at_instruction (reference_opcode fold) ToRefer (reference_role fold) w
-      (record { refers = h.refers; fold = fold; number = g; code = w; there = there; is = is })
+      (record { fold = fold; number = g; asked = same_asked r.words (i + 1) h.number g h.there there h.asked; code = w; there = there; is = is })
 
   pub reference_missing : group b.marks g ≡ None → (all : List Way) (limit : Limit)
       → Goes r all limit (Instruction i) c b
@@ -88,8 +92,8 @@ module _ (r : Run) (i g v : ℕ) (c : StringCursor) (b : BoardValue) (w : Opcode
       turn_goes r (Instruction i) c b (Instruction (i + 3)) c b
       (at_instruction opcode.GROUPREF_EXISTS ToCheckGroup refl w
       (record {
-        refers = h.refers;
         number = g;
+        asked = same_asked r.words (i + 1) h.number g h.there there h.asked;
         there = there;
         skips = word_within r.words (i + 2) v leads;
         is = rw (known, condition_place) refl;
@@ -101,8 +105,8 @@ module _ (r : Run) (i g v : ℕ) (c : StringCursor) (b : BoardValue) (w : Opcode
       let h = (in_role opcode.GROUPREF_EXISTS ToCheckGroup refl w k.runs).1 in
       turn_goes r (Instruction i) c b (Instruction (i + 1 + v)) c b
       (at_instruction opcode.GROUPREF_EXISTS ToCheckGroup refl w (record {
-        refers = h.refers;
         number = g;
+        asked = same_asked r.words (i + 1) h.number g h.there there h.asked;
         there = there;
         skips = word_within r.words (i + 2) v leads;
         is = rw (known, word_of r.words (i + 2) v leads, condition_place) refl;

@@ -8,11 +8,12 @@ pub use Rattle.sre_turns.specs.Fruit.{Fruitless, FruitlessWith, is_inside}
 use Rattle.sre_turns.specs.Moves.{Spot}
 use Rattle.sre_turns.specs.Machine.{Runs}
 use Rattle.sre_turns.specs.Alike.{Alike}
+use Rattle.sre_turns.specs.Asked.{Unmarked}
 
--- nothing comes of a spot, nor of one that is alike
+-- nothing comes of a spot, nor of one that is alike, as long as no mark is set that the words ask for
 pub record Hopeless (r : Run) (inside : Bool) (x : Spot) : Type 0 where
-  pub none : (y : Spot) (os : List Way) (n : ℕ) → Alike r.words x y → Runs r.words r.subject y os n
-      → Fruitless r inside os
+  pub none : (y : Spot) (os : List Way) (n : ℕ) → Alike r.words x y → Unmarked r.words y.marks
+      → Runs r.words r.subject y os n → Fruitless r inside os
 
 -- whether an outcome is accepted is told by where it stops
 abbrev pub AcceptsByStop : Run → Type 0

@@ -5,6 +5,7 @@ pub mod OperandsOfRuns
 pub mod MovesInLoops
 pub mod MovesInRegions
 pub mod MovesAtReferences
+pub mod Asked
 pub mod Turning
 pub mod Alike
 pub mod Nested

@@ -1,18 +1,22 @@
 -- What the machine does in one turn at a reference to a group: GROUPREF group and its three foldings, and at a
 -- condition on one: GROUPREF_EXISTS group skip.
 -- Words of the machine's contracts; what sre_engine makes public does not rest on it.
-use Rattle.std.specs.Prelude.{ℕ, ◌+◌, ◌-◌, ◌≡◌, ◌<◌, ◌&&◌, length, cond, nat_le, true, List, Some, None}
+use Rattle.std.specs.Prelude.{ℕ, ◌+◌, ◌-◌, ◌≡◌, ◌<◌, ◌≤◌, ◌&&◌, length, cond, nat_le, true, List, Some, None}
 use Rattle.sre_model.specs.Tree.{Tree, Fold}
-use Rattle.sre_model.specs.References.{refers}
+use Rattle.sre_model.specs.References.{refers, asked_from}
 use Rattle.sre_model.specs.Marks.{Marks, group}
 use Rattle.sre_model.specs.Subject.{Subject, same_folded}
 use Rattle.sre_model.specs.Grammar.{Word, word, Opcode, WholeItems, reference_opcode}
 use Rattle.sre_turns.specs.declared.Point.TheVariants.{Instruction}
 use Rattle.sre_turns.specs.Moves.{Spot, to_point, to_place, Move, Stop, Go}
 
--- a reference or a condition is in the words, whatever tree they have; each turn at one says so
+-- a reference or a condition is in the words, whatever tree they have
 abbrev pub HasReference : List ℕ → Type 0
 HasReference ws = (t : Tree) → WholeItems ws t → refers t ≡ true
+
+-- the words may ask for a group: such are from the least one on that a reference in them is to
+abbrev pub Asks : List ℕ → ℕ → Type 0
+Asks ws g = HasReference ws × ((t : Tree) → WholeItems ws t → asked_from t ≤ g)
 
 -- what comes of a reference whose tail is at t: nothing of a group that is missing
 abbrev pub reference_turn : Subject → Fold → ℕ → ℕ → Spot → Move
@@ -25,9 +29,9 @@ reference_turn s fold g t x = elim (group x.marks g) [
 
 -- GROUPREF, GROUPREF_IGNORE, GROUPREF_LOC_IGNORE or GROUPREF_UNI_IGNORE
 pub record ReferenceMove (ws : List ℕ) (s : Subject) (i : ℕ) (x : Spot) (mv : Move) : Type 0 where
-  pub refers : HasReference ws
   pub fold : Fold
   pub number : ℕ
+  pub asked : Asks ws number
   pub code : Opcode ws i (reference_opcode fold)
   pub there : Word ws (i + 1) number
   pub is : mv ≡ reference_turn s fold number (i + 2) x
@@ -38,8 +42,8 @@ condition_place ws i g m = elim (group m g) [ None ↦ i + 1 + word ws (i + 2) |
 
 -- GROUPREF_EXISTS
 pub record ConditionMove (ws : List ℕ) (i : ℕ) (x : Spot) (mv : Move) : Type 0 where
-  pub refers : HasReference ws
   pub number : ℕ
+  pub asked : Asks ws number
   pub there : Word ws (i + 1) number
   pub skips : i + 2 < length ws
   pub is : mv ≡ Go (to_point x (Instruction (condition_place ws i number x.marks)))

@@ -3,7 +3,7 @@ use Rattle.sre_model.specs.Tree.{Tree}
 use Rattle.sre_model.specs.Grammar.{Whole}
 use Rattle.sre_code.specs.Hinted.{Confirmed}
 use Rattle.sre_c.specs.Known.{table_in}
-use Rattle.sre_c.proofs.Knowing.{known_code, known_confirmed, known_references, known_counts}
+use Rattle.sre_c.proofs.Knowing.{known_code, known_confirmed, known_references, known_asked, known_counts}
 use Rattle.sre_c.proofs.check.code.Goals as goal
 
 pub from_checked-requires-clause-checked : goal.from_checked-requires-clause-checked
@@ -19,6 +19,11 @@ pub from_checked-requires-clause-scanned : goal.from_checked-requires-clause-sca
 from_checked-requires-clause-scanned c =
     let given = c.args.given.now in
     known_references given.words.now (table_in given.table.now) given.hints (given.known c.if-given.true)
+
+pub from_checked-requires-clause-asked : goal.from_checked-requires-clause-asked
+from_checked-requires-clause-asked c =
+    let given = c.args.given.now in
+    known_asked given.words.now (table_in given.table.now) given.hints (given.known c.if-given.true)
 
 pub from_checked-requires-clause-counted : goal.from_checked-requires-clause-counted
 from_checked-requires-clause-counted c =

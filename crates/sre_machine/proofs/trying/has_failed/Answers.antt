@@ -28,8 +28,8 @@ returns-in-Failed-clause-left g c = λ _ all limit arrives.
     let held = subst (λ p. Holds m.kept r.words inside (record x { position = p })) c.position.ensures
     (subst (λ (ws : List ℕ). Holds m.kept ws inside (record x { position = c.position.result })) same
     c.in-Failed.ensures) in (
-      hopeless_left r c.args.place c.args.cursor b (remembers_still r _ _ c.prepare.ensures.no_more
-          c.requires.remembers inside x held) all limit arrives,
+      hopeless_left r c.args.place c.args.cursor b c.requires.unmarked
+          (remembers_still r _ _ c.prepare.ensures.no_more c.requires.remembers inside x held) all limit arrives,
       pays_prepared c.args.req.now c.args.place c.args.cursor b c.args.memo.now m p all limit arrives,
     )
 

@@ -1,5 +1,4 @@
 use Rattle.sre_machine.proofs.Failing.{turn_goes_on, turn_tried, turn_left, paid_so}
-use Rattle.std.proofs.Common.{sym, ◌∙◌}
 use Rattle.sre_machine.proofs.trying.instruction_or_back.Goals as goal
 
 pub instruction-requires : goal.instruction-requires
@@ -14,13 +13,13 @@ pub returns-clause-turn : goal.returns-clause-turn
 returns-clause-turn g c =
     turn_goes_on c.args.req.now c.args.place c.args.cursor _ _ _ _ _ c.instruction.result
     (c.is_hopeless.ensures.goes c.if-is_hopeless.false)
-    (paid_so c.args.req.now c.args.place c.args.memo.now c.is_hopeless.new.memo c.is_open-keeps.result
-    (sym c.is_open-keeps.ensures.opened) (c.goes_on_endlessly.ensures.off c.if-goes_on_endlessly.false))
+    (paid_so c.args.req.now c.args.place c.args.memo.now c.is_hopeless.new.memo c.keeps_failures-keeps.result
+    c.keeps_failures-keeps.ensures.left (c.goes_on_endlessly.ensures.off c.if-goes_on_endlessly.false))
     c.instruction.ensures
 
 pub returns-then-goes_on_endlessly-clause-turn : goal.returns-then-goes_on_endlessly-clause-turn
 returns-then-goes_on_endlessly-clause-turn g c =
     turn_tried c.args.req.now c.args.place c.args.cursor _ _ _ _ _ c.endless_run.result
-    (c.is_hopeless.ensures.tries c.if-is_hopeless.false (sym c.is_open-keeps.ensures.opened
-    ∙ c.goes_on_endlessly.ensures.keeps c.if-goes_on_endlessly.true) (c.goes_on_endlessly.ensures.on
-    c.if-goes_on_endlessly.true)) c.endless_run.ensures
+    (c.is_hopeless.ensures.tries c.if-is_hopeless.false
+    (c.goes_on_endlessly.ensures.keeps c.if-goes_on_endlessly.true)
+    (c.goes_on_endlessly.ensures.on c.if-goes_on_endlessly.true)) c.endless_run.ensures

@@ -319,13 +319,13 @@ returns-in-None-clause-settles g c = λ _.
 
 pub returns-then-not-takes_turns-clause-waited_up : goal.returns-then-not-takes_turns-clause-waited_up
 returns-then-not-takes_turns-clause-waited_up g c = λ limited closed pl _.
-    let w = c.may_wait-waits.ensures.waits limited closed pl in
+    let w = c.may_wait-waits.ensures.waits limited closed in
     let x = c.turn.invariant.waited w in
     omega (arith, x.turns, c.takes_turns.ensures.spent, c.waits_on.ensures.waited c.if-not-waits_on.false w)
 
 pub returns-in-None-clause-waited : goal.returns-in-None-clause-waited
 returns-in-None-clause-waited g c = λ limited closed pl _.
-    let w = c.may_wait-waits.ensures.waits limited closed pl in
+    let w = c.may_wait-waits.ensures.waits limited closed in
     waited_on c.args.memo.now c.turn.memo c.waits_on.new.memo c.back.new.memo c.args.left.now c.turn.left
     c.takes_turns.new.left c.turns_due-turns.result (c.turn.invariant.waited w) c.waits_on.ensures.same
     (c.waits_on.ensures.waited c.if-not-waits_on.false w) c.takes_turns.ensures.spent
@@ -333,7 +333,7 @@ returns-in-None-clause-waited g c = λ limited closed pl _.
 
 pub returns-then-is_accepted-clause-waited : goal.returns-then-is_accepted-clause-waited
 returns-then-is_accepted-clause-waited g c = λ limited closed pl _.
-    let w = c.may_wait-waits.ensures.waits limited closed pl in
+    let w = c.may_wait-waits.ensures.waits limited closed in
     waited_on c.args.memo.now c.turn.memo c.waits_on.new.memo c.waits_on.new.memo c.args.left.now c.turn.left
     c.takes_turns.new.left c.turns_due-turns.result (c.turn.invariant.waited w) c.waits_on.ensures.same
     (c.waits_on.ensures.waited c.if-not-waits_on.false w) c.takes_turns.ensures.spent (λ h. (refl, refl))

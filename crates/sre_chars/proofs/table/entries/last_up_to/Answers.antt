@@ -7,7 +7,8 @@ use Rattle.sre_chars.proofs.table.entries.last_up_to.Goals as goal
 
 -- the entries before the place begin at c or below, and the others above it
 abbrev IsSplitAt : {X : Type 0} → (X → ℕ × ℕ) → List X → ℕ → ℕ → Type 0
-IsSplitAt pair es c place = IsPartitionPoint (λ e. nat_le (pair e).0 c ≡ true) (λ e. nat_le (pair e).0 c ≡ false) es place
+IsSplitAt pair es c place =
+    IsPartitionPoint (λ e. nat_le (pair e).0 c ≡ true) (λ e. nat_le (pair e).0 c ≡ false) es place
 
 pub returns-then-count-eq0 : goal.returns-then-count-eq0
 returns-then-count-eq0 g c =
