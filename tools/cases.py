@@ -108,7 +108,8 @@ def calls_of_lines(folder, name, room):
 
 def lines_of(folder):
     """The lines of a folder's files of lines."""
-    for name in sorted(it for it in os.listdir(folder) if it.endswith(".txt") and os.path.isfile(f"{folder}/{it[:-4]}.expected")):
+    names = (it for it in os.listdir(folder) if it.endswith(".txt"))
+    for name in sorted(it for it in names if os.path.isfile(f"{folder}/{it[:-4]}.expected")):
         yield from expanded(read(f"{folder}/{name}")).splitlines()
 
 
@@ -182,7 +183,8 @@ class Cases:
         self.made("sre_cases", "random words", lambda it: lists.are_judged(it, self.tell))
         self.made("sre_cases", "changed words", lambda it: changed.are_judged(it, self.tell))
         self.made("sre_probes", "runs of changed words", lambda it: changed.agree(it, self.tell))
-        lines = [it.decode() for folder in ("crates/sre_cases/cases", "examples") for it in lines_of(f"{ROOT}/{folder}")]
+        folders = [f"{ROOT}/{it}" for it in ("crates/sre_cases/cases", "examples")]
+        lines = [it.decode() for folder in folders for it in lines_of(folder)]
         self.made("sre_probes", "cases by finders", lambda it: finders.agree(it, lines, self.tell))
         self.made("sre_cases", "large lines", lambda it: large.are_answered(it, large.cases, self.tell))
         self.made("sre_probes", "large lines", lambda it: large.are_answered(it, large.probes, self.tell))

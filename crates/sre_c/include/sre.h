@@ -135,8 +135,8 @@ typedef struct sre_walked {
 /* Checks a table's lists: SRE_YES, SRE_FAULTY_TABLE. */
 uint32_t sre_check_table(sre_table *table);
 
-/* Checks words: SRE_YES, SRE_NO_CODE, SRE_FAULTY_TABLE, SRE_MEMORY. Nobody needs to call it first, since an answer and a
- * walk check words and lists that no check has passed. A check spares them that at each call. */
+/* Checks words: SRE_YES, SRE_NO_CODE, SRE_FAULTY_TABLE, SRE_MEMORY. Nobody needs to call it first, since an answer and
+ * a walk check words and lists that no check has passed. A check spares them that at each call. */
 uint32_t sre_check_code(sre_code *code);
 
 /* The match: SRE_YES and all of `found` and its marks; SRE_NO; SRE_USED_UP; SRE_MEMORY; SRE_NO_CODE; SRE_NO_ROOM, with
