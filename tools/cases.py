@@ -183,8 +183,8 @@ class Cases:
         self.made("sre_cases", "random words", lambda it: lists.are_judged(it, self.tell))
         self.made("sre_cases", "changed words", lambda it: changed.are_judged(it, self.tell))
         self.made("sre_probes", "runs of changed words", lambda it: changed.agree(it, self.tell))
-        folders = [f"{ROOT}/{it}" for it in ("crates/sre_cases/cases", "examples")]
-        lines = [it.decode() for folder in folders for it in lines_of(folder)]
+        whole = [f"{ROOT}/{it}" for it in ("crates/sre_cases/cases", "examples")]
+        lines = [it.decode() for folder in whole for it in lines_of(folder)]
         self.made("sre_probes", "cases by finders", lambda it: finders.agree(it, lines, self.tell))
         self.made("sre_cases", "large lines", lambda it: large.are_answered(it, large.cases, self.tell))
         self.made("sre_probes", "large lines", lambda it: large.are_answered(it, large.probes, self.tell))
