@@ -64,13 +64,13 @@ impl<'c> SpanFinder<'c> {
             Some(exact) => SpanFinder {
                 code,
                 encoding,
-                finder: Finder::without_automata(code, encoding),
+                finder: Finder::without_automata(alloc, code, encoding),
                 exact: Some(exact),
             },
             None => SpanFinder {
                 code,
                 encoding,
-                finder: Finder::new(alloc, code, encoding),
+                finder: Finder::on_demand(alloc, code, encoding),
                 exact: None,
             },
         }
