@@ -23,7 +23,7 @@ const MORE: usize = 8192;
 const PAUSE: u32 = 64;
 
 /// How many runs in vain are awaited before they are made.
-const WAITS: u32 = 16;
+const WAITS: u32 = 8;
 
 /// How far steps whose first start was in vain may outweigh the others: each counts twice.
 const FAILING: u32 = 4;

@@ -188,6 +188,9 @@ impl<'c> SpanFinder<'c> {
         ensures refused { OnErr result Refused }
         ensures literal { (hints_of (code_of req.old)).literal ≡ true → OnErr result ⊥ }
     {
+        if self.exact.is_none() {
+            return self.run(req, state, cursor);
+        }
         match self.known(req, *cursor) {
             Known::Nothing => Ok(None),
             Known::Between(start, end) => {
