@@ -1,6 +1,6 @@
 //! A finder: what tells the searches of a code where the next match can begin.
 
-ghost use Rattle.std.specs.Prelude.{◌≡◌, ◌≤◌, ◌+◌, map, IfOk, OnErr, true, false, None};
+ghost use Rattle.std.specs.Prelude.{◌≡◌, ◌≤◌, ◌+◌, map, IfOk, IfSome, OnErr, true, false, None};
 ghost use Rattle.std.specs.Vec.{vec_len};
 ghost use Rattle.sre_growth.specs.Refusal.{Refused};
 ghost use Rattle.sre_model.specs.Tree.{Tree};
@@ -14,7 +14,8 @@ ghost use Rattle.sre_request.specs.Requests.{string_of, start_of, end_of, code_o
 ghost use Rattle.sre_engine.specs.Answers.{Answers, AnswersAlike, Spans};
 ghost use Rattle.sre_engine.specs.Counts.{CountsUpTo, CountsOfWalk};
 ghost use Rattle.sre_engine.specs.Listed.{match_of};
-ghost use Rattle.sre_request.specs.Runs.{Standing};
+ghost use Rattle.sre_request.specs.Runs.{run_of, Standing};
+ghost use Rattle.sre_engine.specs.Starts.{NoneUntil, StartFrom};
 ghost use Rattle.sre_finder.specs.Finders.{EndStands, CoveringAny};
 
 use crate::haystack::Haystack;
@@ -34,8 +35,11 @@ pub(crate) const SIZE_LIMIT: usize = 1 << 16;
 /// The automata of a code, where they are worth what they take.
 #[derive(Drop)]
 pub struct Finder<'c> {
+    alloc: Global,
     code: Code<'c>,
     encoding: Encoding,
+    // whether automata were made, or found not to be worth it
+    is_made: bool,
     automata: Option<Automata>,
     end: Option<StringCursor>,
     pace: Pace,
@@ -64,30 +68,54 @@ impl<'c> Finder<'c> {
         ensures end { result.end ≡ None }
     {
         Finder {
+            alloc,
             code,
             encoding,
+            is_made: true,
             automata: automata_of(alloc, code, encoding),
             end: None,
             pace: Pace::new(),
         }
     }
 
+    /// The same, but its automata are made where they are first asked, behind some starts that were tried in vain. So
+    /// where a match begins near the window's start, nothing is made.
+    pub fn on_demand(alloc: Global, code: Code<'c>, encoding: Encoding) -> Finder<'c>
+        ensures code { result.code ≡ code.entry }
+        ensures encoding { result.encoding ≡ encoding }
+        ensures end { result.end ≡ None }
+    {
+        let mut pace = Pace::new();
+        pace.wait();
+        Finder {
+            alloc,
+            code,
+            encoding,
+            is_made: false,
+            automata: None,
+            end: None,
+            pace,
+        }
+    }
+
     // One that has no automata and tells nothing.
-    pub(crate) fn without_automata(code: Code<'c>, encoding: Encoding) -> Finder<'c>
+    pub(crate) fn without_automata(alloc: Global, code: Code<'c>, encoding: Encoding) -> Finder<'c>
         ensures code { result.code ≡ code.entry }
         ensures encoding { result.encoding ≡ encoding }
         ensures end { result.end ≡ None }
     {
         Finder {
+            alloc,
             code,
             encoding,
+            is_made: true,
             automata: None,
             end: None,
             pace: Pace::new(),
         }
     }
 
-    /// Whether it has automata.
+    /// Whether it has automata; of one that makes them on demand, whether it has by now.
     pub fn has_automata(&self) -> bool {
         self.automata.is_some()
     }
@@ -145,14 +173,33 @@ impl<'c> Finder<'c> {
         self.end = Some(end);
         end
     }
-}
 
-impl<'c, S: Haystack> Starts<S> for Finder<'c> {
-    ghost suits = { λ f string code. (f.code ≡ code) × EndStands (S.stands string) f.end };
+    // Makes the automata. It is called once: its frame is large, and cleared at each call.
+    #[inline(never)]
+    fn make(&mut self)
+        ensures code { self.new.code ≡ self.old.code }
+        ensures encoding { self.new.encoding ≡ self.old.encoding }
+        ensures end { self.new.end ≡ self.old.end }
+    {
+        self.is_made = true;
+        self.automata = automata_of(self.alloc, self.code, self.encoding);
+    }
 
-    fn beyond(&mut self, req: &Request<'_, S>, from: StringCursor) -> Option<StringCursor> {
-        if self.automata.is_none() || !self.pace.asks() {
-            return Some(from);
+    // Asks the automata for the first start from a cursor on that may have a match.
+    #[inline(never)]
+    fn ask<S: Haystack>(&mut self, req: &Request<'_, S>, from: StringCursor) -> Option<StringCursor>
+        requires own { self.old.code ≡ code_of req.now }
+        requires known { EndStands (S.stands (string_of req.now)) self.old.end }
+        requires stands { Standing req.now from }
+        requires inside { from.position ≤ end_of req.now }
+        ensures code { self.new.code ≡ self.old.code }
+        ensures known { EndStands (S.stands (string_of req.now)) self.new.end }
+        ensures next { IfSome result (λ next. StartFrom (run_of req.now) from.position next) }
+        ensures none { (t : Tree) → Whole (words_of (code_of req.now)) t
+            → NoneUntil (asked_of req.now) t from.position result }
+    {
+        if !self.is_made {
+            self.make();
         }
         let end = self.end_in(req, from);
         let text = req.string();
@@ -170,6 +217,18 @@ impl<'c, S: Haystack> Starts<S> for Finder<'c> {
             Told::Nothing => None,
             Told::From(offset) => Some(text.cursor_up_to(from, offset, end)),
         }
+    }
+}
+
+impl<'c, S: Haystack> Starts<S> for Finder<'c> {
+    ghost suits = { λ f string code. (f.code ≡ code) × EndStands (S.stands string) f.end };
+
+    #[inline(always)]
+    fn beyond(&mut self, req: &Request<'_, S>, from: StringCursor) -> Option<StringCursor> {
+        if (self.is_made && self.automata.is_none()) || !self.pace.asks() {
+            return Some(from);
+        }
+        self.ask(req, from)
     }
 
     #[inline(always)]

@@ -3,19 +3,27 @@
 //! Most steps of a walk end at the first start that is tried, so the automata are asked behind a run in vain. Where
 //! that comes again and again they are asked first, for some steps. Where they tell of starts in vain, they are left
 //! alone for a while, each time twice as long. To tell one start they may read far beyond it, so in each text they are
-//! left alone for good once they have read much more of it than was passed: a search then takes a time that grows with
-//! the text's length, where the machine's does.
+//! left alone while they have read much more of it than was passed: a search then takes a time that grows with the
+//! text's length, where the machine's does.
+//!
+//! Those of a finder on demand are made only where some runs were in vain.
 
 /// How many starts may be told in vain, less those that had a match.
-const VAIN: u32 = 24;
+const VAIN: u32 = 8;
 
 /// For how many steps the automata are asked first, before that is tried without them again.
 const STEPS: u32 = 64;
 
 /// How many bytes they may read for each that was passed, and how many more.
-const READ: usize = 8;
+const READ: usize = 2;
 
 const MORE: usize = 8192;
+
+/// For how many questions they are left alone at first, and where they have read too much.
+const PAUSE: u32 = 64;
+
+/// How many runs in vain are awaited before they are made.
+const WAITS: u32 = 8;
 
 /// How far steps whose first start was in vain may outweigh the others: each counts twice.
 const FAILING: u32 = 4;
@@ -30,6 +38,8 @@ pub(crate) struct Pace {
     // for how many questions they are left alone, and for how many the next time
     rest: u32,
     pause: u32,
+    // how many runs in vain are awaited before they are asked at all
+    waits: u32,
     // of the last question: whether it was a step's first, whether a start was told, and whether it was in vain
     is_first: bool,
     is_told: bool,
@@ -45,12 +55,18 @@ impl Pace {
             failing: 0,
             vain: 0,
             rest: 0,
-            pause: 16,
+            pause: PAUSE,
+            waits: 0,
             is_first: false,
             is_told: false,
             has_failed: false,
             begun: None,
         }
+    }
+
+    /// They are to be made where they are first asked.
+    pub(crate) fn wait(&mut self) {
+        self.waits = WAITS;
     }
 
     /// Another text comes.
@@ -80,15 +96,18 @@ impl Pace {
     /// Whether the automata are asked for the next start.
     #[inline(always)]
     pub(crate) fn asks(&mut self) -> bool {
+        if self.rest > 0 {
+            self.rest -= 1;
+            return false;
+        }
+        if self.waits > 0 {
+            return false;
+        }
         self.note_last();
         let is_first = !self.has_failed;
         self.has_failed = false;
         self.is_first = is_first;
         self.is_told = false;
-        if self.rest > 0 {
-            self.rest -= 1;
-            return false;
-        }
         if is_first {
             if self.first == 0 {
                 return false;
@@ -99,8 +118,8 @@ impl Pace {
         true
     }
 
-    /// Whether the automata may be asked for a start at a place, where they have read so much.
-    #[inline(always)]
+    /// Whether the automata may be asked for a start at a place, where they have read so much; else they are left alone
+    /// for a while.
     pub(crate) fn may_read(&mut self, place: usize, read: usize) -> bool {
         let (origin, before) = match self.begun {
             Some(begun) => begun,
@@ -108,12 +127,23 @@ impl Pace {
         };
         self.begun = Some((origin, before));
         let passed = place.saturating_sub(origin);
-        read.saturating_sub(before) / READ <= passed.saturating_add(MORE)
+        let may_read = read.saturating_sub(before) / READ <= passed.saturating_add(MORE);
+        if !may_read {
+            self.rest = PAUSE;
+        }
+        may_read
     }
 
     /// Notes a run in vain.
     #[inline(always)]
     pub(crate) fn note_failed(&mut self) {
+        if self.rest > 0 {
+            return;
+        }
+        if self.waits > 0 {
+            self.waits -= 1;
+            return;
+        }
         self.has_failed = true;
         if self.is_first {
             self.failing = self.failing.saturating_add(2);

@@ -1,6 +1,6 @@
 //! The finder of spans: where order agrees, automata tell where the next match begins and where it ends.
 
-ghost use Rattle.std.specs.Prelude.{◌≡◌, ◌≤◌, IfOk, IfSome, OnErr, true, None};
+ghost use Rattle.std.specs.Prelude.{◌≡◌, IfOk, IfSome, OnErr, true, None};
 ghost use Rattle.sre_growth.specs.Refusal.{Refused};
 ghost use Rattle.sre_code.specs.Codes.{hints_of};
 ghost use Rattle.sre_request.specs.Requests.{string_of, start_of, code_of, stands_in};
@@ -64,13 +64,13 @@ impl<'c> SpanFinder<'c> {
             Some(exact) => SpanFinder {
                 code,
                 encoding,
-                finder: Finder::without_automata(code, encoding),
+                finder: Finder::without_automata(alloc, code, encoding),
                 exact: Some(exact),
             },
             None => SpanFinder {
                 code,
                 encoding,
-                finder: Finder::new(alloc, code, encoding),
+                finder: Finder::on_demand(alloc, code, encoding),
                 exact: None,
             },
         }
@@ -188,6 +188,9 @@ impl<'c> SpanFinder<'c> {
         ensures refused { OnErr result Refused }
         ensures literal { (hints_of (code_of req.old)).literal ≡ true → OnErr result ⊥ }
     {
+        if self.exact.is_none() {
+            return self.run(req, state, cursor);
+        }
         match self.known(req, *cursor) {
             Known::Nothing => Ok(None),
             Known::Between(start, end) => {

@@ -16,9 +16,11 @@ ghost use Rattle.sre_lines.specs.Fields.{IsCase};
 ghost use Rattle.sre_lines.specs.Lines.{lines_of, Answered, IsNoCase, IsBegun, StopsAt};
 ghost use Rattle.sre_lines.specs.Output.{AppendsPart};
 
+mod searched;
 mod walked;
 
 use crate::answer::{push_hints, push_match, push_refusal};
+use crate::cases::searched::search;
 use crate::cases::walked::push_matches;
 use crate::line::{
     Case, Finding, LineFault, Operands, Subject, TextForm, Window, read_case, split_once,
@@ -295,33 +297,54 @@ fn push_code_answer<A: Allocator + Copy>(
         Case::Find(finding, subject) => match subject.text {
             TextForm::Bytes => {
                 let request = request(text, subject, code);
-                push_found(
-                    alloc,
-                    heap,
-                    finding,
-                    request,
-                    Encoding::Bytes,
-                    state,
-                    answer,
-                )
+                let reading = reading_bytes(finding, &request);
+                push_found(alloc, heap, finding, request, reading, state, answer)
             }
             TextForm::Utf8 => {
                 let Ok(text) = str::from_utf8(text) else {
                     unreachable!()
                 };
-                let (request, encoding) = (request(text, subject, code), encoding(text));
-                push_found(alloc, heap, finding, request, encoding, state, answer)
+                let request = request(text, subject, code);
+                let reading = reading_text(finding, &request, text);
+                push_found(alloc, heap, finding, request, reading, state, answer)
             }
         },
     }
 }
 
-// As what automata read a text.
-fn encoding(text: &str) -> Encoding {
-    if text.is_ascii() {
-        Encoding::Ascii
+// From how many characters on a window is long enough for automata: to make them takes some hundred thousands of
+// instructions, as was measured, and more over UTF-8.
+const LONG: usize = 1 << 15;
+
+// Whether automata may gain something: where all matches or the first one of a long window are sought, and not along
+// the places of a confirmed prefix, which is as fast.
+fn may_gain<S: StrDrive>(finding: Finding, request: &Request<'_, S>) -> bool {
+    match finding {
+        Finding::Match => false,
+        Finding::Search | Finding::Walk => {
+            request.end() - request.start() >= LONG
+                && request.pattern_codes().hints().prefix.is_none()
+        }
+    }
+}
+
+// As what automata read a text of bytes, where they may gain something.
+fn reading_bytes(finding: Finding, request: &Request<'_, &[u8]>) -> Option<Encoding> {
+    if may_gain(finding, request) {
+        Some(Encoding::Bytes)
     } else {
-        Encoding::Utf8
+        None
+    }
+}
+
+// As what automata read UTF-8, where they may gain something. A text that has as many characters as bytes is ASCII.
+fn reading_text(finding: Finding, request: &Request<'_, &str>, text: &str) -> Option<Encoding> {
+    if !may_gain(finding, request) {
+        None
+    } else if request.end() == text.len() || text.is_ascii() {
+        Some(Encoding::Ascii)
+    } else {
+        Some(Encoding::Utf8)
     }
 }
 
@@ -340,14 +363,14 @@ fn request<'a, S: StrDrive>(text: S, subject: Subject, code: Code<'a>) -> Reques
     request
 }
 
-// Appends the match that is found, or `no`; of a walk, all matches, with a state of its own on `heap`. Where a window is
-// long, automata on `alloc` read the text, as `encoding` says.
+// Appends the match that is found, or `no`; of a walk, all matches, with a state of its own on `heap`. Where `reading`
+// says as what, automata on `alloc` read the text.
 fn push_found<S: Haystack, A: Allocator + Copy>(
     alloc: Global,
     heap: A,
     finding: Finding,
     request: Request<'_, S>,
-    encoding: Encoding,
+    reading: Option<Encoding>,
     state: &mut State<A>,
     answer: &mut String<A>,
 ) -> Result<(), AllocError>
@@ -357,8 +380,8 @@ fn push_found<S: Haystack, A: Allocator + Copy>(
 {
     let found = match finding {
         Finding::Match => state.pymatch(&request),
-        Finding::Search => state.search(request),
-        Finding::Walk => return push_matches(alloc, heap, request, encoding, answer),
+        Finding::Search => search(alloc, request, reading, state),
+        Finding::Walk => return push_matches(alloc, heap, request, reading, answer),
     };
     match found {
         Ok(true) => {

@@ -1,19 +1,16 @@
 -- What a step of a walk leaves of turns that outlast the walk.
-use Rattle.std.proofs.Common.{◌≡◌, ◌≢◌, ◌≤◌, ◌<◌, ℕ, ◌+◌, ◌-◌, ◌*◌, ◌/◌, List, Option, Some, None, sym, ap, ◌∙◌}
+use Rattle.std.proofs.Common.{◌≢◌, ◌≤◌, ◌<◌, ℕ, ◌+◌, ◌-◌, ◌*◌, ◌/◌, Some, sym}
 use Rattle.std.proofs.Common.{subst, arith, add-mul}
 use Rattle.std.proofs.Math.Nat.{mul-le-mul, mul-le-mul_right, div-mul-le_self}
 use Rattle.std.proofs.lemmas.Nat.{le-div}
 use Rattle.sre_chars.specs.declared.string.StrDrive.{Ghosts}
 use Rattle.sre_engine.specs.Tree.{Tree}
-use Rattle.sre_engine.specs.Grammar.{Whole}
 use Rattle.sre_engine.specs.Found.{Asked, Match, subject_of, asked_after}
 use Rattle.sre_model.specs.Prefixes.{behind_items}
 use Rattle.sre_model.specs.TurnBounds.{turns_of, most_each, RunsWithin}
 use Rattle.sre_model.specs.WalkBounds.{most_matches}
-use Rattle.sre_engine.specs.Codes.{words_of}
 use Rattle.sre_code.specs.declared.code.Code.{Code}
 use Rattle.sre_engine.specs.Requests.{code_of, asked_of}
-use Rattle.sre_engine.specs.Answers.{Shown}
 use Rattle.sre_engine.specs.Counts.{SpentUpTo, runs_of}
 use Rattle.sre_engine.specs.Walks.{match_shown}
 use Rattle.sre_engine.specs.Iterators.{request_of, shown_of, Gives, Counted}

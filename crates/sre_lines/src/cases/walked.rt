@@ -15,25 +15,21 @@ use sre_engine::{Request, SearchIter, State, StrDrive};
 use sre_finder::{Encoding, Haystack, SpanFinder, SpanIter};
 use std::alloc::{AllocError, Allocator, Global};
 
-// From how many characters on a window is long enough for automata: to make them takes some hundred thousands of
-// instructions, as was measured, and more over UTF-8.
-const LONG: usize = 1 << 15;
-
-/// Appends the spans of all matches as they come, divided by spaces, or `none`. No match is kept.
+/// Appends the spans of all matches as they come, divided by spaces, or `none`. No match is kept. Where `reading` says
+/// as what, automata on `alloc` read the text.
 pub fn push_matches<S: Haystack, A: Allocator + Copy>(
     alloc: Global,
     heap: A,
     request: Request<'_, S>,
-    encoding: Encoding,
+    reading: Option<Encoding>,
     answer: &mut String<A>,
 ) -> Result<(), AllocError>
     ensures { (t : Tree) → Whole (words_of (code_of request.entry)) t → OnOk result
         (string_bytes answer.new ≡ string_bytes answer.old ++ walk_text (walk (asked_of request.entry) t)) }
 {
-    if request.end() - request.start() < LONG {
-        push_walk(heap, request, answer)
-    } else {
-        push_spans(alloc, heap, request, encoding, answer)
+    match reading {
+        None => push_walk(heap, request, answer),
+        Some(encoding) => push_spans(alloc, heap, request, encoding, answer),
     }
 }
 

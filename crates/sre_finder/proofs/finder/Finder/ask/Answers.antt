@@ -5,8 +5,8 @@ use Rattle.sre_automata.specs.Told.{Tells, NoneLeft, NoneUpTo}
 use Rattle.sre_finder.specs.Views.{SeenAs}
 use Rattle.sre_finder.specs.Finders.{Covering}
 use Rattle.sre_finder.proofs.Covered.{covers_same, no_start_left, no_start_below}
-use Rattle.sre_finder.proofs.finder.FinderStarts.beyond.Goals.{in-Nothing, in-From}
-use Rattle.sre_finder.proofs.finder.FinderStarts.beyond.Goals as goal
+use Rattle.sre_finder.proofs.finder.Finder.ask.Goals.{in-Nothing, in-From}
+use Rattle.sre_finder.proofs.finder.Finder.ask.Goals as goal
 
 pub returns-clause-none : goal.returns-clause-none
 returns-clause-none g c = λ t whole.

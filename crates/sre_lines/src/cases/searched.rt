@@ -1,0 +1,46 @@
+//! The search of a case, over a long window by a finder.
+
+ghost use Rattle.std.specs.Prelude.{◌≡◌, IfOk};
+ghost use Rattle.sre_engine.specs.Tree.{Tree};
+ghost use Rattle.sre_engine.specs.Grammar.{Whole};
+ghost use Rattle.sre_engine.specs.Found.{found};
+ghost use Rattle.sre_engine.specs.Answers.{Answers};
+ghost use Rattle.sre_engine.specs.Codes.{words_of};
+ghost use Rattle.sre_engine.specs.Requests.{asked_of, code_of, stands_in};
+
+use sre_engine::engine::SreError;
+use sre_engine::{Request, State};
+use sre_finder::{Encoding, Finder, Haystack};
+use std::alloc::{Allocator, Global};
+
+/// Searches the window as `State::search` does, with the same answer. Where `reading` says as what, automata on `alloc`
+/// read the text.
+pub fn search<S: Haystack, A: Allocator + Copy>(
+    alloc: Global,
+    request: Request<'_, S>,
+    reading: Option<Encoding>,
+    state: &mut State<A>,
+) -> Result<bool, SreError>
+    ensures { (t : Tree) → Whole (words_of (code_of request.entry)) t → IfOk result
+        (λ b. Answers (stands_in request.entry) (found (asked_of request.entry) t) b state.new) }
+{
+    match reading {
+        None => state.search(request),
+        Some(encoding) => search_told(alloc, request, encoding, state),
+    }
+}
+
+// Searches by a finder, whose automata tell where a match can begin. Where they tell nothing, or memory for them is
+// refused, the machine tries all starts.
+fn search_told<S: Haystack, A: Allocator + Copy>(
+    alloc: Global,
+    request: Request<'_, S>,
+    encoding: Encoding,
+    state: &mut State<A>,
+) -> Result<bool, SreError>
+    ensures { (t : Tree) → Whole (words_of (code_of request.entry)) t → IfOk result
+        (λ b. Answers (stands_in request.entry) (found (asked_of request.entry) t) b state.new) }
+{
+    let mut finder = Finder::on_demand(alloc, request.pattern_codes(), encoding);
+    finder.search(request, state)
+}
