@@ -1,3 +1,4 @@
+pub mod Finding
 pub mod Cuts
 pub mod Steps
 pub mod Adjoining

@@ -1,4 +1,5 @@
 pub mod Slices
+pub mod FoundTexts
 pub mod Captured
 pub mod Bounded
 pub mod Pieces

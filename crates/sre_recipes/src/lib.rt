@@ -23,6 +23,7 @@ mod bounds;
 mod compute;
 mod divide;
 mod find;
+mod found;
 mod groups;
 mod lexer;
 mod replace;
@@ -34,6 +35,7 @@ pub use bounds::Bounds;
 pub use compute::{replace_with, replace_with_bounded};
 pub use divide::{split, split_bounded, split_groups, split_groups_bounded};
 pub use find::{find_all, find_bounded, full_match, is_match, match_text, search_text};
+pub use found::FoundTexts;
 pub use groups::{
     Captures, CapturesOf, all_captures, captures_bounded, match_captures, search_captures,
 };

@@ -1,0 +1,102 @@
+//! The texts of all matches, one after the other, by a finder.
+
+ghost use Rattle.std.specs.Prelude.{◌≡◌, ◌<◌, false, IfSome};
+ghost use Rattle.sre_engine.specs.Requests.{start_of, code_of, stands_in};
+ghost use Rattle.sre_finder.specs.SpanIters.{request_of, has_ended, most_spans};
+
+use crate::span::on_by;
+use crate::texts::Text;
+use sre_engine::{Request, SreError, State, StrDrive, StringCursor};
+use sre_finder::{Haystack, SpanFinder, SpanIter};
+use std::alloc::Allocator;
+
+/// The texts of a window's matches, in the order of `find_all`. Where the finder's automata tell spans, no machine is
+/// run; where they tell starts, it is run from those alone.
+#[derive(Drop)]
+pub struct FoundTexts<'c, 'a, S: StrDrive, A: Allocator + Copy> {
+    walk: SpanIter<'c, 'a, S, A>,
+    // where what is asked next starts
+    cursor: StringCursor,
+    ghost here: { ∥ (stands_in (request_of walk) cursor (start_of (request_of walk))) ∥₁ },
+}
+
+impl<'c, 'a, S: Text + Haystack, A: Allocator + Copy> FoundTexts<'c, 'a, S, A> {
+    ghost use Rattle.sre_recipes.specs.FoundTexts.{walk_of, NextText};
+
+    /// The walk over the texts that a finder's code matches in a request's window. The state serves the steps of which
+    /// the automata tell no span.
+    ///
+    /// ```
+    /// // The words of `a`.
+    /// let code = Code::check(alloc, &[16, 97, 1], &uni)?;
+    /// let finder = SpanFinder::new(alloc, code, Encoding::Utf8);
+    /// let mut texts = FoundTexts::new(finder, Request::whole("éab", code), State::new(alloc));
+    /// assert!(matches!(texts.next(), Some(Ok("a"))) && texts.next().is_none());
+    /// ```
+    pub fn new(
+        finder: SpanFinder<'c>,
+        req: Request<'a, S>,
+        state: State<A>,
+    ) -> FoundTexts<'c, 'a, S, A>
+        requires { finder.code ≡ code_of req }
+        ensures req { request_of (walk_of result) ≡ req.entry }
+        ensures open { has_ended (walk_of result) ≡ false }
+    {
+        let cursor = req.string().create_cursor(req.start());
+        FoundTexts {
+            walk: finder.walk(req, state),
+            cursor,
+        }
+    }
+
+    // The next item.
+    fn next_text(&mut self) -> Option<Result<S, SreError>>
+        ensures gives { NextText self.old result self.new }
+        ensures falls { IfSome result (λ _. most_spans (walk_of self.new) < most_spans (walk_of self.old)) }
+    {
+        match self.walk.next() {
+            None => None,
+            Some(Err(error)) => Some(Err(error)),
+            Some(Ok(span)) => {
+                let text = self.walk.req().string();
+                let start = on_by(text, &self.cursor, span.start - self.cursor.position());
+                self.cursor = on_by(text, &start, span.end - span.start);
+                Some(Ok(text.between(&start, &self.cursor)))
+            }
+        }
+    }
+}
+
+impl<'c, 'a, S: StrDrive, A: Allocator + Copy> FoundTexts<'c, 'a, S, A> {
+    ghost use Rattle.sre_recipes.specs.FoundTexts.{walk_of};
+
+    /// What is asked next: the texts still to come are those of its matches, until the walk has ended.
+    pub fn req(&self) -> &Request<'a, S>
+        ensures { result.now ≡ request_of (walk_of self.now) }
+    {
+        self.walk.req()
+    }
+
+    /// The finder, for another text.
+    pub fn into_finder(self) -> SpanFinder<'c>
+        ensures { result.code ≡ code_of (request_of (walk_of self.entry)) }
+    {
+        self.walk.into_finder()
+    }
+}
+
+impl<'c, 'a, S: Text + Haystack, A: Allocator + Copy> Iterator for FoundTexts<'c, 'a, S, A> {
+    ghost use Rattle.std.specs.Iterator.{at_most};
+    ghost use Rattle.sre_finder.specs.SpanIters.{most_spans};
+    ghost use Rattle.sre_recipes.specs.FoundTexts.{walk_of, NextText};
+
+    type Item = Result<S, SreError>;
+
+    ghost next_gives = { NextText };
+
+    ghost remaining = { λ it. at_most (most_spans (walk_of it)) };
+
+    fn next(&mut self) -> Option<Result<S, SreError>> {
+        self.next_text()
+    }
+}
