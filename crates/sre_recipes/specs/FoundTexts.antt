@@ -16,8 +16,8 @@ abbrev pub walk_of : {S A : Type 0} {text : Ghosts S} → FoundTexts S A text �
 walk_of it = it.walk
 
 -- the text of the first of the matches that were left, and the walk goes on at its end
-pub record GivesText {S A : Type 0} {text : Ghosts S} (it : FoundTexts S A text) (found : S) (next : FoundTexts S A text)
-    : Type 0 where
+pub record GivesText {S A : Type 0} {text : Ghosts S} (it : FoundTexts S A text) (found : S)
+    (next : FoundTexts S A text) : Type 0 where
   pub span : Span
   pub gives : GivesSpan (walk_of it) span (walk_of next)
   pub text_is : text.text found ≡ slice_range (text.text (string_of (request_of (walk_of it)))) span.start span.end
