@@ -15,7 +15,6 @@ use Rattle.regex_nfa.proofs.SearchLemmas.{run_unanchored, find_in_paths}
 use Rattle.regex_nfa.proofs.StopLemmas.{Accepts_stop, Accepts_wider}
 use Rattle.regex_compile.specs.Implements.{Implements, HasPaths}
 use Rattle.regex_dfa.specs.Search.{end_from, IsLeast}
-use Rattle.regex_dfa.specs.declared.reverse.Start.{Start}
 use Rattle.regex_dfa.specs.declared.reverse.Start.TheVariants as start
 use Rattle.sre_automata.specs.Told.{NoneLeft, NoneUpTo, IsBetween}
 

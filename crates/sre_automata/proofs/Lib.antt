@@ -1,1 +1,2 @@
 pub mod Leftmost
+pub mod Needles

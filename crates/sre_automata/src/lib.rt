@@ -17,6 +17,12 @@ use regex_hir::Hir;
 use std::alloc::Global;
 use std::marker::Model;
 
+mod needle;
+mod seeker;
+
+pub use needle::Needle;
+pub use seeker::Seeker;
+
 /// From where on the next match of a pattern can begin, as far as its automata know.
 #[derive(Clone, Copy, PartialEq, Eq, Debug)]
 pub enum Told {

@@ -1,10 +1,9 @@
--- What automata that cover a code tell of its matches.
+-- What a pattern that covers a code tells of its matches.
 use Rattle.std.proofs.Common.{◌≡◌, ◌≤◌, ◌<◌, ◌+◌, ℕ, List, [], length, Option, Some, None, refl, ap, sym, subst, arith}
-use Rattle.std.specs.Option.{IfSome}
 use Rattle.regex_hir.specs.Re.{Re}
 use Rattle.regex_hir.specs.Matches.{Matches}
-use Rattle.regex_nfa.specs.declared.nfa.Nfa.{Nfa}
-use Rattle.regex_compile.specs.Implements.{HasPaths}
+use Rattle.regex_hir.specs.Meaning.{meaning}
+use Rattle.regex_hir.specs.declared.hir.Hir.{Hir}
 use Rattle.sre_chars.specs.declared.string.StringCursor.{StringCursor}
 use Rattle.sre_model.specs.Tree.{Tree}
 use Rattle.sre_model.specs.Grammar.{WholeItems}
@@ -19,14 +18,7 @@ use Rattle.sre_patterns.specs.declared.encoding.Encoding.{Encoding}
 use Rattle.sre_automata.specs.Told.{NoneLeft, NoneUpTo}
 use Rattle.sre_engine.specs.Starts.{NoneBetween}
 use Rattle.sre_finder.specs.Views.{SeenAs}
-use Rattle.sre_finder.specs.Finders.{Covering, CoveringAny, EndStands}
-
--- automata of a pattern that covers each start of a code
-pub covered : (encoding : Encoding) (code : Code) (o : Option Nfa) (re : Re) → IfSome o (λ nfa. HasPaths nfa re)
-    → ((t : Tree) → WholeItems (items_of code) t → CoversStart (view_of encoding) (uni_of code) re t)
-    → CoveringAny encoding code o
-covered encoding code None re paths covers = tt
-covered encoding code (Some nfa) re paths covers = record { pattern = re; paths = paths; covers = covers }
+use Rattle.sre_finder.specs.Finders.{Covering, EndStands}
 
 module _ (encoding : Encoding) (a : Asked) (t : Tree) (re : Re) (place : ℕ → ℕ) (hay : List ℕ)
     (covers : CoversStart (view_of encoding) a.table re t) (seen : SeenAs encoding a.text place a.end hay) where
@@ -53,13 +45,20 @@ module _ (encoding : Encoding) (a : Asked) (t : Tree) (re : Re) (place : ℕ →
       let here : s ≤ a.end = omega (arith, to, inside) in
       none_at s here (λ j match. none.none (place s) j (seen.order p s from here) (passed s from to) match)
 
+-- what seeks a pattern that covers a code covers it
+pub covering : (encoding : Encoding) (code : Code) (hir pattern : Hir) → hir ≡ pattern
+    → ((t : Tree) → WholeItems (items_of code) t → CoversStart (view_of encoding) (uni_of code) (meaning pattern) t)
+    → Covering encoding code (meaning hir)
+covering encoding code hir pattern same covers =
+    subst (λ h. Covering encoding code (meaning h)) (sym same) (record { covers = covers })
+
 -- what covers a code covers it under another name
-pub covers_same : (encoding other : Encoding) (code own : Code) (nfa : Nfa) (c : Covering encoding code nfa)
+pub covers_same : (encoding other : Encoding) (code own : Code) (pattern : Re) → Covering encoding code pattern
     → encoding ≡ other → code ≡ own → (t : Tree) → WholeItems (items_of own) t
-    → CoversStart (view_of other) (uni_of own) c.pattern t
-covers_same encoding other code own nfa c e f t whole =
-    subst (λ k. CoversStart (view_of k) (uni_of own) c.pattern t) e
-    (subst (λ d. CoversStart (view_of encoding) (uni_of d) c.pattern t) f
+    → CoversStart (view_of other) (uni_of own) pattern t
+covers_same encoding other code own pattern c e f t whole =
+    subst (λ k. CoversStart (view_of k) (uni_of own) pattern t) e
+    (subst (λ d. CoversStart (view_of encoding) (uni_of d) pattern t) f
     (c.covers t (subst (λ d. WholeItems (items_of d) t) (sym f) whole)))
 
 -- a window's end stands in a text in one way

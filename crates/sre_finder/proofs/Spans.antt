@@ -1,15 +1,14 @@
 -- What automata that have the first matches of a code tell of its spans, and how a walk goes on behind a span.
 use Rattle.std.proofs.Common.{◌≡◌, ◌≤◌, ◌<◌, ℕ, zero, suc, List, [], ◌∷◌, Bool, true, false, not, ◌&&◌, ◌||◌, cond}
-use Rattle.std.proofs.Common.{nat_eq, Option, Some, None, refl, ap, ap₂, sym, ◌∙◌, subst, arith, inl, inr}
+use Rattle.std.proofs.Common.{nat_eq, Some, None, refl, ap, ap₂, sym, ◌∙◌, subst, arith, inl, inr}
 use Rattle.std.specs.List.{AllByRecursion}
-use Rattle.std.specs.Option.{IfSome}
 use Rattle.std.proofs.lemmas.Bool.{cases_lt}
 use Rattle.std.proofs.lemmas.Bool.Decides.{nat_tests}
 use Rattle.regex_hir.specs.Re.{Re}
 use Rattle.regex_hir.specs.Matches.{IsMinLen}
+use Rattle.regex_hir.specs.Meaning.{meaning}
+use Rattle.regex_hir.specs.declared.hir.Hir.{Hir}
 use Rattle.regex_hir.specs.Find as bytes
-use Rattle.regex_nfa.specs.declared.nfa.Nfa.{Nfa}
-use Rattle.regex_compile.specs.Implements.{Implements}
 use Rattle.sre_chars.specs.declared.string.StrDrive.{Ghosts}
 use Rattle.sre_model.specs.Tree.{Tree}
 use Rattle.sre_model.specs.Grammar.{Whole, WholeItems, IsCode}
@@ -36,20 +35,7 @@ use Rattle.sre_patterns.specs.Patterns.{view_of}
 use Rattle.sre_patterns.specs.declared.encoding.Encoding.{Encoding}
 use Rattle.sre_automata.specs.Told.{IsBetween}
 use Rattle.sre_finder.specs.Views.{SeenAs}
-use Rattle.sre_finder.specs.Spans.{match_with, Exactly, ExactlyAny, FindsSpan, FindsNone, GoesOnBehind}
-
--- automata of a pattern that tries a code's ways in their order
-pub exactly : (encoding : Encoding) (code : Code) (o : Option Nfa) (re : Re) → IfSome o (λ nfa. Implements nfa re)
-    → IsMinLen re 1
-    → ((t : Tree) → WholeItems (items_of code) t → ExactTree (view_of encoding) (uni_of code) re t)
-    → ExactlyAny encoding code o
-exactly encoding code None re implements reads exact = tt
-exactly encoding code (Some nfa) re implements reads exact = record {
-  pattern = re;
-  implements = implements;
-  reads = reads;
-  exact = exact;
-}
+use Rattle.sre_finder.specs.Spans.{match_with, Exactly, FindsSpan, FindsNone, GoesOnBehind}
 
 -- a pattern whose matches read so many bytes reads one, where these are some
 pub reads_one : (re : Re) (n : ℕ) → IsMinLen re n → (n ≡ 0 → ⊥) → IsMinLen re 1
@@ -57,11 +43,18 @@ unfolding IsMinLen
 reads_one re zero least some = absurd (some refl)
 reads_one re (suc n) least some = λ hay i j m. omega (arith, least hay i j m)
 
+-- what seeks a pattern that tries a code's ways in their order tries them
+pub exactly : (encoding : Encoding) (code : Code) (hir pattern : Hir) → hir ≡ pattern → IsMinLen (meaning pattern) 1
+    → ((t : Tree) → WholeItems (items_of code) t → ExactTree (view_of encoding) (uni_of code) (meaning pattern) t)
+    → Exactly encoding code (meaning hir)
+exactly encoding code hir pattern same reads exact =
+    subst (λ h. Exactly encoding code (meaning h)) (sym same) (record { reads = reads; exact = exact })
+
 -- it tries the ways of each tree of the code under another name
-pub exact_same : (encoding : Encoding) (code own : Code) (nfa : Nfa) (c : Exactly encoding code nfa) → code ≡ own
-    → (t : Tree) → WholeItems (items_of own) t → ExactTree (view_of encoding) (uni_of own) c.pattern t
-exact_same encoding code own nfa c e t whole =
-    subst (λ d. ExactTree (view_of encoding) (uni_of d) c.pattern t) e
+pub exact_same : (encoding : Encoding) (code own : Code) (pattern : Re) → Exactly encoding code pattern → code ≡ own
+    → (t : Tree) → WholeItems (items_of own) t → ExactTree (view_of encoding) (uni_of own) pattern t
+exact_same encoding code own pattern c e t whole =
+    subst (λ d. ExactTree (view_of encoding) (uni_of d) pattern t) e
     (c.exact t (subst (λ d. WholeItems (items_of d) t) (sym e) whole))
 
 -- positions of the window that stand at two bytes

@@ -2,8 +2,8 @@
 -- Words of this crate's contracts.
 use Rattle.std.specs.Prelude.{⊤, ℕ, Option, Some, None}
 use Rattle.regex_hir.specs.Re.{Re}
-use Rattle.regex_nfa.specs.declared.nfa.Nfa.{Nfa}
-use Rattle.regex_compile.specs.Implements.{HasPaths}
+use Rattle.regex_hir.specs.Meaning.{meaning}
+use Rattle.regex_hir.specs.declared.hir.Hir.{Hir}
 use Rattle.sre_chars.specs.declared.string.StringCursor.{StringCursor}
 use Rattle.sre_model.specs.Tree.{Tree}
 use Rattle.sre_model.specs.Grammar.{WholeItems}
@@ -13,16 +13,14 @@ use Rattle.sre_shape.specs.Covers.{CoversStart}
 use Rattle.sre_patterns.specs.Patterns.{view_of}
 use Rattle.sre_patterns.specs.declared.encoding.Encoding.{Encoding}
 
--- automata have a path for each match of some pattern, which covers each start of a code's tree
-pub record Covering (encoding : Encoding) (code : Code) (nfa : Nfa) : Type 0 where
-  pub pattern : Re
-  pub paths : HasPaths nfa pattern
+-- a pattern covers each start of a code's tree
+pub record Covering (encoding : Encoding) (code : Code) (pattern : Re) : Type 0 where
   pub covers : (t : Tree) → WholeItems (items_of code) t → CoversStart (view_of encoding) (uni_of code) pattern t
 
--- the same of automata that there may be
-abbrev pub CoveringAny : Encoding → Code → Option Nfa → Type 0
+-- the same of one that there may be
+abbrev pub CoveringAny : Encoding → Code → Option Hir → Type 0
 CoveringAny encoding code None = ⊤
-CoveringAny encoding code (Some nfa) = Covering encoding code nfa
+CoveringAny encoding code (Some hir) = Covering encoding code (meaning hir)
 
 -- the code, how the texts are seen as bytes, and the end of the window that was last asked about
 pub record FinderValue : Type 0 where

@@ -3,8 +3,8 @@
 use Rattle.std.specs.Prelude.{◌≡◌, ◌≤◌, ⊤, ℕ, nat_eq, Option, Some, None}
 use Rattle.regex_hir.specs.Re.{Re}
 use Rattle.regex_hir.specs.Matches.{IsMinLen}
-use Rattle.regex_nfa.specs.declared.nfa.Nfa.{Nfa}
-use Rattle.regex_compile.specs.Implements.{Implements}
+use Rattle.regex_hir.specs.Meaning.{meaning}
+use Rattle.regex_hir.specs.declared.hir.Hir.{Hir}
 use Rattle.sre_chars.specs.declared.string.StrDrive.{Ghosts}
 use Rattle.sre_chars.specs.declared.string.StringCursor.{StringCursor}
 use Rattle.sre_model.specs.Tree.{Tree}
@@ -22,18 +22,15 @@ use Rattle.sre_patterns.specs.declared.encoding.Encoding.{Encoding}
 use Rattle.sre_finder.specs.declared.span_finder.Known.{Known}
 use Rattle.sre_finder.specs.declared.span_finder.Known.TheVariants as known
 
--- automata have the first matches of some pattern, which reads a byte at least and tries the ways of a code's tree in
--- their order
-pub record Exactly (encoding : Encoding) (code : Code) (nfa : Nfa) : Type 0 where
-  pub pattern : Re
-  pub implements : Implements nfa pattern
+-- a pattern reads a byte at least and tries the ways of a code's tree in their order
+pub record Exactly (encoding : Encoding) (code : Code) (pattern : Re) : Type 0 where
   pub reads : IsMinLen pattern 1
   pub exact : (t : Tree) → WholeItems (items_of code) t → ExactTree (view_of encoding) (uni_of code) pattern t
 
--- the same of automata that there may be
-abbrev pub ExactlyAny : Encoding → Code → Option Nfa → Type 0
+-- the same of one that there may be
+abbrev pub ExactlyAny : Encoding → Code → Option Hir → Type 0
 ExactlyAny encoding code None = ⊤
-ExactlyAny encoding code (Some nfa) = Exactly encoding code nfa
+ExactlyAny encoding code (Some hir) = Exactly encoding code (meaning hir)
 
 abbrev pub match_with : ℕ → ℕ → Marks → Match
 match_with start end marks = record { start = start; end = end; marks = marks }

@@ -1,6 +1,9 @@
 //! A finder: what tells the searches of a code where the next match can begin.
+//!
+//! It seeks a pattern that covers the code's starts: first the bytes that each match contains, then, by automata, the
+//! next place at which a match can begin.
 
-ghost use Rattle.std.specs.Prelude.{◌≡◌, ◌≤◌, ◌+◌, map, IfOk, IfSome, OnErr, true, false, None};
+ghost use Rattle.std.specs.Prelude.{◌≡◌, ◌≤◌, ◌+◌, length, map, IfOk, IfSome, OnErr, true, false, None};
 ghost use Rattle.std.specs.Vec.{vec_len};
 ghost use Rattle.sre_growth.specs.Refusal.{Refused};
 ghost use Rattle.sre_model.specs.Tree.{Tree};
@@ -11,6 +14,8 @@ ghost use Rattle.sre_model.specs.Found.{found, walk};
 ghost use Rattle.sre_model.specs.WalkBounds.{most_matches, AreInOrder};
 ghost use Rattle.sre_code.specs.Codes.{words_of, hints_of};
 ghost use Rattle.sre_request.specs.Requests.{string_of, start_of, end_of, code_of, asked_of, stands_in};
+ghost use Rattle.regex_hir.specs.Meaning.{meaning};
+ghost use Rattle.sre_automata.specs.Told.{Tells};
 ghost use Rattle.sre_engine.specs.Answers.{Answers, AnswersAlike, Spans};
 ghost use Rattle.sre_engine.specs.Counts.{CountsUpTo, CountsOfWalk};
 ghost use Rattle.sre_engine.specs.Listed.{match_of};
@@ -20,7 +25,7 @@ ghost use Rattle.sre_finder.specs.Finders.{EndStands, CoveringAny};
 
 use crate::haystack::Haystack;
 use crate::pace::Pace;
-use sre_automata::{Automata, Told};
+use sre_automata::{Seeker, Told};
 use sre_chars::string::{StrDrive, StringCursor};
 use sre_code::Code;
 use sre_engine::engine::{Found, SreError, Starts, State, all_matches_by};
@@ -32,15 +37,17 @@ use std::marker::Model;
 /// How many bytes the tables of automata take at most.
 pub(crate) const SIZE_LIMIT: usize = 1 << 16;
 
-/// The automata of a code, where they are worth what they take.
+/// What seeks the starts of a code's matches, where that is worth what it takes.
 #[derive(Drop)]
 pub struct Finder<'c> {
     alloc: Global,
     code: Code<'c>,
     encoding: Encoding,
-    // whether automata were made, or found not to be worth it
-    is_made: bool,
-    automata: Option<Automata>,
+    // whether the code was read as a pattern
+    is_read: bool,
+    seeker: Option<Seeker>,
+    // whether there is nothing left that it can tell of this text
+    is_silent: bool,
     end: Option<StringCursor>,
     pace: Pace,
 }
@@ -52,7 +59,7 @@ impl<'c> Model for Finder<'c> {
 
     ghost view = { λ f. record { code = f.code; encoding = f.encoding; end = f.end } };
 
-    ghost invariant = { λ f. CoveringAny f.encoding f.code f.automata };
+    ghost invariant = { λ f. CoveringAny f.encoding f.code f.seeker };
 }
 
 impl<'c> Finder<'c> {
@@ -67,12 +74,17 @@ impl<'c> Finder<'c> {
         ensures encoding { result.encoding ≡ encoding }
         ensures end { result.end ≡ None }
     {
+        let mut seeker = seeker_of(alloc, code, encoding);
+        if let Some(seeker) = &mut seeker {
+            seeker.make();
+        }
         Finder {
             alloc,
             code,
             encoding,
-            is_made: true,
-            automata: automata_of(alloc, code, encoding),
+            is_read: true,
+            seeker,
+            is_silent: false,
             end: None,
             pace: Pace::new(),
         }
@@ -91,8 +103,9 @@ impl<'c> Finder<'c> {
             alloc,
             code,
             encoding,
-            is_made: false,
-            automata: None,
+            is_read: false,
+            seeker: None,
+            is_silent: false,
             end: None,
             pace,
         }
@@ -108,8 +121,9 @@ impl<'c> Finder<'c> {
             alloc,
             code,
             encoding,
-            is_made: true,
-            automata: None,
+            is_read: true,
+            seeker: None,
+            is_silent: true,
             end: None,
             pace: Pace::new(),
         }
@@ -117,7 +131,10 @@ impl<'c> Finder<'c> {
 
     /// Whether it has automata; of one that makes them on demand, whether it has by now.
     pub fn has_automata(&self) -> bool {
-        self.automata.is_some()
+        match &self.seeker {
+            Some(seeker) => seeker.has_automata(),
+            None => false,
+        }
     }
 
     /// Forgets the text of before.
@@ -128,11 +145,15 @@ impl<'c> Finder<'c> {
     {
         self.end = None;
         self.pace.begin_text();
+        self.is_silent = self.is_read && self.seeker.is_none();
+        if let Some(seeker) = &mut self.seeker {
+            seeker.reset();
+        }
     }
 }
 
-// The automata of a pattern that covers the starts of a code, where they are worth what they take.
-fn automata_of(alloc: Global, code: Code<'_>, encoding: Encoding) -> Option<Automata>
+// What seeks a pattern that covers the starts of a code, where it is worth what it takes.
+fn seeker_of(alloc: Global, code: Code<'_>, encoding: Encoding) -> Option<Seeker>
     ensures { CoveringAny encoding code.entry result }
 {
     if code.hints().prefix.is_some() {
@@ -144,7 +165,24 @@ fn automata_of(alloc: Global, code: Code<'_>, encoding: Encoding) -> Option<Auto
     if hir.min_len() == 0 {
         return None; // it may begin anywhere
     }
-    Automata::new(alloc, &hir, SIZE_LIMIT)
+    Some(Seeker::new(alloc, hir, SIZE_LIMIT))
+}
+
+// From where on the next match can begin: the bytes that each match contains are looked for first, and the automata are
+// asked where they may read.
+fn told_by(seeker: &mut Seeker, pace: &mut Pace, hay: &[u8], start: usize) -> Told
+    requires { start ≤ length hay.now }
+    ensures told { Tells hay.now (meaning seeker.old) start result }
+    ensures same { seeker.new ≡ seeker.old }
+{
+    if seeker.has_none_left(hay, start) {
+        return Told::Nothing;
+    }
+    if !pace.may_read(start, seeker.read()) {
+        return Told::From(start);
+    }
+    seeker.make();
+    seeker.next_from(hay, start)
 }
 
 impl<'c> Finder<'c> {
@@ -174,18 +212,18 @@ impl<'c> Finder<'c> {
         end
     }
 
-    // Makes the automata. It is called once: its frame is large, and cleared at each call.
+    // Reads the code as a pattern. It is called once: its frame is large, and cleared at each call.
     #[inline(never)]
-    fn make(&mut self)
+    fn read(&mut self)
         ensures code { self.new.code ≡ self.old.code }
         ensures encoding { self.new.encoding ≡ self.old.encoding }
         ensures end { self.new.end ≡ self.old.end }
     {
-        self.is_made = true;
-        self.automata = automata_of(self.alloc, self.code, self.encoding);
+        self.is_read = true;
+        self.seeker = seeker_of(self.alloc, self.code, self.encoding);
     }
 
-    // Asks the automata for the first start from a cursor on that may have a match.
+    // Asks for the first start from a cursor on that may have a match.
     #[inline(never)]
     fn ask<S: Haystack>(&mut self, req: &Request<'_, S>, from: StringCursor) -> Option<StringCursor>
         requires own { self.old.code ≡ code_of req.now }
@@ -198,22 +236,21 @@ impl<'c> Finder<'c> {
         ensures none { (t : Tree) → Whole (words_of (code_of req.now)) t
             → NoneUntil (asked_of req.now) t from.position result }
     {
-        if !self.is_made {
-            self.make();
+        if !self.is_read {
+            self.read();
         }
         let end = self.end_in(req, from);
         let text = req.string();
         let Some(hay) = text.hay(self.encoding, end) else {
             return Some(from);
         };
-        let Some(automata) = &mut self.automata else {
+        let Some(seeker) = &mut self.seeker else {
+            self.is_silent = true;
             return Some(from);
         };
-        let start = text.place_of(from);
-        if !self.pace.may_read(start, automata.read()) {
-            return Some(from);
-        }
-        match automata.next_from(hay, start) {
+        let told = told_by(seeker, &mut self.pace, hay, text.place_of(from));
+        self.is_silent = seeker.lacks_automata();
+        match told {
             Told::Nothing => None,
             Told::From(offset) => Some(text.cursor_up_to(from, offset, end)),
         }
@@ -225,7 +262,7 @@ impl<'c, S: Haystack> Starts<S> for Finder<'c> {
 
     #[inline(always)]
     fn beyond(&mut self, req: &Request<'_, S>, from: StringCursor) -> Option<StringCursor> {
-        if (self.is_made && self.automata.is_none()) || !self.pace.asks() {
+        if self.is_silent || !self.pace.asks() {
             return Some(from);
         }
         self.ask(req, from)

@@ -6,7 +6,8 @@
 //! left alone while they have read much more of it than was passed: a search then takes a time that grows with the
 //! text's length, where the machine's does.
 //!
-//! Those of a finder on demand are made only where some runs were in vain.
+//! Those of a finder on demand are made only where some runs were in vain. Before that, behind fewer, it is asked once
+//! whether the bytes come that each match contains.
 
 /// How many starts may be told in vain, less those that had a match.
 const VAIN: u32 = 8;
@@ -22,8 +23,10 @@ const MORE: usize = 8192;
 /// For how many questions they are left alone at first, and where they have read too much.
 const PAUSE: u32 = 64;
 
-/// How many runs in vain are awaited before they are made.
+/// How many runs in vain are awaited before they are made, and how many before it is asked whether any match is left.
 const WAITS: u32 = 8;
+
+const LOOKS: u32 = 2;
 
 /// How far steps whose first start was in vain may outweigh the others: each counts twice.
 const FAILING: u32 = 4;
@@ -101,7 +104,7 @@ impl Pace {
             return false;
         }
         if self.waits > 0 {
-            return false;
+            return self.waits == WAITS - LOOKS;
         }
         self.note_last();
         let is_first = !self.has_failed;
@@ -121,6 +124,9 @@ impl Pace {
     /// Whether the automata may be asked for a start at a place, where they have read so much; else they are left alone
     /// for a while.
     pub(crate) fn may_read(&mut self, place: usize, read: usize) -> bool {
+        if self.waits > 0 {
+            return false;
+        }
         let (origin, before) = match self.begun {
             Some(begun) => begun,
             None => (place, read),

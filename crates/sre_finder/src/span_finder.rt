@@ -9,7 +9,7 @@ ghost use Rattle.sre_finder.specs.Spans.{ExactlyAny, Knows, Between, StepsFrom, 
 
 use crate::finder::{Finder, SIZE_LIMIT};
 use crate::haystack::Haystack;
-use sre_automata::{Automata, FirstMatch};
+use sre_automata::{FirstMatch, Seeker};
 use sre_chars::string::{StrDrive, StringCursor};
 use sre_code::Code;
 use sre_engine::engine::{SreError, State, step_by};
@@ -34,7 +34,7 @@ pub struct SpanFinder<'c> {
     code: Code<'c>,
     encoding: Encoding,
     finder: Finder<'c>,
-    exact: Option<Automata>,
+    exact: Option<Seeker>,
 }
 
 impl<'c> Model for SpanFinder<'c> {
@@ -88,11 +88,14 @@ impl<'c> SpanFinder<'c> {
         ensures end { self.new.end ≡ None }
     {
         self.finder.reset();
+        if let Some(exact) = &mut self.exact {
+            exact.reset();
+        }
     }
 }
 
-// The automata of a pattern that tries the ways of a code in their order, where they are worth what they take.
-fn exact_of(alloc: Global, code: Code<'_>, encoding: Encoding) -> Option<Automata>
+// What seeks a pattern that tries the ways of a code in their order, where it is worth what it takes.
+fn exact_of(alloc: Global, code: Code<'_>, encoding: Encoding) -> Option<Seeker>
     ensures { ExactlyAny encoding code.entry result }
 {
     if code.hints().prefix.is_some() {
@@ -104,7 +107,12 @@ fn exact_of(alloc: Global, code: Code<'_>, encoding: Encoding) -> Option<Automat
     if hir.min_len() == 0 {
         return None; // an empty match may be barred, and automata do not know that
     }
-    Automata::new(alloc, &hir, SIZE_LIMIT)
+    let mut exact = Seeker::new(alloc, hir, SIZE_LIMIT);
+    exact.make();
+    if !exact.has_automata() {
+        return None;
+    }
+    Some(exact)
 }
 
 impl<'c> SpanFinder<'c> {

@@ -1,4 +1,5 @@
 use Rattle.std.proofs.Common.{◌≡◌, refl, ap, subst, arith, rules}
+use Rattle.regex_hir.specs.Meaning.{meaning}
 use Rattle.sre_code.proofs.Checked.{items_whole}
 use Rattle.sre_request.specs.Requests.{code_of, asked_of}
 use Rattle.sre_automata.specs.Told.{Tells, NoneLeft, NoneUpTo}
@@ -15,27 +16,25 @@ returns-clause-none g c = λ t whole.
     let text = c.string-text.result in
     let hay = c.in-Some.hay.now in
     let place = g.S.Haystack.place text in
-    let own : Covering c.self-2.inside.encoding c.self-2.inside.code c.in-Some-automata.automata =
-    rw c.in-Some-automata.is at c.self-2.invariant in
+    let pattern = meaning c.in-Some-seeker.seeker in
+    let own : Covering c.self-2.inside.encoding c.self-2.inside.code pattern =
+    rw c.in-Some-seeker.is at c.self-2.invariant in
     let code : c.self-2.inside.code ≡ code_of asked = search rules in
-    let covers = covers_same _ _ _ _ c.in-Some-automata.automata own refl code t
-    (items_whole asked.pattern_codes t whole) in
+    let covers = covers_same _ _ _ _ pattern own refl code t (items_whole asked.pattern_codes t whole) in
     let seen = subst (λ n. SeenAs (c.self-2.inside.encoding) a.text place n hay) c.end_in-end.ensures.end
     (subst (λ l. SeenAs (c.self-2.inside.encoding) l place c.end_in-end.result.position hay)
     (ap g.S.StrDrive.text c.string-text.ensures) c.in-Some.ensures) in
-    let told = subst (λ n. Tells hay own.pattern n c.next_from.result) c.place_of-start.ensures
-    (c.next_from.ensures.told own.pattern own.paths) in
-    elim c.match-next_from.branch [
+    let told = subst (λ n. Tells hay pattern n c.told_by-told.result) c.place_of.ensures c.told_by-told.ensures.told in
+    elim c.match-told.branch [
       | in-Nothing w ↦
-          let none : NoneLeft hay own.pattern (place c.args.from.position) = rw w.in-Nothing.is at told in
+          let none : NoneLeft hay pattern (place c.args.from.position) = rw w.in-Nothing.is at told in
           rw w.result-is
-          (no_start_left (c.self-2.inside.encoding) a t own.pattern place hay covers seen c.args.from.position none)
+          (no_start_left (c.self-2.inside.encoding) a t pattern place hay covers seen c.args.from.position none)
       | in-From w ↦
-          let none : NoneUpTo hay own.pattern (place c.args.from.position) w.in-From.offset =
-          rw w.in-From.is at told in
+          let none : NoneUpTo hay pattern (place c.args.from.position) w.in-From.offset = rw w.in-From.is at told in
           let next = w.cursor_up_to.ensures in
           rw w.result-is
-          (no_start_below (c.self-2.inside.encoding) a t own.pattern place hay covers seen c.args.from.position
+          (no_start_below (c.self-2.inside.encoding) a t pattern place hay covers seen c.args.from.position
           w.cursor_up_to.result.position w.in-From.offset none
           (omega (arith, next.inside, c.end_in-end.ensures.end)) next.passed)
     ]

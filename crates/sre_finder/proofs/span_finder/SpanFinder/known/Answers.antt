@@ -1,4 +1,5 @@
 use Rattle.std.proofs.Common.{◌≡◌, ◌≤◌, false, ap, subst, ◌∙◌, arith, rules}
+use Rattle.regex_hir.specs.Meaning.{meaning}
 use Rattle.sre_model.specs.Tree.{Tree}
 use Rattle.sre_model.specs.Grammar.{Whole}
 use Rattle.sre_model.proofs.TreeOf.{tree_of}
@@ -20,15 +21,11 @@ cursor_up_to-start-requires-clause-ordered g c =
 
 pub cursor_up_to-start-requires-clause-behind : goal.cursor_up_to-start-requires-clause-behind
 cursor_up_to-start-requires-clause-behind g c =
-    let own : Exactly c.self.inside.encoding c.self.inside.code c.in-Some-exact.exact =
-    rw c.in-Some-exact.is at c.self.invariant.1 in
-    omega (arith, (c.in-Between.ensures.finds own.pattern own.implements).after, c.place_of.ensures)
+    omega (arith, (c.in-Between.ensures.finds).after, c.place_of.ensures)
 
 pub cursor_up_to-start-requires-clause-within : goal.cursor_up_to-start-requires-clause-within
 cursor_up_to-start-requires-clause-within g c =
-    let own : Exactly c.self.inside.encoding c.self.inside.code c.in-Some-exact.exact =
-    rw c.in-Some-exact.is at c.self.invariant.1 in
-    let is = c.in-Between.ensures.finds own.pattern own.implements in
+    let is = c.in-Between.ensures.finds in
     omega (arith, is.forward, is.inside, c.in-Some.ensures.whole)
 
 pub cursor_up_to-requires-clause-behind : goal.cursor_up_to-requires-clause-behind
@@ -39,7 +36,8 @@ cursor_up_to-requires-clause-behind g c =
     let hay = c.in-Some.hay.now in
     let place = g.S.Haystack.place text in
     let encoding = c.self.inside.encoding in
-    let own : Exactly encoding c.self.inside.code c.in-Some-exact.exact = rw c.in-Some-exact.is at c.self.invariant.1 in
+    let pattern = meaning c.in-Some-exact.exact in
+    let own : Exactly encoding c.self.inside.code pattern = rw c.in-Some-exact.is at c.self.invariant.1 in
     let seen = subst (λ n. SeenAs encoding a.text place n hay) c.end_in-end.ensures.end
     (subst (λ l. SeenAs encoding l place c.end_in-end.result.position hay)
     (ap g.S.StrDrive.text c.string-text.ensures) c.in-Some.ensures) in
@@ -47,12 +45,12 @@ cursor_up_to-requires-clause-behind g c =
     let code : c.self.inside.code ≡ code_of asked = search rules in
     let all : a.match_all ≡ false = search rules in
     let start : c.place_of.result ≡ place a.start = c.place_of.ensures ∙ ap place here in
-    let is = subst (λ n. IsBetween hay own.pattern n c.in-Between.first c.in-Between.last) start
-    (c.in-Between.ensures.finds own.pattern own.implements) in
+    let is = subst (λ n. IsBetween hay pattern n c.in-Between.first c.in-Between.last) start
+    (c.in-Between.ensures.finds) in
     let tree = tree_of (items_of (code_of asked)) in
-    let x = exact_same encoding c.self.inside.code (code_of asked) c.in-Some-exact.exact own code tree
+    let x = exact_same encoding c.self.inside.code (code_of asked) pattern own code tree
     (whole_of asked.pattern_codes) in
-    let at = span_places encoding a own.pattern place hay own.reads all asked.in_window.0.0 seen tree x
+    let at = span_places encoding a pattern place hay own.reads all asked.in_window.0.0 seen tree x
     c.in-Between.first c.in-Between.last is in
     let there =
     c.cursor_up_to-start.ensures.there at.start (omega (arith, here, at.from))
@@ -61,9 +59,7 @@ cursor_up_to-requires-clause-behind g c =
 
 pub cursor_up_to-requires-clause-within : goal.cursor_up_to-requires-clause-within
 cursor_up_to-requires-clause-within g c =
-    let own : Exactly c.self.inside.encoding c.self.inside.code c.in-Some-exact.exact =
-    rw c.in-Some-exact.is at c.self.invariant.1 in
-    let is = c.in-Between.ensures.finds own.pattern own.implements in
+    let is = c.in-Between.ensures.finds in
     omega (arith, is.inside, c.in-Some.ensures.whole)
 
 pub returns-clause-knows : goal.returns-clause-knows
@@ -74,7 +70,8 @@ returns-clause-knows g c =
     let hay = c.in-Some.hay.now in
     let place = g.S.Haystack.place text in
     let encoding = c.self.inside.encoding in
-    let own : Exactly encoding c.self.inside.code c.in-Some-exact.exact = rw c.in-Some-exact.is at c.self.invariant.1 in
+    let pattern = meaning c.in-Some-exact.exact in
+    let own : Exactly encoding c.self.inside.code pattern = rw c.in-Some-exact.is at c.self.invariant.1 in
     let seen = subst (λ n. SeenAs encoding a.text place n hay) c.end_in-end.ensures.end
     (subst (λ l. SeenAs encoding l place c.end_in-end.result.position hay)
     (ap g.S.StrDrive.text c.string-text.ensures) c.in-Some.ensures) in
@@ -82,28 +79,28 @@ returns-clause-knows g c =
     let code : c.self.inside.code ≡ code_of asked = search rules in
     let all : a.match_all ≡ false = search rules in
     let start : c.place_of.result ≡ place a.start = c.place_of.ensures ∙ ap place here in
-    let told = subst (λ n. FindsFirst hay own.pattern n c.first_match.result) start
-    (c.first_match.ensures.finds own.pattern own.implements) in
+    let told = subst (λ n. FindsFirst hay pattern n c.first_match.result) start
+    (c.first_match.ensures.finds) in
     let window : a.start ≤ a.end = asked.in_window.0.0 in
     let tries = λ (t : Tree) (whole : Whole (words_of (code_of asked)) t).
-    exact_same encoding c.self.inside.code (code_of asked) c.in-Some-exact.exact own code t
+    exact_same encoding c.self.inside.code (code_of asked) pattern own code t
     (items_whole asked.pattern_codes t whole) in
     elim c.match-first_match.branch [
       | in-Nothing w ↦
           rw w.result-is
           (record {
             none = λ t whole.
-                nothing_found encoding a own.pattern place hay own.reads all window seen t (tries t whole)
+                nothing_found encoding a pattern place hay own.reads all window seen t (tries t whole)
                 (rw w.in-Nothing.is at told);
           })
       | in-Between w ↦
-          let is : IsBetween hay own.pattern (place a.start) w.in-Between.first w.in-Between.last =
+          let is : IsBetween hay pattern (place a.start) w.in-Between.first w.in-Between.last =
           rw w.in-Between.is at told in
           let tree = tree_of (items_of (code_of asked)) in
-          let x = exact_same encoding c.self.inside.code (code_of asked) c.in-Some-exact.exact own code tree
+          let x = exact_same encoding c.self.inside.code (code_of asked) pattern own code tree
           (whole_of asked.pattern_codes) in
           let at =
-          span_places encoding a own.pattern place hay own.reads all window seen tree x w.in-Between.first
+          span_places encoding a pattern place hay own.reads all window seen tree x w.in-Between.first
           w.in-Between.last is in
           let first = w.cursor_up_to-start.result in
           let last = w.cursor_up_to.result in
@@ -113,7 +110,7 @@ returns-clause-knows g c =
           let first_there = starts.there at.start (omega (arith, here, at.from))
           (omega (arith, at.forward, at.inside, ends)) at.starts in
           let first_is =
-          once encoding a own.pattern place hay own.reads all window seen first.position at.start
+          once encoding a pattern place hay own.reads all window seen first.position at.start
           (omega (arith, starts.inside, ends)) (omega (arith, at.forward, at.inside))
           (omega (arith, first_there, at.starts)) in
           let last_there = stops.there at.end (omega (arith, first_is, at.forward))
@@ -127,7 +124,7 @@ returns-clause-knows g c =
             inside = omega (arith, stops.inside, ends);
             finds = record {
               some = λ t whole.
-                  span_between encoding a own.pattern place hay own.reads all window seen t (tries t whole)
+                  span_between encoding a pattern place hay own.reads all window seen t (tries t whole)
                   is.match is.found first.position last.position (omega (arith, starts.inside, ends))
                   (omega (arith, stops.inside, ends)) (omega (arith, first_there, is.begins))
                   (omega (arith, last_there, is.ends));
