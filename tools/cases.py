@@ -17,7 +17,8 @@ lines or answers is TEXT N times.
                     of the two outputs
 
 Each text of a .jsonl file has a character for a byte. Beside the files come lines that are made: random and changed
-words (`hostile.py`), and large ones (`large.py`). The lines of `sre_cases` are asked of finders, too (`finders.py`).
+words (`hostile.py`), and large ones (`large.py`). The lines of `sre_cases` are asked of finders, too (`finders.py`), and
+each request of a finder is refused in turn (`refused.py`).
 """
 import json
 import os
@@ -30,6 +31,7 @@ import tempfile
 import finders
 import hostile
 import large
+import refused
 
 ROOT = os.path.dirname(os.path.dirname(os.path.realpath(__file__)))
 BEFORE, BEHIND = b"# all lines count\n\ncheck -\n", b"\ncheck -\n"
@@ -186,6 +188,9 @@ class Cases:
         whole = [f"{ROOT}/{it}" for it in ("crates/sre_cases/cases", "examples")]
         lines = [it.decode() for folder in whole for it in lines_of(folder)]
         self.made("sre_probes", "cases by finders", lambda it: finders.agree(it, lines, self.tell))
+        # the one that is linked to the C library, before which the requests are counted
+        program = programs_of("sre_cases")[0]
+        self.count(refused.are_plain(program, self.tell), "requests refused to finders", program)
         self.made("sre_cases", "large lines", lambda it: large.are_answered(it, large.cases, self.tell))
         self.made("sre_probes", "large lines", lambda it: large.are_answered(it, large.probes, self.tell))
 
