@@ -5,14 +5,14 @@ ghost use Rattle.sre_engine.specs.Tree.{Tree};
 ghost use Rattle.sre_engine.specs.Grammar.{Whole};
 ghost use Rattle.sre_engine.specs.Found.{walk};
 ghost use Rattle.sre_engine.specs.Codes.{words_of};
-ghost use Rattle.sre_engine.specs.Requests.{asked_of, code_of};
+ghost use Rattle.sre_engine.specs.Requests.{asked_of, code_of, string_of};
 ghost use Rattle.sre_finder.specs.SpanIters.{request_of, left_of};
 ghost use Rattle.sre_lines.specs.Cases.{gap_text, walk_text};
 
 use crate::answer::push_span;
-use sre_engine::engine::SreError;
+use sre_engine::engine::{Nobody, Starts};
 use sre_engine::{Request, SearchIter, State, StrDrive};
-use sre_finder::{Encoding, Haystack, SpanFinder, SpanIter};
+use sre_finder::{Encoding, Finder, Haystack, SpanFinder, SpanIter};
 use std::alloc::{AllocError, Allocator, Global};
 
 /// Appends the spans of all matches as they come, divided by spaces, or `none`. No match is kept. Where `reading` says
@@ -28,23 +28,25 @@ pub fn push_matches<S: Haystack, A: Allocator + Copy>(
         (string_bytes answer.new ≡ string_bytes answer.old ++ walk_text (walk (asked_of request.entry) t)) }
 {
     match reading {
-        None => push_walk(heap, request, answer),
-        Some(encoding) => push_spans(alloc, heap, request, encoding, answer),
+        None => push_walk(heap, request, &mut Nobody, answer),
+        Some(encoding) => push_told(alloc, heap, request, encoding, answer),
     }
 }
 
-// Appends them by the machine alone.
-fn push_walk<S: StrDrive, A: Allocator + Copy>(
+// Appends them by the machine, which asks someone which starts have no match.
+fn push_walk<S: StrDrive, A: Allocator + Copy, F: Starts<S>>(
     heap: A,
     request: Request<'_, S>,
+    starts: &mut F,
     answer: &mut String<A>,
 ) -> Result<(), AllocError>
+    requires { F.suits starts.old (string_of request) (code_of request) }
     ensures { (t : Tree) → Whole (words_of (code_of request.entry)) t → OnOk result
         (string_bytes answer.new ≡ string_bytes answer.old ++ walk_text (walk (asked_of request.entry) t)) }
 {
     let mut matches = SearchIter::new(request, State::new(heap));
     let mut first = true;
-    'matches: while let Some(found) = matches.next() {
+    'matches: while let Some(found) = matches.next_by(starts) {
         let Ok(()) = found else {
             return Err(AllocError);
         };
@@ -59,9 +61,8 @@ fn push_walk<S: StrDrive, A: Allocator + Copy>(
     Ok(())
 }
 
-// Appends them by a finder, whose automata tell spans, or where the next match can begin. Where they tell nothing, or
-// memory for them is refused, the machine tells all.
-fn push_spans<S: Haystack, A: Allocator + Copy>(
+// Appends them where automata are asked. Where they tell nothing, or memory for them is refused, the machine tells all.
+fn push_told<S: Haystack, A: Allocator + Copy>(
     alloc: Global,
     heap: A,
     request: Request<'_, S>,
@@ -72,6 +73,25 @@ fn push_spans<S: Haystack, A: Allocator + Copy>(
         (string_bytes answer.new ≡ string_bytes answer.old ++ walk_text (walk (asked_of request.entry) t)) }
 {
     let finder = SpanFinder::new(alloc, request.pattern_codes(), encoding);
+    if finder.tells_spans() {
+        return push_spans(heap, request, finder, answer);
+    }
+    drop(finder);
+    let mut starts = Finder::on_demand(alloc, request.pattern_codes(), encoding);
+    push_walk(heap, request, &mut starts, answer)
+}
+
+// Appends them by a finder of spans.
+fn push_spans<S: Haystack, A: Allocator + Copy>(
+    heap: A,
+    request: Request<'_, S>,
+    finder: SpanFinder<'_>,
+    answer: &mut String<A>,
+) -> Result<(), AllocError>
+    requires { finder.code ≡ code_of request }
+    ensures { (t : Tree) → Whole (words_of (code_of request.entry)) t → OnOk result
+        (string_bytes answer.new ≡ string_bytes answer.old ++ walk_text (walk (asked_of request.entry) t)) }
+{
     let mut matches = finder.walk(request, State::new(heap));
     push_left(&mut matches, answer)
 }
