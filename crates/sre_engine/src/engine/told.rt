@@ -25,7 +25,8 @@ pub trait Starts<S: StrDrive> {
     ghost suits: { Self → S → Code → Type 0 };
 
     /// A cursor in the window before which no start from one on has a match; none where no start from there on has
-    /// one. A search asks at its window's start, and behind each start that it tried in vain.
+    /// one. A search asks at its window's start, and behind each start that it tried in vain, but for the places of a
+    /// prefix that overlap the one before.
     fn beyond(&mut self, req: &Request<'_, S>, from: StringCursor) -> Option<StringCursor>
         requires suits { suits self.old (string_of req.now) (code_of req.now) }
         requires stands { Standing req.now from }
@@ -57,7 +58,8 @@ impl<S: StrDrive> Starts<S> for Nobody {
 }
 
 // Where the scan for a prefix goes on, but for starts of which is told that they have no match. Where words are matched,
-// the next start is before the scan's cursor, and nobody is asked of it: to go back there takes more than is gained.
+// the next start is before the scan's cursor, and nobody is asked: a `str` takes long to go back, whoever is asked then.
+// So the scan never goes back, and compares nothing again.
 #[inline(always)]
 #[tactic(auto, using(crate::proofs::Telling::stays, crate::proofs::Telling::none_passed))]
 fn spot_told<S: StrDrive, F: Starts<S>>(
