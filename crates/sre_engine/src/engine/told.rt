@@ -14,7 +14,7 @@ ghost use Rattle.sre_engine.specs.Starts.{Bars, TestsThere, NoneUntil, StartFrom
 
 use crate::engine::first_characters::First;
 use crate::engine::members::next_member;
-use crate::engine::next_start::next_start;
+use crate::engine::next_start::{looked_at, next_start};
 use crate::engine::prefix::{Prefix, Spot, find};
 use sre_chars::string::{StrDrive, StringCursor};
 use sre_request::Request;
@@ -25,8 +25,7 @@ pub trait Starts<S: StrDrive> {
     ghost suits: { Self → S → Code → Type 0 };
 
     /// A cursor in the window before which no start from one on has a match; none where no start from there on has
-    /// one. A search asks at its window's start, and behind each start that it tried in vain, but for the places of a
-    /// prefix that overlap the one before.
+    /// one. A search asks at its window's start, and behind each start that it tried in vain.
     fn beyond(&mut self, req: &Request<'_, S>, from: StringCursor) -> Option<StringCursor>
         requires suits { suits self.old (string_of req.now) (code_of req.now) }
         requires stands { Standing req.now from }
@@ -35,6 +34,11 @@ pub trait Starts<S: StrDrive> {
         ensures next { IfSome result (λ next. StartFrom (run_of req.now) from.position next) }
         ensures none { (t : Tree) → Whole (words_of (code_of req.now)) t
             → NoneUntil (asked_of req.now) t from.position result };
+
+    /// Whether it may tell of any start. Where it does not, a search need not find the start that it would ask about.
+    fn tells(&self) -> bool {
+        true
+    }
 
     /// Notes that the machine ran in vain at the start that was last found.
     fn note_failed(&mut self)
@@ -54,12 +58,17 @@ impl<S: StrDrive> Starts<S> for Nobody {
     }
 
     #[inline(always)]
+    fn tells(&self) -> bool {
+        false
+    }
+
+    #[inline(always)]
     fn note_failed(&mut self) {}
 }
 
-// Where the scan for a prefix goes on, but for starts of which is told that they have no match. Where words are matched,
-// the next start is before the scan's cursor, and nobody is asked: a `str` takes long to go back, whoever is asked then.
-// So the scan never goes back, and compares nothing again.
+// Where the scan for a prefix goes on, but for starts of which is told that they have no match. Where words are matched
+// the next start is before the scan's cursor. The scan never goes back: it goes to a start that is told from its cursor
+// on, or stays as it is. So nothing is compared again.
 #[inline(always)]
 #[tactic(auto, using(crate::proofs::Telling::stays, crate::proofs::Telling::none_passed))]
 fn spot_told<S: StrDrive, F: Starts<S>>(
@@ -69,6 +78,7 @@ fn spot_told<S: StrDrive, F: Starts<S>>(
 ) -> Option<Spot>
     requires stands { Standing req.now spot.cursor }
     requires inside { spot.cursor.position ≤ end_of req.now }
+    requires past { spot.matched ≤ spot.cursor.position }
     requires suits { F.suits starts.old (string_of req.now) (code_of req.now) }
     ensures suits { F.suits starts.new (string_of req.now) (code_of req.now) }
     ensures stands { IfSome result (λ next. Standing req.now next.cursor) }
@@ -79,10 +89,13 @@ fn spot_told<S: StrDrive, F: Starts<S>>(
     ensures none { result ≡ None → NoMatch (asked_of req.now) (code_of req.now)
         (spot.cursor.position - spot.matched) (end_of req.now + 1) }
 {
-    if spot.matched > 0 {
+    if !starts.tells() {
         return Some(spot);
     }
-    let cursor = starts.beyond(req, spot.cursor)?;
+    let cursor = starts.beyond(req, looked_at(req, spot.cursor, spot.matched))?;
+    if cursor.position() < spot.cursor.position() {
+        return Some(spot);
+    }
     Some(Spot { cursor, matched: 0 })
 }
 
