@@ -8,6 +8,7 @@ pub mod Steps
 pub mod Seeking
 pub mod PrefixWays
 pub mod Searching
+pub mod Telling
 pub mod Claiming
 pub mod FirstMembers
 pub mod AmongMembers

@@ -23,6 +23,7 @@ use Rattle.sre_code.specs.Codes.{words_of}
 use Rattle.sre_code.specs.declared.code.Code.{Code}
 use Rattle.sre_engine.specs.Prefixed.{IsPrefix}
 use Rattle.sre_engine.specs.Scans.{Stands, NoPlace}
+use Rattle.sre_engine.specs.Starts.{NoneBetween}
 use Rattle.sre_engine.proofs.Answering.{NoneBefore}
 use Rattle.sre_engine.proofs.PrefixWays.{spelled_none, spelled_far, spelled_ways, stand_fit, stand_parts}
 
@@ -72,10 +73,13 @@ module _ (a : Asked) (code : Code) (vs : List ℕ) (k : ℕ) (whole : Bool) (is 
       by_test false n =
           let none = (spelled_none (subject_of a) k t vs p (is.spelled t w) n).none no_marks in rw none refl
 
+  pub unplaced_between : (t : Tree) → Whole (words_of code) t → (p q : ℕ) → NoPlace a.text vs a.end p q
+      → NoneBetween a t p q
+  unplaced_between t w p q x s from to = unplaced_at t w s (λ stands. x.none s from to stands)
+
   pub none_unplaced : (t : Tree) → Whole (words_of code) t → (p q : ℕ) → NoneBefore a t p
       → NoPlace a.text vs a.end p q → NoneBefore a t q
-  none_unplaced t w p q before x =
-      none_on a t p q before (λ s from to. unplaced_at t w s (λ stands. x.none s from to stands))
+  none_unplaced t w p q before x = none_on a t p q before (unplaced_between t w p q x)
 
   module _ (s : ℕ) (stands : Stands a.text vs a.end s) where
     there : stands_at (subject_of a) vs s ≡ true

@@ -1,13 +1,20 @@
 -- A scan for the places where the words of a prefix stand.
 -- Words of the search's contracts; what sre_engine makes public does not rest on it.
-use Rattle.std.specs.Prelude.{ℕ, ◌+◌, ◌-◌, ◌*◌, ◌≡◌, ◌≢◌, ◌<◌, ◌≤◌, Bool, true, false, List, length, slice_index}
+use Rattle.std.specs.Prelude.{ℕ, ◌+◌, ◌-◌, ◌*◌, ◌≡◌, ◌≢◌, ◌<◌, ◌≤◌, ◌⊎◌, Bool, true, false, List, length}
+use Rattle.std.specs.Prelude.{slice_index}
 use Rattle.sre_chars.specs.declared.string.StrDrive.{Ghosts}
 use Rattle.sre_chars.specs.declared.string.StringCursor.{StringCursor}
+use Rattle.sre_model.specs.Tree.{Tree}
+use Rattle.sre_model.specs.Grammar.{Whole}
+use Rattle.sre_model.specs.Found.{Asked}
 use Rattle.sre_model.specs.Subject.{char_at}
 use Rattle.sre_model.specs.Runs.{Run}
+use Rattle.sre_code.specs.Codes.{words_of}
+use Rattle.sre_code.specs.declared.code.Code.{Code}
 use Rattle.sre_request.specs.declared.request.Request.{Request}
 use Rattle.sre_request.specs.Requests.{start_of, end_of}
 use Rattle.sre_request.specs.Runs.{run_of}
+use Rattle.sre_engine.specs.Starts.{NoneBetween}
 
 -- the first k of the first n words are their last k, and k is below n
 pub record Border (p : List ℕ) (n k : ℕ) : Type 0 where
@@ -68,6 +75,16 @@ pub record FirstSame (r : Run) (word : ℕ) (start : StringCursor) (found : Bool
   pub none : found ≡ false
       → (cursor.position ≡ r.subject.end)
       × ((q : ℕ) → start.position ≤ q → q < cursor.position → char_at r.subject q ≢ word)
+
+-- a scan at q behind i matched words goes on as it is, or from r on, where no word is matched
+pub record MovesOn (q i r j : ℕ) : Type 0 where
+  pub from : q ≤ r
+  pub fewer : (j ≡ 0) ⊎ ((j ≡ i) × (r ≡ q))
+
+-- no match of a code begins from p forward to q, which is left out
+pub record NoMatch (a : Asked) (code : Code) (p q : ℕ) : Type 0 where
+  pub forward : p ≤ q
+  pub none : (t : Tree) → Whole (words_of code) t → NoneBetween a t p q
 
 -- the scan of a request's window for words is at q, behind i matched ones, after c comparisons
 abbrev pub ScanIsAt : {S : Type 0} {text : Ghosts S} → Request S text → List ℕ → ℕ → ℕ → ℕ → Type 0

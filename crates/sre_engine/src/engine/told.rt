@@ -1,6 +1,6 @@
 //! Starts of which another tells that they have no match: a search passes them with no run.
 
-ghost use Rattle.std.specs.Prelude.{◌≡◌, ◌≤◌, IfSome, true, ⊤};
+ghost use Rattle.std.specs.Prelude.{◌≡◌, ◌≤◌, ◌+◌, ◌-◌, length, IfSome, None, true, false, ⊤};
 ghost use Rattle.sre_model.specs.Tree.{Tree};
 ghost use Rattle.sre_model.specs.Grammar.{Whole};
 ghost use Rattle.sre_code.specs.Codes.{words_of, hints_of};
@@ -8,11 +8,14 @@ ghost use Rattle.sre_code.specs.declared.code.Code.{Code};
 ghost use Rattle.sre_request.specs.Requests.{string_of, end_of, code_of, asked_of};
 ghost use Rattle.sre_request.specs.Runs.{run_of, Standing};
 ghost use Rattle.sre_engine.specs.Members.{IsMemberFrom};
+ghost use Rattle.sre_engine.specs.Prefixed.{IsPrefix};
+ghost use Rattle.sre_engine.specs.Scans.{ScanIsAt, MovesOn, NoMatch};
 ghost use Rattle.sre_engine.specs.Starts.{Bars, TestsThere, NoneUntil, StartFrom};
 
 use crate::engine::first_characters::First;
 use crate::engine::members::next_member;
-use crate::engine::next_start::next_start;
+use crate::engine::next_start::{looked_at, next_start};
+use crate::engine::prefix::{Prefix, Spot, find};
 use sre_chars::string::{StrDrive, StringCursor};
 use sre_request::Request;
 
@@ -32,6 +35,11 @@ pub trait Starts<S: StrDrive> {
         ensures none { (t : Tree) → Whole (words_of (code_of req.now)) t
             → NoneUntil (asked_of req.now) t from.position result };
 
+    /// Whether it may tell of any start. Where it does not, a search need not find the start that it would ask about.
+    fn tells(&self) -> bool {
+        true
+    }
+
     /// Notes that the machine ran in vain at the start that was last found.
     fn note_failed(&mut self)
         ensures { (string : S) (code : Code) → suits self.old string code → suits self.new string code };
@@ -50,7 +58,76 @@ impl<S: StrDrive> Starts<S> for Nobody {
     }
 
     #[inline(always)]
+    fn tells(&self) -> bool {
+        false
+    }
+
+    #[inline(always)]
     fn note_failed(&mut self) {}
+}
+
+// Where the scan for a prefix goes on, but for starts of which is told that they have no match. Where words are matched
+// the next start is before the scan's cursor. The scan never goes back: it goes to a start that is told from its cursor
+// on, or stays as it is. So nothing is compared again.
+#[inline(always)]
+#[tactic(auto, using(crate::proofs::Telling::stays, crate::proofs::Telling::none_passed))]
+fn spot_told<S: StrDrive, F: Starts<S>>(
+    req: &Request<'_, S>,
+    spot: Spot,
+    starts: &mut F,
+) -> Option<Spot>
+    requires stands { Standing req.now spot.cursor }
+    requires inside { spot.cursor.position ≤ end_of req.now }
+    requires past { spot.matched ≤ spot.cursor.position }
+    requires suits { F.suits starts.old (string_of req.now) (code_of req.now) }
+    ensures suits { F.suits starts.new (string_of req.now) (code_of req.now) }
+    ensures stands { IfSome result (λ next. Standing req.now next.cursor) }
+    ensures inside { IfSome result (λ next. next.cursor.position ≤ end_of req.now) }
+    ensures on { IfSome result (λ next. MovesOn spot.cursor.position spot.matched next.cursor.position next.matched) }
+    ensures next { IfSome result (λ next. NoMatch (asked_of req.now) (code_of req.now)
+        (spot.cursor.position - spot.matched) (next.cursor.position - next.matched)) }
+    ensures none { result ≡ None → NoMatch (asked_of req.now) (code_of req.now)
+        (spot.cursor.position - spot.matched) (end_of req.now + 1) }
+{
+    if !starts.tells() {
+        return Some(spot);
+    }
+    let cursor = starts.beyond(req, looked_at(req, spot.cursor, spot.matched))?;
+    if cursor.position() < spot.cursor.position() {
+        return Some(spot);
+    }
+    Some(Spot { cursor, matched: 0 })
+}
+
+/// Finds the next place where the prefix stands, but for starts of which is told that they have no match, and goes
+/// behind it.
+#[inline(always)]
+#[tactic(auto, using(crate::proofs::Telling::here_on))]
+pub(crate) fn find_told<S: StrDrive, F: Starts<S>>(
+    req: &Request<'_, S>,
+    prefix: &Prefix<'_>,
+    compared: &mut u64,
+    spot: &mut Spot,
+    starts: &mut F,
+) -> bool
+    requires is { IsPrefix (code_of req.now) prefix.now.words.now prefix.now.literals prefix.now.whole }
+    requires stands { Standing req.now spot.old.cursor }
+    requires here { ScanIsAt req.now prefix.now.words.now spot.old.cursor.position spot.old.matched compared.old }
+    requires suits { F.suits starts.old (string_of req.now) (code_of req.now) }
+    ensures suits { F.suits starts.new (string_of req.now) (code_of req.now) }
+    ensures stands { Standing req.now spot.new.cursor }
+    ensures here { ScanIsAt req.now prefix.now.words.now spot.new.cursor.position spot.new.matched compared.new }
+    ensures found { result ≡ true → (spot.new.matched ≡ length prefix.now.words.now)
+        × NoMatch (asked_of req.now) (code_of req.now)
+        (spot.old.cursor.position - spot.old.matched) (spot.new.cursor.position - spot.new.matched) }
+    ensures none { result ≡ false → NoMatch (asked_of req.now) (code_of req.now)
+        (spot.old.cursor.position - spot.old.matched) (end_of req.now + 1) }
+{
+    let Some(next) = spot_told(req, *spot, starts) else {
+        return false;
+    };
+    *spot = next;
+    find(req, prefix, compared, spot)
 }
 
 /// The first member of the confirmed first set from a cursor on, where there is one, but for starts of which is told

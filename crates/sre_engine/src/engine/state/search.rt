@@ -24,7 +24,7 @@ use crate::engine::prefix::{
     Prefix, Spot, behind_literals, confirmed_prefix, find, go_on, may_end, prefix_start,
 };
 use crate::engine::state::{State, attempt};
-use crate::engine::told::{Starts, next_member_told, next_start_told};
+use crate::engine::told::{Starts, find_told, next_member_told, next_start_told};
 use crate::engine::widths::{is_past, last_start};
 use sre_chars::string::{StrDrive, StringCursor};
 use sre_machine::turns::{Begun, Halt};
@@ -63,7 +63,7 @@ impl<A: Allocator + Copy> State<A> {
             if prefix.whole {
                 return Ok(self.search_whole(req, &prefix, from));
             }
-            return self.search_places(req, &prefix, from, limited, left);
+            return self.search_places(req, &prefix, from, limited, left, starts);
         }
         if req.pattern_codes().hints().first_set {
             return self.search_members(req, from, limited, left, starts);
@@ -108,17 +108,20 @@ impl<A: Allocator + Copy> State<A> {
     }
 
     // Searches the places where a prefix stands. At each that is found the machine runs behind the first literals.
-    fn search_places<S: StrDrive>(
+    fn search_places<S: StrDrive, F: Starts<S>>(
         &mut self,
         req: &Request<'_, S>,
         prefix: &Prefix<'_>,
         from: StringCursor,
         limited: bool,
         left: &mut u64,
+        starts: &mut F,
     ) -> Result<bool, Halt>
         requires stands { stands_in req.now from (start_of req.now) }
         requires is { IsPrefix (code_of req.now) prefix.now.words.now prefix.now.literals prefix.now.whole }
         requires more { prefix.now.whole ≡ false }
+        requires suits { F.suits starts.old (string_of req.now) (code_of req.now) }
+        ensures suits { F.suits starts.new (string_of req.now) (code_of req.now) }
         ensures ok { IfOk result (λ b. FindsFirst req.now b self.new) }
         ensures span { IfOk result (λ b. LiesInside req.now b self.new) }
         ensures no { IfOk result (λ b. b ≡ false → self.new.marks ≡ no_marks) }
@@ -140,7 +143,7 @@ impl<A: Allocator + Copy> State<A> {
             cursor: from,
             matched: 0,
         };
-        'place: while find(req, prefix, &mut self.compared, &mut spot) {
+        'place: while find_told(req, prefix, &mut self.compared, &mut spot, starts) {
             let start = prefix_start(prefix, spot);
             if is_past(last, start) {
                 return Ok(false);
@@ -159,6 +162,7 @@ impl<A: Allocator + Copy> State<A> {
                 (self.start, self.cursor) = (start, end);
                 return Ok(true);
             }
+            starts.note_failed();
             spot = go_on(req, prefix, &self.compared, spot);
         }
         Ok(false)

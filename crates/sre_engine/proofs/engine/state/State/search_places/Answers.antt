@@ -12,7 +12,8 @@ use Rattle.sre_engine.proofs.Answering.{NoneBefore}
 use Rattle.sre_engine.proofs.Steps.{complete}
 use Rattle.sre_engine.proofs.PrefixWays.{reads_behind}
 use Rattle.sre_engine.proofs.Hinting.{past_none}
-use Rattle.sre_engine.proofs.Searching.{none_further, none_in_window, none_unplaced, decided_behind, far_end}
+use Rattle.sre_engine.proofs.LeadingStarts.{none_joined, found_none_behind}
+use Rattle.sre_engine.proofs.Searching.{none_further, none_unplaced, decided_behind, far_end}
 use Rattle.sre_engine.proofs.MayStart.{ran_none, ran_later, ran_place, few_ran, counts_placed}
 use Rattle.sre_code.proofs.Checked.{code_tree, whole_items}
 use Rattle.sre_engine.proofs.Spending.{run_spent}
@@ -37,7 +38,7 @@ attempt-requires-clause-room g c =
     let is = c.requires.is in
     let some = c.args.prefix.now.confirmed.some in
     let inv = c.place.invariant in
-    let here = c.find.ensures.here in
+    let here = c.find_told.ensures.here in
     let few = few_ran a (code_of asked) _ _ inv.ran in
     omega (arith, few, inv.here.front.within, asked.in_window.1)
 
@@ -49,12 +50,12 @@ returns-then-is_past-clause-ok g c = λ t whole.
     let is = c.requires.is in
     let some = c.args.prefix.now.confirmed.some in
     let inv = c.place.invariant in
-    let here = c.find.ensures.here in
-    let there = c.find.ensures.found c.place-test.true in
-    let at : c.find.new.spot.cursor.position - c.find.new.spot.matched ≡ c.prefix_start-start.result =
+    let here = c.find_told.ensures.here in
+    let there = c.find_told.ensures.found c.place-test.true in
+    let at : c.find_told.new.spot.cursor.position - c.find_told.new.spot.matched ≡ c.prefix_start-start.result =
     omega (arith, there.0, c.prefix_start-start.ensures) in
     let before : NoneBefore a t c.prefix_start-start.result =
-    subst (NoneBefore a t) at (none_unplaced a (code_of asked) vs _ _ is some t whole _ _ (inv.none t whole) there.1) in
+    subst (NoneBefore a t) at (none_joined a t _ _ (inv.none t whole) (there.1.none t whole)) in
     answers_no (stands_in asked) _ _
     (past_none a (code_of asked) c.last_start-last.result t _ c.last_start-last.ensures whole
     (c.is_past.ensures.past c.if-is_past.true) before)
@@ -67,10 +68,9 @@ returns-clause-ok g c = λ t whole.
     let is = c.requires.is in
     let some = c.args.prefix.now.confirmed.some in
     let inv = c.place.invariant in
-    let here = c.find.ensures.here in
+    let here = c.find_told.ensures.here in
     answers_no (stands_in asked) _ _
-    (none_in_window a t (none_unplaced a (code_of asked) vs _ _ is some t whole _ _ (inv.none t whole)
-    (c.find.ensures.none c.place-test.false)))
+    (found_none_behind a t _ (inv.none t whole) ((c.find_told.ensures.none c.place-test.false).none t whole))
 
 pub returns-then-is_past-clause-counts : goal.returns-then-is_past-clause-counts
 returns-then-is_past-clause-counts g c =
@@ -80,7 +80,7 @@ returns-then-is_past-clause-counts g c =
     let is = c.requires.is in
     let some = c.args.prefix.now.confirmed.some in
     let inv = c.place.invariant in
-    let here = c.find.ensures.here in
+    let here = c.find_told.ensures.here in
     counts_placed a (code_of asked) vs _ _ _ (c.place.spot.cursor.position - c.place.spot.matched) _ _ is inv.ran
     (omega (arith, inv.here.front.within)) (omega (arith, here.cost, here.front.within, here.front.from))
 
@@ -92,7 +92,7 @@ returns-clause-counts g c =
     let is = c.requires.is in
     let some = c.args.prefix.now.confirmed.some in
     let inv = c.place.invariant in
-    let here = c.find.ensures.here in
+    let here = c.find_told.ensures.here in
     counts_placed a (code_of asked) vs _ _ _ (c.place.spot.cursor.position - c.place.spot.matched) _ _ is inv.ran
     (omega (arith, inv.here.front.within)) (omega (arith, here.cost, here.front.within, here.front.from))
 
@@ -104,9 +104,9 @@ returns-in_err-end-clause-counts g c =
     let is = c.requires.is in
     let some = c.args.prefix.now.confirmed.some in
     let inv = c.place.invariant in
-    let here = c.find.ensures.here in
-    let there = c.find.ensures.found c.place-test.true in
-    let at : c.find.new.spot.cursor.position - c.find.new.spot.matched ≡ c.prefix_start-start.result =
+    let here = c.find_told.ensures.here in
+    let there = c.find_told.ensures.found c.place-test.true in
+    let at : c.find_told.new.spot.cursor.position - c.find_told.new.spot.matched ≡ c.prefix_start-start.result =
     omega (arith, there.0, c.prefix_start-start.ensures) in
     let stands : Stands a.text vs a.end c.prefix_start-start.result =
     subst (λ p. Stands a.text vs a.end p) at (complete a.text vs a.start a.end _ _ _ here there.0) in
@@ -127,9 +127,9 @@ returns-in-Some-clause-counts g c =
     let is = c.requires.is in
     let some = c.args.prefix.now.confirmed.some in
     let inv = c.place.invariant in
-    let here = c.find.ensures.here in
-    let there = c.find.ensures.found c.place-test.true in
-    let at : c.find.new.spot.cursor.position - c.find.new.spot.matched ≡ c.prefix_start-start.result =
+    let here = c.find_told.ensures.here in
+    let there = c.find_told.ensures.found c.place-test.true in
+    let at : c.find_told.new.spot.cursor.position - c.find_told.new.spot.matched ≡ c.prefix_start-start.result =
     omega (arith, there.0, c.prefix_start-start.ensures) in
     let stands : Stands a.text vs a.end c.prefix_start-start.result =
     subst (λ p. Stands a.text vs a.end p) at (complete a.text vs a.start a.end _ _ _ here there.0) in
@@ -150,14 +150,14 @@ returns-in-Some-clause-ok g c = λ t whole.
     let is = c.requires.is in
     let some = c.args.prefix.now.confirmed.some in
     let inv = c.place.invariant in
-    let here = c.find.ensures.here in
-    let there = c.find.ensures.found c.place-test.true in
-    let at : c.find.new.spot.cursor.position - c.find.new.spot.matched ≡ c.prefix_start-start.result =
+    let here = c.find_told.ensures.here in
+    let there = c.find_told.ensures.found c.place-test.true in
+    let at : c.find_told.new.spot.cursor.position - c.find_told.new.spot.matched ≡ c.prefix_start-start.result =
     omega (arith, there.0, c.prefix_start-start.ensures) in
     let stands : Stands a.text vs a.end c.prefix_start-start.result =
     subst (λ p. Stands a.text vs a.end p) at (complete a.text vs a.start a.end _ _ _ here there.0) in
     let before : NoneBefore a t c.prefix_start-start.result =
-    subst (NoneBefore a t) at (none_unplaced a (code_of asked) vs _ _ is some t whole _ _ (inv.none t whole) there.1) in
+    subst (NoneBefore a t) at (none_joined a t _ _ (inv.none t whole) (there.1.none t whole)) in
     let from : a.start ≤ c.prefix_start-start.result = omega (arith, at, here.front.from, there.0) in
     let behind : c.behind_literals-behind.result.position ≡ c.prefix_start-start.result + c.args.prefix.now.literals =
     omega (arith, c.behind_literals-behind.ensures.position, c.prefix_start-start.ensures) in
@@ -178,9 +178,9 @@ returns-in-Some-clause-span g c = λ _.
     let is = c.requires.is in
     let some = c.args.prefix.now.confirmed.some in
     let inv = c.place.invariant in
-    let here = c.find.ensures.here in
-    let there = c.find.ensures.found c.place-test.true in
-    let at : c.find.new.spot.cursor.position - c.find.new.spot.matched ≡ c.prefix_start-start.result =
+    let here = c.find_told.ensures.here in
+    let there = c.find_told.ensures.found c.place-test.true in
+    let at : c.find_told.new.spot.cursor.position - c.find_told.new.spot.matched ≡ c.prefix_start-start.result =
     omega (arith, there.0, c.prefix_start-start.ensures) in
     let stands : Stands a.text vs a.end c.prefix_start-start.result =
     subst (λ p. Stands a.text vs a.end p) at (complete a.text vs a.start a.end _ _ _ here there.0) in
@@ -203,9 +203,9 @@ returns-in-Some-clause-up_to_match g c = λ _.
     let is = c.requires.is in
     let some = c.args.prefix.now.confirmed.some in
     let inv = c.place.invariant in
-    let here = c.find.ensures.here in
-    let there = c.find.ensures.found c.place-test.true in
-    let at : c.find.new.spot.cursor.position - c.find.new.spot.matched ≡ c.prefix_start-start.result =
+    let here = c.find_told.ensures.here in
+    let there = c.find_told.ensures.found c.place-test.true in
+    let at : c.find_told.new.spot.cursor.position - c.find_told.new.spot.matched ≡ c.prefix_start-start.result =
     omega (arith, there.0, c.prefix_start-start.ensures) in
     let stands : Stands a.text vs a.end c.prefix_start-start.result =
     subst (λ p. Stands a.text vs a.end p) at (complete a.text vs a.start a.end _ _ _ here there.0) in
@@ -236,9 +236,9 @@ place-preserved g c =
     let is = c.requires.is in
     let some = c.args.prefix.now.confirmed.some in
     let inv = c.place.invariant in
-    let here = c.find.ensures.here in
-    let there = c.find.ensures.found c.place-test.true in
-    let at : c.find.new.spot.cursor.position - c.find.new.spot.matched ≡ c.prefix_start-start.result =
+    let here = c.find_told.ensures.here in
+    let there = c.find_told.ensures.found c.place-test.true in
+    let at : c.find_told.new.spot.cursor.position - c.find_told.new.spot.matched ≡ c.prefix_start-start.result =
     omega (arith, there.0, c.prefix_start-start.ensures) in
     let stands : Stands a.text vs a.end c.prefix_start-start.result =
     subst (λ p. Stands a.text vs a.end p) at (complete a.text vs a.start a.end _ _ _ here there.0) in
@@ -255,14 +255,14 @@ place-preserved g c =
     (c.go_on-spot.result.cursor.position - c.go_on-spot.result.matched)) at on.passed in
     record {
       stands =
-          subst (λ (x : StringCursor). stands_in asked x x.position) (sym on.at) c.find.ensures.stands;
+          subst (λ (x : StringCursor). stands_in asked x x.position) (sym on.at) c.find_told.ensures.stands;
       here = on.here;
       fresh = search rules;
       remembers = search rules;
+      suits = search rules;
       none = λ t whole.
           let before : NoneBefore a t c.prefix_start-start.result =
-          subst (NoneBefore a t) at
-          (none_unplaced a (code_of asked) vs _ _ is some t whole _ _ (inv.none t whole) there.1) in
+          subst (NoneBefore a t) at (none_joined a t _ _ (inv.none t whole) (there.1.none t whole)) in
           let behind : c.behind_literals-behind.result.position
           ≡ c.prefix_start-start.result + c.args.prefix.now.literals =
           omega (arith, c.behind_literals-behind.ensures.position, c.prefix_start-start.ensures) in
@@ -294,9 +294,9 @@ returns-in_err-end-clause-given_up g c =
     let asked = c.args.req.now in
     let a = asked_of asked in
     let inv = c.place.invariant in
-    let here = c.find.ensures.here in
-    let there = c.find.ensures.found c.place-test.true in
-    let at : c.find.new.spot.cursor.position - c.find.new.spot.matched ≡ c.prefix_start-start.result =
+    let here = c.find_told.ensures.here in
+    let there = c.find_told.ensures.found c.place-test.true in
+    let at : c.find_told.new.spot.cursor.position - c.find_told.new.spot.matched ≡ c.prefix_start-start.result =
     omega (arith, there.0, c.prefix_start-start.ensures) in
     let from : a.start ≤ c.prefix_start-start.result = omega (arith, at, here.front.from, there.0) in
     let behind : a.start ≤ c.behind_literals-behind.result.position =
@@ -311,6 +311,7 @@ place-init g c = record {
   here = search rules;
   fresh = search rules;
   remembers = search rules;
+  suits = search rules;
   none = search rules;
   ran = ran_none (asked_of c.args.req.now) (code_of c.args.req.now) _ _ c.none.ensures.started;
   again = search rules;

@@ -5,7 +5,7 @@ use Rattle.sre_model.specs.Grammar.{Whole}
 use Rattle.sre_turns.specs.Board.{bare}
 use Rattle.sre_board.specs.Failures.{Remembers}
 use Rattle.sre_code.specs.Codes.{words_of}
-use Rattle.sre_request.specs.Requests.{start_of, end_of, code_of, asked_of}
+use Rattle.sre_request.specs.Requests.{string_of, start_of, end_of, code_of, asked_of}
 use Rattle.sre_request.specs.Runs.{run_of}
 use Rattle.sre_engine.specs.Scans.{Here}
 use Rattle.sre_engine.specs.Counts.{SpentUpTo}
@@ -21,6 +21,7 @@ invariant-place g l = record {
       l.spot.matched l.self-inside.compared;
   fresh : l.self-inside.board ≡ bare no_marks;
   remembers : Remembers (run_of l.req) l.self-inside.memo.kept;
+  suits : g.F.Starts.suits l.starts (string_of l.req) (code_of l.req);
   none : (t : Tree) → Whole (words_of (code_of l.req)) t
       → NoneBefore (asked_of l.req) t (l.spot.cursor.position - l.spot.matched);
   ran : RanBefore (asked_of l.req) (code_of l.req) l.self-inside.begun.started
