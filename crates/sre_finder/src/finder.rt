@@ -67,8 +67,9 @@ impl<'c> Finder<'c> {
     /// `Encoding::Utf8` for a `str`, and `Encoding::Ascii` for a `str` that is ASCII up to the end of the window. Of
     /// texts that are seen otherwise it tells nothing.
     ///
-    /// It never fails: where automata would not pay, as under a confirmed prefix or where a match may be empty, where
-    /// their tables would be too large, or where memory was refused, it has none and tells nothing.
+    /// It never fails: where automata would not pay, as under a confirmed prefix of two characters or more or where a
+    /// match may be empty, where their tables would be too large, or where memory was refused, it has none and tells
+    /// nothing.
     pub fn new(alloc: Global, code: Code<'c>, encoding: Encoding) -> Finder<'c>
         ensures code { result.code ≡ code.entry }
         ensures encoding { result.encoding ≡ encoding }
@@ -152,12 +153,22 @@ impl<'c> Finder<'c> {
     }
 }
 
+// Whether a search goes along the places of a prefix that are likely to be rare: of two characters or more, or all of
+// the code.
+fn is_found_along(code: &Code<'_>) -> bool {
+    let hints = code.hints();
+    match hints.prefix {
+        Some((length, _)) => length > 1 || hints.literal,
+        None => false,
+    }
+}
+
 // What seeks a pattern that covers the starts of a code, where it is worth what it takes.
 fn seeker_of(alloc: Global, code: Code<'_>, encoding: Encoding) -> Option<Seeker>
     ensures { CoveringAny encoding code.entry result }
 {
-    if code.hints().prefix.is_some() {
-        return None; // the search along its places is as fast
+    if is_found_along(&code) {
+        return None; // the search along the places of its prefix is as fast
     }
     let Ok(Some(hir)) = starts_of(alloc, &code, encoding) else {
         return None;
@@ -266,6 +277,11 @@ impl<'c, S: Haystack> Starts<S> for Finder<'c> {
             return Some(from);
         }
         self.ask(req, from)
+    }
+
+    #[inline(always)]
+    fn tells(&self) -> bool {
+        !self.is_silent
     }
 
     #[inline(always)]

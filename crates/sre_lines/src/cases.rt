@@ -317,15 +317,16 @@ fn push_code_answer<A: Allocator + Copy>(
 const LONG: usize = 1 << 15;
 
 // Whether automata may gain something: where all matches or the first one of a long window are sought, and not along
-// the places of a confirmed prefix, which is as fast.
+// the places of a confirmed prefix, which is as fast; a search along those of one character is not.
 fn may_gain<S: StrDrive>(finding: Finding, request: &Request<'_, S>) -> bool {
-    match finding {
-        Finding::Match => false,
-        Finding::Search | Finding::Walk => {
-            request.end() - request.start() >= LONG
-                && request.pattern_codes().hints().prefix.is_none()
-        }
-    }
+    let hints = request.pattern_codes().hints();
+    let is_sought = match (finding, hints.prefix) {
+        (Finding::Match, _) => false,
+        (_, None) => true,
+        (Finding::Search, Some((length, _))) => length == 1 && !hints.literal,
+        (Finding::Walk, Some(_)) => false,
+    };
+    is_sought && request.end() - request.start() >= LONG
 }
 
 // As what automata read a text of bytes, where they may gain something.
