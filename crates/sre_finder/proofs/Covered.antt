@@ -18,7 +18,7 @@ use Rattle.sre_patterns.specs.declared.encoding.Encoding.{Encoding}
 use Rattle.sre_automata.specs.Told.{NoneLeft, NoneUpTo}
 use Rattle.sre_engine.specs.Starts.{NoneBetween}
 use Rattle.sre_finder.specs.Views.{SeenAs}
-use Rattle.sre_finder.specs.Finders.{Covering, EndStands}
+use Rattle.sre_finder.specs.Finders.{Covering, CoveringAny, EndStands, NoneLeftOfAny}
 
 module _ (encoding : Encoding) (a : Asked) (t : Tree) (re : Re) (place : ℕ → ℕ) (hay : List ℕ)
     (covers : CoversStart (view_of encoding) a.table re t) (seen : SeenAs encoding a.text place a.end hay) where
@@ -66,3 +66,14 @@ pub end_once : (stands : StringCursor → ℕ → Type 0) → ((c : StringCursor
     → (o : Option StringCursor) → IsProp (EndStands stands o)
 end_once stands once None = λ x y. refl
 end_once stands once (Some end) = once end end.position
+
+-- where no match is left of a pattern that covers a code, none of the code is
+pub none_left_of_any : (encoding : Encoding) (code own : Code) (o : Option Hir) → CoveringAny encoding code o
+    → code ≡ own → (a : Asked) → a.table ≡ uni_of own → (t : Tree) → WholeItems (items_of own) t → (place : ℕ → ℕ)
+    → (hay : List ℕ) → SeenAs encoding a.text place a.end hay → (p : ℕ) → NoneLeftOfAny hay o (place p)
+    → NoneBetween a t p (a.end + 1)
+none_left_of_any encoding code own None covering same a table t whole place hay seen p left = absurd left
+none_left_of_any encoding code own (Some hir) covering same a table t whole place hay seen p left =
+    let covers = covers_same encoding encoding code own (meaning hir) covering refl same t whole in
+    no_start_left encoding a t (meaning hir) place hay
+    (subst (λ u. CoversStart (view_of encoding) u (meaning hir) t) (sym table) covers) seen p left

@@ -1,6 +1,6 @@
 -- What a finder knows of its code.
 -- Words of this crate's contracts.
-use Rattle.std.specs.Prelude.{⊤, ℕ, Option, Some, None}
+use Rattle.std.specs.Prelude.{⊤, ℕ, List, Option, Some, None}
 use Rattle.regex_hir.specs.Re.{Re}
 use Rattle.regex_hir.specs.Meaning.{meaning}
 use Rattle.regex_hir.specs.declared.hir.Hir.{Hir}
@@ -11,6 +11,7 @@ use Rattle.sre_code.specs.Codes.{items_of, uni_of}
 use Rattle.sre_code.specs.declared.code.Code.{Code}
 use Rattle.sre_shape.specs.Covers.{CoversStart}
 use Rattle.sre_patterns.specs.Patterns.{view_of}
+use Rattle.sre_automata.specs.Told.{NoneLeft}
 use Rattle.sre_patterns.specs.declared.encoding.Encoding.{Encoding}
 
 -- a pattern covers each start of a code's tree
@@ -21,6 +22,11 @@ pub record Covering (encoding : Encoding) (code : Code) (pattern : Re) : Type 0 
 abbrev pub CoveringAny : Encoding → Code → Option Hir → Type 0
 CoveringAny encoding code None = ⊤
 CoveringAny encoding code (Some hir) = Covering encoding code (meaning hir)
+
+-- there is a pattern of which no match is left
+abbrev pub NoneLeftOfAny : List ℕ → Option Hir → ℕ → Type 0
+NoneLeftOfAny hay None start = ⊥
+NoneLeftOfAny hay (Some hir) start = NoneLeft hay (meaning hir) start
 
 -- the code, how the texts are seen as bytes, and the end of the window that was last asked about
 pub record FinderValue : Type 0 where

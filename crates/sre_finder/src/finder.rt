@@ -21,7 +21,7 @@ ghost use Rattle.sre_engine.specs.Counts.{CountsUpTo, CountsOfWalk};
 ghost use Rattle.sre_engine.specs.Listed.{match_of};
 ghost use Rattle.sre_request.specs.Runs.{run_of, Standing};
 ghost use Rattle.sre_engine.specs.Starts.{NoneUntil, StartFrom};
-ghost use Rattle.sre_finder.specs.Finders.{EndStands, CoveringAny};
+ghost use Rattle.sre_finder.specs.Finders.{EndStands, CoveringAny, NoneLeftOfAny};
 
 use crate::haystack::Haystack;
 use crate::pace::Pace;
@@ -29,7 +29,7 @@ use sre_automata::{Seeker, Told};
 use sre_chars::string::{StrDrive, StringCursor};
 use sre_code::Code;
 use sre_engine::engine::{Found, SreError, Starts, State, all_matches_by};
-use sre_patterns::{Encoding, starts_of};
+use sre_patterns::{Encoding, hir_of, starts_of};
 use sre_request::Request;
 use std::alloc::{Allocator, Global};
 use std::marker::Model;
@@ -46,6 +46,8 @@ pub struct Finder<'c> {
     // whether the code was read as a pattern
     is_read: bool,
     seeker: Option<Seeker>,
+    // of a code with references, what seeks all of it by its bytes
+    whole: Option<Seeker>,
     // whether there is nothing left that it can tell of this text
     is_silent: bool,
     end: Option<StringCursor>,
@@ -59,7 +61,7 @@ impl<'c> Model for Finder<'c> {
 
     ghost view = { λ f. record { code = f.code; encoding = f.encoding; end = f.end } };
 
-    ghost invariant = { λ f. CoveringAny f.encoding f.code f.seeker };
+    ghost invariant = { λ f. CoveringAny f.encoding f.code f.seeker × CoveringAny f.encoding f.code f.whole };
 }
 
 impl<'c> Finder<'c> {
@@ -85,6 +87,7 @@ impl<'c> Finder<'c> {
             encoding,
             is_read: true,
             seeker,
+            whole: whole_of(alloc, code, encoding),
             is_silent: false,
             end: None,
             pace: Pace::new(),
@@ -106,6 +109,7 @@ impl<'c> Finder<'c> {
             encoding,
             is_read: false,
             seeker: None,
+            whole: None,
             is_silent: false,
             end: None,
             pace,
@@ -124,6 +128,7 @@ impl<'c> Finder<'c> {
             encoding,
             is_read: true,
             seeker: None,
+            whole: None,
             is_silent: true,
             end: None,
             pace: Pace::new(),
@@ -149,6 +154,9 @@ impl<'c> Finder<'c> {
         self.is_silent = self.is_read && self.seeker.is_none();
         if let Some(seeker) = &mut self.seeker {
             seeker.reset();
+        }
+        if let Some(whole) = &mut self.whole {
+            whole.reset();
         }
     }
 }
@@ -177,6 +185,31 @@ fn seeker_of(alloc: Global, code: Code<'_>, encoding: Encoding) -> Option<Seeker
         return None; // it may begin anywhere
     }
     Some(Seeker::new(alloc, hir, SIZE_LIMIT))
+}
+
+// What seeks all of a code that has references, by its bytes: the pattern of its starts ends at the first reference.
+fn whole_of(alloc: Global, code: Code<'_>, encoding: Encoding) -> Option<Seeker>
+    ensures { CoveringAny encoding code.entry result }
+{
+    if !code.refers() || is_found_along(&code) {
+        return None;
+    }
+    let Ok(Some(hir)) = hir_of(alloc, &code, encoding) else {
+        return None;
+    };
+    Some(Seeker::new(alloc, hir, SIZE_LIMIT))
+}
+
+// Whether no match is left of a pattern that there is, as far as its bytes tell.
+fn is_over(whole: &mut Option<Seeker>, hay: &[u8], start: usize) -> bool
+    requires { start ≤ length hay.now }
+    ensures over { result ≡ true → NoneLeftOfAny hay.now whole.old start }
+    ensures same { whole.new ≡ whole.old }
+{
+    match whole {
+        Some(whole) => whole.has_none_left(hay, start),
+        None => false,
+    }
 }
 
 // From where on the next match can begin: the bytes that each match contains are looked for first, and the automata are
@@ -232,6 +265,7 @@ impl<'c> Finder<'c> {
     {
         self.is_read = true;
         self.seeker = seeker_of(self.alloc, self.code, self.encoding);
+        self.whole = whole_of(self.alloc, self.code, self.encoding);
     }
 
     // Asks for the first start from a cursor on that may have a match.
@@ -255,11 +289,15 @@ impl<'c> Finder<'c> {
         let Some(hay) = text.hay(self.encoding, end) else {
             return Some(from);
         };
+        let start = text.place_of(from);
+        if is_over(&mut self.whole, hay, start) {
+            return None;
+        }
         let Some(seeker) = &mut self.seeker else {
             self.is_silent = true;
             return Some(from);
         };
-        let told = told_by(seeker, &mut self.pace, hay, text.place_of(from));
+        let told = told_by(seeker, &mut self.pace, hay, start);
         self.is_silent = seeker.lacks_automata();
         match told {
             Told::Nothing => None,

@@ -36,8 +36,6 @@ pub(crate) struct Part {
 
 /// A pattern that has a match wherever the tree of the words has a way, from the same place to the same. `None` is for
 /// items that lie in more than `DEPTH`, and an error for refused memory; no clause says when either comes.
-///
-/// Nothing calls it yet.
 pub fn hir_of(alloc: Global, code: &Code<'_>, encoding: Encoding) -> Result<Option<Hir>, AllocError>
     ensures { IfOk result (λ o. (h : Hir) → o ≡ Some h → (t : Tree) → WholeItems (items_of code.now) t
         → Covers (view_of encoding) (uni_of code.now) (meaning h) t) }
