@@ -31,7 +31,7 @@ impl Model for Needle {
     ghost view = { λ needle. needle.bytes.items };
 }
 
-// The longest literal of a sequence.
+// The longest literal of a sequence, and of several the last: one at its front is found by whoever seeks its starts.
 fn longest_literal(parts: &[Hir]) -> Option<&[u8]>
     ensures { IfSome result (λ bytes. Contains (cat_all (map meaning parts.now)) bytes.now) }
 {
@@ -39,7 +39,7 @@ fn longest_literal(parts: &[Hir]) -> Option<&[u8]>
     let mut length = 0;
     'part: for part in parts {
         if let Hir::Literal(bytes) = part {
-            if bytes.len() > length {
+            if bytes.len() >= length {
                 length = bytes.len();
                 longest = Some(bytes);
             }
@@ -49,7 +49,7 @@ fn longest_literal(parts: &[Hir]) -> Option<&[u8]>
 }
 
 impl Needle {
-    /// The longest literal of the sequence that a pattern is, which each match contains; none where the pattern is no
+    /// The longest literal of the sequence that a pattern is, and of several the last, which each match contains; none where the pattern is no
     /// literal and has none, or where memory was refused.
     pub fn of(alloc: Global, hir: &Hir) -> Option<Needle>
         ensures { IfSome result (λ needle. Contains (meaning hir.now) needle) }
