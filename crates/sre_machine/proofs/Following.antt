@@ -208,7 +208,7 @@ waited_on m m' m₁ m'' given left left' due x same fewer spent still =
 pub same_memo : (m m' : MemoValue) → m' ≡ m → (m'.is_open ≡ m.is_open) × (m'.waits ≡ m.waits)
 same_memo m m' e = (ap (λ (k : MemoValue). k.is_open) e, ap (λ (k : MemoValue). k.waits) e)
 
-pub kept_memo : (m m' : MemoValue) → m' ≡ record m { kept = m'.kept }
+pub kept_memo : (m m' : MemoValue) → m' ≡ record m { kept = m'.kept; marked = m'.marked }
     → (m'.is_open ≡ m.is_open) × (m'.waits ≡ m.waits)
 kept_memo m m' e = (ap (λ (k : MemoValue). k.is_open) e, ap (λ (k : MemoValue). k.waits) e)
 
