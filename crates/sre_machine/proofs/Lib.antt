@@ -1,6 +1,7 @@
 pub mod Paying
 pub mod Halting
 pub mod Failing
+pub mod AskedGroups
 pub mod Recalling
 pub mod EndlessRuns
 pub mod LaterRuns

@@ -9,6 +9,7 @@
 ghost use Rattle.std.specs.Prelude.{[], ℕ, ◌≡◌, ◌⊎◌, ◌+◌, ◌-◌, ◌*◌, ◌<◌, ◌≤◌, None, slice_index_or, true, false};
 ghost use Rattle.sre_model.specs.Marks.{mark_at};
 ghost use Rattle.sre_turns.specs.Fruit.{is_inside};
+ghost use Rattle.sre_turns.specs.MovesAtReferences.{Named};
 ghost use Rattle.sre_turns.specs.Moves.{spot_at};
 ghost use Rattle.sre_turns.specs.declared.Point.TheVariants.{Instruction};
 ghost use Rattle.sre_growth.specs.Refusal.{Refused};
@@ -23,6 +24,7 @@ ghost use Rattle.sre_request.specs.Runs.{run_of};
 use crate::marked::Marked;
 use sre_board::{Board, Failures, Known};
 use sre_chars::string::StrDrive;
+use sre_code::operands::know_words;
 use sre_growth::Refusal;
 use sre_request::Request;
 use std::alloc::Allocator;
@@ -96,8 +98,9 @@ impl<A: Allocator> Memo<A> {
         ensures board { board.new ≡ board.old }
     {
         let _counted = (board.take_passed(), board.take_entered());
+        know_words(req.pattern_codes().items());
         self.failures.forget();
-        self.marked.forget();
+        self.marked.begin();
         self.patience = STRIDE;
         self.waited = STRIDE;
         let window = req.end().saturating_sub(req.start());
@@ -123,6 +126,7 @@ impl<A: Allocator> Memo<A> {
         ensures empty { self.new.kept ≡ kept_of [] [] [] }
         ensures none { HoldsNone self.new.kept }
         ensures unmarked { HoldsNone self.new.marked.kept }
+        ensures end { self.new.marked.end ≡ self.old.marked.end }
     {
         self.failures.forget();
         self.marked.forget();
@@ -268,22 +272,25 @@ impl<A: Allocator> Memo<A> {
     // Whether failures are kept under marks that are the same as these from an entry on.
     #[inline(always)]
     pub(crate) fn agrees(&self, raw: &[Option<usize>], from: usize) -> bool
-        ensures { result ≡ true → (k : ℕ) → from ≤ k → mark_at self.now.marked.marks k ≡ slice_index_or raw.now k None }
+        ensures { result ≡ true → (k : ℕ) → from ≤ k → k < self.now.marked.end
+            → mark_at self.now.marked.marks k ≡ slice_index_or raw.now k None }
     {
         self.marked.agrees(raw, from)
     }
 
     // Other marks were met, which are taken over where that was often enough.
     #[inline(never)]
-    pub(crate) fn meets(&mut self, raw: &[Option<usize>])
+    pub(crate) fn meets(&mut self, words: &[u32], raw: &[Option<usize>])
         ensures marked { (self.new.marked ≡ self.old.marked) ⊎ HoldsNone self.new.marked.kept }
+        ensures end { (self.new.marked.end ≡ self.old.marked.end)
+            ⊎ ((g : ℕ) → Named words.now g → 2 * g + 1 < self.new.marked.end) }
         ensures kept { self.new.kept ≡ self.old.kept }
         ensures still { self.old.is_open ≡ true → self.new.is_open ≡ true ⊎ Refused }
     {
         if !self.marked.is_worn() {
             return;
         }
-        if let Err(refusal) = self.marked.adopt(raw) {
+        if let Err(refusal) = self.marked.adopt(words, raw) {
             self.close(refusal);
         }
     }
@@ -301,6 +308,7 @@ impl<A: Allocator> Memo<A> {
         ensures no_more { HoldsNoMore self.old.marked.kept self.new.marked.kept }
         ensures kept { self.new.kept ≡ self.old.kept }
         ensures marks { self.new.marked.marks ≡ self.old.marked.marks }
+        ensures end { self.new.marked.end ≡ self.old.marked.end }
         ensures still { self.old.is_open ≡ true → self.new.is_open ≡ true ⊎ Refused }
     {
         if let Err(refusal) = self.marked.prepare(words, board, place, first, end) {
@@ -336,6 +344,7 @@ impl<A: Allocator> Memo<A> {
             (spot_at (Instruction place) board.now.frames position board.now.marks) self.old.marked.kept
             self.new.marked.kept }
         ensures marks { self.new.marked.marks ≡ self.old.marked.marks }
+        ensures end { self.new.marked.end ≡ self.old.marked.end }
         ensures same { self.new ≡ record self.old { marked = self.new.marked } }
     {
         self.marked.keep(words, board, place, position);

@@ -68,6 +68,7 @@ fn is_marked_so<S: StrDrive, A: Allocator>(
     board: &Board<A>,
     memo: &Memo<A>,
 ) -> bool
+    requires { Recalls (run_of req.now) memo.now }
     ensures { result ≡ true → MarksAlike (run_of req.now).words memo.now.marked.marks board.now.marks }
 {
     let first = 2 * req.pattern_codes().asked_from() as usize;
@@ -95,7 +96,8 @@ fn keeping_at<S: StrDrive, A: Allocator>(
     place: usize,
     cursor: StringCursor,
 ) -> Keeping
-    requires { At req.now place cursor }
+    requires stands { At req.now place cursor }
+    requires remembers { Recalls (run_of req.now) memo.now }
     ensures opened { result ≢ Keeping.Nothing → memo.now.is_open ≡ true }
     ensures unmarked { result ≡ Keeping.Unmarked → Unmarked (run_of req.now).words board.now.marks }
     ensures marked { result ≡ Keeping.Marked
@@ -241,7 +243,7 @@ fn meet_marks<S: StrDrive, A: Allocator>(
     ensures still { memo.old.is_open ≡ true → memo.new.is_open ≡ true ⊎ Refused }
 {
     if memo.is_open() && may_branch(req, place, cursor) {
-        memo.meets(board.marks().raw());
+        memo.meets(req.pattern_codes().items(), board.marks().raw());
     }
 }
 

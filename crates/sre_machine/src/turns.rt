@@ -444,6 +444,7 @@ fn run_anew<S: StrDrive, A: Allocator>(
     requires behind { (t : Tree) → WholeItems (run_of req.now).words t → ReadsBehind (run_of req.now).words literals t }
     requires room { 2 * literals < 2 ^ 64 }
     requires few { begun.old + 1 < 2 ^ 64 }
+    requires remembers { Recalls (run_of req.now) memo.old }
     ensures remembers { Recalls (run_of req.now) memo.new }
     ensures counted { begun.new ≡ begun.old + 1 }
     ensures decides { (t : Tree) → WholeItems (run_of req.now).words t

@@ -92,12 +92,16 @@ module _ (ws : List ℕ) where
       let far : least ≤ g = from g asks in
       (sym (past_end m.raw (2 * g) (omega (arith, far, l))), sym (past_end m.raw (2 * g + 1) (omega (arith, far, l))))
 
-  -- marks that are the same from the first group that is asked for on
-  pub from_alike : (m n : Marks) (least : ℕ) → ((g : ℕ) → Asks ws g → least ≤ g)
-      → ((k : ℕ) → 2 * least ≤ k → mark_at m k ≡ mark_at n k) → MarksAlike ws m n
-  from_alike m n least from same = λ g asks.
+  -- marks that are the same from the first group that is asked for up to the last
+  pub from_alike : (m n : Marks) (least most : ℕ) → ((g : ℕ) → Asks ws g → least ≤ g)
+      → ((g : ℕ) → Asks ws g → 2 * g + 1 < most)
+      → ((k : ℕ) → 2 * least ≤ k → k < most → mark_at m k ≡ mark_at n k) → MarksAlike ws m n
+  from_alike m n least most from to same = λ g asks.
       let far : least ≤ g = from g asks in
-      (same (2 * g) (omega (arith, far)), same (2 * g + 1) (omega (arith, far)))
+      let few : 2 * g + 1 < most = to g asks in (
+        same (2 * g) (omega (arith, far)) (omega (arith, few)),
+        same (2 * g + 1) (omega (arith, far)) (omega (arith, few)),
+      )
 
   -- a group that is asked for is the same in both
   pub group_alike : (m n : Marks) (g : ℕ) → Asks ws g → MarksAlike ws m n → group m g ≡ group n g

@@ -16,7 +16,7 @@ use Rattle.sre_turns.specs.declared.Frame.{Frame}
 use Rattle.sre_turns.specs.declared.Point.TheVariants.{Instruction, Alternatives}
 use Rattle.sre_model.specs.Standing.{AreWords}
 use Rattle.sre_turns.specs.Moves.{spot_at, Stop, Go}
-use Rattle.sre_turns.specs.MovesAtReferences.{Asks}
+use Rattle.sre_turns.specs.MovesAtReferences.{MayAsk}
 use Rattle.sre_turns.specs.Machine.{Runs, turns, stops, goes}
 use Rattle.sre_model.specs.Roles.{ToFail, ToBranch}
 use Rattle.sre_turns.proofs.Moving.{at_instruction}
@@ -36,13 +36,13 @@ use Rattle.sre_turns.proofs.RanAtReferences.{reference-ran, condition-ran, prese
 
 -- what a part of the words asks for, the words do
 abbrev pub AskedIn : List ℕ → Tree → Type 0
-AskedIn ws t = (g : ℕ) → refers t ≡ true → asked_from t ≤ g → Asks ws g
+AskedIn ws t = (g : ℕ) → refers t ≡ true → asked_from t ≤ g → MayAsk ws g
 
 abbrev AskedInItem : List ℕ → Item → Type 0
-AskedInItem ws x = (g : ℕ) → item_refers x ≡ true → item_asked_from x ≤ g → Asks ws g
+AskedInItem ws x = (g : ℕ) → item_refers x ≡ true → item_asked_from x ≤ g → MayAsk ws g
 
 abbrev AskedInBranch : List ℕ → Trees → Type 0
-AskedInBranch ws ts = (g : ℕ) → some_refers ts ≡ true → some_asked_from ts ≤ g → Asks ws g
+AskedInBranch ws ts = (g : ℕ) → some_refers ts ≡ true → some_asked_from ts ≤ g → MayAsk ws g
 
 mutual
   pub ran : (ws : List ℕ) (s : Subject) (i j : ℕ) (t : Tree) → AreWords ws → AskedIn ws t

@@ -28,24 +28,24 @@ returns-in-Failed-clause-left g c = λ _ all limit arrives.
     c.in-Failed.ensures) in (
       hopeless_left r c.args.place c.args.cursor b m.marked.marks c.requires.marked
           (remembers_still r m.marked.marks m.marked.kept m'.marked.kept c.prepare_marked.ensures.no_more
-          c.requires.remembers.1 inside x held) all limit arrives,
+          c.requires.remembers.marked inside x held) all limit arrives,
       pays_left c.args.req.now m m' limit limit (λ _. c.requires.refers),
     )
 
 pub returns-in-Failed-clause-remembers : goal.returns-in-Failed-clause-remembers
 returns-in-Failed-clause-remembers g c =
     recalls_still (run_of c.args.req.now) c.args.memo.now c.prepare_marked.new.self c.prepare_marked.ensures.kept
-    c.prepare_marked.ensures.marks c.prepare_marked.ensures.no_more c.requires.remembers
+    c.prepare_marked.ensures.marks c.prepare_marked.ensures.end c.prepare_marked.ensures.no_more c.requires.remembers
 
 pub returns-in-Open-clause-remembers : goal.returns-in-Open-clause-remembers
 returns-in-Open-clause-remembers g c =
     recalls_still (run_of c.args.req.now) c.args.memo.now c.prepare_marked.new.self c.prepare_marked.ensures.kept
-    c.prepare_marked.ensures.marks c.prepare_marked.ensures.no_more c.requires.remembers
+    c.prepare_marked.ensures.marks c.prepare_marked.ensures.end c.prepare_marked.ensures.no_more c.requires.remembers
 
 pub returns-in-NoBit-clause-remembers : goal.returns-in-NoBit-clause-remembers
 returns-in-NoBit-clause-remembers g c =
     recalls_still (run_of c.args.req.now) c.args.memo.now c.prepare_marked.new.self c.prepare_marked.ensures.kept
-    c.prepare_marked.ensures.marks c.prepare_marked.ensures.no_more c.requires.remembers
+    c.prepare_marked.ensures.marks c.prepare_marked.ensures.end c.prepare_marked.ensures.no_more c.requires.remembers
 
 pub returns-in-Open-clause-stays : goal.returns-in-Open-clause-stays
 returns-in-Open-clause-stays g c = λ _.
