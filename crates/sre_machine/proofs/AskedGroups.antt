@@ -1,14 +1,14 @@
 -- The groups that stand behind opcodes which ask for them end before the mark that a look through the words tells.
-use Rattle.std.proofs.Common.{◌≡◌, ℕ, suc, ◌+◌, ◌-◌, ◌*◌, ◌<◌, ◌≤◌, ◌⊎◌, inl, inr, Bool, true, false, List, length, max}
-use Rattle.std.proofs.Common.{refl, sym, ◌∙◌, ap, subst, arith}
+use Rattle.std.proofs.Common.{◌≡◌, ℕ, ◌+◌, ◌-◌, ◌*◌, ◌<◌, ◌≤◌, ◌⊎◌, inl, inr, Bool, true, false, List, length}
+use Rattle.std.proofs.Common.{sym, ◌∙◌, ap, subst, arith}
 use Rattle.std.proofs.lemmas.Bool.{cases_lt}
 use Rattle.sre_chars.specs.Numbers.{opcode_number}
 use Rattle.sre_chars.specs.declared.constants.SreOpcode.{SreOpcode}
-use Rattle.sre_model.specs.Grammar.{Word, word, Opcode}
+use Rattle.sre_model.specs.Grammar.{word}
 use Rattle.sre_model.specs.Roles.{role}
 use Rattle.sre_model.specs.Standing.{AreWords}
 use Rattle.sre_model.proofs.Words.{same_number, word_of, word_within}
-use Rattle.sre_turns.specs.MovesAtReferences.{Asks, Named, asks}
+use Rattle.sre_turns.specs.MovesAtReferences.{Named, asks}
 use Rattle.sre_machine.specs.Memos.{Covers}
 
 -- the groups behind the words up to a place

@@ -1,6 +1,6 @@
 -- What a memo keeps is hopeless.
 use Rattle.std.proofs.Common.{◌≡◌, ℕ, ◌+◌, ◌*◌, ◌<◌, ◌⊎◌, inl, inr, List, sym, ap, subst}
-use Rattle.sre_model.specs.Marks.{Marks, no_marks}
+use Rattle.sre_model.specs.Marks.{no_marks}
 use Rattle.sre_model.specs.Runs.{Run}
 use Rattle.sre_turns.specs.MovesAtReferences.{Named}
 use Rattle.sre_board.specs.Failures.{Kept, HoldsNone, HoldsNoMore, Remembers}
