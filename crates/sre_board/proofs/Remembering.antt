@@ -1,6 +1,7 @@
 -- What is remembered of the spots of which nothing came.
 use Rattle.std.proofs.Common.{◌≡◌, ℕ, ◌+◌, inl, inr, Bool, List, [], ◌∷◌, sym, ap, ◌∙◌, subst}
 use Rattle.sre_model.specs.Grammar.{Word}
+use Rattle.sre_model.specs.Marks.{Marks}
 use Rattle.sre_model.specs.Runs.{Run}
 use Rattle.sre_turns.specs.Alike.{FramesAlike, LoopsAlike, Alike, least_from}
 use Rattle.sre_turns.specs.Hopeless.{Hopeless}
@@ -43,26 +44,27 @@ alike_onward ws x y z a b =
     }
 
 -- nothing comes of what is alike to a hopeless spot
-pub hopeless_alike : (r : Run) (inside : Bool) (x y : Spot) → Alike r.words x y → Hopeless r inside x
-    → Hopeless r inside y
-hopeless_alike r inside x y a h = record {
-  none = λ z os n b unmarked d. h.none z os n (alike_onward r.words x y z a b) unmarked d;
+pub hopeless_alike : (r : Run) (inside : Bool) (m : Marks) (x y : Spot) → Alike r.words x y → Hopeless r inside m x
+    → Hopeless r inside m y
+hopeless_alike r inside m x y a h = record {
+  none = λ z os n b marks d. h.none z os n (alike_onward r.words x y z a b) marks d;
 }
 
 -- where no spot is kept, none is kept that is not hopeless
-pub remembers_none : (r : Run) (k : Kept) → HoldsNone k → Remembers r k
-remembers_none r k none = λ inside x held. absurd (none r.words inside x held)
+pub remembers_none : (r : Run) (m : Marks) (k : Kept) → HoldsNone k → Remembers r m k
+remembers_none r m k none = λ inside x held. absurd (none r.words inside x held)
 
 -- where no more are kept, all are still hopeless
-pub remembers_still : (r : Run) (old new : Kept) → HoldsNoMore old new → Remembers r old → Remembers r new
-remembers_still r old new fewer was = λ inside x held. was inside x (fewer r.words inside x held)
+pub remembers_still : (r : Run) (m : Marks) (old new : Kept) → HoldsNoMore old new → Remembers r m old
+    → Remembers r m new
+remembers_still r m old new fewer was = λ inside x held. was inside x (fewer r.words inside x held)
 
 -- a hopeless spot may be kept
-pub remembers_more : (r : Run) (inside : Bool) (x : Spot) (old new : Kept) → HoldsOneMore r.words inside x old new
-    → Hopeless r inside x → Remembers r old → Remembers r new
-remembers_more r inside x old new more hopeless was = λ other y held.
+pub remembers_more : (r : Run) (inside : Bool) (m : Marks) (x : Spot) (old new : Kept)
+    → HoldsOneMore r.words inside x old new → Hopeless r inside m x → Remembers r m old → Remembers r m new
+remembers_more r inside m x old new more hopeless was = λ other y held.
     elim (more other y held) [
       | inl before ↦ was other y before
       | inr one ↦
-          subst (λ (b : Bool). Hopeless r b y) (sym one.0) (hopeless_alike r inside x y one.1 hopeless)
+          subst (λ (b : Bool). Hopeless r b m y) (sym one.0) (hopeless_alike r inside m x y one.1 hopeless)
     ]

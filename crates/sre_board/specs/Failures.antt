@@ -5,6 +5,7 @@ use Rattle.std.specs.Prelude.{List, [], ◌∷◌, Option, Some, None, slice_get
 use Rattle.std.specs.Int.{bit_at}
 use Rattle.std.specs.List.{sum_by}
 use Rattle.sre_model.specs.Grammar.{word}
+use Rattle.sre_model.specs.Marks.{Marks}
 use Rattle.sre_model.specs.Runs.{Run}
 use Rattle.sre_turns.specs.Alike.{Alike, counted_to, is_last}
 use Rattle.sre_turns.specs.Hopeless.{Hopeless}
@@ -220,9 +221,9 @@ abbrev pub HoldsOneMore : List ℕ → Bool → Spot → Kept → Kept → Type 
 HoldsOneMore ws inside x old new =
     (other : Bool) (y : Spot) → Holds new ws other y → Holds old ws other y ⊎ ((other ≡ inside) × Alike ws x y)
 
--- each spot that is kept is hopeless
-abbrev pub Remembers : Run → Kept → Type 0
-Remembers r k = (inside : Bool) (x : Spot) → Holds k r.words inside x → Hopeless r inside x
+-- each spot that is kept is hopeless under marks
+abbrev pub Remembers : Run → Marks → Kept → Type 0
+Remembers r m k = (inside : Bool) (x : Spot) → Holds k r.words inside x → Hopeless r inside m x
 
 -- a place has no row
 abbrev pub HasNoRow : Kept → ℕ → Type 0

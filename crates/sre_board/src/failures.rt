@@ -282,6 +282,14 @@ impl<A: Allocator + Copy> Failures<A> {
 }
 
 impl<A: Allocator> Failures<A> {
+    /// How many words of bits there are.
+    #[inline(always)]
+    pub fn words(&self) -> usize
+        ensures { result ≡ length self.now.bits }
+    {
+        self.bits.len()
+    }
+
     /// Takes all spots away; the memory is kept.
     #[inline(always)]
     pub fn forget(&mut self)

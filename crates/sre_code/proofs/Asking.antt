@@ -1,6 +1,6 @@
 -- A scan from one instruction to the next tells from which group on groups are asked for.
-use Rattle.std.proofs.Common.{ℕ, zero, suc, ◌+◌, ◌-◌, ◌≡◌, ◌<◌, ◌≤◌, ◌⊎◌, inl, inr, ⊎_elim, min, List, length, Some, None}
-use Rattle.std.proofs.Common.{refl, sym, ap, ◌∙◌, subst, arith}
+use Rattle.std.proofs.Common.{ℕ, zero, suc, ◌+◌, ◌-◌, ◌≡◌, ◌<◌, ◌≤◌, ◌⊎◌, inl, inr, ⊎_elim, min, List, length, Some}
+use Rattle.std.proofs.Common.{None, refl, sym, ap, ◌∙◌, subst, arith}
 use Rattle.sre_chars.specs.declared.constants.SreOpcode.{SreOpcode}
 use Rattle.sre_chars.specs.declared.constants.SreOpcode.TheVariants as opcode
 use Rattle.sre_model.specs.Tree.{Tree, Empty, Then, Item, Fail, One, At, Mark, Branch, Loop, Run, PossessiveLoop}
@@ -188,8 +188,8 @@ module _ (ws : List ℕ) where
           ends (asked_from body) end j m
           (tree_told body (i + 4) end m few w.1.3 (omega (arith, l, w.1.5))
           (pass_own i (i + 4) 4 m opcode.REPEAT few (omega (arith, l, w.1.5)) w.0 refl refl s))
-          (λ k. pass_own end j 1 (min m (asked_from body)) (until_opcode o) (omega (arith, few)) (omega (arith, l, w.1.5))
-          w.1.4 (until_has_one o) w.1.5 k)
+          (λ k. pass_own end j 1 (min m (asked_from body)) (until_opcode o) (omega (arith, few))
+          (omega (arith, l, w.1.5)) w.1.4 (until_has_one o) w.1.5 k)
       item_told (Run kind low high t) i j m few w l s =
           let far : i + 4 < j - 1 = test_past t ws (i + 4) (j - 1) w.1.5 in
           inr (still j m few
@@ -233,8 +233,8 @@ module _ (ws : List ℕ) where
           let end : ℕ = skip ws q - 2 in
           let far : q + 3 ≤ skip ws q = alternative_long ws q j (Only t) w in
           ends (asked_from t) end j m (tree_told t (q + 1) end m few w.0 (omega (arith, l, w.3)) s)
-          (λ k. pass_own end j 3 (min m (asked_from t)) opcode.JUMP (omega (arith, few)) (omega (arith, l, w.3)) w.1.0 refl
-          (omega (arith, w.3)) k)
+          (λ k. pass_own end j 3 (min m (asked_from t)) opcode.JUMP (omega (arith, few)) (omega (arith, l, w.3)) w.1.0
+          refl (omega (arith, w.3)) k)
       trees_told (Or t ts) q j m few w l s =
           let end : ℕ = skip ws q - 2 in
           let long : q + 3 ≤ skip ws q = alternative_long ws q j (Or t ts) w in

@@ -235,13 +235,14 @@ impl<'a> Code<'a> {
     {
         self.most_counts
     }
+
     /// A number of turns within which a match, a search or a step of a walk is answered unless memory is refused, in
     /// any window of a text of at most so many characters: one more than `enough_turns` of the whole text. It grows
     /// with the text, and is told without one, in a time that grows with the words alone.
     ///
-    /// `None` where no such number is known, which is where what failed is not kept: the code has a reference, a
-    /// condition, an atomic group, a look or a possessive loop, its loops have more than 4,096 slots within each
-    /// other, or there is no room for so many characters. And where the number takes more than 64 bits.
+    /// `None` where no such number is known: where the code has a reference, a condition, an atomic group, a look or a
+    /// possessive loop; where what failed may not be kept, since its loops have more than 4,096 slots within each other
+    /// or there is no room for so many characters; and where the number takes more than 64 bits.
     pub fn enough_turns(&self, characters: usize) -> Option<u64>
         ensures enough { IfSome result (λ turns. (tree : Tree) → Whole (words_of self.now) tree
             → AreEnoughFor (length (items_of self.now)) tree characters turns) }

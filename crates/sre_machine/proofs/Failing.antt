@@ -1,10 +1,11 @@
 -- Instructions that are known to fail, and those that are tried.
-use Rattle.std.proofs.Common.{◌≡◌, ℕ, Bool, true, false, List, ◌∷◌, Result, Ok, Err, IfOk, refl, subst, sym}
+use Rattle.std.proofs.Common.{◌≡◌, ℕ, Bool, true, false, List, ◌∷◌, Result, Ok, Err, IfOk, ◌≢◌, refl, subst, sym}
 use Rattle.std.proofs.Common.{◌∙◌, ◌≤◌, arith}
 use Rattle.std.proofs.lemmas.Bool.{true≢false}
 use Rattle.sre_chars.specs.declared.string.StrDrive.{Ghosts}
 use Rattle.sre_chars.specs.declared.string.StringCursor.{StringCursor}
 use Rattle.sre_model.specs.Runs.{Run}
+use Rattle.sre_model.specs.Marks.{Marks}
 use Rattle.sre_model.specs.Ways.{Way}
 use Rattle.sre_turns.specs.Board.{BoardValue, Trying}
 use Rattle.sre_turns.specs.Machine.{IsAt, IsBack, Backs}
@@ -31,6 +32,8 @@ use Rattle.sre_turns.specs.Moves.{spot_at}
 use Rattle.sre_board.specs.Failures.{Kept, HoldsOneMore, Remembers}
 use Rattle.sre_board.proofs.Remembering.{remembers_more}
 use Rattle.sre_machine.specs.Memos.{MemoValue}
+use Rattle.sre_machine.specs.declared.trying.Keeping.{Keeping}
+use Rattle.sre_machine.specs.declared.trying.Keeping.TheVariants.{Nothing, Unmarked, Marked}
 use Rattle.sre_machine.proofs.Paying.{grants_nothing, pays_left}
 
 -- a mark was made, or none: the machine may stand there still
@@ -53,18 +56,13 @@ turn_goes_on r place cursor b c d m m' (Ok after) goes paid turn = λ all limit 
 turn_goes_on r place cursor b c d m m' (Err e) goes paid turn = turn
 
 -- it is paid, where failures are not kept, or where it is no run without a greatest count
-pub paid_so : {S : Type 0} {text : Ghosts S} (r : Request S text) (place : ℕ) (m m' : MemoValue) (keeps : Bool)
-    → (keeps ≡ false → m.is_open ≡ true → HasReference (run_of r).words)
-    → (keeps ≡ true → RunsOn (run_of r).words place → ⊥) → (l l' : Limit)
+pub paid_so : {S : Type 0} {text : Ghosts S} (r : Request S text) (place : ℕ) (m m' : MemoValue) (keeping : Keeping)
+    → (keeping ≡ Nothing → m.is_open ≡ true → HasReference (run_of r).words)
+    → (keeping ≢ Nothing → RunsOn (run_of r).words place → ⊥) → (l l' : Limit)
     → ((RunsOn (run_of r).words place → ⊥) → Pays r m l m' l') → Pays r m l m' l'
-paid_so r place m m' true left off l l' paid = paid (off refl)
-paid_so r place m m' false left off l l' paid = pays_left r m m' l l' (left refl)
-
--- what is left alone where failures are not kept is left alone where the memo is closed
-pub closed_so : (m m' : MemoValue) (keeps : Bool) → (keeps ≡ true → m.is_open ≡ true) → (keeps ≡ false → m' ≡ m)
-    → m.is_open ≡ false → m' ≡ m
-closed_so m m' true opened same closed = absurd (true≢false (sym (opened refl) ∙ closed))
-closed_so m m' false opened same closed = same refl
+paid_so r place m m' Nothing left off l l' paid = pays_left r m m' l l' (left refl)
+paid_so r place m m' Unmarked left off l l' paid = paid (off (λ e. cc))
+paid_so r place m m' Marked left off l l' paid = paid (off (λ e. cc))
 
 -- the same with one toll
 pub turn_tried : {S : Type 0} {text : Ghosts S} {E : Type 0} (r : Request S text) (place : ℕ) (cursor : StringCursor)
@@ -120,12 +118,12 @@ referring_words r code told same tells told_so =
     subst (λ c. HasReference (items_of c)) same (λ t w. sym (tells t (whole_items code t w)) ∙ told_so)
 
 -- one that fails may be kept
-pub fails_kept : {S : Type 0} {text : Ghosts S} (r : Request S text) (old new : Kept) (ws : List ℕ) (place p q : ℕ)
-    (b : BoardValue) → ws ≡ (run_of r).words → p ≡ q
+pub fails_kept : {S : Type 0} {text : Ghosts S} (r : Request S text) (m : Marks) (old new : Kept) (ws : List ℕ)
+    (place p q : ℕ) (b : BoardValue) → ws ≡ (run_of r).words → p ≡ q
     → HoldsOneMore ws (is_inside b.choices) (spot_at (Instruction place) b.frames p b.marks) old new
-    → Fails r place q b → Remembers (run_of r) old → Remembers (run_of r) new
-fails_kept r old new ws place p q b same there more fails remembers =
-    remembers_more (run_of r) (is_inside b.choices) (spot_at (Instruction place) b.frames q b.marks) old new
+    → Fails r place q m b → Remembers (run_of r) m old → Remembers (run_of r) m new
+fails_kept r m old new ws place p q b same there more fails remembers =
+    remembers_more (run_of r) (is_inside b.choices) m (spot_at (Instruction place) b.frames q b.marks) old new
     (subst (λ z. HoldsOneMore (run_of r).words (is_inside b.choices) (spot_at (Instruction place) b.frames z b.marks)
     old new) there
     (subst (λ (us : List ℕ). HoldsOneMore us (is_inside b.choices) (spot_at (Instruction place) b.frames p b.marks)

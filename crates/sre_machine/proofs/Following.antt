@@ -1,5 +1,5 @@
 -- Turns one after the other: what they cost at most, where each toll that is granted is paid.
-use Rattle.std.proofs.Common.{Bool, not, Option, ◌≢◌, ◌/◌, ◌≡◌, ℕ, ◌+◌, ◌-◌, ◌*◌, ◌≤◌, ◌⊎◌, inl, inr, true}
+use Rattle.std.proofs.Common.{Bool, Option, ◌≢◌, ◌/◌, ◌≡◌, ℕ, ◌+◌, ◌-◌, ◌*◌, ◌≤◌, ◌⊎◌, inl, inr, true}
 use Rattle.std.proofs.Common.{false, List, [], length, Result, Ok, Err, IfOk, IfErr}
 use Rattle.std.proofs.Common.{refl, sym, ap, ◌∙◌, subst, arith}
 use Rattle.std.proofs.Common.{mul-le-mul, add-mul, one-mul}
@@ -30,8 +30,6 @@ use Rattle.sre_code.proofs.Checked.{whole_items}
 use Rattle.sre_model.specs.Grammar.{Whole}
 use Rattle.sre_model.specs.References.{refers}
 use Rattle.sre_model.specs.RunCounts.{most_counts}
-use Rattle.sre_turns.proofs.Hopeless.{no_reference}
-use Rattle.sre_machine.proofs.Failing.{referring_words}
 use Rattle.sre_machine.specs.declared.turns.Decision.{Decision}
 use Rattle.sre_machine.specs.declared.turns.Decision.TheVariants.{Decided, Opened}
 use Rattle.sre_request.specs.Runs.{run_of}
@@ -208,7 +206,7 @@ waited_on m m' m₁ m'' given left left' due x same fewer spent still =
 pub same_memo : (m m' : MemoValue) → m' ≡ m → (m'.is_open ≡ m.is_open) × (m'.waits ≡ m.waits)
 same_memo m m' e = (ap (λ (k : MemoValue). k.is_open) e, ap (λ (k : MemoValue). k.waits) e)
 
-pub kept_memo : (m m' : MemoValue) → m' ≡ record m { kept = m'.kept }
+pub kept_memo : (m m' : MemoValue) → m' ≡ record m { kept = m'.kept; marked = m'.marked }
     → (m'.is_open ≡ m.is_open) × (m'.waits ≡ m.waits)
 kept_memo m m' e = (ap (λ (k : MemoValue). k.is_open) e, ap (λ (k : MemoValue). k.waits) e)
 

@@ -60,7 +60,7 @@ module _ {S : Type 0} {text : Ghosts S} (r : Request S text) (place : ℕ) (p q 
 -- the mark of an instruction is passed over, which is kept: nothing is granted
 pub pays_kept : {S : Type 0} {text : Ghosts S} (r : Request S text) (place : ℕ) (cursor : StringCursor)
     (b b' : BoardValue) (m m' : MemoValue) → b.choices ≡ Trying place b'.frames cursor b'.marks ∷ b'.choices
-    → m' ≡ record m { kept = m'.kept }
+    → m' ≡ record m { kept = m'.kept; marked = m'.marked }
     → (is_inside b'.choices ≡ false → HoldsTried r (spot (Instruction place) cursor b') m.kept m'.kept)
     → (all : List Way) (limit : Limit) → Backs (run_of r) all limit b → Pays r m limit m' (without_tried limit)
 pays_kept r place cursor b b' m m' marked same keeps all limit x = record {

@@ -1,6 +1,8 @@
 pub mod Paying
 pub mod Halting
 pub mod Failing
+pub mod AskedGroups
+pub mod Recalling
 pub mod EndlessRuns
 pub mod LaterRuns
 pub mod Taken

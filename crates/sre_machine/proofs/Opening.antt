@@ -258,27 +258,88 @@ module _ {S : Type 0} {text : Ghosts S} (r : Request S text) (place : ℕ) (curs
         )
 
 module _ {S : Type 0} {text : Ghosts S} (r : Request S text) (place : ℕ) (cursor : StringCursor) (b : BoardValue)
-    (m : MemoValue) (all : List Way) (limit : Limit)
+    (m m' : MemoValue) (all : List Way) (limit : Limit)
     (x : Arrives (run_of r) all limit (Instruction place) cursor b) where
-  -- an instruction is gone on with, where failures are not kept, or where it brings no toll
-  pub goes_on_so : (keeps : Bool) → (keeps ≡ false → m.is_open ≡ true → HasReference (run_of r).words)
-      → (keeps ≡ true → (o : SreOpcode) → Opcode (run_of r).words place o
+  -- an instruction is gone on with, where it brings no toll
+  pub goes_freely : ((o : SreOpcode) → Opcode (run_of r).words place o
       → units (run_of r).words (run_of r).subject.end place (role o) ≡ 0)
       → (more : Limit) × Grants limit more × Goes (run_of r) all more (Instruction place) cursor b
       × ((RunsOn (run_of r).words place → ⊥) → Pays r m limit m more)
-  goes_on_so keeps left free =
+  goes_freely free =
+      let code = run_code (run_of r) (spot (Instruction place) cursor b) x.runs in
+      let k : ℕ = units (run_of r).words (run_of r).subject.end place (role code.0) in
+      let none : k ≡ 0 = free code.0 code.1 in (
+        raised k limit,
+        record { turns = refl; taken = refl; granted = refl; start = refl },
+        arrived_at code.0 code.1 x,
+        λ counted. pays_nothing r m m limit (raised k limit) refl (λ h. h) refl (omega (arith, none)),
+      )
+
+  -- and where failures are not kept
+  pub goes_forgetting : (m.is_open ≡ true → HasReference (run_of r).words)
+      → (more : Limit) × Grants limit more × Goes (run_of r) all more (Instruction place) cursor b
+      × ((RunsOn (run_of r).words place → ⊥) → Pays r m limit m' more)
+  goes_forgetting left =
       let code = run_code (run_of r) (spot (Instruction place) cursor b) x.runs in
       let k : ℕ = units (run_of r).words (run_of r).subject.end place (role code.0) in (
         raised k limit,
         record { turns = refl; taken = refl; granted = refl; start = refl },
         arrived_at code.0 code.1 x,
-        λ counted. paid k keeps left (λ h. free h code.0 code.1),
+        λ counted. pays_left r m m' limit (raised k limit) left,
       )
+
+-- where words have a reference nothing is paid: an instruction is gone on with, whether its mark was made or not
+module _ {S : Type 0} {text : Ghosts S} (r : Request S text) (place : ℕ) (cursor : StringCursor) (b : BoardValue)
+    (m m' : MemoValue) (has : HasReference (run_of r).words) (all : List Way) (limit : Limit)
+    (x : Arrives (run_of r) all limit (Instruction place) cursor b) (c : BoardValue) (made : Bool)
+    (marked : made ≡ true → c ≡ record b { choices = Trying place b.frames cursor b.marks ∷ b.choices })
+    (left : made ≡ false → c ≡ b) where
+  pub goes_marked : (more : Limit) × Grants limit more × Goes (run_of r) all more (Instruction place) cursor c
+      × ((RunsOn (run_of r).words place → ⊥) → Pays r m limit m' more)
+  goes_marked = go made refl
     where
-      paid : (k : ℕ) (keeps : Bool) → (keeps ≡ false → m.is_open ≡ true → HasReference (run_of r).words)
-          → (keeps ≡ true → k ≡ 0) → Pays r m limit m (raised k limit)
-      paid k true left none = pays_nothing r m m limit (raised k limit) refl (λ h. h) refl (omega (arith, none refl))
-      paid k false left none = pays_left r m m limit (raised k limit) (left refl)
+      go : (told : Bool) → made ≡ told → (more : Limit) × Grants limit more
+          × Goes (run_of r) all more (Instruction place) cursor c
+          × ((RunsOn (run_of r).words place → ⊥) → Pays r m limit m' more)
+      go true e =
+          let code = run_code (run_of r) (spot (Instruction place) cursor b) x.runs in
+          let k : ℕ = units (run_of r).words (run_of r).subject.end place (role code.0) in (
+            with_tried (spot (Instruction place) cursor b) (raised k limit),
+            record { turns = refl; taken = refl; granted = refl; start = refl },
+            trying_goes (run_of r) place cursor b c (marked e) all (raised k limit) (arrived_at code.0 code.1 x),
+            λ counted.
+                pays_left r m m' limit (with_tried (spot (Instruction place) cursor b) (raised k limit)) (λ _. has),
+          )
+      go false e =
+          let code = run_code (run_of r) (spot (Instruction place) cursor b) x.runs in
+          let k : ℕ = units (run_of r).words (run_of r).subject.end place (role code.0) in (
+            raised k limit,
+            record { turns = refl; taken = refl; granted = refl; start = refl },
+            subst (λ z. Goes (run_of r) all (raised k limit) (Instruction place) cursor z) (sym (left e))
+                (arrived_at code.0 code.1 x),
+            λ counted. pays_left r m m' limit (raised k limit) (λ _. has),
+          )
+
+  -- the same with one toll
+  pub tries_marked : (more : Limit) × Grants limit more × Tries (run_of r) all more (Instruction place) cursor c
+      × Pays r m limit m' more
+  tries_marked = go made refl
+    where
+      go : (told : Bool) → made ≡ told → (more : Limit) × Grants limit more
+          × Tries (run_of r) all more (Instruction place) cursor c × Pays r m limit m' more
+      go true e = (
+        with_tried (spot (Instruction place) cursor b) (raised 1 limit),
+        record { turns = refl; taken = refl; granted = refl; start = refl },
+        trying_tries (run_of r) place cursor b c (marked e) all (raised 1 limit) (arrived_once x),
+        pays_left r m m' limit (with_tried (spot (Instruction place) cursor b) (raised 1 limit)) (λ _. has),
+      )
+      go false e = (
+        raised 1 limit,
+        record { turns = refl; taken = refl; granted = refl; start = refl },
+        subst (λ z. Tries (run_of r) all (raised 1 limit) (Instruction place) cursor z) (sym (left e))
+            (arrived_once x),
+        pays_left r m m' limit (raised 1 limit) (λ _. has),
+      )
 
 -- a run brings tolls
 pub branches_not : {S : Type 0} {text : Ghosts S} (r : Request S text) (place : ℕ)

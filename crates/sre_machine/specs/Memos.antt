@@ -1,13 +1,30 @@
 -- What a memo has: the failures that are kept, and how long the search goes on without keeping any.
-use Rattle.std.specs.Prelude.{ℕ, ◌≡◌, Bool, true, false, Option, Some, None}
+use Rattle.std.specs.Prelude.{ℕ, ◌+◌, ◌*◌, ◌<◌, ◌≡◌, Bool, true, false, List, Option, Some, None, negsuc}
 use Rattle.sre_growth.specs.declared.Refusal.{Refusal}
-use Rattle.sre_board.specs.Failures.{Kept}
+use Rattle.sre_model.specs.Marks.{Marks, no_marks}
+use Rattle.sre_model.specs.Runs.{Run}
+use Rattle.sre_turns.specs.MovesAtReferences.{Asks}
+use Rattle.sre_board.specs.Failures.{Kept, Remembers}
 
--- the failures; how many steps are left before the next look, and how many were taken up to that look; how many turns a
+-- failures, the marks under which they were kept, and behind which mark none is asked for
+pub record MarkedValue : Type 0 where
+  pub marks : Marks
+  pub end : ℕ
+  pub kept : Kept
+
+abbrev pub marked_of : List (Option ℕ) → ℕ → Kept → MarkedValue
+marked_of raw end k = record { marks = record { raw = raw; last = negsuc 0 }; end = end; kept = k }
+
+-- the marks of each group that is asked for stand before an end
+abbrev pub Covers : List ℕ → ℕ → Type 0
+Covers ws end = (g : ℕ) → Asks ws g → 2 * g + 1 < end
+
+-- the failures; those that are kept while marks are set which are asked for; how many steps are left before the next look, and how many were taken up to that look; how many turns a
 -- search within turns goes on without failures; whether failures are kept by now; and whether no more are, since memory
 -- was refused for a place
 pub record MemoValue : Type 0 where
   pub kept : Kept
+  pub marked : MarkedValue
   pub patience : ℕ
   pub waited : ℕ
   pub waits : ℕ
@@ -18,9 +35,19 @@ abbrev pub has_refusal : Option Refusal → Bool
 has_refusal None = false
 has_refusal (Some r) = true
 
-abbrev pub memo_of : Kept → ℕ → ℕ → ℕ → Bool → Option Refusal → MemoValue
-memo_of k p w t o r =
-    record { kept = k; patience = p; waited = w; waits = t; is_open = o; stopped = has_refusal r }
+abbrev pub memo_of : Kept → MarkedValue → ℕ → ℕ → ℕ → Bool → Option Refusal → MemoValue
+memo_of k m p w t o r =
+    record { kept = k; marked = m; patience = p; waited = w; waits = t; is_open = o; stopped = has_refusal r }
+
+-- each spot that is kept is hopeless: under no marks, or under those that are kept with it, as far as they are asked
+-- for
+pub record Recalled (r : Run) (k : Kept) (m : MarkedValue) : Type 0 where
+  pub plain : Remembers r no_marks k
+  pub marked : Remembers r m.marks m.kept
+  pub covers : Covers r.words m.end
+
+abbrev pub Recalls : Run → MemoValue → Type 0
+Recalls r m = Recalled r m.kept m.marked
 
 -- a memo that keeps failures has no step to wait for
 abbrev pub IsMemo : Bool → ℕ → Type 0

@@ -3,6 +3,7 @@
 use Rattle.std.specs.Prelude.{ℕ, ◌≡◌, Bool, true, List, []}
 use Rattle.sre_chars.specs.declared.string.StrDrive.{Ghosts}
 use Rattle.sre_chars.specs.declared.string.StringCursor.{StringCursor}
+use Rattle.sre_model.specs.Marks.{Marks}
 use Rattle.sre_model.specs.Runs.{Run}
 use Rattle.sre_turns.specs.Board.{BoardValue}
 use Rattle.sre_turns.specs.Fruit.{is_inside}
@@ -25,9 +26,9 @@ use Rattle.sre_request.specs.Runs.{run_of}
 abbrev pub At : {S : Type 0} {text : Ghosts S} → Request S text → ℕ → StringCursor → Type 0
 At r place cursor = HasRun (run_of r) (Instruction place) cursor
 
--- nothing comes of the instruction at a place and a position, under the loops of a board
-abbrev pub Fails : {S : Type 0} {text : Ghosts S} → Request S text → ℕ → ℕ → BoardValue → Type 0
-Fails r place p b = Hopeless (run_of r) (is_inside b.choices) (spot_at (Instruction place) b.frames p b.marks)
+-- nothing comes of the instruction at a place and a position, under the loops of a board and under marks
+abbrev pub Fails : {S : Type 0} {text : Ghosts S} → Request S text → ℕ → ℕ → Marks → BoardValue → Type 0
+Fails r place p m b = Hopeless (run_of r) (is_inside b.choices) m (spot_at (Instruction place) b.frames p b.marks)
 
 -- the instruction's turn makes of a board what comes next and another board, and keeps the first accepted outcome
 abbrev pub Turn : {S : Type 0} {text : Ghosts S} → Request S text → ℕ → StringCursor → BoardValue → Next → BoardValue

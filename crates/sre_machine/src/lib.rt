@@ -13,6 +13,7 @@ mod greedy_runs;
 mod lazy_runs;
 mod loops;
 mod machine;
+mod marked;
 pub mod memo;
 mod possessive_loops;
 mod possessive_runs;

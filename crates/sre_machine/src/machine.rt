@@ -11,7 +11,7 @@ ghost use Rattle.sre_turns.specs.declared.Point.{Point};
 ghost use Rattle.sre_turns.specs.Machine.{IsAt, IsBack, Chooses, HasRun, Advances, Refuses, DemandsAny};
 ghost use Rattle.sre_model.specs.Roles.{begins_test};
 ghost use Rattle.sre_request.specs.Runs.{run_of, OpcodeAt, Standing};
-ghost use Rattle.sre_board.specs.Failures.{Remembers};
+ghost use Rattle.sre_machine.specs.Memos.{Recalls};
 ghost use Rattle.sre_machine.specs.Turns.{At, Turn, Retreats, Finishes};
 
 use crate::branches::{alternatives, branch};
@@ -251,12 +251,12 @@ pub(super) fn back<S: StrDrive, A: Allocator, const KEEPS: bool>(
     memo: &mut Memo<A>,
 ) -> Result<Option<Next>, Refusal>
     requires stands { IsBack (run_of req.now) board.old }
-    requires remembers { Remembers (run_of req.now) memo.old.kept }
+    requires remembers { Recalls (run_of req.now) memo.old }
     ensures next { IfOk result (λ found. MatchOption found
         (Finishes req.now KEEPS board.old memo.old memo.new)
         (λ next. Retreats req.now KEEPS board.old memo.old next board.new memo.new)) }
-    ensures remembers { Remembers (run_of req.now) memo.new.kept }
-    ensures same { IfOk result (λ _. memo.new ≡ record memo.old { kept = memo.new.kept }) }
+    ensures remembers { Recalls (run_of req.now) memo.new }
+    ensures same { IfOk result (λ _. memo.new ≡ record memo.old { kept = memo.new.kept; marked = memo.new.marked }) }
 {
     'choice: loop {
         let Some(choice) = board.back() else {

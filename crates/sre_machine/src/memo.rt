@@ -6,20 +6,25 @@
 //! twice as many for each character. The run that is under way then goes on, and remembers what it tries from there on;
 //! within turns it begins again.
 
-ghost use Rattle.std.specs.Prelude.{[], ℕ, ◌≡◌, ◌+◌, ◌-◌, ◌*◌, ◌<◌, ◌≤◌, true, false};
+ghost use Rattle.std.specs.Prelude.{[], ℕ, ◌≡◌, ◌⊎◌, ◌+◌, ◌-◌, ◌*◌, ◌<◌, ◌≤◌, None, slice_index_or, true, false};
+ghost use Rattle.sre_model.specs.Marks.{mark_at};
 ghost use Rattle.sre_turns.specs.Fruit.{is_inside};
+ghost use Rattle.sre_turns.specs.MovesAtReferences.{Named};
 ghost use Rattle.sre_turns.specs.Moves.{spot_at};
 ghost use Rattle.sre_turns.specs.declared.Point.TheVariants.{Instruction};
 ghost use Rattle.sre_growth.specs.Refusal.{Refused};
-ghost use Rattle.sre_board.specs.Failures.{HoldsNone, HoldsNoMore, Remembers, Tells};
+ghost use Rattle.sre_board.specs.Failures.{HoldsNone, HoldsNoMore, HoldsOneMore, Tells};
+ghost use Rattle.sre_machine.specs.Memos.{Recalls};
 ghost use Rattle.sre_board.specs.Failures.{HoldsStill, BitsStay, BitsKept, Roomy, Laid, ones};
 ghost use Rattle.sre_board.specs.Failures.{Capacity, HasRow, HasSlots, NewRow, KeepsSpot, kept_of};
 ghost use Rattle.sre_turns.specs.Nested.{repeats};
 ghost use Rattle.sre_request.specs.Requests.{start_of, end_of};
 ghost use Rattle.sre_request.specs.Runs.{run_of};
 
+use crate::marked::Marked;
 use sre_board::{Board, Failures, Known};
 use sre_chars::string::StrDrive;
+use sre_code::operands::know_words;
 use sre_growth::Refusal;
 use sre_request::Request;
 use std::alloc::Allocator;
@@ -35,6 +40,8 @@ const TURNS_EACH: usize = 32;
 #[derive(Drop)]
 pub struct Memo<A: Allocator> {
     failures: Failures<A>,
+    // those that are kept while marks are set which are asked for
+    marked: Marked<A>,
     // how many steps are left before the next look
     patience: usize,
     // how many were taken up to that look
@@ -52,7 +59,7 @@ impl<A: Allocator> Model for Memo<A> {
 
     ghost Value = { MemoValue };
 
-    ghost view = { λ m. memo_of m.failures m.patience m.waited m.waits m.is_open m.refused };
+    ghost view = { λ m. memo_of m.failures m.marked m.patience m.waited m.waits m.is_open m.refused };
 
     ghost invariant = { λ m. IsMemo m.is_open m.patience };
 }
@@ -61,11 +68,13 @@ impl<A: Allocator + Copy> Memo<A> {
     /// No failures. It takes no memory.
     pub fn new(alloc: A) -> Memo<A>
         ensures none { HoldsNone result.kept }
+        ensures unmarked { HoldsNone result.marked.kept }
         ensures opened { result.is_open ≡ false }
         ensures stopped { result.stopped ≡ false }
     {
         Memo {
             failures: Failures::new(alloc),
+            marked: Marked::new(alloc),
             patience: STRIDE,
             waited: STRIDE,
             waits: 0,
@@ -80,7 +89,7 @@ impl<A: Allocator> Memo<A> {
     /// of memory is kept.
     #[inline(always)]
     pub fn begin<S: StrDrive>(&mut self, req: &Request<'_, S>, board: &mut Board<A>)
-        ensures remembers { Remembers (run_of req.now) self.new.kept }
+        ensures remembers { Recalls (run_of req.now) self.new }
         ensures none { HoldsNone self.new.kept }
         ensures empty { self.new.kept ≡ kept_of [] [] [] }
         ensures opened { self.new.is_open ≡ false }
@@ -89,7 +98,9 @@ impl<A: Allocator> Memo<A> {
         ensures board { board.new ≡ board.old }
     {
         let _counted = (board.take_passed(), board.take_entered());
+        know_words(req.pattern_codes().items());
         self.failures.forget();
+        self.marked.begin();
         self.patience = STRIDE;
         self.waited = STRIDE;
         let window = req.end().saturating_sub(req.start());
@@ -114,8 +125,11 @@ impl<A: Allocator> Memo<A> {
         ensures opened { self.new.is_open ≡ true }
         ensures empty { self.new.kept ≡ kept_of [] [] [] }
         ensures none { HoldsNone self.new.kept }
+        ensures unmarked { HoldsNone self.new.marked.kept }
+        ensures end { self.new.marked.end ≡ self.old.marked.end }
     {
         self.failures.forget();
+        self.marked.forget();
         self.patience = 0;
         self.is_open = true;
     }
@@ -146,6 +160,7 @@ impl<A: Allocator> Memo<A> {
     #[inline(always)]
     pub(crate) fn opens<S: StrDrive>(&mut self, req: &Request<'_, S>, board: &mut Board<A>) -> bool
         ensures kept { self.new.kept ≡ self.old.kept }
+        ensures marked { self.new.marked ≡ self.old.marked }
         ensures stopped { self.new.stopped ≡ self.old.stopped }
         ensures opened { self.new.is_open ≡ result }
         ensures board { board.new ≡ board.old }
@@ -163,6 +178,7 @@ impl<A: Allocator> Memo<A> {
     fn looks<S: StrDrive>(&mut self, req: &Request<'_, S>, board: &mut Board<A>) -> bool
         requires { self.old.patience ≡ 0 }
         ensures kept { self.new.kept ≡ self.old.kept }
+        ensures marked { self.new.marked ≡ self.old.marked }
         ensures stopped { self.new.stopped ≡ self.old.stopped }
         ensures opened { self.new.is_open ≡ result }
         ensures board { board.new ≡ board.old }
@@ -192,6 +208,7 @@ impl<A: Allocator> Memo<A> {
         first: usize,
         end: usize,
     )
+        ensures marked { self.new.marked ≡ self.old.marked }
         ensures no_more { HoldsNoMore self.old.kept self.new.kept }
         ensures still { HoldsStill self.old.kept self.new.kept }
         ensures stay { BitsStay self.old.kept self.new.kept }
@@ -209,11 +226,22 @@ impl<A: Allocator> Memo<A> {
         ensures refused { self.new.stopped ≡ true → Refused }
     {
         if let Err(refusal) = self.failures.prepare(words, board, place, first, end) {
-            self.patience = usize::MAX;
-            self.waits = usize::MAX;
-            self.is_open = false;
-            self.refused = Some(refusal);
+            self.close(refusal);
         }
+    }
+
+    // No more failures are kept, since memory was refused.
+    #[inline(always)]
+    fn close(&mut self, refusal: Refusal)
+        ensures kept { self.new.kept ≡ self.old.kept }
+        ensures marked { self.new.marked ≡ self.old.marked }
+        ensures stopped { self.new.stopped ≡ true }
+        ensures refused { Refused }
+    {
+        self.patience = usize::MAX;
+        self.waits = usize::MAX;
+        self.is_open = false;
+        self.refused = Some(refusal);
     }
 
     // What is known of an instruction at a position, as the board is.
@@ -239,5 +267,86 @@ impl<A: Allocator> Memo<A> {
         ensures same { self.new ≡ record self.old { kept = self.new.kept } }
     {
         self.failures.keep(words, board, place, position);
+    }
+
+    // Whether failures are kept under marks that are the same as these from an entry on.
+    #[inline(always)]
+    pub(crate) fn agrees(&self, raw: &[Option<usize>], from: usize) -> bool
+        ensures { result ≡ true → (k : ℕ) → from ≤ k → k < self.now.marked.end
+            → mark_at self.now.marked.marks k ≡ slice_index_or raw.now k None }
+    {
+        self.marked.agrees(raw, from)
+    }
+
+    // Other marks were met, which are taken over where that was often enough.
+    #[inline(never)]
+    pub(crate) fn meets(&mut self, words: &[u32], raw: &[Option<usize>])
+        ensures marked { (self.new.marked ≡ self.old.marked) ⊎ HoldsNone self.new.marked.kept }
+        ensures end { (self.new.marked.end ≡ self.old.marked.end)
+            ⊎ ((g : ℕ) → Named words.now g → 2 * g + 1 < self.new.marked.end) }
+        ensures kept { self.new.kept ≡ self.old.kept }
+        ensures still { self.old.is_open ≡ true → self.new.is_open ≡ true ⊎ Refused }
+    {
+        if !self.marked.is_worn() {
+            return;
+        }
+        if let Err(refusal) = self.marked.adopt(words, raw) {
+            self.close(refusal);
+        }
+    }
+
+    // Makes room for the failures of a place under marks, if there is none.
+    #[inline(always)]
+    pub(crate) fn prepare_marked(
+        &mut self,
+        words: &[u32],
+        board: &Board<A>,
+        place: usize,
+        first: usize,
+        end: usize,
+    )
+        ensures no_more { HoldsNoMore self.old.marked.kept self.new.marked.kept }
+        ensures kept { self.new.kept ≡ self.old.kept }
+        ensures marks { self.new.marked.marks ≡ self.old.marked.marks }
+        ensures end { self.new.marked.end ≡ self.old.marked.end }
+        ensures still { self.old.is_open ≡ true → self.new.is_open ≡ true ⊎ Refused }
+    {
+        if let Err(refusal) = self.marked.prepare(words, board, place, first, end) {
+            self.close(refusal);
+        }
+    }
+
+    // What is known of an instruction at a position under marks, as the board is.
+    #[inline(always)]
+    pub(crate) fn known_marked(
+        &self,
+        words: &[u32],
+        board: &Board<A>,
+        place: usize,
+        position: usize,
+    ) -> Known
+        ensures { Tells result self.now.marked.kept words.now (is_inside board.now.choices)
+            (spot_at (Instruction place) board.now.frames position board.now.marks) }
+    {
+        self.marked.known(words, board, place, position)
+    }
+
+    // Keeps that an instruction fails at a position under marks, as the board is.
+    #[inline(always)]
+    pub(crate) fn keep_marked(
+        &mut self,
+        words: &[u32],
+        board: &Board<A>,
+        place: usize,
+        position: usize,
+    )
+        ensures more { HoldsOneMore words.now (is_inside board.now.choices)
+            (spot_at (Instruction place) board.now.frames position board.now.marks) self.old.marked.kept
+            self.new.marked.kept }
+        ensures marks { self.new.marked.marks ≡ self.old.marked.marks }
+        ensures end { self.new.marked.end ≡ self.old.marked.end }
+        ensures same { self.new ≡ record self.old { marked = self.new.marked } }
+    {
+        self.marked.keep(words, board, place, position);
     }
 }

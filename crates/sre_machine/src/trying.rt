@@ -1,6 +1,7 @@
 //! Instructions that are tried: what failed is kept, and where it comes again the machine goes back at once.
 
-ghost use Rattle.std.specs.Prelude.{◌≡◌, ◌⊎◌, IfOk, true, false};
+ghost use Rattle.std.specs.Prelude.{◌≡◌, ◌≢◌, ◌⊎◌, IfOk, true, false};
+ghost use Rattle.sre_model.specs.Marks.{Marks};
 ghost use Rattle.sre_chars.specs.declared.constants.SreOpcode.{SreOpcode};
 ghost use Rattle.sre_model.specs.Roles.{role};
 ghost use Rattle.sre_turns.specs.Potential.{units};
@@ -9,8 +10,8 @@ ghost use Rattle.sre_turns.specs.declared.Point.TheVariants.{Instruction};
 ghost use Rattle.sre_turns.specs.Fruit.{is_inside};
 ghost use Rattle.sre_turns.specs.Machine.{IsAt, spot};
 ghost use Rattle.sre_turns.specs.MovesAtReferences.{HasReference};
-ghost use Rattle.sre_turns.specs.Asked.{Unmarked};
-ghost use Rattle.sre_board.specs.Failures.{Remembers};
+ghost use Rattle.sre_turns.specs.Asked.{MarksAlike, Unmarked};
+ghost use Rattle.sre_machine.specs.Memos.{Recalls};
 ghost use Rattle.sre_request.specs.Runs.{run_of, OpcodeAt};
 ghost use Rattle.sre_machine.specs.Turns.{At, Fails, Takes, GivesUp, GoesOn, TriesOn, StaysAt};
 ghost use Rattle.sre_turns.specs.RunEnds.{RunsOn};
@@ -60,18 +61,81 @@ fn is_unmarked<S: StrDrive, A: Allocator>(req: &Request<'_, S>, board: &Board<A>
     board.marks().raw().len() <= first
 }
 
-// Whether failures are kept by now, and what comes of a spot is told without its marks.
+// Whether the marks that the words ask for are those under which the memo keeps failures.
 #[inline(always)]
-fn keeps_failures<S: StrDrive, A: Allocator>(
+fn is_marked_so<S: StrDrive, A: Allocator>(
     req: &Request<'_, S>,
     board: &Board<A>,
     memo: &Memo<A>,
 ) -> bool
-    ensures opened { result ≡ true → memo.now.is_open ≡ true }
-    ensures unmarked { result ≡ true → Unmarked (run_of req.now).words board.now.marks }
-    ensures left { result ≡ false → memo.now.is_open ≡ true → HasReference (run_of req.now).words }
+    requires { Recalls (run_of req.now) memo.now }
+    ensures { result ≡ true → MarksAlike (run_of req.now).words memo.now.marked.marks board.now.marks }
 {
-    memo.is_open() && is_unmarked(req, board)
+    let first = 2 * req.pattern_codes().asked_from() as usize;
+    memo.agrees(board.marks().raw(), first)
+}
+
+// Under which marks failures are kept, those of the board being such.
+#[derive(Clone, Copy, Debug, PartialEq, Eq)]
+enum Keeping {
+    // None are kept.
+    Nothing,
+    // No mark is set that the words ask for.
+    Unmarked,
+    // The marks that the words ask for are those which the memo has.
+    Marked,
+}
+
+// Under which marks failures are kept, for the instruction at a place. Under those of the memo there are failures only
+// where the machine may branch.
+#[inline(always)]
+fn keeping_at<S: StrDrive, A: Allocator>(
+    req: &Request<'_, S>,
+    board: &Board<A>,
+    memo: &Memo<A>,
+    place: usize,
+    cursor: StringCursor,
+) -> Keeping
+    requires stands { At req.now place cursor }
+    requires remembers { Recalls (run_of req.now) memo.now }
+    ensures opened { result ≢ Keeping.Nothing → memo.now.is_open ≡ true }
+    ensures unmarked { result ≡ Keeping.Unmarked → Unmarked (run_of req.now).words board.now.marks }
+    ensures marked { result ≡ Keeping.Marked
+        → MarksAlike (run_of req.now).words memo.now.marked.marks board.now.marks }
+    ensures refers { result ≡ Keeping.Marked → HasReference (run_of req.now).words }
+    ensures left { result ≡ Keeping.Nothing → memo.now.is_open ≡ true → HasReference (run_of req.now).words }
+{
+    if !memo.is_open() {
+        return Keeping::Nothing;
+    }
+    if is_unmarked(req, board) {
+        return Keeping::Unmarked;
+    }
+    if may_branch(req, place, cursor) && is_marked_so(req, board, memo) {
+        return Keeping::Marked;
+    }
+    Keeping::Nothing
+}
+
+// Keeps an instruction of which nothing came under marks that are asked for, if they are those of the memo.
+#[inline(never)]
+fn keep_marked<S: StrDrive, A: Allocator>(
+    req: &Request<'_, S>,
+    board: &Board<A>,
+    memo: &mut Memo<A>,
+    place: usize,
+    cursor: StringCursor,
+)
+    requires failed { (m : Marks) → MarksAlike (run_of req.now).words m board.now.marks
+        → Fails req.now place cursor.position m board.now }
+    requires remembers { Recalls (run_of req.now) memo.old }
+    ensures remembers { Recalls (run_of req.now) memo.new }
+    ensures same { memo.new ≡ record memo.old { marked = memo.new.marked } }
+{
+    if is_marked_so(req, board, memo) {
+        let words = req.pattern_codes().items();
+        memo.keep_marked(words, board, place, cursor.position());
+    }
 }
 
 // Keeps an instruction of which nothing came.
@@ -83,17 +147,19 @@ pub(super) fn keep<S: StrDrive, A: Allocator>(
     place: usize,
     cursor: StringCursor,
 )
-    requires failed { Unmarked (run_of req.now).words board.now.marks
-        → Fails req.now place cursor.position board.now }
-    requires remembers { Remembers (run_of req.now) memo.old.kept }
-    ensures remembers { Remembers (run_of req.now) memo.new.kept }
-    ensures same { memo.new ≡ record memo.old { kept = memo.new.kept } }
+    requires failed { (m : Marks) → MarksAlike (run_of req.now).words m board.now.marks
+        → Fails req.now place cursor.position m board.now }
+    requires remembers { Recalls (run_of req.now) memo.old }
+    ensures remembers { Recalls (run_of req.now) memo.new }
+    ensures same { memo.new ≡ record memo.old { kept = memo.new.kept; marked = memo.new.marked } }
     ensures account { is_inside board.now.choices ≡ false
         → HoldsTried req.now (spot (Instruction place) cursor board.now) memo.old.kept memo.new.kept }
 {
     if is_unmarked(req, board) {
         let words = req.pattern_codes().items();
         memo.keep(words, board, place, cursor.position());
+    } else {
+        keep_marked(req, board, memo, place, cursor);
     }
 }
 
@@ -108,10 +174,10 @@ fn has_failed<S: StrDrive, A: Allocator>(
     place: usize,
     cursor: StringCursor,
 ) -> bool
-    requires remembers { Remembers (run_of req.now) memo.old.kept }
+    requires remembers { Recalls (run_of req.now) memo.old }
     requires opened { memo.old.is_open ≡ true }
     requires unmarked { Unmarked (run_of req.now).words board.old.marks }
-    ensures remembers { Remembers (run_of req.now) memo.new.kept }
+    ensures remembers { Recalls (run_of req.now) memo.new }
     ensures left { result ≡ true → GivesUp req.now place cursor board.old memo.old board.new memo.new }
     ensures stays { result ≡ false → StaysAt req.now place cursor board.old board.new }
     ensures goes { result ≡ false → GoesOn req.now place cursor board.old memo.old board.new memo.new }
@@ -130,6 +196,57 @@ fn has_failed<S: StrDrive, A: Allocator>(
     }
 }
 
+// The same under marks that the words ask for, which are those of the memo.
+#[inline(never)]
+fn has_failed_marked<S: StrDrive, A: Allocator>(
+    req: &Request<'_, S>,
+    board: &mut Board<A>,
+    memo: &mut Memo<A>,
+    place: usize,
+    cursor: StringCursor,
+) -> bool
+    requires remembers { Recalls (run_of req.now) memo.old }
+    requires marked { MarksAlike (run_of req.now).words memo.old.marked.marks board.old.marks }
+    requires refers { HasReference (run_of req.now).words }
+    ensures remembers { Recalls (run_of req.now) memo.new }
+    ensures left { result ≡ true → GivesUp req.now place cursor board.old memo.old board.new memo.new }
+    ensures stays { result ≡ false → StaysAt req.now place cursor board.old board.new }
+    ensures goes { result ≡ false → GoesOn req.now place cursor board.old memo.old board.new memo.new }
+    ensures tries { result ≡ false → TriesOn req.now place cursor board.old memo.old board.new memo.new }
+    ensures still { memo.old.is_open ≡ true → memo.new.is_open ≡ true ⊎ Refused }
+{
+    let words = req.pattern_codes().items();
+    memo.prepare_marked(words, board, place, req.start(), req.end());
+    match memo.known_marked(words, board, place, cursor.position()) {
+        Known::Failed => true,
+        Known::Open => {
+            let _made = board.begin_trying(place, cursor);
+            false
+        }
+        Known::NoBit => false,
+    }
+}
+
+// Takes note of marks under which no failures are kept, at an instruction where they might be.
+#[inline(always)]
+fn meet_marks<S: StrDrive, A: Allocator>(
+    req: &Request<'_, S>,
+    board: &Board<A>,
+    memo: &mut Memo<A>,
+    place: usize,
+    cursor: StringCursor,
+)
+    requires stands { At req.now place cursor }
+    requires remembers { Recalls (run_of req.now) memo.old }
+    ensures remembers { Recalls (run_of req.now) memo.new }
+    ensures closed { memo.old.is_open ≡ false → memo.new ≡ memo.old }
+    ensures still { memo.old.is_open ≡ true → memo.new.is_open ≡ true ⊎ Refused }
+{
+    if memo.is_open() && may_branch(req, place, cursor) {
+        memo.meets(req.pattern_codes().items(), board.marks().raw());
+    }
+}
+
 // Whether an instruction is left at once, since failures are kept and it is known to fail. Where it is not, the machine
 // stands there still.
 #[inline(always)]
@@ -137,47 +254,56 @@ fn is_hopeless<S: StrDrive, A: Allocator>(
     req: &Request<'_, S>,
     board: &mut Board<A>,
     memo: &mut Memo<A>,
-    keeps: bool,
+    keeping: Keeping,
     place: usize,
     cursor: StringCursor,
 ) -> bool
     requires stands { At req.now place cursor }
-    requires remembers { Remembers (run_of req.now) memo.old.kept }
-    requires opened { keeps ≡ true → memo.old.is_open ≡ true }
-    requires unmarked { keeps ≡ true → Unmarked (run_of req.now).words board.old.marks }
-    requires left { keeps ≡ false → memo.old.is_open ≡ true → HasReference (run_of req.now).words }
-    ensures remembers { Remembers (run_of req.now) memo.new.kept }
+    requires remembers { Recalls (run_of req.now) memo.old }
+    requires opened { keeping ≢ Keeping.Nothing → memo.old.is_open ≡ true }
+    requires unmarked { keeping ≡ Keeping.Unmarked → Unmarked (run_of req.now).words board.old.marks }
+    requires marked { keeping ≡ Keeping.Marked
+        → MarksAlike (run_of req.now).words memo.old.marked.marks board.old.marks }
+    requires refers { keeping ≡ Keeping.Marked → HasReference (run_of req.now).words }
+    requires left { keeping ≡ Keeping.Nothing → memo.old.is_open ≡ true → HasReference (run_of req.now).words }
+    ensures remembers { Recalls (run_of req.now) memo.new }
     ensures left { result ≡ true → GivesUp req.now place cursor board.old memo.old board.new memo.new }
     ensures stays { result ≡ false → StaysAt req.now place cursor board.old board.new }
     ensures goes { result ≡ false → GoesOn req.now place cursor board.old memo.old board.new memo.new }
-    ensures tries { result ≡ false → keeps ≡ true → RunsOn (run_of req.now).words place
+    ensures tries { result ≡ false → keeping ≢ Keeping.Nothing → RunsOn (run_of req.now).words place
         → TriesOn req.now place cursor board.old memo.old board.new memo.new }
-    ensures closed { keeps ≡ false → memo.new ≡ memo.old }
+    ensures closed { memo.old.is_open ≡ false → memo.new ≡ memo.old }
     ensures still { memo.old.is_open ≡ true → memo.new.is_open ≡ true ⊎ Refused }
 {
-    if !keeps {
-        return false;
+    match keeping {
+        Keeping::Nothing => {
+            meet_marks(req, board, memo, place, cursor);
+            false
+        }
+        Keeping::Unmarked => {
+            if !may_branch(req, place, cursor) {
+                return false;
+            }
+            has_failed(req, board, memo, place, cursor)
+        }
+        Keeping::Marked => has_failed_marked(req, board, memo, place, cursor),
     }
-    if !may_branch(req, place, cursor) {
-        return false;
-    }
-    has_failed(req, board, memo, place, cursor)
 }
 
 // Whether failures are kept and a run without a greatest count is at a place.
 #[inline(always)]
 fn goes_on_endlessly<S: StrDrive>(
     req: &Request<'_, S>,
-    keeps: bool,
+    keeping: Keeping,
     place: usize,
     cursor: StringCursor,
 ) -> bool
     requires { At req.now place cursor }
-    ensures keeps { result ≡ true → keeps ≡ true }
+    ensures keeps { result ≡ true → keeping ≢ Keeping.Nothing }
     ensures on { result ≡ true → RunsOn (run_of req.now).words place }
-    ensures off { result ≡ false → keeps ≡ true → RunsOn (run_of req.now).words place → ⊥ }
+    ensures off { result ≡ false → keeping ≢ Keeping.Nothing → RunsOn (run_of req.now).words place → ⊥ }
 {
-    keeps && is_endless_run(req, place, cursor)
+    keeping != Keeping::Nothing && is_endless_run(req, place, cursor)
 }
 
 /// One instruction, which is left at once where it is known to fail.
@@ -191,17 +317,17 @@ pub(super) fn instruction_or_back<S: StrDrive, A: Allocator>(
     cursor: StringCursor,
 ) -> Result<Next, Refusal>
     requires stands { IsAt (run_of req.now) (Instruction place) cursor board.old }
-    requires remembers { Remembers (run_of req.now) memo.old.kept }
+    requires remembers { Recalls (run_of req.now) memo.old }
     ensures turn { IfOk result (λ next. Takes req.now place cursor board.old memo.old next board.new memo.new) }
-    ensures remembers { Remembers (run_of req.now) memo.new.kept }
+    ensures remembers { Recalls (run_of req.now) memo.new }
     ensures closed { memo.old.is_open ≡ false → memo.new ≡ memo.old }
     ensures still { memo.old.is_open ≡ true → memo.new.is_open ≡ true ⊎ Refused }
 {
-    let keeps = keeps_failures(req, board, memo);
-    if is_hopeless(req, board, memo, keeps, place, cursor) {
+    let keeping = keeping_at(req, board, memo, place, cursor);
+    if is_hopeless(req, board, memo, keeping, place, cursor) {
         return Ok(Next::Back);
     }
-    if goes_on_endlessly(req, keeps, place, cursor) {
+    if goes_on_endlessly(req, keeping, place, cursor) {
         return endless_run(req, board, place, cursor);
     }
     instruction(req, board, place, cursor)

@@ -12,7 +12,7 @@ ghost use Rattle.sre_turns.specs.Board.{bare};
 ghost use Rattle.sre_turns.specs.Machine.{StandsWithin, SaysAccepted, Decides, outcomes};
 ghost use Rattle.sre_machine.specs.Paying.{Remembering, each_of, GivenUp, Settles, Waited, IfDecided};
 ghost use Rattle.sre_machine.specs.Paying.{RunGivenUp, RunSettles, AnewGivenUp, AnewSettles};
-ghost use Rattle.sre_board.specs.Failures.{Remembers};
+ghost use Rattle.sre_machine.specs.Memos.{Recalls};
 ghost use Rattle.sre_request.specs.Requests.{end_of, asked_of};
 ghost use Rattle.sre_request.specs.Runs.{run_of, Standing};
 
@@ -212,11 +212,11 @@ fn remembering_turns<L: Ledger, K: Plan, S: StrDrive, A: Allocator>(
 ) -> Result<Decision, Halt>
     requires within { turned.old ≤ K.limit }
     requires stands { StandsWithin (run_of req.now) K.all (K.limit - turned.old) first board.old }
-    requires remembers { Remembers (run_of req.now) memo.old.kept }
+    requires remembers { Recalls (run_of req.now) memo.old }
     ensures decides { IfOk result
         (λ told. IfDecided told (λ found. Decides (run_of req.now) K.all found board.new.marks)) }
     ensures opened { memo.old.is_open ≡ true → IfOk result (λ told. told ≢ Decision.Opened) }
-    ensures remembers { Remembers (run_of req.now) memo.new.kept }
+    ensures remembers { Recalls (run_of req.now) memo.new }
     ensures fewer { left.new ≤ left.old }
     ensures spent { left.old ≤ left.new + (K.limit + 1) * most_each (asked_of req.now) }
     ensures used { IfErr result (λ halt. halt ≡ Halt.UsedUp → (limited ≡ true) × (left.new ≡ 0)) }
@@ -278,10 +278,10 @@ fn turns<L: Ledger, K: Plan, S: StrDrive, A: Allocator>(
 ) -> Result<Decision, Halt>
     requires new { turned.old ≡ 0 }
     requires stands { StandsWithin (run_of req.now) K.all K.limit (Next.At place start) board.old }
-    requires remembers { Remembers (run_of req.now) memo.old.kept }
+    requires remembers { Recalls (run_of req.now) memo.old }
     ensures decides { IfOk result
         (λ told. IfDecided told (λ found. Decides (run_of req.now) K.all found board.new.marks)) }
-    ensures remembers { Remembers (run_of req.now) memo.new.kept }
+    ensures remembers { Recalls (run_of req.now) memo.new }
     ensures decided { IfOk result (λ told. told ≢ Decision.Opened) }
     ensures used { IfErr result (λ halt. halt ≡ Halt.UsedUp → ⊥) }
 {
@@ -343,8 +343,8 @@ fn turns_from<L: Ledger, K: Plan, S: StrDrive, A: Allocator>(
     requires some { 0 < blank.parts }
     requires room { 2 * literals < 2 ^ 64 }
     requires stands { StandsWithin (run_of req.now) K.all K.limit (Next.At (2 * literals) start) board.old }
-    requires remembers { Remembers (run_of req.now) memo.old.kept }
-    ensures remembers { Remembers (run_of req.now) memo.new.kept }
+    requires remembers { Recalls (run_of req.now) memo.old }
+    ensures remembers { Recalls (run_of req.now) memo.new }
     ensures decides { IfOk result
         (λ told. IfDecided told (λ found. Decides (run_of req.now) K.all found board.new.marks)) }
     ensures opened { memo.old.is_open ≡ true → IfOk result (λ told. told ≢ Decision.Opened) }
@@ -391,8 +391,8 @@ fn run_once<S: StrDrive, A: Allocator>(
     requires behind { (t : Tree) → WholeItems (run_of req.now).words t → ReadsBehind (run_of req.now).words literals t }
     requires room { 2 * literals < 2 ^ 64 }
     requires few { begun.old + 1 < 2 ^ 64 }
-    requires remembers { Remembers (run_of req.now) memo.old.kept }
-    ensures remembers { Remembers (run_of req.now) memo.new.kept }
+    requires remembers { Recalls (run_of req.now) memo.old }
+    ensures remembers { Recalls (run_of req.now) memo.new }
     ensures counted { begun.new ≡ begun.old + 1 }
     ensures decides { (t : Tree) → WholeItems (run_of req.now).words t
         → IfOk result (λ told. IfDecided told
@@ -444,7 +444,8 @@ fn run_anew<S: StrDrive, A: Allocator>(
     requires behind { (t : Tree) → WholeItems (run_of req.now).words t → ReadsBehind (run_of req.now).words literals t }
     requires room { 2 * literals < 2 ^ 64 }
     requires few { begun.old + 1 < 2 ^ 64 }
-    ensures remembers { Remembers (run_of req.now) memo.new.kept }
+    requires remembers { Recalls (run_of req.now) memo.old }
+    ensures remembers { Recalls (run_of req.now) memo.new }
     ensures counted { begun.new ≡ begun.old + 1 }
     ensures decides { (t : Tree) → WholeItems (run_of req.now).words t
         → IfOk result
@@ -491,8 +492,8 @@ pub fn run_from<S: StrDrive, A: Allocator>(
     requires room { 2 * literals < 2 ^ 64 }
     requires few { begun.old.started + 1 < 2 ^ 64 }
     requires few_restarted { begun.old.restarted + 1 < 2 ^ 64 }
-    requires remembers { Remembers (run_of req.now) memo.old.kept }
-    ensures remembers { Remembers (run_of req.now) memo.new.kept }
+    requires remembers { Recalls (run_of req.now) memo.old }
+    ensures remembers { Recalls (run_of req.now) memo.new }
     ensures counted { begun.new.started ≡ begun.old.started + 1 }
     ensures restarted { (begun.old.restarted ≤ begun.new.restarted) × (begun.new.restarted ≤ begun.old.restarted + 1) }
     ensures unlimited { limited ≡ false → begun.new.restarted ≡ begun.old.restarted }

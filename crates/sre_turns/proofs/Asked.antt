@@ -76,9 +76,10 @@ module _ (ws : List ℕ) where
   alike_set m o n p h = λ g asks.
       let both = h g asks in (mark_in_both m o n p (2 * g) both.0, mark_in_both m o n p (2 * g + 1) both.1)
 
-  pub unmarked_alike : (m n : Marks) → Unmarked ws m → Unmarked ws n → MarksAlike ws m n
-  unmarked_alike m n h k = λ g asks.
-      let one = h g asks in let other = k g asks in (one.0 ∙ sym other.0, one.1 ∙ sym other.1)
+  -- marks that are alike to the same ones
+  pub both_alike : (l m n : Marks) → MarksAlike ws l m → MarksAlike ws l n → MarksAlike ws m n
+  both_alike l m n h k = λ g asks.
+      let one = h g asks in let other = k g asks in (sym one.0 ∙ other.0, sym one.1 ∙ other.1)
 
   -- where the words have no reference all marks are alike
   pub apart_alike : (HasReference ws → ⊥) → (m n : Marks) → MarksAlike ws m n
@@ -89,7 +90,18 @@ module _ (ws : List ℕ) where
       → Unmarked ws m
   few_unmarked m least from l = λ g asks.
       let far : least ≤ g = from g asks in
-      (past_end m.raw (2 * g) (omega (arith, far, l)), past_end m.raw (2 * g + 1) (omega (arith, far, l)))
+      (sym (past_end m.raw (2 * g) (omega (arith, far, l))), sym (past_end m.raw (2 * g + 1) (omega (arith, far, l))))
+
+  -- marks that are the same from the first group that is asked for up to the last
+  pub from_alike : (m n : Marks) (least most : ℕ) → ((g : ℕ) → Asks ws g → least ≤ g)
+      → ((g : ℕ) → Asks ws g → 2 * g + 1 < most)
+      → ((k : ℕ) → 2 * least ≤ k → k < most → mark_at m k ≡ mark_at n k) → MarksAlike ws m n
+  from_alike m n least most from to same = λ g asks.
+      let far : least ≤ g = from g asks in
+      let few : 2 * g + 1 < most = to g asks in (
+        same (2 * g) (omega (arith, far)) (omega (arith, few)),
+        same (2 * g + 1) (omega (arith, far)) (omega (arith, few)),
+      )
 
   -- a group that is asked for is the same in both
   pub group_alike : (m n : Marks) (g : ℕ) → Asks ws g → MarksAlike ws m n → group m g ≡ group n g

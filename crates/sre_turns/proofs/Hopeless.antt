@@ -3,6 +3,7 @@
 use Rattle.std.proofs.Common.{◌≡◌, ℕ, Bool, true, false, List, [], ◌∷◌, refl, sym, ◌∙◌, subst}
 use Rattle.std.specs.List.{filter}
 use Rattle.std.proofs.lemmas.Bool.{true≢false}
+use Rattle.sre_model.specs.Marks.{Marks}
 use Rattle.sre_model.specs.Tree.{Tree}
 use Rattle.sre_model.specs.References.{refers}
 use Rattle.sre_model.specs.Ways.{Way}
@@ -14,10 +15,10 @@ use Rattle.sre_turns.specs.Board.{Choice, from_region}
 use Rattle.sre_turns.specs.Moves.{Spot}
 use Rattle.sre_turns.specs.MovesAtReferences.{HasReference}
 use Rattle.sre_turns.specs.Machine.{Runs, Waits}
-use Rattle.sre_turns.specs.Asked.{Unmarked}
+use Rattle.sre_turns.specs.Asked.{MarksAlike}
 use Rattle.sre_turns.specs.Hopeless.{Fruitless, Hopeless, AcceptsByStop, is_inside}
 use Rattle.sre_turns.proofs.FirstOutcomes.{none_passes}
-use Rattle.sre_turns.proofs.SameComes.{unmarked_come}
+use Rattle.sre_turns.proofs.SameComes.{marked_come}
 use Rattle.sre_turns.proofs.Start.{refused_waits}
 
 -- the words of a tree that has no reference have none
@@ -37,12 +38,13 @@ same_fruitless r told true (x ∷ xs) [] h e = refl
 same_fruitless r told true (x ∷ xs) (y ∷ ys) h e = absurd (cc)
 same_fruitless r told false xs ys h e = none_passes r.accepts told xs ys h e
 
--- a spot that was fruitless is hopeless, where no mark is set that the words ask for
-pub hopeless_again : (r : Run) → AcceptsByStop r → (inside : Bool) (x : Spot) → Unmarked r.words x.marks
-    → (os : List Way) (n : ℕ) → Runs r.words r.subject x os n → Fruitless r inside os → Hopeless r inside x
-hopeless_again r told inside x unmarked os n d e = record {
+-- a spot that was fruitless is hopeless under marks that are alike to its own
+pub hopeless_again : (r : Run) → AcceptsByStop r → (inside : Bool) (m : Marks) (x : Spot)
+    → MarksAlike r.words m x.marks → (os : List Way) (n : ℕ) → Runs r.words r.subject x os n → Fruitless r inside os
+    → Hopeless r inside m x
+hopeless_again r told inside m x one os n d e = record {
   none = λ y us k h other d'.
-      same_fruitless r told inside os us (unmarked_come r.words r.subject h unmarked other d d').0 e;
+      same_fruitless r told inside os us (marked_come r.words r.subject m h one other d d').0 e;
 }
 
 -- outside all regions what is not accepted may be left out

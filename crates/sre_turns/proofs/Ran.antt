@@ -16,7 +16,7 @@ use Rattle.sre_turns.specs.declared.Frame.{Frame}
 use Rattle.sre_turns.specs.declared.Point.TheVariants.{Instruction, Alternatives}
 use Rattle.sre_model.specs.Standing.{AreWords}
 use Rattle.sre_turns.specs.Moves.{spot_at, Stop, Go}
-use Rattle.sre_turns.specs.MovesAtReferences.{Asks}
+use Rattle.sre_turns.specs.MovesAtReferences.{MayAsk}
 use Rattle.sre_turns.specs.Machine.{Runs, turns, stops, goes}
 use Rattle.sre_model.specs.Roles.{ToFail, ToBranch}
 use Rattle.sre_turns.proofs.Moving.{at_instruction}
@@ -36,13 +36,13 @@ use Rattle.sre_turns.proofs.RanAtReferences.{reference-ran, condition-ran, prese
 
 -- what a part of the words asks for, the words do
 abbrev pub AskedIn : List ℕ → Tree → Type 0
-AskedIn ws t = (g : ℕ) → refers t ≡ true → asked_from t ≤ g → Asks ws g
+AskedIn ws t = (g : ℕ) → refers t ≡ true → asked_from t ≤ g → MayAsk ws g
 
 abbrev AskedInItem : List ℕ → Item → Type 0
-AskedInItem ws x = (g : ℕ) → item_refers x ≡ true → item_asked_from x ≤ g → Asks ws g
+AskedInItem ws x = (g : ℕ) → item_refers x ≡ true → item_asked_from x ≤ g → MayAsk ws g
 
 abbrev AskedInBranch : List ℕ → Trees → Type 0
-AskedInBranch ws ts = (g : ℕ) → some_refers ts ≡ true → some_asked_from ts ≤ g → Asks ws g
+AskedInBranch ws ts = (g : ℕ) → some_refers ts ≡ true → some_asked_from ts ≤ g → MayAsk ws g
 
 mutual
   pub ran : (ws : List ℕ) (s : Subject) (i j : ℕ) (t : Tree) → AreWords ws → AskedIn ws t
@@ -52,9 +52,11 @@ mutual
   ran ws s i j (Then item rest) v has h fs K C p m e f =
       rw (flat_map-flat_map (λ (w : Way). K w.stop w.marks)
       (λ (w : Way). ways s rest w.stop w.marks) (item_ways s item p m))
-      (item-ran ws s i h.0 item v (λ g y l. has g (or_left (item_refers item) (refers rest) y) (omega (arith, l))) h.1 fs
+      (item-ran ws s i h.0 item v
+      (λ g y l. has g (or_left (item_refers item) (refers rest) y) (omega (arith, l))) h.1 fs
       (λ q k. followed K (ways s rest q k)) (λ q k. cost s rest C q k) p m e
-      (λ q k l g. ran ws s h.0 j rest v (λ g y l. has g (or_right (item_refers item) (refers rest) y) (omega (arith, l))) h.2 fs K C q k g
+      (λ q k l g. ran ws s h.0 j rest v
+      (λ g y l. has g (or_right (item_refers item) (refers rest) y) (omega (arith, l))) h.2 fs K C q k g
       (λ q' k' l' g'. f q' k' (omega arith) g')))
 
   pub item-ran : (ws : List ℕ) (s : Subject) (i j : ℕ) (x : Item) → AreWords ws
@@ -104,14 +106,18 @@ mutual
   item-ran ws s i j (Exists g there) v has h fs K C p m e f =
       let inside = reads_within there ws (i + 3) j h.1.2 in
       rw (present-followed K (group m g) (ways s there p m) (here p m))
-      (condition-ran ws s i g (has g refl (omega arith)) h.0 h.1.0 (skip_there ws (i + 2) (omega (arith, inside, h.1.1))) fs p m _ _ _ _
-      (ran ws s (i + 3) j there v (λ k _ _. has k refl (omega arith)) h.1.2 fs K C p m e f) (moved h.1.1 (alone (f p m (omega arith) e))))
+      (condition-ran ws s i g (has g refl (omega arith)) h.0 h.1.0
+      (skip_there ws (i + 2) (omega (arith, inside, h.1.1))) fs p m _ _ _ _
+      (ran ws s (i + 3) j there v (λ k _ _. has k refl (omega arith)) h.1.2 fs K C p m e f)
+      (moved h.1.1 (alone (f p m (omega arith) e))))
   item-ran ws s i j (ExistsElse g there absent) v has h fs K C p m e f =
       let yes = reads_within there ws (i + 3) (i + 1 + word ws (i + 2) - 2) h.1.1 in
       let no_ = reads_within absent ws (i + 1 + word ws (i + 2)) j h.1.3 in
       rw (present-followed K (group m g) (ways s there p m) (ways s absent p m))
-      (condition-ran ws s i g (has g refl (omega arith)) h.0 h.1.0 (skip_there ws (i + 2) (omega (arith, yes))) fs p m _ _ _ _
-      (ran ws s (i + 3) (i + 1 + word ws (i + 2) - 2) there v (λ k _ _. has k refl (omega arith)) h.1.1 fs K (λ a b. suc (C a b)) p m e
+      (condition-ran ws s i g (has g refl (omega arith)) h.0 h.1.0 (skip_there ws (i + 2) (omega (arith, yes))) fs p m
+      _ _ _ _
+      (ran ws s (i + 3) (i + 1 + word ws (i + 2) - 2) there v (λ k _ _. has k refl (omega arith)) h.1.1 fs K
+      (λ a b. suc (C a b)) p m e
       (λ q' k' l' g'. jump-ran ws s (i + 1 + word ws (i + 2) - 2) j (omega (arith, yes, no_)) h.1.2 fs K C q' k'
       (f q' k' l' g')))
       (ran ws s (i + 1 + word ws (i + 2)) j absent v (λ k _ _. has k refl (omega arith)) h.1.3 fs K C p m e f))
@@ -130,7 +136,9 @@ mutual
       let l : q + 3 ≤ skip ws q = alternative_long ws q j (Or t ts) h in
       rw (flat_map-append (λ (w : Way). K w.stop w.marks) (ways s t p m) (branch_ways s ts p m))
       (alternative-ran ws s q (word ws q) _ _ fs p m _ _ (word_there ws q (skip_there ws q (omega arith))) (omega arith)
-      (ran ws s (q + 1) (skip ws q - 2) t v (λ g y l. has g (or_left (refers t) (some_refers ts) y) (omega (arith, l))) h.0 fs K
+      (ran ws s (q + 1) (skip ws q - 2) t v
+      (λ g y l. has g (or_left (refers t) (some_refers ts) y) (omega (arith, l))) h.0 fs K
       (λ a b. suc (C a b)) p m e (λ q' k' l' g'. jump-ran ws s
       (skip ws q - 2) j (omega (arith, branch_past ts ws (skip ws q) j h.2)) h.1 fs K C q' k' (f q' k' l' g')))
-      (branch-ran ws s (skip ws q) j ts v (λ g y l. has g (or_right (refers t) (some_refers ts) y) (omega (arith, l))) h.2 fs K C p m e f))
+      (branch-ran ws s (skip ws q) j ts v
+      (λ g y l. has g (or_right (refers t) (some_refers ts) y) (omega (arith, l))) h.2 fs K C p m e f))

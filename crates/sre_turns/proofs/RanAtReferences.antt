@@ -1,5 +1,5 @@
 -- The words of a reference and of a condition have its ways.
-use Rattle.std.proofs.Common.{◌≡◌, ℕ, suc, ◌+◌, ◌-◌, ◌<◌, ◌≤◌, Bool, true, false, ◌&&◌, cond, nat_le, List, []}
+use Rattle.std.proofs.Common.{◌≡◌, ℕ, suc, ◌+◌, ◌-◌, ◌<◌, ◌≤◌, Bool, true, false, ◌&&◌, cond, nat_le, List, [], ap}
 use Rattle.std.proofs.Common.{length, Option, Some, None, refl, ap, arith}
 use Rattle.std.proofs.lemmas.Bool.{leb-true, and_parts}
 use Rattle.sre_chars.specs.declared.constants.SreOpcode.TheVariants as opcode
@@ -11,7 +11,7 @@ use Rattle.sre_model.specs.Grammar.{Word, word, Opcode, reference_opcode}
 use Rattle.sre_turns.specs.declared.Frame.{Frame}
 use Rattle.sre_turns.specs.declared.Point.TheVariants.{Instruction}
 use Rattle.sre_turns.specs.Moves.{Spot, spot_at, Move, Stop, Go}
-use Rattle.sre_turns.specs.MovesAtReferences.{Asks, reference_turn, condition_place}
+use Rattle.sre_turns.specs.MovesAtReferences.{MayAsk, Asks, asks, reference_turn, condition_place}
 use Rattle.sre_turns.specs.Machine.{Moves, Runs, turns, stops, goes}
 use Rattle.sre_model.specs.Roles.{ToRefer, ToCheckGroup}
 use Rattle.sre_model.proofs.Families.{reference_role}
@@ -19,11 +19,24 @@ use Rattle.sre_turns.proofs.Moving.{at_instruction}
 use Rattle.sre_model.specs.Cost.{reference_cost, condition_cost}
 use Rattle.sre_turns.proofs.Outcomes.{followed, Ran, moved, alone}
 
-pub reference-ran : (ws : List ℕ) (s : Subject) (i j g : ℕ) (f : Fold) → Asks ws g
+pub reference-ran : (ws : List ℕ) (s : Subject) (i j g : ℕ) (f : Fold) → MayAsk ws g
     → Opcode ws i (reference_opcode f) → Word ws (i + 1) g → j ≡ i + 2
     → Ran ws s (Instruction i) j (λ p m. reference_ways s f g p m) (λ C p m. reference_cost s f (group m g) C p m)
-reference-ran ws s i j g f asked w there l fs K C p m e after = from (group m g) refl
+reference-ran ws s i j g f may w there l fs K C p m e after = from (group m g) refl
   where
+    asked : Asks ws g
+    asked = (
+      may.0,
+      may.1,
+      record {
+        place = i;
+        opcode = reference_opcode f;
+        code = w;
+        asks = ap (λ o. asks o) (reference_role f);
+        there = there;
+      },
+    )
+
     x : Spot
     x = spot_at (Instruction i) fs p m
 
@@ -61,8 +74,15 @@ present-followed K None present absent = refl
 present-followed K (Some u) present absent = refl
 
 -- a condition, where its parts are known: what follows the yes part ends with a JUMP if there is a no part
-module _ (ws : List ℕ) (s : Subject) (i g : ℕ) (asked : Asks ws g) (w : Opcode ws i opcode.GROUPREF_EXISTS)
+module _ (ws : List ℕ) (s : Subject) (i g : ℕ) (may : MayAsk ws g) (w : Opcode ws i opcode.GROUPREF_EXISTS)
     (there : Word ws (i + 1) g) (skips : i + 2 < length ws) where
+  asked : Asks ws g
+  asked = (
+    may.0,
+    may.1,
+    record { place = i; opcode = opcode.GROUPREF_EXISTS; code = w; asks = refl; there = there },
+  )
+
   pub condition-ran : (fs : List Frame) (p : ℕ) (m : Marks) (present absent : List Way) (yes_ no_ : ℕ)
       → Runs ws s (spot_at (Instruction (i + 3)) fs p m) present yes_
       → Runs ws s (spot_at (Instruction (i + 1 + word ws (i + 2))) fs p m) absent no_

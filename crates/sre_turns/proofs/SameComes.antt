@@ -12,9 +12,9 @@ use Rattle.sre_turns.specs.Machine.{Runs, turns, Comes, stops, ends, goes, split
 use Rattle.sre_turns.specs.Alike.{least_from, Alike}
 use Rattle.sre_turns.proofs.AlikeLoops.{loops-alike}
 use Rattle.sre_turns.proofs.Onward.{outcomes-onward}
-use Rattle.sre_turns.specs.Asked.{MarksAlike, Unmarked, OutcomesAlike}
+use Rattle.sre_turns.specs.Asked.{MarksAlike, OutcomesAlike}
 use Rattle.sre_turns.proofs.AlikeTurns.{Twins, EntersAlike, MovesAlike, closing-alike, turns-alike}
-use Rattle.sre_turns.proofs.Asked.{outcomes_appended, stops_of, unmarked_alike, apart_alike}
+use Rattle.sre_turns.proofs.Asked.{outcomes_appended, stops_of, both_alike, apart_alike}
 
 -- a region closes alike: its body ends no earlier than where it is gone on from
 region-alike : (ws : List ℕ) (s : Subject) (g : Region) (x y body other : Spot) (now after : List Way) (n : ℕ)
@@ -56,10 +56,10 @@ module _ (ws : List ℕ) (s : Subject) where
   same_stops h marks d e =
       let both = twins_come (record { alike = h; marks = marks }) d e in (stops_of ws _ _ both.0, both.1)
 
-  -- as they are where none is set that the words ask for
-  pub unmarked_come : {x y : Spot} {os us : List Way} {n k : ℕ} → Alike ws x y → Unmarked ws x.marks
-      → Unmarked ws y.marks → Runs ws s x os n → Runs ws s y us k → SameStops os us × (n ≡ k)
-  unmarked_come {x} {y} h one other d e = same_stops h (unmarked_alike ws x.marks y.marks one other) d e
+  -- as they are where both are alike to the same ones
+  pub marked_come : (m : Marks) {x y : Spot} {os us : List Way} {n k : ℕ} → Alike ws x y → MarksAlike ws m x.marks
+      → MarksAlike ws m y.marks → Runs ws s x os n → Runs ws s y us k → SameStops os us × (n ≡ k)
+  marked_come m {x} {y} h one other d e = same_stops h (both_alike ws m x.marks y.marks one other) d e
 
   -- and where the words have no reference
   pub same_comes : (HasReference ws → ⊥) → {x y : Spot} {os us : List Way} {n k : ℕ} → Alike ws x y

@@ -50,7 +50,14 @@ module _ (r : Run) (fold : Fold) (i g : ℕ) (c : StringCursor) (b : BoardValue)
   turn_there all limit k mv is =
       let h = (in_role (reference_opcode fold) ToRefer (reference_role fold) w k.runs).1 in
       at_instruction (reference_opcode fold) ToRefer (reference_role fold) w
-      (record { fold = fold; number = g; asked = same_asked r.words (i + 1) h.number g h.there there h.asked; code = w; there = there; is = is })
+      (record {
+        fold = fold;
+        number = g;
+        asked = same_asked r.words (i + 1) h.number g h.there there h.asked;
+        code = w;
+        there = there;
+        is = is;
+      })
 
   pub reference_missing : group b.marks g ≡ None → (all : List Way) (limit : Limit)
       → Goes r all limit (Instruction i) c b

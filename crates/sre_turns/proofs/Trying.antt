@@ -2,11 +2,12 @@
 -- came of the instruction, and nothing will.
 use Rattle.std.proofs.Common.{◌≡◌, ℕ, ◌+◌, ◌≤◌, Bool, List, [], ◌∷◌, drop, ap, refl, sym, subst, arith}
 use Rattle.sre_chars.specs.declared.string.StringCursor.{StringCursor}
+use Rattle.sre_model.specs.Marks.{Marks}
 use Rattle.sre_model.specs.Ways.{Way}
 use Rattle.sre_model.specs.Runs.{Run}
 use Rattle.sre_turns.specs.Board.{Trying, BoardValue}
 use Rattle.sre_turns.specs.Moves.{Spot}
-use Rattle.sre_turns.specs.Asked.{Unmarked}
+use Rattle.sre_turns.specs.Asked.{MarksAlike}
 use Rattle.sre_turns.specs.declared.Frame.{Frame}
 use Rattle.sre_turns.specs.declared.Point.TheVariants.{Instruction}
 use Rattle.sre_turns.specs.declared.Next.TheVariants as next
@@ -89,10 +90,10 @@ pub record CameToNothing (r : Run) (inside : Bool) (x : Spot) : Type 0 where
   pub runs : Runs r.words r.subject x outcomes turns
   pub fruitless : Fruitless r inside outcomes
 
-pub came_hopeless : (r : Run) → AcceptsByStop r → (inside : Bool) (x : Spot) → Unmarked r.words x.marks
-    → CameToNothing r inside x → Hopeless r inside x
-came_hopeless r told inside x unmarked d =
-    hopeless_again r told inside x unmarked d.outcomes d.turns d.runs d.fruitless
+pub came_hopeless : (r : Run) → AcceptsByStop r → (inside : Bool) (m : Marks) (x : Spot)
+    → MarksAlike r.words m x.marks → CameToNothing r inside x → Hopeless r inside m x
+came_hopeless r told inside m x alike d =
+    hopeless_again r told inside m x alike d.outcomes d.turns d.runs d.fruitless
 
 -- the instruction came to nothing
 pub tried_came : (r : Run) (i : ℕ) (c : StringCursor) (b b' : BoardValue)
@@ -105,13 +106,13 @@ tried_came r i c b b' e all limit g = go (subst (λ x. Waits r x 0 [] all g.late
     go (tried {n = n} {os = os} there placed d most same wt) =
         record { outcomes = os; turns = n; runs = d; fruitless = same (fruitless_none r (is_inside b'.choices)) }
 
--- so it is hopeless
-pub tried_hopeless : (r : Run) → AcceptsByStop r → (i : ℕ) (c : StringCursor) (b b' : BoardValue)
-    → Unmarked r.words b'.marks → b.choices ≡ Trying i b'.frames c b'.marks ∷ b'.choices
+-- so it is hopeless under marks that are alike
+pub tried_hopeless : (r : Run) → AcceptsByStop r → (i : ℕ) (c : StringCursor) (b b' : BoardValue) (m : Marks)
+    → MarksAlike r.words m b'.marks → b.choices ≡ Trying i b'.frames c b'.marks ∷ b'.choices
     → (all : List Way) (limit : Limit) → Backs r all limit b
-    → Hopeless r (is_inside b'.choices) (spot (Instruction i) c b')
-tried_hopeless r told i c b b' unmarked e all limit g =
-    came_hopeless r told (is_inside b'.choices) (spot (Instruction i) c b') unmarked
+    → Hopeless r (is_inside b'.choices) m (spot (Instruction i) c b')
+tried_hopeless r told i c b b' m alike e all limit g =
+    came_hopeless r told (is_inside b'.choices) m (spot (Instruction i) c b') alike
     (tried_came r i c b b' e all limit g)
 
 -- a spot is alike to itself
@@ -128,17 +129,17 @@ alike_itself ws x = record {
 }
 
 -- a hopeless instruction that is come to is left at once
-pub hopeless_left : (r : Run) (i : ℕ) (c : StringCursor) (b : BoardValue) → Unmarked r.words b.marks
-    → Hopeless r (is_inside b.choices) (spot (Instruction i) c b) → (all : List Way) (limit : Limit)
-    → Arrives r all limit (Instruction i) c b → Later r all limit next.Back b
-hopeless_left r i c b unmarked hopeless all limit g =
+pub hopeless_left : (r : Run) (i : ℕ) (c : StringCursor) (b : BoardValue) (m : Marks)
+    → MarksAlike r.words m b.marks → Hopeless r (is_inside b.choices) m (spot (Instruction i) c b) → (all : List Way)
+    (limit : Limit) → Arrives r all limit (Instruction i) c b → Later r all limit next.Back b
+hopeless_left r i c b m alike hopeless all limit g =
     let x : Spot = spot (Instruction i) c b in (
       omega (arith, some_turns g.runs, g.within),
       record {
         later = g.later;
         waits = sooner (g.turns + 1) 0 (omega arith)
             (fruitless_waits r b.choices g.now
-            (hopeless.none x g.now g.turns (alike_itself r.words x) unmarked g.runs) g.waits);
+            (hopeless.none x g.now g.turns (alike_itself r.words x) alike g.runs) g.waits);
         within = omega (arith, some_turns g.runs, g.within);
         fares = λ pl.
             let code = run_code r x g.runs in

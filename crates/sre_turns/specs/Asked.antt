@@ -1,7 +1,7 @@
 -- Marks as far as a turn can tell them: those that a reference or a condition may ask for.
 -- Words of the machine's contracts; what sre_engine makes public does not rest on it.
-use Rattle.std.specs.Prelude.{⊤, ℕ, ◌+◌, ◌*◌, ◌≡◌, List, [], ◌∷◌, None}
-use Rattle.sre_model.specs.Marks.{Marks, mark_at}
+use Rattle.std.specs.Prelude.{⊤, ℕ, ◌+◌, ◌*◌, ◌≡◌, List, [], ◌∷◌}
+use Rattle.sre_model.specs.Marks.{Marks, no_marks, mark_at}
 use Rattle.sre_model.specs.Ways.{Way}
 use Rattle.sre_turns.specs.MovesAtReferences.{Asks}
 
@@ -12,7 +12,7 @@ MarksAlike ws m n =
 
 -- those of no such group are set
 abbrev pub Unmarked : List ℕ → Marks → Type 0
-Unmarked ws m = (g : ℕ) → Asks ws g → (mark_at m (2 * g) ≡ None) × (mark_at m (2 * g + 1) ≡ None)
+Unmarked ws m = MarksAlike ws no_marks m
 
 -- outcomes between which no later turn tells a difference: as many on both sides, each with the same stop and with
 -- marks that are alike

@@ -2,17 +2,18 @@
 -- Words of the machine's contracts: the memory of failures keeps such spots, and the machine leaves them at once. What
 -- sre_engine makes public does not rest on it.
 use Rattle.std.specs.Prelude.{ℕ, ◌≡◌, Bool, List}
+use Rattle.sre_model.specs.Marks.{Marks}
 use Rattle.sre_model.specs.Ways.{Way}
 use Rattle.sre_model.specs.Runs.{Run}
 pub use Rattle.sre_turns.specs.Fruit.{Fruitless, FruitlessWith, is_inside}
 use Rattle.sre_turns.specs.Moves.{Spot}
 use Rattle.sre_turns.specs.Machine.{Runs}
 use Rattle.sre_turns.specs.Alike.{Alike}
-use Rattle.sre_turns.specs.Asked.{Unmarked}
+use Rattle.sre_turns.specs.Asked.{MarksAlike}
 
--- nothing comes of a spot, nor of one that is alike, as long as no mark is set that the words ask for
-pub record Hopeless (r : Run) (inside : Bool) (x : Spot) : Type 0 where
-  pub none : (y : Spot) (os : List Way) (n : ℕ) → Alike r.words x y → Unmarked r.words y.marks
+-- nothing comes of a spot, nor of one that is alike, as long as the marks that the words ask for are these
+pub record Hopeless (r : Run) (inside : Bool) (m : Marks) (x : Spot) : Type 0 where
+  pub none : (y : Spot) (os : List Way) (n : ℕ) → Alike r.words x y → MarksAlike r.words m y.marks
       → Runs r.words r.subject y os n → Fruitless r inside os
 
 -- whether an outcome is accepted is told by where it stops

@@ -1,9 +1,12 @@
 -- What the machine does in one turn at a reference to a group: GROUPREF group and its three foldings, and at a
 -- condition on one: GROUPREF_EXISTS group skip.
 -- Words of the machine's contracts; what sre_engine makes public does not rest on it.
-use Rattle.std.specs.Prelude.{ℕ, ◌+◌, ◌-◌, ◌≡◌, ◌<◌, ◌≤◌, ◌&&◌, length, cond, nat_le, true, List, Some, None}
+use Rattle.std.specs.Prelude.{ℕ, ◌+◌, ◌-◌, ◌≡◌, ◌<◌, ◌≤◌, ◌&&◌, length, cond, nat_le, Bool, true, false, List, Some}
+use Rattle.std.specs.Prelude.{None}
+use Rattle.sre_chars.specs.declared.constants.SreOpcode.{SreOpcode}
 use Rattle.sre_model.specs.Tree.{Tree, Fold}
 use Rattle.sre_model.specs.References.{refers, asked_from}
+use Rattle.sre_model.specs.Roles.{Role, ToRefer, ToCheckGroup, role}
 use Rattle.sre_model.specs.Marks.{Marks, group}
 use Rattle.sre_model.specs.Subject.{Subject, same_folded}
 use Rattle.sre_model.specs.Grammar.{Word, word, Opcode, WholeItems, reference_opcode}
@@ -14,9 +17,27 @@ use Rattle.sre_turns.specs.Moves.{Spot, to_point, to_place, Move, Stop, Go}
 abbrev pub HasReference : List ℕ → Type 0
 HasReference ws = (t : Tree) → WholeItems ws t → refers t ≡ true
 
--- the words may ask for a group: such are from the least one on that a reference in them is to
+-- there is a reference or a condition, and no reference is to a group before this one
+abbrev pub MayAsk : List ℕ → ℕ → Type 0
+MayAsk ws g = HasReference ws × ((t : Tree) → WholeItems ws t → asked_from t ≤ g)
+
+-- whether an opcode of this role asks for a group
+abbrev pub asks : Role → Bool
+asks ToRefer = true
+asks ToCheckGroup = true
+asks _ = false
+
+-- a group stands behind an opcode that asks for one
+pub record Named (ws : List ℕ) (g : ℕ) : Type 0 where
+  pub place : ℕ
+  pub opcode : SreOpcode
+  pub code : Opcode ws place opcode
+  pub asks : asks (role opcode) ≡ true
+  pub there : Word ws (place + 1) g
+
+-- the words may ask for a group: one that stands behind such an opcode, from the least one on that a reference is to
 abbrev pub Asks : List ℕ → ℕ → Type 0
-Asks ws g = HasReference ws × ((t : Tree) → WholeItems ws t → asked_from t ≤ g)
+Asks ws g = HasReference ws × ((t : Tree) → WholeItems ws t → asked_from t ≤ g) × Named ws g
 
 -- what comes of a reference whose tail is at t: nothing of a group that is missing
 abbrev pub reference_turn : Subject → Fold → ℕ → ℕ → Spot → Move

@@ -9,7 +9,7 @@ ghost use Rattle.sre_model.specs.Found.{matched, found};
 ghost use Rattle.sre_model.specs.Anchors.{is_anchored};
 ghost use Rattle.sre_model.specs.Prefixes.{behind_items, ReadsBehind};
 ghost use Rattle.sre_turns.specs.Board.{bare};
-ghost use Rattle.sre_board.specs.Failures.{Remembers};
+ghost use Rattle.sre_machine.specs.Memos.{Recalls};
 ghost use Rattle.sre_turns.specs.Machine.{Decides, outcomes};
 ghost use Rattle.sre_code.specs.Codes.{words_of, hints_of};
 ghost use Rattle.sre_request.specs.Requests.{string_of, start_of, end_of, code_of, asked_of, stands_in};
@@ -125,8 +125,8 @@ fn attempt<S: StrDrive, A: Allocator>(
     requires few { 2 * literals < 2 ^ 64 }
     requires room { begun.old.started + 1 < 2 ^ 64 }
     requires again { begun.old.restarted ≤ begun.old.started }
-    requires remembers { Remembers (run_of req.now) memo.old.kept }
-    ensures remembers { Remembers (run_of req.now) memo.new.kept }
+    requires remembers { Recalls (run_of req.now) memo.old }
+    ensures remembers { Recalls (run_of req.now) memo.new }
     ensures rested { memo.new.stopped ≡ false }
     ensures counted { begun.new.started ≡ begun.old.started + 1 }
     ensures restarted { begun.old.restarted ≤ begun.new.restarted }

@@ -104,13 +104,13 @@ returns-in-Again-clause-next g c = λ all limit x.
 
 -- a mark is passed over
 pub keep-requires-clause-failed : goal.keep-requires-clause-failed
-keep-requires-clause-failed g c = λ unmarked.
+keep-requires-clause-failed g c = λ m alike.
     let b = c.back.new.self in
     let x = c.choice.invariant.back in
     let marked = c.in-Some.ensures ∙ ap (λ pt. choice pt b.frames c.in-Some.choice.1 b.marks ∷ b.choices)
     c.in-Tried.is in
     tried_hopeless (run_of c.args.req.now) (asked_by_stop (asked_of c.args.req.now)) c.in-Tried.place
-    c.in-Some.choice.1 c.choice.board b unmarked marked x.all x.limit x.backs
+    c.in-Some.choice.1 c.choice.board b m alike marked x.all x.limit x.backs
 
 pub choice-preserved-then-this-ne0 : goal.choice-preserved-then-this-ne0
 choice-preserved-then-this-ne0 g c =
@@ -134,7 +134,8 @@ choice-preserved-then-this-ne0 g c =
           );
       remembers = c.keep.ensures.remembers;
       same =
-          c.keep.ensures.same ∙ ap (λ (m : MemoValue). record m { kept = c.keep.new.memo.kept })
+          c.keep.ensures.same
+          ∙ ap (λ (m : MemoValue). record m { kept = c.keep.new.memo.kept; marked = c.keep.new.memo.marked })
           c.choice.invariant.same;
     }
 

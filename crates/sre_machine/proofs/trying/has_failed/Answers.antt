@@ -1,5 +1,6 @@
 use Rattle.std.proofs.Common.{◌≡◌, ◌∙◌, ap, subst, List, ℕ}
 use Rattle.sre_code.specs.Codes.{items_of}
+use Rattle.sre_model.specs.Marks.{no_marks}
 use Rattle.sre_turns.specs.Fruit.{is_inside}
 use Rattle.sre_turns.specs.Machine.{spot}
 use Rattle.sre_turns.specs.declared.Point.TheVariants.{Instruction}
@@ -8,6 +9,7 @@ use Rattle.sre_request.specs.Runs.{run_of}
 use Rattle.sre_board.specs.Failures.{HasBit, Holds, IsOpen}
 use Rattle.sre_board.proofs.Remembering.{remembers_still}
 use Rattle.sre_machine.proofs.Failing.{stays_tried}
+use Rattle.sre_machine.proofs.Recalling.{recalls_prepared}
 use Rattle.sre_machine.proofs.Opening.{pays_prepared, goes_tried, tries_tried, goes_untried, tries_untried}
 use Rattle.sre_machine.proofs.Opening.{prepared_at, open_or_refused}
 use Rattle.sre_machine.proofs.trying.has_failed.Goals as goal
@@ -28,14 +30,15 @@ returns-in-Failed-clause-left g c = λ _ all limit arrives.
     let held = subst (λ p. Holds m.kept r.words inside (record x { position = p })) c.position.ensures
     (subst (λ (ws : List ℕ). Holds m.kept ws inside (record x { position = c.position.result })) same
     c.in-Failed.ensures) in (
-      hopeless_left r c.args.place c.args.cursor b c.requires.unmarked
-          (remembers_still r _ _ c.prepare.ensures.no_more c.requires.remembers inside x held) all limit arrives,
+      hopeless_left r c.args.place c.args.cursor b no_marks c.requires.unmarked
+          (remembers_still r no_marks _ _ c.prepare.ensures.no_more c.requires.remembers.plain inside x held) all limit arrives,
       pays_prepared c.args.req.now c.args.place c.args.cursor b c.args.memo.now m p all limit arrives,
     )
 
 pub returns-in-Failed-clause-remembers : goal.returns-in-Failed-clause-remembers
 returns-in-Failed-clause-remembers g c =
-    remembers_still (run_of c.args.req.now) _ _ c.prepare.ensures.no_more c.requires.remembers
+    recalls_prepared (run_of c.args.req.now) c.args.memo.now c.prepare.new.self
+    c.prepare.ensures.marked c.prepare.ensures.no_more c.requires.remembers
 
 pub returns-in-Failed-clause-still : goal.returns-in-Failed-clause-still
 returns-in-Failed-clause-still g c =
@@ -44,7 +47,8 @@ returns-in-Failed-clause-still g c =
 
 pub returns-in-Open-clause-remembers : goal.returns-in-Open-clause-remembers
 returns-in-Open-clause-remembers g c =
-    remembers_still (run_of c.args.req.now) _ _ c.prepare.ensures.no_more c.requires.remembers
+    recalls_prepared (run_of c.args.req.now) c.args.memo.now c.prepare.new.self
+    c.prepare.ensures.marked c.prepare.ensures.no_more c.requires.remembers
 
 pub returns-in-Open-clause-still : goal.returns-in-Open-clause-still
 returns-in-Open-clause-still g c =
@@ -53,7 +57,8 @@ returns-in-Open-clause-still g c =
 
 pub returns-in-NoBit-clause-remembers : goal.returns-in-NoBit-clause-remembers
 returns-in-NoBit-clause-remembers g c =
-    remembers_still (run_of c.args.req.now) _ _ c.prepare.ensures.no_more c.requires.remembers
+    recalls_prepared (run_of c.args.req.now) c.args.memo.now c.prepare.new.self
+    c.prepare.ensures.marked c.prepare.ensures.no_more c.requires.remembers
 
 pub returns-in-NoBit-clause-still : goal.returns-in-NoBit-clause-still
 returns-in-NoBit-clause-still g c =

@@ -13,8 +13,8 @@ pub returns-clause-turn : goal.returns-clause-turn
 returns-clause-turn g c =
     turn_goes_on c.args.req.now c.args.place c.args.cursor _ _ _ _ _ c.instruction.result
     (c.is_hopeless.ensures.goes c.if-is_hopeless.false)
-    (paid_so c.args.req.now c.args.place c.args.memo.now c.is_hopeless.new.memo c.keeps_failures-keeps.result
-    c.keeps_failures-keeps.ensures.left (c.goes_on_endlessly.ensures.off c.if-goes_on_endlessly.false))
+    (paid_so c.args.req.now c.args.place c.args.memo.now c.is_hopeless.new.memo c.keeping_at-keeping.result
+    c.keeping_at-keeping.ensures.left (c.goes_on_endlessly.ensures.off c.if-goes_on_endlessly.false))
     c.instruction.ensures
 
 pub returns-then-goes_on_endlessly-clause-turn : goal.returns-then-goes_on_endlessly-clause-turn

@@ -1,20 +1,15 @@
-use Rattle.std.proofs.Common.{sym, ◌∙◌}
-use Rattle.std.proofs.lemmas.Bool.{true≢false}
-use Rattle.sre_machine.proofs.Opening.{goes_on_so, branches_not}
+use Rattle.sre_machine.proofs.Opening.{goes_freely, goes_forgetting, branches_not}
 use Rattle.sre_machine.proofs.trying.is_hopeless.Goals as goal
 
-pub returns-then-not-keeps-clause-goes : goal.returns-then-not-keeps-clause-goes
-returns-then-not-keeps-clause-goes g c = λ _ all limit x.
-    goes_on_so c.args.req.now c.args.place c.args.cursor c.args.board.now c.args.memo.now all limit x
-    c.args.keeps c.requires.left (λ e. absurd (true≢false (sym e ∙ c.if-not-keeps.true)))
-
-pub returns-then-not-keeps-clause-tries : goal.returns-then-not-keeps-clause-tries
-returns-then-not-keeps-clause-tries g c = λ _ e. absurd (true≢false (sym e ∙ c.if-not-keeps.true))
+pub returns-in-Nothing-clause-goes : goal.returns-in-Nothing-clause-goes
+returns-in-Nothing-clause-goes g c = λ _ all limit x.
+    goes_forgetting c.args.req.now c.args.place c.args.cursor c.args.board.now c.args.memo.now c.meet_marks.new.memo
+    all limit x (c.requires.left c.in-Nothing.is)
 
 pub returns-then-not-may_branch-clause-goes : goal.returns-then-not-may_branch-clause-goes
 returns-then-not-may_branch-clause-goes g c = λ _ all limit x.
-    goes_on_so c.args.req.now c.args.place c.args.cursor c.args.board.now c.args.memo.now all limit x
-    c.args.keeps c.requires.left (λ e. c.may_branch.ensures c.if-not-may_branch.true)
+    goes_freely c.args.req.now c.args.place c.args.cursor c.args.board.now c.args.memo.now c.args.memo.now all limit x
+    (c.may_branch.ensures c.if-not-may_branch.true)
 
 pub returns-then-not-may_branch-clause-tries : goal.returns-then-not-may_branch-clause-tries
 returns-then-not-may_branch-clause-tries g c = λ _ _ on.

@@ -1,17 +1,21 @@
 use Rattle.std.proofs.Common.{◌∙◌, ap}
 use Rattle.sre_code.specs.Codes.{items_of}
+use Rattle.sre_model.specs.Marks.{no_marks}
 use Rattle.sre_machine.proofs.Failing.{fails_kept}
 use Rattle.sre_request.specs.Runs.{run_of}
 use Rattle.sre_turns.proofs.Hopeless.{no_reference}
+use Rattle.sre_machine.proofs.Recalling.{recalls_kept}
 use Rattle.sre_machine.proofs.Keeping.{holds_tried}
 use Rattle.sre_machine.proofs.trying.keep.Goals as goal
 
 pub returns-then-is_unmarked-clause-remembers : goal.returns-then-is_unmarked-clause-remembers
 returns-then-is_unmarked-clause-remembers g c =
-    fails_kept c.args.req.now c.args.memo.now.kept c.keep.new.self.kept c.items-words.result.now c.args.place
+    recalls_kept (run_of c.args.req.now) c.args.memo.now c.keep.new.self c.keep.ensures.same
+    (fails_kept c.args.req.now no_marks c.args.memo.now.kept c.keep.new.self.kept c.items-words.result.now c.args.place
     c.position.result c.args.cursor.position c.args.board.now
     (c.items-words.ensures.same ∙ ap items_of c.pattern_codes.ensures) c.position.ensures c.keep.ensures.kept.more
-    (c.requires.failed (c.is_unmarked.ensures.unmarked c.if-is_unmarked.true)) c.requires.remembers
+    (c.requires.failed no_marks (c.is_unmarked.ensures.unmarked c.if-is_unmarked.true)) c.requires.remembers.plain)
+    c.requires.remembers
 
 pub returns-then-is_unmarked-clause-account : goal.returns-then-is_unmarked-clause-account
 returns-then-is_unmarked-clause-account g c = λ outside pl xs n a.

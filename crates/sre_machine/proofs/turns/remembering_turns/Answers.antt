@@ -4,6 +4,7 @@ use Rattle.sre_turns.specs.declared.Next.TheVariants as next
 use Rattle.sre_model.proofs.TurnBounds.{turn_spent, last_spent}
 use Rattle.sre_request.specs.Runs.{run_of}
 use Rattle.sre_turns.proofs.Start.{accepted_first, refused_over}
+use Rattle.sre_machine.proofs.Recalling.{recalls_waited}
 use Rattle.sre_machine.specs.Memos.{MemoValue}
 use Rattle.sre_machine.proofs.Taken.{stands_at, proceeds_taken, later_taken, again_taken, end_taken}
 use Rattle.sre_machine.specs.Paying.{Pays}
@@ -95,7 +96,9 @@ turn-preserved g c =
           c.turns_due-turns.ensures.board x) c.if-is_accepted.false)) c.turn.invariant.follows;
       stands = t.1;
       within = omega (arith, c.tick.ensures, t.0);
-      remembers = rw (ap (λ (m : MemoValue). m.kept) c.waits_on.ensures.same) c.turn.invariant.remembers;
+      remembers =
+          recalls_waited (run_of c.args.req.now) c.turn.memo c.waits_on.new.memo c.waits_on.ensures.same
+          c.turn.invariant.remembers;
       counts =
           counts_on c.args.req.now g.K.Plan.all c.args.first c.args.board.now c.args.memo.now
           c.args.turned.now c.turn.memo c.turn.turned c.args.left.now c.turn.left c.takes_turns.new.left
@@ -202,7 +205,9 @@ turn-preserved-in-Again g c =
           c.in-Again.is c.turns_due-turns.ensures.board x)))) c.turn.invariant.follows;
       stands = t.1;
       within = omega (arith, c.tick.ensures, t.0);
-      remembers = rw (ap (λ (m : MemoValue). m.kept) c.waits_on.ensures.same) c.turn.invariant.remembers;
+      remembers =
+          recalls_waited (run_of c.args.req.now) c.turn.memo c.waits_on.new.memo c.waits_on.ensures.same
+          c.turn.invariant.remembers;
       counts =
           counts_on c.args.req.now g.K.Plan.all c.args.first c.args.board.now c.args.memo.now
           c.args.turned.now c.turn.memo c.turn.turned c.args.left.now c.turn.left c.takes_turns.new.left
@@ -240,7 +245,9 @@ turn-preserved-in-Some-end g c =
           c.in-Done.is c.turns_due-turns.ensures.board x))) c.turn.invariant.follows;
       stands = t.1;
       within = omega (arith, c.tick.ensures, t.0);
-      remembers = rw (ap (λ (m : MemoValue). m.kept) c.waits_on.ensures.same) c.turn.invariant.remembers;
+      remembers =
+          recalls_waited (run_of c.args.req.now) c.turn.memo c.waits_on.new.memo c.waits_on.ensures.same
+          c.turn.invariant.remembers;
       counts =
           counts_on c.args.req.now g.K.Plan.all c.args.first c.args.board.now c.args.memo.now
           c.args.turned.now c.turn.memo c.turn.turned c.args.left.now c.turn.left c.takes_turns.new.left

@@ -1,7 +1,7 @@
 use Rattle.std.proofs.Common.{◌≡◌, ◌+◌, ◌-◌, ◌*◌, ◌≤◌, true}
 use Rattle.sre_model.specs.TurnBounds.{most_each}
 use Rattle.sre_turns.specs.Machine.{StandsWithin}
-use Rattle.sre_board.specs.Failures.{Remembers}
+use Rattle.sre_machine.specs.Memos.{Recalls}
 use Rattle.sre_request.specs.Requests.{asked_of}
 use Rattle.sre_request.specs.Runs.{run_of}
 use Rattle.sre_machine.specs.Paying.{Follows, Counts, Waited}
@@ -16,7 +16,7 @@ invariant-turn g l = record {
   spent : l.fn.left ≤ l.left + l.turned * most_each (asked_of l.req);
   counts : Counts l.req l.fn.memo l.memo l.fn.left l.left l.turned;
   waited : l.waits ≡ true → Waited l.fn.memo l.memo l.fn.left l.left;
-  remembers : Remembers (run_of l.req) l.memo.kept;
+  remembers : Recalls (run_of l.req) l.memo;
 }
 
 abbrev pub decreases-turn : goal.decreases-turn

@@ -1,7 +1,16 @@
-use Rattle.std.proofs.Common.{◌∙◌, ap}
+use Rattle.std.proofs.Common.{◌∙◌, ap, sym, subst}
 use Rattle.sre_machine.specs.declared.turns.Decision.TheVariants.{Decided}
 use Rattle.sre_machine.proofs.Following.{anew_given_up, anew_settles, passed_up}
+use Rattle.sre_machine.proofs.Recalling.{recalls_none}
+use Rattle.sre_machine.specs.Memos.{Covers}
+use Rattle.sre_request.specs.Runs.{run_of}
 use Rattle.sre_machine.proofs.turns.run_anew.Goals as goal
+
+pub run_once-requires-clause-remembers : goal.run_once-requires-clause-remembers
+run_once-requires-clause-remembers g c =
+    let r = run_of c.args.req.now in
+    recalls_none r c.open.new.self.kept c.open.new.self.marked c.open.ensures.none c.open.ensures.unmarked
+    (subst (λ end. Covers r.words end) (sym c.open.ensures.end) c.requires.remembers.covers)
 
 pub returns-in_err-found-clause-given_up : goal.returns-in_err-found-clause-given_up
 returns-in_err-found-clause-given_up g c =

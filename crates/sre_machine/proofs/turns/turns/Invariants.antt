@@ -1,6 +1,6 @@
 use Rattle.std.proofs.Common.{◌-◌, ◌≤◌}
 use Rattle.sre_turns.specs.Machine.{StandsWithin}
-use Rattle.sre_board.specs.Failures.{Remembers}
+use Rattle.sre_machine.specs.Memos.{Recalls}
 use Rattle.sre_request.specs.Runs.{run_of}
 use Rattle.sre_machine.proofs.turns.turns.Given as goal
 
@@ -8,7 +8,7 @@ abbrev pub invariant-turn : goal.invariant-turn
 invariant-turn g l = record {
   stands : StandsWithin (run_of l.req) g.K.Plan.all (g.K.Plan.limit - l.turned) l.next l.board;
   within : l.turned ≤ g.K.Plan.limit;
-  remembers : Remembers (run_of l.req) l.memo.kept;
+  remembers : Recalls (run_of l.req) l.memo;
 }
 
 abbrev pub decreases-turn : goal.decreases-turn

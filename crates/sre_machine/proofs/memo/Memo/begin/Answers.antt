@@ -1,6 +1,16 @@
+use Rattle.std.proofs.Common.{◌≡◌, ap, sym, ◌∙◌, subst, List, ℕ}
+use Rattle.sre_code.specs.Codes.{items_of}
+use Rattle.sre_model.specs.Standing.{AreWords}
 use Rattle.sre_request.specs.Runs.{run_of}
-use Rattle.sre_board.proofs.Remembering.{remembers_none}
+use Rattle.sre_machine.specs.Memos.{Covers}
+use Rattle.sre_machine.proofs.AskedGroups.{covers_all}
+use Rattle.sre_machine.proofs.Recalling.{recalls_none}
 use Rattle.sre_machine.proofs.memo.Memo.begin.Goals as goal
 
 pub returns-clause-remembers : goal.returns-clause-remembers
-returns-clause-remembers g c = remembers_none (run_of c.args.req.now) c.forget.new.self c.forget.ensures.none
+returns-clause-remembers g c =
+    let r = run_of c.args.req.now in
+    let same : c.items.result.now ≡ r.words = c.items.ensures.same ∙ ap items_of c.pattern_codes.ensures in
+    recalls_none r c.forget.new.self c.begin.new.self c.forget.ensures.none c.begin.ensures.none
+    (subst (λ end. Covers r.words end) (sym c.begin.ensures.end)
+    (covers_all r.words (subst (λ (ws : List ℕ). AreWords ws) same c.know_words.ensures)))

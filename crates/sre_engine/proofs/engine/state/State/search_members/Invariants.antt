@@ -3,7 +3,7 @@ use Rattle.sre_model.specs.Tree.{Tree}
 use Rattle.sre_model.specs.Marks.{no_marks}
 use Rattle.sre_model.specs.Grammar.{Whole}
 use Rattle.sre_turns.specs.Board.{bare}
-use Rattle.sre_board.specs.Failures.{Remembers}
+use Rattle.sre_machine.specs.Memos.{Recalls}
 use Rattle.sre_code.specs.Codes.{words_of}
 use Rattle.sre_request.specs.Requests.{string_of, start_of, end_of, code_of, asked_of}
 use Rattle.sre_request.specs.Runs.{run_of}
@@ -19,7 +19,7 @@ invariant-start g l = record {
   from : start_of l.req ≤ l.start.position;
   inside : l.start.position ≤ end_of l.req;
   fresh : l.self-inside.board ≡ bare no_marks;
-  remembers : Remembers (run_of l.req) l.self-inside.memo.kept;
+  remembers : Recalls (run_of l.req) l.self-inside.memo;
   suits : g.F.Starts.suits l.starts (string_of l.req) (code_of l.req);
   none : (t : Tree) → Whole (words_of (code_of l.req)) t → NoneBefore (asked_of l.req) t l.start.position;
   ran : RanBefore (asked_of l.req) (code_of l.req) l.self-inside.begun.started l.start.position;

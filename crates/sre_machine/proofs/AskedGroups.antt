@@ -1,0 +1,63 @@
+-- The groups that stand behind opcodes which ask for them end before the mark that a look through the words tells.
+use Rattle.std.proofs.Common.{◌≡◌, ℕ, ◌+◌, ◌-◌, ◌*◌, ◌<◌, ◌≤◌, ◌⊎◌, inl, inr, Bool, true, false, List, length}
+use Rattle.std.proofs.Common.{sym, ◌∙◌, ap, subst, arith}
+use Rattle.std.proofs.lemmas.Bool.{cases_lt}
+use Rattle.sre_chars.specs.Numbers.{opcode_number}
+use Rattle.sre_chars.specs.declared.constants.SreOpcode.{SreOpcode}
+use Rattle.sre_model.specs.Grammar.{word}
+use Rattle.sre_model.specs.Roles.{role}
+use Rattle.sre_model.specs.Standing.{AreWords}
+use Rattle.sre_model.proofs.Words.{same_number, word_of, word_within}
+use Rattle.sre_turns.specs.MovesAtReferences.{Named, asks}
+use Rattle.sre_machine.specs.Memos.{Covers}
+
+-- the groups behind the words up to a place
+pub record CoversTo (ws : List ℕ) (n end : ℕ) : Type 0 where
+  pub covers : (g : ℕ) (x : Named ws g) → x.place + 1 < n → 2 * g + 1 < end
+
+pub covers_none : (ws : List ℕ) (n end : ℕ) → n ≤ 1 → CoversTo ws n end
+covers_none ws n end few = record { covers = λ g x l. absurd (omega (arith, few, l)) }
+
+-- one place more
+pub covers_next : (ws : List ℕ) (n end end' : ℕ) → 1 ≤ n → CoversTo ws n end → end ≤ end'
+    → ((g : ℕ) (x : Named ws g) → x.place + 1 ≡ n → 2 * g + 1 < end') → CoversTo ws (n + 1) end'
+covers_next ws n end end' some was grows here = record {
+  covers = λ g x l. by_place g x (cases_lt (x.place + 1) n) l;
+}
+  where
+    by_place : (g : ℕ) (x : Named ws g) → (x.place + 1 < n) ⊎ (n ≤ x.place + 1) → x.place + 1 < n + 1 → 2 * g + 1 < end'
+    by_place g x (inl before) l = let b = was.covers g x before in omega (arith, b, grows)
+    by_place g x (inr behind) l = here g x (omega (arith, behind, l))
+
+-- all of them
+pub covers_end : (ws : List ℕ) (n end : ℕ) → length ws ≤ n → CoversTo ws n end → (g : ℕ) → Named ws g → 2 * g + 1 < end
+covers_end ws n end all was g x =
+    let inside = word_within ws (x.place + 1) g x.there in was.covers g x (omega (arith, all, inside))
+
+-- a word that is the number of one opcode is that of no other
+pub asks_as : (o p : SreOpcode) (n : ℕ) (told : Bool) → opcode_number p ≡ n → told ≡ asks (role p) → told ≡ false
+    → opcode_number o ≡ n → asks (role o) ≡ false
+asks_as o p n told is same none e =
+    ap (λ x. asks (role x)) (same_number o p (e ∙ sym is)) ∙ sym same ∙ none
+
+-- all groups are few
+pub covers_all : (ws : List ℕ) → AreWords ws → Covers ws 18446744073709551615
+covers_all ws are = λ g asked. let few = are.fits (asked.2.place + 1) g asked.2.there in omega (arith, few)
+
+-- those that were told are those that are asked for
+pub covers_named : (ws us : List ℕ) (old new : ℕ) → us ≡ ws
+    → (new ≡ old) ⊎ ((g : ℕ) → Named us g → 2 * g + 1 < new) → Covers ws old → Covers ws new
+covers_named ws us old new same (inl e) was = λ g asked. let l = was g asked in omega (arith, l, e)
+covers_named ws us old new same (inr told) was = λ g asked. told g (subst (λ vs. Named vs g) (sym same) asked.2)
+
+-- the group behind a word is told where that is the number of an opcode that asks for one
+pub told_here : (ws : List ℕ) (n end code group : ℕ) → code ≡ word ws (n - 1) → group ≡ word ws n
+    → ((o : SreOpcode) → opcode_number o ≡ code → asks (role o) ≡ true → 2 * group + 1 < end) → (g : ℕ) (x : Named ws g)
+    → x.place + 1 ≡ n → 2 * g + 1 < end
+told_here ws n end code group before here told g x at =
+    let place : x.place ≡ n - 1 = omega (arith, at) in
+    let same : opcode_number x.opcode ≡ code =
+    sym (word_of ws x.place (opcode_number x.opcode) x.code) ∙ ap (λ k. word ws k) place ∙ sym before in
+    let is : group ≡ g = here ∙ ap (λ k. word ws k) (sym at) ∙ word_of ws (x.place + 1) g x.there in
+    let l = told x.opcode same x.asks in
+    omega (arith, l, is)

@@ -1,0 +1,261 @@
+//! Failures that are kept while marks are set which are asked for.
+//!
+//! All of them were kept under marks that are alike to those of one time, of which there is a copy. They serve as long
+//! as the marks are alike to these. Where others are met often, these are taken over, and the failures go. Marks behind
+//! the last group that is asked for make no difference: which that is, a search looks up in the words once.
+
+ghost use Rattle.std.specs.Prelude.{ℕ, ◌≡◌, ◌⊎◌, ◌+◌, ◌-◌, ◌*◌, ◌^◌, ◌<◌, ◌≤◌, IfOk, None, slice_index_or, true, false};
+ghost use Rattle.sre_model.specs.Marks.{mark_at};
+ghost use Rattle.sre_chars.specs.Numbers.{opcode_number};
+ghost use Rattle.sre_chars.specs.declared.constants.SreOpcode.{SreOpcode};
+ghost use Rattle.sre_model.specs.Roles.{role};
+ghost use Rattle.sre_turns.specs.MovesAtReferences.{Named, asks};
+ghost use Rattle.sre_turns.specs.Fruit.{is_inside};
+ghost use Rattle.sre_turns.specs.Moves.{spot_at};
+ghost use Rattle.sre_turns.specs.declared.Point.TheVariants.{Instruction};
+ghost use Rattle.sre_board.specs.Failures.{HoldsNone, HoldsNoMore, HoldsOneMore, Tells};
+
+use sre_board::{Board, Failures, Known};
+use sre_chars::constants::SreOpcode;
+use sre_growth::Refusal;
+use std::alloc::Allocator;
+use std::convert::TryFrom;
+use std::marker::Model;
+
+// How often other marks are met before they are taken over, besides once for each word of the failures that then go.
+const PATIENCE: usize = 64;
+
+/// Failures, and the marks under which they were kept.
+#[derive(Drop)]
+pub(crate) struct Marked<A: Allocator> {
+    marks: Vec<Option<usize>, A>,
+    failures: Failures<A>,
+    // behind which mark none is asked for; not known as long as it is the greatest number
+    end: usize,
+    // how often other marks were met
+    strange: usize,
+}
+
+impl<A: Allocator> Model for Marked<A> {
+    ghost use Rattle.sre_machine.specs.Memos.{MarkedValue, marked_of};
+
+    ghost Value = { MarkedValue };
+
+    ghost view = { λ m. marked_of m.marks.items m.end m.failures };
+}
+
+// The position of a mark; none where it is absent, or behind the end.
+#[inline(always)]
+fn entry_of(raw: &[Option<usize>], entry: usize) -> Option<usize>
+    ensures { result ≡ slice_index_or raw.now entry None }
+{
+    if entry < raw.len() { raw[entry] } else { None }
+}
+
+// Whether two lists of marks have the same ones from an entry on, up to another.
+#[inline(always)]
+fn agree(kept: &[Option<usize>], raw: &[Option<usize>], from: usize, most: usize) -> bool
+    ensures { result ≡ true → (k : ℕ) → from ≤ k → k < most
+        → slice_index_or kept.now k None ≡ slice_index_or raw.now k None }
+{
+    let end = kept.len().max(raw.len()).min(most);
+    let mut entry = from;
+    'entry: while entry < end {
+        if entry_of(kept, entry) != entry_of(raw, entry) {
+            return false;
+        }
+        entry += 1;
+    }
+    true
+}
+
+// Whether an opcode asks for a group.
+fn is_asking(code: SreOpcode) -> bool
+    ensures { result ≡ asks (role code) }
+{
+    matches!(
+        code,
+        SreOpcode::GROUPREF
+            | SreOpcode::GROUPREF_EXISTS
+            | SreOpcode::GROUPREF_IGNORE
+            | SreOpcode::GROUPREF_LOC_IGNORE
+            | SreOpcode::GROUPREF_UNI_IGNORE
+    )
+}
+
+// Whether a word is the number of an opcode that asks for a group.
+#[tactic(auto, using(crate::proofs::AskedGroups::asks_as, sre_model::proofs::Words::opcode_low))]
+fn may_ask(word: u32) -> bool
+    ensures { result ≡ false → (o : SreOpcode) → opcode_number o ≡ word → asks (role o) ≡ false }
+{
+    match SreOpcode::try_from(word) {
+        Ok(code) => is_asking(code),
+        Err(_) => false,
+    }
+}
+
+// The end with one group more, if a word is such a number.
+fn end_with(end: usize, word: u32, group: u32) -> usize
+    ensures grows { end ≤ result }
+    ensures told { (o : SreOpcode) → opcode_number o ≡ word → asks (role o) ≡ true → 2 * group + 1 < result }
+{
+    if may_ask(word) {
+        return end.max(2 * group as usize + 2);
+    }
+    end
+}
+
+// Behind which mark none is asked for. It looks behind each word that may be such an opcode, so it may say too much.
+fn asked_end(words: &[u32]) -> usize
+    ensures { (g : ℕ) → Named words.now g → 2 * g + 1 < result }
+{
+    let mut end = 0;
+    let mut place = 1;
+    'word: while place < words.len() {
+        end = end_with(end, words[place - 1], words[place]);
+        place += 1;
+    }
+    end
+}
+
+// The same, if it is not known yet.
+fn known_end(end: usize, words: &[u32]) -> usize
+    ensures { (result ≡ end) ⊎ ((g : ℕ) → Named words.now g → 2 * g + 1 < result) }
+{
+    if end == usize::MAX {
+        return asked_end(words);
+    }
+    end
+}
+
+// Copies marks into a list, whose memory is used again.
+fn copy<A: Allocator>(
+    list: &mut Vec<Option<usize>, A>,
+    raw: &[Option<usize>],
+) -> Result<(), Refusal>
+    ensures { IfOk result (λ _. list.new.items ≡ raw.now) }
+{
+    list.clear();
+    'mark: for &mark in raw {
+        sre_growth::push(list, mark)?;
+    }
+    Ok(())
+}
+
+impl<A: Allocator + Copy> Marked<A> {
+    /// No failures. It takes no memory.
+    pub(crate) fn new(alloc: A) -> Marked<A>
+        ensures none { HoldsNone result.kept }
+    {
+        Marked {
+            marks: Vec::new(alloc),
+            failures: Failures::new(alloc),
+            end: usize::MAX,
+            strange: 0,
+        }
+    }
+}
+
+impl<A: Allocator> Marked<A> {
+    /// Forgets all failures; the memory is kept.
+    #[inline(always)]
+    pub(crate) fn forget(&mut self)
+        ensures none { HoldsNone self.new.kept }
+        ensures end { self.new.end ≡ self.old.end }
+    {
+        self.failures.forget();
+        self.strange = 0;
+    }
+
+    /// Begins a search: forgets all failures, and which groups are asked for.
+    #[inline(always)]
+    pub(crate) fn begin(&mut self)
+        ensures none { HoldsNone self.new.kept }
+        ensures end { self.new.end ≡ 2 ^ 64 - 1 }
+    {
+        self.failures.forget();
+        self.strange = 0;
+        self.end = usize::MAX;
+    }
+
+    /// Whether marks are those under which the failures were kept, from an entry on.
+    #[inline(always)]
+    pub(crate) fn agrees(&self, raw: &[Option<usize>], from: usize) -> bool
+        ensures { result ≡ true → (k : ℕ) → from ≤ k → k < self.now.end
+            → mark_at self.now.marks k ≡ slice_index_or raw.now k None }
+    {
+        agree(self.marks.as_slice(), raw, from, self.end)
+    }
+
+    /// Notes that other marks were met, and says whether that was often enough to take them over.
+    #[inline(always)]
+    pub(crate) fn is_worn(&mut self) -> bool
+        ensures { self.new ≡ self.old }
+    {
+        self.strange = self.strange.saturating_add(1);
+        self.strange > self.failures.words().saturating_add(PATIENCE)
+    }
+
+    /// Takes marks over: no failure was kept under them.
+    ///
+    /// # Errors
+    ///
+    /// [`Refusal`], where memory was refused. No failure is kept then, either.
+    pub(crate) fn adopt(&mut self, words: &[u32], raw: &[Option<usize>]) -> Result<(), Refusal>
+        ensures none { HoldsNone self.new.kept }
+        ensures end { (self.new.end ≡ self.old.end) ⊎ ((g : ℕ) → Named words.now g → 2 * g + 1 < self.new.end) }
+        ensures marks { IfOk result (λ _. self.new.marks.raw ≡ raw.now) }
+    {
+        self.failures.forget();
+        self.strange = 0;
+        self.end = known_end(self.end, words);
+        copy(&mut self.marks, raw)
+    }
+
+    /// Makes room for the failures of a place, if there is none.
+    ///
+    /// # Errors
+    ///
+    /// [`Refusal`], where memory was refused. The failures that are kept stay so.
+    #[inline(always)]
+    pub(crate) fn prepare(
+        &mut self,
+        words: &[u32],
+        board: &Board<A>,
+        place: usize,
+        first: usize,
+        end: usize,
+    ) -> Result<(), Refusal>
+        ensures no_more { HoldsNoMore self.old.kept self.new.kept }
+        ensures marks { self.new.marks ≡ self.old.marks }
+        ensures end { self.new.end ≡ self.old.end }
+    {
+        self.failures.prepare(words, board, place, first, end)
+    }
+
+    /// What is known of an instruction at a position, as the board is.
+    #[inline(always)]
+    pub(crate) fn known(
+        &self,
+        words: &[u32],
+        board: &Board<A>,
+        place: usize,
+        position: usize,
+    ) -> Known
+        ensures { Tells result self.now.kept words.now (is_inside board.now.choices)
+            (spot_at (Instruction place) board.now.frames position board.now.marks) }
+    {
+        self.failures.known(words, board, place, position)
+    }
+
+    /// Keeps that an instruction fails at a position, as the board is.
+    #[inline(always)]
+    pub(crate) fn keep(&mut self, words: &[u32], board: &Board<A>, place: usize, position: usize)
+        ensures more { HoldsOneMore words.now (is_inside board.now.choices)
+            (spot_at (Instruction place) board.now.frames position board.now.marks) self.old.kept self.new.kept }
+        ensures marks { self.new.marks ≡ self.old.marks }
+        ensures end { self.new.end ≡ self.old.end }
+    {
+        self.failures.keep(words, board, place, position);
+    }
+}
