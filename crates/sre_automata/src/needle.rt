@@ -49,8 +49,8 @@ fn longest_literal(parts: &[Hir]) -> Option<&[u8]>
 }
 
 impl Needle {
-    /// The longest literal of the sequence that a pattern is, and of several the last, which each match contains; none where the pattern is no
-    /// literal and has none, or where memory was refused.
+    /// The longest literal of the sequence that a pattern is, and of several the last: each match contains it. None
+    /// where the pattern is no literal and has none, or where memory was refused.
     pub fn of(alloc: Global, hir: &Hir) -> Option<Needle>
         ensures { IfSome result (λ needle. Contains (meaning hir.now) needle) }
     {

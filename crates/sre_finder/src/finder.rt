@@ -151,7 +151,7 @@ impl<'c> Finder<'c> {
     {
         self.end = None;
         self.pace.begin_text();
-        self.is_silent = self.is_read && self.seeker.is_none();
+        self.is_silent = self.is_read && self.seeker.is_none() && self.whole.is_none();
         if let Some(seeker) = &mut self.seeker {
             seeker.reset();
         }

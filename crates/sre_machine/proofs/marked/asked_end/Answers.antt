@@ -11,4 +11,5 @@ word-preserved c = record {
 }
 
 pub returns : goal.returns
-returns c = covers_end c.args.words.now c.word.place c.word.end (omega (arith, c.word-test.false)) c.word.invariant.covers
+returns c =
+    covers_end c.args.words.now c.word.place c.word.end (omega (arith, c.word-test.false)) c.word.invariant.covers
