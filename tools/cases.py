@@ -188,9 +188,8 @@ class Cases:
         whole = [f"{ROOT}/{it}" for it in ("crates/sre_cases/cases", "examples")]
         lines = [it.decode() for folder in whole for it in lines_of(folder)]
         self.made("sre_probes", "cases by finders", lambda it: finders.agree(it, lines, self.tell))
-        # the one that is linked to the C library, before which the requests are counted
-        program = programs_of("sre_cases")[0]
-        self.count(refused.are_plain(program, self.tell), "requests refused to finders", program)
+        if refused.can_try(self.tell):
+            self.made("sre_cases", "requests refused to finders", lambda it: refused.are_plain(it, self.tell))
         self.made("sre_cases", "large lines", lambda it: large.are_answered(it, large.cases, self.tell))
         self.made("sre_probes", "large lines", lambda it: large.are_answered(it, large.probes, self.tell))
 

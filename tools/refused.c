@@ -1,12 +1,11 @@
-/* Refuses one request for memory of a program: the one whose number, from 1 on, is in the environment's REFUSED. To the
-   file that REQUESTS names it writes how many there were. It stands before the C library by LD_PRELOAD. */
-#include <errno.h>
+/* Refuses one request for memory of a program, by malloc or realloc: the one whose number, from 1 on, is in the
+   environment's REFUSED. To the file that REQUESTS names it writes how many there were. It stands before the C library
+   by LD_PRELOAD. */
 #include <stdio.h>
 #include <stdlib.h>
 
 extern void *__libc_malloc(size_t size);
 extern void *__libc_realloc(void *block, size_t size);
-extern void *__libc_memalign(size_t alignment, size_t size);
 
 static long refused = -1, requests = 0;
 
@@ -25,15 +24,6 @@ void *malloc(size_t size) {
 
 void *realloc(void *block, size_t size) {
     return is_refused() ? NULL : __libc_realloc(block, size);
-}
-
-void *aligned_alloc(size_t alignment, size_t size) {
-    return is_refused() ? NULL : __libc_memalign(alignment, size);
-}
-
-int posix_memalign(void **block, size_t alignment, size_t size) {
-    *block = is_refused() ? NULL : __libc_memalign(alignment, size);
-    return *block ? 0 : ENOMEM;
 }
 
 __attribute__((destructor)) static void tell(void) {

@@ -6,8 +6,7 @@
 Each line is long enough to be asked of a finder. Each request for memory of the whole program is refused in turn, by
 `refused.c` before the C library. What is refused to the program's reading and writing ends it with `no memory`, and
 what is refused to the machine gives the answer `memory`: no more of them than the same line makes as a `match`, which
-asks no finder. All others are the finder's, and leave the answer as it is. It needs `cc`, and tells where it is not
-there.
+asks no finder. All others are the finder's, and leave the answer as it is. It needs `cc`.
 """
 import argparse
 import os
@@ -57,9 +56,14 @@ class Refusing:
         """What a line comes to with ample memory, and how many requests it makes."""
         with open(self.case, "w", encoding="ascii") as file:
             file.write(f"{line}\n")
-        plain = self.ran(0)
+        return self.ran(0), self.requests()
+
+    def requests(self):
+        """How many requests the last run told of; none where the program does not ask the C library."""
+        if not os.path.isfile(self.told):
+            return 0
         with open(self.told, encoding="ascii") as file:
-            return plain, int(file.read())
+            return int(file.read())
 
     def is_plain(self, verb, asked, tell):
         """Whether each request of the finder's leaves the plain answer, and each other one is told."""
@@ -74,11 +78,15 @@ class Refusing:
         return is_well
 
 
-def are_plain(program, tell):
-    """Whether all lines are answered as they must be; where there is no `cc` they are not tried, which is told."""
+def can_try(tell):
+    """Whether there is a `cc`; that there is none is told."""
     if not shutil.which("cc"):
-        tell("refused requests of a finder not tried: there is no cc")
-        return True
+        tell("requests refused to finders not tried: there is no cc")
+    return bool(shutil.which("cc"))
+
+
+def are_plain(program, tell):
+    """Whether all lines are answered as they must be."""
     with tempfile.TemporaryDirectory(prefix="refused-") as room:
         refusing = Refusing(program, room)
         return all([refusing.is_plain(verb, asked, tell) for verb, asked in lines()])
@@ -87,7 +95,8 @@ def are_plain(program, tell):
 def main():
     parser = argparse.ArgumentParser(description=__doc__, formatter_class=argparse.RawDescriptionHelpFormatter)
     parser.add_argument("--program", default="crates/sre_cases/out/sre_cases", metavar="PATH")
-    return 0 if are_plain(parser.parse_args().program, print) else 1
+    options = parser.parse_args()
+    return 0 if can_try(print) and are_plain(options.program, print) else 1
 
 
 if __name__ == "__main__":
