@@ -9,3 +9,4 @@ pub mod Taken
 pub mod Opening
 pub mod Keeping
 pub mod Following
+pub mod Attempting

@@ -1,5 +1,7 @@
+pub mod Allowances
 pub mod Memos
 pub mod Paying
 pub mod Turns
+pub mod Runners
 pub mod Runs
 pub mod EndlessRuns

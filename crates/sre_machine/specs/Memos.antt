@@ -1,5 +1,5 @@
 -- What a memo has: the failures that are kept, and how long the search goes on without keeping any.
-use Rattle.std.specs.Prelude.{ℕ, ◌+◌, ◌*◌, ◌<◌, ◌≡◌, Bool, true, false, List, Option, Some, None, negsuc}
+use Rattle.std.specs.Prelude.{ℕ, ◌+◌, ◌-◌, ◌*◌, ◌<◌, ◌≤◌, ◌≡◌, Bool, true, false, List, Option, Some, None, negsuc}
 use Rattle.sre_growth.specs.declared.Refusal.{Refusal}
 use Rattle.sre_model.specs.Marks.{Marks, no_marks}
 use Rattle.sre_model.specs.Runs.{Run}
@@ -52,3 +52,8 @@ Recalls r m = Recalled r m.kept m.marked
 -- a memo that keeps failures has no step to wait for
 abbrev pub IsMemo : Bool → ℕ → Type 0
 IsMemo o p = o ≡ true → p ≡ 0
+
+-- a memo at the begin of a search in a window: no failures are kept yet, and none are for some turns a character
+pub record Begins (start end : ℕ) (m : MemoValue) : Type 0 where
+  pub closed : m.is_open ≡ false
+  pub waits : m.waits ≤ 32 * (end - start + 1)

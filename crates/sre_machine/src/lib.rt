@@ -7,6 +7,7 @@
 //! alike. The answer is the same.
 #![tactic(auto)]
 
+pub mod allowance;
 mod branches;
 mod endless_runs;
 mod greedy_runs;
@@ -20,5 +21,6 @@ mod possessive_runs;
 mod references;
 mod regions;
 mod run_operands;
+pub mod runner;
 mod trying;
 pub mod turns;

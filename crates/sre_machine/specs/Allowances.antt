@@ -1,0 +1,27 @@
+-- How many turns are allowed: whether they are limited, and how many are left.
+-- Words of the contracts inside these crates; what sre_engine makes public does not rest on it.
+use Rattle.std.specs.Prelude.{ℕ, ◌≡◌, Bool, true, false}
+use Rattle.sre_growth.specs.Refusal.{Refused}
+use Rattle.sre_machine.specs.declared.allowance.Allowance.{Allowance}
+use Rattle.sre_machine.specs.declared.allowance.Allowance.TheVariants.{Unlimited, Turns}
+use Rattle.sre_machine.specs.declared.turns.Halt.{Halt}
+use Rattle.sre_machine.specs.declared.turns.Halt.TheVariants as halt
+
+abbrev pub is_limited : Allowance → Bool
+is_limited Unlimited = false
+is_limited (Turns left) = true
+
+-- how many turns are left; none are counted where they are not limited
+abbrev pub left_of : Allowance → ℕ
+left_of Unlimited = 0
+left_of (Turns left) = left
+
+-- so many turns are left, where they are limited
+abbrev pub leaves : Allowance → ℕ → Allowance
+leaves Unlimited left = Unlimited
+leaves (Turns before) left = Turns left
+
+-- why a run is given up: memory was refused to it, or its turns are limited and used up
+abbrev pub Halted : Allowance → Halt → Type 0
+Halted allowed (halt.Refused refusal) = Refused
+Halted allowed halt.UsedUp = (is_limited allowed ≡ true) × (left_of allowed ≡ 0)

@@ -1,0 +1,158 @@
+//! A runner: the memory in which the machine runs, and how many of its runs were begun.
+
+ghost use Rattle.std.specs.Prelude.{◌≡◌, ◌≤◌, ◌*◌, ◌^◌, ◌<◌, IfErr, false};
+ghost use Rattle.sre_model.specs.Tree.{Tree};
+ghost use Rattle.sre_model.specs.Grammar.{WholeItems};
+ghost use Rattle.sre_model.specs.Marks.{no_marks};
+ghost use Rattle.sre_model.specs.Prefixes.{ReadsBehind};
+ghost use Rattle.sre_turns.specs.Board.{bare};
+ghost use Rattle.sre_request.specs.Requests.{start_of, end_of};
+ghost use Rattle.sre_request.specs.Runs.{run_of, Standing};
+ghost use Rattle.sre_machine.specs.Allowances.{Halted, is_limited};
+ghost use Rattle.sre_machine.specs.Memos.{Recalls, Begins};
+ghost use Rattle.sre_machine.specs.Runners.{IsReady, Began, AttemptDecides, ClearsUnfound, AttemptCosts};
+
+use crate::allowance::Allowance;
+use crate::memo::Memo;
+use crate::turns::{Begun, Halt, run_from};
+use sre_board::{Board, Marks};
+use sre_chars::string::{StrDrive, StringCursor};
+use sre_request::Request;
+use std::alloc::Allocator;
+use std::marker::Model;
+
+/// The board on which the machine runs, what is remembered of its failures, and how many runs were begun.
+#[derive(Drop)]
+pub struct Runner<A: Allocator> {
+    board: Board<A>,
+    memo: Memo<A>,
+    begun: Begun,
+}
+
+impl<A: Allocator> Model for Runner<A> {
+    ghost use Rattle.std.specs.Prelude.{◌≡◌, false};
+    ghost use Rattle.sre_machine.specs.Runners.{RunnerValue};
+
+    ghost Value = { RunnerValue };
+
+    ghost view = { λ r. record {
+      board = r.board;
+      memo = r.memo;
+      started = r.begun.started;
+      restarted = r.begun.restarted;
+    } };
+
+    // No refusal of an earlier run is held.
+    ghost invariant = { λ r. r.memo.stopped ≡ false };
+}
+
+impl<A: Allocator + Copy> Runner<A> {
+    /// A runner with no marks, that has begun no run. It takes no memory.
+    pub fn new(alloc: A) -> Runner<A>
+        ensures board { result.board ≡ bare no_marks }
+        ensures started { result.started ≡ 0 }
+        ensures restarted { result.restarted ≡ 0 }
+    {
+        Runner {
+            board: Board::new(alloc),
+            memo: Memo::new(alloc),
+            begun: Begun::none(),
+        }
+    }
+
+    /// The allocator that its memory is taken from.
+    pub fn allocator(&self) -> A {
+        self.board.allocator()
+    }
+}
+
+impl<A: Allocator> Runner<A> {
+    /// The marks of the way that was found last; there are none where none was found.
+    pub fn marks(&self) -> &Marks<A>
+        ensures { result.now ≡ self.now.board.marks }
+    {
+        self.board.marks()
+    }
+
+    /// How many runs were begun.
+    pub fn begun(&self) -> Begun
+        ensures started { result.started ≡ self.now.started }
+        ensures restarted { result.restarted ≡ self.now.restarted }
+    {
+        self.begun
+    }
+
+    /// Counts so many runs as begun, in place of those that were.
+    #[inline(always)]
+    pub fn count(&mut self, begun: Begun)
+        ensures { self.new ≡ record self.old { started = begun.started; restarted = begun.restarted } }
+    {
+        self.begun = begun;
+    }
+
+    /// Takes the marks away; the memory is kept.
+    pub fn clear(&mut self)
+        ensures { self.new ≡ record self.old { board = bare no_marks } }
+    {
+        self.board.clear();
+    }
+
+    /// Begins a search: with no marks, no failures and no run begun.
+    #[inline(always)]
+    pub fn begin<S: StrDrive>(&mut self, req: &Request<'_, S>)
+        ensures ready { IsReady req.now self.new }
+        ensures begins { Begins (start_of req.now) (end_of req.now) self.new.memo }
+        ensures started { self.new.started ≡ 0 }
+        ensures restarted { self.new.restarted ≡ 0 }
+    {
+        self.board.clear();
+        self.memo.begin(req, &mut self.board);
+        self.begun = Begun::none();
+    }
+
+    /// Attempts a match of what follows some literals, from a cursor: the cursor at the end of the first accepted way,
+    /// whose marks the runner then has, or `None` where there is none. It takes its turns off those that are allowed,
+    /// and is given up where none is left. What fails is remembered for later attempts of the search.
+    ///
+    /// No other function begins runs of the machine, and those that this one begins are counted.
+    #[inline(always)]
+    pub fn attempt<S: StrDrive>(
+        &mut self,
+        req: &Request<'_, S>,
+        literals: usize,
+        start: StringCursor,
+        allowed: &mut Allowance,
+    ) -> Result<Option<StringCursor>, Halt>
+        requires stands { Standing req.now start }
+        requires inside { start.position ≤ end_of req.now }
+        requires behind { (t : Tree) → WholeItems (run_of req.now).words t
+            → ReadsBehind (run_of req.now).words literals t }
+        requires few { 2 * literals < 2 ^ 64 }
+        requires ready { IsReady req.now self.old }
+        ensures began { Began (is_limited allowed.old) self.old self.new }
+        ensures remembers { Recalls (run_of req.now) self.new.memo }
+        ensures decides { AttemptDecides req.now literals start.position result self.new.board }
+        ensures clears { ClearsUnfound result self.new.board }
+        ensures costs { AttemptCosts req.now literals start result self.old self.new allowed.old allowed.new }
+        ensures halted { IfErr result (Halted allowed.new) }
+    {
+        let limited = allowed.is_limited();
+        let mut left = allowed.left();
+        let told = run_from(
+            req,
+            literals,
+            start,
+            &mut self.board,
+            &mut self.memo,
+            &mut self.begun,
+            limited,
+            &mut left,
+        );
+        self.memo.rest();
+        allowed.leave(left);
+        if !matches!(told, Ok(Some(_))) {
+            self.board.clear();
+        }
+        told
+    }
+}
