@@ -1,29 +1,21 @@
 -- How the costs of a search's runs add up.
-use Rattle.std.proofs.Common.{◌≡◌, ℕ, ◌+◌, ◌*◌, ◌≤◌, inl, inr, [], Bool, true, false, length, refl, arith}
+use Rattle.std.proofs.Common.{◌≡◌, ℕ, ◌+◌, ◌*◌, ◌≤◌, inl, inr, true, false, length, refl, arith}
 use Rattle.std.proofs.Common.{Result, Ok, Err, IfErr, IsErrAnd, sym, subst}
 use Rattle.std.proofs.Common.{add-mul, one-mul}
 use Rattle.std.proofs.Math.Nat.{mul-le-mul_right}
 use Rattle.sre_chars.specs.declared.string.StrDrive.{Ghosts}
 use Rattle.sre_chars.specs.declared.string.StringCursor.{StringCursor}
-use Rattle.sre_board.proofs.AccountLaws.{account_few}
 use Rattle.sre_request.specs.declared.request.Request.{Request}
 use Rattle.sre_request.specs.Requests.{start_of}
 use Rattle.sre_request.specs.Runs.{run_of}
 use Rattle.sre_machine.specs.declared.turns.Halt.{Halt}
 use Rattle.sre_machine.specs.declared.turns.Halt.TheVariants as halt
-use Rattle.sre_engine.specs.Costs.{search_cost, most_tolls, most_waits, CostsUpTo, SearchCosts, SearchGivenUp}
-use Rattle.sre_engine.specs.Halts.{Halted}
+use Rattle.sre_engine.specs.Costs.{search_cost, most_tolls, most_waits, CostsUpTo, SearchGivenUp}
+use Rattle.sre_machine.specs.Allowances.{is_limited, Halted}
+use Rattle.sre_machine.specs.declared.allowance.Allowance.{Allowance}
 use Rattle.sre_turns.specs.Limits.{grant}
 use Rattle.sre_machine.specs.Memos.{MemoValue}
-use Rattle.sre_machine.specs.Paying.{Remembering, weight, each_of, run_cost, RunGivenUp, RunSettles}
-
--- a run with no outcome, where its refusal is not kept beyond it
-pub rested : {S : Type 0} {text : Ghosts S} (r : Request S text) (start : StringCursor) (m m' m'' : MemoValue)
-    (left after : ℕ) → m'' ≡ record m' { stopped = false } → RunSettles r start m m' left after
-    → RunSettles r start m m'' left after
-rested r start m m' m'' left after same run =
-    subst (λ (k : MemoValue). RunSettles r start m k left after) (sym same)
-    (record { keeping = run.keeping; closed = run.closed })
+use Rattle.sre_machine.specs.Paying.{Remembering, each_of, run_cost, RunGivenUp, RunSettles}
 
 -- what j runs cost, and what k more of them cost
 sum_of : (j k a s t g m : ℕ) → ((j + k) * a + (s + t) * g) * m ≡ (j * a + s * g) * m + (k * a + t * g) * m
@@ -40,10 +32,9 @@ no_less j k a s t g m h l =
     mul-le-mul_right m (omega (arith, runs, tolls))
 
 -- a run that gives up is limited
-pub gives_up_limited : (limited : Bool) (left : ℕ) (why : Halt) → Halted limited left why → why ≡ halt.UsedUp
-    → limited ≡ true
-gives_up_limited limited left (halt.Refused refusal) h e = absurd (cc e)
-gives_up_limited limited left halt.UsedUp h e = h.0
+pub gives_up_limited : (a : Allowance) (why : Halt) → Halted a why → why ≡ halt.UsedUp → is_limited a ≡ true
+gives_up_limited a (halt.Refused refusal) h e = absurd (cc e)
+gives_up_limited a halt.UsedUp h e = h.0
 
 -- what holds of an error that is passed on
 pub passed_on : {T E : Type 0} (result : Result T E) (e : E) (P : E → Type 0) → IsErrAnd result (λ y. y ≡ e) → P e
@@ -99,10 +90,10 @@ module _ {S : Type 0} {text : Ghosts S} (r : Request S text) where
     ];
   }
 
-  -- another run, which is given up: no more turns were waited and no more tolls granted than from where one memo begins
-  pub costs_once : (begun m : MemoValue) (start : StringCursor) (given left after k : ℕ)
+  -- another run, which is given up: no more turns were waited and no more tolls granted than from where the memo begins
+  costs_once : (begun m : MemoValue) (start : StringCursor) (given left after k : ℕ)
       → CostsUpTo r begun m given left k → begun.waits ≤ most_waits r → RunGivenUp r start m left after
-      → start_of r ≤ start.position → SearchCosts r given after (k + 1)
+      → start_of r ≤ start.position → SearchGivenUp r given after (k + 1)
   costs_once begun m start given left after k old waits run from = record {
     cost = λ pl. elim (old.cost pl) [
       | inl refused ↦ inl refused
@@ -122,64 +113,12 @@ module _ {S : Type 0} {text : Ghosts S} (r : Request S text) where
     ];
   }
 
-  -- one memo alone was begun
-  pub given_up_once : (given left runs : ℕ) → SearchCosts r given left runs → SearchGivenUp r given left runs
-  given_up_once given left runs costs = record {
-    cost = λ pl. elim (costs.cost pl) [
-      | inl refused ↦ inl refused
-      | inr x ↦
-          let t : ℕ = most_tolls r pl in
-          let most = more pl runs runs t (2 * t) (omega arith) (omega arith) in
-          inr (omega (arith, most, x))
-    ];
-  }
-
-  -- a first run with no outcome, from where a memo began
-  pub costs_first : (m m' : MemoValue) (start : StringCursor) (left after : ℕ) → m.waits ≤ most_waits r
-      → m.is_open ≡ false → RunSettles r start m m' left after → start_of r ≤ start.position
-      → SearchCosts r left after 1
-  costs_first m m' start left after waits closed run from = record {
-    cost = λ pl. elim (run.closed pl from closed) [
-      | inl refused ↦ inl refused
-      | inr (inl y) ↦ inr (omega (arith, y.1, waits))
-      | inr (inr y) ↦
-          let bits = account_few (run_of r) pl.plain (start_of r) m'.kept [] y.1 y.3 in
-          let few : y.0 ≤ most_tolls r pl = omega (arith, y.2, mul-le-mul_right (weight r pl) bits) in
-          let most = more pl 1 1 y.0 (most_tolls r pl) (omega arith) few in
-          inr (omega (arith, most, one_run pl y.0, y.5, waits))
-    ];
-  }
-
-  -- the first run and those from where another memo began
-  pub costs_joined : (given left after k : ℕ) → SearchCosts r given left 1 → SearchCosts r left after k
-      → SearchGivenUp r given after (1 + k)
-  costs_joined given left after k first others = record {
-    cost = λ pl. elim (first.cost pl) [
-      | inl refused ↦ inl refused
-      | inr x ↦ elim (others.cost pl) [
-        | inl refused ↦ inl refused
-        | inr y ↦
-            let t : ℕ = most_tolls r pl in
-            let all = sum pl 1 k t t in
-            let most = more pl (1 + k) (1 + k) (t + t) (2 * t) (omega arith) (omega arith) in
-            inr (omega (arith, all, most, x, y))
-      ]
-    ];
-  }
-
 -- the runs since some memo began
 pub record CostsSince {S : Type 0} {text : Ghosts S} (r : Request S text) (now : MemoValue) (given left runs : ℕ) :
     Type 0 where
   pub begun : MemoValue
   pub waits : begun.waits ≤ most_waits r
   pub upto : CostsUpTo r begun now given left runs
-
--- the same behind a first run, before which another memo began
-pub record CostsBehind {S : Type 0} {text : Ghosts S} (r : Request S text) (now : MemoValue) (given left runs : ℕ) :
-    Type 0 where
-  pub others : ℕ
-  pub is : runs ≡ 1 + others
-  pub since : CostsSince r now given left others
 
 module _ {S : Type 0} {text : Ghosts S} (r : Request S text) where
   -- before any run
@@ -198,49 +137,8 @@ module _ {S : Type 0} {text : Ghosts S} (r : Request S text) where
   }
 
   -- another run, which is given up
-  pub since_once : (m : MemoValue) (start : StringCursor) (given left after before runs : ℕ)
-      → CostsSince r m given left before → RunGivenUp r start m left after → start_of r ≤ start.position
-      → runs ≡ before + 1 → SearchCosts r given after runs
-  since_once m start given left after before runs old run from e =
-      rw e (costs_once r old.begun m start given left after before old.upto old.waits run from)
-
   pub since_given_up : (m : MemoValue) (start : StringCursor) (given left after before runs : ℕ)
       → CostsSince r m given left before → RunGivenUp r start m left after → start_of r ≤ start.position
       → runs ≡ before + 1 → SearchGivenUp r given after runs
   since_given_up m start given left after before runs old run from e =
-      given_up_once r given after runs (since_once m start given left after before runs old run from e)
-
-  -- behind a first run, before any other
-  pub behind_begin : (m : MemoValue) (left runs : ℕ) → m.waits ≤ most_waits r → m.is_open ≡ false → runs ≡ 1
-      → CostsBehind r m left left runs
-  behind_begin m left runs waits closed one = record {
-    others = 0;
-    is = one;
-    since = since_begin m left waits closed;
-  }
-
-  pub cost_of_run : (m m' : MemoValue) (start : StringCursor) (given left after before runs : ℕ)
-      → CostsBehind r m given left before → RunSettles r start m m' left after → start_of r ≤ start.position
-      → runs ≡ before + 1 → CostsBehind r m' given after runs
-  cost_of_run m m' start given left after before runs old run from e = record {
-    others = old.others + 1;
-    is = omega (arith, e, old.is);
-    since = since_run m m' start given left after old.others _ old.since run from refl;
-  }
-
-  pub behind_given_up : (m : MemoValue) (start : StringCursor) (all given left after before runs : ℕ)
-      → CostsBehind r m given left before → RunGivenUp r start m left after → start_of r ≤ start.position
-      → runs ≡ before + 1 → SearchCosts r all given 1 → SearchGivenUp r all after runs
-  behind_given_up m start all given left after before runs old run from e first =
-      let same : runs ≡ 1 + (old.others + 1) = omega (arith, e, old.is) in
-      rw same (costs_joined r all given after (old.others + 1) first
-      (since_once m start given left after old.others _ old.since run from refl))
-
-  -- what the runs behind a first one say of the whole
-  pub whole_given_up : (result : Result Bool Halt) (limited : Bool) (all given after runs : ℕ)
-      → IfErr result (Halted limited after) → (limited ≡ true → SearchCosts r all given 1)
-      → IfErr result (λ why. why ≡ halt.UsedUp → (n : ℕ) → SearchCosts r n given 1 → SearchGivenUp r n after runs)
-      → IfErr result (λ why. why ≡ halt.UsedUp → SearchGivenUp r all after runs)
-  whole_given_up (Ok b) limited all given after runs halted first behind = tt
-  whole_given_up (Err why) limited all given after runs halted first behind =
-      λ e. behind e all (first (gives_up_limited limited after why halted e))
+      rw e (costs_once r old.begun m start given left after before old.upto old.waits run from)

@@ -1,5 +1,5 @@
 -- Turns that are enough for a search, where all that failed is remembered, are not used up unless memory was refused.
-use Rattle.std.proofs.Common.{◌≡◌, ℕ, ◌+◌, ◌-◌, ◌*◌, ◌≤◌, inl, inr, length, arith, mul-le-mul}
+use Rattle.std.proofs.Common.{◌≡◌, ℕ, ◌+◌, ◌-◌, ◌*◌, ◌≤◌, inl, inr, Bool, Result, Err, refl, ap, ◌∙◌, subst, length, arith, mul-le-mul}
 use Rattle.std.proofs.Math.Nat.{mul_assoc, mul-le-mul_right}
 use Rattle.sre_chars.specs.declared.string.StrDrive.{Ghosts}
 use Rattle.sre_growth.specs.Refusal.{Refused}
@@ -10,25 +10,29 @@ use Rattle.sre_request.specs.Requests.{start_of, end_of, asked_of, code_of}
 use Rattle.sre_request.specs.Runs.{run_of}
 use Rattle.sre_code.proofs.Checked.{items_whole}
 use Rattle.sre_engine.specs.Counts.{AreEnough}
-use Rattle.sre_engine.specs.Costs.{SearchGivenUp, search_cost, most_tolls, most_waits}
+use Rattle.sre_engine.specs.Costs.{Charged, SearchGivenUp, search_cost, most_tolls, most_waits}
 use Rattle.sre_turns.specs.Limits.{grant}
+use Rattle.sre_machine.specs.Allowances.{left_of}
+use Rattle.sre_machine.specs.declared.allowance.Allowance.{Allowance}
+use Rattle.sre_machine.specs.declared.turns.Halt.{Halt}
+use Rattle.sre_machine.specs.declared.turns.Halt.TheVariants as halt
 use Rattle.sre_machine.specs.Paying.{Remembering, weight, each_of}
 
--- runs from as many starts as there are, from where two memos begin, cost no more
+-- runs from as many starts as there are, from where a memo begins, cost no more
 few : {S : Type 0} {text : Ghosts S} (r : Request S text) (pl : Remembering r) (runs : ℕ)
     → runs ≤ end_of r + 1 - start_of r
-    → 2 * most_waits r + search_cost r pl runs (2 * most_tolls r pl)
+    → most_waits r + search_cost r pl runs (most_tolls r pl)
     ≤ enough_turns (length (run_of r).words) pl.plain.tree (asked_of r)
 few r pl runs l =
     let places : ℕ = length (run_of r).words in
     let own : runs * (2 * places + 4) ≤ (end_of r + 1 - start_of r) * (2 * places + 4) =
     mul-le-mul l (omega arith) in
-    let bits : 2 * most_tolls r pl ≤ most_ways places pl.plain.tree (asked_of r) =
+    let bits : most_tolls r pl ≤ most_ways places pl.plain.tree (asked_of r) =
     omega (arith, mul_assoc 2 (most_bits (run_of r) pl.plain (start_of r)) (weight r pl)) in
-    let tolls : 2 * most_tolls r pl * grant (run_of r).words
+    let tolls : most_tolls r pl * grant (run_of r).words
     ≤ most_ways places pl.plain.tree (asked_of r) * turns_between places =
     mul-le-mul bits (omega arith) in
-    let all : runs * (2 * places + 4) + 2 * most_tolls r pl * grant (run_of r).words
+    let all : runs * (2 * places + 4) + most_tolls r pl * grant (run_of r).words
     ≤ (end_of r + 1 - start_of r) * (2 * places + 4)
     + most_ways places pl.plain.tree (asked_of r) * turns_between places =
     omega (arith, own, tolls) in
@@ -50,9 +54,18 @@ module _ {S : Type 0} {text : Ghosts S} (r : Request S text) (given : ℕ)
   }
 
   -- so they are not used up
-  pub never_given_up : (left runs : ℕ) → SearchGivenUp r given left runs → left ≡ 0 → runs ≤ end_of r + 1 - start_of r
+  never_given_up : (left runs : ℕ) → SearchGivenUp r given left runs → left ≡ 0 → runs ≤ end_of r + 1 - start_of r
       → Refused
   never_given_up left runs g none l = elim (g.cost remembering) [
     | inl refused ↦ refused
     | inr cost ↦ absurd (omega (arith, cost, none, few r remembering runs l, enough.more))
   ]
+
+  -- nor is a search given up that is charged
+  pub charged_enough : (a a' : Allowance) (told : Result Bool Halt) (started runs : ℕ)
+      → Charged r told started runs a a' → (why : Halt) → told ≡ Err why → why ≡ halt.UsedUp → left_of a ≡ given
+      → started ≤ end_of r + 1 - start_of r → Refused
+  charged_enough a a' told started runs charged why e used same l =
+      let up = subst (λ t. Charged r t started runs a a') (e ∙ ap Err used) charged in
+      let cost = rw same at up.given_up refl in
+      never_given_up (left_of a') started cost up.halted.1 l

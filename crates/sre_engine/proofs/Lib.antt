@@ -8,6 +8,8 @@ pub mod Steps
 pub mod Seeking
 pub mod PrefixWays
 pub mod Searching
+pub mod CandidateLaws
+pub mod Looking
 pub mod Telling
 pub mod Claiming
 pub mod FirstMembers

@@ -10,6 +10,7 @@ use Rattle.sre_code.specs.declared.code.Code.{Code}
 use Rattle.sre_code.proofs.Checked.{code_tree, code_confirmed}
 use Rattle.sre_engine.specs.Answers.{Shown}
 use Rattle.sre_engine.specs.Counts.{CountsUpTo, width_fits, prefix_stands, may_start}
+use Rattle.sre_engine.specs.Candidates.{MayBegin}
 use Rattle.sre_engine.specs.Members.{IsFirstSet, is_among}
 use Rattle.sre_engine.specs.Prefixed.{IsPrefix, IsLast, FitsAt}
 use Rattle.sre_engine.specs.Scans.{Stands}
@@ -75,24 +76,19 @@ few_ran a code n p ran =
     let set = own_set code in
     omega (arith, ran.few set.0 set.1, few_counted (may_run a code set.0) a.start (p - a.start))
 
--- the counts of a search that ran before a position, by a confirmed prefix
-pub counts_placed : (a : Asked) (code : Code) (vs : List ℕ) (k : ℕ) (whole : Bool) (s : Shown) (p to seen : ℕ)
-    → IsPrefix code vs k whole → RanBefore a code s.started p → p ≤ to → s.compared ≤ 2 * (seen - a.start)
-    → CountsUpTo a code to seen s
-counts_placed a code vs k whole s p to seen is ran l cost = record {
+-- the counts of a search that ran before a position
+pub counts_ran : (a : Asked) (code : Code) (s : Shown) (p to seen : ℕ) → RanBefore a code s.started p → p ≤ to
+    → s.compared ≤ 2 * (seen - a.start) → ((hints_of code).prefix ≡ None → s.compared ≡ 0) → CountsUpTo a code to seen s
+counts_ran a code s p to seen ran l few none = record {
   started = (ran_later a code s.started p to ran l).few;
-  compared = cost;
-  uncompared = λ plain. absurd (let never : Some (length vs, k) ≡ None = sym is.hint ∙ plain in cc never);
+  compared = few;
+  uncompared = none;
 }
 
--- and of one that compared nothing
-pub counts_plain : (a : Asked) (code : Code) (s : Shown) (p to seen : ℕ) → RanBefore a code s.started p → p ≤ to
-    → s.compared ≡ 0 → CountsUpTo a code to seen s
-counts_plain a code s p to seen ran l none = record {
-  started = (ran_later a code s.started p to ran l).few;
-  compared = omega (arith, none);
-  uncompared = λ plain. none;
-}
+-- the words of a prefix are those of a confirmed one
+pub has_prefix : (code : Code) (vs : List ℕ) (k : ℕ) (whole : Bool) → IsPrefix code vs k whole
+    → (hints_of code).prefix ≡ None → ⊥
+has_prefix code vs k whole is plain = let never : Some (length vs, k) ≡ None = sym is.hint ∙ plain in cc never
 
 -- without a confirmed prefix none is all of the code
 pub not_literal : (code : Code) → (hints_of code).prefix ≡ None → (hints_of code).literal ≡ false
@@ -114,52 +110,49 @@ all_parts true true true has_set member f s l m = absurd (cc l)
 all_parts true false literal has_set member f s l m = absurd (cc s)
 all_parts false stands literal has_set member f s l m = absurd (cc f)
 
-module _ (a : Asked) (code : Code) (last : Option ℕ) (n m p q : ℕ) (is : IsLast a code last) (fits : FitsAt last q)
-    (from : a.start ≤ p) (l : p ≤ q) (ran : RanBefore a code n p) (one : m ≡ n + 1) where
-  fit : width_fits a (hints_of code).width q ≡ true
-  fit = by_width (hints_of code).width refl
-    where
-      by_width : (w : Option ℕ) → (hints_of code).width ≡ w → width_fits a w q ≡ true
-      by_width None e = refl
-      by_width (Some w) e = let wide = is.fits q fits w e in grind (arith, nat_tests)
+-- one more run, at a further start where a confirmed width fits
+pub ran_on : (a : Asked) (code : Code) (last : Option ℕ) (n m p q : ℕ) → IsLast a code last → FitsAt last q
+    → a.start ≤ p → p ≤ q → RanBefore a code n p → m ≡ n + 1 → MayBegin a code q → RanBefore a code m (q + 1)
+ran_on a code last n m p q is fits from l ran one begin =
+    ran_more a code n m p q from l ran one (record {
+      may = λ set own. begin.may set own (by_width (hints_of code).width refl);
+    })
+  where
+    by_width : (w : Option ℕ) → (hints_of code).width ≡ w → width_fits a w q ≡ true
+    by_width None e = refl
+    by_width (Some w) e = let wide = is.fits q fits w e in grind (arith, nat_tests)
 
+module _ (a : Asked) (code : Code) (q : ℕ) where
   -- neither a prefix nor a first set is confirmed
-  pub ran_plain : (hints_of code).prefix ≡ None → (hints_of code).first_set ≡ false → RanBefore a code m (q + 1)
-  ran_plain plain no_set = ran_more a code n m p q from l ran one (record {
-    may = λ set own.
+  pub may_plain : (hints_of code).prefix ≡ None → (hints_of code).first_set ≡ false → MayBegin a code q
+  may_plain plain no_set = record {
+    may = λ set own fit.
         let stands : prefix_stands a (words_of code) (hints_of code).prefix q ≡ true =
         subst (λ hint. prefix_stands a (words_of code) hint q ≡ true) (sym plain) refl in
         all_parts _ _ _ _ _ fit stands (not_literal code plain)
         (λ yes. absurd (let never : true ≡ false = sym yes ∙ no_set in cc never));
-  })
+  }
 
   -- a member of the first set is there
-  pub ran_member : (hints_of code).first_set ≡ true
-      → ((set : List SetItem) → IsFirstSet (words_of code) set → is_among a set q ≡ true) → RanBefore a code m (q + 1)
-  ran_member has_set member = ran_more a code n m p q from l ran one (record {
-    may = λ set own.
+  pub may_member : (hints_of code).first_set ≡ true
+      → ((set : List SetItem) → IsFirstSet (words_of code) set → is_among a set q ≡ true) → MayBegin a code q
+  may_member has_set member = record {
+    may = λ set own fit.
         let plain = no_prefix code has_set in
         let stands : prefix_stands a (words_of code) (hints_of code).prefix q ≡ true =
         subst (λ hint. prefix_stands a (words_of code) hint q ≡ true) (sym plain) refl in
         all_parts _ _ _ _ _ fit stands (not_literal code plain) (λ yes. member set (own yes));
-  })
+  }
 
   -- a prefix stands there that is not all of the code
-  pub ran_place : (vs : List ℕ) (k : ℕ) (whole : Bool) → IsPrefix code vs k whole → whole ≡ false
-      → Stands a.text vs a.end q → RanBefore a code m (q + 1)
-  ran_place vs k whole prefix more there = ran_more a code n m p q from l ran one (record {
-    may = λ set own.
+  pub may_place : (vs : List ℕ) (k : ℕ) (whole : Bool) → IsPrefix code vs k whole → whole ≡ false
+      → Stands a.text vs a.end q → MayBegin a code q
+  may_place vs k whole prefix more there = record {
+    may = λ set own fit.
         let stands : prefix_stands a (words_of code) (hints_of code).prefix q ≡ true =
         subst (λ hint. prefix_stands a (words_of code) hint q ≡ true) (sym prefix.hint)
         (ap (λ ws. stands_at (subject_of a) ws q) (sym prefix.is)
         ∙ stand_fit (subject_of a) vs q there.within there.fits) in
         all_parts _ _ _ _ _ fit stands (sym prefix.all ∙ more)
-        (λ yes. absurd (let never : Some (length vs, k) ≡ None = sym prefix.hint ∙ no_prefix code yes in cc never));
-  })
-
--- the first run of all
-pub ran_first : (a : Asked) (code : Code) (last : Option ℕ) (n m q : ℕ) → IsLast a code last → FitsAt last q
-    → a.start ≤ q → n ≡ 0 → m ≡ n + 1 → (hints_of code).prefix ≡ None → (hints_of code).first_set ≡ false
-    → RanBefore a code m (q + 1)
-ran_first a code last n m q is fits from none one plain no_set =
-    ran_plain a code last n m a.start q is fits (omega arith) from (ran_none a code n a.start none) one plain no_set
+        (λ yes. absurd (has_prefix code vs k whole prefix (no_prefix code yes)));
+  }

@@ -1,5 +1,5 @@
 -- How the turns of a search's runs add up.
-use Rattle.std.proofs.Common.{◌≡◌, ℕ, ◌+◌, ◌-◌, ◌*◌, ◌≤◌, ◌<◌, ◌≢◌, Bool, true, refl, arith, add-mul}
+use Rattle.std.proofs.Common.{◌≡◌, ℕ, ◌+◌, ◌-◌, ◌*◌, ◌≤◌, ◌<◌, ◌≢◌, arith, add-mul}
 use Rattle.std.proofs.Math.Nat.{mul-le-mul, mul-le-mul_right}
 use Rattle.sre_model.specs.Tree.{Tree}
 use Rattle.sre_model.specs.Grammar.{Whole}
@@ -8,10 +8,7 @@ use Rattle.sre_model.specs.Prefixes.{behind_items}
 use Rattle.sre_model.specs.TurnBounds.{turns_of, most_each, RunsWithin}
 use Rattle.sre_code.specs.Codes.{words_of}
 use Rattle.sre_code.specs.declared.code.Code.{Code}
-use Rattle.sre_machine.specs.declared.turns.Halt.{Halt}
-use Rattle.sre_machine.specs.declared.turns.Halt.TheVariants as halt
 use Rattle.sre_engine.specs.Counts.{SpentUpTo}
-use Rattle.sre_engine.specs.Halts.{Halted}
 
 -- a run, and those that begin again where it began
 pub once_spent : (a : Asked) (code : Code) (n p given left runs : ℕ) → p ≤ a.end
@@ -36,12 +33,6 @@ run_spent a code given left after started restarted started' restarted' old one 
       let runs : started' + restarted' ≡ (started + restarted) + (1 + restarted' - restarted) = omega (arith, e, l) in
       rw runs (omega (arith, o, n, add-mul (started + restarted) (1 + restarted' - restarted) most));
 }
-
--- why a run is given up
-pub halted : (limited : Bool) (left : ℕ) (why : Halt) → (why ≡ halt.UsedUp → (limited ≡ true) × (left ≡ 0))
-    → Halted limited left why
-halted limited left (halt.Refused refusal) used = refusal.refused
-halted limited left halt.UsedUp used = used refl
 
 -- more turns than so many runs can take are not used up
 pub never_used_up : (a : Asked) (code : Code) (t : Tree) (given left started most count : ℕ) → Whole (words_of code) t

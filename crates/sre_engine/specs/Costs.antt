@@ -1,15 +1,20 @@
 -- What a search that is limited costs at most, where no memory is refused to it.
 -- Words of the contracts inside this crate; what it makes public does not rest on it.
-use Rattle.std.specs.Prelude.{ℕ, ◌+◌, ◌*◌, ◌≤◌, ◌≡◌, ◌⊎◌, true, false, length}
+use Rattle.std.specs.Prelude.{ℕ, ◌+◌, ◌*◌, ◌≤◌, ◌≡◌, ◌⊎◌, Bool, true, false, length, Result, IfErr}
 use Rattle.sre_chars.specs.declared.string.StrDrive.{Ghosts}
 use Rattle.sre_growth.specs.Refusal.{Refused}
 use Rattle.sre_board.specs.Accounts.{most_bits}
 use Rattle.sre_request.specs.declared.request.Request.{Request}
-use Rattle.sre_request.specs.Requests.{start_of}
+use Rattle.sre_request.specs.Requests.{start_of, code_of, asked_of}
 use Rattle.sre_request.specs.Runs.{run_of}
 use Rattle.sre_turns.specs.Limits.{grant}
+use Rattle.sre_machine.specs.Allowances.{is_limited, left_of, Halted}
+use Rattle.sre_machine.specs.declared.allowance.Allowance.{Allowance}
+use Rattle.sre_machine.specs.declared.turns.Halt.{Halt}
+use Rattle.sre_machine.specs.declared.turns.Halt.TheVariants as halt
 use Rattle.sre_machine.specs.Memos.{MemoValue}
 use Rattle.sre_machine.specs.Paying.{Remembering, HoldsBits, weight, each_of, window_of}
+use Rattle.sre_engine.specs.Counts.{SpentUpTo}
 
 -- what so many runs count for at most, by the tolls that are granted to them
 abbrev pub search_cost : {S : Type 0} {text : Ghosts S} (r : Request S text) → Remembering r → ℕ → ℕ → ℕ
@@ -33,12 +38,17 @@ pub record CostsUpTo {S : Type 0} {text : Ghosts S} (r : Request S text) (begun 
       ⊎ ((tolls n : ℕ) × (tolls ≤ n * weight r pl) × HoldsBits r pl now n × (now.is_open ≡ true)
       × (given ≤ left + begun.waits + search_cost r pl runs tolls)))
 
--- runs from where one memo begins: they cost no more than what it waits, and the tolls that it pays
-pub record SearchCosts {S : Type 0} {text : Ghosts S} (r : Request S text) (given left runs : ℕ) : Type 0 where
+-- a search that was given up: how many turns it took at most, where no memory was refused. They cost no more than what
+-- its memo waits, and the tolls that it pays
+pub record SearchGivenUp {S : Type 0} {text : Ghosts S} (r : Request S text) (given left runs : ℕ) : Type 0 where
   pub cost : (pl : Remembering r)
       → Refused ⊎ (given ≤ left + most_waits r + search_cost r pl runs (most_tolls r pl))
 
--- a search that was given up: how many turns it took at most, where no memory was refused. It begins two memos at most
-pub record SearchGivenUp {S : Type 0} {text : Ghosts S} (r : Request S text) (given left runs : ℕ) : Type 0 where
-  pub cost : (pl : Remembering r)
-      → Refused ⊎ (given ≤ left + 2 * most_waits r + search_cost r pl runs (2 * most_tolls r pl))
+-- what a search of so many starts and runs takes off the turns that are allowed
+pub record Charged {S : Type 0} {text : Ghosts S} (r : Request S text) (told : Result Bool Halt) (started runs : ℕ)
+    (a a' : Allowance) : Type 0 where
+  pub limited : is_limited a' ≡ is_limited a
+  pub fewer : left_of a' ≤ left_of a
+  pub spent : SpentUpTo (asked_of r) (code_of r) (left_of a) (left_of a') runs
+  pub halted : IfErr told (Halted a')
+  pub given_up : IfErr told (λ why. why ≡ halt.UsedUp → SearchGivenUp r (left_of a) (left_of a') started)

@@ -55,6 +55,12 @@ pub record StepsCount (a : Asked) (code : Code) (to seen matches started compare
 abbrev pub CountsOfWalk : Asked → Code → ℕ → Shown → Type 0
 CountsOfWalk a code matches s = StepsCount a code (a.end + 1) a.end matches s.started s.compared
 
+-- what the last search counted stays
+pub record CountsStay (s s' : Shown) : Type 0 where
+  pub compared : s'.compared ≡ s.compared
+  pub started : s'.started ≡ s.started
+  pub restarted : s'.restarted ≡ s.restarted
+
 -- how many runs of the machine a search began
 abbrev pub runs_of : Shown → ℕ
 runs_of s = s.started + s.restarted

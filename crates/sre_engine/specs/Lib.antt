@@ -36,6 +36,6 @@ pub mod Scans
 pub mod Members
 pub mod Counts
 pub mod Costs
-pub mod Halts
 pub mod Searches
+pub mod Candidates
 pub mod Prefixed

@@ -1,17 +1,20 @@
 -- What a search of a request says of its answer.
 -- Words of the search's contracts. What is public rests on some of them, by `step_by`.
-use Rattle.std.specs.Prelude.{◌+◌, ◌≡◌, ◌≤◌, Bool, true, Result, OnErr}
+use Rattle.std.specs.Prelude.{◌+◌, ◌≡◌, ◌<◌, ◌≤◌, Bool, true, false, Result, Ok, IfOk, OnErr}
 use Rattle.sre_chars.specs.declared.string.StrDrive.{Ghosts}
 use Rattle.sre_model.specs.Tree.{Tree}
 use Rattle.sre_model.specs.Grammar.{Whole}
+use Rattle.sre_model.specs.Marks.{no_marks}
 use Rattle.sre_model.specs.Found.{found, walk}
+use Rattle.sre_model.specs.WalkBounds.{most_matches}
 use Rattle.sre_model.specs.Anchors.{is_anchored}
 use Rattle.sre_code.specs.Codes.{words_of, hints_of}
 use Rattle.sre_request.specs.declared.request.Request.{Request}
 use Rattle.sre_request.specs.Requests.{start_of, end_of, code_of, asked_of, stands_in}
+use Rattle.sre_machine.specs.declared.turns.Halt.{Halt}
 use Rattle.sre_engine.specs.Answers.{Shown, Answers, Spans}
 use Rattle.sre_engine.specs.Counts.{CountsUpTo}
-use Rattle.sre_engine.specs.Walks.{StepsTo}
+use Rattle.sre_engine.specs.Walks.{StepsTo, GoesOn}
 
 -- the answer is yes exactly where a start of the window has a match; then the first of the least such start is shown
 abbrev pub FindsFirst : {S : Type 0} {text : Ghosts S} → Request S text → Bool → Shown → Type 0
@@ -29,6 +32,20 @@ CountsInside r s = CountsUpTo (asked_of r) (code_of r) (end_of r + 1) (end_of r)
 abbrev pub CountsToMatch : {S : Type 0} {text : Ghosts S} → Request S text → Bool → Shown → Type 0
 CountsToMatch r b s = b ≡ true → CountsUpTo (asked_of r) (code_of r) (s.start + 1) s.cursor.position s
 
+-- what a search answers and counts, whichever way it finds the starts that it tries
+pub record Answered {S E : Type 0} {text : Ghosts S} (r : Request S text) (told : Result Bool E) (s : Shown) : Type 0
+  where
+    pub ok : IfOk told (λ b. FindsFirst r b s)
+    pub span : IfOk told (λ b. LiesInside r b s)
+    pub no : IfOk told (λ b. b ≡ false → s.marks ≡ no_marks)
+    pub err : OnErr told (s.marks ≡ no_marks)
+    pub counts : CountsInside r s
+    pub up_to_match : IfOk told (λ b. CountsToMatch r b s)
+
+-- the same where it has no run of the machine, which alone may be given up
+abbrev pub AnsweredAtOnce : {S : Type 0} {text : Ghosts S} → Request S text → Bool → Shown → Type 0
+AnsweredAtOnce r b s = Answered {E = Halt} r (Ok b) s
+
 -- a code that is anchored at the text's start is run once at most
 abbrev pub RunsOnceAnchored : {S : Type 0} {text : Ghosts S} → Request S text → Shown → Type 0
 RunsOnceAnchored r s = (t : Tree) → Whole (words_of (code_of r)) t → is_anchored t ≡ true → s.started ≤ 1
@@ -41,3 +58,14 @@ NoErrorIfLiteral r result = (hints_of (code_of r)).literal ≡ true → OnErr re
 abbrev pub WalksOn : {S : Type 0} {text : Ghosts S} → Request S text → Bool → Shown → Request S text → Type 0
 WalksOn r b s next =
     (t : Tree) → Whole (words_of (code_of r)) t → StepsTo (walk (asked_of r) t) b s (walk (asked_of next) t)
+
+-- a step of a walk: what it tells of the matches left, what is asked next, and what was counted
+pub record Stepped {S E : Type 0} {text : Ghosts S} (r : Request S text) (told : Result Bool E) (s : Shown)
+    (next : Request S text) : Type 0 where
+  pub ok : IfOk told (λ b. WalksOn r b s next)
+  pub yes : IfOk told (λ b. b ≡ true → GoesOn r s next)
+  pub falls : IfOk told (λ b. b ≡ true → most_matches (asked_of next) < most_matches (asked_of r))
+  pub no : IfOk told (λ b. b ≡ false → (next ≡ r) × (s.marks ≡ no_marks))
+  pub err : OnErr told ((next ≡ r) × (s.marks ≡ no_marks))
+  pub counts : CountsInside r s
+  pub up_to_match : IfOk told (λ b. CountsToMatch r b s)

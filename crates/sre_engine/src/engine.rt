@@ -1,6 +1,7 @@
 //! What is asked of the machine: a match, a search, the walk over all matches.
 
 mod anchors;
+mod candidates;
 mod first_characters;
 mod leading_run;
 mod members;

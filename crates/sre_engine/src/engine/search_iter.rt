@@ -8,6 +8,7 @@ use crate::engine::state::{SreError, State};
 use crate::engine::told::{Nobody, Starts};
 use crate::engine::walk::{step_by, step_within};
 use sre_chars::string::{StrDrive, StringCursor};
+use sre_machine::allowance::Allowance;
 use sre_machine::turns::Halt;
 use sre_request::Request;
 use std::alloc::{Allocator, Global};
@@ -90,15 +91,11 @@ impl<'a, S: StrDrive, A: Allocator + Copy> SearchIter<'a, S, A> {
         if self.ended {
             return Ok(Some(false));
         }
-        let limited = true;
-        match step_within(
-            &mut self.req,
-            &mut self.state,
-            &mut self.cursor,
-            limited,
-            turns,
-            &mut Nobody,
-        ) {
+        let mut allowed = Allowance::Turns(*turns);
+        let (req, state, cursor) = (&mut self.req, &mut self.state, &mut self.cursor);
+        let told = step_within(req, state, cursor, &mut allowed, &mut Nobody);
+        *turns = allowed.left();
+        match told {
             Ok(true) => Ok(Some(true)),
             Ok(false) => {
                 self.ended = true;

@@ -3,30 +3,24 @@
 ghost use Rattle.std.specs.Prelude.{◌≡◌, ◌+◌, ◌-◌, ◌*◌, ◌^◌, ◌<◌, ◌≤◌, length, IfOk, OnErr, true, false, Some};
 ghost use Rattle.std.specs.Prelude.{None, IfSome, IfErr, ◌≢◌};
 ghost use Rattle.sre_model.specs.Tree.{Tree};
-ghost use Rattle.sre_model.specs.Grammar.{Whole, WholeItems};
+ghost use Rattle.sre_model.specs.Grammar.{Whole};
 ghost use Rattle.sre_model.specs.Marks.{no_marks};
 ghost use Rattle.sre_model.specs.Found.{matched, found};
 ghost use Rattle.sre_model.specs.Anchors.{is_anchored};
-ghost use Rattle.sre_model.specs.Prefixes.{behind_items, ReadsBehind};
-ghost use Rattle.sre_turns.specs.Board.{bare};
-ghost use Rattle.sre_machine.specs.Memos.{Recalls};
-ghost use Rattle.sre_turns.specs.Machine.{Decides, outcomes};
 ghost use Rattle.sre_code.specs.Codes.{words_of, hints_of};
 ghost use Rattle.sre_request.specs.Requests.{string_of, start_of, end_of, code_of, asked_of, stands_in};
-ghost use Rattle.sre_request.specs.Runs.{run_of, Standing};
 ghost use Rattle.sre_engine.specs.Answers.{Answers, AnswersAlike, Spans};
-ghost use Rattle.sre_engine.specs.Counts.{CountsUpTo, SpentUpTo, BeginsAgain, runs_of, AreEnough};
-ghost use Rattle.sre_engine.specs.Halts.{Halted};
-ghost use Rattle.sre_engine.specs.Costs.{SearchGivenUp};
-ghost use Rattle.sre_machine.specs.Paying.{RunGivenUp, RunSettles};
+ghost use Rattle.sre_engine.specs.Counts.{CountsStay, CountsUpTo, SpentUpTo, BeginsAgain, runs_of, AreEnough};
+ghost use Rattle.sre_engine.specs.Costs.{Charged};
 ghost use Rattle.sre_growth.specs.Refusal.{Refused};
 
 use crate::engine::told::{Nobody, Starts};
-use sre_board::{Board, Marks};
+use sre_board::Marks;
 use sre_chars::string::{StrDrive, StringCursor};
 use sre_growth::Refusal;
-use sre_machine::memo::Memo;
-use sre_machine::turns::{Begun, Halt, run_from};
+use sre_machine::allowance::Allowance;
+use sre_machine::runner::Runner;
+use sre_machine::turns::{Begun, Halt};
 use sre_request::Request;
 use std::alloc::{AllocError, AllocFailed, Allocator, Global};
 use std::marker::Model;
@@ -76,12 +70,10 @@ impl<T: Drop> From<AllocFailed<T>> for SreError {
 /// A state serves any number of searches, over texts of any kind. Its memory is kept from one to the next.
 #[derive(Drop)]
 pub struct State<A: Allocator + Copy = Global> {
-    board: Board<A>,
-    memo: Memo<A>,
+    runner: Runner<A>,
     start: usize,
     cursor: StringCursor,
     compared: u64,
-    begun: Begun,
 }
 
 impl<A: Allocator + Copy> Model for State<A> {
@@ -91,78 +83,13 @@ impl<A: Allocator + Copy> Model for State<A> {
     ghost Value = { Shown };
 
     ghost view = { λ s. record {
-      marks = s.board.marks;
+      marks = s.runner.board.marks;
       start = s.start;
       cursor = s.cursor;
       compared = s.compared;
-      started = s.begun.started;
-      restarted = s.begun.restarted;
+      started = s.runner.started;
+      restarted = s.runner.restarted;
     } };
-
-    // No refusal of an earlier search is held.
-    ghost invariant = { λ s. s.memo.stopped ≡ false };
-}
-
-// The first accepted way of what follows some literals, from a cursor and on an empty board: the cursor at its end, and
-// its marks on the board. Without a way, or with an error, the board is empty. Where the run is limited it takes its
-// turns off those that are left. What fails is remembered for the later starts of a search. No other function begins
-// runs of the machine, and those that this one begins are counted where they begin.
-#[inline(always)]
-fn attempt<S: StrDrive, A: Allocator>(
-    req: &Request<'_, S>,
-    literals: usize,
-    start: StringCursor,
-    board: &mut Board<A>,
-    memo: &mut Memo<A>,
-    begun: &mut Begun,
-    limited: bool,
-    left: &mut u64,
-) -> Result<Option<StringCursor>, Halt>
-    requires stands { Standing req.now start }
-    requires inside { start.position ≤ end_of req.now }
-    requires fresh { board.old ≡ bare no_marks }
-    requires behind { (t : Tree) → WholeItems (run_of req.now).words t → ReadsBehind (run_of req.now).words literals t }
-    requires few { 2 * literals < 2 ^ 64 }
-    requires room { begun.old.started + 1 < 2 ^ 64 }
-    requires again { begun.old.restarted ≤ begun.old.started }
-    requires remembers { Recalls (run_of req.now) memo.old }
-    ensures remembers { Recalls (run_of req.now) memo.new }
-    ensures rested { memo.new.stopped ≡ false }
-    ensures counted { begun.new.started ≡ begun.old.started + 1 }
-    ensures restarted { begun.old.restarted ≤ begun.new.restarted }
-    ensures again { begun.new.restarted ≤ begun.new.started }
-    ensures never { limited ≡ false → begun.new.restarted ≡ begun.old.restarted }
-    ensures fewer { left.new ≤ left.old }
-    ensures found { (t : Tree) → Whole (words_of (code_of req.now)) t
-        → IfOk result
-        (λ found. Decides (run_of req.now) (outcomes (run_of req.now) (behind_items literals t) start.position) found
-        board.new.marks) }
-    ensures none { result ≡ Ok None → board.new ≡ bare no_marks }
-    ensures err { OnErr result (board.new ≡ bare no_marks) }
-    ensures halted { IfErr result (Halted limited left.new) }
-    ensures spent { SpentUpTo (asked_of req.now) (code_of req.now) left.old left.new
-        (1 + begun.new.restarted - begun.old.restarted) }
-    ensures given_up { IfErr result (λ halt. halt ≡ Halt.UsedUp
-        → RunGivenUp req.now start memo.old left.old left.new) }
-    ensures settles { limited ≡ true → IfOk result (λ found. found ≡ None
-        → RunSettles req.now start memo.old memo.new left.old left.new) }
-{
-    match run_from(req, literals, start, board, memo, begun, limited, left) {
-        Ok(Some(end)) => {
-            memo.rest();
-            Ok(Some(end))
-        }
-        Ok(None) => {
-            memo.rest();
-            board.clear();
-            Ok(None)
-        }
-        Err(halt) => {
-            memo.rest();
-            board.clear();
-            Err(halt)
-        }
-    }
 }
 
 impl<A: Allocator + Copy> State<A> {
@@ -178,12 +105,10 @@ impl<A: Allocator + Copy> State<A> {
         } }
     {
         State {
-            board: Board::new(alloc),
-            memo: Memo::new(alloc),
+            runner: Runner::new(alloc),
             start: 0,
             cursor: StringCursor::default(),
             compared: 0,
-            begun: Begun::none(),
         }
     }
 
@@ -191,7 +116,7 @@ impl<A: Allocator + Copy> State<A> {
     pub fn marks(&self) -> &Marks<A>
         ensures { result.now ≡ self.now.marks }
     {
-        self.board.marks()
+        self.runner.marks()
     }
 
     /// The position at which the match starts. It is left open where the last search found none.
@@ -221,7 +146,7 @@ impl<A: Allocator + Copy> State<A> {
     pub fn started(&self) -> u64
         ensures { result ≡ self.now.started }
     {
-        self.begun.started
+        self.runner.begun().started
     }
 
     /// How many of these runs began a second time, since failures came to be kept in their course: only a search within
@@ -229,7 +154,7 @@ impl<A: Allocator + Copy> State<A> {
     pub fn restarted(&self) -> u64
         ensures { result ≡ self.now.restarted }
     {
-        self.begun.restarted
+        self.runner.begun().restarted
     }
 
     /// Stands at a position of a request's text, with no marks.
@@ -242,7 +167,7 @@ impl<A: Allocator + Copy> State<A> {
         ensures started { self.new.started ≡ self.old.started }
         ensures restarted { self.new.restarted ≡ self.old.restarted }
     {
-        self.board.clear();
+        self.runner.clear();
         (self.start, self.cursor) = (start, req.string().create_cursor(start));
     }
 
@@ -282,8 +207,7 @@ impl<A: Allocator + Copy> State<A> {
         ensures restarted { self.new.restarted ≡ self.old.restarted }
     {
         let start = req.string().create_cursor(req.start());
-        let limited = false;
-        match self.match_from(req, start, limited, &mut 0) {
+        match self.match_from(req, start, &mut Allowance::Unlimited) {
             Ok(found) => Ok(found),
             Err(Halt::Refused(refusal)) => Err(SreError::from(refusal)),
             Err(Halt::UsedUp) => unreachable!(),
@@ -335,21 +259,22 @@ impl<A: Allocator + Copy> State<A> {
         ensures restarted { self.new.restarted ≡ self.old.restarted }
     {
         let start = req.string().create_cursor(req.start());
-        let limited = true;
-        match self.match_from(req, start, limited, turns) {
+        let mut allowed = Allowance::Turns(*turns);
+        let told = self.match_from(req, start, &mut allowed);
+        *turns = allowed.left();
+        match told {
             Ok(found) => Ok(Some(found)),
             Err(Halt::Refused(refusal)) => Err(SreError::from(refusal)),
             Err(Halt::UsedUp) => Ok(None),
         }
     }
 
-    // Matches as `pymatch` does, from a cursor that stands at the window's start.
+    // Matches as `pymatch` does, from a cursor that stands at the window's start. What the last search counted stays.
     fn match_from<S: StrDrive>(
         &mut self,
         req: &Request<'_, S>,
         from: StringCursor,
-        limited: bool,
-        left: &mut u64,
+        allowed: &mut Allowance,
     ) -> Result<bool, Halt>
         requires { stands_in req.now from (start_of req.now) }
         ensures ok { (t : Tree) → Whole (words_of (code_of req.now)) t
@@ -357,27 +282,14 @@ impl<A: Allocator + Copy> State<A> {
         ensures span { IfOk result (λ b. b ≡ true → Spans (start_of req.now) (end_of req.now) self.new) }
         ensures no { IfOk result (λ b. b ≡ false → self.new.marks ≡ no_marks) }
         ensures err { OnErr result (self.new.marks ≡ no_marks) }
-        ensures halted { IfErr result (Halted limited left.new) }
-        ensures spent { SpentUpTo (asked_of req.now) (code_of req.now) left.old left.new 2 }
-        ensures fewer { left.new ≤ left.old }
-        ensures given_up { IfErr result (λ halt. halt ≡ Halt.UsedUp → SearchGivenUp req.now left.old left.new 1) }
-        ensures compared { self.new.compared ≡ self.old.compared }
-        ensures started { self.new.started ≡ self.old.started }
-        ensures restarted { self.new.restarted ≡ self.old.restarted }
+        ensures charged { Charged req.now result 1 2 allowed.old allowed.new }
+        ensures counts { CountsStay self.old self.new }
     {
-        let mut own = Begun::none(); // no search
-        self.board.clear(); // of an earlier match
-        self.memo.begin(req, &mut self.board);
-        match attempt(
-            req,
-            0,
-            from,
-            &mut self.board,
-            &mut self.memo,
-            &mut own,
-            limited,
-            left,
-        )? {
+        let counted = self.runner.begun();
+        self.runner.begin(req);
+        let told = self.runner.attempt(req, 0, from, allowed);
+        self.runner.count(counted);
+        match told? {
             Some(end) => {
                 (self.start, self.cursor) = (req.start(), end);
                 Ok(true)
@@ -463,8 +375,7 @@ impl<A: Allocator + Copy> State<A> {
         ensures literal { (hints_of (code_of req.entry)).literal ≡ true → OnErr result ⊥ }
     {
         let start = req.string().create_cursor(req.start());
-        let limited = false;
-        match self.search_from(&req, start, limited, &mut 0, starts) {
+        match self.search_from(&req, start, &mut Allowance::Unlimited, starts) {
             Ok(found) => Ok(found),
             Err(Halt::Refused(refusal)) => Err(SreError::from(refusal)),
             Err(Halt::UsedUp) => unreachable!(),
@@ -518,8 +429,10 @@ impl<A: Allocator + Copy> State<A> {
             → (OnErr result ⊥) × IfOk result (λ told. told ≢ None) }
     {
         let start = req.string().create_cursor(req.start());
-        let limited = true;
-        match self.search_from(&req, start, limited, turns, &mut Nobody) {
+        let mut allowed = Allowance::Turns(*turns);
+        let told = self.search_from(&req, start, &mut allowed, &mut Nobody);
+        *turns = allowed.left();
+        match told {
             Ok(found) => Ok(Some(found)),
             Err(Halt::Refused(refusal)) => Err(SreError::from(refusal)),
             Err(Halt::UsedUp) => Ok(None),
@@ -528,7 +441,7 @@ impl<A: Allocator + Copy> State<A> {
 
     // The allocator that its memory is taken from.
     pub(crate) fn allocator(&self) -> A {
-        self.board.allocator()
+        self.runner.allocator()
     }
 
     // Takes the marks away; the memory is kept.
@@ -538,7 +451,7 @@ impl<A: Allocator + Copy> State<A> {
         ensures started { self.new.started ≡ self.old.started }
         ensures restarted { self.new.restarted ≡ self.old.restarted }
     {
-        self.board.clear();
+        self.runner.clear();
     }
 
     // Shows such counts in place of those of the last search.
@@ -548,6 +461,8 @@ impl<A: Allocator + Copy> State<A> {
         ensures started { self.new.started ≡ started }
         ensures restarted { self.new.restarted ≡ self.old.restarted }
     {
-        (self.compared, self.begun.started) = (compared, started);
+        let restarted = self.runner.begun().restarted;
+        self.runner.count(Begun { started, restarted });
+        self.compared = compared;
     }
 }

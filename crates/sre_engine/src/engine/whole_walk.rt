@@ -10,8 +10,8 @@ ghost use Rattle.sre_model.specs.WalkBounds.{most_matches, AreInOrder};
 ghost use Rattle.sre_code.specs.Codes.{words_of};
 ghost use Rattle.sre_request.specs.Requests.{string_of, start_of, end_of, code_of, asked_of, stands_in};
 ghost use Rattle.sre_engine.specs.Counts.{StepsCount, CountsOfWalk};
-ghost use Rattle.sre_engine.specs.Searches.{WalksOn, CountsInside, CountsToMatch};
-ghost use Rattle.sre_engine.specs.Walks.{match_shown, GoesOn};
+ghost use Rattle.sre_engine.specs.Searches.{Stepped};
+ghost use Rattle.sre_engine.specs.Walks.{match_shown};
 ghost use Rattle.sre_engine.specs.Listed.{match_of};
 ghost use Rattle.sre_growth.specs.Refusal.{Refused};
 
@@ -64,15 +64,9 @@ fn counted_step<S: StrDrive, A: Allocator + Copy, F: Starts<S>>(
     requires stands { stands_in req.old cursor.old (start_of req.old) }
     requires suits { F.suits starts.old (string_of req.old) (code_of req.old) }
     ensures suits { F.suits starts.new (string_of req.new) (code_of req.new) }
-    ensures ok { IfOk result (λ b. WalksOn req.old b state.new req.new) }
-    ensures yes { IfOk result (λ b. b ≡ true → GoesOn req.old state.new req.new) }
-    ensures falls { IfOk result (λ b. b ≡ true → most_matches (asked_of req.new) < most_matches (asked_of req.old)) }
-    ensures no { IfOk result (λ b. b ≡ false → (req.new ≡ req.old) × (state.new.marks ≡ no_marks)) }
+    ensures stepped { Stepped req.old result state.new req.new }
     ensures here { stands_in req.new cursor.new (start_of req.new) }
-    ensures err { OnErr result ((req.new ≡ req.old) × (state.new.marks ≡ no_marks)) }
     ensures refused { OnErr result Refused }
-    ensures counts { CountsInside req.old state.new }
-    ensures up_to_match { IfOk result (λ b. CountsToMatch req.old b state.new) }
     ensures once { state.new.restarted ≡ 0 }
     ensures started { tally.new.started ≤ tally.old.started + state.new.started }
     ensures compared { tally.new.compared ≤ tally.old.compared + state.new.compared }

@@ -14,7 +14,7 @@ goes_on : (g : Over) (c : After-set_start g)
 goes_on g c =
     let asked = c.args.req.now in
     let yes = c.if-not-branch.false in
-    let span = c.in_ok-search_from.ensures.span yes in
+    let span = c.in_ok-search_from.ensures.answers.span yes in
     let tree = code_tree (words_of (code_of asked)) (hints_of (code_of asked)) (code_of asked).checked in
     let first = c.set_must_advance.ensures in
     let last = c.set_start.ensures in
@@ -25,7 +25,7 @@ goes_on g c =
       span = span.1;
       stands =
           stands_shown (stands_in asked) (found (asked_of asked) tree.0) c.in_ok-search_from.field-0
-          c.search_from.new.self (c.in_ok-search_from.ensures.ok tree.0 tree.1) yes;
+          c.search_from.new.self (c.in_ok-search_from.ensures.answers.ok tree.0 tree.1) yes;
       start = last.start ∙ end;
       must_advance = last.must_advance ∙ first.must_advance ∙ rw (end, c.start.ensures) refl;
       string = last.string ∙ first.string;
@@ -35,23 +35,26 @@ goes_on g c =
       empty_rule = last.empty_rule ∙ first.empty_rule;
     }
 
-pub returns-clause-ok : goal.returns-clause-ok
-returns-clause-ok g c = λ t whole.
-    let asked = c.args.req.now in
-    steps_on (stands_in asked) (asked_of asked) t c.in_ok-search_from.field-0 c.search_from.new.self
-    (c.in_ok-search_from.ensures.ok t whole) c.if-not-branch.false (asked_of c.set_start.new.self)
-    (asked_next asked c.search_from.new.self c.set_start.new.self (goes_on g c))
-
-pub returns-clause-yes : goal.returns-clause-yes
-returns-clause-yes g c = λ _. goes_on g c
-
-pub returns-clause-falls : goal.returns-clause-falls
-returns-clause-falls g c = λ _.
+pub returns-clause-stepped : goal.returns-clause-stepped
+returns-clause-stepped g c =
     let asked = c.args.req.now in
     let tree = code_tree (words_of (code_of asked)) (hints_of (code_of asked)) (code_of asked).checked in
-    falls_on (stands_in asked) (asked_of asked) tree.0 c.in_ok-search_from.field-0 c.search_from.new.self
-    (c.in_ok-search_from.ensures.ok tree.0 tree.1) c.if-not-branch.false (asked_of c.set_start.new.self)
-    (asked_next asked c.search_from.new.self c.set_start.new.self (goes_on g c))
+    let told = c.in_ok-search_from.ensures.answers in
+    let next = asked_next asked c.search_from.new.self c.set_start.new.self (goes_on g c) in
+    let yes = c.if-not-branch.false in
+    record {
+      ok = λ t whole.
+          steps_on (stands_in asked) (asked_of asked) t c.in_ok-search_from.field-0 c.search_from.new.self
+          (told.ok t whole) yes (asked_of c.set_start.new.self) next;
+      yes = λ _. goes_on g c;
+      falls = λ _.
+          falls_on (stands_in asked) (asked_of asked) tree.0 c.in_ok-search_from.field-0 c.search_from.new.self
+          (told.ok tree.0 tree.1) yes (asked_of c.set_start.new.self) next;
+      no = λ never. absurd (cc never);
+      err = tt;
+      counts = told.counts;
+      up_to_match = λ _. told.up_to_match yes;
+    }
 
 pub returns-clause-here : goal.returns-clause-here
 returns-clause-here g c =

@@ -16,7 +16,7 @@ returns-in_err-counted_step-clause-counts g c =
     let step = c.counted_step.ensures in
     counts_more _ _ _ _ _ _ _ _ (omega (arith, inv.few))
     (inside_on c.args.req c.step.req _ _ _ _ _ c.counted_step.new.state inv.code inv.asked inv.from inv.inside
-    inv.counted step.started step.compared step.counts)
+    inv.counted step.started step.compared step.stepped.counts)
 
 pub returns-in_err-found-clause-counts : goal.returns-in_err-found-clause-counts
 returns-in_err-found-clause-counts g c =
@@ -24,7 +24,7 @@ returns-in_err-found-clause-counts g c =
     let step = c.counted_step.ensures in
     counts_more _ _ _ _ _ _ _ _ (omega (arith, inv.few))
     (inside_on c.args.req c.step.req _ _ _ _ _ c.counted_step.new.state inv.code inv.asked inv.from inv.inside
-    inv.counted step.started step.compared step.counts)
+    inv.counted step.started step.compared step.stepped.counts)
 
 pub returns-in_err-push-clause-counts : goal.returns-in_err-push-clause-counts
 returns-in_err-push-clause-counts g c =
@@ -32,7 +32,7 @@ returns-in_err-push-clause-counts g c =
     let step = c.counted_step.ensures in
     counts_more _ _ _ _ _ _ _ _ (omega (arith, inv.few))
     (inside_on c.args.req c.step.req _ _ _ _ _ c.counted_step.new.state inv.code inv.asked inv.from inv.inside
-    inv.counted step.started step.compared step.counts)
+    inv.counted step.started step.compared step.stepped.counts)
 
 pub returns-clause-counts : goal.returns-clause-counts
 returns-clause-counts g c =
@@ -40,25 +40,25 @@ returns-clause-counts g c =
     let step = c.counted_step.ensures in
     counts_more _ _ _ _ _ _ _ _ (omega (arith, inv.few))
     (inside_on c.args.req c.step.req _ _ _ _ _ c.counted_step.new.state inv.code inv.asked inv.from inv.inside
-    inv.counted step.started step.compared step.counts)
+    inv.counted step.started step.compared step.stepped.counts)
 
 pub returns-clause-by_matches : goal.returns-clause-by_matches
 returns-clause-by_matches g c =
     let inv = c.step.invariant in
     let step = c.counted_step.ensures in
     inside_on c.args.req c.step.req _ _ _ _ _ c.counted_step.new.state inv.code inv.asked inv.from inv.inside
-    inv.counted step.started step.compared step.counts
+    inv.counted step.started step.compared step.stepped.counts
 
 pub step-preserved : goal.step-preserved
 step-preserved g c =
     let inv = c.step.invariant in
     let step = c.in_ok-counted_step.ensures in
-    let goes = step.yes c.if-branch.true in
+    let goes = step.stepped.yes c.if-branch.true in
     let long : vec_len c.push.new.list ≡ vec_len c.step.all + 1 = c.in_ok-push.ensures.len in
     let same : vec_len c.push.new.list - vec_len c.args.all.now ≡ vec_len c.step.all - vec_len c.args.all.now + 1 =
     omega (arith, long, inv.longer) in
     let counted = match_on c.args.req c.step.req _ _ _ _ _ c.counted_step.new.state inv.code inv.asked inv.from
-    inv.inside inv.counted step.started step.compared c.counted_step.new.req goes (step.up_to_match c.if-branch.true) in
+    inv.inside inv.counted step.started step.compared c.counted_step.new.req goes (step.stepped.up_to_match c.if-branch.true) in
     record {
       here = step.here;
       code = goes.pattern_codes ∙ inv.code;
@@ -68,7 +68,7 @@ step-preserved g c =
           let own : Whole (words_of (code_of c.step.req)) t =
           subst (λ k. Whole (words_of k) t) (sym inv.code) whole in
           list_on match_of _ _ _ _ _ _ _ c.in_ok-push.ensures.items c.in_ok-found.ensures
-          (step.ok t own
+          (step.stepped.ok t own
           ∙ ap (λ b. cond b (match_shown c.counted_step.new.state ∷ walk (asked_of c.counted_step.new.req) t) [])
           c.if-branch.true) (inv.left t whole);
       asked = asked_on c.args.req c.step.req _ _ _ _ _ c.counted_step.new.state inv.code inv.asked inv.from inv.inside
@@ -76,7 +76,7 @@ step-preserved g c =
       from = omega (arith, inv.from, goes.start, goes.from, goes.span.forward);
       inside = omega (arith, goes.start, goes.span.inside, ap (λ a. a.end) inv.asked);
       longer = omega (arith, inv.longer, long);
-      few = omega (arith, inv.few, same, step.falls c.if-branch.true);
+      few = omega (arith, inv.few, same, step.stepped.falls c.if-branch.true);
       counted = subst (λ n. StepsCount (asked_of c.args.req) (code_of c.args.req) (start_of c.counted_step.new.req)
           (start_of c.counted_step.new.req) n c.counted_step.new.tally.started c.counted_step.new.tally.compared)
           (sym same) counted;

@@ -1,21 +1,22 @@
-use Rattle.std.proofs.Common.{◌≡◌, ◌≤◌, Some, None, refl, subst, arith, rules}
+use Rattle.std.proofs.Common.{◌≡◌, ◌≤◌, true, false, Some, None, refl, subst, arith, rules}
 use Rattle.sre_model.specs.Found.{at_start}
 use Rattle.sre_code.specs.Codes.{words_of, hints_of}
 use Rattle.sre_request.specs.Requests.{start_of, end_of, code_of, asked_of, stands_in}
 use Rattle.sre_engine.proofs.Answering.{answers_yes, answers_no, none_at, some_at, span_at}
-use Rattle.sre_code.proofs.Checked.{code_tree}
-use Rattle.sre_engine.proofs.Costing.{since_begin, since_given_up, passed_on}
+use Rattle.sre_code.proofs.Checked.{code_tree, items_whole}
+use Rattle.sre_engine.proofs.Looking.{once_charged, once_given_up}
 use Rattle.sre_engine.proofs.engine.state.State.match_from.Goals as goal
 
 pub returns-in-Some-clause-ok : goal.returns-in-Some-clause-ok
 returns-in-Some-clause-ok g c = λ t whole.
     let asked = c.args.req.now in
     let at : c.args.from.position ≡ start_of asked = search rules in
-    let some = some_at (stands_in asked) (asked_of asked) t _ c.in_ok-end.field-0 c.attempt.new.board.marks
-    (c.in_ok-end.ensures.found t whole) c.in-Some.end c.in-Some.is in
-    answers_yes (stands_in asked) _ (start_of asked) c.in-Some.end _ c.start.ensures.value refl some.0
+    let some = some_at (stands_in asked) (asked_of asked) t _ c.in_ok-end.field-0 c.attempt-told.new.self.board.marks
+    (c.in_ok-end.ensures.decides.each t (items_whole (code_of asked) t whole)) c.in-Some.end c.in-Some.is in
+    rw c.count.ensures
+    (answers_yes (stands_in asked) _ (start_of asked) c.in-Some.end _ c.start.ensures.value refl some.0
     (subst (λ q. at_start (asked_of asked) t q
-    ≡ Some (record { start = q; end = c.in-Some.end.position; marks = c.attempt.new.board.marks })) at some.1)
+    ≡ Some (record { start = q; end = c.in-Some.end.position; marks = c.attempt-told.new.self.board.marks })) at some.1))
 
 pub returns-in-Some-clause-span : goal.returns-in-Some-clause-span
 returns-in-Some-clause-span g c = λ _.
@@ -23,8 +24,8 @@ returns-in-Some-clause-span g c = λ _.
     let at : c.args.from.position ≡ start_of asked = search rules in
     let tree = code_tree (words_of (code_of asked)) (hints_of (code_of asked)) (code_of asked).checked in
     let from : c.args.from.position ≤ end_of asked = omega (arith, at, asked.in_window.0) in
-    let s = span_at (stands_in asked) (asked_of asked) tree.0 _ c.in_ok-end.field-0 c.attempt.new.board.marks
-    (c.in_ok-end.ensures.found tree.0 tree.1) from c.in-Some.end c.in-Some.is in
+    let s = span_at (stands_in asked) (asked_of asked) tree.0 _ c.in_ok-end.field-0 c.attempt-told.new.self.board.marks
+    (c.in_ok-end.ensures.decides.each tree.0 (items_whole (code_of asked) tree.0 tree.1)) from c.in-Some.end c.in-Some.is in
     record { starts = c.start.ensures.value; forward = omega (arith, at, s.0); inside = s.1 }
 
 pub returns-in-None-clause-ok : goal.returns-in-None-clause-ok
@@ -33,14 +34,27 @@ returns-in-None-clause-ok g c = λ t whole.
     let at : c.args.from.position ≡ start_of asked = search rules in
     answers_no (stands_in asked) (at_start (asked_of asked) t (start_of asked)) _
     (subst (λ q. at_start (asked_of asked) t q ≡ None) at
-    (none_at (stands_in asked) (asked_of asked) t _ c.in_ok-end.field-0 c.attempt.new.board.marks
-    (c.in_ok-end.ensures.found t whole) c.in-None.is))
+    (none_at (stands_in asked) (asked_of asked) t _ c.in_ok-end.field-0 c.attempt-told.new.self.board.marks
+    (c.in_ok-end.ensures.decides.each t (items_whole (code_of asked) t whole)) c.in-None.is))
 
-pub returns-in_err-end-clause-given_up : goal.returns-in_err-end-clause-given_up
-returns-in_err-end-clause-given_up g c =
-    passed_on c.from_residual.result c.in_err-end.field-0.0 _ c.from_residual.ensures.1 (λ e.
-    let asked = c.args.req.now in
-    let at : c.args.from.position ≡ start_of asked = search rules in
-    since_given_up asked _ c.args.from _ _ _ 0 1
-    (since_begin asked c.begin.new.self _ c.begin.ensures.waits c.begin.ensures.opened)
-    (c.in_err-end.ensures.given_up e) (omega (arith, at)) refl)
+pub returns-in-Some-clause-charged : goal.returns-in-Some-clause-charged
+returns-in-Some-clause-charged g c =
+    let r = c.args.req.now in
+    let at : c.args.from.position ≡ start_of r = search rules in
+    once_charged r _ _ c.args.allowed.now _ 0 _ _ c.begin.ensures.started c.begin.ensures.restarted (omega (arith, at))
+    (omega (arith, at, r.in_window.0)) c.begin.ensures.begins c.attempt-told.ensures.began c.in_ok-end.ensures.costs true
+
+pub returns-in-None-clause-charged : goal.returns-in-None-clause-charged
+returns-in-None-clause-charged g c =
+    let r = c.args.req.now in
+    let at : c.args.from.position ≡ start_of r = search rules in
+    once_charged r _ _ c.args.allowed.now _ 0 _ _ c.begin.ensures.started c.begin.ensures.restarted (omega (arith, at))
+    (omega (arith, at, r.in_window.0)) c.begin.ensures.begins c.attempt-told.ensures.began c.in_ok-end.ensures.costs false
+
+pub returns-in_err-end-clause-charged : goal.returns-in_err-end-clause-charged
+returns-in_err-end-clause-charged g c =
+    let r = c.args.req.now in
+    let at : c.args.from.position ≡ start_of r = search rules in
+    once_given_up r _ _ c.args.allowed.now _ 0 _ _ c.begin.ensures.started c.begin.ensures.restarted (omega (arith, at))
+    (omega (arith, at, r.in_window.0)) c.begin.ensures.begins c.attempt-told.ensures.began c.in_err-end.ensures.costs
+    c.in_err-end.field-0.0 refl c.in_err-end.ensures.halted _ c.from_residual.ensures.1

@@ -1,4 +1,4 @@
-use Rattle.std.proofs.Common.{◌≡◌, true, false, refl, sym, ◌∙◌}
+use Rattle.std.proofs.Common.{◌≡◌, true, false, refl, sym, ◌∙◌, rules}
 use Rattle.sre_code.proofs.Checked.{items_whole}
 use Rattle.sre_request.specs.Requests.{code_of}
 use Rattle.sre_engine.proofs.MayStart.{never_literal}
@@ -10,9 +10,13 @@ returns-in-Some-clause-anchored g c = λ t whole e.
     absurd (anchored_never _ t c.in-Some.prefix.words.now (c.in-Some.ensures.some.spelled t whole)
     c.in-Some.prefix.confirmed.some e)
 
-pub search_anchored-requires-clause-anchored : goal.search_anchored-requires-clause-anchored
-search_anchored-requires-clause-anchored g c = λ t whole.
-    sym (c.is_anchored.ensures t (items_whole c.args.req.now.pattern_codes t whole)) ∙ c.if-is_anchored.true
+pub search_along-requires-then-is_anchored-clause-looks : goal.search_along-requires-then-is_anchored-clause-looks
+search_along-requires-then-is_anchored-clause-looks g c = record {
+  plain = record { prefix = search rules; first_set = search rules; none = refl };
+  stands = search rules;
+  anchored = λ t whole.
+      sym (c.is_anchored.ensures t (items_whole c.args.req.now.pattern_codes t whole)) ∙ c.if-is_anchored.true;
+}
 
 pub returns-clause-anchored : goal.returns-clause-anchored
 returns-clause-anchored g c = λ t whole is.

@@ -6,15 +6,16 @@ use Rattle.sre_turns.specs.Board.{BoardValue}
 use Rattle.sre_model.specs.Found.{at_start}
 use Rattle.sre_request.specs.Requests.{code_of, asked_of, stands_in}
 use Rattle.sre_engine.specs.Scans.{Stands}
-use Rattle.sre_engine.proofs.Answering.{answers_yes, answers_no, found_first}
+use Rattle.sre_engine.proofs.Answering.{answers_yes, found_first}
 use Rattle.sre_engine.proofs.Answering.{NoneBefore}
+use Rattle.sre_engine.proofs.Looking.{answered_no}
 use Rattle.sre_engine.proofs.Steps.{complete}
-use Rattle.sre_engine.proofs.MayStart.{ran_none, counts_placed}
+use Rattle.sre_engine.proofs.MayStart.{ran_none, counts_ran, has_prefix}
 use Rattle.sre_engine.proofs.Searching.{none_further, none_in_window, none_unplaced, whole_at}
 use Rattle.sre_engine.proofs.engine.state.State.search_whole.Goals as goal
 
-pub returns-clause-ok : goal.returns-clause-ok
-returns-clause-ok g c = λ t whole.
+pub returns-clause-answers : goal.returns-clause-answers
+returns-clause-answers g c =
     let asked = c.args.req.now in
     let a = asked_of asked in
     let vs = c.args.prefix.now.words.now in
@@ -22,12 +23,17 @@ returns-clause-ok g c = λ t whole.
     let some = c.args.prefix.now.confirmed.some in
     let inv = c.place.invariant in
     let here = c.find.ensures.here in
-    answers_no (stands_in asked) _ _
-    (none_in_window a t (none_unplaced a (code_of asked) vs _ _ is some t whole _ _ (inv.none t whole)
+    answered_no asked _ 0
+    (λ t whole. none_in_window a t (none_unplaced a (code_of asked) vs _ _ is some t whole _ _ (inv.none t whole)
     (c.find.ensures.none c.place-test.false)))
+    (ap (λ b. b.marks) inv.fresh) (ran_none a (code_of asked) _ 0 inv.idle) (omega arith)
+    (record {
+      few = omega (arith, here.cost, here.front.within, here.front.from);
+      none = λ plain. absurd (has_prefix (code_of asked) _ _ _ is plain);
+    })
 
-pub returns-then-may_end-clause-ok : goal.returns-then-may_end-clause-ok
-returns-then-may_end-clause-ok g c = λ t whole.
+pub returns-then-may_end-clause-answers : goal.returns-then-may_end-clause-answers
+returns-then-may_end-clause-answers g c =
     let asked = c.args.req.now in
     let a = asked_of asked in
     let vs = c.args.prefix.now.words.now in
@@ -40,55 +46,47 @@ returns-then-may_end-clause-ok g c = λ t whole.
     omega (arith, there.0, c.prefix_start.ensures) in
     let stands : Stands a.text vs a.end c.prefix_start.result =
     subst (λ p. Stands a.text vs a.end p) at (complete a.text vs a.start a.end _ _ _ here there.0) in
-    let before : NoneBefore a t c.prefix_start.result =
-    subst (NoneBefore a t) at (none_unplaced a (code_of asked) vs _ _ is some t whole _ _ (inv.none t whole) there.1) in
     let from : a.start ≤ c.prefix_start.result = omega (arith, at, here.front.from, there.0) in
     let ends : c.find.new.spot.cursor.position ≡ c.prefix_start.result + length vs =
     omega (arith, c.prefix_start.ensures, there.0, here.front.from) in
-    let match = whole_at a (code_of asked) vs _ _ is some c.prefix_start.result stands c.requires.all t whole
-    c.find.new.spot.cursor.position ends from in
     let taken : (not a.match_all || nat_eq c.find.new.spot.cursor.position a.end) ≡ true =
     sym c.may_end.ensures ∙ c.if-may_end.true in
-    let marks : no_marks ≡ c.place.self-inside.board.marks = sym (ap (λ (b : BoardValue). b.marks) inv.fresh) in
-    let found_ : at_start a t c.prefix_start.result
-    ≡ Some (record {
-      start = c.prefix_start.result;
-      end = c.find.new.spot.cursor.position;
-      marks = c.place.self-inside.board.marks;
-    }) =
-    match
-    ∙ rw taken (ap (λ (m : Marks). Some (record {
-      start = c.prefix_start.result;
-      end = c.find.new.spot.cursor.position;
-      marks = m;
-    })) marks) in
-    answers_yes (stands_in asked) _ c.prefix_start.result c.find.new.spot.cursor _ refl refl c.find.ensures.stands
-    (found_first a t _ _ before found_ from (omega (arith, stands.within)) refl)
-
-pub returns-clause-counts : goal.returns-clause-counts
-returns-clause-counts g c =
-    let asked = c.args.req.now in
-    let here = c.find.ensures.here in
-    counts_placed (asked_of asked) (code_of asked) _ _ _ _ 0 _ _ c.requires.is
-    (ran_none (asked_of asked) (code_of asked) _ 0 c.place.invariant.idle) (omega arith)
-    (omega (arith, here.cost, here.front.within, here.front.from))
-
-pub returns-then-may_end-clause-counts : goal.returns-then-may_end-clause-counts
-returns-then-may_end-clause-counts g c =
-    let asked = c.args.req.now in
-    let here = c.find.ensures.here in
-    counts_placed (asked_of asked) (code_of asked) _ _ _ _ 0 _ _ c.requires.is
-    (ran_none (asked_of asked) (code_of asked) _ 0 c.place.invariant.idle) (omega arith)
-    (omega (arith, here.cost, here.front.within, here.front.from))
-
-pub returns-then-may_end-clause-up_to_match : goal.returns-then-may_end-clause-up_to_match
-returns-then-may_end-clause-up_to_match g c = λ _.
-    let asked = c.args.req.now in
-    let here = c.find.ensures.here in
-    let there = c.find.ensures.found c.place-test.true in
-    counts_placed (asked_of asked) (code_of asked) _ _ _ _ 0 _ _ c.requires.is
-    (ran_none (asked_of asked) (code_of asked) _ 0 c.place.invariant.idle) (omega arith)
-    (omega (arith, here.cost, here.front.within, here.front.from))
+    let marks : no_marks ≡ c.place.self-inside.runner.board.marks = sym (ap (λ (b : BoardValue). b.marks) inv.fresh) in
+    let ran = ran_none a (code_of asked) _ 0 inv.idle in
+    record {
+      ok = λ t whole.
+          let before : NoneBefore a t c.prefix_start.result =
+          subst (NoneBefore a t) at
+          (none_unplaced a (code_of asked) vs _ _ is some t whole _ _ (inv.none t whole) there.1) in
+          let match = whole_at a (code_of asked) vs _ _ is some c.prefix_start.result stands c.requires.all t whole
+          c.find.new.spot.cursor.position ends from in
+          let found_ : at_start a t c.prefix_start.result
+          ≡ Some (record {
+            start = c.prefix_start.result;
+            end = c.find.new.spot.cursor.position;
+            marks = c.place.self-inside.runner.board.marks;
+          }) =
+          match
+          ∙ rw taken (ap (λ (m : Marks). Some (record {
+            start = c.prefix_start.result;
+            end = c.find.new.spot.cursor.position;
+            marks = m;
+          })) marks) in
+          answers_yes (stands_in asked) _ c.prefix_start.result c.find.new.spot.cursor _ refl refl c.find.ensures.stands
+          (found_first a t _ _ before found_ from (omega (arith, stands.within)) refl);
+      span = λ _. (
+        from,
+        record { starts = refl; forward = omega (arith, ends); inside = omega (arith, ends, stands.within) },
+      );
+      no = λ never. absurd (cc never);
+      err = tt;
+      counts = counts_ran a (code_of asked) _ 0 _ _ ran (omega arith)
+          (omega (arith, here.cost, here.front.within, here.front.from))
+          (λ plain. absurd (has_prefix (code_of asked) _ _ _ is plain));
+      up_to_match = λ _. counts_ran a (code_of asked) _ 0 _ _ ran (omega arith)
+          (omega (arith, here.cost, here.front.within, here.front.from))
+          (λ plain. absurd (has_prefix (code_of asked) _ _ _ is plain));
+    }
 
 pub returns-then-may_end-clause-none : goal.returns-then-may_end-clause-none
 returns-then-may_end-clause-none g c = omega (arith, c.place.invariant.idle, c.place.invariant.calm)
@@ -115,7 +113,6 @@ place-preserved g c =
       fresh = search rules;
       idle = inv.idle;
       calm = inv.calm;
-      rested = inv.rested;
       none = λ t whole.
           let stands = complete a.text vs a.start a.end _ _ _ here there.0 in
           let before = none_unplaced a (code_of asked) vs _ _ is some t whole _ _ (inv.none t whole) there.1 in

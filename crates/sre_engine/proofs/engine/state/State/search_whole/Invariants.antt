@@ -1,4 +1,4 @@
-use Rattle.std.proofs.Common.{◌≡◌, ◌+◌, ◌-◌, false}
+use Rattle.std.proofs.Common.{◌≡◌, ◌+◌, ◌-◌}
 use Rattle.sre_model.specs.Tree.{Tree}
 use Rattle.sre_model.specs.Marks.{no_marks}
 use Rattle.sre_model.specs.Grammar.{Whole}
@@ -15,10 +15,9 @@ invariant-place g l = record {
   stands : (run_of l.req).stands l.spot.cursor l.spot.cursor.position;
   here : Here (run_of l.req).subject.text l.prefix.words.now (start_of l.req) (end_of l.req) l.spot.cursor.position
       l.spot.matched l.self-inside.compared;
-  fresh : l.self-inside.board ≡ bare no_marks;
-  idle : l.self-inside.begun.started ≡ 0;
-  calm : l.self-inside.begun.restarted ≡ 0;
-  rested : l.self-inside.memo.stopped ≡ false;
+  fresh : l.self-inside.runner.board ≡ bare no_marks;
+  idle : l.self-inside.runner.started ≡ 0;
+  calm : l.self-inside.runner.restarted ≡ 0;
   none : (t : Tree) → Whole (words_of (code_of l.req)) t
       → NoneBefore (asked_of l.req) t (l.spot.cursor.position - l.spot.matched);
 }

@@ -1,0 +1,89 @@
+-- What is found of a start makes it a candidate, and what is passed behind one that failed.
+use Rattle.std.proofs.Common.{◌≡◌, ◌≤◌, ◌<◌, ◌+◌, ℕ, Bool, true, List, length, Option, Some, None, refl, subst, arith, inl, inr}
+use Rattle.std.proofs.lemmas.Bool.{cases_lt}
+use Rattle.sre_chars.specs.declared.string.StrDrive.{Ghosts}
+use Rattle.sre_chars.specs.declared.string.StringCursor.{StringCursor}
+use Rattle.sre_model.specs.Tree.{Tree}
+use Rattle.sre_model.specs.Marks.{no_marks}
+use Rattle.sre_model.specs.Grammar.{Whole, WholeItems}
+use Rattle.sre_model.specs.Anchors.{is_anchored}
+use Rattle.sre_model.specs.Found.{Asked, subject_of, at_start}
+use Rattle.sre_code.specs.Codes.{words_of}
+use Rattle.sre_code.specs.declared.code.Code.{Code}
+use Rattle.sre_code.proofs.Checked.{items_whole}
+use Rattle.sre_request.specs.declared.request.Request.{Request}
+use Rattle.sre_request.specs.Requests.{end_of, code_of, asked_of}
+use Rattle.sre_request.specs.Runs.{run_of}
+use Rattle.sre_engine.specs.Candidates.{MayBegin, IsCandidate, IsBare, Failed, bare_candidate}
+use Rattle.sre_engine.specs.Prefixed.{IsPrefix}
+use Rattle.sre_engine.specs.Scans.{NoPlace, NoMatch}
+use Rattle.sre_engine.specs.Starts.{NoneUntil}
+use Rattle.sre_engine.specs.declared.engine.candidates.Candidate.{Candidate}
+use Rattle.sre_engine.proofs.Anchored.{anchored_none}
+use Rattle.sre_engine.proofs.Searching.{unplaced_between}
+
+module _ {S : Type 0} {text : Ghosts S} (r : Request S text) where
+  -- a cursor from a front on, before which no start has a match
+  pub bare : (front : ℕ) (cursor : StringCursor) (c : Candidate) (compared : ℕ) → c ≡ bare_candidate cursor
+      → (run_of r).stands cursor cursor.position → front ≤ cursor.position → cursor.position ≤ end_of r
+      → ((t : Tree) → Whole (words_of (code_of r)) t → NoneUntil (asked_of r) t front (Some cursor))
+      → MayBegin (asked_of r) (code_of r) cursor.position → compared ≡ 0
+      → IsCandidate (run_of r) (asked_of r) (code_of r) front c compared
+  bare front cursor c compared same stands from inside none may nothing = rw same (record {
+    stands = stands;
+    behind = omega arith;
+    inside = inside;
+    few = omega arith;
+    none = record { forward = from; none = none };
+    may = may;
+    reads = λ t whole. whole.0;
+    decides = λ t whole end m decided. decided;
+    far = λ t whole m e. omega (arith, nothing);
+  })
+
+  module _ (c : Candidate) (is : IsBare c) (failed : Failed (asked_of r) (code_of r) c.start)
+      (behind : Option StringCursor)
+      (none : (t : Tree) → WholeItems (run_of r).words t → at_start (asked_of r) t c.cursor.position ≡ None
+      → NoneUntil (asked_of r) t c.cursor.position behind) where
+    none_behind : (t : Tree) → Whole (words_of (code_of r)) t → NoneUntil (asked_of r) t c.start behind
+    none_behind t whole =
+        let here = rw is.start at none t (items_whole (code_of r) t whole) in
+        here (failed.none t whole)
+
+    -- none is left
+    pub none_left : behind ≡ None → c.start ≤ end_of r → NoMatch (asked_of r) (code_of r) c.start (end_of r + 1)
+    none_left e inside = record { forward = omega (arith, inside); none = rw e at none_behind }
+
+    -- the next one is further on
+    pub none_passed : (next : StringCursor) → behind ≡ Some next → c.start ≤ next.position
+        → NoMatch (asked_of r) (code_of r) c.start next.position
+    none_passed next e on = record { forward = on; none = rw e at none_behind }
+
+-- behind the start of a code that is anchored at the text's start none has a match
+pub anchored_over : (a : Asked) (code : Code) (p : ℕ)
+    → ((t : Tree) → Whole (words_of code) t → is_anchored t ≡ true) → Failed a code p → p ≤ a.end
+    → NoMatch a code p (a.end + 1)
+anchored_over a code p anchored failed inside = record {
+  forward = omega (arith, inside);
+  none = λ t whole s from to. elim (cases_lt p s) [
+    | (inl behind) ↦
+        let nowhere = (anchored_none (subject_of a) t s (anchored t whole) (omega (arith, behind))).none no_marks in
+        rw nowhere refl
+    | (inr up) ↦
+        let same : p ≡ s = omega (arith, from, up) in
+        subst (λ q. at_start a t q ≡ None) same (failed.none t whole)
+  ];
+}
+
+-- behind a start that failed the words of a prefix stand nowhere up to a position
+pub unplaced_passed : (a : Asked) (code : Code) (vs : List ℕ) (k : ℕ) (whole : Bool) → IsPrefix code vs k whole
+    → 0 < length vs → (p q : ℕ) → Failed a code p → NoPlace a.text vs a.end (p + 1) q → NoMatch a code p q
+unplaced_passed a code vs k whole is some p q failed passed = record {
+  forward = omega (arith, passed.forward);
+  none = λ t w s from to. elim (cases_lt p s) [
+    | (inl behind) ↦ unplaced_between a code vs k whole is some t w (p + 1) q passed s (omega (arith, behind)) to
+    | (inr up) ↦
+        let same : p ≡ s = omega (arith, from, up) in
+        subst (λ q. at_start a t q ≡ None) same (failed.none t w)
+  ];
+}

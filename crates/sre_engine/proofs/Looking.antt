@@ -1,0 +1,284 @@
+-- How a search goes from candidate to candidate.
+use Rattle.std.proofs.Common.{◌≡◌, ◌≤◌, ◌<◌, ◌+◌, ◌-◌, ℕ, Bool, true, false, Option, Some, None, Result, Ok, Err}
+use Rattle.std.proofs.Common.{IsErrAnd, refl, sym, ◌∙◌, subst, arith}
+use Rattle.std.proofs.Math.Nat.{mul-le-mul_right}
+use Rattle.sre_chars.specs.declared.string.StrDrive.{Ghosts}
+use Rattle.sre_chars.specs.declared.string.StringCursor.{StringCursor}
+use Rattle.sre_model.specs.Tree.{Tree}
+use Rattle.sre_model.specs.Marks.{no_marks}
+use Rattle.sre_model.specs.Grammar.{Whole}
+use Rattle.sre_model.specs.Found.{found}
+use Rattle.sre_turns.specs.Board.{bare}
+use Rattle.sre_turns.specs.Machine.{Decides, outcomes}
+use Rattle.sre_code.specs.Codes.{words_of, hints_of}
+use Rattle.sre_code.proofs.Checked.{code_tree, items_whole}
+use Rattle.sre_request.specs.declared.request.Request.{Request}
+use Rattle.sre_request.specs.Requests.{start_of, end_of, code_of, asked_of, stands_in}
+use Rattle.sre_request.specs.Runs.{run_of}
+use Rattle.sre_machine.specs.Allowances.{is_limited, left_of, Halted}
+use Rattle.sre_machine.specs.Memos.{Recalls, Begins}
+use Rattle.sre_machine.specs.Runners.{RunnerValue, IsReady, Began, AttemptDecides, AttemptCosts}
+use Rattle.sre_machine.specs.declared.allowance.Allowance.{Allowance}
+use Rattle.sre_machine.specs.declared.turns.Halt.{Halt}
+use Rattle.sre_engine.specs.Answers.{Shown}
+use Rattle.sre_engine.specs.Counts.{SpentUpTo}
+use Rattle.sre_engine.specs.Candidates.{IsCandidate, ComparesFew, Failed}
+use Rattle.sre_engine.specs.Costs.{Charged}
+use Rattle.sre_engine.specs.Prefixed.{IsLast, FitsAt}
+use Rattle.sre_engine.specs.Scans.{NoMatch}
+use Rattle.sre_engine.specs.Searches.{Answered, CountsInside}
+use Rattle.sre_engine.specs.declared.engine.candidates.Candidate.{Candidate}
+use Rattle.sre_engine.proofs.Answering.{NoneBefore, none_yet, none_at, some_at, span_at, found_first}
+use Rattle.sre_engine.proofs.Answering.{answers_yes, answers_no}
+use Rattle.sre_engine.proofs.Costing.{CostsSince, since_begin, since_run, since_given_up, gives_up_limited, passed_on}
+use Rattle.sre_engine.proofs.LeadingStarts.{none_joined, found_none_behind}
+use Rattle.sre_engine.proofs.MayStart.{RanBefore, ran_none, ran_later, ran_on, few_ran, counts_ran}
+use Rattle.sre_engine.proofs.Spending.{once_spent, run_spent}
+
+-- what a search knows from a front on: no start before it has a match, and what was run up to there
+pub record Searching {S : Type 0} {text : Ghosts S} (r : Request S text) (n : RunnerValue) (given now : Allowance)
+    (front : ℕ) : Type 0 where
+  pub fresh : n.board ≡ bare no_marks
+  pub remembers : Recalls (run_of r) n.memo
+  pub from : start_of r ≤ front
+  pub inside : front ≤ end_of r
+  pub none : (t : Tree) → Whole (words_of (code_of r)) t → NoneBefore (asked_of r) t front
+  pub ran : RanBefore (asked_of r) (code_of r) n.started front
+  pub again : n.restarted ≤ n.started
+  pub never : is_limited given ≡ false → n.restarted ≡ 0
+  pub limited : is_limited now ≡ is_limited given
+  pub fewer : left_of now ≤ left_of given
+  pub spent : SpentUpTo (asked_of r) (code_of r) (left_of given) (left_of now) (n.started + n.restarted)
+  pub costs : is_limited given ≡ true → CostsSince r n.memo (left_of given) (left_of now) n.started
+
+module _ {S : Type 0} {text : Ghosts S} (r : Request S text) where
+  -- at the begin of a search
+  pub begins : (n : RunnerValue) (a : Allowance) (front : ℕ) → IsReady r n → Begins (start_of r) (end_of r) n.memo
+      → n.started ≡ 0 → n.restarted ≡ 0 → front ≡ start_of r → Searching r n a a front
+  begins n a front ready memo started restarted at = record {
+    fresh = ready.fresh;
+    remembers = ready.remembers;
+    from = omega (arith, at);
+    inside = omega (arith, at, r.in_window.0);
+    none = λ t whole. none_yet (asked_of r) t front at;
+    ran = ran_none (asked_of r) (code_of r) n.started front started;
+    again = ready.again;
+    never = λ e. restarted;
+    limited = refl;
+    fewer = omega arith;
+    spent = record { each = λ t whole most within. omega arith };
+    costs = λ limited. rw started (since_begin r n.memo (left_of a) memo.waits memo.closed);
+  }
+
+  -- another run may begin
+  pub ready : (n : RunnerValue) (given a : Allowance) (front : ℕ) → Searching r n given a front → IsReady r n
+  ready n given a front old = record {
+    fresh = old.fresh;
+    remembers = old.remembers;
+    room = omega (arith, few_ran (asked_of r) (code_of r) _ _ old.ran, old.inside, r.in_window.1);
+    again = old.again;
+  }
+
+  -- where no start has a match the answer is no
+  pub answered_no : (s : Shown) (p : ℕ) → ((t : Tree) → Whole (words_of (code_of r)) t → found (asked_of r) t ≡ None)
+      → s.marks ≡ no_marks → RanBefore (asked_of r) (code_of r) s.started p → p ≤ end_of r + 1
+      → ComparesFew (asked_of r) (code_of r) s.compared → Answered {E = Halt} r (Ok false) s
+  answered_no s p none marks ran l few = record {
+    ok = λ t whole. answers_no (stands_in r) _ s (none t whole);
+    span = λ never. absurd (cc never);
+    no = λ e. marks;
+    err = tt;
+    counts = counts_ran (asked_of r) (code_of r) s p _ _ ran l few.few few.none;
+    up_to_match = λ never. absurd (cc never);
+  }
+
+-- A run at a candidate
+
+module _ {S : Type 0} {text : Ghosts S} (r : Request S text) (n n' : RunnerValue) (given a a' : Allowance)
+    (front compared : ℕ) (c : Candidate) (last : Option ℕ) (told : Result (Option StringCursor) Halt)
+    (old : Searching r n given a front)
+    (is : IsCandidate (run_of r) (asked_of r) (code_of r) front c compared)
+    (few : ComparesFew (asked_of r) (code_of r) compared)
+    (is_last : IsLast (asked_of r) (code_of r) last) (fits : FitsAt last c.start)
+    (began : Began (is_limited a) n n') (costs : AttemptCosts r c.literals c.cursor told n n' a a') where
+  ran : RanBefore (asked_of r) (code_of r) n'.started (c.start + 1)
+  ran = ran_on (asked_of r) (code_of r) last _ _ front c.start is_last fits old.from is.none.forward old.ran
+      began.started is.may
+
+  -- its start is in the window
+  inside : c.start ≤ end_of r
+  inside = omega (arith, is.behind, is.inside)
+
+  from : start_of r ≤ c.cursor.position
+  from = omega (arith, old.from, is.none.forward, is.behind)
+
+  spent : SpentUpTo (asked_of r) (code_of r) (left_of given) (left_of a') (n'.started + n'.restarted)
+  spent = run_spent (asked_of r) (code_of r) _ _ _ _ _ _ _ old.spent
+      (once_spent (asked_of r) (code_of r) c.literals c.cursor.position _ _ _ is.inside
+      (λ t whole. costs.spent t (items_whole (code_of r) t whole))) began.started began.restarted
+
+  -- what is charged where it is not given up
+  pub charged : (b : Bool) → Charged r (Ok b) n'.started (n'.started + n'.restarted) given a'
+  charged b = record {
+    limited = costs.limited ∙ old.limited;
+    fewer = omega (arith, costs.fewer, old.fewer);
+    spent = spent;
+    halted = tt;
+    given_up = tt;
+  }
+
+  -- and where it is
+  pub charged_given_up : (why : Halt) → told ≡ Err why → Halted a' why → (result : Result Bool Halt)
+      → IsErrAnd result (λ y. y ≡ why) → Charged r result n'.started (n'.started + n'.restarted) given a'
+  charged_given_up why e halts result passed = record {
+    limited = costs.limited ∙ old.limited;
+    fewer = omega (arith, costs.fewer, old.fewer);
+    spent = spent;
+    halted = passed_on result why _ passed halts;
+    given_up = passed_on result why _ passed (λ used.
+        let limited = sym (costs.limited ∙ old.limited) ∙ gives_up_limited a' why halts used in
+        let run = rw e at costs.given_up in
+        since_given_up r n.memo c.cursor _ _ _ n.started n'.started (old.costs limited) (run used) from began.started);
+  }
+
+  -- a state that shows no match
+  answered_without : (result : Result Bool Halt) (s : Shown) → s.started ≡ n'.started → s.compared ≡ compared
+      → CountsInside r s
+  answered_without result s started compares =
+      counts_ran (asked_of r) (code_of r) s (c.start + 1) _ _
+      (subst (λ m. RanBefore (asked_of r) (code_of r) m (c.start + 1)) (sym started) ran) (omega (arith, inside))
+      (omega (arith, compares, few.few)) (λ plain. compares ∙ few.none plain)
+
+  -- a run that is given up
+  pub answered_given_up : (why : Halt) (result : Result Bool Halt) → IsErrAnd result (λ y. y ≡ why) → (s : Shown)
+      → s.marks ≡ no_marks → s.started ≡ n'.started → s.compared ≡ compared → Answered r result s
+  answered_given_up why (Ok b) passed s marks started compares = absurd passed
+  answered_given_up why (Err y) passed s marks started compares = record {
+    ok = tt;
+    span = tt;
+    no = tt;
+    err = marks;
+    counts = answered_without (Err y) s started compares;
+    up_to_match = tt;
+  }
+
+  module _ (outcome : Option StringCursor) (decides : AttemptDecides r c.literals c.cursor.position (Ok outcome) n'.board)
+    where
+      decided : (t : Tree) → Whole (words_of (code_of r)) t
+          → Decides (run_of r) (outcomes (run_of r) t c.start) outcome n'.board.marks
+      decided t whole =
+          is.decides t whole outcome n'.board.marks (decides.each t (items_whole (code_of r) t whole))
+
+      -- no way from the start is accepted
+      pub failed : outcome ≡ None → Failed (asked_of r) (code_of r) c.start
+      failed e = record {
+        none = λ t whole. none_at (stands_in r) (asked_of r) t c.start outcome n'.board.marks (decided t whole) e;
+      }
+
+      -- the first that is accepted is the match
+      pub answered_yes : (end : StringCursor) → outcome ≡ Some end → Answered {E = Halt} r (Ok true) (record {
+        marks = n'.board.marks;
+        start = c.start;
+        cursor = end;
+        compared = compared;
+        started = n'.started;
+        restarted = n'.restarted;
+      })
+      answered_yes end e =
+          let tree = code_tree (words_of (code_of r)) (hints_of (code_of r)) (code_of r).checked in
+          let span = span_at (stands_in r) (asked_of r) tree.0 c.start outcome n'.board.marks
+          (decided tree.0 tree.1) inside end e in
+          let own = some_at (stands_in r) (asked_of r) tree.0 c.start outcome n'.board.marks (decided tree.0 tree.1)
+          end e in
+          record {
+            ok = λ t whole.
+                let some = some_at (stands_in r) (asked_of r) t c.start outcome n'.board.marks (decided t whole) end e in
+                answers_yes (stands_in r) _ c.start end _ refl refl some.0
+                (found_first (asked_of r) t c.start _
+                (none_joined (asked_of r) t _ _ (old.none t whole) (is.none.none t whole)) some.1
+                (omega (arith, old.from, is.none.forward)) inside refl);
+            span = λ _. (
+              omega (arith, old.from, is.none.forward),
+              record { starts = refl; forward = span.0; inside = span.1 },
+            );
+            no = λ never. absurd (cc never);
+            err = tt;
+            counts = answered_without (Ok true) _ refl refl;
+            up_to_match = λ _. counts_ran (asked_of r) (code_of r) _ (c.start + 1) _ _ ran (omega arith)
+                (is.far tree.0 tree.1 _ own.1) few.none;
+          }
+
+  -- no match from the start on
+  pub answered_over : NoMatch (asked_of r) (code_of r) c.start (end_of r + 1) → (s : Shown) → s.marks ≡ no_marks
+      → s.started ≡ n'.started → s.compared ≡ compared → Answered {E = Halt} r (Ok false) s
+  answered_over over s marks started compares =
+      answered_no r s (c.start + 1)
+      (λ t whole. found_none_behind (asked_of r) t c.start
+      (none_joined (asked_of r) t _ _ (old.none t whole) (is.none.none t whole)) (over.none t whole)) marks
+      (subst (λ m. RanBefore (asked_of r) (code_of r) m (c.start + 1)) (sym started) ran) (omega (arith, inside))
+      (subst (ComparesFew (asked_of r) (code_of r)) (sym compares) few)
+
+  -- the search goes on from a further start
+  pub searching_on : (further : ℕ) → NoMatch (asked_of r) (code_of r) c.start further → c.start < further
+      → further ≤ end_of r → n'.board ≡ bare no_marks → Recalls (run_of r) n'.memo → told ≡ Ok None
+      → Searching r n' given a' further
+  searching_on further passed on within fresh remembers e = record {
+    fresh = fresh;
+    remembers = remembers;
+    from = omega (arith, old.from, is.none.forward, on);
+    inside = within;
+    none = λ t whole.
+        none_joined (asked_of r) t _ _
+        (none_joined (asked_of r) t _ _ (old.none t whole) (is.none.none t whole)) (passed.none t whole);
+    ran = ran_later (asked_of r) (code_of r) _ _ _ ran (omega (arith, on));
+    again = began.again;
+    never = λ unlimited. began.never (old.limited ∙ unlimited) ∙ old.never unlimited;
+    limited = costs.limited ∙ old.limited;
+    fewer = omega (arith, costs.fewer, old.fewer);
+    spent = spent;
+    costs = λ limited.
+        let run = rw e at costs.settles (old.limited ∙ limited) in
+        since_run r n.memo n'.memo c.cursor _ _ _ n.started n'.started (old.costs limited) (run refl) from began.started;
+  }
+
+-- A match, of one run at one start
+
+module _ {S : Type 0} {text : Ghosts S} (r : Request S text) (n n' : RunnerValue) (a a' : Allowance) (literals : ℕ)
+    (start : StringCursor) (told : Result (Option StringCursor) Halt)
+    (started : n.started ≡ 0) (restarted : n.restarted ≡ 0)
+    (from : start_of r ≤ start.position) (inside : start.position ≤ end_of r)
+    (memo : Begins (start_of r) (end_of r) n.memo)
+    (began : Began (is_limited a) n n') (costs : AttemptCosts r literals start told n n' a a') where
+  twice_spent : SpentUpTo (asked_of r) (code_of r) (left_of a) (left_of a') 2
+  twice_spent =
+      let once = once_spent (asked_of r) (code_of r) literals start.position _ _ _ inside
+      (λ t whole. costs.spent t (items_whole (code_of r) t whole)) in
+      record {
+        each = λ t whole most within.
+            let few : 1 + n'.restarted - n.restarted ≤ 2 = omega (arith, began.started, began.again, started) in
+            omega (arith, once.each t whole most within, mul-le-mul_right most few);
+      }
+
+  -- what is charged where it is not given up
+  pub once_charged : (b : Bool) → Charged r (Ok b) 1 2 a a'
+  once_charged b = record {
+    limited = costs.limited;
+    fewer = costs.fewer;
+    spent = twice_spent;
+    halted = tt;
+    given_up = tt;
+  }
+
+  -- and where it is
+  pub once_given_up : (why : Halt) → told ≡ Err why → Halted a' why → (result : Result Bool Halt)
+      → IsErrAnd result (λ y. y ≡ why) → Charged r result 1 2 a a'
+  once_given_up why e halts result passed = record {
+    limited = costs.limited;
+    fewer = costs.fewer;
+    spent = twice_spent;
+    halted = passed_on result why _ passed halts;
+    given_up = passed_on result why _ passed (λ used.
+        let run = rw e at costs.given_up in
+        since_given_up r n.memo start _ _ _ 0 1 (since_begin r n.memo (left_of a) memo.waits memo.closed) (run used) from
+        refl);
+  }

@@ -1,0 +1,97 @@
+//! The starts that a search tries, one after the other, by what the hints of its code confirm.
+//!
+//! A search asks for a candidate, has the machine try it, and where that fails passes it. So there is one search, and
+//! a type for each way in which starts are found: the places of a prefix, the members of a first set, the starts that
+//! what has to come first leaves, and the window's start alone.
+
+ghost use Rattle.std.specs.Prelude.{◌≡◌, ◌≤◌, ◌<◌, ◌+◌, ℕ, IfSome, None, Bool, true, false};
+ghost use Rattle.sre_model.specs.Runs.{Run};
+ghost use Rattle.sre_model.specs.Found.{Asked};
+ghost use Rattle.sre_code.specs.declared.code.Code.{Code};
+ghost use Rattle.sre_request.specs.Requests.{string_of, start_of, end_of, code_of, asked_of};
+ghost use Rattle.sre_request.specs.Runs.{run_of, Standing};
+ghost use Rattle.sre_engine.specs.declared.engine.candidates.Candidate.{Candidate};
+ghost use Rattle.sre_engine.specs.Scans.{NoMatch};
+ghost use Rattle.sre_engine.specs.Candidates.{bare_candidate, IsCandidate, ComparesFew, Failed};
+
+use crate::engine::told::Starts;
+use sre_chars::string::{StrDrive, StringCursor};
+use sre_request::Request;
+
+pub(crate) mod members;
+pub(crate) mod only_start;
+pub(crate) mod openings;
+pub(crate) mod places;
+
+/// A start to try: how many literals of the code were compared there already, and a cursor behind these.
+#[derive(Clone, Copy)]
+pub(crate) struct Candidate {
+    pub(crate) start: usize,
+    pub(crate) literals: usize,
+    pub(crate) cursor: StringCursor,
+}
+
+impl Candidate {
+    /// The start at which a cursor stands, where no literal was compared.
+    #[inline(always)]
+    pub(crate) fn at(cursor: StringCursor) -> Candidate
+        ensures { result ≡ bare_candidate cursor }
+    {
+        Candidate {
+            start: cursor.position(),
+            literals: 0,
+            cursor,
+        }
+    }
+}
+
+/// Where a search finds the starts that it tries.
+pub(crate) trait Candidates<S: StrDrive> {
+    // The start from which on it looks.
+    ghost front: { Self → ℕ };
+
+    // Whether it is at its front, after so many comparisons.
+    ghost looks: { Self → Run → Asked → Code → ℕ → Type 0 };
+
+    // Whether it is at a candidate.
+    ghost is_at: { Self → Run → Asked → Code → Candidate → ℕ → Type 0 };
+
+    // Whether it has one candidate alone.
+    ghost single: { Bool };
+
+    /// The next start to try, if there is one.
+    fn next<F: Starts<S>>(
+        &mut self,
+        req: &Request<'_, S>,
+        compared: &mut u64,
+        starts: &mut F,
+    ) -> Option<Candidate>
+        requires looks { looks self.old (run_of req.now) (asked_of req.now) (code_of req.now) compared.old }
+        requires from { start_of req.now ≤ front self.old }
+        requires inside { front self.old ≤ end_of req.now }
+        requires suits { F.suits starts.old (string_of req.now) (code_of req.now) }
+        ensures suits { F.suits starts.new (string_of req.now) (code_of req.now) }
+        ensures some { IfSome result (λ c. IsCandidate (run_of req.now) (asked_of req.now) (code_of req.now)
+            (front self.old) c compared.new) }
+        ensures is_at { IfSome result
+            (λ c. is_at self.new (run_of req.now) (asked_of req.now) (code_of req.now) c compared.new) }
+        ensures none { result ≡ None → NoMatch (asked_of req.now) (code_of req.now) (front self.old) (end_of req.now + 1) }
+        ensures few { ComparesFew (asked_of req.now) (code_of req.now) compared.new };
+
+    /// Passes the candidate, which has no match, and says whether there may be another one.
+    fn pass(&mut self, req: &Request<'_, S>, compared: u64, candidate: Candidate) -> bool
+        requires is_at { is_at self.old (run_of req.now) (asked_of req.now) (code_of req.now) candidate compared }
+        requires stands { Standing req.now candidate.cursor }
+        requires inside { candidate.cursor.position ≤ end_of req.now }
+        requires from { start_of req.now ≤ candidate.start }
+        requires failed { Failed (asked_of req.now) (code_of req.now) candidate.start }
+        ensures looks { result ≡ true
+            → looks self.new (run_of req.now) (asked_of req.now) (code_of req.now) compared }
+        ensures further { result ≡ true
+            → (candidate.start < front self.new) × (front self.new ≤ end_of req.now) }
+        ensures passed { result ≡ true
+            → NoMatch (asked_of req.now) (code_of req.now) candidate.start (front self.new) }
+        ensures none { result ≡ false
+            → NoMatch (asked_of req.now) (code_of req.now) candidate.start (end_of req.now + 1) }
+        ensures single { single ≡ true → result ≡ false };
+}

@@ -1,0 +1,46 @@
+//! Candidates along the members of a confirmed first set.
+
+use crate::engine::candidates::{Candidate, Candidates};
+use crate::engine::leading_run::{leading_run, start_behind};
+use crate::engine::told::{Starts, next_member_told};
+use sre_chars::string::{StrDrive, StringCursor};
+use sre_request::Request;
+
+/// The members from a cursor on.
+#[derive(Clone, Copy)]
+pub(crate) struct Members {
+    pub(crate) start: StringCursor,
+}
+
+impl<S: StrDrive> Candidates<S> for Members {
+    ghost use Rattle.std.specs.Prelude.{false};
+    ghost use Rattle.sre_engine.specs.Candidates.{Seeks, IsBare};
+
+    ghost front = { λ m. m.start.position };
+
+    ghost looks = { λ m r a code n. Seeks m r code n };
+
+    ghost is_at = { λ m r a code c n. Seeks m r code n × IsBare c };
+
+    ghost single = { false };
+
+    #[inline(always)]
+    fn next<F: Starts<S>>(
+        &mut self,
+        req: &Request<'_, S>,
+        _compared: &mut u64,
+        starts: &mut F,
+    ) -> Option<Candidate> {
+        let cursor = next_member_told(req, self.start, starts)?;
+        Some(Candidate::at(cursor))
+    }
+
+    #[inline(always)]
+    fn pass(&mut self, req: &Request<'_, S>, _compared: u64, candidate: Candidate) -> bool {
+        let Some(behind) = start_behind(req, leading_run(req), candidate.cursor) else {
+            return false;
+        };
+        self.start = behind;
+        true
+    }
+}

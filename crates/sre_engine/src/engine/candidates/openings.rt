@@ -1,0 +1,81 @@
+//! Candidates where neither a prefix nor a first set is confirmed: the starts that what has to come first leaves.
+
+ghost use Rattle.std.specs.Prelude.{◌≡◌, None};
+ghost use Rattle.sre_request.specs.Runs.{run_of};
+ghost use Rattle.sre_engine.specs.Starts.{Bars, TestsThere};
+
+use crate::engine::candidates::{Candidate, Candidates};
+use crate::engine::first_characters::First;
+use crate::engine::leading_run::{LeadingRun, leading_run, start_behind};
+use crate::engine::told::{Starts, next_start_told};
+use sre_chars::string::{StrDrive, StringCursor};
+use sre_request::Request;
+
+/// The starts from a cursor on, and what was read of the code. Only behind the first one that failed it is worth to
+/// read in the words with what alternatives begin, and whether a run leads: most steps of a walk end at the first start
+/// that is tried.
+#[derive(Clone, Copy)]
+pub(crate) struct Openings {
+    first: First,
+    lead: Option<LeadingRun>,
+    is_read: bool,
+    start: StringCursor,
+}
+
+impl Openings {
+    /// The starts of a request from a cursor on.
+    #[inline(always)]
+    pub(crate) fn new<S: StrDrive>(req: &Request<'_, S>, from: StringCursor) -> Openings
+        ensures start { result.start ≡ from }
+        ensures test { TestsThere (run_of req.now).words result.first.wanted }
+        ensures bars { Bars (run_of req.now).words result.first }
+        ensures lead { result.lead ≡ None }
+    {
+        let reads_alternatives = false;
+        Openings {
+            first: First::of_items(req.pattern_codes().items(), reads_alternatives),
+            lead: None,
+            is_read: false,
+            start: from,
+        }
+    }
+}
+
+impl<S: StrDrive> Candidates<S> for Openings {
+    ghost use Rattle.std.specs.Prelude.{false};
+    ghost use Rattle.sre_engine.specs.Candidates.{Reads, IsBare};
+
+    ghost front = { λ o. o.start.position };
+
+    ghost looks = { λ o r a code n. Reads o r code n };
+
+    ghost is_at = { λ o r a code c n. Reads o r code n × IsBare c };
+
+    ghost single = { false };
+
+    #[inline(always)]
+    fn next<F: Starts<S>>(
+        &mut self,
+        req: &Request<'_, S>,
+        _compared: &mut u64,
+        starts: &mut F,
+    ) -> Option<Candidate> {
+        let cursor = next_start_told(req, &self.first, self.start, starts)?;
+        Some(Candidate::at(cursor))
+    }
+
+    #[inline(always)]
+    fn pass(&mut self, req: &Request<'_, S>, _compared: u64, candidate: Candidate) -> bool {
+        if !self.is_read {
+            let reads_alternatives = true;
+            self.first = First::of_items(req.pattern_codes().items(), reads_alternatives);
+            self.lead = leading_run(req);
+            self.is_read = true;
+        }
+        let Some(behind) = start_behind(req, self.lead, candidate.cursor) else {
+            return false;
+        };
+        self.start = behind;
+        true
+    }
+}
