@@ -17,10 +17,9 @@ import argparse
 import os
 import random
 import re
-import subprocess
 import sys
-import tempfile
 
+import programs
 from grammar import Reader
 
 FAILURE, SUCCESS, ANY, ANY_ALL, ASSERT, ASSERT_NOT, AT, BRANCH, CATEGORY, CHARSET, BIGCHARSET, GROUPREF = range(12)
@@ -152,11 +151,7 @@ def written(words):
 
 def answers_of(program, lines):
     """What a program answers, line by line; no line where it does not come to a good end."""
-    with tempfile.TemporaryDirectory(prefix="hostile-") as room:
-        path = os.path.join(room, "lines.txt")
-        with open(path, "w", encoding="ascii") as file:
-            file.write("".join(f"{it}\n" for it in lines))
-        ran = subprocess.run([program, path], capture_output=True, text=True)
+    ran = programs.ran(program, lines)
     return [] if ran.returncode or ran.stderr else ran.stdout.splitlines()
 
 
