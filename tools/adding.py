@@ -15,8 +15,8 @@ import re
 import sys
 
 import faults
+from wrong_bodies import ROOT, read
 
-ROOT = os.path.dirname(os.path.dirname(os.path.realpath(__file__)))
 PAGE = f"{ROOT}/docs/ADDING.md"
 BEGIN, END = "<!-- the table begins -->\n", "<!-- the table ends -->\n"
 
@@ -35,11 +35,6 @@ ITEMS = {
 
 # The kit's patterns have a `Look` of their own, which is no item.
 KITS_LOOK = re.compile(r"regex_hir\S*\bLook\b")
-
-
-def read(path):
-    with open(path, encoding="utf-8") as file:
-        return file.read()
 
 
 def files(crate):
@@ -70,11 +65,7 @@ def table():
     return "\n".join(lines) + "\n"
 
 
-def renewed(page):
-    """The page with the table as the files are."""
-    before, _, rest = page.partition(BEGIN)
-    _, _, after = rest.partition(END)
-    return before + BEGIN + "\n" + table() + "\n" + END + after
+PART = faults.Part(PAGE, BEGIN, END, table)
 
 
 def short(path):
@@ -119,17 +110,9 @@ def astray():
 
 def stale():
     """What is told where the page is not as the files are."""
-    page = read(PAGE)
-    is_new = page == renewed(page)
-    return [*([] if is_new else ["docs/ADDING.md: its table is stale, `tools/adding.py --write` renews it"]), *astray()]
-
-
-def write():
-    """Renews what the page lists."""
-    page = renewed(read(PAGE))
-    with open(PAGE, "w", encoding="utf-8") as file:
-        file.write(page)
+    lost = [] if PART.is_new() else ["docs/ADDING.md: its table is stale, `tools/adding.py --write` renews it"]
+    return [*lost, *astray()]
 
 
 if __name__ == "__main__":
-    sys.exit(faults.told(sys.argv[1:], __doc__, write, stale))
+    sys.exit(faults.told(sys.argv[1:], __doc__, PART.write, stale))

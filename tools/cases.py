@@ -32,15 +32,10 @@ import finders
 import hostile
 import large
 import refused
+from wrong_bodies import ROOT, read
 
-ROOT = os.path.dirname(os.path.dirname(os.path.realpath(__file__)))
 BEFORE, BEHIND = b"# all lines count\n\ncheck -\n", b"\ncheck -\n"
 ANSWER, EXPLAINED = b"refused\n", b"refused Truncated 0\n"
-
-
-def read(path):
-    with open(path, encoding="utf-8") as file:
-        return file.read()
 
 
 def expanded(text):

@@ -8,10 +8,9 @@
 of a file that are no match, search or walk are passed over.
 """
 import argparse
-import os
-import subprocess
 import sys
-import tempfile
+
+import programs
 
 PROBES = ("shown", "finder", "spans")
 
@@ -23,11 +22,7 @@ def asks(line):
 
 def answers(program, lines):
     """Of each line the answers to its probes."""
-    with tempfile.TemporaryDirectory(prefix="finders-") as room:
-        path = os.path.join(room, "probes")
-        with open(path, "w", encoding="ascii") as file:
-            file.writelines(f"{probe} {line}\n" for line in lines for probe in PROBES)
-        told = subprocess.run([program, path], capture_output=True, text=True, check=True).stdout.splitlines()
+    told = programs.answers(program, [f"{probe} {line}" for line in lines for probe in PROBES])
     return zip(*[iter(told)] * len(PROBES), strict=True)
 
 

@@ -8,13 +8,12 @@ have is written here as C declares it, and compared with the header, declaration
 number, each struct by its fields in order, each function by its parameters. A slice is a pointer and a count, and a
 `Global` is nothing. The gate asks for it (`standing.py`). The status is 1 where something differs.
 """
-import os
 import re
 import sys
 
 import faults
+from wrong_bodies import ROOT, read
 
-ROOT = os.path.dirname(os.path.dirname(os.path.realpath(__file__)))
 CRATE = f"{ROOT}/crates/sre_c"
 HEADER = "crates/sre_c/include/sre.h"
 
@@ -37,11 +36,6 @@ COMMENT = re.compile(r"/\*.*?\*/|//[^\n]*", re.S)
 DEFINED = re.compile(r"(?m)^#define (SRE_\w+) (\d+)\b")
 C_STRUCT = re.compile(r"typedef struct (\w+) \{(.*?)\} (\w+);", re.S)
 C_FUNCTION = re.compile(r"(?m)^(\w+) (\w+)\(([^;{}]*)\);")
-
-
-def read(path):
-    with open(path, encoding="utf-8") as file:
-        return file.read()
 
 
 def in_words(name, end="_"):

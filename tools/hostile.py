@@ -1,12 +1,13 @@
 #!/usr/bin/env python3
 """Random and changed words, as `check` lines for the program `sre_cases`, and whether they are a code.
 
-    hostile.py [--lists N] [--seed N] PROGRAM     holds the program to the reader of `listing.py`
+    hostile.py [--lists N] [--seed N] PROGRAM     holds the program to the reader of `grammar.py`
     hostile.py [--lists N] [--seed N]             writes the lines, and behind each one whether it is a code
 
-The reader is written from docs/WORDS.md, and calls itself for parts. Most random lists are codes in which a few words
-were changed, since words that are drawn one by one are hardly ever a code. The same seed gives the same lists. The
-status is 1 where the program and the reader differ, or where less than a fifth of the lists are codes, or are none.
+The reader is written from docs/WORDS.md, and calls itself for parts. The codes are written here with numbers of their
+own and nothing of the reader, so that neither hides a fault of the other. Most random lists are codes in which a few
+words were changed, since words that are drawn one by one are hardly ever a code. The same seed gives the same lists.
+The status is 1 where the program and the reader differ, or where less than a fifth of the lists are codes, or are none.
 
 The gate (`cases.py`) also takes the codes of the probes that are refused memory, which have items of most families:
 each cut short at each place, and with each word changed. Where such a list is a code, `sre_probes` matches and searches
@@ -16,11 +17,10 @@ import argparse
 import os
 import random
 import re
-import subprocess
 import sys
-import tempfile
 
-from listing import Listing
+import programs
+from grammar import Reader
 
 FAILURE, SUCCESS, ANY, ANY_ALL, ASSERT, ASSERT_NOT, AT, BRANCH, CATEGORY, CHARSET, BIGCHARSET, GROUPREF = range(12)
 GROUPREF_EXISTS, IN, INFO, JUMP, LITERAL, MARK, MAX_UNTIL, MIN_UNTIL, NOT_LITERAL, NEGATE, RANGE, REPEAT = range(12, 24)
@@ -36,7 +36,7 @@ POSITIONS, CATEGORIES, OPCODES, GREATEST = 12, 18, 43, 2**32 - 1
 
 
 def is_code(words):
-    return Listing(words).is_code
+    return Reader(words).is_code
 
 
 class Writer:
@@ -151,11 +151,7 @@ def written(words):
 
 def answers_of(program, lines):
     """What a program answers, line by line; no line where it does not come to a good end."""
-    with tempfile.TemporaryDirectory(prefix="hostile-") as room:
-        path = os.path.join(room, "lines.txt")
-        with open(path, "w", encoding="ascii") as file:
-            file.write("".join(f"{it}\n" for it in lines))
-        ran = subprocess.run([program, path], capture_output=True, text=True)
+    ran = programs.ran(program, lines)
     return [] if ran.returncode or ran.stderr else ran.stdout.splitlines()
 
 

@@ -8,18 +8,13 @@ A later kit of the same logic serves, since what is proved in a logic is proved 
 the kit have to name the one of .ci/kit, which the gate looks at (`standing.py`). The status is 0 with another kit, too,
 but 1 where there is none, or where a page names none.
 """
-import os
 import subprocess
 import sys
 
-ROOT = os.path.dirname(os.path.dirname(os.path.realpath(__file__)))
+from wrong_bodies import ROOT, read
+
 KIT = f"{ROOT}/.ci/kit"
 PAGES = ("README.md", "docs/GATE.md")
-
-
-def read(path):
-    with open(path, encoding="utf-8") as file:
-        return file.read()
 
 
 def at_hand():

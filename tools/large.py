@@ -1,7 +1,6 @@
 """Large lines for the programs `sre_cases` and `sre_probes`: with ample memory each has its answer."""
-import os
-import subprocess
-import tempfile
+
+import programs
 
 LETTERS, TEXT = 100_000, "61" * 100_000
 # (?:(?:a|b)*c|a), (?:a|b)*, which saves a choice at each turn, and (?:.|b)*, which saves two
@@ -58,15 +57,10 @@ def probes():
     yield f"code check {groups(LETTERS)[:-2]}", f"Truncated {3 * LETTERS + 2}, number 2"
 
 
-
 def are_answered(program, rows, tell):
     """Whether a program answers all rows."""
     lines, wanted = zip(*rows())
-    with tempfile.TemporaryDirectory(prefix="large-") as room:
-        path = os.path.join(room, "lines.txt")
-        with open(path, "w", encoding="ascii") as file:
-            file.write("".join(f"{it}\n" for it in lines))
-        ran = subprocess.run([program, path], capture_output=True, text=True)
+    ran = programs.ran(program, lines)
     answers = ran.stdout.splitlines()
     for line, answer, other in zip(lines, answers, wanted):
         if answer != other:

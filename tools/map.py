@@ -16,8 +16,8 @@ import sys
 import faults
 import wrong_bodies
 from functions import FUNCTION, extent
+from wrong_bodies import ROOT, read
 
-ROOT = os.path.dirname(os.path.dirname(os.path.realpath(__file__)))
 PAGE = f"{ROOT}/docs/CODE.md"
 BEGIN, END = "<!-- the map begins -->\n", "<!-- the map ends -->\n"
 
@@ -29,11 +29,6 @@ IN_ORDER = "## In which order hints are tried"
 
 # The first sentence of a paragraph.
 SENTENCE = re.compile(r".*?\.(?= [A-Z`\[]|$)")
-
-
-def read(path):
-    with open(path, encoding="utf-8") as file:
-        return file.read()
 
 
 def crates():
@@ -70,11 +65,7 @@ def listed():
     return "\n".join(lines[1:]) + "\n"
 
 
-def renewed(page):
-    """The page with the list as the files are."""
-    before, _, rest = page.partition(BEGIN)
-    _, _, after = rest.partition(END)
-    return before + BEGIN + "\n" + listed() + "\n" + END + after
+PART = faults.Part(PAGE, BEGIN, END, listed)
 
 
 def headless():
@@ -139,18 +130,10 @@ def astray():
 def stale():
     """What is told where the page is not as the files are."""
     lost = list(headless())
-    page = read(PAGE)
-    if not lost and page != renewed(page):
+    if not lost and not PART.is_new():
         lost.append("docs/CODE.md: its list of files is stale, `tools/map.py --write` renews it")
     return [*lost, *astray()]
 
 
-def write():
-    """Renews what the page lists."""
-    page = renewed(read(PAGE))
-    with open(PAGE, "w", encoding="utf-8") as file:
-        file.write(page)
-
-
 if __name__ == "__main__":
-    sys.exit(faults.told(sys.argv[1:], __doc__, write, stale))
+    sys.exit(faults.told(sys.argv[1:], __doc__, PART.write, stale))

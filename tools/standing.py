@@ -26,8 +26,8 @@ import kit
 import map as code_map
 import pictures
 import wrong_bodies
+from wrong_bodies import ROOT, read
 
-ROOT = os.path.dirname(os.path.dirname(os.path.realpath(__file__)))
 COUNTS = f"{ROOT}/.ci/counts"
 # What is counted, how many there are, and where that is less than it was: the greatest number before, and why.
 ROW = re.compile(r"(\w+ [a-z -]+) (\d+)(?: # was (\d+): (\S.*))?")
@@ -47,11 +47,6 @@ NAMED = {
     "sre_growth/specs/Refusal.antt": ["pub use Rattle.sre_refusal_seal.specs.Seal.{Refused, one_refused}"],
     **{f"sre_growth/proofs/{it}/Answers.antt": ["use Rattle.sre_refusal_seal.specs.Seal.{refused}"] for it in GROWTHS},
 }
-
-
-def read(path):
-    with open(path, encoding="utf-8") as file:
-        return file.read()
 
 
 def files(folder, *ends):

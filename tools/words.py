@@ -43,7 +43,8 @@ except ImportError:
 
 import constants
 import trees
-from listing import CATEGORIES, NUMBER, OPCODES, POSITIONS, UNLIMITED, Listing, unknown_letters
+from grammar import CATEGORIES, NUMBER, OPCODES, POSITIONS, UNLIMITED, Reader
+from listing import Listing, unknown_letters
 
 # CPython 3.11, 3.12 and 3.13: the layouts of their words were compared.
 MAGICS = (20220615, 20221023, 20230612)
@@ -298,7 +299,7 @@ def write_cases(path, name, cut):
     """Writes NAME.txt and NAME.expected from a file of patterns."""
     opcodes, lines, answers = set(), [], []
     for words, more_lines, more_answers in cases_in(path, cut):
-        opcodes |= Listing(words).used & set(OPCODES)
+        opcodes |= Reader(words).used & set(OPCODES)
         lines += more_lines
         answers += more_answers
     version = '.'.join(map(str, sys.version_info[:3]))
@@ -461,7 +462,7 @@ def one_case(options):
 def show_tree(options):
     """Writes a pattern's tree as a Rust expression."""
     pattern = pattern_of(options.tree, options)
-    print(trees.expression(without_block(pattern.words), OPCODES, POSITIONS, CATEGORIES))
+    print(trees.expression(without_block(pattern.words)))
 
 
 def show_constants(options):

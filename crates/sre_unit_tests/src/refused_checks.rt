@@ -136,7 +136,7 @@ fn a_check_fails_where_memory_is_refused(rt: HostRuntime) {
             1
         )
     );
-    for &(words, _text) in &SAMPLES {
+    for words in &SAMPLES {
         assert!(rt;
             fails_in_turn(rt.alloc(), words, &uni, None, 1),
             "{words:?}"
