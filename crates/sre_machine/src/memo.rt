@@ -126,6 +126,7 @@ impl<A: Allocator> Memo<A> {
         ensures none { HoldsNone self.new.kept }
         ensures unmarked { HoldsNone self.new.marked.kept }
         ensures end { self.new.marked.end ≡ self.old.marked.end }
+        ensures stopped { self.new.stopped ≡ self.old.stopped }
     {
         self.failures.forget();
         self.marked.forget();
