@@ -24,7 +24,7 @@ use Rattle.sre_code.proofs.Checked.{whole_of, whole_items}
 use Rattle.sre_request.specs.declared.request.Request.{Request}
 use Rattle.sre_request.specs.Requests.{code_of}
 use Rattle.sre_request.specs.Runs.{run_of}
-use Rattle.sre_machine.specs.Turns.{Turn, TurnOnce, Takes, GivesUp, GoesOn, TriesOn, Fails}
+use Rattle.sre_machine.specs.Turns.{Turn, TurnOnce, Takes, GivesUp, GoesOn, TriesOn, StaysAt, LeavesOrStays, Fails}
 use Rattle.sre_machine.specs.Paying.{Pays}
 use Rattle.sre_turns.specs.RunEnds.{RunsOn}
 use Rattle.sre_turns.specs.Fruit.{is_inside}
@@ -45,6 +45,25 @@ stays_tried r place cursor b c true marked left x =
     (record { outcomes = x.outcomes; turns = x.turns; stands = x.stands; placed = x.placed; runs = x.runs })
 stays_tried r place cursor b c false marked left x =
     subst (λ d. IsAt r (Instruction place) cursor d) (sym (left refl)) x
+
+-- an instruction is left at once
+pub left_at_once : {S : Type 0} {text : Ghosts S} (r : Request S text) (place : ℕ) (cursor : StringCursor)
+    (b c : BoardValue) (m m' : MemoValue) → GivesUp r place cursor b m c m' → LeavesOrStays r place cursor true b m c m'
+left_at_once r place cursor b c m m' left = record {
+  left = λ _. left;
+  stays = λ told. absurd (true≢false told);
+  goes = λ told. absurd (true≢false told);
+}
+
+-- or is not
+pub stays_on : {S : Type 0} {text : Ghosts S} (r : Request S text) (place : ℕ) (cursor : StringCursor)
+    (b c : BoardValue) (m m' : MemoValue) → StaysAt r place cursor b c → GoesOn r place cursor b m c m'
+    → LeavesOrStays r place cursor false b m c m'
+stays_on r place cursor b c m m' stays goes = record {
+  left = λ told. absurd (true≢false (sym told));
+  stays = λ _. stays;
+  goes = λ _. goes;
+}
 
 -- an instruction that is gone on with takes its turn
 pub turn_goes_on : {S : Type 0} {text : Ghosts S} {E : Type 0} (r : Request S text) (place : ℕ) (cursor : StringCursor)

@@ -247,6 +247,14 @@ module _ {S : Type 0} {text : Ghosts S} (r : Request S text) (all : List Way) (i
     closed = λ pl from closed. let w = waited pl closed in inr (inl (w.closed, w.turns));
   }
 
+-- a run with no outcome, where a refusal is not kept beyond it
+pub rested : {S : Type 0} {text : Ghosts S} (r : Request S text) (start : StringCursor) (m m' m'' : MemoValue)
+    (left left' : ℕ) → m'' ≡ record m' { stopped = false } → RunSettles r start m m' left left'
+    → RunSettles r start m m'' left left'
+rested r start m m' m'' left left' same run =
+    subst (λ (k : MemoValue). RunSettles r start m k left left') (sym same)
+    (record { keeping = run.keeping; closed = run.closed })
+
 -- a run that begins again with failures kept, of which there are none yet
 module _ {S : Type 0} {text : Ghosts S} (r : Request S text) (start : StringCursor) (m : MemoValue) (left : ℕ)
     (keeps : m.is_open ≡ true) (empty : m.kept ≡ kept_of [] [] []) where
@@ -323,11 +331,6 @@ ok_at {T} {E} A x t is h = subst (λ (y : Result T E). IfOk y A) is h
 -- what is decided is not to begin again
 pub not_opened : {found : Option StringCursor} (told : Decision) → told ≡ Decided found → told ≢ Opened
 not_opened told e o = let both = sym e ∙ o in absurd (cc)
-
--- what is not so is not
-pub not_so : (b : Bool) → (b ≡ true → ⊥) → b ≡ false
-not_so true h = absurd (h refl)
-not_so false h = refl
 
 -- an error that is passed on
 pub passed_up : {T E : Type 0} (result : Result T E) (e : E) (P : E → Type 0) → IsErrAnd result (λ y. y ≡ e) → P e

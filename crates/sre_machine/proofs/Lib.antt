@@ -9,4 +9,3 @@ pub mod Taken
 pub mod Opening
 pub mod Keeping
 pub mod Following
-pub mod Attempting

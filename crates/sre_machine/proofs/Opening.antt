@@ -30,32 +30,16 @@ use Rattle.sre_turns.proofs.Start.{none_inside}
 use Rattle.sre_turns.specs.MovesAtReferences.{HasReference}
 use Rattle.sre_turns.proofs.Trying.{trying_goes, trying_tries}
 use Rattle.sre_model.proofs.Words.{opcode_within}
-use Rattle.sre_board.specs.Failures.{BitsStay, BitsKept, Capacity, HasBit, HasRow, HasSlots, IsOpen, Laid, NewRow}
-use Rattle.sre_board.specs.Failures.{Roomy}
+use Rattle.sre_board.specs.Failures.{HasBit, IsOpen}
 use Rattle.sre_board.proofs.AccountLaws.{account_opens}
 use Rattle.sre_board.proofs.Prepared.{account_prepared, bit_prepared}
 use Rattle.sre_request.specs.declared.request.Request.{Request}
 use Rattle.sre_request.specs.Requests.{start_of, end_of}
 use Rattle.sre_request.specs.Runs.{run_of}
-use Rattle.sre_machine.specs.Memos.{MemoValue}
+use Rattle.sre_machine.specs.Memos.{MemoValue, MakesRoom}
 use Rattle.sre_model.specs.Grammar.{Opcode}
 use Rattle.sre_machine.specs.Paying.{Pays, Remembering, Holding, weight}
 use Rattle.sre_machine.proofs.Paying.{pays_refused, pays_nothing, pays_left}
-
--- a place was prepared under the loops of a board
-pub record PreparedAt {S : Type 0} {text : Ghosts S} (r : Request S text) (place : ℕ) (b : BoardValue)
-    (m m' : MemoValue) : Type 0 where
-  pub same : m'.stopped ≡ false → m' ≡ record m { kept = m'.kept }
-  pub refused : m'.stopped ≡ true → Refused
-  pub stay : BitsStay m.kept m'.kept
-  pub bits : BitsKept m.kept m'.kept
-  pub laid : Laid m'.kept
-  pub roomy : (n : ℕ) → HasSlots (run_of r).words (repeats b.frames) n
-      → Roomy (run_of r).words n (start_of r) (end_of r) m.kept
-      → Roomy (run_of r).words n (start_of r) (end_of r) m'.kept
-  pub rows : NewRow (run_of r).words (start_of r) (end_of r) place (repeats b.frames) m.kept m'.kept
-  pub there : m'.stopped ≡ false
-      → Capacity (run_of r).words (start_of r) (end_of r) place (repeats b.frames) m.kept → HasRow m'.kept place
 
 -- failures are kept still, or memory was refused
 pub open_or_refused : (m m' : MemoValue) → m.is_open ≡ true → (m'.stopped ≡ false → m' ≡ record m { kept = m'.kept })
@@ -66,25 +50,20 @@ open_or_refused m m' keeps same refused = go m'.stopped refl
     go true e = inr (refused e)
     go false e = inl (ap (λ (k : MemoValue). k.is_open) (same e) ∙ keeps)
 
+-- a place was prepared under the loops of a board
+pub record PreparedAt {S : Type 0} {text : Ghosts S} (r : Request S text) (place : ℕ) (b : BoardValue)
+    (m m' : MemoValue) : Type 0 where
+  pub makes : MakesRoom (run_of r).words (start_of r) (end_of r) place (repeats b.frames) m m'
+  pub same : m'.stopped ≡ false → m' ≡ record m { kept = m'.kept }
+  pub refused : m'.stopped ≡ true → Refused
+
 -- the same, as it is read off the request
 pub prepared_at : {S : Type 0} {text : Ghosts S} (r : Request S text) (place : ℕ) (b : BoardValue) (m m' : MemoValue)
     (ws : List ℕ) (first end : ℕ) → ws ≡ (run_of r).words → first ≡ start_of r → end ≡ end_of r
-    → (m'.stopped ≡ false → m' ≡ record m { kept = m'.kept }) → (m'.stopped ≡ true → Refused)
-    → BitsStay m.kept m'.kept → BitsKept m.kept m'.kept → Laid m'.kept
-    → ((n : ℕ) → HasSlots ws (repeats b.frames) n → Roomy ws n first end m.kept → Roomy ws n first end m'.kept)
-    → NewRow ws first end place (repeats b.frames) m.kept m'.kept
-    → (m'.stopped ≡ false → Capacity ws first end place (repeats b.frames) m.kept → HasRow m'.kept place)
-    → PreparedAt r place b m m'
-prepared_at r place b m m' ws first end words start stop same refused stay bits laid roomy rows there = record {
-  same = same;
-  refused = refused;
-  stay = stay;
-  bits = bits;
-  laid = laid;
-  roomy = rw (words, start, stop) at roomy;
-  rows = rw (words, start, stop) at rows;
-  there = rw (words, start, stop) at there;
-}
+    → MakesRoom ws first end place (repeats b.frames) m m' → (m'.stopped ≡ false → m' ≡ record m { kept = m'.kept })
+    → (m'.stopped ≡ true → Refused) → PreparedAt r place b m m'
+prepared_at r place b m m' ws first end words start stop makes same refused =
+    record { makes = rw (words, start, stop) at makes; same = same; refused = refused }
 
 module _ {S : Type 0} {text : Ghosts S} (r : Request S text) (place : ℕ) (cursor : StringCursor) (b : BoardValue)
     (m m' : MemoValue) (p : PreparedAt r place b m m') (all : List Way) (limit : Limit)
@@ -105,13 +84,13 @@ module _ {S : Type 0} {text : Ghosts S} (r : Request S text) (place : ℕ) (curs
   holds : (pl : Remembering r) → limit.start ≡ start_of r → (n : ℕ) → Holding r pl m limit n → Holding r pl m' limit n
   holds pl at n h =
       account_prepared (run_of r) pl.plain (start_of r) m.kept m'.kept here place limit.trying n pl.room (settled pl at)
-      refl inside p.rows p.stay p.bits p.laid p.roomy h
+      refl inside p.makes.rows p.makes.grows.stay p.makes.grows.bits p.makes.laid p.makes.roomy h
 
   has_bit : (pl : Remembering r) → limit.start ≡ start_of r → (n : ℕ) → Holding r pl m limit n → m'.stopped ≡ false
       → HasBit m'.kept (run_of r).words false here
   has_bit pl at n h going =
       bit_prepared (run_of r) pl.plain (start_of r) m.kept m'.kept here place limit.trying n pl.room (settled pl at)
-      refl inside p.rows p.stay p.bits p.laid p.roomy h (p.there going)
+      refl inside p.makes.rows p.makes.grows.stay p.makes.grows.bits p.makes.laid p.makes.roomy h (p.makes.there going)
 
   -- failures are kept still
   stays_open : m.is_open ≡ true → m'.stopped ≡ false → m'.is_open ≡ true

@@ -5,3 +5,4 @@ pub mod Turns
 pub mod Runners
 pub mod Runs
 pub mod EndlessRuns
+pub mod Spending

@@ -4,7 +4,7 @@ use Rattle.sre_growth.specs.declared.Refusal.{Refusal}
 use Rattle.sre_model.specs.Marks.{Marks, no_marks}
 use Rattle.sre_model.specs.Runs.{Run}
 use Rattle.sre_turns.specs.MovesAtReferences.{Asks}
-use Rattle.sre_board.specs.Failures.{Kept, Remembers}
+use Rattle.sre_board.specs.Failures.{Kept, Remembers, Grows, Laid, HasSlots, Roomy, NewRow, Capacity, HasRow}
 
 -- failures, the marks under which they were kept, and behind which mark none is asked for
 pub record MarkedValue : Type 0 where
@@ -48,6 +48,15 @@ pub record Recalled (r : Run) (k : Kept) (m : MarkedValue) : Type 0 where
 
 abbrev pub Recalls : Run → MemoValue → Type 0
 Recalls r m = Recalled r m.kept m.marked
+
+-- room was made for the failures of a place with the loops at these places, for the positions from first to end, unless
+-- no more are kept: nothing that was kept is lost, and no more is
+pub record MakesRoom (ws : List ℕ) (first end place : ℕ) (js : List ℕ) (m m' : MemoValue) : Type 0 where
+  pub grows : Grows m.kept m'.kept
+  pub laid : Laid m'.kept
+  pub roomy : (n : ℕ) → HasSlots ws js n → Roomy ws n first end m.kept → Roomy ws n first end m'.kept
+  pub rows : NewRow ws first end place js m.kept m'.kept
+  pub there : m'.stopped ≡ false → Capacity ws first end place js m.kept → HasRow m'.kept place
 
 -- a memo that keeps failures has no step to wait for
 abbrev pub IsMemo : Bool → ℕ → Type 0

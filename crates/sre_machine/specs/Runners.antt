@@ -7,13 +7,13 @@ use Rattle.sre_chars.specs.declared.string.StringCursor.{StringCursor}
 use Rattle.sre_model.specs.Tree.{Tree}
 use Rattle.sre_model.specs.Grammar.{WholeItems}
 use Rattle.sre_model.specs.Marks.{no_marks}
-use Rattle.sre_model.specs.Prefixes.{behind_items}
+use Rattle.sre_model.specs.Prefixes.{behind_items, ReadsBehind}
 use Rattle.sre_model.specs.TurnBounds.{turns_of, most_each}
 use Rattle.sre_turns.specs.Board.{BoardValue, bare}
 use Rattle.sre_turns.specs.Machine.{Decides, outcomes}
 use Rattle.sre_request.specs.declared.request.Request.{Request}
-use Rattle.sre_request.specs.Requests.{asked_of}
-use Rattle.sre_request.specs.Runs.{run_of}
+use Rattle.sre_request.specs.Requests.{asked_of, end_of}
+use Rattle.sre_request.specs.Runs.{run_of, Standing}
 use Rattle.sre_machine.specs.Allowances.{is_limited, left_of}
 use Rattle.sre_machine.specs.Memos.{MemoValue, Recalls}
 use Rattle.sre_machine.specs.Paying.{RunGivenUp, RunSettles}
@@ -35,6 +35,14 @@ pub record IsReady {S : Type 0} {text : Ghosts S} (r : Request S text) (n : Runn
   pub remembers : Recalls (run_of r) n.memo
   pub room : n.started + 1 < 2 ^ 64
   pub again : n.restarted ≤ n.started
+
+-- a run may begin from a cursor, which stands in the window behind some literals that the words begin with
+pub record MayRun {S : Type 0} {text : Ghosts S} (r : Request S text) (literals : ℕ) (start : StringCursor) :
+    Type 0 where
+  pub stands : Standing r start
+  pub inside : start.position ≤ end_of r
+  pub behind : (t : Tree) → WholeItems (run_of r).words t → ReadsBehind (run_of r).words literals t
+  pub few : 2 * literals < 2 ^ 64
 
 -- one run was begun at a start, and at most once again there; without a limit none begins again
 pub record Began (limited : Bool) (n n' : RunnerValue) : Type 0 where

@@ -1,14 +1,17 @@
 -- Where the machine stands, and what an instruction's turn keeps, in the words of its functions' contracts.
 -- Words of the machine's contracts; what sre_engine makes public does not rest on it.
-use Rattle.std.specs.Prelude.{ℕ, ◌≡◌, Bool, true, List, []}
+use Rattle.std.specs.Prelude.{ℕ, ◌≡◌, ◌≢◌, Bool, true, false, List, []}
 use Rattle.sre_chars.specs.declared.string.StrDrive.{Ghosts}
 use Rattle.sre_chars.specs.declared.string.StringCursor.{StringCursor}
 use Rattle.sre_model.specs.Marks.{Marks}
 use Rattle.sre_model.specs.Runs.{Run}
 use Rattle.sre_turns.specs.Board.{BoardValue}
+use Rattle.sre_turns.specs.Asked as marks
+use Rattle.sre_turns.specs.Asked.{MarksAlike}
 use Rattle.sre_turns.specs.Fruit.{is_inside}
 use Rattle.sre_turns.specs.Hopeless.{Hopeless}
 use Rattle.sre_turns.specs.Moves.{spot_at}
+use Rattle.sre_turns.specs.MovesAtReferences.{HasReference}
 use Rattle.sre_turns.specs.Settled.{Regionless}
 use Rattle.sre_model.specs.Ways.{Way}
 use Rattle.sre_turns.specs.Machine.{HasRun, IsAt, Goes, Tries, Arrives, Backs, Advances, Later}
@@ -20,6 +23,8 @@ use Rattle.sre_turns.specs.declared.Point.TheVariants.{Instruction}
 use Rattle.sre_request.specs.declared.request.Request.{Request}
 use Rattle.sre_machine.specs.Memos.{MemoValue}
 use Rattle.sre_machine.specs.Paying.{Pays, Within}
+use Rattle.sre_machine.specs.declared.trying.Keeping.{Keeping}
+use Rattle.sre_machine.specs.declared.trying.Keeping.TheVariants.{Nothing, Unmarked, Marked}
 use Rattle.sre_request.specs.Runs.{run_of}
 
 -- the machine is at an instruction, with a cursor at its position
@@ -96,3 +101,20 @@ abbrev pub StaysAt : {S : Type 0} {text : Ghosts S} → Request S text → ℕ �
     → Type 0
 StaysAt r place cursor b c =
     IsAt (run_of r) (Instruction place) cursor b → IsAt (run_of r) (Instruction place) cursor c
+
+-- an instruction is left at once, or else the machine stands there still and goes on with it
+pub record LeavesOrStays {S : Type 0} {text : Ghosts S} (r : Request S text) (place : ℕ) (cursor : StringCursor)
+    (leaves : Bool) (b : BoardValue) (m : MemoValue) (c : BoardValue) (m' : MemoValue) : Type 0 where
+  pub left : leaves ≡ true → GivesUp r place cursor b m c m'
+  pub stays : leaves ≡ false → StaysAt r place cursor b c
+  pub goes : leaves ≡ false → GoesOn r place cursor b m c m'
+
+-- under what marks failures are kept for an instruction: where they are not, but the memo is open, the words refer to
+-- groups
+pub record IsKeeping {S : Type 0} {text : Ghosts S} (r : Request S text) (keeping : Keeping) (b : BoardValue)
+    (m : MemoValue) : Type 0 where
+  pub opened : keeping ≢ Nothing → m.is_open ≡ true
+  pub unmarked : keeping ≡ Unmarked → marks.Unmarked (run_of r).words b.marks
+  pub marked : keeping ≡ Marked → MarksAlike (run_of r).words m.marked.marks b.marks
+  pub refers : keeping ≡ Marked → HasReference (run_of r).words
+  pub left : keeping ≡ Nothing → m.is_open ≡ true → HasReference (run_of r).words

@@ -1,7 +1,7 @@
 //! The machine: a backtracking run over the words of a code, from one start.
 //!
 //! Each turn does one instruction, or takes up what is still to be tried; what it does is said by the model's relation
-//! over the words. [`turns::run_from`] answers with the first accepted way.
+//! over the words. [`runner::Runner::attempt`] answers with the first accepted way.
 //!
 //! A search that has gone back often remembers what it tried in vain ([`memo::Memo`]), and leaves at once what is
 //! alike. The answer is the same.

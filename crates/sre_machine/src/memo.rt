@@ -14,9 +14,8 @@ ghost use Rattle.sre_turns.specs.Moves.{spot_at};
 ghost use Rattle.sre_turns.specs.declared.Point.TheVariants.{Instruction};
 ghost use Rattle.sre_growth.specs.Refusal.{Refused};
 ghost use Rattle.sre_board.specs.Failures.{HoldsNone, HoldsNoMore, HoldsOneMore, Tells};
-ghost use Rattle.sre_machine.specs.Memos.{Recalls};
-ghost use Rattle.sre_board.specs.Failures.{HoldsStill, BitsStay, BitsKept, Roomy, Laid, ones};
-ghost use Rattle.sre_board.specs.Failures.{Capacity, HasRow, HasSlots, NewRow, KeepsSpot, kept_of};
+ghost use Rattle.sre_machine.specs.Memos.{Recalls, MakesRoom};
+ghost use Rattle.sre_board.specs.Failures.{KeepsSpot, kept_of};
 ghost use Rattle.sre_turns.specs.Nested.{repeats};
 ghost use Rattle.sre_request.specs.Requests.{start_of, end_of};
 ghost use Rattle.sre_request.specs.Runs.{run_of};
@@ -127,6 +126,7 @@ impl<A: Allocator> Memo<A> {
         ensures none { HoldsNone self.new.kept }
         ensures unmarked { HoldsNone self.new.marked.kept }
         ensures end { self.new.marked.end ≡ self.old.marked.end }
+        ensures stopped { self.new.stopped ≡ self.old.stopped }
     {
         self.failures.forget();
         self.marked.forget();
@@ -208,19 +208,8 @@ impl<A: Allocator> Memo<A> {
         first: usize,
         end: usize,
     )
+        ensures makes { MakesRoom words.now first end place (repeats board.now.frames) self.old self.new }
         ensures marked { self.new.marked ≡ self.old.marked }
-        ensures no_more { HoldsNoMore self.old.kept self.new.kept }
-        ensures still { HoldsStill self.old.kept self.new.kept }
-        ensures stay { BitsStay self.old.kept self.new.kept }
-        ensures ones { ones self.new.kept ≡ ones self.old.kept }
-        ensures roomy { (n : ℕ) → HasSlots words.now (repeats board.now.frames) n
-            → Roomy words.now n first end self.old.kept → Roomy words.now n first end self.new.kept }
-        ensures rows { NewRow words.now first end place (repeats board.now.frames) self.old.kept self.new.kept }
-        ensures there { self.new.stopped ≡ false
-            → Capacity words.now first end place (repeats board.now.frames) self.old.kept
-            → HasRow self.new.kept place }
-        ensures laid { Laid self.new.kept }
-        ensures bits { BitsKept self.old.kept self.new.kept }
         ensures same { self.new.stopped ≡ false → self.new ≡ record self.old { kept = self.new.kept } }
         ensures stopped { self.old.stopped ≡ true → self.new.stopped ≡ true }
         ensures refused { self.new.stopped ≡ true → Refused }

@@ -1,6 +1,6 @@
 //! A runner: the memory in which the machine runs, and how many of its runs were begun.
 
-ghost use Rattle.std.specs.Prelude.{◌≡◌, ◌≤◌, ◌*◌, ◌^◌, ◌<◌, IfErr, false};
+ghost use Rattle.std.specs.Prelude.{◌≡◌, ◌≤◌, ◌+◌, ◌*◌, ◌^◌, ◌<◌, IfErr, false};
 ghost use Rattle.sre_model.specs.Tree.{Tree};
 ghost use Rattle.sre_model.specs.Grammar.{WholeItems};
 ghost use Rattle.sre_model.specs.Marks.{no_marks};
@@ -10,16 +10,19 @@ ghost use Rattle.sre_request.specs.Requests.{start_of, end_of};
 ghost use Rattle.sre_request.specs.Runs.{run_of, Standing};
 ghost use Rattle.sre_machine.specs.Allowances.{Halted, is_limited};
 ghost use Rattle.sre_machine.specs.Memos.{Recalls, Begins};
-ghost use Rattle.sre_machine.specs.Runners.{IsReady, Began, AttemptDecides, ClearsUnfound, AttemptCosts};
+ghost use Rattle.sre_machine.specs.Runners.{IsReady, MayRun, Began, AttemptDecides, ClearsUnfound, AttemptCosts};
+ghost use Rattle.sre_machine.specs.Spending.{RunDecides, Spends, RunCosts, AnewCosts};
 
 use crate::allowance::Allowance;
 use crate::memo::Memo;
-use crate::turns::{Begun, Halt, run_from};
+use crate::turns::{Begun, Decision, Halt, turns_from};
 use sre_board::{Board, Marks};
 use sre_chars::string::{StrDrive, StringCursor};
+use sre_code::operands::know_words;
 use sre_request::Request;
 use std::alloc::Allocator;
-use std::marker::Model;
+use std::marker::{Brand, Model};
+use std::sync::ledger::Blank;
 
 /// The board on which the machine runs, what is remembered of its failures, and how many runs were begun.
 #[derive(Drop)]
@@ -136,23 +139,92 @@ impl<A: Allocator> Runner<A> {
         ensures costs { AttemptCosts req.now literals start result self.old self.new allowed.old allowed.new }
         ensures halted { IfErr result (Halted allowed.new) }
     {
-        let limited = allowed.is_limited();
-        let mut left = allowed.left();
-        let told = run_from(
-            req,
-            literals,
-            start,
-            &mut self.board,
-            &mut self.memo,
-            &mut self.begun,
-            limited,
-            &mut left,
-        );
-        self.memo.rest();
-        allowed.leave(left);
+        let told = self.run_from(req, literals, start, allowed);
         if !matches!(told, Ok(Some(_))) {
             self.board.clear();
         }
+        told
+    }
+
+    // Where failures come to be kept in the course of a run, it goes on with what it saved, or, where it is limited,
+    // begins again. Then it takes the turns that were waited, and those of a run that keeps failures.
+    #[inline(always)]
+    fn run_from<S: StrDrive>(
+        &mut self,
+        req: &Request<'_, S>,
+        literals: usize,
+        start: StringCursor,
+        allowed: &mut Allowance,
+    ) -> Result<Option<StringCursor>, Halt>
+        requires may { MayRun req.now literals start }
+        requires ready { IsReady req.now self.old }
+        ensures began { Began (is_limited allowed.old) self.old self.new }
+        ensures remembers { Recalls (run_of req.now) self.new.memo }
+        ensures decides { AttemptDecides req.now literals start.position result self.new.board }
+        ensures costs { AttemptCosts req.now literals start result self.old self.new allowed.old allowed.new }
+        ensures halted { IfErr result (Halted allowed.new) }
+    {
+        self.begun.started += 1;
+        match self.run_once(req, literals, start, allowed)? {
+            Decision::Decided(found) => Ok(found),
+            Decision::Opened => self.run_anew(req, literals, start, allowed),
+        }
+    }
+
+    // A run that begins again on an empty board with its memo open, which is counted. It is out of line, since few runs
+    // begin again.
+    #[inline(never)]
+    fn run_anew<S: StrDrive>(
+        &mut self,
+        req: &Request<'_, S>,
+        literals: usize,
+        start: StringCursor,
+        allowed: &mut Allowance,
+    ) -> Result<Option<StringCursor>, Halt>
+        requires may { MayRun req.now literals start }
+        requires room { self.old.restarted + 1 < 2 ^ 64 }
+        requires remembers { Recalls (run_of req.now) self.old.memo }
+        ensures started { self.new.started ≡ self.old.started }
+        ensures restarted { self.new.restarted ≡ self.old.restarted + 1 }
+        ensures remembers { Recalls (run_of req.now) self.new.memo }
+        ensures decides { AttemptDecides req.now literals start.position result self.new.board }
+        ensures spends { Spends result allowed.old allowed.new }
+        ensures costs { AnewCosts req.now literals start self.new.memo result allowed.old allowed.new }
+    {
+        self.board.clear();
+        self.memo.open();
+        self.begun.restarted += 1;
+        match self.run_once(req, literals, start, allowed)? {
+            Decision::Decided(found) => Ok(found),
+            Decision::Opened => unreachable!(),
+        }
+    }
+
+    // A run on an empty board, until it is decided or another is to begin with failures kept.
+    #[inline(always)]
+    fn run_once<S: StrDrive>(
+        &mut self,
+        req: &Request<'_, S>,
+        literals: usize,
+        start: StringCursor,
+        allowed: &mut Allowance,
+    ) -> Result<Decision, Halt>
+        requires may { MayRun req.now literals start }
+        requires fresh { self.old.board ≡ bare no_marks }
+        requires remembers { Recalls (run_of req.now) self.old.memo }
+        ensures same { self.new ≡ record self.old { board = self.new.board; memo = self.new.memo } }
+        ensures remembers { Recalls (run_of req.now) self.new.memo }
+        ensures decides { RunDecides req.now literals start.position result self.new.board self.old.memo allowed.old }
+        ensures spends { Spends result allowed.old allowed.new }
+        ensures costs { RunCosts req.now literals start self.old.memo self.new.memo result allowed.old allowed.new }
+    {
+        know_words(req.pattern_codes().items());
+        let (board, memo) = (&mut self.board, &mut self.memo);
+        let blank = Blank::new(1);
+        let told = turns_from::<Brand, Brand, S, A>(
+            req, board, memo, literals, start, blank, allowed,
+        );
+        self.memo.rest();
         told
     }
 }

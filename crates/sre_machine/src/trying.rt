@@ -13,7 +13,7 @@ ghost use Rattle.sre_turns.specs.MovesAtReferences.{HasReference};
 ghost use Rattle.sre_turns.specs.Asked.{MarksAlike, Unmarked};
 ghost use Rattle.sre_machine.specs.Memos.{Recalls};
 ghost use Rattle.sre_request.specs.Runs.{run_of, OpcodeAt};
-ghost use Rattle.sre_machine.specs.Turns.{At, Fails, Takes, GivesUp, GoesOn, TriesOn, StaysAt};
+ghost use Rattle.sre_machine.specs.Turns.{At, Fails, Takes, TriesOn, IsKeeping, LeavesOrStays};
 ghost use Rattle.sre_turns.specs.RunEnds.{RunsOn};
 ghost use Rattle.sre_growth.specs.Refusal.{Refused};
 
@@ -98,12 +98,7 @@ fn keeping_at<S: StrDrive, A: Allocator>(
 ) -> Keeping
     requires stands { At req.now place cursor }
     requires remembers { Recalls (run_of req.now) memo.now }
-    ensures opened { result ≢ Keeping.Nothing → memo.now.is_open ≡ true }
-    ensures unmarked { result ≡ Keeping.Unmarked → Unmarked (run_of req.now).words board.now.marks }
-    ensures marked { result ≡ Keeping.Marked
-        → MarksAlike (run_of req.now).words memo.now.marked.marks board.now.marks }
-    ensures refers { result ≡ Keeping.Marked → HasReference (run_of req.now).words }
-    ensures left { result ≡ Keeping.Nothing → memo.now.is_open ≡ true → HasReference (run_of req.now).words }
+    ensures { IsKeeping req.now result board.now memo.now }
 {
     if !memo.is_open() {
         return Keeping::Nothing;
@@ -178,9 +173,7 @@ fn has_failed<S: StrDrive, A: Allocator>(
     requires opened { memo.old.is_open ≡ true }
     requires unmarked { Unmarked (run_of req.now).words board.old.marks }
     ensures remembers { Recalls (run_of req.now) memo.new }
-    ensures left { result ≡ true → GivesUp req.now place cursor board.old memo.old board.new memo.new }
-    ensures stays { result ≡ false → StaysAt req.now place cursor board.old board.new }
-    ensures goes { result ≡ false → GoesOn req.now place cursor board.old memo.old board.new memo.new }
+    ensures leaves { LeavesOrStays req.now place cursor result board.old memo.old board.new memo.new }
     ensures tries { result ≡ false → TriesOn req.now place cursor board.old memo.old board.new memo.new }
     ensures still { memo.new.is_open ≡ true ⊎ Refused }
 {
@@ -209,9 +202,7 @@ fn has_failed_marked<S: StrDrive, A: Allocator>(
     requires marked { MarksAlike (run_of req.now).words memo.old.marked.marks board.old.marks }
     requires refers { HasReference (run_of req.now).words }
     ensures remembers { Recalls (run_of req.now) memo.new }
-    ensures left { result ≡ true → GivesUp req.now place cursor board.old memo.old board.new memo.new }
-    ensures stays { result ≡ false → StaysAt req.now place cursor board.old board.new }
-    ensures goes { result ≡ false → GoesOn req.now place cursor board.old memo.old board.new memo.new }
+    ensures leaves { LeavesOrStays req.now place cursor result board.old memo.old board.new memo.new }
     ensures tries { result ≡ false → TriesOn req.now place cursor board.old memo.old board.new memo.new }
     ensures still { memo.old.is_open ≡ true → memo.new.is_open ≡ true ⊎ Refused }
 {
@@ -260,16 +251,9 @@ fn is_hopeless<S: StrDrive, A: Allocator>(
 ) -> bool
     requires stands { At req.now place cursor }
     requires remembers { Recalls (run_of req.now) memo.old }
-    requires opened { keeping ≢ Keeping.Nothing → memo.old.is_open ≡ true }
-    requires unmarked { keeping ≡ Keeping.Unmarked → Unmarked (run_of req.now).words board.old.marks }
-    requires marked { keeping ≡ Keeping.Marked
-        → MarksAlike (run_of req.now).words memo.old.marked.marks board.old.marks }
-    requires refers { keeping ≡ Keeping.Marked → HasReference (run_of req.now).words }
-    requires left { keeping ≡ Keeping.Nothing → memo.old.is_open ≡ true → HasReference (run_of req.now).words }
+    requires keeping { IsKeeping req.now keeping board.old memo.old }
     ensures remembers { Recalls (run_of req.now) memo.new }
-    ensures left { result ≡ true → GivesUp req.now place cursor board.old memo.old board.new memo.new }
-    ensures stays { result ≡ false → StaysAt req.now place cursor board.old board.new }
-    ensures goes { result ≡ false → GoesOn req.now place cursor board.old memo.old board.new memo.new }
+    ensures leaves { LeavesOrStays req.now place cursor result board.old memo.old board.new memo.new }
     ensures tries { result ≡ false → keeping ≢ Keeping.Nothing → RunsOn (run_of req.now).words place
         → TriesOn req.now place cursor board.old memo.old board.new memo.new }
     ensures closed { memo.old.is_open ≡ false → memo.new ≡ memo.old }

@@ -1,21 +1,17 @@
 //! The machine's loop: turns until the whole is decided.
 
-ghost use Rattle.std.specs.Prelude.{None, ◌≡◌, ◌≢◌, ℕ, ◌+◌, ◌-◌, ◌*◌, ◌^◌, ◌<◌, ◌≤◌, [], List, IfOk, IfErr};
-ghost use Rattle.std.specs.Prelude.{true, false};
-ghost use Rattle.sre_model.specs.Marks.{no_marks};
-ghost use Rattle.sre_model.specs.Tree.{Tree};
+ghost use Rattle.std.specs.Prelude.{◌≡◌, ◌≢◌, ℕ, ◌+◌, ◌-◌, ◌*◌, ◌^◌, ◌<◌, ◌≤◌, [], List, IfOk, IfErr, true, false};
 ghost use Rattle.sre_model.specs.Ways.{Way};
-ghost use Rattle.sre_model.specs.Grammar.{WholeItems};
-ghost use Rattle.sre_model.specs.Prefixes.{behind_items, ReadsBehind};
-ghost use Rattle.sre_model.specs.TurnBounds.{turns_of, most_each};
-ghost use Rattle.sre_turns.specs.Board.{bare};
-ghost use Rattle.sre_turns.specs.Machine.{StandsWithin, SaysAccepted, Decides, outcomes};
-ghost use Rattle.sre_machine.specs.Paying.{Remembering, each_of, GivenUp, Settles, Waited, IfDecided};
-ghost use Rattle.sre_machine.specs.Paying.{RunGivenUp, RunSettles, AnewGivenUp, AnewSettles};
+ghost use Rattle.sre_model.specs.TurnBounds.{most_each};
+ghost use Rattle.sre_turns.specs.Machine.{StandsWithin, SaysAccepted, Decides};
+ghost use Rattle.sre_machine.specs.Allowances.{is_limited, left_of};
 ghost use Rattle.sre_machine.specs.Memos.{Recalls};
-ghost use Rattle.sre_request.specs.Requests.{end_of, asked_of};
-ghost use Rattle.sre_request.specs.Runs.{run_of, Standing};
+ghost use Rattle.sre_machine.specs.Paying.{Remembering, each_of, IfDecided};
+ghost use Rattle.sre_machine.specs.Spending.{TurnsDecide, Spends, TurnsCost};
+ghost use Rattle.sre_request.specs.Requests.{asked_of};
+ghost use Rattle.sre_request.specs.Runs.{run_of};
 
+use crate::allowance::Allowance;
 use crate::machine::{back, instruction};
 use crate::memo::Memo;
 use crate::possessive_loops::again;
@@ -23,7 +19,6 @@ use crate::regions::end;
 use crate::trying::instruction_or_back;
 use sre_board::Board;
 use sre_chars::string::{StrDrive, StringCursor};
-use sre_code::operands::know_words;
 use sre_growth::Refusal;
 use sre_request::Request;
 use sre_turns::Next;
@@ -66,7 +61,7 @@ impl<L: Ledger> Turned<L> {
 }
 
 // What the accepted outcomes of a run begin with, and how many turns it takes at most.
-trait Plan {
+pub(crate) trait Plan {
     ghost all: { List Way };
 
     ghost limit: { ℕ };
@@ -159,15 +154,16 @@ fn turns_due<S: StrDrive, A: Allocator>(
 // Takes so many turns off those that are left, and says whether there were as many. Where turns are not limited nothing
 // is taken.
 #[inline(always)]
-fn takes_turns(limited: bool, turns: u64, left: &mut u64) -> bool
-    ensures spent { left.old ≤ left.new + turns }
-    ensures fewer { left.new ≤ left.old }
-    ensures taken { result ≡ true → limited ≡ true → left.old ≡ left.new + turns }
-    ensures used { result ≡ false → (limited ≡ true) × (left.new ≡ 0) }
+fn takes_turns(turns: u64, allowed: &mut Allowance) -> bool
+    ensures limited { is_limited allowed.new ≡ is_limited allowed.old }
+    ensures spent { left_of allowed.old ≤ left_of allowed.new + turns }
+    ensures fewer { left_of allowed.new ≤ left_of allowed.old }
+    ensures taken { result ≡ true → is_limited allowed.old ≡ true → left_of allowed.old ≡ left_of allowed.new + turns }
+    ensures used { result ≡ false → (is_limited allowed.old ≡ true) × (left_of allowed.new ≡ 0) }
 {
-    if !limited {
+    let Allowance::Turns(left) = allowed else {
         return true;
-    }
+    };
     if *left < turns {
         *left = 0;
         return false;
@@ -179,6 +175,7 @@ fn takes_turns(limited: bool, turns: u64, left: &mut u64) -> bool
 // Whether turns wait before failures are kept: they are limited, and none are kept yet.
 #[inline(always)]
 fn may_wait<A: Allocator>(memo: &Memo<A>, limited: bool) -> bool
+    ensures limited { result ≡ true → limited ≡ true }
     ensures closed { result ≡ true → memo.now.is_open ≡ false }
     ensures waits { limited ≡ true → memo.now.is_open ≡ false → result ≡ true }
 {
@@ -207,30 +204,18 @@ fn remembering_turns<L: Ledger, K: Plan, S: StrDrive, A: Allocator>(
     memo: &mut Memo<A>,
     first: Next,
     turned: &mut Turned<L>,
-    limited: bool,
-    left: &mut u64,
+    allowed: &mut Allowance,
 ) -> Result<Decision, Halt>
     requires within { turned.old ≤ K.limit }
     requires stands { StandsWithin (run_of req.now) K.all (K.limit - turned.old) first board.old }
     requires remembers { Recalls (run_of req.now) memo.old }
-    ensures decides { IfOk result
-        (λ told. IfDecided told (λ found. Decides (run_of req.now) K.all found board.new.marks)) }
-    ensures opened { memo.old.is_open ≡ true → IfOk result (λ told. told ≢ Decision.Opened) }
+    ensures decides { TurnsDecide req.now K.all result board.new memo.old allowed.old }
     ensures remembers { Recalls (run_of req.now) memo.new }
-    ensures fewer { left.new ≤ left.old }
-    ensures spent { left.old ≤ left.new + (K.limit + 1) * most_each (asked_of req.now) }
-    ensures used { IfErr result (λ halt. halt ≡ Halt.UsedUp → (limited ≡ true) × (left.new ≡ 0)) }
-    ensures given_up { IfErr result (λ halt. halt ≡ Halt.UsedUp
-        → GivenUp req.now K.all first board.old memo.old turned.old left.old left.new) }
-    ensures settles { IfOk result (λ told. told ≡ Decision.Decided None
-        → Settles req.now K.all first board.old memo.old memo.new turned.old left.old left.new) }
-    ensures waited { limited ≡ true → memo.old.is_open ≡ false → Remembering req.now → IfOk result (λ told.
-        told ≢ Decision.Opened → Waited memo.old memo.new left.old left.new) }
-    ensures waited_out { limited ≡ true → memo.old.is_open ≡ false → Remembering req.now → IfOk result (λ told.
-        told ≡ Decision.Opened → left.old ≤ left.new + memo.old.waits) }
-    ensures waited_up { limited ≡ true → memo.old.is_open ≡ false → Remembering req.now
-        → IfErr result (λ halt. halt ≡ Halt.UsedUp → left.old ≤ left.new + memo.old.waits) }
+    ensures spends { Spends result allowed.old allowed.new }
+    ensures costs { TurnsCost req.now K.all K.limit first board.old memo.old memo.new turned.old result allowed.old
+        allowed.new }
 {
+    let limited = allowed.is_limited();
     let waits = may_wait(memo, limited);
     let mut next = first;
     'turn: loop {
@@ -238,7 +223,7 @@ fn remembering_turns<L: Ledger, K: Plan, S: StrDrive, A: Allocator>(
         if !waits_on(memo, waits, turns) {
             return Ok(Decision::Opened);
         }
-        if !takes_turns(limited, turns, left) {
+        if !takes_turns(turns, allowed) {
             return Err(Halt::UsedUp);
         }
         turned.tick();
@@ -266,7 +251,7 @@ fn remembering_turns<L: Ledger, K: Plan, S: StrDrive, A: Allocator>(
 
 // The same with no limit, and with no failure kept until the memo opens. Then the run goes on: what it saved before is
 // resumed once at most, and what comes after is remembered. It is one function out of line, whatever its size, so that
-// `run_from` is inlined where a search tries its starts.
+// `Runner::attempt` is inlined where a search tries its starts.
 #[inline(never)]
 fn turns<L: Ledger, K: Plan, S: StrDrive, A: Allocator>(
     req: &Request<'_, S>,
@@ -298,11 +283,9 @@ fn turns<L: Ledger, K: Plan, S: StrDrive, A: Allocator>(
             }
             Next::Back => {
                 if memo.opens(req, board) {
-                    let (limited, left) = (false, &mut 0);
                     let back = Next::Back;
-                    return remembering_turns::<L, K, S, A>(
-                        req, board, memo, back, turned, limited, left,
-                    );
+                    let allowed = &mut Allowance::Unlimited;
+                    return remembering_turns::<L, K, S, A>(req, board, memo, back, turned, allowed);
                 }
                 turned.tick();
                 match back::<S, A, false>(req, board, memo)? {
@@ -326,17 +309,16 @@ fn turns<L: Ledger, K: Plan, S: StrDrive, A: Allocator>(
     }
 }
 
-// Turns from the place behind some literals, on an empty board.
+// Turns from the place behind some literals, of which none was taken.
 #[inline(always)]
-fn turns_from<L: Ledger, K: Plan, S: StrDrive, A: Allocator>(
+pub(crate) fn turns_from<L: Ledger, K: Plan, S: StrDrive, A: Allocator>(
     req: &Request<'_, S>,
     board: &mut Board<A>,
+    memo: &mut Memo<A>,
     literals: usize,
     start: StringCursor,
-    memo: &mut Memo<A>,
     blank: Blank,
-    limited: bool,
-    left: &mut u64,
+    allowed: &mut Allowance,
 ) -> Result<Decision, Halt>
     requires name { blank.name ≡ L.name }
     requires parts { blank.parts ≡ L.parts }
@@ -344,195 +326,18 @@ fn turns_from<L: Ledger, K: Plan, S: StrDrive, A: Allocator>(
     requires room { 2 * literals < 2 ^ 64 }
     requires stands { StandsWithin (run_of req.now) K.all K.limit (Next.At (2 * literals) start) board.old }
     requires remembers { Recalls (run_of req.now) memo.old }
+    ensures decides { TurnsDecide req.now K.all result board.new memo.old allowed.old }
     ensures remembers { Recalls (run_of req.now) memo.new }
-    ensures decides { IfOk result
-        (λ told. IfDecided told (λ found. Decides (run_of req.now) K.all found board.new.marks)) }
-    ensures opened { memo.old.is_open ≡ true → IfOk result (λ told. told ≢ Decision.Opened) }
-    ensures unlimited { limited ≡ false → IfOk result (λ told. told ≢ Decision.Opened) }
-    ensures fewer { left.new ≤ left.old }
-    ensures spent { left.old ≤ left.new + (K.limit + 1) * most_each (asked_of req.now) }
-    ensures used { IfErr result (λ halt. halt ≡ Halt.UsedUp → (limited ≡ true) × (left.new ≡ 0)) }
-    ensures given_up { IfErr result (λ halt. halt ≡ Halt.UsedUp
-        → GivenUp req.now K.all (Next.At (2 * literals) start) board.old memo.old 0 left.old left.new) }
-    ensures settles { limited ≡ true → IfOk result (λ told. told ≡ Decision.Decided None
-        → Settles req.now K.all (Next.At (2 * literals) start) board.old memo.old memo.new 0 left.old left.new) }
-    ensures waited { limited ≡ true → memo.old.is_open ≡ false → Remembering req.now → IfOk result (λ told.
-        told ≢ Decision.Opened → Waited memo.old memo.new left.old left.new) }
-    ensures waited_out { limited ≡ true → memo.old.is_open ≡ false → Remembering req.now → IfOk result (λ told.
-        told ≡ Decision.Opened → left.old ≤ left.new + memo.old.waits) }
-    ensures waited_up { limited ≡ true → memo.old.is_open ≡ false → Remembering req.now
-        → IfErr result (λ halt. halt ≡ Halt.UsedUp → left.old ≤ left.new + memo.old.waits) }
+    ensures spends { Spends result allowed.old allowed.new }
+    ensures costs { TurnsCost req.now K.all K.limit (Next.At (2 * literals) start) board.old memo.old memo.new 0
+        result allowed.old allowed.new }
 {
     let (book, share) = blank.open::<L>();
     let mut turned = Turned { book, share };
-    if limited || memo.is_open() {
+    if allowed.is_limited() || memo.is_open() {
         let first = Next::At(2 * literals, start);
-        remembering_turns::<L, K, S, A>(req, board, memo, first, &mut turned, limited, left)
+        remembering_turns::<L, K, S, A>(req, board, memo, first, &mut turned, allowed)
     } else {
         turns::<L, K, S, A>(req, board, memo, 2 * literals, start, &mut turned)
-    }
-}
-
-// A run on an empty board, which is counted, until it is decided or another is to begin with failures kept.
-#[inline(always)]
-fn run_once<S: StrDrive, A: Allocator>(
-    req: &Request<'_, S>,
-    literals: usize,
-    start: StringCursor,
-    board: &mut Board<A>,
-    memo: &mut Memo<A>,
-    begun: &mut u64,
-    limited: bool,
-    left: &mut u64,
-) -> Result<Decision, Halt>
-    requires stands { Standing req.now start }
-    requires inside { start.position ≤ end_of req.now }
-    requires fresh { board.old ≡ bare no_marks }
-    requires behind { (t : Tree) → WholeItems (run_of req.now).words t → ReadsBehind (run_of req.now).words literals t }
-    requires room { 2 * literals < 2 ^ 64 }
-    requires few { begun.old + 1 < 2 ^ 64 }
-    requires remembers { Recalls (run_of req.now) memo.old }
-    ensures remembers { Recalls (run_of req.now) memo.new }
-    ensures counted { begun.new ≡ begun.old + 1 }
-    ensures decides { (t : Tree) → WholeItems (run_of req.now).words t
-        → IfOk result (λ told. IfDecided told
-        (λ found. Decides (run_of req.now)
-        (outcomes (run_of req.now) (behind_items literals t) start.position) found board.new.marks)) }
-    ensures opened { memo.old.is_open ≡ true → IfOk result (λ told. told ≢ Decision.Opened) }
-    ensures unlimited { limited ≡ false → IfOk result (λ told. told ≢ Decision.Opened) }
-    ensures fewer { left.new ≤ left.old }
-    ensures spent { (t : Tree) → WholeItems (run_of req.now).words t
-        → left.old ≤ left.new + turns_of (run_of req.now).subject (behind_items literals t) start.position
-        * most_each (asked_of req.now) }
-    ensures used { IfErr result (λ halt. halt ≡ Halt.UsedUp → (limited ≡ true) × (left.new ≡ 0)) }
-    ensures given_up { IfErr result (λ halt. halt ≡ Halt.UsedUp
-        → RunGivenUp req.now start memo.old left.old left.new) }
-    ensures settles { limited ≡ true → IfOk result (λ told. told ≡ Decision.Decided None
-        → RunSettles req.now start memo.old memo.new left.old left.new) }
-    ensures waited_out { limited ≡ true → memo.old.is_open ≡ false → Remembering req.now → IfOk result (λ told.
-        told ≡ Decision.Opened → left.old ≤ left.new + memo.old.waits) }
-{
-    know_words(req.pattern_codes().items());
-    *begun += 1;
-    turns_from::<Brand, Brand, S, A>(
-        req,
-        board,
-        literals,
-        start,
-        memo,
-        Blank::new(1),
-        limited,
-        left,
-    )
-}
-
-// A run that begins again on an empty board with its memo open, which is counted. It is out of line, since few runs
-// begin again.
-#[inline(never)]
-fn run_anew<S: StrDrive, A: Allocator>(
-    req: &Request<'_, S>,
-    literals: usize,
-    start: StringCursor,
-    board: &mut Board<A>,
-    memo: &mut Memo<A>,
-    begun: &mut u64,
-    limited: bool,
-    left: &mut u64,
-) -> Result<Option<StringCursor>, Halt>
-    requires stands { Standing req.now start }
-    requires inside { start.position ≤ end_of req.now }
-    requires behind { (t : Tree) → WholeItems (run_of req.now).words t → ReadsBehind (run_of req.now).words literals t }
-    requires room { 2 * literals < 2 ^ 64 }
-    requires few { begun.old + 1 < 2 ^ 64 }
-    requires remembers { Recalls (run_of req.now) memo.old }
-    ensures remembers { Recalls (run_of req.now) memo.new }
-    ensures counted { begun.new ≡ begun.old + 1 }
-    ensures decides { (t : Tree) → WholeItems (run_of req.now).words t
-        → IfOk result
-        (λ found. Decides (run_of req.now)
-        (outcomes (run_of req.now) (behind_items literals t) start.position) found board.new.marks) }
-    ensures fewer { left.new ≤ left.old }
-    ensures spent { (t : Tree) → WholeItems (run_of req.now).words t
-        → left.old ≤ left.new + turns_of (run_of req.now).subject (behind_items literals t) start.position
-        * most_each (asked_of req.now) }
-    ensures used { IfErr result (λ halt. halt ≡ Halt.UsedUp → (limited ≡ true) × (left.new ≡ 0)) }
-    ensures given_up { IfErr result (λ halt. halt ≡ Halt.UsedUp → AnewGivenUp req.now start left.old left.new) }
-    ensures settles { limited ≡ true → IfOk result (λ found. found ≡ None
-        → AnewSettles req.now start memo.new left.old left.new) }
-{
-    board.clear();
-    memo.open();
-    match run_once(req, literals, start, board, memo, begun, limited, left)? {
-        Decision::Decided(found) => Ok(found),
-        Decision::Opened => unreachable!(),
-    }
-}
-
-/// Runs the machine from a cursor behind some literals that the words begin with, on an empty board: the cursor at the
-/// end of the first accepted way of what follows these literals, whose marks are then on the board, or `None` where no
-/// way is accepted. Where it is limited it takes its turns off those that are left, and is given up where none is.
-///
-/// Where failures come to be kept in its course, it goes on with what it saved, or, where it is limited, begins again.
-/// Then it takes the turns that were waited, and those of a run that keeps failures. Each run is counted.
-#[inline(always)]
-pub fn run_from<S: StrDrive, A: Allocator>(
-    req: &Request<'_, S>,
-    literals: usize,
-    start: StringCursor,
-    board: &mut Board<A>,
-    memo: &mut Memo<A>,
-    begun: &mut Begun,
-    limited: bool,
-    left: &mut u64,
-) -> Result<Option<StringCursor>, Halt>
-    requires stands { Standing req.now start }
-    requires inside { start.position ≤ end_of req.now }
-    requires fresh { board.old ≡ bare no_marks }
-    requires behind { (t : Tree) → WholeItems (run_of req.now).words t → ReadsBehind (run_of req.now).words literals t }
-    requires room { 2 * literals < 2 ^ 64 }
-    requires few { begun.old.started + 1 < 2 ^ 64 }
-    requires few_restarted { begun.old.restarted + 1 < 2 ^ 64 }
-    requires remembers { Recalls (run_of req.now) memo.old }
-    ensures remembers { Recalls (run_of req.now) memo.new }
-    ensures counted { begun.new.started ≡ begun.old.started + 1 }
-    ensures restarted { (begun.old.restarted ≤ begun.new.restarted) × (begun.new.restarted ≤ begun.old.restarted + 1) }
-    ensures unlimited { limited ≡ false → begun.new.restarted ≡ begun.old.restarted }
-    ensures decides { (t : Tree) → WholeItems (run_of req.now).words t
-        → IfOk result
-        (λ found. Decides (run_of req.now)
-        (outcomes (run_of req.now) (behind_items literals t) start.position) found board.new.marks) }
-    ensures fewer { left.new ≤ left.old }
-    ensures spent { (t : Tree) → WholeItems (run_of req.now).words t
-        → left.old ≤ left.new + (1 + begun.new.restarted - begun.old.restarted)
-        * (turns_of (run_of req.now).subject (behind_items literals t) start.position * most_each (asked_of req.now)) }
-    ensures used { IfErr result (λ halt. halt ≡ Halt.UsedUp → (limited ≡ true) × (left.new ≡ 0)) }
-    ensures given_up { IfErr result (λ halt. halt ≡ Halt.UsedUp
-        → RunGivenUp req.now start memo.old left.old left.new) }
-    ensures settles { limited ≡ true → IfOk result (λ found. found ≡ None
-        → RunSettles req.now start memo.old memo.new left.old left.new) }
-{
-    match run_once(
-        req,
-        literals,
-        start,
-        board,
-        memo,
-        &mut begun.started,
-        limited,
-        left,
-    )? {
-        Decision::Decided(found) => Ok(found),
-        Decision::Opened => {
-            run_anew(
-                req,
-                literals,
-                start,
-                board,
-                memo,
-                &mut begun.restarted,
-                limited,
-                left,
-            )
-        }
     }
 }

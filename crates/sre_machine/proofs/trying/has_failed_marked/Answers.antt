@@ -8,14 +8,16 @@ use Rattle.sre_turns.proofs.Trying.{hopeless_left}
 use Rattle.sre_request.specs.Runs.{run_of}
 use Rattle.sre_board.specs.Failures.{Holds}
 use Rattle.sre_board.proofs.Remembering.{remembers_still}
-use Rattle.sre_machine.proofs.Failing.{stays_tried}
+use Rattle.sre_machine.proofs.Failing.{left_at_once, stays_on, stays_tried}
 use Rattle.sre_machine.proofs.Opening.{goes_marked, tries_marked}
 use Rattle.sre_machine.proofs.Paying.{pays_left}
 use Rattle.sre_machine.proofs.Recalling.{recalls_still}
 use Rattle.sre_machine.proofs.trying.has_failed_marked.Goals as goal
 
-pub returns-in-Failed-clause-left : goal.returns-in-Failed-clause-left
-returns-in-Failed-clause-left g c = λ _ all limit arrives.
+pub returns-in-Failed-clause-leaves : goal.returns-in-Failed-clause-leaves
+returns-in-Failed-clause-leaves g c =
+    left_at_once c.args.req.now c.args.place c.args.cursor c.args.board.now c.args.board.now c.args.memo.now
+    c.prepare_marked.new.self (λ all limit arrives.
     let r = run_of c.args.req.now in
     let b = c.args.board.now in
     let inside = is_inside b.choices in
@@ -30,7 +32,7 @@ returns-in-Failed-clause-left g c = λ _ all limit arrives.
           (remembers_still r m.marked.marks m.marked.kept m'.marked.kept c.prepare_marked.ensures.no_more
           c.requires.remembers.marked inside x held) all limit arrives,
       pays_left c.args.req.now m m' limit limit (λ _. c.requires.refers),
-    )
+    ))
 
 pub returns-in-Failed-clause-remembers : goal.returns-in-Failed-clause-remembers
 returns-in-Failed-clause-remembers g c =
@@ -47,16 +49,15 @@ returns-in-NoBit-clause-remembers g c =
     recalls_still (run_of c.args.req.now) c.args.memo.now c.prepare_marked.new.self c.prepare_marked.ensures.kept
     c.prepare_marked.ensures.marks c.prepare_marked.ensures.end c.prepare_marked.ensures.no_more c.requires.remembers
 
-pub returns-in-Open-clause-stays : goal.returns-in-Open-clause-stays
-returns-in-Open-clause-stays g c = λ _.
-    stays_tried (run_of c.args.req.now) c.args.place c.args.cursor _ _ c.begin_trying-made.result
-    c.begin_trying-made.ensures.marked c.begin_trying-made.ensures.left
-
-pub returns-in-Open-clause-goes : goal.returns-in-Open-clause-goes
-returns-in-Open-clause-goes g c = λ _ all limit arrives.
+pub returns-in-Open-clause-leaves : goal.returns-in-Open-clause-leaves
+returns-in-Open-clause-leaves g c =
+    stays_on c.args.req.now c.args.place c.args.cursor c.args.board.now c.begin_trying-made.new.self c.args.memo.now
+    c.prepare_marked.new.self
+    (stays_tried (run_of c.args.req.now) c.args.place c.args.cursor _ _ c.begin_trying-made.result
+    c.begin_trying-made.ensures.marked c.begin_trying-made.ensures.left) (λ all limit arrives.
     goes_marked c.args.req.now c.args.place c.args.cursor c.args.board.now c.args.memo.now c.prepare_marked.new.self
     c.requires.refers all limit arrives c.begin_trying-made.new.self c.begin_trying-made.result
-    c.begin_trying-made.ensures.marked c.begin_trying-made.ensures.left
+    c.begin_trying-made.ensures.marked c.begin_trying-made.ensures.left)
 
 pub returns-in-Open-clause-tries : goal.returns-in-Open-clause-tries
 returns-in-Open-clause-tries g c = λ _ all limit arrives.
@@ -64,10 +65,12 @@ returns-in-Open-clause-tries g c = λ _ all limit arrives.
     c.requires.refers all limit arrives c.begin_trying-made.new.self c.begin_trying-made.result
     c.begin_trying-made.ensures.marked c.begin_trying-made.ensures.left
 
-pub returns-in-NoBit-clause-goes : goal.returns-in-NoBit-clause-goes
-returns-in-NoBit-clause-goes g c = λ _ all limit arrives.
+pub returns-in-NoBit-clause-leaves : goal.returns-in-NoBit-clause-leaves
+returns-in-NoBit-clause-leaves g c =
+    stays_on c.args.req.now c.args.place c.args.cursor c.args.board.now c.args.board.now c.args.memo.now
+    c.prepare_marked.new.self (λ x. x) (λ all limit arrives.
     goes_marked c.args.req.now c.args.place c.args.cursor c.args.board.now c.args.memo.now c.prepare_marked.new.self
-    c.requires.refers all limit arrives c.args.board.now false (λ e. absurd (true≢false (sym e))) (λ _. refl)
+    c.requires.refers all limit arrives c.args.board.now false (λ e. absurd (true≢false (sym e))) (λ _. refl))
 
 pub returns-in-NoBit-clause-tries : goal.returns-in-NoBit-clause-tries
 returns-in-NoBit-clause-tries g c = λ _ all limit arrives.

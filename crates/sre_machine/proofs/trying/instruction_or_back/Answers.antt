@@ -3,16 +3,16 @@ use Rattle.sre_machine.proofs.trying.instruction_or_back.Goals as goal
 
 pub instruction-requires : goal.instruction-requires
 instruction-requires g c =
-    c.is_hopeless.ensures.stays c.if-is_hopeless.false c.requires.stands
+    c.is_hopeless.ensures.leaves.stays c.if-is_hopeless.false c.requires.stands
 
 pub returns-then-is_hopeless-clause-turn : goal.returns-then-is_hopeless-clause-turn
 returns-then-is_hopeless-clause-turn g c =
-    turn_left c.args.req.now c.args.place c.args.cursor _ _ _ _ (c.is_hopeless.ensures.left c.if-is_hopeless.true)
+    turn_left c.args.req.now c.args.place c.args.cursor _ _ _ _ (c.is_hopeless.ensures.leaves.left c.if-is_hopeless.true)
 
 pub returns-clause-turn : goal.returns-clause-turn
 returns-clause-turn g c =
     turn_goes_on c.args.req.now c.args.place c.args.cursor _ _ _ _ _ c.instruction.result
-    (c.is_hopeless.ensures.goes c.if-is_hopeless.false)
+    (c.is_hopeless.ensures.leaves.goes c.if-is_hopeless.false)
     (paid_so c.args.req.now c.args.place c.args.memo.now c.is_hopeless.new.memo c.keeping_at-keeping.result
     c.keeping_at-keeping.ensures.left (c.goes_on_endlessly.ensures.off c.if-goes_on_endlessly.false))
     c.instruction.ensures

@@ -1,15 +1,20 @@
+use Rattle.sre_machine.proofs.Failing.{stays_on}
 use Rattle.sre_machine.proofs.Opening.{goes_freely, goes_forgetting, branches_not}
 use Rattle.sre_machine.proofs.trying.is_hopeless.Goals as goal
 
-pub returns-in-Nothing-clause-goes : goal.returns-in-Nothing-clause-goes
-returns-in-Nothing-clause-goes g c = λ _ all limit x.
+pub returns-in-Nothing-clause-leaves : goal.returns-in-Nothing-clause-leaves
+returns-in-Nothing-clause-leaves g c =
+    stays_on c.args.req.now c.args.place c.args.cursor c.args.board.now c.args.board.now c.args.memo.now
+    c.meet_marks.new.memo (λ x. x) (λ all limit x.
     goes_forgetting c.args.req.now c.args.place c.args.cursor c.args.board.now c.args.memo.now c.meet_marks.new.memo
-    all limit x (c.requires.left c.in-Nothing.is)
+    all limit x (c.requires.keeping.left c.in-Nothing.is))
 
-pub returns-then-not-may_branch-clause-goes : goal.returns-then-not-may_branch-clause-goes
-returns-then-not-may_branch-clause-goes g c = λ _ all limit x.
+pub returns-then-not-may_branch-clause-leaves : goal.returns-then-not-may_branch-clause-leaves
+returns-then-not-may_branch-clause-leaves g c =
+    stays_on c.args.req.now c.args.place c.args.cursor c.args.board.now c.args.board.now c.args.memo.now
+    c.args.memo.now (λ x. x) (λ all limit x.
     goes_freely c.args.req.now c.args.place c.args.cursor c.args.board.now c.args.memo.now c.args.memo.now all limit x
-    (c.may_branch.ensures c.if-not-may_branch.true)
+    (c.may_branch.ensures c.if-not-may_branch.true))
 
 pub returns-then-not-may_branch-clause-tries : goal.returns-then-not-may_branch-clause-tries
 returns-then-not-may_branch-clause-tries g c = λ _ _ on.

@@ -5,6 +5,7 @@ use Rattle.sre_model.proofs.TurnBounds.{turn_spent, last_spent}
 use Rattle.sre_request.specs.Runs.{run_of}
 use Rattle.sre_turns.proofs.Start.{accepted_first, refused_over}
 use Rattle.sre_machine.proofs.Recalling.{recalls_waited}
+use Rattle.sre_machine.specs.Allowances.{left_of}
 use Rattle.sre_machine.specs.Memos.{MemoValue}
 use Rattle.sre_machine.proofs.Taken.{stands_at, proceeds_taken, later_taken, again_taken, end_taken}
 use Rattle.sre_machine.specs.Paying.{Pays}
@@ -12,64 +13,18 @@ use Rattle.sre_machine.proofs.Following.{follows_on, given_up, settles, nothing_
 use Rattle.sre_machine.proofs.Following.{counts_on, waited_on, same_memo, kept_memo}
 use Rattle.sre_turns.proofs.Faring.{again_free}
 use Rattle.sre_turns.proofs.Moving.{arrived}
-use Rattle.sre_machine.proofs.Halting.{never_used}
 use Rattle.sre_machine.proofs.turns.remembering_turns.Goals as goal
-
-pub returns-then-not-takes_turns-clause-spent : goal.returns-then-not-takes_turns-clause-spent
-returns-then-not-takes_turns-clause-spent g c =
-    last_spent _ _ _ _ _ _ c.turn.invariant.spent (omega (
-      arith,
-      c.takes_turns.ensures.spent,
-      c.turns_due-turns.ensures.most,
-    )) c.turn.invariant.within
-
-pub returns-in_err-next-in-At-clause-spent : goal.returns-in_err-next-in-At-clause-spent
-returns-in_err-next-in-At-clause-spent g c =
-    last_spent _ _ _ _ _ _ c.turn.invariant.spent (omega (
-      arith,
-      c.takes_turns.ensures.spent,
-      c.turns_due-turns.ensures.most,
-    )) c.turn.invariant.within
-
-pub returns-in_err-next-in-Again-clause-spent : goal.returns-in_err-next-in-Again-clause-spent
-returns-in_err-next-in-Again-clause-spent g c =
-    last_spent _ _ _ _ _ _ c.turn.invariant.spent (omega (
-      arith,
-      c.takes_turns.ensures.spent,
-      c.turns_due-turns.ensures.most,
-    )) c.turn.invariant.within
-
-pub returns-in_err-after-in-Back-clause-spent : goal.returns-in_err-after-in-Back-clause-spent
-returns-in_err-after-in-Back-clause-spent g c =
-    last_spent _ _ _ _ _ _ c.turn.invariant.spent (omega (
-      arith,
-      c.takes_turns.ensures.spent,
-      c.turns_due-turns.ensures.most,
-    )) c.turn.invariant.within
-
-pub returns-in-None-clause-spent : goal.returns-in-None-clause-spent
-returns-in-None-clause-spent g c =
-    last_spent _ _ _ _ _ _ c.turn.invariant.spent (omega (
-      arith,
-      c.takes_turns.ensures.spent,
-      c.turns_due-turns.ensures.most,
-    )) c.turn.invariant.within
-
-pub returns-then-is_accepted-clause-spent : goal.returns-then-is_accepted-clause-spent
-returns-then-is_accepted-clause-spent g c =
-    last_spent _ _ _ _ _ _ c.turn.invariant.spent (omega (
-      arith,
-      c.takes_turns.ensures.spent,
-      c.turns_due-turns.ensures.most,
-    )) c.turn.invariant.within
 
 pub returns-then-is_accepted-clause-decides : goal.returns-then-is_accepted-clause-decides
 returns-then-is_accepted-clause-decides g c =
     let stands : StandsWithin (run_of c.args.req.now) g.K.Plan.all (g.K.Plan.limit - c.turn.turned) c.turn.next
     c.turns_due-turns.new.board = rw c.turns_due-turns.ensures.board c.turn.invariant.stands in
-    accepted_first (run_of c.args.req.now) _ stands.limit c.position.result c.turn.next c.in-Done.cursor
-    c.turns_due-turns.new.board c.end.new.board _ c.in-Done.is c.position.ensures c.is_accepted.ensures
-    c.in-None-end.ensures stands.stands c.if-is_accepted.true
+    record {
+      found = accepted_first (run_of c.args.req.now) _ stands.limit c.position.result c.turn.next c.in-Done.cursor
+          c.turns_due-turns.new.board c.end.new.board _ c.in-Done.is c.position.ensures c.is_accepted.ensures
+          c.in-None-end.ensures stands.stands c.if-is_accepted.true;
+      opened = λ o. absurd (cc o);
+    }
 
 pub turn-preserved : goal.turn-preserved
 turn-preserved g c =
@@ -101,28 +56,20 @@ turn-preserved g c =
           c.turn.invariant.remembers;
       counts =
           counts_on c.args.req.now g.K.Plan.all c.args.first c.args.board.now c.args.memo.now
-          c.args.turned.now c.turn.memo c.turn.turned c.args.left.now c.turn.left c.takes_turns.new.left
+          c.args.turned.now c.turn.memo c.turn.turned (left_of c.args.allowed.now) (left_of c.turn.allowed) (left_of c.takes_turns.new.allowed)
           c.turns_due-turns.result c.turn.invariant.counts c.turns_due-turns.ensures.each c.takes_turns.ensures.spent
           c.waits_on.new.memo c.tick.new.self c.tick.ensures
           (λ h. inl (ap (λ (k : MemoValue). k.is_open) c.waits_on.ensures.same ∙ h));
       waited = λ w.
-          waited_on c.args.memo.now c.turn.memo c.waits_on.new.memo c.waits_on.new.memo c.args.left.now c.turn.left
-          c.takes_turns.new.left c.turns_due-turns.result (c.turn.invariant.waited w) c.waits_on.ensures.same
+          waited_on c.args.memo.now c.turn.memo c.waits_on.new.memo c.waits_on.new.memo (left_of c.args.allowed.now) (left_of c.turn.allowed)
+          (left_of c.takes_turns.new.allowed) c.turns_due-turns.result (c.turn.invariant.waited w) c.waits_on.ensures.same
           (c.waits_on.ensures.waited c.if-not-waits_on.false w) c.takes_turns.ensures.spent
           (λ h. (refl, refl));
+      limited = c.takes_turns.ensures.limited ∙ c.turn.invariant.limited;
       fewer = omega (arith, c.turn.invariant.fewer, c.takes_turns.ensures.fewer);
       spent = rw c.tick.ensures (turn_spent _ _ _ _ _ c.turn.invariant.spent
           (omega (arith, c.takes_turns.ensures.spent, c.turns_due-turns.ensures.most)));
     }
-
-pub returns-in_err-next-in-At-clause-used : goal.returns-in_err-next-in-At-clause-used
-returns-in_err-next-in-At-clause-used g c = never_used _ _ c.from_residual.ensures.1
-
-pub returns-in_err-next-in-Again-clause-used : goal.returns-in_err-next-in-Again-clause-used
-returns-in_err-next-in-Again-clause-used g c = never_used _ _ c.from_residual-in_err-next-in-Again.ensures.1
-
-pub returns-in_err-after-in-Back-clause-used : goal.returns-in_err-after-in-Back-clause-used
-returns-in_err-after-in-Back-clause-used g c = never_used _ _ c.from_residual-in_err-after-in-Back.ensures.1
 
 pub turn-smaller-in-At : goal.turn-smaller-in-At
 turn-smaller-in-At g c =
@@ -159,16 +106,17 @@ turn-preserved-in-At g c =
       remembers = c.instruction_or_back.ensures.remembers;
       counts =
           counts_on c.args.req.now g.K.Plan.all c.args.first c.args.board.now c.args.memo.now
-          c.args.turned.now c.turn.memo c.turn.turned c.args.left.now c.turn.left c.takes_turns.new.left
+          c.args.turned.now c.turn.memo c.turn.turned (left_of c.args.allowed.now) (left_of c.turn.allowed) (left_of c.takes_turns.new.allowed)
           c.turns_due-turns.result c.turn.invariant.counts c.turns_due-turns.ensures.each c.takes_turns.ensures.spent
           c.instruction_or_back.new.memo c.tick.new.self c.tick.ensures
           (λ h. c.in_ok-next-in-At.ensures.still (ap (λ (k : MemoValue). k.is_open) c.waits_on.ensures.same ∙ h));
       waited = λ w.
-          waited_on c.args.memo.now c.turn.memo c.waits_on.new.memo c.instruction_or_back.new.memo c.args.left.now
-          c.turn.left
-          c.takes_turns.new.left c.turns_due-turns.result (c.turn.invariant.waited w) c.waits_on.ensures.same
+          waited_on c.args.memo.now c.turn.memo c.waits_on.new.memo c.instruction_or_back.new.memo (left_of c.args.allowed.now)
+          (left_of c.turn.allowed)
+          (left_of c.takes_turns.new.allowed) c.turns_due-turns.result (c.turn.invariant.waited w) c.waits_on.ensures.same
           (c.waits_on.ensures.waited c.if-not-waits_on.false w) c.takes_turns.ensures.spent
           (λ h. same_memo c.waits_on.new.memo c.instruction_or_back.new.memo (c.in_ok-next-in-At.ensures.closed h));
+      limited = c.takes_turns.ensures.limited ∙ c.turn.invariant.limited;
       fewer = omega (arith, c.turn.invariant.fewer, c.takes_turns.ensures.fewer);
       spent = rw c.tick.ensures (turn_spent _ _ _ _ _ c.turn.invariant.spent
           (omega (arith, c.takes_turns.ensures.spent, c.turns_due-turns.ensures.most)));
@@ -210,15 +158,16 @@ turn-preserved-in-Again g c =
           c.turn.invariant.remembers;
       counts =
           counts_on c.args.req.now g.K.Plan.all c.args.first c.args.board.now c.args.memo.now
-          c.args.turned.now c.turn.memo c.turn.turned c.args.left.now c.turn.left c.takes_turns.new.left
+          c.args.turned.now c.turn.memo c.turn.turned (left_of c.args.allowed.now) (left_of c.turn.allowed) (left_of c.takes_turns.new.allowed)
           c.turns_due-turns.result c.turn.invariant.counts c.turns_due-turns.ensures.each c.takes_turns.ensures.spent
           c.waits_on.new.memo c.tick.new.self c.tick.ensures
           (λ h. inl (ap (λ (k : MemoValue). k.is_open) c.waits_on.ensures.same ∙ h));
       waited = λ w.
-          waited_on c.args.memo.now c.turn.memo c.waits_on.new.memo c.waits_on.new.memo c.args.left.now c.turn.left
-          c.takes_turns.new.left c.turns_due-turns.result (c.turn.invariant.waited w) c.waits_on.ensures.same
+          waited_on c.args.memo.now c.turn.memo c.waits_on.new.memo c.waits_on.new.memo (left_of c.args.allowed.now) (left_of c.turn.allowed)
+          (left_of c.takes_turns.new.allowed) c.turns_due-turns.result (c.turn.invariant.waited w) c.waits_on.ensures.same
           (c.waits_on.ensures.waited c.if-not-waits_on.false w) c.takes_turns.ensures.spent
           (λ h. (refl, refl));
+      limited = c.takes_turns.ensures.limited ∙ c.turn.invariant.limited;
       fewer = omega (arith, c.turn.invariant.fewer, c.takes_turns.ensures.fewer);
       spent = rw c.tick.ensures (turn_spent _ _ _ _ _ c.turn.invariant.spent
           (omega (arith, c.takes_turns.ensures.spent, c.turns_due-turns.ensures.most)));
@@ -250,27 +199,20 @@ turn-preserved-in-Some-end g c =
           c.turn.invariant.remembers;
       counts =
           counts_on c.args.req.now g.K.Plan.all c.args.first c.args.board.now c.args.memo.now
-          c.args.turned.now c.turn.memo c.turn.turned c.args.left.now c.turn.left c.takes_turns.new.left
+          c.args.turned.now c.turn.memo c.turn.turned (left_of c.args.allowed.now) (left_of c.turn.allowed) (left_of c.takes_turns.new.allowed)
           c.turns_due-turns.result c.turn.invariant.counts c.turns_due-turns.ensures.each c.takes_turns.ensures.spent
           c.waits_on.new.memo c.tick.new.self c.tick.ensures
           (λ h. inl (ap (λ (k : MemoValue). k.is_open) c.waits_on.ensures.same ∙ h));
       waited = λ w.
-          waited_on c.args.memo.now c.turn.memo c.waits_on.new.memo c.waits_on.new.memo c.args.left.now c.turn.left
-          c.takes_turns.new.left c.turns_due-turns.result (c.turn.invariant.waited w) c.waits_on.ensures.same
+          waited_on c.args.memo.now c.turn.memo c.waits_on.new.memo c.waits_on.new.memo (left_of c.args.allowed.now) (left_of c.turn.allowed)
+          (left_of c.takes_turns.new.allowed) c.turns_due-turns.result (c.turn.invariant.waited w) c.waits_on.ensures.same
           (c.waits_on.ensures.waited c.if-not-waits_on.false w) c.takes_turns.ensures.spent
           (λ h. (refl, refl));
+      limited = c.takes_turns.ensures.limited ∙ c.turn.invariant.limited;
       fewer = omega (arith, c.turn.invariant.fewer, c.takes_turns.ensures.fewer);
       spent = rw c.tick.ensures (turn_spent _ _ _ _ _ c.turn.invariant.spent
           (omega (arith, c.takes_turns.ensures.spent, c.turns_due-turns.ensures.most)));
     }
-
-pub returns-then-not-takes_turns-clause-given_up : goal.returns-then-not-takes_turns-clause-given_up
-returns-then-not-takes_turns-clause-given_up g c = λ _.
-    given_up c.args.req.now g.K.Plan.all c.args.first c.args.board.now c.args.memo.now
-    c.args.turned.now c.turn.memo c.turn.turned c.args.left.now c.turn.left c.takes_turns.new.left
-    c.turns_due-turns.result c.turn.invariant.counts c.turns_due-turns.ensures.each c.takes_turns.ensures.spent
-    c.turn.next c.turn.board
-    c.turn.invariant.follows
 
 pub turn-preserved-in-Some : goal.turn-preserved-in-Some
 turn-preserved-in-Some g c =
@@ -296,51 +238,67 @@ turn-preserved-in-Some g c =
       remembers = c.in_ok-after-in-Back.ensures.remembers;
       counts =
           counts_on c.args.req.now g.K.Plan.all c.args.first c.args.board.now c.args.memo.now
-          c.args.turned.now c.turn.memo c.turn.turned c.args.left.now c.turn.left c.takes_turns.new.left
+          c.args.turned.now c.turn.memo c.turn.turned (left_of c.args.allowed.now) (left_of c.turn.allowed) (left_of c.takes_turns.new.allowed)
           c.turns_due-turns.result c.turn.invariant.counts c.turns_due-turns.ensures.each c.takes_turns.ensures.spent
           c.back.new.memo c.tick.new.self c.tick.ensures
           (λ h. inl (ap (λ (k : MemoValue). k.is_open) c.in_ok-after-in-Back.ensures.same ∙
           (ap (λ (k : MemoValue). k.is_open) c.waits_on.ensures.same ∙ h)));
       waited = λ w.
-          waited_on c.args.memo.now c.turn.memo c.waits_on.new.memo c.back.new.memo c.args.left.now c.turn.left
-          c.takes_turns.new.left c.turns_due-turns.result (c.turn.invariant.waited w) c.waits_on.ensures.same
+          waited_on c.args.memo.now c.turn.memo c.waits_on.new.memo c.back.new.memo (left_of c.args.allowed.now) (left_of c.turn.allowed)
+          (left_of c.takes_turns.new.allowed) c.turns_due-turns.result (c.turn.invariant.waited w) c.waits_on.ensures.same
           (c.waits_on.ensures.waited c.if-not-waits_on.false w) c.takes_turns.ensures.spent
           (λ h. kept_memo c.waits_on.new.memo c.back.new.memo c.in_ok-after-in-Back.ensures.same);
+      limited = c.takes_turns.ensures.limited ∙ c.turn.invariant.limited;
       fewer = omega (arith, c.turn.invariant.fewer, c.takes_turns.ensures.fewer);
       spent = rw c.tick.ensures (turn_spent _ _ _ _ _ c.turn.invariant.spent
           (omega (arith, c.takes_turns.ensures.spent, c.turns_due-turns.ensures.most)));
     }
 
-pub returns-in-None-clause-settles : goal.returns-in-None-clause-settles
-returns-in-None-clause-settles g c = λ _.
-    let r = run_of c.args.req.now in
-    let finishes = rw c.in-None.is at c.in_ok-after-in-Back.ensures.next in
-    settles c.args.req.now g.K.Plan.all c.args.first c.args.board.now c.args.memo.now
-    c.args.turned.now c.turn.memo c.turn.turned c.args.left.now c.turn.left c.takes_turns.new.left
-    c.turns_due-turns.result c.turn.invariant.counts c.turns_due-turns.ensures.each c.takes_turns.ensures.spent
-    c.turn.next c.turn.board
-    c.waits_on.new.memo c.back.new.memo c.turn.invariant.follows c.waits_on.ensures.same
-    (λ l x.
-    let y = (finishes g.K.Plan.all l (stands_there r _ l c.turn.next next.Back c.turn.board c.turns_due-turns.new.board
-    c.in-Back.is c.turns_due-turns.ensures.board x)).1 in (y.0, y.1, y.2 refl, y.3))
+pub returns-then-not-takes_turns-clause-costs : goal.returns-then-not-takes_turns-clause-costs
+returns-then-not-takes_turns-clause-costs g c = record {
+  spent = last_spent _ _ _ _ _ _ c.turn.invariant.spent
+      (omega (arith, c.takes_turns.ensures.spent, c.turns_due-turns.ensures.most)) c.turn.invariant.within;
+  given_up = λ _.
+      given_up c.args.req.now g.K.Plan.all c.args.first c.args.board.now c.args.memo.now
+      c.args.turned.now c.turn.memo c.turn.turned (left_of c.args.allowed.now) (left_of c.turn.allowed)
+      (left_of c.takes_turns.new.allowed) c.turns_due-turns.result c.turn.invariant.counts
+      c.turns_due-turns.ensures.each c.takes_turns.ensures.spent c.turn.next c.turn.board c.turn.invariant.follows;
+  settles = λ _. tt;
+  waited = λ limited closed pl. record {
+    decided = tt;
+    opened = tt;
+    given_up = λ _.
+        let w = c.may_wait-waits.ensures.waits (c.is_limited-limited.ensures ∙ limited) closed in
+        let x = c.turn.invariant.waited w in
+        omega (arith, x.turns, c.takes_turns.ensures.spent, c.waits_on.ensures.waited c.if-not-waits_on.false w);
+  };
+}
 
-pub returns-then-not-takes_turns-clause-waited_up : goal.returns-then-not-takes_turns-clause-waited_up
-returns-then-not-takes_turns-clause-waited_up g c = λ limited closed pl _.
-    let w = c.may_wait-waits.ensures.waits limited closed in
-    let x = c.turn.invariant.waited w in
-    omega (arith, x.turns, c.takes_turns.ensures.spent, c.waits_on.ensures.waited c.if-not-waits_on.false w)
-
-pub returns-in-None-clause-waited : goal.returns-in-None-clause-waited
-returns-in-None-clause-waited g c = λ limited closed pl _.
-    let w = c.may_wait-waits.ensures.waits limited closed in
-    waited_on c.args.memo.now c.turn.memo c.waits_on.new.memo c.back.new.memo c.args.left.now c.turn.left
-    c.takes_turns.new.left c.turns_due-turns.result (c.turn.invariant.waited w) c.waits_on.ensures.same
-    (c.waits_on.ensures.waited c.if-not-waits_on.false w) c.takes_turns.ensures.spent
-    (λ h. kept_memo c.waits_on.new.memo c.back.new.memo c.in_ok-after-in-Back.ensures.same)
-
-pub returns-then-is_accepted-clause-waited : goal.returns-then-is_accepted-clause-waited
-returns-then-is_accepted-clause-waited g c = λ limited closed pl _.
-    let w = c.may_wait-waits.ensures.waits limited closed in
-    waited_on c.args.memo.now c.turn.memo c.waits_on.new.memo c.waits_on.new.memo c.args.left.now c.turn.left
-    c.takes_turns.new.left c.turns_due-turns.result (c.turn.invariant.waited w) c.waits_on.ensures.same
-    (c.waits_on.ensures.waited c.if-not-waits_on.false w) c.takes_turns.ensures.spent (λ h. (refl, refl))
+pub returns-in-None-clause-costs : goal.returns-in-None-clause-costs
+returns-in-None-clause-costs g c = record {
+  spent = last_spent _ _ _ _ _ _ c.turn.invariant.spent
+      (omega (arith, c.takes_turns.ensures.spent, c.turns_due-turns.ensures.most)) c.turn.invariant.within;
+  given_up = tt;
+  settles = λ _ _.
+      let r = run_of c.args.req.now in
+      let finishes = rw c.in-None.is at c.in_ok-after-in-Back.ensures.next in
+      settles c.args.req.now g.K.Plan.all c.args.first c.args.board.now c.args.memo.now
+      c.args.turned.now c.turn.memo c.turn.turned (left_of c.args.allowed.now) (left_of c.turn.allowed)
+      (left_of c.takes_turns.new.allowed) c.turns_due-turns.result c.turn.invariant.counts
+      c.turns_due-turns.ensures.each c.takes_turns.ensures.spent c.turn.next c.turn.board
+      c.waits_on.new.memo c.back.new.memo c.turn.invariant.follows c.waits_on.ensures.same
+      (λ l x.
+      let y = (finishes g.K.Plan.all l (stands_there r _ l c.turn.next next.Back c.turn.board
+      c.turns_due-turns.new.board c.in-Back.is c.turns_due-turns.ensures.board x)).1 in (y.0, y.1, y.2 refl, y.3));
+  waited = λ limited closed pl. record {
+    decided = λ _.
+        let w = c.may_wait-waits.ensures.waits (c.is_limited-limited.ensures ∙ limited) closed in
+        waited_on c.args.memo.now c.turn.memo c.waits_on.new.memo c.back.new.memo (left_of c.args.allowed.now)
+        (left_of c.turn.allowed) (left_of c.takes_turns.new.allowed) c.turns_due-turns.result
+        (c.turn.invariant.waited w) c.waits_on.ensures.same
+        (c.waits_on.ensures.waited c.if-not-waits_on.false w) c.takes_turns.ensures.spent
+        (λ h. kept_memo c.waits_on.new.memo c.back.new.memo c.in_ok-after-in-Back.ensures.same);
+    opened = λ o. absurd (cc o);
+    given_up = tt;
+  };
+}

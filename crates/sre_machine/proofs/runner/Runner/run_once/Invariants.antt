@@ -4,7 +4,7 @@ use Rattle.sre_model.specs.Prefixes.{behind_items}
 use Rattle.sre_request.specs.Runs.{run_of}
 use Rattle.sre_model.proofs.TreeOf.{tree_of}
 use Rattle.sre_model.specs.Cost.{cost, ending}
-use Rattle.sre_machine.proofs.turns.run_once.Given as goal
+use Rattle.sre_machine.proofs.runner.Runner.run_once.Given as goal
 
 abbrev pub ghosts-turns_from-L-Ledger : goal.ghosts-turns_from-L-Ledger
 ghosts-turns_from-L-Ledger g a = record { name = a.blank.name; parts = a.blank.parts }

@@ -1,0 +1,62 @@
+use Rattle.std.proofs.Common.{◌≡◌, ◌∙◌, ◌*◌, refl, ap, subst, ℕ, List, arith}
+use Rattle.sre_code.specs.Codes.{items_of}
+use Rattle.sre_code.proofs.Checked.{whole_of}
+use Rattle.sre_model.specs.Marks.{no_marks}
+use Rattle.sre_model.specs.Standing.{AreWords}
+use Rattle.sre_model.specs.Prefixes.{behind_items}
+use Rattle.sre_model.proofs.TreeOf.{tree_of, whole-read}
+use Rattle.sre_turns.specs.Board.{bare}
+use Rattle.sre_turns.proofs.Start.{first_limit}
+use Rattle.sre_request.specs.Runs.{run_of}
+use Rattle.sre_machine.proofs.Following.{begins_run, run_given_up, run_settles, if_err, if_ok, err_at, ok_at}
+use Rattle.sre_machine.proofs.Following.{not_opened, rested}
+use Rattle.sre_machine.proofs.runner.Runner.run_once.Goals as goal
+
+pub turns_from-told-requires-clause-stands : goal.turns_from-told-requires-clause-stands
+turns_from-told-requires-clause-stands g c =
+    let r = run_of c.args.req.now in
+    let same : c.items.result.now ≡ r.words = c.items.ensures.same ∙ ap items_of c.pattern_codes.ensures in
+    let fresh : c.self.inside.board ≡ bare no_marks = rw (← c.self.view_is) at c.requires.fresh in
+    record {
+      limit = first_limit r (2 * c.args.literals) (behind_items c.args.literals (tree_of r.words)) c.args.start 0;
+      turns_left = refl;
+      stands = begins_run r c.args.literals c.args.start c.self.inside.board
+          (subst (λ (ws : List ℕ). AreWords ws) same c.know_words.ensures) (whole_of c.args.req.now.pattern_codes)
+          c.requires.may.behind c.requires.may.stands c.requires.may.inside fresh 0 (omega arith);
+    }
+
+pub returns-clause-decides : goal.returns-clause-decides
+returns-clause-decides g c = rw (← c.self.view_is) (record {
+  found = λ t w. rw (← whole-read _ t w) c.turns_from-told.ensures.decides.found;
+  opened = c.turns_from-told.ensures.decides.opened;
+})
+
+pub returns-clause-costs : goal.returns-clause-costs
+returns-clause-costs g c =
+    let r = run_of c.args.req.now in
+    let same : c.items.result.now ≡ r.words = c.items.ensures.same ∙ ap items_of c.pattern_codes.ensures in
+    let fresh : c.self.inside.board ≡ bare no_marks = rw (← c.self.view_is) at c.requires.fresh in
+    let begins = begins_run r c.args.literals c.args.start c.self.inside.board
+    (subst (λ (ws : List ℕ). AreWords ws) same c.know_words.ensures) (whole_of c.args.req.now.pattern_codes)
+    c.requires.may.behind c.requires.may.stands c.requires.may.inside fresh in
+    let told = c.turns_from-told.result in
+    let costs = c.turns_from-told.ensures.costs in
+    rw (← c.self.view_is) (record {
+      spent = λ t w. rw (← whole-read _ t w) costs.spent;
+      given_up = if_err told
+          (λ halt is gives used. run_given_up c.args.req.now _ (2 * c.args.literals)
+          (behind_items c.args.literals (tree_of r.words)) c.args.start c.self.inside.board c.self.inside.memo _ _
+          begins (gives used)
+          (λ pl closed. err_at _ told halt is
+          (costs.waited (err_at _ told halt is c.turns_from-told.ensures.spends.used used).0 closed pl).given_up used))
+          costs.given_up;
+      settles = λ limited. if_ok told
+          (λ d is settles none. rested c.args.req.now c.args.start c.self.inside.memo c.turns_from-told.new.memo
+          c.rest.new.self _ _ c.rest.ensures.same
+          (run_settles c.args.req.now _ (2 * c.args.literals)
+          (behind_items c.args.literals (tree_of r.words)) c.args.start c.self.inside.board c.self.inside.memo _ _
+          begins c.turns_from-told.new.memo (settles none)
+          (λ pl closed. ok_at _ told d is (costs.waited limited closed pl).decided (not_opened d none))))
+          (costs.settles limited);
+      waited = λ limited closed pl. (costs.waited limited closed pl).opened;
+    })

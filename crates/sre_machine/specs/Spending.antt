@@ -1,0 +1,85 @@
+-- What turns take off those that are left, and what a run of them costs.
+-- Words of the machine's contracts; what sre_engine makes public does not rest on it.
+use Rattle.std.specs.Prelude.{ℕ, ◌+◌, ◌*◌, ◌≡◌, ◌≢◌, ◌≤◌, true, false, Option, None, List, Result, IfOk, IfErr}
+use Rattle.sre_chars.specs.declared.string.StrDrive.{Ghosts}
+use Rattle.sre_chars.specs.declared.string.StringCursor.{StringCursor}
+use Rattle.sre_model.specs.Tree.{Tree}
+use Rattle.sre_model.specs.Ways.{Way}
+use Rattle.sre_model.specs.Grammar.{WholeItems}
+use Rattle.sre_model.specs.Prefixes.{behind_items}
+use Rattle.sre_model.specs.TurnBounds.{turns_of, most_each}
+use Rattle.sre_turns.specs.Board.{BoardValue}
+use Rattle.sre_turns.specs.Machine.{Decides, outcomes}
+use Rattle.sre_turns.specs.declared.Next.{Next}
+use Rattle.sre_request.specs.declared.request.Request.{Request}
+use Rattle.sre_request.specs.Requests.{asked_of}
+use Rattle.sre_request.specs.Runs.{run_of}
+use Rattle.sre_machine.specs.Allowances.{is_limited, left_of}
+use Rattle.sre_machine.specs.Memos.{MemoValue}
+use Rattle.sre_machine.specs.Paying.{Remembering, GivenUp, Settles, Waited, RunGivenUp, RunSettles}
+use Rattle.sre_machine.specs.Paying.{AnewGivenUp, AnewSettles, IfDecided}
+use Rattle.sre_machine.specs.declared.allowance.Allowance.{Allowance}
+use Rattle.sre_machine.specs.declared.turns.Decision.{Decision}
+use Rattle.sre_machine.specs.declared.turns.Decision.TheVariants.{Decided, Opened}
+use Rattle.sre_machine.specs.declared.turns.Halt.{Halt}
+use Rattle.sre_machine.specs.declared.turns.Halt.TheVariants as halt
+
+-- turns are taken off those that are left, and are used up only where they are limited and none is left
+pub record Spends {T : Type 0} (told : Result T Halt) (a a' : Allowance) : Type 0 where
+  pub limited : is_limited a' ≡ is_limited a
+  pub fewer : left_of a' ≤ left_of a
+  pub used : IfErr told (λ why. why ≡ halt.UsedUp → (is_limited a ≡ true) × (left_of a' ≡ 0))
+
+-- turns end before the whole is decided only where they are limited and no failure is kept
+abbrev pub OpensLimited : Result Decision Halt → MemoValue → Allowance → Type 0
+OpensLimited told m a = IfOk told (λ d. d ≡ Opened → (is_limited a ≡ true) × (m.is_open ≡ false))
+
+-- turns tell the first accepted outcome, with its end and its marks, or they end before
+pub record TurnsDecide {S : Type 0} {text : Ghosts S} (r : Request S text) (all : List Way)
+    (told : Result Decision Halt) (b : BoardValue) (m : MemoValue) (a : Allowance) : Type 0 where
+  pub found : IfOk told (λ d. IfDecided d (λ found. Decides (run_of r) all found b.marks))
+  pub opened : OpensLimited told m a
+
+-- the same of a run of what follows some literals
+pub record RunDecides {S : Type 0} {text : Ghosts S} (r : Request S text) (literals start : ℕ)
+    (told : Result Decision Halt) (b : BoardValue) (m : MemoValue) (a : Allowance) : Type 0 where
+  pub found : (t : Tree) → WholeItems (run_of r).words t → IfOk told (λ d. IfDecided d
+      (λ found. Decides (run_of r) (outcomes (run_of r) (behind_items literals t) start) found b.marks))
+  pub opened : OpensLimited told m a
+
+-- turns within a limit that begin with no failure kept: each one was waited for
+pub record AreWaited (told : Result Decision Halt) (m m' : MemoValue) (left left' : ℕ) : Type 0 where
+  pub decided : IfOk told (λ d. d ≢ Opened → Waited m m' left left')
+  pub opened : IfOk told (λ d. d ≡ Opened → left ≤ left' + m.waits)
+  pub given_up : IfErr told (λ why. why ≡ halt.UsedUp → left ≤ left' + m.waits)
+
+-- what turns cost by their limit, and by what failed in them
+pub record TurnsCost {S : Type 0} {text : Ghosts S} (r : Request S text) (all : List Way) (limit : ℕ) (first : Next)
+    (b : BoardValue) (m m' : MemoValue) (before : ℕ) (told : Result Decision Halt) (a a' : Allowance) : Type 0 where
+  pub spent : left_of a ≤ left_of a' + (limit + 1) * most_each (asked_of r)
+  pub given_up : IfErr told
+      (λ why. why ≡ halt.UsedUp → GivenUp r all first b m before (left_of a) (left_of a'))
+  pub settles : is_limited a ≡ true → IfOk told
+      (λ d. d ≡ Decided None → Settles r all first b m m' before (left_of a) (left_of a'))
+  pub waited : is_limited a ≡ true → m.is_open ≡ false → Remembering r
+      → AreWaited told m m' (left_of a) (left_of a')
+
+-- what a run costs from a cursor behind some literals
+pub record RunCosts {S : Type 0} {text : Ghosts S} (r : Request S text) (literals : ℕ) (start : StringCursor)
+    (m m' : MemoValue) (told : Result Decision Halt) (a a' : Allowance) : Type 0 where
+  pub spent : (t : Tree) → WholeItems (run_of r).words t → left_of a ≤ left_of a'
+      + turns_of (run_of r).subject (behind_items literals t) start.position * most_each (asked_of r)
+  pub given_up : IfErr told (λ why. why ≡ halt.UsedUp → RunGivenUp r start m (left_of a) (left_of a'))
+  pub settles : is_limited a ≡ true
+      → IfOk told (λ d. d ≡ Decided None → RunSettles r start m m' (left_of a) (left_of a'))
+  pub waited : is_limited a ≡ true → m.is_open ≡ false → Remembering r
+      → IfOk told (λ d. d ≡ Opened → left_of a ≤ left_of a' + m.waits)
+
+-- and of a run that begins again, with failures kept, of which there are none yet
+pub record AnewCosts {S : Type 0} {text : Ghosts S} (r : Request S text) (literals : ℕ) (start : StringCursor)
+    (m' : MemoValue) (told : Result (Option StringCursor) Halt) (a a' : Allowance) : Type 0 where
+  pub spent : (t : Tree) → WholeItems (run_of r).words t → left_of a ≤ left_of a'
+      + turns_of (run_of r).subject (behind_items literals t) start.position * most_each (asked_of r)
+  pub given_up : IfErr told (λ why. why ≡ halt.UsedUp → AnewGivenUp r start (left_of a) (left_of a'))
+  pub settles : is_limited a ≡ true
+      → IfOk told (λ found. found ≡ None → AnewSettles r start m' (left_of a) (left_of a'))
