@@ -5,7 +5,8 @@ use Rattle.sre_chars.specs.declared.constants.SreOpcode.{SreOpcode}
 use Rattle.sre_chars.specs.declared.constants.SreOpcode.TheVariants as opcode
 use Rattle.sre_model.specs.Tree.{Tree, Empty, Then, Item, Fail, One, At, Mark, Branch, Loop, Run, PossessiveLoop}
 use Rattle.sre_model.specs.Tree.{Atomic, Look, Reference, Exists, ExistsElse, Trees, Only, Or, Test, Fold}
-use Rattle.sre_model.specs.References.{no_group, asked_from, item_asked_from, some_asked_from}
+use Rattle.sre_model.specs.References.{no_group, asked_from, by_groups}
+use Rattle.sre_model.specs.Folding.{of_item, of_branch}
 use Rattle.sre_model.specs.Roles.{ToRefer, ToCheckGroup, role}
 use Rattle.sre_model.specs.Grammar.{Word, word, skip, Opcode, test_opcode, until_opcode, look_opcode, run_opcode}
 use Rattle.sre_model.specs.Grammar.{reference_opcode, Reads, ReadsItem, ReadsBranch, WholeItems}
@@ -164,12 +165,12 @@ module _ (ws : List ℕ) where
           → Told ws e (asked_from t) j m r
       tree_told Empty i j m few w l s = inr (still j m few (subst (λ k. Scan ws e k m r) w s))
       tree_told (Then x t) i j m few w l s =
-          both (item_asked_from x) (asked_from t) w.0 j m
+          both (of_item by_groups x) (asked_from t) w.0 j m
           (item_told x i w.0 m few w.1 (omega (arith, l, reads_within t ws w.0 j w.2)) s)
-          (λ k. tree_told t w.0 j (min m (item_asked_from x)) (omega (arith, few)) w.2 l k)
+          (λ k. tree_told t w.0 j (min m (of_item by_groups x)) (omega (arith, few)) w.2 l k)
 
       item_told : (x : Item) (i j m : ℕ) → m ≤ no_group → ReadsItem ws i j x → j ≤ e → Scan ws e i m r
-          → Told ws e (item_asked_from x) j m r
+          → Told ws e (of_item by_groups x) j m r
       item_told Fail i j m few w l s =
           inr (still j m few (pass_own i j 1 m opcode.FAILURE few (omega arith) w.0 refl w.1 s))
       item_told (One t) i j m few w l s =
@@ -228,7 +229,7 @@ module _ (ws : List ℕ) where
           inl (refl, stop i m (omega (arith, l, operands_past (ExistsElse g there absent) ws i j w.1)) w.0 s)
 
       trees_told : (ts : Trees) (q j m : ℕ) → m ≤ no_group → ReadsBranch ws q j ts → j ≤ e → Scan ws e (q + 1) m r
-          → Told ws e (some_asked_from ts) j m r
+          → Told ws e (of_branch by_groups ts) j m r
       trees_told (Only t) q j m few w l s =
           let end : ℕ = skip ws q - 2 in
           let far : q + 3 ≤ skip ws q = alternative_long ws q j (Only t) w in
@@ -240,7 +241,7 @@ module _ (ws : List ℕ) where
           let long : q + 3 ≤ skip ws q = alternative_long ws q j (Or t ts) w in
           let far : skip ws q < j = branch_past ts ws (skip ws q) j w.2 in
           let least : ℕ = min m (asked_from t) in
-          both (asked_from t) (some_asked_from ts) end j m (tree_told t (q + 1) end m few w.0 (omega (arith, l)) s)
+          both (asked_from t) (of_branch by_groups ts) end j m (tree_told t (q + 1) end m few w.0 (omega (arith, l)) s)
           (λ k. trees_told ts (skip ws q) j least (omega (arith, few)) w.2 l
           (pass_own end (skip ws q + 1) 3 least opcode.JUMP (omega (arith, few)) (omega (arith, l)) w.1.0 refl
           (omega arith) k))

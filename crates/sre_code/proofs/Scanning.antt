@@ -10,8 +10,9 @@ use Rattle.sre_model.specs.Tree.{Tree, Empty, Then, Item, Fail, One, At, Mark, B
 use Rattle.sre_model.specs.Tree.{Atomic, Look, Reference, Exists, ExistsElse, Trees, Only, Or, Test}
 use Rattle.sre_model.specs.Tree.{Order, Greedy, Lazy, RunKind, GreedyRun, LazyRun}
 use Rattle.sre_model.specs.Tree.{PossessiveRun, Sign, Positive, Negative}
-use Rattle.sre_model.specs.References.{refers, item_refers, some_refers}
-use Rattle.sre_model.specs.RunCounts.{run_count, most_counts, item_counts, branch_counts}
+use Rattle.sre_model.specs.References.{refers, by_references}
+use Rattle.sre_model.specs.Folding.{of_item, of_branch}
+use Rattle.sre_model.specs.RunCounts.{run_count, most_counts, by_counts}
 use Rattle.sre_model.specs.Roles.{ToTest, ToRefer, TestKind, role}
 use Rattle.sre_model.specs.Grammar.{Word, word, skip, Opcode, test_opcode, until_opcode, look_opcode, run_opcode}
 use Rattle.sre_model.specs.Grammar.{reference_opcode, Reads, ReadsItem, ReadsBranch, WholeItems}
@@ -217,12 +218,12 @@ module _ (ws : List ℕ) where
           → Told ws e (refers t) (most_counts t) j m r
       tree_told Empty i j m w l s = inr (refl, still j m (subst (λ k. Scan ws e k m r) w s))
       tree_told (Then x t) i j m w l s =
-          both (item_refers x) (refers t) (item_counts x) (most_counts t) w.0 j m
+          both (of_item by_references x) (refers t) (of_item by_counts x) (most_counts t) w.0 j m
           (item_told x i w.0 m w.1 (omega (arith, l, reads_within t ws w.0 j w.2)) s)
-          (λ k. tree_told t w.0 j (max m (item_counts x)) w.2 l k)
+          (λ k. tree_told t w.0 j (max m (of_item by_counts x)) w.2 l k)
 
       item_told : (x : Item) (i j m : ℕ) → ReadsItem ws i j x → j ≤ e → Scan ws e i m r
-          → Told ws e (item_refers x) (item_counts x) j m r
+          → Told ws e (of_item by_references x) (of_item by_counts x) j m r
       item_told Fail i j m w l s =
           inr (refl, still j m (pass_own i j 1 m opcode.FAILURE (omega arith) w.0 refl refl w.1 s))
       item_told (One t) i j m w l s =
@@ -289,7 +290,7 @@ module _ (ws : List ℕ) where
           inl (refl, stop i m (omega (arith, l, operands_past (ExistsElse g there absent) ws i j w.1)) none s)
 
       trees_told : (ts : Trees) (q j m : ℕ) → ReadsBranch ws q j ts → j ≤ e → Scan ws e (q + 1) m r
-          → Told ws e (some_refers ts) (branch_counts ts) j m r
+          → Told ws e (of_branch by_references ts) (of_branch by_counts ts) j m r
       trees_told (Only t) q j m w l s =
           let end : ℕ = skip ws q - 2 in
           let far : q + 3 ≤ skip ws q = alternative_long ws q j (Only t) w in
@@ -301,7 +302,7 @@ module _ (ws : List ℕ) where
           let long : q + 3 ≤ skip ws q = alternative_long ws q j (Or t ts) w in
           let far : skip ws q < j = branch_past ts ws (skip ws q) j w.2 in
           let most : ℕ = max m (most_counts t) in
-          both (refers t) (some_refers ts) (most_counts t) (branch_counts ts) end j m
+          both (refers t) (of_branch by_references ts) (most_counts t) (of_branch by_counts ts) end j m
           (tree_told t (q + 1) end m w.0 (omega (arith, l)) s)
           (λ k. trees_told ts (skip ws q) j most w.2 l
           (pass_own end (skip ws q + 1) 3 most opcode.JUMP (omega (arith, l)) w.1.0 refl refl (omega arith) k))

@@ -9,10 +9,11 @@ use Rattle.sre_chars.specs.declared.constants.SreOpcode.TheVariants as opcode
 use Rattle.sre_model.specs.Tree.{Tree, Empty, Then, Item, Fail, One, At, Mark, Branch, Loop, Run, PossessiveLoop}
 use Rattle.sre_model.specs.Tree.{Atomic, Look, Reference, Exists, ExistsElse, Trees, Only, Or, Test}
 use Rattle.sre_model.specs.Tree.{RunKind, Sign}
-use Rattle.sre_model.specs.References.{refers, item_refers, some_refers}
-use Rattle.sre_model.specs.Regions.{has_region, item_has_region, some_has_region}
-use Rattle.sre_model.specs.Slots.{most_slots, item_slots, branch_slots}
-use Rattle.sre_model.specs.Alternatives.{alternatives_of, most_alternatives, item_alternatives, branch_alternatives}
+use Rattle.sre_model.specs.References.{refers, by_references}
+use Rattle.sre_model.specs.Folding.{of_item, of_branch}
+use Rattle.sre_model.specs.Regions.{has_region, by_regions}
+use Rattle.sre_model.specs.Slots.{most_slots, by_slots}
+use Rattle.sre_model.specs.Alternatives.{alternatives_of, most_alternatives, by_alternatives}
 use Rattle.sre_model.specs.Roles.{role}
 use Rattle.sre_model.specs.Grammar.{skip, Opcode, test_opcode, look_opcode, run_opcode, reference_opcode, Reads}
 use Rattle.sre_model.specs.Grammar.{ReadsItem, ReadsBranch}
@@ -26,6 +27,10 @@ use Rattle.sre_code.specs.declared.code.slots.Kind.{Kind}
 use Rattle.sre_code.specs.declared.code.slots.Kind.TheVariants as kind
 use Rattle.sre_code.specs.declared.code.slots.Passed.{Passed}
 use Rattle.sre_code.proofs.Scanning.{none_behind, run_has_four, to_refer, max_assoc}
+
+-- alternatives that are plain
+abbrev IsPlainBranch : ℕ → Trees → Type 0
+IsPlainBranch most ts = ArePlain most (of_branch by_regions ts) (of_branch by_references ts) (of_branch by_slots ts)
 
 -- what was passed where a scan comes to k
 abbrev pub reached : ℕ → ℕ → ℕ → Passed
@@ -92,8 +97,8 @@ module _ (ws : List ℕ) (most : ℕ) (some : 1 ≤ most) where
       (record { one = inl (t, reads, refl) })
 
   -- what is told of an item whose first instruction tells all
-  flat_told : (x : Item) (i j : ℕ) (r : Option Passed) → IsPlainItem most x → item_slots x ≡ 1
-      → item_alternatives x ≡ 0 → i ≡ j → r ≡ Some (flat i 0) → ItemTold most j x r
+  flat_told : (x : Item) (i j : ℕ) (r : Option Passed) → IsPlainItem most x → of_item by_slots x ≡ 1
+      → of_item by_alternatives x ≡ 0 → i ≡ j → r ≡ Some (flat i 0) → ItemTold most j x r
   flat_told x i j r plain one none at is =
       subst (ItemTold most j x) (sym is) (plain, at, sym one, sym none)
 
@@ -164,10 +169,11 @@ module _ (ws : List ℕ) (most : ℕ) (some : 1 ≤ most) where
 
     -- an item whose first instruction tells all
     step : (x : Item) (i j s a : ℕ) → i < e → ((r : Option Passed) → ToldAt most ws i r → ItemTold most j x r)
-        → Scan i s a → Told (IsPlainItem most x) (item_slots x) (item_alternatives x) j s a
+        → Scan i s a → Told (IsPlainItem most x) (of_item by_slots x) (of_item by_alternatives x) j s a
     step x i j s a lt told y = go y.count y.says
       where
-        go : (n : ℕ) → Says n i s a → Told (IsPlainItem most x) (item_slots x) (item_alternatives x) j s a
+        go : (n : ℕ) → Says n i s a
+            → Told (IsPlainItem most x) (of_item by_slots x) (of_item by_alternatives x) j s a
         go zero z = absurd (omega (arith, lt, z.0))
         go (suc n) z = ⊎_elim
             (λ (u : ToldAt most ws i None × (res ≡ None)). inl (told None u.0, u.1))
@@ -178,8 +184,8 @@ module _ (ws : List ℕ) (most : ℕ) (some : 1 ≤ most) where
               record {
                 count = n;
                 says =
-                    subst (λ k. Says n k (max s (item_slots x)) (max a (item_alternatives x))) t.1
-                    (subst (λ m. Says n u.0.behind (max s m) (max a (item_alternatives x))) t.2
+                    subst (λ k. Says n k (max s (of_item by_slots x)) (max a (of_item by_alternatives x))) t.1
+                    (subst (λ m. Says n u.0.behind (max s m) (max a (of_item by_alternatives x))) t.2
                     (subst (λ d. Says n u.0.behind (max s u.0.slots) (max a d)) t.3 u.2));
               },
             )) z.1
@@ -209,17 +215,20 @@ module _ (ws : List ℕ) (most : ℕ) (some : 1 ≤ most) where
           → Told (IsPlain most t) (most_slots t) (most_alternatives t) j s a
       tree_told Empty i j s a k w l x = inr (one_plain most some, still j s a k (subst (λ z. Scan z s a) w x))
       tree_told (Then y t) i j s a k w l x =
-          both (IsPlainItem most y) (IsPlain most t) (IsPlain most (Then y t)) (item_slots y) (most_slots t)
-          (item_alternatives y) (most_alternatives t) w.0 j s a
-          (both_plain most (item_slots y) (most_slots t) (item_has_region y) (item_refers y) (has_region t) (refers t))
-          (first_plain most (item_slots y) (most_slots t) (item_has_region y) (item_refers y) (has_region t) (refers t))
-          (second_plain most (item_slots y) (most_slots t) (item_has_region y) (item_refers y) (has_region t)
-          (refers t))
+          both (IsPlainItem most y) (IsPlain most t) (IsPlain most (Then y t)) (of_item by_slots y) (most_slots t)
+          (of_item by_alternatives y) (most_alternatives t) w.0 j s a
+          (both_plain most (of_item by_slots y) (most_slots t) (of_item by_regions y) (of_item by_references y)
+          (has_region t) (refers t))
+          (first_plain most (of_item by_slots y) (most_slots t) (of_item by_regions y) (of_item by_references y)
+          (has_region t) (refers t))
+          (second_plain most (of_item by_slots y) (most_slots t) (of_item by_regions y) (of_item by_references y)
+          (has_region t) (refers t))
           (item_told y i w.0 s a k w.1 (omega (arith, l, reads_within t ws w.0 j w.2)) x)
-          (λ z. tree_told t w.0 j (max s (item_slots y)) (max a (item_alternatives y)) (omega arith) w.2 l z)
+          (λ z. tree_told t w.0 j (max s (of_item by_slots y)) (max a (of_item by_alternatives y)) (omega arith) w.2 l
+          z)
 
       item_told : (y : Item) (i j s a : ℕ) → 1 ≤ s → ReadsItem ws i j y → j ≤ e → Scan i s a
-          → Told (IsPlainItem most y) (item_slots y) (item_alternatives y) j s a
+          → Told (IsPlainItem most y) (of_item by_slots y) (of_item by_alternatives y) j s a
       item_told Fail i j s a k w l x =
           step Fail i j s a (omega arith)
           (λ r h. flat_told Fail (i + 1) j r (one_plain most some) refl refl (sym w.1)
@@ -247,11 +256,11 @@ module _ (ws : List ℕ) (most : ℕ) (some : 1 ≤ most) where
           ⊎_elim
           (λ (y : (IsPlainItem most (Branch ts) → ⊥) × (res ≡ None)). inl y)
           (λ (y : IsPlainItem most (Branch ts)
-          × Scan j (max s (branch_slots ts)) (max (max a (alternatives_of ts)) (branch_alternatives ts))).
+          × Scan j (max s (of_branch by_slots ts)) (max (max a (alternatives_of ts)) (of_branch by_alternatives ts))).
           inr (
             y.0,
-            subst (λ d. Scan j (max s (branch_slots ts)) d)
-                (max_assoc a (alternatives_of ts) (branch_alternatives ts)) y.1,
+            subst (λ d. Scan j (max s (of_branch by_slots ts)) d)
+                (max_assoc a (alternatives_of ts) (of_branch by_alternatives ts)) y.1,
           )) (trees_told ts (i + 1) j s (max a (alternatives_of ts)) k w.1 l first)
       item_told (Loop o low high body) i j s a k w l x =
           step (Loop o low high body) i j s a (omega (arith, l, operands_past (Loop o low high body) ws i j w.1))
@@ -271,7 +280,7 @@ module _ (ws : List ℕ) (most : ℕ) (some : 1 ≤ most) where
           step (PossessiveLoop low high body) i j s a
           (omega (arith, l, operands_past (PossessiveLoop low high body) ws i j w.1))
           (λ r h. none_told (PossessiveLoop low high body) j r
-          (region_not most (item_slots (PossessiveLoop low high body)) (refers body))
+          (region_not most (of_item by_slots (PossessiveLoop low high body)) (refers body))
           (by_kind i opcode.POSSESSIVE_REPEAT kind.Region r w.0 refl h)) x
       item_told (Atomic body) i j s a k w l x =
           step (Atomic body) i j s a (omega (arith, l, operands_past (Atomic body) ws i j w.1))
@@ -296,13 +305,13 @@ module _ (ws : List ℕ) (most : ℕ) (some : 1 ≤ most) where
           step (ExistsElse g there absent) i j s a
           (omega (arith, l, operands_past (ExistsElse g there absent) ws i j w.1))
           (λ r h. none_told (ExistsElse g there absent) j r
-          (reference_not most (item_slots (ExistsElse g there absent)) (item_has_region (ExistsElse g there absent)))
+          (reference_not most (of_item by_slots (ExistsElse g there absent))
+          (of_item by_regions (ExistsElse g there absent)))
           ((by_kind i opcode.GROUPREF_EXISTS kind.Other r w.0 refl h).none
           (none_behind ws i opcode.GROUPREF_EXISTS w.0 refl (λ kind h. cc)))) x
 
       trees_told : (ts : Trees) (q j s a : ℕ) → 1 ≤ s → ReadsBranch ws q j ts → j ≤ e → Scan (q + 1) s a
-          → Told (ArePlain most (some_has_region ts) (some_refers ts) (branch_slots ts)) (branch_slots ts)
-          (branch_alternatives ts) j s a
+          → Told (IsPlainBranch most ts) (of_branch by_slots ts) (of_branch by_alternatives ts) j s a
       trees_told (Only t) q j s a k w l x =
           let end : ℕ = skip ws q - 2 in
           let far : q + 3 ≤ skip ws q = alternative_long ws q j (Only t) w in
@@ -314,15 +323,14 @@ module _ (ws : List ℕ) (most : ℕ) (some : 1 ≤ most) where
           let end : ℕ = skip ws q - 2 in
           let long : q + 3 ≤ skip ws q = alternative_long ws q j (Or t ts) w in
           let far : skip ws q < j = branch_past ts ws (skip ws q) j w.2 in
-          both (IsPlain most t) (ArePlain most (some_has_region ts) (some_refers ts) (branch_slots ts))
-          (ArePlain most (some_has_region (Or t ts)) (some_refers (Or t ts)) (branch_slots (Or t ts)))
-          (most_slots t) (branch_slots ts) (most_alternatives t) (branch_alternatives ts) end j s a
-          (both_plain most (most_slots t) (branch_slots ts) (has_region t) (refers t) (some_has_region ts)
-          (some_refers ts))
-          (first_plain most (most_slots t) (branch_slots ts) (has_region t) (refers t) (some_has_region ts)
-          (some_refers ts))
-          (second_plain most (most_slots t) (branch_slots ts) (has_region t) (refers t) (some_has_region ts)
-          (some_refers ts))
+          both (IsPlain most t) (IsPlainBranch most ts) (IsPlainBranch most (Or t ts))
+          (most_slots t) (of_branch by_slots ts) (most_alternatives t) (of_branch by_alternatives ts) end j s a
+          (both_plain most (most_slots t) (of_branch by_slots ts) (has_region t) (refers t) (of_branch by_regions ts)
+          (of_branch by_references ts))
+          (first_plain most (most_slots t) (of_branch by_slots ts) (has_region t) (refers t) (of_branch by_regions ts)
+          (of_branch by_references ts))
+          (second_plain most (most_slots t) (of_branch by_slots ts) (has_region t) (refers t) (of_branch by_regions ts)
+          (of_branch by_references ts))
           (tree_told t (q + 1) end s a k w.0 (omega (arith, l)) x)
           (λ z. trees_told ts (skip ws q) j (max s (most_slots t)) (max a (most_alternatives t)) (omega arith) w.2 l
           (pass_own end 3 (skip ws q + 1) (max s (most_slots t)) (max a (most_alternatives t)) opcode.JUMP (omega arith)
@@ -331,7 +339,7 @@ module _ (ws : List ℕ) (most : ℕ) (some : 1 ≤ most) where
 -- one slot is there at least
 pub some_slots : (t : Tree) → 1 ≤ most_slots t
 some_slots Empty = omega arith
-some_slots (Then x rest) = omega (arith, some_slots rest, le-max_right (item_slots x) (most_slots rest))
+some_slots (Then x rest) = omega (arith, some_slots rest, le-max_right (of_item by_slots x) (most_slots rest))
 
 module _ (ws : List ℕ) (most start e : ℕ) (some : 1 ≤ most) where
   -- what a scan from i on tells, one from the start tells too

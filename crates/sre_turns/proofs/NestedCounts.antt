@@ -18,8 +18,9 @@ use Rattle.sre_model.specs.Subject.{Subject}
 use Rattle.sre_model.specs.Roles.{Role, ToFail, ToEnd, ToTest, ToCheckPosition, ToMark, ToBranch, ToJump, ToRun}
 use Rattle.sre_model.specs.Roles.{ToRepeat, ToLoop, ToRepeatPossessively, ToGroupAtomically, ToLook, ToRefer}
 use Rattle.sre_model.specs.Roles.{ToCheckGroup, ToNothing, role}
-use Rattle.sre_model.specs.RunCounts.{run_count, most_counts, item_counts, branch_counts}
-use Rattle.sre_model.specs.Alternatives.{alternatives_of, most_alternatives, item_alternatives, branch_alternatives}
+use Rattle.sre_model.specs.RunCounts.{run_count, most_counts, by_counts}
+use Rattle.sre_model.specs.Folding.{of_item, of_branch}
+use Rattle.sre_model.specs.Alternatives.{alternatives_of, most_alternatives, by_alternatives}
 use Rattle.sre_model.specs.Runs as runs
 use Rattle.sre_model.proofs.Words.{word_of, same_opcode}
 use Rattle.sre_model.proofs.Families.{HasRole, role_here, until_role, is_run, is_branch}
@@ -72,10 +73,10 @@ module _ (ws : List ℕ) (n m : ℕ) where
   Low t = (most_counts t ≤ n) × (most_alternatives t ≤ m)
 
   abbrev LowItem : Item → Type 0
-  LowItem a = (item_counts a ≤ n) × (item_alternatives a ≤ m)
+  LowItem a = (of_item by_counts a ≤ n) × (of_item by_alternatives a ≤ m)
 
   abbrev LowBranch : Trees → Type 0
-  LowBranch ts = (branch_counts ts ≤ n) × (branch_alternatives ts ≤ m)
+  LowBranch ts = (of_branch by_counts ts ≤ n) × (of_branch by_alternatives ts ≤ m)
 
   -- a run has no greatest count, or one of at most n, and a branch at most m alternatives
   abbrev Counted : Point → Type 0
@@ -108,7 +109,7 @@ module _ (ws : List ℕ) (n m : ℕ) where
           → (word ws (i + 3) ≡ unlimited) ⊎ (word ws (i + 3) ≤ n)
       counted_run kind h =
           let x = is_run ws i j a h r in
-          let same : item_counts a ≡ run_count kind x.0 x.1 = ap item_counts x.3 in
+          let same : of_item by_counts a ≡ run_count kind x.0 x.1 = ap (of_item by_counts) x.3 in
           let is : word ws (i + 3) ≡ x.1 = word_of ws (i + 3) x.1 x.4.1.2 in
           elim (run_most kind x.0 x.1) [
             | inl e ↦ inl (is ∙ e)
@@ -118,8 +119,8 @@ module _ (ws : List ℕ) (n m : ℕ) where
       counted_branch : HasRole ws i ToBranch → alternatives ws (i + 1) ≤ m
       counted_branch h =
           let x = is_branch ws i j a h r in
-          let same : item_alternatives a ≡ max (alternatives_of x.0) (branch_alternatives x.0) =
-          ap item_alternatives x.1 in
+          let same : of_item by_alternatives a ≡ max (alternatives_of x.0) (of_branch by_alternatives x.0) =
+          ap (of_item by_alternatives) x.1 in
           let most : alternatives ws (i + 1) ≤ alternatives_of x.0 =
           as_many ws (length ws - (i + 1)) (i + 1) j x.0 x.2.1 in
           omega (arith, same, most, l.1)

@@ -13,7 +13,8 @@ use Rattle.sre_model.specs.Subject.{Subject}
 use Rattle.sre_model.specs.Grammar.{word, skip, Opcode, Reads, Operands, ReadsBranch, WholeItems, item_opcode}
 use Rattle.sre_model.specs.Grammar.{until_opcode}
 use Rattle.sre_model.specs.Prefixes.{ReadsBehind}
-use Rattle.sre_model.specs.Regions.{has_region, item_has_region, some_has_region}
+use Rattle.sre_model.specs.Regions.{has_region, by_regions}
+use Rattle.sre_model.specs.Folding.{of_item, of_branch}
 use Rattle.sre_model.specs.Roles.{role}
 use Rattle.sre_model.specs.Standing.{AreWords}
 use Rattle.sre_model.proofs.Words.{same_opcode}
@@ -35,7 +36,7 @@ use Rattle.sre_turns.proofs.NestedStarts.{lies_first, lies_behind}
 use Rattle.sre_turns.proofs.PotentialMoves.{enters, NoEntry, entry_role, entry_point}
 
 -- an item without regions begins with no opcode that enters one
-item_quiet : (a : Item) → item_has_region a ≡ false → enters (role (item_opcode a)) ≡ false
+item_quiet : (a : Item) → of_item by_regions a ≡ false → enters (role (item_opcode a)) ≡ false
 item_quiet Fail e = refl
 item_quiet (One t) e = ap enters (test_role t)
 item_quiet (At a) e = refl
@@ -74,19 +75,19 @@ module _ (ws : List ℕ) where
         → has_region t ≡ false → Quiet (Instruction j) → LiesIn ws i j t r js pt ks → Quiet pt
     tree_quiet i j Empty r js pt ks e q y = quiet_at (Instruction j) pt y.0 q
     tree_quiet i j (Then a rest) r js pt ks e q (inl y) =
-        let part = or_parts (item_has_region a) (has_region rest) e in
+        let part = or_parts (of_item by_regions a) (has_region rest) e in
         quiet_at (Instruction i) pt y.0 (quiet_opcode i (item_opcode a) r.1.0 (item_quiet a part.0))
     tree_quiet i j (Then a rest) r js pt ks e q (inr (inl y)) =
-        let part = or_parts (item_has_region a) (has_region rest) e in
+        let part = or_parts (of_item by_regions a) (has_region rest) e in
         let next : Quiet (Instruction r.0) =
         tree_quiet r.0 j rest r.2 js (Instruction r.0) js part.1 q (begins ws r.0 j rest r.2 js) in
         inside_quiet i r.0 a r.1.1 js pt ks part.0 next y
     tree_quiet i j (Then a rest) r js pt ks e q (inr (inr y)) =
-        let part = or_parts (item_has_region a) (has_region rest) e in
+        let part = or_parts (of_item by_regions a) (has_region rest) e in
         tree_quiet r.0 j rest r.2 js pt ks part.1 q y
 
     inside_quiet : (i j : ℕ) (a : Item) (r : Operands ws i j a) (js : List ℕ) (pt : Point) (ks : List ℕ)
-        → item_has_region a ≡ false → Quiet (Instruction j) → LiesInItem ws i j a r js pt ks → Quiet pt
+        → of_item by_regions a ≡ false → Quiet (Instruction j) → LiesInItem ws i j a r js pt ks → Quiet pt
     inside_quiet i j Fail r js pt ks e q y = absurd y
     inside_quiet i j (One t) r js pt ks e q y = absurd y
     inside_quiet i j (At a) r js pt ks e q y = absurd y
@@ -111,17 +112,17 @@ module _ (ws : List ℕ) where
         tree_quiet (i + 1 + word ws (i + 2)) j b r.3 js pt ks (or_parts (has_region a) (has_region b) e).1 q y
 
     branch_quiet : (q j : ℕ) (ts : Trees) (r : ReadsBranch ws q j ts) (js : List ℕ) (pt : Point) (ks : List ℕ)
-        → some_has_region ts ≡ false → LiesInBranch ws q j ts r js pt ks → Quiet pt
+        → of_branch by_regions ts ≡ false → LiesInBranch ws q j ts r js pt ks → Quiet pt
     branch_quiet q j (Only t) r js pt ks e (inl y) = quiet_at (Alternatives q) pt y.0 tt
     branch_quiet q j (Only t) r js pt ks e (inr (inl y)) =
         tree_quiet (q + 1) (skip ws q - 2) t r.0 js pt ks e (quiet_opcode (skip ws q - 2) opcode.JUMP r.1.0 refl) y
     branch_quiet q j (Only t) r js pt ks e (inr (inr y)) = quiet_at (Alternatives (skip ws q)) pt y.0 tt
     branch_quiet q j (Or t ts) r js pt ks e (inl y) = quiet_at (Alternatives q) pt y.0 tt
     branch_quiet q j (Or t ts) r js pt ks e (inr (inl y)) =
-        tree_quiet (q + 1) (skip ws q - 2) t r.0 js pt ks (or_parts (has_region t) (some_has_region ts) e).0
+        tree_quiet (q + 1) (skip ws q - 2) t r.0 js pt ks (or_parts (has_region t) (of_branch by_regions ts) e).0
         (quiet_opcode (skip ws q - 2) opcode.JUMP r.1.0 refl) y
     branch_quiet q j (Or t ts) r js pt ks e (inr (inr y)) =
-        branch_quiet (skip ws q) j ts r.2 js pt ks (or_parts (has_region t) (some_has_region ts) e).1 y
+        branch_quiet (skip ws q) j ts r.2 js pt ks (or_parts (has_region t) (of_branch by_regions ts) e).1 y
 
   lies_quiet : (t : Tree) (w : WholeItems ws t) → has_region t ≡ false → (x : Spot) → Lies ws t w x → Quiet x.point
   lies_quiet t w e x y =
