@@ -2,23 +2,19 @@
 use Rattle.std.proofs.Common.{ℕ, ◌+◌, ◌-◌, ◌≡◌, ◌<◌, ◌≤◌, ◌⊎◌, inl, inr, min, List, length, Some}
 use Rattle.std.proofs.Common.{None, refl, sym, ap, ◌∙◌, arith}
 use Rattle.sre_chars.specs.declared.constants.SreOpcode.{SreOpcode}
-use Rattle.sre_chars.specs.declared.constants.SreOpcode.TheVariants as opcode
-use Rattle.sre_model.specs.Tree.{Tree, Empty, Then}
-use Rattle.sre_model.specs.Tree.{Exists, ExistsElse, Test, Fold}
+use Rattle.sre_model.specs.Tree.{Tree, Empty, Then, Test, Fold}
 use Rattle.sre_model.specs.References.{no_group, asked_from, by_groups}
-use Rattle.sre_model.specs.Roles.{ToRefer, ToCheckGroup, role}
-use Rattle.sre_model.specs.Grammar.{Word, word, Opcode, test_opcode, look_opcode, run_opcode}
-use Rattle.sre_model.specs.Grammar.{reference_opcode, WholeItems}
-use Rattle.sre_model.proofs.Families.{test_kind, test_role, reference_role}
+use Rattle.sre_model.specs.Roles.{Role, ToRefer, ToCheckGroup, role}
+use Rattle.sre_model.specs.Grammar.{Word, word, Opcode, test_opcode, reference_opcode, WholeItems}
+use Rattle.sre_model.proofs.Families.{HasRole, test_kind, test_role, reference_role}
 use Rattle.sre_model.proofs.Words.{same_opcode, word_of}
-use Rattle.sre_model.proofs.Places.{test_past, operands_past}
+use Rattle.sre_model.proofs.Places.{test_past}
 use Rattle.sre_code.specs.Reading.{ReadsTest}
-use Rattle.sre_code.specs.Instructions.{own_words, count_at, Behind, NoneBehind, Asking, NoneAsking}
-use Rattle.sre_code.proofs.Scanning.{run_has_four, look_has_three, to_refer, behind_test, behind_own}
-use Rattle.sre_code.proofs.Scanning.{none_behind}
-use Rattle.sre_code.proofs.Walking.{Scanner, Scan, Passed, IsSilent, Instructions, goes_on, stops_at, ends_at, step}
-use Rattle.sre_code.proofs.Walking.{behind}
+use Rattle.sre_code.specs.Instructions.{own_words, Behind, NoneBehind, Asking, NoneAsking}
+use Rattle.sre_code.proofs.Walking.{Scanner, Scan, Passed, Instructions, goes_on, stops_at, ends_at, step, behind}
 use Rattle.sre_code.proofs.Walking.{said_of, tree_walked}
+use Rattle.sre_code.proofs.Scanning.{to_refer, to_check, behind_test, behind_own, role_behind, none_behind}
+use Rattle.sre_code.proofs.Scanning.{none_of_role}
 
 -- what an instruction asks for
 module _ (ws : List ℕ) where
@@ -61,15 +57,15 @@ module _ (ws : List ℕ) where
           (λ kind h. to_refer kind (sym (reference_role f) ∙ h))).none k x.0 x.1)
       by_kind (inr x) = (x.2, x.3 ∙ word_of ws (i + 1) v there)
 
-  none_asking : (i : ℕ) → Opcode ws i opcode.GROUPREF_EXISTS → NoneAsking ws i
-  none_asking i w = record { none = λ k g a. by_kind k g a.one }
+  none_asking : (i : ℕ) → HasRole ws i ToCheckGroup → NoneAsking ws i
+  none_asking i h = record { none = λ k g a. by_kind k g a.one }
     where
       by_kind : (k g : ℕ)
           → ((c : ℕ) × Behind ws i k c × (g ≡ no_group))
           ⊎ ((f : Fold) × Opcode ws i (reference_opcode f) × (k ≡ i + 2) × (g ≡ word ws (i + 1))) → ⊥
-      by_kind k g (inl x) = (none_behind ws i opcode.GROUPREF_EXISTS w refl (λ kind h. cc)).none k x.0 x.1
+      by_kind k g (inl x) = (none_of_role ws i ToCheckGroup h refl to_check).none k x.0 x.1
       by_kind k g (inr x) =
-          let same : ToCheckGroup ≡ ToRefer = no_reference_twice i opcode.GROUPREF_EXISTS x.0 w x.1 in
+          let same : ToCheckGroup ≡ ToRefer = sym h.begins ∙ no_reference_twice i h.code x.0 h.there x.1 in
           cc
 
   -- an opcode that is no reference, where no other instruction is
@@ -112,28 +108,26 @@ module _ (ws : List ℕ) where
   abbrev Passes : ℕ → ℕ → ℕ → Type 0
   Passes = Passed (scanner ws)
 
-  -- an instruction that asks for no group
-  asks_none : (i n : ℕ) (o : SreOpcode) → Opcode ws i o → own_words (role o) ≡ Some n → 0 < n
-      → Passes i (i + n) no_group
-  asks_none i n o w has some =
+  -- an instruction that asks for no group, and what is behind it
+  silent : (i n : ℕ) (o : Role) → HasRole ws i o → own_words o ≡ Some n → 0 < n → Passes i (i + n) no_group
+  silent i n o h has some =
       step (scanner ws) i (i + n) no_group (omega (arith, some))
-      (λ k g a. let is = asking_own ws i k g n o w has a in (tt, is.0, is.1))
-      (λ none. absurd (none.none (i + n) no_group
-      (record { one = inl (count_at o ws i, record { one = inr (o, n, w, has, refl, refl) }, refl) })))
+      (λ k g a.
+      let is = asking_own ws i k g n h.code h.there (ap own_words h.begins ∙ has) a in
+      (tt, is.0, is.1))
+      (λ none. absurd (none.none (i + n) no_group (record { one = inl (_, role_behind ws i n o h has, refl) })))
 
-  own : (i n : ℕ) (o : SreOpcode) → Opcode ws i o → IsSilent o n → Passes i (i + n) no_group
-  own i n o w s = asks_none i n o w s.0 s.2
+  inside : (i n j : ℕ) (o : Role) (a : ℕ) → HasRole ws i o → own_words o ≡ Some n → 0 < n → Passes (i + n) j a
+      → Passes i j a
+  inside i n j o a h has some y = behind (scanner ws) i (i + n) j a (silent i n o h has some) y
 
-  inside : (i n j : ℕ) (o : SreOpcode) (a : ℕ) → Opcode ws i o → IsSilent o n → Passes (i + n) j a → Passes i j a
-  inside i n j o a w s y = behind (scanner ws) i (i + n) j a (own i n o w s) y
-
-  condition : (i j : ℕ) → i < j → Opcode ws i opcode.GROUPREF_EXISTS → Passes i j 0
-  condition i j lt w =
-      step (scanner ws) i j 0 lt (λ k g a. absurd ((none_asking ws i w).none k g a)) (λ none. refl)
+  condition : (i j : ℕ) → i < j → HasRole ws i ToCheckGroup → Passes i j 0
+  condition i j lt h =
+      step (scanner ws) i j 0 lt (λ k g a. absurd ((none_asking ws i h).none k g a)) (λ none. refl)
 
   instructions : Instructions (scanner ws)
   instructions = record {
-    own = λ i n o w s other. own i n o w s;
+    own = λ i n o h has some none other. silent i n o h has some;
     test = λ i j t w.
         step (scanner ws) i j no_group (test_past t ws i j w.1)
         (λ k g a. let is = asking_test ws i j k g t w a in (tt, is.0, is.1))
@@ -143,23 +137,19 @@ module _ (ws : List ℕ) where
     one = λ t. refl;
     at = λ a. refl;
     mark = λ n. refl;
-    branch = λ i j ts w y. inside i 2 j opcode.BRANCH _ w.0 (refl, λ m n. refl, omega arith) y;
-    run = λ i low high kind t w l h. asks_none i 4 (run_opcode kind) w (run_has_four kind) (omega arith);
-    loop = λ i j o low high body w y.
-        inside i 4 j opcode.REPEAT _ w.0 (refl, λ m n. refl, omega arith) y;
-    possessive = λ i j low high body w y.
-        inside i 4 j opcode.POSSESSIVE_REPEAT _ w.0 (refl, λ m n. refl, omega arith) y;
-    atomic = λ i j body w y. inside i 2 j opcode.ATOMIC_GROUP _ w.0 (refl, λ m n. refl, omega arith) y;
-    look = λ i j sign back body w y.
-        behind (scanner ws) i (i + 3) j _ (asks_none i 3 (look_opcode sign) w.0 (look_has_three sign) (omega arith)) y;
-    reference = λ i j f g w.
-        step (scanner ws) i j g (omega (arith, w.1.1))
-        (λ k h a. let is = asking_reference ws i k h g f w.0 w.1.0 a in (tt, is.0 ∙ sym w.1.1, is.1))
+    branch = λ i j ts lt h w y. inside i 2 j _ _ h refl (omega arith) y;
+    run = λ i low high kind t h w v. silent i 4 _ h refl (omega arith);
+    loop = λ i j o low high body lt h w y. inside i 4 j _ _ h refl (omega arith) y;
+    possessive = λ i j low high body lt h y. inside i 4 j _ _ h refl (omega arith) y;
+    atomic = λ i j body lt h y. inside i 2 j _ _ h refl (omega arith) y;
+    look = λ i j sign back body lt h w y. inside i 3 j _ _ h refl (omega arith) y;
+    reference = λ i j f g lt h w.
+        step (scanner ws) i j g lt
+        (λ k b a. let is = asking_reference ws i k b g f w.0 w.1.0 a in (tt, is.0 ∙ sym w.1.1, is.1))
         (λ none. absurd (none.none j g
         (record { one = inr (f, w.0, w.1.1, sym (word_of ws (i + 1) g w.1.0)) })));
-    exists = λ i j g there w. condition i j (operands_past (Exists g there) ws i j w.1) w.0;
-    exists_else = λ i j g there absent w.
-        condition i j (operands_past (ExistsElse g there absent) ws i j w.1) w.0;
+    exists = λ i j g there lt h. condition i j lt h;
+    exists_else = λ i j g there absent lt h. condition i j lt h;
   }
 
 -- what a scan from i on says, where those before ask from m on, one from the start says too

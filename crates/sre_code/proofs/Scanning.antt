@@ -2,50 +2,28 @@
 -- the characters of their runs count and their looks go back.
 use Rattle.std.proofs.Common.{ℕ, ◌+◌, ◌-◌, ◌≡◌, ◌<◌, ◌≤◌, ◌⊎◌, inl, inr, ⊎_elim, Bool, true, false}
 use Rattle.std.proofs.lemmas.Bool.{true≢false, or_left, or_right}
-use Rattle.std.proofs.Common.{List, Option, Some, None, length, max, refl, sym, ap, ◌∙◌, subst, arith}
+use Rattle.std.proofs.Common.{List, Option, Some, None, length, max, refl, sym, ap, ap₂, ◌∙◌, subst, arith}
 use Rattle.std.proofs.Math.Nat.{max-zero, zero-max}
 use Rattle.sre_chars.specs.declared.constants.SreOpcode.{SreOpcode}
-use Rattle.sre_chars.specs.declared.constants.SreOpcode.TheVariants as opcode
-use Rattle.sre_model.specs.Tree.{Tree, Exists, ExistsElse, Test, RunKind, GreedyRun, LazyRun}
-use Rattle.sre_model.specs.Tree.{PossessiveRun, Sign, Positive, Negative}
+use Rattle.sre_model.specs.Tree.{Tree, Test}
 use Rattle.sre_model.specs.References.{refers, by_references}
 use Rattle.sre_model.specs.Folding.{of_tree}
 use Rattle.sre_model.proofs.Foldings.{paired, tree_paired}
 use Rattle.sre_model.specs.RunCounts.{run_count, most_counts, by_counts}
-use Rattle.sre_model.specs.Roles.{ToTest, ToRefer, TestKind, role}
-use Rattle.sre_model.specs.Grammar.{word, Opcode, test_opcode, look_opcode, run_opcode}
-use Rattle.sre_model.specs.Grammar.{reference_opcode, WholeItems}
-use Rattle.sre_model.proofs.Families.{test_kind, test_role, reference_role}
+use Rattle.sre_model.specs.Roles.{Role, ToTest, ToRefer, ToCheckGroup, TestKind, role}
+use Rattle.sre_model.specs.Grammar.{word, Opcode, test_opcode, WholeItems}
+use Rattle.sre_model.proofs.Families.{HasRole, test_kind, test_role}
 use Rattle.sre_model.proofs.Words.{same_opcode, word_of}
 use Rattle.sre_model.proofs.Unique.{test_same}
-use Rattle.sre_model.proofs.Places.{test_past, operands_past}
+use Rattle.sre_model.proofs.Places.{test_past}
 use Rattle.sre_code.specs.Reading.{ReadsTest}
 use Rattle.sre_code.specs.Instructions.{own_words, count_by, count_at, Behind, NoneBehind}
-use Rattle.sre_code.proofs.Walking.{Scanner, Scan, Passed, IsSilent, Instructions, goes_on, stops_at, ends_at, step}
-use Rattle.sre_code.proofs.Walking.{behind, join, said_of}
-use Rattle.sre_code.proofs.Walking.{tree_walked}
+use Rattle.sre_code.proofs.Walking.{Scanner, Scan, Passed, Instructions, goes_on, stops_at, ends_at, step, behind}
+use Rattle.sre_code.proofs.Walking.{join, said_of, tree_walked}
 
 -- what opcodes tell
 test_has_none : (t : Test) → own_words (role (test_opcode t)) ≡ None
 test_has_none t = ap own_words (test_role t)
-
-pub run_has_four : (kind : RunKind) → own_words (role (run_opcode kind)) ≡ Some 4
-run_has_four GreedyRun = refl
-run_has_four LazyRun = refl
-run_has_four PossessiveRun = refl
-
-pub look_has_three : (sign : Sign) → own_words (role (look_opcode sign)) ≡ Some 3
-look_has_three Positive = refl
-look_has_three Negative = refl
-
-run_counts : (kind : RunKind) (low high : ℕ) → count_by (role (run_opcode kind)) low high ≡ run_count kind low high
-run_counts GreedyRun low high = refl
-run_counts LazyRun low high = refl
-run_counts PossessiveRun low high = refl
-
-look_counts : (sign : Sign) (back next : ℕ) → count_by (role (look_opcode sign)) back next ≡ back
-look_counts Positive back next = refl
-look_counts Negative back next = refl
 
 -- counts are told in any order
 pub max_assoc : (a b c : ℕ) → max (max a b) c ≡ max a (max b c)
@@ -53,6 +31,9 @@ max_assoc a b c = omega arith
 
 pub to_refer : (kind : TestKind) → ToRefer ≡ ToTest kind → ⊥
 to_refer kind e = cc
+
+pub to_check : (kind : TestKind) → ToCheckGroup ≡ ToTest kind → ⊥
+to_check kind e = cc
 
 module _ (ws : List ℕ) where
   -- one instruction stands behind another
@@ -99,6 +80,31 @@ module _ (ws : List ℕ) where
           let none : None ≡ Some x.1 = sym e ∙ ap (λ p. own_words (role p)) same ∙ x.3 in
           cc
 
+  -- by its role
+  pub behind_role : (i k c n : ℕ) (o : Role) → HasRole ws i o → own_words o ≡ Some n → Behind ws i k c
+      → (k ≡ i + n) × (c ≡ count_by o (word ws (i + 2)) (word ws (i + 3)))
+  behind_role i k c n o h e b =
+      let is = behind_own i k c n h.code h.there (ap own_words h.begins ∙ e) b in
+      (is.0, is.1 ∙ ap (λ p. count_by p (word ws (i + 2)) (word ws (i + 3))) h.begins)
+
+  pub role_behind : (i n : ℕ) (o : Role) → HasRole ws i o → own_words o ≡ Some n
+      → Behind ws i (i + n) (count_by o (word ws (i + 2)) (word ws (i + 3)))
+  role_behind i n o h e = record {
+    one = inr (
+      h.code,
+      n,
+      h.there,
+      ap own_words h.begins ∙ e,
+      refl,
+      ap (λ p. count_by p (word ws (i + 2)) (word ws (i + 3))) (sym h.begins),
+    );
+  }
+
+  pub none_of_role : (i : ℕ) (o : Role) → HasRole ws i o → own_words o ≡ None
+      → ((kind : TestKind) → o ≡ ToTest kind → ⊥) → NoneBehind ws i
+  none_of_role i o h e other =
+      none_behind i h.code h.there (ap own_words h.begins ∙ e) (λ kind q. other kind (sym h.begins ∙ q))
+
 -- a scan says how far what it passes counts, or stops at a reference or a condition
 abbrev pub scanner : List ℕ → Scanner ℕ (Option ℕ) (Bool × ℕ)
 scanner ws = record {
@@ -129,66 +135,58 @@ module _ (ws : List ℕ) where
   Passes = Passed (scanner ws)
 
   -- an instruction that counts
-  counting : (i n : ℕ) (o : SreOpcode) → Opcode ws i o → own_words (role o) ≡ Some n → 0 < n
-      → Passes i (i + n) (false, count_at o ws i)
-  counting i n o w has some =
-      step (scanner ws) i (i + n) (false, count_at o ws i) (omega (arith, some))
-      (λ k c h. let is = behind_own ws i k c n o w has h in (refl, is.0, is.1))
-      (λ none. absurd (none.none (i + n) (count_at o ws i) (record { one = inr (o, n, w, has, refl, refl) })))
+  counting : (i n : ℕ) (o : Role) → HasRole ws i o → own_words o ≡ Some n → 0 < n
+      → Passes i (i + n) (false, count_by o (word ws (i + 2)) (word ws (i + 3)))
+  counting i n o h has some =
+      step (scanner ws) i (i + n) (false, count_by o (word ws (i + 2)) (word ws (i + 3))) (omega (arith, some))
+      (λ k c b. let is = behind_role ws i k c n o h has b in (refl, is.0, is.1))
+      (λ none. absurd (none.none (i + n) (count_by o (word ws (i + 2)) (word ws (i + 3)))
+      (role_behind ws i n o h has)))
 
-  own : (i n : ℕ) (o : SreOpcode) → Opcode ws i o → IsSilent o n → Passes i (i + n) (false, 0)
-  own i n o w s =
-      subst (λ c. Passes i (i + n) (false, c)) (s.1 (word ws (i + 2)) (word ws (i + 3)))
-      (counting i n o w s.0 s.2)
+  -- one that counts nothing, and what is behind it
+  silent : (i n : ℕ) (o : Role) → HasRole ws i o → own_words o ≡ Some n → 0 < n
+      → ((low high : ℕ) → count_by o low high ≡ 0) → Passes i (i + n) (false, 0)
+  silent i n o h has some none =
+      subst (λ c. Passes i (i + n) (false, c)) (none (word ws (i + 2)) (word ws (i + 3)))
+      (counting i n o h has some)
 
-  inside : (i n j : ℕ) (o : SreOpcode) (a : Bool × ℕ) → Opcode ws i o → IsSilent o n → Passes (i + n) j a → Passes i j a
-  inside i n j o a w s y = behind (scanner ws) i (i + n) j a (own i n o w s) y
+  inside : (i n j : ℕ) (o : Role) (a : Bool × ℕ) → HasRole ws i o → own_words o ≡ Some n → 0 < n
+      → ((low high : ℕ) → count_by o low high ≡ 0) → Passes (i + n) j a → Passes i j a
+  inside i n j o a h has some none y = behind (scanner ws) i (i + n) j a (silent i n o h has some none) y
 
   -- one that refers
-  referring : (i j c : ℕ) → i < j → NoneBehind ws i → Passes i j (true, c)
-  referring i j c lt none = step (scanner ws) i j (true, c) lt (λ k d h. absurd (none.none k d h)) (λ h. refl)
-
-  condition : (i j c : ℕ) → i < j → Opcode ws i opcode.GROUPREF_EXISTS → Passes i j (true, c)
-  condition i j c lt w = referring i j c lt (none_behind ws i opcode.GROUPREF_EXISTS w refl (λ kind h. cc))
+  referring : (i j c : ℕ) (o : Role) → i < j → HasRole ws i o → own_words o ≡ None
+      → ((kind : TestKind) → o ≡ ToTest kind → ⊥) → Passes i j (true, c)
+  referring i j c o lt h e other =
+      step (scanner ws) i j (true, c) lt (λ k d b. absurd ((none_of_role ws i o h e other).none k d b)) (λ b. refl)
 
   instructions : Instructions (scanner ws)
   instructions = record {
-    own = λ i n o w s other. own i n o w s;
+    own = λ i n o h has some none other. silent i n o h has some none;
     test = λ i j t w.
         step (scanner ws) i j (false, 0) (test_past t ws i j w.1)
-        (λ k c h. let is = behind_test ws i j k c t w h in (refl, is.0, is.1))
+        (λ k c b. let is = behind_test ws i j k c t w b in (refl, is.0, is.1))
         (λ none. absurd (none.none j 0 (record { one = inl (t, w, refl) })));
     fail = refl;
     one = λ t. refl;
     at = λ a. refl;
     mark = λ n. refl;
-    branch = λ i j ts w y. inside i 2 j opcode.BRANCH _ w.0 (refl, λ m n. refl, omega arith) y;
-    run = λ i low high kind t w l h.
-        let first : word ws (i + 2) ≡ low = word_of ws (i + 2) low l in
-        let second : word ws (i + 3) ≡ high = word_of ws (i + 3) high h in
-        let same : count_at (run_opcode kind) ws i ≡ run_count kind low high =
-        run_counts kind (word ws (i + 2)) (word ws (i + 3))
-        ∙ ap (λ n. run_count kind n (word ws (i + 3))) first ∙ ap (λ n. run_count kind low n) second in
-        subst (λ c. Passes i (i + 4) (false, c)) same
-        (counting i 4 (run_opcode kind) w (run_has_four kind) (omega arith));
-    loop = λ i j o low high body w y.
-        inside i 4 j opcode.REPEAT _ w.0 (refl, λ m n. refl, omega arith) y;
-    possessive = λ i j low high body w y.
-        inside i 4 j opcode.POSSESSIVE_REPEAT _ w.0 (refl, λ m n. refl, omega arith) y;
-    atomic = λ i j body w y. inside i 2 j opcode.ATOMIC_GROUP _ w.0 (refl, λ m n. refl, omega arith) y;
-    look = λ i j sign back body w y.
-        let same : count_at (look_opcode sign) ws i ≡ back =
-        look_counts sign (word ws (i + 2)) (word ws (i + 3)) ∙ word_of ws (i + 2) back w.1.1 in
+    branch = λ i j ts lt h w y. inside i 2 j _ _ h refl (omega arith) (λ m n. refl) y;
+    run = λ i low high kind t h w v.
+        let first : word ws (i + 2) ≡ low = word_of ws (i + 2) low w in
+        let second : word ws (i + 3) ≡ high = word_of ws (i + 3) high v in
+        subst (λ c. Passes i (i + 4) (false, c)) (ap₂ (run_count kind) first second)
+        (counting i 4 _ h refl (omega arith));
+    loop = λ i j o low high body lt h w y. inside i 4 j _ _ h refl (omega arith) (λ m n. refl) y;
+    possessive = λ i j low high body lt h y. inside i 4 j _ _ h refl (omega arith) (λ m n. refl) y;
+    atomic = λ i j body lt h y. inside i 2 j _ _ h refl (omega arith) (λ m n. refl) y;
+    look = λ i j sign back body lt h w y.
         join (scanner ws) i (i + 3) j (false, back) _
-        (subst (λ c. Passes i (i + 3) (false, c)) same
-        (counting i 3 (look_opcode sign) w.0 (look_has_three sign) (omega arith))) y;
-    reference = λ i j f g w.
-        referring i j 0 (omega (arith, w.1.1))
-        (none_behind ws i (reference_opcode f) w.0 (ap own_words (reference_role f))
-        (λ kind h. to_refer kind (sym (reference_role f) ∙ h)));
-    exists = λ i j g there w. condition i j _ (operands_past (Exists g there) ws i j w.1) w.0;
-    exists_else = λ i j g there absent w.
-        condition i j _ (operands_past (ExistsElse g there absent) ws i j w.1) w.0;
+        (subst (λ c. Passes i (i + 3) (false, c)) (word_of ws (i + 2) back w) (counting i 3 _ h refl (omega arith)))
+        y;
+    reference = λ i j f g lt h w. referring i j 0 _ lt h refl to_refer;
+    exists = λ i j g there lt h. referring i j _ _ lt h refl to_check;
+    exists_else = λ i j g there absent lt h. referring i j _ _ lt h refl to_check;
   }
 
 -- what a scan from i on says, where those before count m, one from the start says too

@@ -4,22 +4,18 @@ use Rattle.std.proofs.Common.{ℕ, ◌+◌, ◌≡◌, ◌<◌, ◌≤◌, ◌�
 use Rattle.std.proofs.Common.{◌||◌, List, Option, Some, None, max, refl, sym, ap, ap₂, ◌∙◌, subst, arith}
 use Rattle.std.proofs.lemmas.Bool.{true≢false}
 use Rattle.std.proofs.Math.Nat.{le-max_right, max-zero}
-use Rattle.sre_chars.specs.declared.constants.SreOpcode.{SreOpcode}
-use Rattle.sre_chars.specs.declared.constants.SreOpcode.TheVariants as opcode
-use Rattle.sre_model.specs.Tree.{Tree, Empty, Then, Item, Loop, PossessiveLoop, Atomic, Look, Exists, ExistsElse}
-use Rattle.sre_model.specs.Tree.{Trees, Only, Or, Test, RunKind, Sign}
+use Rattle.sre_model.specs.Tree.{Tree, Empty, Then, Item, Loop, Trees, Only, Or}
 use Rattle.sre_model.specs.References.{refers, by_references}
 use Rattle.sre_model.specs.Folding.{Folding, of_tree, of_item, of_branch}
 use Rattle.sre_model.proofs.Foldings.{paired, tree_paired, item_paired}
 use Rattle.sre_model.specs.Regions.{has_region, by_regions}
 use Rattle.sre_model.specs.Slots.{most_slots, by_slots}
 use Rattle.sre_model.specs.Alternatives.{alternatives_of, most_alternatives, by_alternatives}
-use Rattle.sre_model.specs.Roles.{role}
-use Rattle.sre_model.specs.Grammar.{Opcode, test_opcode, look_opcode, run_opcode, reference_opcode, Reads}
-use Rattle.sre_model.proofs.Families.{test_role, run_role, look_role, reference_role}
-use Rattle.sre_model.proofs.Places.{test_past, operands_past}
-use Rattle.sre_code.specs.Reading.{ReadsTest}
-use Rattle.sre_code.specs.Instructions.{own_words, count_at, NoneBehind}
+use Rattle.sre_model.specs.Roles.{Role, ToTest, TestKind}
+use Rattle.sre_model.specs.Grammar.{Reads}
+use Rattle.sre_model.proofs.Families.{HasRole, test_here}
+use Rattle.sre_model.proofs.Places.{test_past}
+use Rattle.sre_code.specs.Instructions.{own_words}
 use Rattle.sre_code.specs.PlainItems.{ArePlain, IsPlain, TreeTold, ItemTold, flat, AreTold}
 use Rattle.sre_code.specs.PlainItems.{kind_of, ToldBy, ToldAt}
 use Rattle.sre_code.specs.declared.code.slots.Kind.{Kind}
@@ -28,7 +24,7 @@ use Rattle.sre_code.specs.declared.code.slots.Passed.{Passed}
 use Rattle.sre_code.proofs.Walking as passed
 use Rattle.sre_code.proofs.Walking.{Scanner, Scan, Instructions, goes_on, stops_at, ends_at, step, join, said_of}
 use Rattle.sre_code.proofs.Walking.{tree_walked}
-use Rattle.sre_code.proofs.Scanning.{none_behind, run_has_four, to_refer, max_assoc}
+use Rattle.sre_code.proofs.Scanning.{role_behind, none_of_role, to_refer, to_check, max_assoc}
 
 -- what was passed where a scan comes to k
 abbrev pub reached : ℕ → ℕ → ℕ → Passed
@@ -93,32 +89,10 @@ pub some_slots : (t : Tree) → 1 ≤ most_slots t
 some_slots t = subst (λ (a : (Bool × Bool) × (ℕ × ℕ)). 1 ≤ a.1.0) (all_of_tree t) (some_of_tree t)
 
 module _ (ws : List ℕ) (most : ℕ) (some : 1 ≤ most) where
-  -- what is told of an item, by its opcode
-  by_kind : (i : ℕ) (o : SreOpcode) (k : Kind) (r : Option Passed) → Opcode ws i o → kind_of (role o) ≡ k
-      → ToldAt most ws i r → ToldBy k most ws i r
-  by_kind i o k r w is h = subst (λ z. ToldBy z most ws i r) is (h.by o w)
-
-  test_other : (t : Test) → kind_of (role (test_opcode t)) ≡ kind.Other
-  test_other t = ap kind_of (test_role t)
-
-  look_region : (sign : Sign) → kind_of (role (look_opcode sign)) ≡ kind.Region
-  look_region sign = ap kind_of (look_role sign)
-
-  run_other : (k : RunKind) → kind_of (role (run_opcode k)) ≡ kind.Other
-  run_other k = ap kind_of (run_role k)
-
-  -- one instruction of so many words
-  own_told : (i n : ℕ) (o : SreOpcode) (r : Option Passed) → Opcode ws i o → kind_of (role o) ≡ kind.Other
-      → own_words (role o) ≡ Some n → ToldAt most ws i r → r ≡ Some (flat (i + n) 0)
-  own_told i n o r w is has h =
-      (by_kind i o kind.Other r w is h).some (i + n) (count_at o ws i)
-      (record { one = inr (o, n, w, has, refl, refl) })
-
-  test_told : (i j : ℕ) (t : Test) (r : Option Passed) → ReadsTest ws i j t → ToldAt most ws i r
-      → r ≡ Some (flat j 0)
-  test_told i j t r reads h =
-      (by_kind i (test_opcode t) kind.Other r reads.0 (test_other t) h).some j 0
-      (record { one = inl (t, reads, refl) })
+  -- what is told of an instruction, by its role
+  by_role : (i : ℕ) (o : Role) (k : Kind) (r : Option Passed) → HasRole ws i o → kind_of o ≡ k → ToldAt most ws i r
+      → ToldBy k most ws i r
+  by_role i o k r h is told = subst (λ z. ToldBy z most ws i r) (ap kind_of h.begins ∙ is) (told.by h.code h.there)
 
   module _ (end : ℕ) where
     -- a scan says what it has passed, or stops where what it comes to is not plain
@@ -165,11 +139,13 @@ module _ (ws : List ℕ) (most : ℕ) (some : 1 ≤ most) where
         ))
         (λ h. let no : None ≡ Some (flat j n) = told None h in absurd (cc))
 
-    own : (i n : ℕ) (o : SreOpcode) → Opcode ws i o → kind_of (role o) ≡ kind.Other → own_words (role o) ≡ Some n
-        → 0 < n → Passes i (i + n) ((false, false), (1, 0))
-    own i n o w is has lt = flat_passed i (i + n) 0 (omega (arith, lt)) (λ r h. own_told i n o r w is has h)
+    own : (i n : ℕ) (o : Role) → HasRole ws i o → own_words o ≡ Some n → 0 < n → kind_of o ≡ kind.Other
+        → Passes i (i + n) ((false, false), (1, 0))
+    own i n o h has lt is =
+        flat_passed i (i + n) 0 (omega (arith, lt))
+        (λ r told. (by_role i o kind.Other r h is told).some (i + n) _ (role_behind ws i n o h has))
 
-    -- one that is not plain
+    -- one that is not plain: a region, and a reference or a condition
     barred : (i j : ℕ) (a : (Bool × Bool) × (ℕ × ℕ)) → i < j
         → ((r : Option Passed) → ToldAt most ws i r → r ≡ None) → (AllPlain most a → ⊥) → Passes i j a
     barred i j a lt told not =
@@ -177,16 +153,14 @@ module _ (ws : List ℕ) (most : ℕ) (some : 1 ≤ most) where
         (λ k c h. let no : Some (reached k c.0 c.1) ≡ None = told (Some (reached k c.0 c.1)) h in absurd (cc))
         (λ h. not)
 
-    -- a reference or a condition
-    referring : (i j : ℕ) (o : SreOpcode) (a : (Bool × Bool) × (ℕ × ℕ)) → i < j → Opcode ws i o
-        → kind_of (role o) ≡ kind.Other → NoneBehind ws i → (AllPlain most a → ⊥) → Passes i j a
-    referring i j o a lt w is none not = barred i j a lt (λ r h. (by_kind i o kind.Other r w is h).none none) not
-
-    condition : (i j : ℕ) (a : (Bool × Bool) × (ℕ × ℕ)) → i < j → Opcode ws i opcode.GROUPREF_EXISTS
+    region : (i j : ℕ) (o : Role) (a : (Bool × Bool) × (ℕ × ℕ)) → i < j → HasRole ws i o → kind_of o ≡ kind.Region
         → (AllPlain most a → ⊥) → Passes i j a
-    condition i j a lt w not =
-        referring i j opcode.GROUPREF_EXISTS a lt w refl
-        (none_behind ws i opcode.GROUPREF_EXISTS w refl (λ kind h. cc)) not
+    region i j o a lt h is not = barred i j a lt (λ r told. by_role i o kind.Region r h is told) not
+
+    referring : (i j : ℕ) (o : Role) (a : (Bool × Bool) × (ℕ × ℕ)) → i < j → HasRole ws i o → own_words o ≡ None
+        → ((kind : TestKind) → o ≡ ToTest kind → ⊥) → kind_of o ≡ kind.Other → (AllPlain most a → ⊥) → Passes i j a
+    referring i j o a lt h e other is not =
+        barred i j a lt (λ r told. (by_role i o kind.Other r h is told).none (none_of_role ws i o h e other)) not
 
     -- a loop, whose body is passed with it
     loop_passed : (i j : ℕ) (x : Item) → i < j → ((r : Option Passed) → ToldAt most ws i r → ItemTold most j x r)
@@ -201,42 +175,34 @@ module _ (ws : List ℕ) (most : ℕ) (some : 1 ≤ most) where
 
     instructions : Instructions scanner
     instructions = record {
-      own = λ i n o w s other. own i n o w other s.0 s.2;
-      test = λ i j t w. flat_passed i j 0 (test_past t ws i j w.1) (λ r h. test_told i j t r w h);
+      own = λ i n o h has some none other. own i n o h has some other;
+      test = λ i j t w.
+          flat_passed i j 0 (test_past t ws i j w.1)
+          (λ r told.
+          (by_role i _ kind.Other r (test_here ws i t w.0) refl told).some j 0 (record { one = inl (t, w, refl) }));
       fail = refl;
       one = λ t. refl;
       at = λ a. refl;
       mark = λ n. refl;
-      branch = λ i j ts w y.
+      branch = λ i j ts lt h w y.
           let a : (Bool × Bool) × (ℕ × ℕ) = of_branch by_all ts in
           let some : 1 ≤ a.1.0 = some_of_branch ts in
           let one : max 1 a.1.0 ≡ a.1.0 = omega (arith, some) in
           subst (λ s. Passes i j (a.0, (s, max (alternatives_of ts) a.1.1))) one
           (join scanner i (i + 2) j ((false, false), (1, alternatives_of ts)) a
           (flat_passed i (i + 2) (alternatives_of ts) (omega arith)
-          (λ r h. (by_kind i opcode.BRANCH kind.Branch r w.0 refl h).each ts j w.1)) y);
-      run = λ i low high kind t w l h. own i 4 (run_opcode kind) w (run_other kind) (run_has_four kind) (omega arith);
-      loop = λ i j o low high body w y.
-          loop_passed i j (Loop o low high body) (operands_past (Loop o low high body) ws i j w.1)
-          (λ r h. (by_kind i opcode.REPEAT kind.Loop r w.0 refl h).each o low high body j w.1);
-      possessive = λ i j low high body w y.
-          barred i j _ (operands_past (PossessiveLoop low high body) ws i j w.1)
-          (λ r h. by_kind i opcode.POSSESSIVE_REPEAT kind.Region r w.0 refl h) (λ x. true≢false x.no_region);
-      atomic = λ i j body w y.
-          barred i j _ (operands_past (Atomic body) ws i j w.1)
-          (λ r h. by_kind i opcode.ATOMIC_GROUP kind.Region r w.0 refl h) (λ x. true≢false x.no_region);
-      look = λ i j sign back body w y.
-          barred i j _ (operands_past (Look sign back body) ws i j w.1)
-          (λ r h. by_kind i (look_opcode sign) kind.Region r w.0 (look_region sign) h) (λ x. true≢false x.no_region);
-      reference = λ i j f g w.
-          referring i j (reference_opcode f) _ (omega (arith, w.1.1)) w.0 (ap kind_of (reference_role f))
-          (none_behind ws i (reference_opcode f) w.0 (ap own_words (reference_role f))
-          (λ kind h. to_refer kind (sym (reference_role f) ∙ h))) (λ x. true≢false x.no_reference);
-      exists = λ i j g there w.
-          condition i j _ (operands_past (Exists g there) ws i j w.1) w.0 (λ x. true≢false x.no_reference);
-      exists_else = λ i j g there absent w.
-          condition i j _ (operands_past (ExistsElse g there absent) ws i j w.1) w.0
-          (λ x. true≢false x.no_reference);
+          (λ r told. (by_role i _ kind.Branch r h refl told).each ts j w)) y);
+      run = λ i low high kind t h w v. own i 4 _ h refl (omega arith) refl;
+      loop = λ i j o low high body lt h w y.
+          loop_passed i j (Loop o low high body) lt
+          (λ r told. (by_role i _ kind.Loop r h refl told).each o low high body j w);
+      possessive = λ i j low high body lt h y. region i j _ _ lt h refl (λ x. true≢false x.no_region);
+      atomic = λ i j body lt h y. region i j _ _ lt h refl (λ x. true≢false x.no_region);
+      look = λ i j sign back body lt h w y. region i j _ _ lt h refl (λ x. true≢false x.no_region);
+      reference = λ i j f g lt h w. referring i j _ _ lt h refl to_refer refl (λ x. true≢false x.no_reference);
+      exists = λ i j g there lt h. referring i j _ _ lt h refl to_check refl (λ x. true≢false x.no_reference);
+      exists_else = λ i j g there absent lt h.
+          referring i j _ _ lt h refl to_check refl (λ x. true≢false x.no_reference);
     }
 
 module _ (ws : List ℕ) (most start e : ℕ) (some : 1 ≤ most) where

@@ -2,40 +2,44 @@
 -- together by a folding.
 use Rattle.std.proofs.Common.{ℕ, zero, suc, ◌+◌, ◌-◌, ◌≡◌, ◌<◌, ◌≤◌, ◌⊎◌, inl, inr, ⊎_elim, Some, List, refl, sym}
 use Rattle.std.proofs.Common.{subst, arith}
-use Rattle.sre_chars.specs.declared.constants.SreOpcode.{SreOpcode}
 use Rattle.sre_chars.specs.declared.constants.SreOpcode.TheVariants as opcode
 use Rattle.sre_chars.specs.declared.constants.SreAtCode.{SreAtCode}
 use Rattle.sre_model.specs.Tree.{Tree, Empty, Then, Item, Fail, One, At, Mark, Branch, Loop, Run, PossessiveLoop}
 use Rattle.sre_model.specs.Tree.{Atomic, Look, Reference, Exists, ExistsElse, Trees, Only, Or, Test, Fold, Order}
-use Rattle.sre_model.specs.Tree.{Greedy, Lazy, RunKind, Sign}
+use Rattle.sre_model.specs.Tree.{RunKind, Sign}
 use Rattle.sre_model.specs.Folding.{Folding, of_tree, of_branch, of_item}
-use Rattle.sre_model.specs.Roles.{role}
-use Rattle.sre_model.specs.Grammar.{Word, skip, Opcode, run_opcode, until_opcode, Reads, ReadsItem, ReadsBranch}
-use Rattle.sre_model.proofs.Places.{test_past, reads_within, alternative_long}
+use Rattle.sre_model.specs.Roles.{Role, ToFail, ToEnd, ToCheckPosition, ToMark, ToBranch, ToJump, ToRun, ToRepeat}
+use Rattle.sre_model.specs.Roles.{ToLoop, ToRepeatPossessively, ToGroupAtomically, ToLook, ToRefer, ToCheckGroup}
+use Rattle.sre_model.proofs.Families.{HasRole, role_here, item_here, until_role}
+use Rattle.sre_model.specs.Grammar.{Word, skip, Opcode, until_opcode, Operands, Reads, ReadsItem, ReadsBranch}
+use Rattle.sre_model.proofs.Places.{test_past, reads_within, operands_past, alternative_long}
 use Rattle.sre_code.specs.Reading.{ReadsTest}
 use Rattle.sre_code.specs.Instructions.{own_words, count_by}
 use Rattle.sre_code.specs.PlainItems.{kind_of}
 use Rattle.sre_code.specs.declared.code.slots.Kind.TheVariants as kind
 
--- a scan of words up to a place: which instruction is behind which, and what it has; at which ones the scan stops; what
--- it says, by how it ends and by what all that it passed has; and what it tells of a part, by what the part's folding
--- gives: that it stops in it, or what it has passed behind it, where what was passed before fits
+-- a scan of words up to a place, which adds up what instructions have, and a folding of what it tells of a tree
 pub record Scanner (C R V : Type 0) : Type 1 where
   pub words : List ℕ
   pub end : ℕ
+  -- an instruction is at a place, the next one at another, and it has this; the scan stops at a place
   pub Next : ℕ → ℕ → C → Type 0
   pub Stops : ℕ → Type 0
   pub add : C → C → C
+  -- what it says where it comes to the end, by what all that it passed has, and where it stops
   pub ended : ℕ → C → R
   pub stopped : R
+  -- by a part's value: it stops in the part, or passes it and adds so much, where what it passed before fits
   pub folding : Folding V
-  pub worth : V → C
   pub Bad : V → Type 0
   pub Good : V → Type 0
+  pub worth : V → C
   pub Fits : C → Type 0
+  -- what is passed goes on to fit, nothing adds nothing, and both parts add what each does
   pub fits : (m : C) (a : V) → Fits m → Fits (add m (worth a))
   pub unit : (m : C) → Fits m → add m (worth folding.nothing) ≡ m
   pub sum : (m : C) (a b : V) → add (add m (worth a)) (worth b) ≡ add m (worth (folding.both a b))
+  -- it stops in both parts where it stops in one
   pub good : Good folding.nothing
   pub clear : Bad folding.nothing → ⊥
   pub both : (a b : V) → Good a → Good b → Good (folding.both a b)
@@ -148,19 +152,6 @@ module _ {C R V : Type 0} (x : Scanner C R V) where
       go zero z = z.1
       go (suc n) z = absurd (omega (arith, z.0))
 
--- an opcode of an instruction of so many words that counts nothing
-abbrev pub IsSilent : SreOpcode → ℕ → Type 0
-IsSilent o n =
-    (own_words (role o) ≡ Some n) × ((low high : ℕ) → count_by (role o) low high ≡ 0) × (0 < n)
-
-until_silent : (o : Order) → IsSilent (until_opcode o) 1
-until_silent Greedy = (refl, λ low high. refl, omega arith)
-until_silent Lazy = (refl, λ low high. refl, omega arith)
-
-until_other : (o : Order) → kind_of (role (until_opcode o)) ≡ kind.Other
-until_other Greedy = refl
-until_other Lazy = refl
-
 module _ {C R V : Type 0} (x : Scanner C R V) where
   abbrev ws : List ℕ
   ws = x.words
@@ -171,58 +162,60 @@ module _ {C R V : Type 0} (x : Scanner C R V) where
   abbrev P : ℕ → ℕ → V → Type 0
   P = Passed x
 
-  -- what is told of each item's instructions, by what is told of its bodies
+  -- what is told of each instruction, by its role and by what is told of the bodies behind it
   pub record Instructions : Type 0 where
     pub own :
-        (i n : ℕ) (o : SreOpcode) → Opcode ws i o → IsSilent o n → kind_of (role o) ≡ kind.Other
-        → P i (i + n) f.nothing
+        (i n : ℕ) (o : Role) → HasRole ws i o → own_words o ≡ Some n → 0 < n
+        → ((low high : ℕ) → count_by o low high ≡ 0) → kind_of o ≡ kind.Other → P i (i + n) f.nothing
     pub test : (i j : ℕ) (t : Test) → ReadsTest ws i j t → P i j f.nothing
     pub fail : f.item Fail f.nothing ≡ f.nothing
     pub one : (t : Test) → f.item (One t) f.nothing ≡ f.nothing
     pub at : (a : SreAtCode) → f.item (At a) f.nothing ≡ f.nothing
     pub mark : (n : ℕ) → f.item (Mark n) f.nothing ≡ f.nothing
     pub branch :
-        (i j : ℕ) (ts : Trees) → ReadsItem ws i j (Branch ts) → P (i + 2) j (of_branch f ts)
-        → P i j (of_item f (Branch ts))
+        (i j : ℕ) (ts : Trees) → i < j → HasRole ws i ToBranch → ReadsBranch ws (i + 1) j ts
+        → P (i + 2) j (of_branch f ts) → P i j (of_item f (Branch ts))
     pub run :
-        (i low high : ℕ) (kind : RunKind) (t : Test) → Opcode ws i (run_opcode kind) → Word ws (i + 2) low
+        (i low high : ℕ) (kind : RunKind) (t : Test) → HasRole ws i (ToRun kind) → Word ws (i + 2) low
         → Word ws (i + 3) high → P i (i + 4) (of_item f (Run kind low high t))
     pub loop :
-        (i j : ℕ) (o : Order) (low high : ℕ) (body : Tree) → ReadsItem ws i j (Loop o low high body)
-        → P (i + 4) j (of_tree f body) → P i j (of_item f (Loop o low high body))
+        (i j : ℕ) (o : Order) (low high : ℕ) (body : Tree) → i < j → HasRole ws i ToRepeat
+        → Operands ws i j (Loop o low high body) → P (i + 4) j (of_tree f body)
+        → P i j (of_item f (Loop o low high body))
     pub possessive :
-        (i j low high : ℕ) (body : Tree) → ReadsItem ws i j (PossessiveLoop low high body)
-        → P (i + 4) j (of_tree f body) → P i j (of_item f (PossessiveLoop low high body))
+        (i j low high : ℕ) (body : Tree) → i < j → HasRole ws i ToRepeatPossessively → P (i + 4) j (of_tree f body)
+        → P i j (of_item f (PossessiveLoop low high body))
     pub atomic :
-        (i j : ℕ) (body : Tree) → ReadsItem ws i j (Atomic body) → P (i + 2) j (of_tree f body)
+        (i j : ℕ) (body : Tree) → i < j → HasRole ws i ToGroupAtomically → P (i + 2) j (of_tree f body)
         → P i j (of_item f (Atomic body))
     pub look :
-        (i j : ℕ) (sign : Sign) (back : ℕ) (body : Tree) → ReadsItem ws i j (Look sign back body)
+        (i j : ℕ) (sign : Sign) (back : ℕ) (body : Tree) → i < j → HasRole ws i (ToLook sign) → Word ws (i + 2) back
         → P (i + 3) j (of_tree f body) → P i j (of_item f (Look sign back body))
     pub reference :
-        (i j : ℕ) (fold : Fold) (g : ℕ) → ReadsItem ws i j (Reference fold g) → P i j (of_item f (Reference fold g))
+        (i j : ℕ) (fold : Fold) (g : ℕ) → i < j → HasRole ws i ToRefer → ReadsItem ws i j (Reference fold g)
+        → P i j (of_item f (Reference fold g))
     pub exists :
-        (i j g : ℕ) (there : Tree) → ReadsItem ws i j (Exists g there) → P i j (of_item f (Exists g there))
+        (i j g : ℕ) (there : Tree) → i < j → HasRole ws i ToCheckGroup → P i j (of_item f (Exists g there))
     pub exists_else :
-        (i j g : ℕ) (there absent : Tree) → ReadsItem ws i j (ExistsElse g there absent)
+        (i j g : ℕ) (there absent : Tree) → i < j → HasRole ws i ToCheckGroup
         → P i j (of_item f (ExistsElse g there absent))
 
   module _ (h : Instructions) where
-    -- one of so many words, of which nothing is told
-    plain : (i n j : ℕ) (o : SreOpcode) → Opcode ws i o → IsSilent o n → kind_of (role o) ≡ kind.Other → j ≡ i + n
-        → P i j f.nothing
-    plain i n j o w s other at = subst (λ k. P i k f.nothing) (sym at) (h.own i n o w s other)
+    past : (y : Item) (i j : ℕ) → ReadsItem ws i j y → i < j
+    past y i j w = operands_past y ws i j w.1
 
     -- what ends a body, and an alternative
     success : (i k j : ℕ) (a : V) → P i k a → Opcode ws k opcode.SUCCESS → j ≡ k + 1 → P i j a
     success i k j a y o at =
         before x i k j a y
-        (plain k 1 j opcode.SUCCESS o (refl, λ low high. refl, omega arith) refl at)
+        (subst (λ m. P k m f.nothing) (sym at)
+        (h.own k 1 ToEnd (role_here ws k opcode.SUCCESS ToEnd o refl) refl (omega arith) (λ m n. refl) refl))
 
     jump : (i k j : ℕ) (a : V) → P i k a → Opcode ws k opcode.JUMP → j ≡ k + 3 → P i j a
     jump i k j a y o at =
         before x i k j a y
-        (plain k 3 j opcode.JUMP o (refl, λ low high. refl, omega arith) refl at)
+        (subst (λ m. P k m f.nothing) (sym at)
+        (h.own k 3 ToJump (role_here ws k opcode.JUMP ToJump o refl) refl (omega arith) (λ m n. refl) refl))
 
     mutual
       pub tree_walked : (u : Tree) (i j : ℕ) → Reads ws i j u → P i j (of_tree f u)
@@ -232,46 +225,56 @@ module _ {C R V : Type 0} (x : Scanner C R V) where
 
       item_walked : (y : Item) (i j : ℕ) → ReadsItem ws i j y → P i j (of_item f y)
       item_walked Fail i j w =
-          subst (λ a. P i j a) (sym h.fail)
-          (plain i 1 j opcode.FAILURE w.0 (refl, λ low high. refl, omega arith) refl w.1)
-      item_walked (One u) i j w = subst (λ a. P i j a) (sym (h.one u)) (h.test i j u w)
+          rw (h.fail, w.1)
+          (h.own i 1 ToFail (item_here ws i j Fail w) refl (omega arith) (λ m n. refl) refl)
+      item_walked (One u) i j w = rw (h.one u) (h.test i j u w)
       item_walked (At p) i j w =
-          subst (λ a. P i j a) (sym (h.at p))
-          (plain i 2 j opcode.AT w.0 (refl, λ low high. refl, omega arith) refl w.1.1)
+          rw (h.at p, w.1.1)
+          (h.own i 2 ToCheckPosition (item_here ws i j (At p) w) refl (omega arith) (λ m n. refl) refl)
       item_walked (Mark n) i j w =
-          subst (λ a. P i j a) (sym (h.mark n))
-          (plain i 2 j opcode.MARK w.0 (refl, λ low high. refl, omega arith) refl w.1.1)
+          rw (h.mark n, w.1.1)
+          (h.own i 2 ToMark (item_here ws i j (Mark n) w) refl (omega arith) (λ m n. refl) refl)
       item_walked (Branch ts) i j w =
-          h.branch i j ts w
+          h.branch i j ts (past (Branch ts) i j w) (item_here ws i j (Branch ts) w) w.1
           (subst (λ k. P k j (of_branch f ts)) (omega arith) (trees_walked ts (i + 1) j w.1))
       item_walked (Loop o low high body) i j w =
+          let y : Item = Loop o low high body in
           let end : ℕ = skip ws (i + 1) in
-          h.loop i j o low high body w
+          h.loop i j o low high body (past y i j w) (item_here ws i j y w) w.1
           (before x (i + 4) end j (of_tree f body) (tree_walked body (i + 4) end w.1.3)
-          (plain end 1 j (until_opcode o) w.1.4 (until_silent o) (until_other o) w.1.5))
+          (subst (λ k. P end k f.nothing) (sym w.1.5)
+          (h.own end 1 (ToLoop o) (role_here ws end (until_opcode o) (ToLoop o) w.1.4 (until_role o)) refl
+          (omega arith) (λ m n. refl) refl)))
       item_walked (Run kind low high u) i j w =
+          let y : Item = Run kind low high u in
           let far : i + 4 < j - 1 = test_past u ws (i + 4) (j - 1) w.1.5 in
-          let a : V = of_item f (Run kind low high u) in
-          success i (j - 1) j a
-          (before x i (i + 4) (j - 1) a (h.run i low high kind u w.0 w.1.1 w.1.2)
-          (h.test (i + 4) (j - 1) u (w.1.4, w.1.5))) w.1.6 (omega (arith, far))
+          success i (j - 1) j (of_item f y)
+          (before x i (i + 4) (j - 1) (of_item f y)
+          (h.run i low high kind u (item_here ws i j y w) w.1.1 w.1.2) (h.test (i + 4) (j - 1) u (w.1.4, w.1.5)))
+          w.1.6 (omega (arith, far))
       item_walked (PossessiveLoop low high body) i j w =
+          let y : Item = PossessiveLoop low high body in
           let end : ℕ = skip ws (i + 1) in
-          h.possessive i j low high body w
+          h.possessive i j low high body (past y i j w) (item_here ws i j y w)
           (success (i + 4) end j (of_tree f body) (tree_walked body (i + 4) end w.1.3) w.1.4 w.1.5)
       item_walked (Atomic body) i j w =
           let far : i + 2 ≤ j - 1 = reads_within body ws (i + 2) (j - 1) w.1.1 in
-          h.atomic i j body w
+          h.atomic i j body (past (Atomic body) i j w) (item_here ws i j (Atomic body) w)
           (success (i + 2) (j - 1) j (of_tree f body) (tree_walked body (i + 2) (j - 1) w.1.1) w.1.2
           (omega (arith, far)))
       item_walked (Look sign back body) i j w =
+          let y : Item = Look sign back body in
           let far : i + 3 ≤ j - 1 = reads_within body ws (i + 3) (j - 1) w.1.2 in
-          h.look i j sign back body w
+          h.look i j sign back body (past y i j w) (item_here ws i j y w) w.1.1
           (success (i + 3) (j - 1) j (of_tree f body) (tree_walked body (i + 3) (j - 1) w.1.2) w.1.3
           (omega (arith, far)))
-      item_walked (Reference fold g) i j w = h.reference i j fold g w
-      item_walked (Exists g there) i j w = h.exists i j g there w
-      item_walked (ExistsElse g there absent) i j w = h.exists_else i j g there absent w
+      item_walked (Reference fold g) i j w =
+          h.reference i j fold g (past (Reference fold g) i j w) (item_here ws i j (Reference fold g) w) w
+      item_walked (Exists g there) i j w =
+          h.exists i j g there (past (Exists g there) i j w) (item_here ws i j (Exists g there) w)
+      item_walked (ExistsElse g there absent) i j w =
+          let y : Item = ExistsElse g there absent in
+          h.exists_else i j g there absent (past y i j w) (item_here ws i j y w)
 
       trees_walked : (ts : Trees) (q j : ℕ) → ReadsBranch ws q j ts → P (q + 1) j (of_branch f ts)
       trees_walked (Only u) q j w =
