@@ -29,7 +29,6 @@ pub mod NestedPlaces
 pub mod NestedPositions
 pub mod NestedSlots
 pub mod NestedCounts
-pub mod NestedWindow
 pub mod AlikeLoops
 pub mod AlikeTurns
 pub mod SameComes

@@ -2,7 +2,7 @@
 -- loops began. So what comes of a spot ends no earlier than at the least position to which its point comes back: behind
 -- an atomic group and a body of a possessive loop one stands no earlier than before it. Alike spots rest on that.
 use Rattle.std.proofs.Common.{◌≡◌, ℕ, ◌+◌, ◌-◌, ◌<◌, ◌≤◌, ◌&&◌, ◌||◌, Bool, true, false, cond, nat_eq, nat_lt, nat_le}
-use Rattle.std.proofs.Common.{List, [], ◌∷◌, Option, Some, None, refl, sym, subst, arith}
+use Rattle.std.proofs.Common.{List, [], ◌∷◌, ◌++◌, drop, Option, Some, None, refl, sym, subst, arith}
 use Rattle.std.specs.Bool.{⊤}
 use Rattle.std.specs.List.{AllByRecursion}
 use Rattle.std.proofs.lemmas.Bool.Decides.{nat_tests}
@@ -28,7 +28,7 @@ use Rattle.sre_turns.specs.MovesInRegions.{look}
 use Rattle.sre_turns.specs.MovesAtReferences.{reference_turn}
 use Rattle.sre_turns.specs.Machine.{InRole, MovesAt, Runs, turns, Comes, stops, ends, goes, splits, enters}
 use Rattle.sre_turns.specs.Alike.{least_from}
-use Rattle.sre_turns.specs.Nested.{BegunBy, AllBegunBy}
+use Rattle.sre_turns.specs.Nested.{BegunBy, AllBegunBy, Onto, Leads}
 use Rattle.sre_model.proofs.Each.{each-append, each-weaken}
 use Rattle.sre_model.proofs.Longest.{run_passes}
 use Rattle.sre_model.proofs.Bounds.{longest_run-fits, passes-below}
@@ -53,19 +53,9 @@ Onward p (Enter g x y) = (p ≤ x.position) × (goes_behind g ≡ true → p ≤
 abbrev pub EndFrom : ℕ → List Way → Type 0
 EndFrom p os = AllByRecursion (λ (w : Way). p ≤ w.stop) os
 
--- what comes of a region goes on from where it was entered, or from where its body ends
-closing-onward : (p : ℕ) (g : Region) (x : Spot) (now : List Way) → p ≤ x.position
-    → (goes_behind g ≡ true → EndFrom p now) → Onward p (closing_move g x now)
-closing-onward p (AtomicGroup t) x [] l e = tt
-closing-onward p (AtomicGroup t) x (w ∷ ws) l e = (e refl).0
-closing-onward p (Ahead t) x [] l e = tt
-closing-onward p (Ahead t) x (w ∷ ws) l e = l
-closing-onward p (NotAhead t) x [] l e = l
-closing-onward p (NotAhead t) x (w ∷ ws) l e = tt
-closing-onward p Owed x [] l e = tt
-closing-onward p Owed x (w ∷ ws) l e = (e refl).0
-closing-onward p (Further t) x [] l e = l
-closing-onward p (Further t) x (w ∷ ws) l e = (e refl).0
+-- and each no later
+abbrev pub EndWithin : ℕ → List Way → Type 0
+EndWithin e os = AllByRecursion (λ (w : Way). w.stop ≤ e) os
 
 begun_later : (p q : ℕ) (last : Option ℕ) → p ≤ q → BegunBy last p → BegunBy last q
 begun_later p q None l h = tt
@@ -95,7 +85,7 @@ module _ (s : Subject) (o p : ℕ) (fs : List Frame) where
   Reaching (Split y z) = Reached y × Reached z
   Reaching (Enter g y z) =
       Reaches s o p fs y.position y.position y.frames
-      × (o ≤ s.end → z.position ≤ s.end) × (z.frames ≡ [])
+      × (y.position ≤ s.end → z.position ≤ s.end) × (z.frames ≡ [])
       × (goes_behind g ≡ true → y.position ≤ least_from z.point z.position)
 
   -- under the same loops
@@ -279,6 +269,51 @@ module _ (ws : List ℕ) (s : Subject) (fs : List Frame) (p : ℕ) (m : Marks) w
       (again_reaches ws s 0 p fs m h.frame h.outer h.inside h.low h.high (skip ws (h.frame.repeat + 1)))
   point_reaches (Tried i) a h = absurd h
 
+-- what comes of a region goes on from where it was entered, or from where its body ends
+outer_begun : (p : ℕ) (fs : List Frame) → AllBegunBy p fs → AllBegunBy p (drop 1 fs)
+outer_begun p [] h = tt
+outer_begun p (f ∷ fs) h = h.1
+
+module _ (s : Subject) (y : Spot) where
+  abbrev Later : Spot → Type 0
+  Later = Reached s y.position y.position y.frames
+
+  there : Reaches s y.position y.position y.frames y.position y.position y.frames
+  there = on s y.position y.position y.frames y.position y.position (omega arith) (λ l. l)
+
+  at_end : (w : Way) → y.position ≤ w.stop → (y.position ≤ s.end → w.stop ≤ s.end)
+      → Reaches s y.position y.position y.frames w.stop w.stop y.frames
+  at_end w l k = on s y.position y.position y.frames w.stop w.stop l k
+
+  closing_reaches : (g : Region) (now : List Way) → (goes_behind g ≡ true → EndFrom y.position now)
+      → (y.position ≤ s.end → EndWithin s.end now) → Onto Later (closing_move g y now)
+  closing_reaches (AtomicGroup t) [] e k = tt
+  closing_reaches (AtomicGroup t) (w ∷ os) e k = at_end w (e refl).0 (λ l. (k l).0)
+  closing_reaches (Ahead t) [] e k = tt
+  closing_reaches (Ahead t) (w ∷ os) e k = there
+  closing_reaches (NotAhead t) [] e k = there
+  closing_reaches (NotAhead t) (w ∷ os) e k = tt
+  closing_reaches Owed [] e k = tt
+  closing_reaches Owed (w ∷ os) e k = at_end w (e refl).0 (λ l. (k l).0)
+  closing_reaches (Further t) [] e k =
+      record { onward = omega arith; inside = λ l. l; begun = outer_begun y.position y.frames }
+  closing_reaches (Further t) (w ∷ os) e k = at_end w (e refl).0 (λ l. (k l).0)
+
+onto_reaching : (s : Subject) (o p : ℕ) (fs : List Frame) (a : Move) → Onto (Reached s o p fs) a
+    → Reaching s o p fs a
+onto_reaching s o p fs Stop h = tt
+onto_reaching s o p fs End h = tt
+onto_reaching s o p fs (Go y) h = h
+onto_reaching s o p fs (Split y z) h = h
+onto_reaching s o p fs (Enter g y z) h = absurd h
+
+onto_map : (P Q : Spot → Type 0) → ((y : Spot) → P y → Q y) → (a : Move) → Onto P a → Onto Q a
+onto_map P Q f Stop h = tt
+onto_map P Q f End h = tt
+onto_map P Q f (Go y) h = f y h
+onto_map P Q f (Split y z) h = (f y h.0, f z h.1)
+onto_map P Q f (Enter g y z) h = absurd h
+
 -- so no turn comes back further than its spot
 pub point-onward : (ws : List ℕ) (s : Subject) (pt : Point) (fs : List Frame) (p : ℕ) (m : Marks) (a : Move)
     → MovesAt ws s pt (spot_at pt fs p m) a → Onward (least_from pt p) a
@@ -301,22 +336,69 @@ least_position (Inside g) p = omega arith
 least_position Again p = omega arith
 least_position (Tried i) p = omega arith
 
--- so the outcomes of a spot end no earlier
+-- so the outcomes of a spot end no earlier, and in the window
 module _ (ws : List ℕ) (s : Subject) where
-  mutual
-    pub outcomes-onward : {x : Spot} {os : List Way} {n : ℕ} (p : ℕ) → p ≤ least_from x.point x.position
-        → Runs ws s x os n → EndFrom p os
-    outcomes-onward {x} p l (turns a h d) =
-        comes-onward p (omega (arith, l, least_position x.point x.position))
-        (onward-less p (least_from x.point x.position) a l
-        (point-onward ws s x.point x.frames x.position x.marks a h)) d
+  abbrev EndThere : ℕ → ℕ → List Way → Type 0
+  EndThere o p os = EndFrom p os × (o ≤ s.end → EndWithin s.end os)
 
-    pub comes-onward : {x : Spot} {a : Move} {os : List Way} {n : ℕ} (p : ℕ) → p ≤ x.position → Onward p a
-        → Comes ws s x a os n → EndFrom p os
-    comes-onward p l h stops = tt
-    comes-onward p l h ends = (l, tt)
-    comes-onward p l h (goes d) = outcomes-onward p h d
-    comes-onward p l h (splits {os₁ = os₁} {os₂ = os₂} d e) =
-        each-append (λ (w : Way). p ≤ w.stop) os₁ os₂ (outcomes-onward p h.0 d) (outcomes-onward p h.1 e)
-    comes-onward p l h (enters {y = y} {g = g} {now = now} d e) =
-        comes-onward p h.0 (closing-onward p g y now h.0 (λ stays. outcomes-onward p (h.1 stays) d)) e
+  both_there : (o p : ℕ) (os others : List Way) → EndThere o p os → EndThere o p others
+      → EndThere o p (os ++ others)
+  both_there o p os others h k = (
+    each-append (λ (w : Way). p ≤ w.stop) os others h.0 k.0,
+    λ l. each-append (λ (w : Way). w.stop ≤ s.end) os others (h.1 l) (k.1 l),
+  )
+
+  mutual
+    outcomes_end : {x : Spot} {os : List Way} {n : ℕ} (p : ℕ) → p ≤ least_from x.point x.position
+        → Runs ws s x os n → EndThere x.position p os
+    outcomes_end {x} p l (turns a h d) =
+        comes_end x.position p (least_from x.point x.position) x.frames l
+        (omega (arith, l, least_position x.point x.position)) (λ k. k)
+        (point_reaches ws s x.frames x.position x.marks x.point a h) d
+
+    comes_end : {x : Spot} {a : Move} {os : List Way} {n : ℕ} (o p q : ℕ) (fs : List Frame) → p ≤ q → p ≤ x.position
+        → (o ≤ s.end → x.position ≤ s.end) → Reaching s o q fs a → Comes ws s x a os n → EndThere o p os
+    comes_end o p q fs l k inside h stops = (tt, λ w. tt)
+    comes_end o p q fs l k inside h ends = ((k, tt), λ w. (inside w, tt))
+    comes_end o p q fs l k inside h (goes d) =
+        let e = outcomes_end p (omega (arith, l, h.onward)) d in
+        (e.0, λ w. e.1 (h.inside w))
+    comes_end o p q fs l k inside h (splits {os₁ = os₁} {os₂ = os₂} d e) =
+        let first = outcomes_end p (omega (arith, l, h.0.onward)) d in
+        let second = outcomes_end p (omega (arith, l, h.1.onward)) e in
+        both_there o p os₁ os₂ (first.0, λ w. first.1 (h.0.inside w)) (second.0, λ w. second.1 (h.1.inside w))
+    comes_end o p q fs l k inside h (enters {y = y} {g = g} {now = now} d e) =
+        let closed : Reaching s y.position y.position y.frames (closing_move g y now) =
+        onto_reaching s y.position y.position y.frames (closing_move g y now)
+        (closing_reaches s y g now (λ w. (outcomes_end y.position (h.3 w) d).0)
+        (λ w. (outcomes_end 0 (omega arith) d).1 (h.1 w))) in
+        let far : p ≤ y.position = omega (arith, l, h.0.onward) in
+        let all = comes_end y.position p y.position y.frames far far (λ w. w) closed e in
+        (all.0, λ w. all.1 (h.0.inside w))
+
+  pub outcomes-onward : {x : Spot} {os : List Way} {n : ℕ} (p : ℕ) → p ≤ least_from x.point x.position
+      → Runs ws s x os n → EndFrom p os
+  outcomes-onward p l d = (outcomes_end p l d).0
+
+  -- what holds of each spot that is reached so, and of each where a region's body begins, holds of all to which a turn
+  -- leads
+  pub reaches_leads : (P : Spot → Type 0) (o p : ℕ) (fs : List Frame) → ((y : Spot) → Reached s o p fs y → P y)
+      → ((y : Spot) → y.frames ≡ [] → (o ≤ s.end → y.position ≤ s.end) → P y) → (a : Move) → Reaching s o p fs a
+      → Leads ws s P a
+  reaches_leads P o p fs to into Stop h = tt
+  reaches_leads P o p fs to into End h = tt
+  reaches_leads P o p fs to into (Go y) h = to y h
+  reaches_leads P o p fs to into (Split y z) h = (to y h.0, to z h.1)
+  reaches_leads P o p fs to into (Enter g y z) h = (
+    into z h.2 (λ l. h.1 (h.0.inside l)),
+    λ now n d. onto_map (Later s y) P
+        (λ u k. to u
+        (record {
+          onward = omega (arith, h.0.onward, k.onward);
+          inside = λ l. k.inside (h.0.inside l);
+          begun = λ b. k.begun (h.0.begun b);
+        }))
+        (closing_move g y now)
+        (closing_reaches s y g now (λ w. (outcomes_end y.position (h.3 w) d).0)
+        (λ w. (outcomes_end 0 (omega arith) d).1 (h.1 w))),
+  )

@@ -30,8 +30,7 @@ use Rattle.sre_turns.specs.Nested.{repeats, LiesIn, LiesInItem, LiesInBranch, Li
 use Rattle.sre_turns.specs.Settled.{Settled}
 use Rattle.sre_turns.proofs.Onward.{Onward, onward-less, point-onward}
 use Rattle.sre_turns.proofs.NestedMoves.{begins, lies_moves}
-use Rattle.sre_turns.proofs.NestedPositions.{passed_moves}
-use Rattle.sre_turns.proofs.NestedWindow.{window_moves}
+use Rattle.sre_turns.proofs.NestedPositions.{passed_moves, window_moves}
 use Rattle.sre_turns.proofs.NestedStarts.{lies_first, lies_behind}
 use Rattle.sre_turns.proofs.PotentialMoves.{enters, NoEntry, entry_role, entry_point}
 
