@@ -28,6 +28,7 @@ pub mod NestedStarts
 pub mod NestedPlaces
 pub mod NestedPositions
 pub mod NestedSlots
+pub mod NestedPoints
 pub mod NestedCounts
 pub mod AlikeLoops
 pub mod AlikeTurns
