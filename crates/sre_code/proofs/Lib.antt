@@ -16,6 +16,7 @@ pub mod Borders
 pub mod Prefixes
 pub mod Claimed
 pub mod FirstSets
+pub mod Walking
 pub mod Scanning
 pub mod Asking
 pub mod ScanningLoops

@@ -5,10 +5,11 @@ use Rattle.sre_chars.specs.declared.constants.SreOpcode.{SreOpcode}
 use Rattle.sre_model.specs.Tree.{Tree, Item, Loop, Trees, Order}
 use Rattle.sre_model.specs.Grammar.{Opcode, Operands, Reads, ReadsBranch}
 use Rattle.sre_model.specs.Roles.{Role, ToBranch, ToRepeat, ToRepeatPossessively, ToGroupAtomically, ToLook, role}
-use Rattle.sre_model.specs.References.{refers, item_refers}
-use Rattle.sre_model.specs.Regions.{has_region, item_has_region}
-use Rattle.sre_model.specs.Slots.{most_slots, item_slots}
-use Rattle.sre_model.specs.Alternatives.{alternatives_of, most_alternatives, item_alternatives}
+use Rattle.sre_model.specs.References.{refers, by_references}
+use Rattle.sre_model.specs.Folding.{of_item}
+use Rattle.sre_model.specs.Regions.{has_region, by_regions}
+use Rattle.sre_model.specs.Slots.{most_slots, by_slots}
+use Rattle.sre_model.specs.Alternatives.{alternatives_of, most_alternatives, by_alternatives}
 use Rattle.sre_code.specs.Instructions.{Behind, NoneBehind}
 use Rattle.sre_code.specs.declared.code.slots.Kind.{Kind}
 use Rattle.sre_code.specs.declared.code.slots.Kind.TheVariants as kind
@@ -24,7 +25,7 @@ abbrev pub IsPlain : ℕ → Tree → Type 0
 IsPlain most t = ArePlain most (has_region t) (refers t) (most_slots t)
 
 abbrev pub IsPlainItem : ℕ → Item → Type 0
-IsPlainItem most x = ArePlain most (item_has_region x) (item_refers x) (item_slots x)
+IsPlainItem most x = ArePlain most (of_item by_regions x) (of_item by_references x) (of_item by_slots x)
 
 -- what is told of items that end at j: their slots and alternatives, or that they are not plain
 abbrev pub TreeTold : ℕ → ℕ → Tree → Option Passed → Type 0
@@ -34,7 +35,8 @@ TreeTold most j t None = IsPlain most t → ⊥
 
 abbrev pub ItemTold : ℕ → ℕ → Item → Option Passed → Type 0
 ItemTold most j x (Some p) =
-    IsPlainItem most x × (p.behind ≡ j) × (p.slots ≡ item_slots x) × (p.alternatives ≡ item_alternatives x)
+    IsPlainItem most x × (p.behind ≡ j) × (p.slots ≡ of_item by_slots x)
+    × (p.alternatives ≡ of_item by_alternatives x)
 ItemTold most j x None = IsPlainItem most x → ⊥
 
 -- an instruction that has no loop, and so many alternatives; what is behind it stands at k

@@ -6,6 +6,7 @@ pub use Rattle.sre_model.specs.Subject
 pub use Rattle.sre_model.specs.Ways
 pub use Rattle.sre_model.specs.Loops
 pub use Rattle.sre_model.specs.Grammar
+pub use Rattle.sre_model.specs.Folding
 pub use Rattle.sre_model.specs.References
 pub use Rattle.sre_model.specs.Regions
 pub use Rattle.sre_model.specs.Slots

@@ -6,7 +6,8 @@ use Rattle.sre_chars.specs.declared.constants.SreOpcode.{SreOpcode}
 use Rattle.sre_chars.specs.declared.constants.SreOpcode.TheVariants as opcode
 use Rattle.sre_model.specs.Tree.{Tree, Empty, Then, Item, One, Mark, Run, Test, RunKind, GreedyRun, LazyRun}
 use Rattle.sre_model.specs.Tree.{PossessiveRun}
-use Rattle.sre_model.specs.References.{refers, item_refers}
+use Rattle.sre_model.specs.References.{refers, by_references}
+use Rattle.sre_model.specs.Folding.{of_item}
 use Rattle.sre_model.specs.Ways.{unlimited}
 use Rattle.sre_model.specs.Grammar.{Word, Opcode, item_opcode, Reads, ReadsItem, WholeItems}
 use Rattle.sre_model.specs.Roles.{role, ToEnd, ToRun, begins_test, ToTest}
@@ -86,7 +87,7 @@ module _ (ws : List ℕ) (t : Tree) (i : ℕ) (first : Option ℕ) (a : RunAhead
         ends = a.ends;
         before = a.before;
         leads = leads;
-        apart = λ none. (or_parts (item_refers item) (refers rest) (apart none)).1;
+        apart = λ none. (or_parts (of_item by_references item) (refers rest) (apart none)).1;
       }
 
 -- Runs

@@ -16,6 +16,7 @@ pub mod FoundLaws
 pub mod WalkLaws
 pub mod FirstWays
 pub mod FirstCharacters
+pub mod Foldings
 pub mod MarksApart
 pub mod LeadingRuns
 pub mod LeadingWords

@@ -6,7 +6,8 @@ use Rattle.std.proofs.lemmas.Bool.{or_parts, true≢false}
 use Rattle.sre_model.specs.Tree.{Tree, Empty, Then, Item, Fail, One, At, Mark, Branch, Loop, Run, PossessiveLoop}
 use Rattle.sre_model.specs.Tree.{Atomic, Look, Reference, Exists, ExistsElse, Trees, Only, Or, Order, Greedy, Lazy}
 use Rattle.sre_model.specs.Tree.{Sign, Positive, Negative, RunKind, Test}
-use Rattle.sre_model.specs.References.{refers, item_refers, some_refers}
+use Rattle.sre_model.specs.References.{refers, by_references}
+use Rattle.sre_model.specs.Folding.{of_item, of_branch}
 use Rattle.sre_model.specs.Marks.{Marks}
 use Rattle.sre_model.specs.Subject.{Subject, passes, holds_at}
 use Rattle.sre_model.specs.Ways.{Way, Body, first, here, within, ordered, may_repeat, more, least, possessive_more}
@@ -156,11 +157,11 @@ module _ (s : Subject) where
     pub ways-apart : (t : Tree) → refers t ≡ false → Apart (ways s t)
     ways-apart Empty r p m n = (refl, tt)
     ways-apart (Then item rest) r p m n =
-        let parts = or_parts (item_refers item) (refers rest) r in
+        let parts = or_parts (of_item by_references item) (refers rest) r in
         each-apart (ways s rest) (ways-apart rest parts.1) (item_ways s item p m) (item_ways s item p n)
         (item-apart item parts.0 p m n)
 
-    pub item-apart : (item : Item) → item_refers item ≡ false → Apart (item_ways s item)
+    pub item-apart : (item : Item) → of_item by_references item ≡ false → Apart (item_ways s item)
     item-apart Fail r p m n = tt
     item-apart (One t) r p m n =
         cond-apart (passes s t p) (here (p + 1) m) (here (p + 1) n) [] [] (refl, tt) tt
@@ -185,10 +186,10 @@ module _ (s : Subject) where
     item-apart (Exists g there) r p m n = absurd (true≢false r)
     item-apart (ExistsElse g there absent) r p m n = absurd (true≢false r)
 
-    pub branch-apart : (ts : Trees) → some_refers ts ≡ false → Apart (branch_ways s ts)
+    pub branch-apart : (ts : Trees) → of_branch by_references ts ≡ false → Apart (branch_ways s ts)
     branch-apart (Only t) r p m n = ways-apart t r p m n
     branch-apart (Or t ts) r p m n =
-        let parts = or_parts (refers t) (some_refers ts) r in
+        let parts = or_parts (refers t) (of_branch by_references ts) r in
         append-apart (ways s t p m) (ways s t p n) (branch_ways s ts p m) (branch_ways s ts p n)
         (ways-apart t parts.0 p m n) (branch-apart ts parts.1 p m n)
 

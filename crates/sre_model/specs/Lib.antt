@@ -14,6 +14,7 @@ pub mod Found
 pub mod FirstCharacters
 pub mod Anchors
 pub mod Prefixes
+pub mod Folding
 pub mod References
 pub mod Regions
 pub mod Slots

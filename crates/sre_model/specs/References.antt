@@ -1,60 +1,38 @@
 -- References: whether a tree asks which groups are present, or what they hold, and from which group on.
 -- Of the meaning: what sre_engine makes public rests on it.
 use Rattle.std.specs.Prelude.{ℕ, Bool, true, false, ◌||◌, min}
-use Rattle.sre_model.specs.Tree.{Tree, Empty, Then, Item, Fail, One, At, Mark, Branch, Loop, Run, PossessiveLoop}
-use Rattle.sre_model.specs.Tree.{Atomic, Look, Reference, Exists, ExistsElse, Trees, Only, Or}
+use Rattle.sre_model.specs.Tree.{Tree, Item, Reference, Exists, ExistsElse}
+use Rattle.sre_model.specs.Folding.{Folding, of_tree}
 
-abbrev mutual
-  -- whether a reference or a condition stands anywhere in a tree
-  pub refers : Tree → Bool
-  refers Empty = false
-  refers (Then item rest) = item_refers item || refers rest
+-- references and conditions
+abbrev pub by_references : Folding Bool
+by_references = record { nothing = false; both = ◌||◌; item = refers_here }
+  where
+    refers_here : Item → Bool → Bool
+    refers_here (Reference fold g) inside = true
+    refers_here (Exists g there) inside = true
+    refers_here (ExistsElse g there absent) inside = true
+    refers_here x inside = inside
 
-  pub item_refers : Item → Bool
-  item_refers Fail = false
-  item_refers (One t) = false
-  item_refers (At a) = false
-  item_refers (Mark n) = false
-  item_refers (Branch ts) = some_refers ts
-  item_refers (Loop o low high body) = refers body
-  item_refers (Run kind low high t) = false
-  item_refers (PossessiveLoop low high body) = refers body
-  item_refers (Atomic body) = refers body
-  item_refers (Look sign back body) = refers body
-  item_refers (Reference fold g) = true
-  item_refers (Exists g there) = true
-  item_refers (ExistsElse g there absent) = true
-
-  pub some_refers : Trees → Bool
-  some_refers (Only t) = refers t
-  some_refers (Or t ts) = refers t || some_refers ts
+-- whether a reference or a condition stands anywhere in a tree
+abbrev pub refers : Tree → Bool
+refers = of_tree by_references
 
 -- no group: no pattern has so many
 abbrev pub no_group : ℕ
 no_group = 4294967295
 
-abbrev mutual
-  -- from which group on a tree asks for groups: no reference in it is to one before. A condition counts as asking for
-  -- each group; where neither is there, it is no group
-  pub asked_from : Tree → ℕ
-  asked_from Empty = no_group
-  asked_from (Then item rest) = min (item_asked_from item) (asked_from rest)
+-- the groups that are asked for: a reference asks for its own, a condition for each
+abbrev pub by_groups : Folding ℕ
+by_groups = record { nothing = no_group; both = min; item = asked_here }
+  where
+    asked_here : Item → ℕ → ℕ
+    asked_here (Reference fold g) inside = g
+    asked_here (Exists g there) inside = 0
+    asked_here (ExistsElse g there absent) inside = 0
+    asked_here x inside = inside
 
-  pub item_asked_from : Item → ℕ
-  item_asked_from Fail = no_group
-  item_asked_from (One t) = no_group
-  item_asked_from (At a) = no_group
-  item_asked_from (Mark n) = no_group
-  item_asked_from (Branch ts) = some_asked_from ts
-  item_asked_from (Loop o low high body) = asked_from body
-  item_asked_from (Run kind low high t) = no_group
-  item_asked_from (PossessiveLoop low high body) = asked_from body
-  item_asked_from (Atomic body) = asked_from body
-  item_asked_from (Look sign back body) = asked_from body
-  item_asked_from (Reference fold g) = g
-  item_asked_from (Exists g there) = 0
-  item_asked_from (ExistsElse g there absent) = 0
-
-  pub some_asked_from : Trees → ℕ
-  some_asked_from (Only t) = asked_from t
-  some_asked_from (Or t ts) = min (asked_from t) (some_asked_from ts)
+-- from which group on a tree asks for groups: no reference in it is to one before. A condition counts as asking for
+-- each group; where neither is there, it is no group
+abbrev pub asked_from : Tree → ℕ
+asked_from = of_tree by_groups

@@ -28,7 +28,7 @@ use Rattle.sre_turns.specs.declared.Frame.{Frame}
 use Rattle.sre_turns.specs.declared.Point.TheVariants.{Instruction, Longer}
 use Rattle.sre_turns.proofs.Faring.{fares_less}
 use Rattle.sre_turns.proofs.LazyRunEnds.{longer_run}
-use Rattle.sre_turns.proofs.NestedPositions.{all_later}
+use Rattle.sre_turns.proofs.Onward.{all_later}
 
 -- where the longer counts of a run lie in the words of a tree, its instruction does
 mutual

@@ -28,8 +28,8 @@ pub mod NestedStarts
 pub mod NestedPlaces
 pub mod NestedPositions
 pub mod NestedSlots
+pub mod NestedPoints
 pub mod NestedCounts
-pub mod NestedWindow
 pub mod AlikeLoops
 pub mod AlikeTurns
 pub mod SameComes

@@ -2,27 +2,25 @@
 -- a branch there has no more alternatives.
 -- The law that a search takes few turns (`enough` of sre_engine) rests on this.
 use Rattle.std.proofs.Common.{◌≡◌, ℕ, zero, suc, ◌+◌, ◌-◌, ◌≤◌, ◌⊎◌, inl, inr, Bool, true, false, cond, nat_eq, min}
-use Rattle.std.proofs.Common.{max, List, [], ◌∷◌, length, refl, sym, ap, ◌∙◌, subst, arith}
+use Rattle.std.proofs.Common.{max, List, [], length, refl, sym, ap, ◌∙◌, subst, arith}
 use Rattle.std.specs.Prelude.{⊤}
 use Rattle.std.proofs.lemmas.Bool.Decides.{nat_tests}
 use Rattle.sre_chars.specs.declared.constants.SreOpcode.{SreOpcode}
 use Rattle.sre_chars.specs.declared.constants.SreOpcode.TheVariants as opcode
-use Rattle.sre_model.specs.Tree.{Tree, Empty, Then, Item, Fail, One, At, Mark, Branch, Loop, Run, PossessiveLoop}
-use Rattle.sre_model.specs.Tree.{Atomic, Look, Reference, Exists, ExistsElse, Trees, Only, Or, RunKind, GreedyRun}
-use Rattle.sre_model.specs.Tree.{LazyRun, PossessiveRun}
+use Rattle.sre_model.specs.Tree.{Tree, Item, Branch, Run, Look, Trees, Only, Or, RunKind, GreedyRun, LazyRun}
+use Rattle.sre_model.specs.Tree.{PossessiveRun}
 use Rattle.sre_model.specs.Ways.{Way, unlimited}
-use Rattle.sre_model.specs.Grammar.{Opcode, word, skip, Reads, Operands, ReadsItem, ReadsBranch, WholeItems}
-use Rattle.sre_model.specs.Grammar.{until_opcode, run_opcode, Word}
+use Rattle.sre_model.specs.Grammar.{Opcode, word, skip, Word, ReadsItem, ReadsBranch, WholeItems, run_opcode}
 use Rattle.sre_model.specs.Marks.{Marks}
 use Rattle.sre_model.specs.Subject.{Subject}
-use Rattle.sre_model.specs.Roles.{Role, ToFail, ToEnd, ToTest, ToCheckPosition, ToMark, ToBranch, ToJump, ToRun}
-use Rattle.sre_model.specs.Roles.{ToRepeat, ToLoop, ToRepeatPossessively, ToGroupAtomically, ToLook, ToRefer}
-use Rattle.sre_model.specs.Roles.{ToCheckGroup, ToNothing, role}
-use Rattle.sre_model.specs.RunCounts.{run_count, most_counts, item_counts, branch_counts}
-use Rattle.sre_model.specs.Alternatives.{alternatives_of, most_alternatives, item_alternatives, branch_alternatives}
+use Rattle.sre_model.specs.Roles.{Role, ToEnd, ToBranch, ToRun, role}
+use Rattle.sre_model.specs.RunCounts.{run_count, most_counts, by_counts}
+use Rattle.sre_model.specs.Folding.{of_item, of_parts, of_branch}
+use Rattle.sre_model.proofs.Foldings.{paired, item_paired, tree_paired}
+use Rattle.sre_model.specs.Alternatives.{alternatives_of, most_alternatives, by_alternatives}
 use Rattle.sre_model.specs.Runs as runs
 use Rattle.sre_model.proofs.Words.{word_of, same_opcode}
-use Rattle.sre_model.proofs.Families.{HasRole, role_here, until_role, is_run, is_branch}
+use Rattle.sre_model.proofs.Families.{HasRole, role_here, is_run, is_branch}
 use Rattle.sre_turns.specs.declared.Point.TheVariants.{Instruction, Alternatives, Shorter, Longer, Inside, Again, Tried}
 use Rattle.sre_turns.specs.declared.Point.{Point}
 use Rattle.sre_turns.specs.Machine.{Runs}
@@ -30,10 +28,10 @@ use Rattle.sre_turns.specs.Moves.{Spot, spot_at}
 use Rattle.sre_turns.specs.RunEnds.{RunsOn}
 use Rattle.sre_turns.specs.declared.Frame.{Frame}
 use Rattle.sre_turns.proofs.Moving.{in_role}
-use Rattle.sre_turns.specs.Nested.{repeats, LiesIn, LiesInItem, LiesInBranch, Lies}
+use Rattle.sre_turns.specs.Nested.{repeats, Lies}
 use Rattle.sre_turns.specs.Potential.{most_ends, alternatives_in, alternatives, units}
 use Rattle.sre_turns.specs.Settled.{Regionless, SettledIn}
-use Rattle.sre_turns.proofs.NestedMoves.{begins}
+use Rattle.sre_turns.proofs.NestedPoints.{HoldsInGood, tree_holds}
 
 -- no greatest count, or one that counts
 run_most : (kind : RunKind) (low high : ℕ) → (high ≡ unlimited) ⊎ (high ≤ run_count kind low high)
@@ -68,14 +66,8 @@ as_many ws (suc n) q j (Or t ts) r = go (nat_eq (word ws q) 0) (as_many ws n (sk
 
 module _ (ws : List ℕ) (n m : ℕ) where
   -- the counts of a tree's runs are at most n, and its branches have at most m alternatives
-  abbrev Low : Tree → Type 0
-  Low t = (most_counts t ≤ n) × (most_alternatives t ≤ m)
-
-  abbrev LowItem : Item → Type 0
-  LowItem a = (item_counts a ≤ n) × (item_alternatives a ≤ m)
-
-  abbrev LowBranch : Trees → Type 0
-  LowBranch ts = (branch_counts ts ≤ n) × (branch_alternatives ts ≤ m)
+  abbrev Low : ℕ × ℕ → Type 0
+  Low a = (a.0 ≤ n) × (a.1 ≤ m)
 
   -- a run has no greatest count, or one of at most n, and a branch at most m alternatives
   abbrev Counted : Point → Type 0
@@ -89,26 +81,24 @@ module _ (ws : List ℕ) (n m : ℕ) where
   Counted Again = ⊤
   Counted (Tried i) = ⊤
 
-  -- by the opcode that is known to be there
-  counted_opcode : (i : ℕ) (o : SreOpcode) → Opcode ws i o → ((kind : RunKind) → role o ≡ ToRun kind → ⊥)
-      → (role o ≡ ToBranch → ⊥) → Counted (Instruction i)
-  counted_opcode i o w no_run no_branch = (
-    λ kind h. absurd (no_run kind (ap role (same_opcode ws i o h.code w h.there) ∙ h.begins)),
-    λ h. absurd (no_branch (ap role (same_opcode ws i o h.code w h.there) ∙ h.begins)),
+  -- by the role that is known to be there
+  counted_role : (i : ℕ) (o : Role) → HasRole ws i o → ((kind : RunKind) → o ≡ ToRun kind → ⊥)
+      → (o ≡ ToBranch → ⊥) → Counted (Instruction i)
+  counted_role i o g no_run no_branch = (
+    λ kind h. absurd (no_run kind (sym g.begins ∙ ap role (same_opcode ws i g.code h.code g.there h.there) ∙ h.begins)),
+    λ h. absurd (no_branch (sym g.begins ∙ ap role (same_opcode ws i g.code h.code g.there h.there) ∙ h.begins)),
   )
 
-  counted_at : (at pt : Point) → pt ≡ at → Counted at → Counted pt
-  counted_at at pt e h = subst (λ a. Counted a) (sym e) h
-
   -- by the item that begins there
-  counted_item : (i j : ℕ) (a : Item) → ReadsItem ws i j a → LowItem a → Counted (Instruction i)
+  counted_item : (i j : ℕ) (a : Item) → ReadsItem ws i j a → Low (of_item by_counts a, of_item by_alternatives a)
+      → Counted (Instruction i)
   counted_item i j a r l = (counted_run, counted_branch)
     where
       counted_run : (kind : RunKind) → HasRole ws i (ToRun kind)
           → (word ws (i + 3) ≡ unlimited) ⊎ (word ws (i + 3) ≤ n)
       counted_run kind h =
           let x = is_run ws i j a h r in
-          let same : item_counts a ≡ run_count kind x.0 x.1 = ap item_counts x.3 in
+          let same : of_item by_counts a ≡ run_count kind x.0 x.1 = ap (of_item by_counts) x.3 in
           let is : word ws (i + 3) ≡ x.1 = word_of ws (i + 3) x.1 x.4.1.2 in
           elim (run_most kind x.0 x.1) [
             | inl e ↦ inl (is ∙ e)
@@ -118,80 +108,34 @@ module _ (ws : List ℕ) (n m : ℕ) where
       counted_branch : HasRole ws i ToBranch → alternatives ws (i + 1) ≤ m
       counted_branch h =
           let x = is_branch ws i j a h r in
-          let same : item_alternatives a ≡ max (alternatives_of x.0) (branch_alternatives x.0) =
-          ap item_alternatives x.1 in
+          let same : of_item by_alternatives a ≡ max (alternatives_of x.0) (of_branch by_alternatives x.0) =
+          ap (of_item by_alternatives) x.1 in
           let most : alternatives ws (i + 1) ≤ alternatives_of x.0 =
           as_many ws (length ws - (i + 1)) (i + 1) j x.0 x.2.1 in
           omega (arith, same, most, l.1)
 
-  -- at the end of a body
-  ended : (i : ℕ) → Opcode ws i opcode.SUCCESS → Counted (Instruction i)
-  ended i w = counted_opcode i opcode.SUCCESS w (λ kind e. absurd (cc)) (λ e. absurd (cc))
+  parts_low : (a : Item) → Low (of_item (paired by_counts by_alternatives) a)
+      → Low (of_parts (paired by_counts by_alternatives) a)
+  parts_low (Branch ts) l = (l.0, omega (arith, l.1))
+  parts_low (Run kind low high t) l = (omega arith, omega arith)
+  parts_low (Look sign back body) l = (omega (arith, l.0), l.1)
+  parts_low a l = l
 
-  -- and behind an alternative
-  jumped : (i : ℕ) → Opcode ws i opcode.JUMP → Counted (Instruction i)
-  jumped i w = counted_opcode i opcode.JUMP w (λ kind e. absurd (cc)) (λ e. absurd (cc))
-
-  low_rest : (a : Item) (rest : Tree) → Low (Then a rest) → Low rest
-  low_rest a rest l = (omega (arith, l.0), omega (arith, l.1))
-
-  -- where a tree of such counts stands before such a point, each of its points is one
-  mutual
-    tree_counted : (i j : ℕ) (t : Tree) (r : Reads ws i j t) (js : List ℕ) (pt : Point) (ks : List ℕ)
-        → Low t → Counted (Instruction j) → LiesIn ws i j t r js pt ks → Counted pt
-    tree_counted i j Empty r js pt ks l q y = counted_at (Instruction j) pt y.0 q
-    tree_counted i j (Then a rest) r js pt ks l q (inl y) =
-        counted_at (Instruction i) pt y.0 (counted_item i r.0 a r.1 (omega (arith, l.0), omega (arith, l.1)))
-    tree_counted i j (Then a rest) r js pt ks l q (inr (inl y)) =
-        let next : Counted (Instruction r.0) =
-        tree_counted r.0 j rest r.2 js (Instruction r.0) js (low_rest a rest l) q (begins ws r.0 j rest r.2 js) in
-        inside_counted i r.0 a r.1.1 js pt ks (omega (arith, l.0), omega (arith, l.1)) next y
-    tree_counted i j (Then a rest) r js pt ks l q (inr (inr y)) =
-        tree_counted r.0 j rest r.2 js pt ks (low_rest a rest l) q y
-
-    inside_counted : (i j : ℕ) (a : Item) (r : Operands ws i j a) (js : List ℕ) (pt : Point) (ks : List ℕ)
-        → LowItem a → Counted (Instruction j) → LiesInItem ws i j a r js pt ks → Counted pt
-    inside_counted i j Fail r js pt ks l q y = absurd y
-    inside_counted i j (One t) r js pt ks l q y = absurd y
-    inside_counted i j (At a) r js pt ks l q y = absurd y
-    inside_counted i j (Mark k) r js pt ks l q y = absurd y
-    inside_counted i j (Branch ts) r js pt ks l q y =
-        branch_counted (i + 1) j ts r js pt ks (l.0, omega (arith, l.1)) y
-    inside_counted i j (Loop o low high body) r js pt ks l q y =
-        let end : Counted (Instruction (skip ws (i + 1))) =
-        counted_opcode (skip ws (i + 1)) (until_opcode o) r.4
-        (λ kind e. let f : ToLoop o ≡ ToRun kind = sym (until_role o) ∙ e in absurd (cc))
-        (λ e. let f : ToLoop o ≡ ToBranch = sym (until_role o) ∙ e in absurd (cc)) in
-        tree_counted (i + 4) (skip ws (i + 1)) body r.3 (i ∷ js) pt ks l end y
-    inside_counted i j (Run kind low high t) r js pt ks l q (inl y) = counted_at (Shorter j y.0) pt y.1.0 tt
-    inside_counted i j (Run kind low high t) r js pt ks l q (inr y) = counted_at (Longer i y.0) pt y.1.0 tt
-    inside_counted i j (PossessiveLoop low high body) r js pt ks l q (inl y) = counted_at Again pt y.0 tt
-    inside_counted i j (PossessiveLoop low high body) r js pt ks l q (inr y) =
-        tree_counted (i + 4) (skip ws (i + 1)) body r.3 [] pt ks l (ended (skip ws (i + 1)) r.4) y
-    inside_counted i j (Atomic body) r js pt ks l q y =
-        tree_counted (i + 2) (j - 1) body r.1 [] pt ks l (ended (j - 1) r.2) y
-    inside_counted i j (Look sign back body) r js pt ks l q y =
-        tree_counted (i + 3) (j - 1) body r.2 [] pt ks (omega (arith, l.0), l.1) (ended (j - 1) r.3) y
-    inside_counted i j (Reference fold g) r js pt ks l q y = absurd y
-    inside_counted i j (Exists g a) r js pt ks l q y = tree_counted (i + 3) j a r.2 js pt ks l q y
-    inside_counted i j (ExistsElse g a b) r js pt ks l q (inl y) =
-        let u : ℕ = i + 1 + word ws (i + 2) - 2 in
-        tree_counted (i + 3) u a r.1 js pt ks (omega (arith, l.0), omega (arith, l.1)) (jumped u r.2.0) y
-    inside_counted i j (ExistsElse g a b) r js pt ks l q (inr y) =
-        tree_counted (i + 1 + word ws (i + 2)) j b r.3 js pt ks (omega (arith, l.0), omega (arith, l.1)) q y
-
-    branch_counted : (q j : ℕ) (ts : Trees) (r : ReadsBranch ws q j ts) (js : List ℕ) (pt : Point) (ks : List ℕ)
-        → LowBranch ts → LiesInBranch ws q j ts r js pt ks → Counted pt
-    branch_counted q j (Only t) r js pt ks l (inl y) = counted_at (Alternatives q) pt y.0 tt
-    branch_counted q j (Only t) r js pt ks l (inr (inl y)) =
-        tree_counted (q + 1) (skip ws q - 2) t r.0 js pt ks l (jumped (skip ws q - 2) r.1.0) y
-    branch_counted q j (Only t) r js pt ks l (inr (inr y)) = counted_at (Alternatives (skip ws q)) pt y.0 tt
-    branch_counted q j (Or t ts) r js pt ks l (inl y) = counted_at (Alternatives q) pt y.0 tt
-    branch_counted q j (Or t ts) r js pt ks l (inr (inl y)) =
-        tree_counted (q + 1) (skip ws q - 2) t r.0 js pt ks (omega (arith, l.0), omega (arith, l.1))
-        (jumped (skip ws q - 2) r.1.0) y
-    branch_counted q j (Or t ts) r js pt ks l (inr (inr y)) =
-        branch_counted (skip ws q) j ts r.2 js pt ks (omega (arith, l.0), omega (arith, l.1)) y
+  -- so are all points of a tree of such counts
+  counted_in : HoldsInGood ws (paired by_counts by_alternatives) Low Counted
+  counted_in = record {
+    first = λ a b l. (omega (arith, l.0), omega (arith, l.1));
+    second = λ a b l. (omega (arith, l.0), omega (arith, l.1));
+    parts = parts_low;
+    item = λ i j a r l. counted_item i j a r (subst Low (item_paired by_counts by_alternatives a) l);
+    success = λ i h. counted_role i _ h (λ kind e. absurd (cc)) (λ e. absurd (cc));
+    jump = λ i h. counted_role i _ h (λ kind e. absurd (cc)) (λ e. absurd (cc));
+    until = λ i o h. counted_role i _ h (λ kind e. absurd (cc)) (λ e. absurd (cc));
+    alternatives = λ q. tt;
+    shorter = λ t k. tt;
+    longer = λ i k. tt;
+    again = λ low high body l. tt;
+  }
 
 -- so wherever a spot lies
 counted_within : (ws : List ℕ) (t : Tree) (w : WholeItems ws t) (x : Spot) → Lies ws t w x
@@ -199,8 +143,12 @@ counted_within : (ws : List ℕ) (t : Tree) (w : WholeItems ws t) (x : Spot) →
 counted_within ws t w x y =
     let n : ℕ = most_counts t in
     let m : ℕ = most_alternatives t in
-    tree_counted ws n m 0 (length ws - 1) t w.0 [] x.point (repeats x.frames) (omega arith, omega arith)
-    (ended ws n m (length ws - 1) w.1) y
+    let e : ℕ = length ws - 1 in
+    let end : HasRole ws e ToEnd = role_here ws e opcode.SUCCESS ToEnd w.1 refl in
+    tree_holds ws (paired by_counts by_alternatives) (Low ws n m) (Counted ws n m) (counted_in ws n m) 0 e t w.0 []
+    x.point (repeats x.frames)
+    (subst (Low ws n m) (sym (tree_paired by_counts by_alternatives t)) (omega arith, omega arith))
+    ((counted_in ws n m).success e end) y
 
 module _ (r : runs.Run) (pl : Regionless r) (start : ℕ) (x : Spot) (i : ℕ) (o : SreOpcode)
     (at : SettledIn r pl start x) (here : x.point ≡ Instruction i) (w : Opcode r.words i o) where
@@ -245,24 +193,10 @@ module _ (r : runs.Run) (pl : Regionless r) (start : ℕ) (x : Spot) (i : ℕ) (
       of_run kind e none = let l = ends_most kind e none in omega (arith, l)
 
       go : (f : Role) → role o ≡ f → units r.words r.subject.end i f ≤ most
-      go ToFail e = omega arith
-      go ToEnd e = omega arith
-      go (ToTest kind) e = omega arith
-      go ToCheckPosition e = omega arith
-      go ToMark e = omega arith
       go ToBranch e = let l = alternatives_most e in omega (arith, l)
-      go ToJump e = omega arith
       go (ToRun GreedyRun) e = of_run GreedyRun e (counted (inl e))
       go (ToRun LazyRun) e = of_run LazyRun e (counted (inr e))
-      go (ToRun PossessiveRun) e = omega arith
-      go ToRepeat e = omega arith
-      go (ToLoop order) e = omega arith
-      go ToRepeatPossessively e = omega arith
-      go ToGroupAtomically e = omega arith
-      go (ToLook sign) e = omega arith
-      go ToRefer e = omega arith
-      go ToCheckGroup e = omega arith
-      go ToNothing e = omega arith
+      go f e = omega arith
 
 -- the opcode of a run
 run_code_is : (o : SreOpcode) (kind : RunKind) → role o ≡ ToRun kind → o ≡ run_opcode kind

@@ -12,7 +12,8 @@ use Rattle.sre_turns.specs.declared.Point.{Point}
 use Rattle.sre_turns.specs.Moves.{Spot}
 use Rattle.sre_turns.specs.Alike.{counted_to}
 use Rattle.sre_turns.specs.Nested.{repeats, LiesIn, LiesInItem, LiesInBranch, Lies, loop_slots, slots, most_slots}
-use Rattle.sre_turns.specs.Nested.{item_slots, branch_slots}
+use Rattle.sre_turns.specs.Nested.{by_slots}
+use Rattle.sre_model.specs.Folding.{of_item, of_branch}
 
 -- products
 bounded_by : (a b j n : ℕ) → a ≤ b → n ≤ a * j → n ≤ b * j
@@ -48,7 +49,7 @@ some_slots ws (q ∷ qs) = one-le-mul (loop_some (word ws (q + 2)) (word ws (q +
 
 most_some : (t : Tree) → 1 ≤ most_slots t
 most_some Empty = omega arith
-most_some (Then x rest) = omega (arith, most_some rest, le-max_right (item_slots x) (most_slots rest))
+most_some (Then x rest) = omega (arith, most_some rest, le-max_right (of_item by_slots x) (most_slots rest))
 
 module _ (ws : List ℕ) (pt : Point) (ks : List ℕ) where
   -- a loop's own states
@@ -61,15 +62,15 @@ module _ (ws : List ℕ) (pt : Point) (ks : List ℕ) where
         → slots ws ks ≤ most_slots t * slots ws js
     slots_in i j Empty r js y = at_least 1 (slots ws js) (slots ws ks) (omega arith) (ap (λ l. slots ws l) y.1)
     slots_in i j (Then x rest) r js (inl y) =
-        at_least (max (item_slots x) (most_slots rest)) (slots ws js) (slots ws ks)
+        at_least (max (of_item by_slots x) (most_slots rest)) (slots ws js) (slots ws ks)
         (most_some (Then x rest)) (ap (λ l. slots ws l) y.1)
     slots_in i j (Then x rest) r js (inr (inl y)) =
-        left_by (item_slots x) (most_slots rest) (slots ws js) (slots ws ks) (slots_inside i r.0 x r.1.1 js y)
+        left_by (of_item by_slots x) (most_slots rest) (slots ws js) (slots ws ks) (slots_inside i r.0 x r.1.1 js y)
     slots_in i j (Then x rest) r js (inr (inr y)) =
-        right_by (item_slots x) (most_slots rest) (slots ws js) (slots ws ks) (slots_in r.0 j rest r.2 js y)
+        right_by (of_item by_slots x) (most_slots rest) (slots ws js) (slots ws ks) (slots_in r.0 j rest r.2 js y)
 
     slots_inside : (i j : ℕ) (x : Item) (r : Operands ws i j x) (js : List ℕ) → LiesInItem ws i j x r js pt ks
-        → slots ws ks ≤ item_slots x * slots ws js
+        → slots ws ks ≤ of_item by_slots x * slots ws js
     slots_inside i j Fail r js y = absurd y
     slots_inside i j (One t) r js y = absurd y
     slots_inside i j (At a) r js y = absurd y
@@ -109,20 +110,20 @@ module _ (ws : List ℕ) (pt : Point) (ks : List ℕ) where
         (slots_in (i + 1 + word ws (i + 2)) j c r.3 js y)
 
     slots_among : (q j : ℕ) (ts : Trees) (r : ReadsBranch ws q j ts) (js : List ℕ)
-        → LiesInBranch ws q j ts r js pt ks → slots ws ks ≤ branch_slots ts * slots ws js
+        → LiesInBranch ws q j ts r js pt ks → slots ws ks ≤ of_branch by_slots ts * slots ws js
     slots_among q j (Only t) r js (inl y) =
         at_least (most_slots t) (slots ws js) (slots ws ks) (most_some t) (ap (λ l. slots ws l) y.1)
     slots_among q j (Only t) r js (inr (inl y)) = slots_in (q + 1) (skip ws q - 2) t r.0 js y
     slots_among q j (Only t) r js (inr (inr y)) =
         at_least (most_slots t) (slots ws js) (slots ws ks) (most_some t) (ap (λ l. slots ws l) y.1)
     slots_among q j (Or t ts) r js (inl y) =
-        left_by (most_slots t) (branch_slots ts) (slots ws js) (slots ws ks)
+        left_by (most_slots t) (of_branch by_slots ts) (slots ws js) (slots ws ks)
         (at_least (most_slots t) (slots ws js) (slots ws ks) (most_some t) (ap (λ l. slots ws l) y.1))
     slots_among q j (Or t ts) r js (inr (inl y)) =
-        left_by (most_slots t) (branch_slots ts) (slots ws js) (slots ws ks)
+        left_by (most_slots t) (of_branch by_slots ts) (slots ws js) (slots ws ks)
         (slots_in (q + 1) (skip ws q - 2) t r.0 js y)
     slots_among q j (Or t ts) r js (inr (inr y)) =
-        right_by (most_slots t) (branch_slots ts) (slots ws js) (slots ws ks)
+        right_by (most_slots t) (of_branch by_slots ts) (slots ws js) (slots ws ks)
         (slots_among (skip ws q) j ts r.2 js y)
 
 -- so wherever a spot lies

@@ -25,7 +25,7 @@ use Rattle.sre_turns.specs.declared.Next.TheVariants as next
 use Rattle.sre_turns.specs.declared.Point.TheVariants.{Instruction, Shorter, Longer}
 use Rattle.sre_turns.proofs.Faring.{fares_less, fares_earlier, first_waits, run_code}
 use Rattle.sre_turns.proofs.Moving.{comes, run_nothing, some_turns, sooner}
-use Rattle.sre_turns.proofs.NestedPositions.{all_later}
+use Rattle.sre_turns.proofs.Onward.{all_later}
 use Rattle.sre_turns.proofs.SettledMoves.{settled_moves}
 use Rattle.sre_turns.proofs.StepsInRuns.{shorter_stop}
 use Rattle.sre_turns.proofs.RunEnds.{longest_reaches, run_moves, run_next, run_only_moves, run_short_moves}

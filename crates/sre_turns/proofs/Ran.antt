@@ -6,8 +6,9 @@ use Rattle.sre_chars.specs.declared.constants.SreOpcode.TheVariants as opcode
 use Rattle.sre_model.specs.Tree.{Tree, Atomic, Look, Positive, Negative, Empty, Then, Item, Fail, One, At, Mark, Branch}
 use Rattle.sre_model.specs.Tree.{Run, GreedyRun, Trees, Only, Or, Loop, LazyRun, PossessiveRun, PossessiveLoop}
 use Rattle.sre_model.specs.Tree.{Reference, Exists, ExistsElse}
-use Rattle.sre_model.specs.References.{refers, item_refers, some_refers}
-use Rattle.sre_model.specs.References.{asked_from, item_asked_from, some_asked_from}
+use Rattle.sre_model.specs.References.{refers, by_references}
+use Rattle.sre_model.specs.Folding.{of_item, of_branch}
+use Rattle.sre_model.specs.References.{asked_from, by_groups}
 use Rattle.sre_model.specs.Marks.{Marks, group}
 use Rattle.sre_model.specs.Subject.{Subject}
 use Rattle.sre_model.specs.Ways.{Way, Body, here, ways, item_ways, branch_ways}
@@ -39,10 +40,10 @@ abbrev pub AskedIn : List ℕ → Tree → Type 0
 AskedIn ws t = (g : ℕ) → refers t ≡ true → asked_from t ≤ g → MayAsk ws g
 
 abbrev AskedInItem : List ℕ → Item → Type 0
-AskedInItem ws x = (g : ℕ) → item_refers x ≡ true → item_asked_from x ≤ g → MayAsk ws g
+AskedInItem ws x = (g : ℕ) → of_item by_references x ≡ true → of_item by_groups x ≤ g → MayAsk ws g
 
 abbrev AskedInBranch : List ℕ → Trees → Type 0
-AskedInBranch ws ts = (g : ℕ) → some_refers ts ≡ true → some_asked_from ts ≤ g → MayAsk ws g
+AskedInBranch ws ts = (g : ℕ) → of_branch by_references ts ≡ true → of_branch by_groups ts ≤ g → MayAsk ws g
 
 mutual
   pub ran : (ws : List ℕ) (s : Subject) (i j : ℕ) (t : Tree) → AreWords ws → AskedIn ws t
@@ -53,10 +54,10 @@ mutual
       rw (flat_map-flat_map (λ (w : Way). K w.stop w.marks)
       (λ (w : Way). ways s rest w.stop w.marks) (item_ways s item p m))
       (item-ran ws s i h.0 item v
-      (λ g y l. has g (or_left (item_refers item) (refers rest) y) (omega (arith, l))) h.1 fs
+      (λ g y l. has g (or_left (of_item by_references item) (refers rest) y) (omega (arith, l))) h.1 fs
       (λ q k. followed K (ways s rest q k)) (λ q k. cost s rest C q k) p m e
       (λ q k l g. ran ws s h.0 j rest v
-      (λ g y l. has g (or_right (item_refers item) (refers rest) y) (omega (arith, l))) h.2 fs K C q k g
+      (λ g y l. has g (or_right (of_item by_references item) (refers rest) y) (omega (arith, l))) h.2 fs K C q k g
       (λ q' k' l' g'. f q' k' (omega arith) g')))
 
   pub item-ran : (ws : List ℕ) (s : Subject) (i j : ℕ) (x : Item) → AreWords ws
@@ -137,8 +138,8 @@ mutual
       rw (flat_map-append (λ (w : Way). K w.stop w.marks) (ways s t p m) (branch_ways s ts p m))
       (alternative-ran ws s q (word ws q) _ _ fs p m _ _ (word_there ws q (skip_there ws q (omega arith))) (omega arith)
       (ran ws s (q + 1) (skip ws q - 2) t v
-      (λ g y l. has g (or_left (refers t) (some_refers ts) y) (omega (arith, l))) h.0 fs K
+      (λ g y l. has g (or_left (refers t) (of_branch by_references ts) y) (omega (arith, l))) h.0 fs K
       (λ a b. suc (C a b)) p m e (λ q' k' l' g'. jump-ran ws s
       (skip ws q - 2) j (omega (arith, branch_past ts ws (skip ws q) j h.2)) h.1 fs K C q' k' (f q' k' l' g')))
       (branch-ran ws s (skip ws q) j ts v
-      (λ g y l. has g (or_right (refers t) (some_refers ts) y) (omega (arith, l))) h.2 fs K C p m e f))
+      (λ g y l. has g (or_right (refers t) (of_branch by_references ts) y) (omega (arith, l))) h.2 fs K C p m e f))

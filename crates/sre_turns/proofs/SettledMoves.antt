@@ -1,23 +1,22 @@
 -- In words without regions each turn of a settled spot leads to settled spots, and no region is entered.
 -- The law that a search takes few turns (`enough` of sre_engine) rests on this.
-use Rattle.std.proofs.Common.{◌≡◌, ℕ, ◌+◌, ◌-◌, ◌*◌, ◌≤◌, inl, inr, false, List, [], length, refl, sym}
-use Rattle.std.proofs.Common.{◌∷◌, ◌∙◌, ap, subst}
+use Rattle.std.proofs.Common.{◌≡◌, ℕ, ◌-◌, ◌*◌, ◌≤◌, false, List, [], length, refl, sym}
+use Rattle.std.proofs.Common.{◌∙◌, ap, subst}
 use Rattle.std.specs.Bool.{⊤}
 use Rattle.std.proofs.lemmas.Bool.{or_parts, true≢false}
 use Rattle.sre_chars.specs.declared.constants.SreOpcode.{SreOpcode}
 use Rattle.sre_chars.specs.declared.constants.SreOpcode.TheVariants as opcode
-use Rattle.sre_model.specs.Tree.{Tree, Empty, Then, Item, Fail, One, At, Mark, Branch, Loop, Run, PossessiveLoop}
-use Rattle.sre_model.specs.Tree.{Atomic, Look, Reference, Exists, ExistsElse, Trees, Only, Or}
+use Rattle.sre_model.specs.Tree.{Tree, Item, PossessiveLoop, Atomic, Look}
 use Rattle.sre_model.specs.Marks.{Marks}
 use Rattle.sre_model.specs.Subject.{Subject}
-use Rattle.sre_model.specs.Grammar.{word, skip, Opcode, Reads, Operands, ReadsBranch, WholeItems, item_opcode}
-use Rattle.sre_model.specs.Grammar.{until_opcode}
+use Rattle.sre_model.specs.Grammar.{Opcode, WholeItems}
 use Rattle.sre_model.specs.Prefixes.{ReadsBehind}
-use Rattle.sre_model.specs.Regions.{has_region, item_has_region, some_has_region}
-use Rattle.sre_model.specs.Roles.{role}
+use Rattle.sre_model.specs.Regions.{has_region, by_regions}
+use Rattle.sre_model.specs.Folding.{of_item, of_parts}
+use Rattle.sre_model.specs.Roles.{Role, ToEnd, role}
 use Rattle.sre_model.specs.Standing.{AreWords}
 use Rattle.sre_model.proofs.Words.{same_opcode}
-use Rattle.sre_model.proofs.Families.{test_role, run_role, until_role, reference_role}
+use Rattle.sre_model.proofs.Families.{HasRole, role_here, item_role, item_here}
 use Rattle.sre_turns.specs.declared.Frame.{Frame}
 use Rattle.sre_turns.specs.declared.Region.{Region}
 use Rattle.sre_turns.specs.declared.Point.TheVariants.{Instruction, Alternatives, Shorter, Longer, Inside, Again, Tried}
@@ -25,30 +24,26 @@ use Rattle.sre_turns.specs.declared.Point.{Point}
 use Rattle.sre_turns.specs.Moves.{Spot, spot_at, Move, Stop, End, Go, Split, Enter}
 use Rattle.sre_turns.specs.Machine.{MovesAt, Moves}
 use Rattle.sre_turns.specs.Alike.{least_from}
-use Rattle.sre_turns.specs.Nested.{repeats, LiesIn, LiesInItem, LiesInBranch, Lies, Onto, Leads, Passed, InWindow}
+use Rattle.sre_turns.specs.Nested.{repeats, Lies, Onto, Leads, Passed, InWindow}
 use Rattle.sre_turns.specs.Settled.{Settled}
 use Rattle.sre_turns.proofs.Onward.{Onward, onward-less, point-onward}
-use Rattle.sre_turns.proofs.NestedMoves.{begins, lies_moves}
-use Rattle.sre_turns.proofs.NestedPositions.{passed_moves}
-use Rattle.sre_turns.proofs.NestedWindow.{window_moves}
+use Rattle.sre_turns.proofs.NestedMoves.{lies_moves}
+use Rattle.sre_turns.proofs.NestedPoints.{HoldsInGood, tree_holds}
+use Rattle.sre_turns.proofs.NestedPositions.{passed_moves, window_moves}
 use Rattle.sre_turns.proofs.NestedStarts.{lies_first, lies_behind}
 use Rattle.sre_turns.proofs.PotentialMoves.{enters, NoEntry, entry_role, entry_point}
 
--- an item without regions begins with no opcode that enters one
-item_quiet : (a : Item) → item_has_region a ≡ false → enters (role (item_opcode a)) ≡ false
-item_quiet Fail e = refl
-item_quiet (One t) e = ap enters (test_role t)
-item_quiet (At a) e = refl
-item_quiet (Mark n) e = refl
-item_quiet (Branch ts) e = refl
-item_quiet (Loop o low high body) e = refl
-item_quiet (Run kind low high t) e = ap enters (run_role kind)
-item_quiet (PossessiveLoop low high body) e = refl
+-- an item without regions begins with no opcode that enters one, and has none inside
+item_quiet : (a : Item) → of_item by_regions a ≡ false → enters (item_role a) ≡ false
 item_quiet (Atomic body) e = absurd (true≢false e)
 item_quiet (Look sign back body) e = absurd (true≢false e)
-item_quiet (Reference fold g) e = ap enters (reference_role fold)
-item_quiet (Exists g there) e = refl
-item_quiet (ExistsElse g there absent) e = refl
+item_quiet a e = refl
+
+parts_quiet : (a : Item) → of_item by_regions a ≡ false → of_parts by_regions a ≡ false
+parts_quiet (PossessiveLoop low high body) e = absurd (true≢false e)
+parts_quiet (Atomic body) e = absurd (true≢false e)
+parts_quiet (Look sign back body) e = absurd (true≢false e)
+parts_quiet a e = e
 
 module _ (ws : List ℕ) where
   -- no region is entered at a point, nor is it that of a possessive loop
@@ -61,72 +56,31 @@ module _ (ws : List ℕ) where
   Quiet Again = ⊥
   Quiet (Tried i) = ⊤
 
-  -- by the opcode that is known to be there
-  quiet_opcode : (i : ℕ) (o : SreOpcode) → Opcode ws i o → enters (role o) ≡ false → Quiet (Instruction i)
-  quiet_opcode i o w e p v = subst (λ c. enters (role c) ≡ false) (same_opcode ws i o p w v) e
+  -- by the role that is known to be there
+  quiet_role : (i : ℕ) (o : Role) → HasRole ws i o → enters o ≡ false → Quiet (Instruction i)
+  quiet_role i o h e p v =
+      subst (λ c. enters (role c) ≡ false) (same_opcode ws i h.code p h.there v) (ap enters h.begins ∙ e)
 
-  quiet_at : (at pt : Point) → pt ≡ at → Quiet at → Quiet pt
-  quiet_at at pt e h = subst (λ a. Quiet a) (sym e) h
-
-  -- where a tree without regions stands before such a point, each of its points is one
-  mutual
-    tree_quiet : (i j : ℕ) (t : Tree) (r : Reads ws i j t) (js : List ℕ) (pt : Point) (ks : List ℕ)
-        → has_region t ≡ false → Quiet (Instruction j) → LiesIn ws i j t r js pt ks → Quiet pt
-    tree_quiet i j Empty r js pt ks e q y = quiet_at (Instruction j) pt y.0 q
-    tree_quiet i j (Then a rest) r js pt ks e q (inl y) =
-        let part = or_parts (item_has_region a) (has_region rest) e in
-        quiet_at (Instruction i) pt y.0 (quiet_opcode i (item_opcode a) r.1.0 (item_quiet a part.0))
-    tree_quiet i j (Then a rest) r js pt ks e q (inr (inl y)) =
-        let part = or_parts (item_has_region a) (has_region rest) e in
-        let next : Quiet (Instruction r.0) =
-        tree_quiet r.0 j rest r.2 js (Instruction r.0) js part.1 q (begins ws r.0 j rest r.2 js) in
-        inside_quiet i r.0 a r.1.1 js pt ks part.0 next y
-    tree_quiet i j (Then a rest) r js pt ks e q (inr (inr y)) =
-        let part = or_parts (item_has_region a) (has_region rest) e in
-        tree_quiet r.0 j rest r.2 js pt ks part.1 q y
-
-    inside_quiet : (i j : ℕ) (a : Item) (r : Operands ws i j a) (js : List ℕ) (pt : Point) (ks : List ℕ)
-        → item_has_region a ≡ false → Quiet (Instruction j) → LiesInItem ws i j a r js pt ks → Quiet pt
-    inside_quiet i j Fail r js pt ks e q y = absurd y
-    inside_quiet i j (One t) r js pt ks e q y = absurd y
-    inside_quiet i j (At a) r js pt ks e q y = absurd y
-    inside_quiet i j (Mark n) r js pt ks e q y = absurd y
-    inside_quiet i j (Branch ts) r js pt ks e q y = branch_quiet (i + 1) j ts r js pt ks e y
-    inside_quiet i j (Loop o low high body) r js pt ks e q y =
-        let end : Quiet (Instruction (skip ws (i + 1))) =
-        quiet_opcode (skip ws (i + 1)) (until_opcode o) r.4 (ap enters (until_role o)) in
-        tree_quiet (i + 4) (skip ws (i + 1)) body r.3 (i ∷ js) pt ks e end y
-    inside_quiet i j (Run kind low high t) r js pt ks e q (inl y) = quiet_at (Shorter j y.0) pt y.1.0 tt
-    inside_quiet i j (Run kind low high t) r js pt ks e q (inr y) = quiet_at (Longer i y.0) pt y.1.0 tt
-    inside_quiet i j (PossessiveLoop low high body) r js pt ks e q y = absurd (true≢false e)
-    inside_quiet i j (Atomic body) r js pt ks e q y = absurd (true≢false e)
-    inside_quiet i j (Look sign back body) r js pt ks e q y = absurd (true≢false e)
-    inside_quiet i j (Reference fold g) r js pt ks e q y = absurd y
-    inside_quiet i j (Exists g a) r js pt ks e q y = tree_quiet (i + 3) j a r.2 js pt ks e q y
-    inside_quiet i j (ExistsElse g a b) r js pt ks e q (inl y) =
-        let u : ℕ = i + 1 + word ws (i + 2) - 2 in
-        tree_quiet (i + 3) u a r.1 js pt ks (or_parts (has_region a) (has_region b) e).0
-        (quiet_opcode u opcode.JUMP r.2.0 refl) y
-    inside_quiet i j (ExistsElse g a b) r js pt ks e q (inr y) =
-        tree_quiet (i + 1 + word ws (i + 2)) j b r.3 js pt ks (or_parts (has_region a) (has_region b) e).1 q y
-
-    branch_quiet : (q j : ℕ) (ts : Trees) (r : ReadsBranch ws q j ts) (js : List ℕ) (pt : Point) (ks : List ℕ)
-        → some_has_region ts ≡ false → LiesInBranch ws q j ts r js pt ks → Quiet pt
-    branch_quiet q j (Only t) r js pt ks e (inl y) = quiet_at (Alternatives q) pt y.0 tt
-    branch_quiet q j (Only t) r js pt ks e (inr (inl y)) =
-        tree_quiet (q + 1) (skip ws q - 2) t r.0 js pt ks e (quiet_opcode (skip ws q - 2) opcode.JUMP r.1.0 refl) y
-    branch_quiet q j (Only t) r js pt ks e (inr (inr y)) = quiet_at (Alternatives (skip ws q)) pt y.0 tt
-    branch_quiet q j (Or t ts) r js pt ks e (inl y) = quiet_at (Alternatives q) pt y.0 tt
-    branch_quiet q j (Or t ts) r js pt ks e (inr (inl y)) =
-        tree_quiet (q + 1) (skip ws q - 2) t r.0 js pt ks (or_parts (has_region t) (some_has_region ts) e).0
-        (quiet_opcode (skip ws q - 2) opcode.JUMP r.1.0 refl) y
-    branch_quiet q j (Or t ts) r js pt ks e (inr (inr y)) =
-        branch_quiet (skip ws q) j ts r.2 js pt ks (or_parts (has_region t) (some_has_region ts) e).1 y
+  -- so are all points of a tree without regions
+  quiet_in : HoldsInGood ws by_regions (λ a. a ≡ false) Quiet
+  quiet_in = record {
+    first = λ a b e. (or_parts a b e).0;
+    second = λ a b e. (or_parts a b e).1;
+    parts = parts_quiet;
+    item = λ i j a r e. quiet_role i (item_role a) (item_here ws i j a r) (item_quiet a e);
+    success = λ i h. quiet_role i _ h refl;
+    jump = λ i h. quiet_role i _ h refl;
+    until = λ i o h. quiet_role i _ h refl;
+    alternatives = λ q. tt;
+    shorter = λ t k. tt;
+    longer = λ i n. tt;
+    again = λ low high body e. true≢false e;
+  }
 
   lies_quiet : (t : Tree) (w : WholeItems ws t) → has_region t ≡ false → (x : Spot) → Lies ws t w x → Quiet x.point
   lies_quiet t w e x y =
-      tree_quiet 0 (length ws - 1) t w.0 [] x.point (repeats x.frames) e
-      (quiet_opcode (length ws - 1) opcode.SUCCESS w.1 refl) y
+      tree_holds ws by_regions (λ a. a ≡ false) Quiet quiet_in 0 (length ws - 1) t w.0 [] x.point (repeats x.frames) e
+      (quiet_role (length ws - 1) ToEnd (role_here ws (length ws - 1) opcode.SUCCESS ToEnd w.1 refl) refl) y
 
   -- at such a point no region is entered
   quiet_enters : (s : Subject) (pt : Point) (fs : List Frame) (p : ℕ) (m : Marks) (g : Region) (y z : Spot) → Quiet pt

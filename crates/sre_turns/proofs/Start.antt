@@ -5,7 +5,8 @@ use Rattle.std.proofs.lemmas.Bool.{or_right}
 use Rattle.sre_chars.specs.declared.constants.SreOpcode.TheVariants as opcode
 use Rattle.sre_chars.specs.declared.string.StringCursor.{StringCursor}
 use Rattle.sre_model.specs.Tree.{Tree, Empty, Then}
-use Rattle.sre_model.specs.References.{refers, item_refers, asked_from}
+use Rattle.sre_model.specs.References.{refers, by_references, asked_from}
+use Rattle.sre_model.specs.Folding.{of_item}
 use Rattle.sre_model.specs.Prefixes.{behind_items}
 use Rattle.sre_model.specs.Marks.{no_marks}
 use Rattle.sre_model.specs.Ways.{Way, first, ways}
@@ -34,7 +35,7 @@ use Rattle.sre_turns.proofs.Ran.{ran, AskedIn}
 behind_refers : (n : ℕ) (t : Tree) → refers (behind_items n t) ≡ true → refers t ≡ true
 behind_refers zero t e = e
 behind_refers (suc n) Empty e = e
-behind_refers (suc n) (Then x rest) e = or_right (item_refers x) (refers rest) (behind_refers n rest e)
+behind_refers (suc n) (Then x rest) e = or_right (of_item by_references x) (refers rest) (behind_refers n rest e)
 
 -- and it asks for no group before those of the whole
 behind_asked : (n : ℕ) (t : Tree) → asked_from t ≤ asked_from (behind_items n t)

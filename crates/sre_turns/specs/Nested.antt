@@ -15,7 +15,7 @@ use Rattle.sre_turns.specs.declared.Point.{Point}
 use Rattle.sre_turns.specs.Moves.{Spot, Move, Stop, End, Go, Split, Enter, closing_move}
 use Rattle.sre_turns.specs.Turning.{Runs}
 use Rattle.sre_turns.specs.Alike.{least_from}
-pub use Rattle.sre_model.specs.Slots.{loop_slots, most_slots, item_slots, branch_slots}
+pub use Rattle.sre_model.specs.Slots.{loop_slots, most_slots, by_slots}
 
 -- the places of the loops in progress, innermost first
 abbrev pub repeats : List Frame → List ℕ

@@ -1,0 +1,103 @@
+-- What holds of each point that lies in a tree's words, where the tree is good by a folding.
+-- The law that a search takes few turns (`enough` of sre_engine) rests on this.
+use Rattle.std.proofs.Common.{◌≡◌, ℕ, ◌+◌, ◌-◌, inl, inr, List, [], ◌∷◌, refl, sym, subst}
+use Rattle.sre_chars.specs.declared.constants.SreOpcode.TheVariants as opcode
+use Rattle.sre_model.specs.Tree.{Tree, Empty, Then, Item, Fail, One, At, Mark, Branch, Loop, Run, PossessiveLoop}
+use Rattle.sre_model.specs.Tree.{Atomic, Look, Reference, Exists, ExistsElse, Trees, Only, Or, Order}
+use Rattle.sre_model.specs.Folding.{Folding, of_tree, of_item, of_parts, of_branch}
+use Rattle.sre_model.specs.Grammar.{word, skip, Opcode, Reads, Operands, ReadsItem, ReadsBranch, until_opcode}
+use Rattle.sre_model.specs.Roles.{ToEnd, ToJump, ToLoop}
+use Rattle.sre_model.proofs.Families.{HasRole, role_here, until_role}
+use Rattle.sre_turns.specs.declared.Point.TheVariants.{Instruction, Alternatives, Shorter, Longer, Again}
+use Rattle.sre_turns.specs.declared.Point.{Point}
+use Rattle.sre_turns.specs.Nested.{LiesIn, LiesInItem, LiesInBranch}
+use Rattle.sre_turns.proofs.NestedMoves.{begins}
+
+module _ (ws : List ℕ) {V : Type 0} (f : Folding V) (Good : V → Type 0) (P : Point → Type 0) where
+  -- parts of what is good are, and it holds of points by the items that begin there, and of all others
+  pub record HoldsInGood : Type 0 where
+    pub first : (a b : V) → Good (f.both a b) → Good a
+    pub second : (a b : V) → Good (f.both a b) → Good b
+    pub parts : (x : Item) → Good (of_item f x) → Good (of_parts f x)
+    pub item : (i j : ℕ) (x : Item) → ReadsItem ws i j x → Good (of_item f x) → P (Instruction i)
+    pub success : (i : ℕ) → HasRole ws i ToEnd → P (Instruction i)
+    pub jump : (i : ℕ) → HasRole ws i ToJump → P (Instruction i)
+    pub until : (i : ℕ) (o : Order) → HasRole ws i (ToLoop o) → P (Instruction i)
+    pub alternatives : (q : ℕ) → P (Alternatives q)
+    pub shorter : (t k : ℕ) → P (Shorter t k)
+    pub longer : (i n : ℕ) → P (Longer i n)
+    pub again : (low high : ℕ) (body : Tree) → Good (of_item f (PossessiveLoop low high body)) → P Again
+
+  module _ (h : HoldsInGood) where
+    at_point : (at pt : Point) → pt ≡ at → P at → P pt
+    at_point at pt e p = subst P (sym e) p
+
+    ended : (i : ℕ) → Opcode ws i opcode.SUCCESS → P (Instruction i)
+    ended i w = h.success i (role_here ws i opcode.SUCCESS ToEnd w refl)
+
+    jumped : (i : ℕ) → Opcode ws i opcode.JUMP → P (Instruction i)
+    jumped i w = h.jump i (role_here ws i opcode.JUMP ToJump w refl)
+
+    -- where a good tree stands before a point of which it holds, it holds of each of its points
+    mutual
+      pub tree_holds : (i j : ℕ) (t : Tree) (r : Reads ws i j t) (js : List ℕ) (pt : Point) (ks : List ℕ)
+          → Good (of_tree f t) → P (Instruction j) → LiesIn ws i j t r js pt ks → P pt
+      tree_holds i j Empty r js pt ks g p y = at_point (Instruction j) pt y.0 p
+      tree_holds i j (Then a rest) r js pt ks g p (inl y) =
+          at_point (Instruction i) pt y.0 (h.item i r.0 a r.1 (h.first (of_item f a) (of_tree f rest) g))
+      tree_holds i j (Then a rest) r js pt ks g p (inr (inl y)) =
+          let next : P (Instruction r.0) =
+          tree_holds r.0 j rest r.2 js (Instruction r.0) js (h.second (of_item f a) (of_tree f rest) g) p
+          (begins ws r.0 j rest r.2 js) in
+          inside_holds i r.0 a r.1.1 js pt ks (h.first (of_item f a) (of_tree f rest) g) next y
+      tree_holds i j (Then a rest) r js pt ks g p (inr (inr y)) =
+          tree_holds r.0 j rest r.2 js pt ks (h.second (of_item f a) (of_tree f rest) g) p y
+
+      inside_holds : (i j : ℕ) (a : Item) (r : Operands ws i j a) (js : List ℕ) (pt : Point) (ks : List ℕ)
+          → Good (of_item f a) → P (Instruction j) → LiesInItem ws i j a r js pt ks → P pt
+      inside_holds i j Fail r js pt ks g p y = absurd y
+      inside_holds i j (One t) r js pt ks g p y = absurd y
+      inside_holds i j (At a) r js pt ks g p y = absurd y
+      inside_holds i j (Mark k) r js pt ks g p y = absurd y
+      inside_holds i j (Branch ts) r js pt ks g p y = branch_holds (i + 1) j ts r js pt ks (h.parts (Branch ts) g) y
+      inside_holds i j (Loop o low high body) r js pt ks g p y =
+          let u : ℕ = skip ws (i + 1) in
+          tree_holds (i + 4) u body r.3 (i ∷ js) pt ks (h.parts (Loop o low high body) g)
+          (h.until u o (role_here ws u (until_opcode o) (ToLoop o) r.4 (until_role o))) y
+      inside_holds i j (Run kind low high t) r js pt ks g p (inl y) =
+          at_point (Shorter j y.0) pt y.1.0 (h.shorter j y.0)
+      inside_holds i j (Run kind low high t) r js pt ks g p (inr y) =
+          at_point (Longer i y.0) pt y.1.0 (h.longer i y.0)
+      inside_holds i j (PossessiveLoop low high body) r js pt ks g p (inl y) =
+          at_point Again pt y.0 (h.again low high body g)
+      inside_holds i j (PossessiveLoop low high body) r js pt ks g p (inr y) =
+          tree_holds (i + 4) (skip ws (i + 1)) body r.3 [] pt ks (h.parts (PossessiveLoop low high body) g)
+          (ended (skip ws (i + 1)) r.4) y
+      inside_holds i j (Atomic body) r js pt ks g p y =
+          tree_holds (i + 2) (j - 1) body r.1 [] pt ks (h.parts (Atomic body) g) (ended (j - 1) r.2) y
+      inside_holds i j (Look sign back body) r js pt ks g p y =
+          tree_holds (i + 3) (j - 1) body r.2 [] pt ks (h.parts (Look sign back body) g) (ended (j - 1) r.3) y
+      inside_holds i j (Reference fold n) r js pt ks g p y = absurd y
+      inside_holds i j (Exists n a) r js pt ks g p y =
+          tree_holds (i + 3) j a r.2 js pt ks (h.parts (Exists n a) g) p y
+      inside_holds i j (ExistsElse n a b) r js pt ks g p (inl y) =
+          let u : ℕ = i + 1 + word ws (i + 2) - 2 in
+          tree_holds (i + 3) u a r.1 js pt ks
+          (h.first (of_tree f a) (of_tree f b) (h.parts (ExistsElse n a b) g)) (jumped u r.2.0) y
+      inside_holds i j (ExistsElse n a b) r js pt ks g p (inr y) =
+          tree_holds (i + 1 + word ws (i + 2)) j b r.3 js pt ks
+          (h.second (of_tree f a) (of_tree f b) (h.parts (ExistsElse n a b) g)) p y
+
+      branch_holds : (q j : ℕ) (ts : Trees) (r : ReadsBranch ws q j ts) (js : List ℕ) (pt : Point) (ks : List ℕ)
+          → Good (of_branch f ts) → LiesInBranch ws q j ts r js pt ks → P pt
+      branch_holds q j (Only t) r js pt ks g (inl y) = at_point (Alternatives q) pt y.0 (h.alternatives q)
+      branch_holds q j (Only t) r js pt ks g (inr (inl y)) =
+          tree_holds (q + 1) (skip ws q - 2) t r.0 js pt ks g (jumped (skip ws q - 2) r.1.0) y
+      branch_holds q j (Only t) r js pt ks g (inr (inr y)) =
+          at_point (Alternatives (skip ws q)) pt y.0 (h.alternatives (skip ws q))
+      branch_holds q j (Or t ts) r js pt ks g (inl y) = at_point (Alternatives q) pt y.0 (h.alternatives q)
+      branch_holds q j (Or t ts) r js pt ks g (inr (inl y)) =
+          tree_holds (q + 1) (skip ws q - 2) t r.0 js pt ks (h.first (of_tree f t) (of_branch f ts) g)
+          (jumped (skip ws q - 2) r.1.0) y
+      branch_holds q j (Or t ts) r js pt ks g (inr (inr y)) =
+          branch_holds (skip ws q) j ts r.2 js pt ks (h.second (of_tree f t) (of_branch f ts) g) y
