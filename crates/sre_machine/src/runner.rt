@@ -139,11 +139,17 @@ impl<A: Allocator> Runner<A> {
         ensures costs { AttemptCosts req.now literals start result self.old self.new allowed.old allowed.new }
         ensures halted { IfErr result (Halted allowed.new) }
     {
-        let told = self.run_from(req, literals, start, allowed);
-        if !matches!(told, Ok(Some(_))) {
-            self.board.clear();
+        match self.run_from(req, literals, start, allowed) {
+            Ok(Some(end)) => Ok(Some(end)),
+            Ok(None) => {
+                self.board.clear();
+                Ok(None)
+            }
+            Err(halt) => {
+                self.board.clear();
+                Err(halt)
+            }
         }
-        told
     }
 
     // Where failures come to be kept in the course of a run, it goes on with what it saved, or, where it is limited,

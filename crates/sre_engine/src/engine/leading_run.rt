@@ -3,14 +3,14 @@
 //! A start inside the run has its own run end at the same place, so that it leads to no end which the run's start has
 //! not tried. A search that goes on behind the run passes over each character once.
 
-ghost use Rattle.std.specs.Prelude.{◌≡◌, ◌+◌, ◌^◌, ◌<◌, ◌≤◌, length, IfSome, MatchOption, None};
+ghost use Rattle.std.specs.Prelude.{◌≡◌, ◌+◌, ◌^◌, ◌<◌, ◌≤◌, length, cond, true, IfSome, MatchOption, None};
 ghost use Rattle.sre_model.specs.Tree.{Tree};
 ghost use Rattle.sre_model.specs.Grammar.{WholeItems};
 ghost use Rattle.sre_model.specs.Found.{at_start};
 ghost use Rattle.sre_model.specs.LeadingRuns.{RunStands};
 ghost use Rattle.sre_request.specs.Requests.{end_of, asked_of};
 ghost use Rattle.sre_request.specs.Runs.{run_of, OpcodeAt, Standing};
-ghost use Rattle.sre_engine.specs.Starts.{NoneUntil};
+ghost use Rattle.sre_engine.specs.Starts.{NoneBetween, NoneUntil};
 
 use crate::engine::first_characters::is_test;
 use sre_chars::constants::{MAXREPEAT, SreOpcode};
@@ -121,25 +121,35 @@ fn past_run<S: StrDrive>(
     Some(run.end)
 }
 
-/// The next start that a match may have, behind one that has none: one character on, or behind the run that leads.
+/// Goes on from a start that has no match to the next one that may have one: one character on, or behind the run that
+/// leads. It says whether there is one.
 #[inline(always)]
-pub(crate) fn start_behind<S: StrDrive>(
+pub(crate) fn pass_start<S: StrDrive>(
     req: &Request<'_, S>,
     lead: Option<LeadingRun>,
-    start: StringCursor,
-) -> Option<StringCursor>
-    requires stands { Standing req.now start }
-    requires inside { start.position ≤ end_of req.now }
+    start: &mut StringCursor,
+) -> bool
+    requires stands { Standing req.now start.old }
+    requires inside { start.old.position ≤ end_of req.now }
     requires lead { (t : Tree) → WholeItems (run_of req.now).words t
         → IfSome lead (λ run. RunStands (run_of req.now).words t run.first run.test) }
-    ensures next { IfSome result (λ next. (start.position < next.position) × (next.position ≤ end_of req.now)) }
-    ensures stands { IfSome result (λ next. Standing req.now next) }
+    ensures next { result ≡ true
+        → (start.old.position < start.new.position) × (start.new.position ≤ end_of req.now) }
+    ensures stands { result ≡ true → Standing req.now start.new }
     ensures none { (t : Tree) → WholeItems (run_of req.now).words t
-        → at_start (asked_of req.now) t start.position ≡ None
-        → NoneUntil (asked_of req.now) t start.position result }
+        → at_start (asked_of req.now) t start.old.position ≡ None
+        → NoneBetween (asked_of req.now) t start.old.position (cond result start.new.position (end_of req.now + 1)) }
 {
-    match lead {
-        None => one_on(req, start),
-        Some(run) => past_run(req, run, start),
-    }
+    let next = match lead {
+        None => match one_on(req, *start) {
+            None => return false,
+            Some(next) => next,
+        },
+        Some(run) => match past_run(req, run, *start) {
+            None => return false,
+            Some(next) => next,
+        },
+    };
+    *start = next;
+    true
 }

@@ -1,7 +1,7 @@
 //! Candidates along the members of a confirmed first set.
 
 use crate::engine::candidates::{Candidate, Candidates};
-use crate::engine::leading_run::{leading_run, start_behind};
+use crate::engine::leading_run::{leading_run, pass_start};
 use crate::engine::told::{Starts, next_member_told};
 use sre_chars::string::{StrDrive, StringCursor};
 use sre_request::Request;
@@ -37,10 +37,7 @@ impl<S: StrDrive> Candidates<S> for Members {
 
     #[inline(always)]
     fn pass(&mut self, req: &Request<'_, S>, _compared: u64, candidate: Candidate) -> bool {
-        let Some(behind) = start_behind(req, leading_run(req), candidate.cursor) else {
-            return false;
-        };
-        self.start = behind;
-        true
+        self.start = candidate.cursor;
+        pass_start(req, leading_run(req), &mut self.start)
     }
 }

@@ -6,7 +6,7 @@ ghost use Rattle.sre_engine.specs.Starts.{Bars, TestsThere};
 
 use crate::engine::candidates::{Candidate, Candidates};
 use crate::engine::first_characters::First;
-use crate::engine::leading_run::{LeadingRun, leading_run, start_behind};
+use crate::engine::leading_run::{LeadingRun, leading_run, pass_start};
 use crate::engine::told::{Starts, next_start_told};
 use sre_chars::string::{StrDrive, StringCursor};
 use sre_request::Request;
@@ -72,10 +72,7 @@ impl<S: StrDrive> Candidates<S> for Openings {
             self.lead = leading_run(req);
             self.is_read = true;
         }
-        let Some(behind) = start_behind(req, self.lead, candidate.cursor) else {
-            return false;
-        };
-        self.start = behind;
-        true
+        self.start = candidate.cursor;
+        pass_start(req, self.lead, &mut self.start)
     }
 }
