@@ -7,13 +7,11 @@
 ghost use Rattle.std.specs.Prelude.{None, ◌≡◌, ◌+◌, ◌-◌, ◌^◌, ◌<◌, ◌≤◌, MatchOption, IfOk, true, false};
 ghost use Rattle.sre_model.specs.Grammar.{Word};
 ghost use Rattle.sre_model.specs.Ways.{unlimited};
-ghost use Rattle.sre_turns.specs.Machine.{HasRun, Advances};
-ghost use Rattle.sre_turns.specs.RunEnds.{RunsOn};
 ghost use Rattle.sre_turns.specs.declared.Point.TheVariants.{Longer};
 ghost use Rattle.sre_request.specs.Requests.{end_of};
 ghost use Rattle.sre_request.specs.Runs.{run_of, OpcodeAt, Standing, TestAt};
-ghost use Rattle.sre_machine.specs.Turns.{At, TurnOnce};
-ghost use Rattle.sre_machine.specs.EndlessRuns.{TakenAt, NotTakenAt, LacksLeast, EndsFirst, BeginsLater};
+ghost use Rattle.sre_machine.specs.Turns.{At, TurnOnce, AtPoint, TurnAt};
+ghost use Rattle.sre_machine.specs.EndlessRuns.{TakenAt, NotTakenAt, LacksLeast, EndsFirst, BeginsLater, IsEndlessRun};
 
 use crate::lazy_runs::{longer, one_longer};
 use crate::machine::{opcode, refuses};
@@ -39,8 +37,8 @@ pub(super) fn is_endless_run<S: StrDrive>(
     cursor: StringCursor,
 ) -> bool
     requires { At req.now place cursor }
-    ensures on { result ≡ true → RunsOn (run_of req.now).words place }
-    ensures off { result ≡ false → RunsOn (run_of req.now).words place → ⊥ }
+    ensures on { result ≡ true → IsEndlessRun req.now place }
+    ensures off { result ≡ false → IsEndlessRun req.now place → ⊥ }
 {
     match opcode(req, place, cursor) {
         SreOpcode::REPEAT_ONE => operand(req, place, 3) as usize == MAXREPEAT,
@@ -52,7 +50,7 @@ pub(super) fn is_endless_run<S: StrDrive>(
 // Whether the run at a place is a lazy one; else it is greedy.
 #[inline(always)]
 fn is_lazy<S: StrDrive>(req: &Request<'_, S>, place: usize) -> bool
-    requires { RunsOn (run_of req.now).words place }
+    requires { IsEndlessRun req.now place }
     ensures lazy { result ≡ true → OpcodeAt req.now place SreOpcode.MIN_REPEAT_ONE }
     ensures greedy { result ≡ false → OpcodeAt req.now place SreOpcode.REPEAT_ONE }
 {
@@ -134,7 +132,7 @@ pub(super) fn endless_run<S: StrDrive, A: Allocator>(
     place: usize,
     cursor: StringCursor,
 ) -> Result<Next, Refusal>
-    requires on { RunsOn (run_of req.now).words place }
+    requires on { IsEndlessRun req.now place }
     requires stands { At req.now place cursor }
     ensures { IfOk result (λ next. TurnOnce req.now place cursor board.old next board.new) }
 {
@@ -207,8 +205,8 @@ pub(super) fn later_run<S: StrDrive, A: Allocator>(
     count: usize,
     start: StringCursor,
 ) -> Result<Next, Refusal>
-    requires { HasRun (run_of req.now) (Longer place count) start }
-    ensures { IfOk result (λ next. Advances (run_of req.now) (Longer place count) start board.old next board.new) }
+    requires { AtPoint req.now (Longer place count) start }
+    ensures { IfOk result (λ next. TurnAt req.now (Longer place count) start board.old next board.new) }
 {
     let operands = run_operands(req, place);
     let least = operands.least;
