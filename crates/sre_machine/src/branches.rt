@@ -6,10 +6,7 @@
 
 ghost use Rattle.std.specs.Prelude.{◌≡◌, ℕ, ◌+◌, ◌<◌, ◌^◌, true, false, IfOk, MatchOption};
 ghost use Rattle.sre_model.specs.Tree.{Test};
-ghost use Rattle.sre_model.specs.Characters.{holds};
-ghost use Rattle.sre_model.specs.Subject.{char_at};
 ghost use Rattle.sre_model.specs.Grammar.{word};
-ghost use Rattle.sre_model.specs.Standing.{TestStands};
 ghost use Rattle.sre_turns.specs.declared.Point.TheVariants.{Instruction, Alternatives};
 ghost use Rattle.sre_turns.specs.declared.Point.{Point};
 ghost use Rattle.sre_turns.specs.Machine.{Chooses, Exhausted};
@@ -17,6 +14,7 @@ ghost use Rattle.sre_model.specs.Roles.{begins_test};
 ghost use Rattle.sre_request.specs.Requests.{end_of};
 ghost use Rattle.sre_request.specs.Runs.{run_of, OpcodeAt, TestAt};
 ghost use Rattle.sre_machine.specs.Turns.{At, Turn, AtPoint, ContinuesTo, ReadAt, RefusesAt, TurnAt};
+ghost use Rattle.sre_reading.specs.Reads.{TestStandsAt, test_takes, character_at};
 
 use crate::machine::{choose, opcode};
 use sre_board::Board;
@@ -44,7 +42,7 @@ fn misses<S: StrDrive>(
     requires tests { begins_test opcode ≡ true }
     requires stands { At req.now place cursor }
     requires inside { cursor.position < end_of req.now }
-    requires character { character ≡ char_at (run_of req.now).subject cursor.position }
+    requires character { character ≡ character_at req.now cursor.position }
     ensures { result ≡ true → RefusesAt req.now place cursor.position }
 {
     !takes(req, place, opcode, character)
@@ -54,8 +52,8 @@ fn misses<S: StrDrive>(
 #[inline(always)]
 fn may_take<S: StrDrive>(req: &Request<'_, S>, place: usize, character: u32) -> bool
     requires { TestAt req.now place }
-    ensures { result ≡ false → (j : ℕ) (t : Test) → TestStands (run_of req.now).words place j t
-        → holds (run_of req.now).subject.table t character ≡ false }
+    ensures { result ≡ false → (j : ℕ) (t : Test) → TestStandsAt req.now place j t
+        → test_takes req.now t character ≡ false }
 {
     match one_character::opcode(req, place) {
         SreOpcode::IN => takes(req, place, SreOpcode::IN, character),
@@ -76,7 +74,7 @@ fn misses_run<S: StrDrive>(
     requires opcode { OpcodeAt req.now place SreOpcode.REPEAT_ONE }
     requires stands { At req.now place cursor }
     requires inside { cursor.position < end_of req.now }
-    requires character { character ≡ char_at (run_of req.now).subject cursor.position }
+    requires character { character ≡ character_at req.now cursor.position }
     ensures { result ≡ true → RefusesAt req.now place cursor.position }
 {
     let least = operand(req, place, 2);
@@ -97,7 +95,7 @@ fn begins_otherwise<S: StrDrive>(
 ) -> bool
     requires stands { At req.now start cursor }
     requires inside { cursor.position < end_of req.now }
-    requires character { character ≡ char_at (run_of req.now).subject cursor.position }
+    requires character { character ≡ character_at req.now cursor.position }
     ensures { result ≡ true → RefusesAt req.now start cursor.position }
 {
     let mut place = start;

@@ -5,13 +5,13 @@
 //! wherever the run is come to.
 
 ghost use Rattle.std.specs.Prelude.{None, ◌≡◌, ◌+◌, ◌-◌, ◌^◌, ◌<◌, ◌≤◌, MatchOption, IfOk, true, false};
-ghost use Rattle.sre_model.specs.Grammar.{Word};
 ghost use Rattle.sre_model.specs.Ways.{unlimited};
 ghost use Rattle.sre_turns.specs.declared.Point.TheVariants.{Longer};
 ghost use Rattle.sre_request.specs.Requests.{end_of};
-ghost use Rattle.sre_request.specs.Runs.{run_of, OpcodeAt, Standing, TestAt};
+ghost use Rattle.sre_request.specs.Runs.{OpcodeAt, Standing, TestAt};
 ghost use Rattle.sre_machine.specs.Turns.{At, TurnOnce, AtPoint, TurnAt};
 ghost use Rattle.sre_machine.specs.EndlessRuns.{TakenAt, NotTakenAt, LacksLeast, EndsFirst, BeginsLater, IsEndlessRun};
+ghost use Rattle.sre_reading.specs.Reads.{WordAt};
 
 use crate::lazy_runs::{longer, one_longer};
 use crate::machine::{opcode, refuses};
@@ -160,7 +160,7 @@ pub(super) fn endless_run<S: StrDrive, A: Allocator>(
 fn goes_on_lazily<S: StrDrive>(req: &Request<'_, S>, place: usize) -> bool
     requires { TestAt req.now (place + 4) }
     ensures lazy { result ≡ true → OpcodeAt req.now place SreOpcode.MIN_REPEAT_ONE }
-    ensures greatest { result ≡ true → Word (run_of req.now).words (place + 3) unlimited }
+    ensures greatest { result ≡ true → WordAt req.now (place + 3) unlimited }
 {
     if word(req, place) != SreOpcode::MIN_REPEAT_ONE as u32 {
         return false;
