@@ -1,5 +1,5 @@
 -- Turns one after the other: what they cost at most, where each toll that is granted is paid.
-use Rattle.std.proofs.Common.{Bool, Option, ◌≢◌, ◌/◌, ◌≡◌, ℕ, ◌+◌, ◌-◌, ◌*◌, ◌≤◌, ◌⊎◌, inl, inr, true}
+use Rattle.std.proofs.Common.{Option, ◌≢◌, ◌/◌, ◌≡◌, ℕ, ◌+◌, ◌-◌, ◌*◌, ◌≤◌, ◌⊎◌, inl, inr, true}
 use Rattle.std.proofs.Common.{false, List, [], length, Result, Ok, Err, IfOk, IfErr}
 use Rattle.std.proofs.Common.{refl, sym, ap, ◌∙◌, subst, arith}
 use Rattle.std.proofs.Common.{mul-le-mul, add-mul, one-mul}

@@ -7,9 +7,13 @@ use Rattle.sre_model.specs.Tree.{Test}
 use Rattle.sre_model.specs.Subject.{passes}
 use Rattle.sre_model.specs.Ways.{run_length}
 use Rattle.sre_model.specs.Standing.{TestStands}
-use Rattle.sre_turns.specs.RunEnds.{AllPass}
+use Rattle.sre_turns.specs.RunEnds.{AllPass, RunsOn}
 use Rattle.sre_request.specs.declared.request.Request.{Request}
 use Rattle.sre_request.specs.Runs.{run_of, Standing}
+
+-- a run without a greatest count is at a place
+abbrev pub IsEndlessRun : {S : Type 0} {text : Ghosts S} → Request S text → ℕ → Type 0
+IsEndlessRun r place = RunsOn (run_of r).words place
 
 -- the character at p passes the test at a place; so do all from p up to q
 abbrev pub TakenAt : {S : Type 0} {text : Ghosts S} → Request S text → ℕ → ℕ → Type 0

@@ -1,9 +1,12 @@
 -- What a memo has: the failures that are kept, and how long the search goes on without keeping any.
 use Rattle.std.specs.Prelude.{ℕ, ◌+◌, ◌-◌, ◌*◌, ◌<◌, ◌≤◌, ◌≡◌, Bool, true, false, List, Option, Some, None, negsuc}
+use Rattle.sre_chars.specs.declared.string.StrDrive.{Ghosts}
 use Rattle.sre_growth.specs.declared.Refusal.{Refusal}
 use Rattle.sre_model.specs.Marks.{Marks, no_marks}
 use Rattle.sre_model.specs.Runs.{Run}
 use Rattle.sre_turns.specs.MovesAtReferences.{Asks}
+use Rattle.sre_request.specs.declared.request.Request.{Request}
+use Rattle.sre_request.specs.Runs.{run_of}
 use Rattle.sre_board.specs.Failures.{Kept, Remembers, Grows, Laid, HasSlots, Roomy, NewRow, Capacity, HasRow}
 
 -- failures, the marks under which they were kept, and behind which mark none is asked for
@@ -48,6 +51,10 @@ pub record Recalled (r : Run) (k : Kept) (m : MarkedValue) : Type 0 where
 
 abbrev pub Recalls : Run → MemoValue → Type 0
 Recalls r m = Recalled r m.kept m.marked
+
+-- the same for a request
+abbrev pub RecallsOf : {S : Type 0} {text : Ghosts S} → Request S text → MemoValue → Type 0
+RecallsOf r m = Recalls (run_of r) m
 
 -- room was made for the failures of a place with the loops at these places, for the positions from first to end, unless
 -- no more are kept: nothing that was kept is lost, and no more is

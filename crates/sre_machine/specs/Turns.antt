@@ -1,6 +1,6 @@
 -- Where the machine stands, and what an instruction's turn keeps, in the words of its functions' contracts.
 -- Words of the machine's contracts; what sre_engine makes public does not rest on it.
-use Rattle.std.specs.Prelude.{ℕ, ◌≡◌, ◌≢◌, Bool, true, false, List, []}
+use Rattle.std.specs.Prelude.{ℕ, ◌≡◌, ◌≢◌, Bool, true, false, List, [], Option}
 use Rattle.sre_chars.specs.declared.string.StrDrive.{Ghosts}
 use Rattle.sre_chars.specs.declared.string.StringCursor.{StringCursor}
 use Rattle.sre_model.specs.Marks.{Marks}
@@ -14,11 +14,13 @@ use Rattle.sre_turns.specs.Moves.{spot_at}
 use Rattle.sre_turns.specs.MovesAtReferences.{HasReference}
 use Rattle.sre_turns.specs.Settled.{Regionless}
 use Rattle.sre_model.specs.Ways.{Way}
-use Rattle.sre_turns.specs.Machine.{HasRun, IsAt, Goes, Tries, Arrives, Backs, Advances, Later}
+use Rattle.sre_turns.specs.Machine.{HasRun, IsAt, StandsWithin, Goes, Tries, Arrives, Backs, Advances, Later}
+use Rattle.sre_turns.specs.Machine.{Refuses, DemandsAny, Continues, SkipsBoth, IsRead}
 use Rattle.sre_turns.specs.RunEnds.{RunsOn}
 use Rattle.sre_turns.specs.Limits.{Limit, Grants}
 use Rattle.sre_turns.specs.declared.Next.TheVariants as next
 use Rattle.sre_turns.specs.declared.Next.{Next}
+use Rattle.sre_turns.specs.declared.Point.{Point}
 use Rattle.sre_turns.specs.declared.Point.TheVariants.{Instruction}
 use Rattle.sre_request.specs.declared.request.Request.{Request}
 use Rattle.sre_machine.specs.Memos.{MemoValue}
@@ -27,18 +29,63 @@ use Rattle.sre_machine.specs.declared.trying.Keeping.{Keeping}
 use Rattle.sre_machine.specs.declared.trying.Keeping.TheVariants.{Nothing, Unmarked, Marked}
 use Rattle.sre_request.specs.Runs.{run_of}
 
--- the machine is at an instruction, with a cursor at its position
+-- the machine is at a point, with a cursor at its position; at an instruction
+abbrev pub AtPoint : {S : Type 0} {text : Ghosts S} → Request S text → Point → StringCursor → Type 0
+AtPoint r point cursor = HasRun (run_of r) point cursor
+
 abbrev pub At : {S : Type 0} {text : Ghosts S} → Request S text → ℕ → StringCursor → Type 0
-At r place cursor = HasRun (run_of r) (Instruction place) cursor
+At r place cursor = AtPoint r (Instruction place) cursor
+
+-- the same on a board
+abbrev pub AtOnBoard : {S : Type 0} {text : Ghosts S} → Request S text → Point → StringCursor → BoardValue → Type 0
+AtOnBoard r point cursor b = IsAt (run_of r) point cursor b
+
+-- the machine stands somewhere within so many turns, whose accepted outcomes begin with these
+abbrev pub WithinTurns : {S : Type 0} {text : Ghosts S} → Request S text → List Way → ℕ → Next → BoardValue → Type 0
+WithinTurns r all turns next b = StandsWithin (run_of r) all turns next b
+
+-- nothing comes of the instruction at a place and a position; nor where another character stands than is wanted
+abbrev pub RefusesAt : {S : Type 0} {text : Ghosts S} → Request S text → ℕ → ℕ → Type 0
+RefusesAt r place p = Refuses (run_of r) place p
+
+abbrev pub DemandedAt : {S : Type 0} {text : Ghosts S} → Request S text → ℕ → Option ℕ → Type 0
+DemandedAt r place wanted = DemandsAny (run_of r) place wanted
+
+-- what comes of one point comes of another; of one point come two
+abbrev pub ContinuesTo : {S : Type 0} {text : Ghosts S} → Request S text → Point → StringCursor → Point → StringCursor
+    → Type 0
+ContinuesTo r point cursor then after = Continues (run_of r) point cursor then after
+
+abbrev pub SkipsBothAt : {S : Type 0} {text : Ghosts S} → Request S text → Point → StringCursor → Point → Point
+    → StringCursor → Type 0
+SkipsBothAt r point cursor first second after = SkipsBoth (run_of r) point cursor first second after
+
+-- the character at a cursor is read, and a cursor stands behind it
+abbrev pub ReadAt : {S : Type 0} {text : Ghosts S} → Request S text → StringCursor → ℕ → StringCursor → Type 0
+ReadAt r cursor character after = IsRead (run_of r) cursor character after
+
+-- the words refer to groups; no mark is set that they ask for; two lists of marks are alike in those
+abbrev pub RefersToGroups : {S : Type 0} {text : Ghosts S} → Request S text → Type 0
+RefersToGroups r = HasReference (run_of r).words
+
+abbrev pub UnaskedMarks : {S : Type 0} {text : Ghosts S} → Request S text → Marks → Type 0
+UnaskedMarks r m = marks.Unmarked (run_of r).words m
+
+abbrev pub AlikeMarks : {S : Type 0} {text : Ghosts S} → Request S text → Marks → Marks → Type 0
+AlikeMarks r m n = MarksAlike (run_of r).words m n
 
 -- nothing comes of the instruction at a place and a position, under the loops of a board and under marks
 abbrev pub Fails : {S : Type 0} {text : Ghosts S} → Request S text → ℕ → ℕ → Marks → BoardValue → Type 0
 Fails r place p m b = Hopeless (run_of r) (is_inside b.choices) m (spot_at (Instruction place) b.frames p b.marks)
 
--- the instruction's turn makes of a board what comes next and another board, and keeps the first accepted outcome
+-- a point's turn makes of a board what comes next and another board, and keeps the first accepted outcome
+abbrev pub TurnAt : {S : Type 0} {text : Ghosts S} → Request S text → Point → StringCursor → BoardValue → Next
+    → BoardValue → Type 0
+TurnAt r point cursor b next c = Advances (run_of r) point cursor b next c
+
 abbrev pub Turn : {S : Type 0} {text : Ghosts S} → Request S text → ℕ → StringCursor → BoardValue → Next → BoardValue
     → Type 0
-Turn r place cursor b next c = Advances (run_of r) (Instruction place) cursor b next c
+Turn r place cursor b next c = TurnAt r (Instruction place) cursor b next c
 
 -- a turn later, where more may have been granted meanwhile, which is paid in some way
 abbrev pub Proceeds : Run → List Way → Limit → Next → BoardValue → (Limit → Type 0) → Type 0
@@ -99,8 +146,7 @@ TurnOnce r place cursor b next c =
 -- the machine may stand there still, whatever else waits
 abbrev pub StaysAt : {S : Type 0} {text : Ghosts S} → Request S text → ℕ → StringCursor → BoardValue → BoardValue
     → Type 0
-StaysAt r place cursor b c =
-    IsAt (run_of r) (Instruction place) cursor b → IsAt (run_of r) (Instruction place) cursor c
+StaysAt r place cursor b c = AtOnBoard r (Instruction place) cursor b → AtOnBoard r (Instruction place) cursor c
 
 -- an instruction is left at once, or else the machine stands there still and goes on with it
 pub record LeavesOrStays {S : Type 0} {text : Ghosts S} (r : Request S text) (place : ℕ) (cursor : StringCursor)
@@ -114,7 +160,7 @@ pub record LeavesOrStays {S : Type 0} {text : Ghosts S} (r : Request S text) (pl
 pub record IsKeeping {S : Type 0} {text : Ghosts S} (r : Request S text) (keeping : Keeping) (b : BoardValue)
     (m : MemoValue) : Type 0 where
   pub opened : keeping ≢ Nothing → m.is_open ≡ true
-  pub unmarked : keeping ≡ Unmarked → marks.Unmarked (run_of r).words b.marks
-  pub marked : keeping ≡ Marked → MarksAlike (run_of r).words m.marked.marks b.marks
-  pub refers : keeping ≡ Marked → HasReference (run_of r).words
-  pub left : keeping ≡ Nothing → m.is_open ≡ true → HasReference (run_of r).words
+  pub unmarked : keeping ≡ Unmarked → UnaskedMarks r b.marks
+  pub marked : keeping ≡ Marked → AlikeMarks r m.marked.marks b.marks
+  pub refers : keeping ≡ Marked → RefersToGroups r
+  pub left : keeping ≡ Nothing → m.is_open ≡ true → RefersToGroups r

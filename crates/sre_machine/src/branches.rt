@@ -6,17 +6,15 @@
 
 ghost use Rattle.std.specs.Prelude.{◌≡◌, ℕ, ◌+◌, ◌<◌, ◌^◌, true, false, IfOk, MatchOption};
 ghost use Rattle.sre_model.specs.Tree.{Test};
-ghost use Rattle.sre_model.specs.Characters.{holds};
-ghost use Rattle.sre_model.specs.Subject.{char_at};
 ghost use Rattle.sre_model.specs.Grammar.{word};
-ghost use Rattle.sre_model.specs.Standing.{TestStands};
 ghost use Rattle.sre_turns.specs.declared.Point.TheVariants.{Instruction, Alternatives};
 ghost use Rattle.sre_turns.specs.declared.Point.{Point};
-ghost use Rattle.sre_turns.specs.Machine.{HasRun, Advances, Chooses, Refuses, Exhausted, Continues, IsRead};
+ghost use Rattle.sre_turns.specs.Machine.{Chooses, Exhausted};
 ghost use Rattle.sre_model.specs.Roles.{begins_test};
 ghost use Rattle.sre_request.specs.Requests.{end_of};
 ghost use Rattle.sre_request.specs.Runs.{run_of, OpcodeAt, TestAt};
-ghost use Rattle.sre_machine.specs.Turns.{At, Turn};
+ghost use Rattle.sre_machine.specs.Turns.{At, Turn, AtPoint, ContinuesTo, ReadAt, RefusesAt, TurnAt};
+ghost use Rattle.sre_reading.specs.Reads.{TestStandsAt, test_takes, character_at};
 
 use crate::machine::{choose, opcode};
 use sre_board::Board;
@@ -44,8 +42,8 @@ fn misses<S: StrDrive>(
     requires tests { begins_test opcode ≡ true }
     requires stands { At req.now place cursor }
     requires inside { cursor.position < end_of req.now }
-    requires character { character ≡ char_at (run_of req.now).subject cursor.position }
-    ensures { result ≡ true → Refuses (run_of req.now) place cursor.position }
+    requires character { character ≡ character_at req.now cursor.position }
+    ensures { result ≡ true → RefusesAt req.now place cursor.position }
 {
     !takes(req, place, opcode, character)
 }
@@ -54,8 +52,8 @@ fn misses<S: StrDrive>(
 #[inline(always)]
 fn may_take<S: StrDrive>(req: &Request<'_, S>, place: usize, character: u32) -> bool
     requires { TestAt req.now place }
-    ensures { result ≡ false → (j : ℕ) (t : Test) → TestStands (run_of req.now).words place j t
-        → holds (run_of req.now).subject.table t character ≡ false }
+    ensures { result ≡ false → (j : ℕ) (t : Test) → TestStandsAt req.now place j t
+        → test_takes req.now t character ≡ false }
 {
     match one_character::opcode(req, place) {
         SreOpcode::IN => takes(req, place, SreOpcode::IN, character),
@@ -76,8 +74,8 @@ fn misses_run<S: StrDrive>(
     requires opcode { OpcodeAt req.now place SreOpcode.REPEAT_ONE }
     requires stands { At req.now place cursor }
     requires inside { cursor.position < end_of req.now }
-    requires character { character ≡ char_at (run_of req.now).subject cursor.position }
-    ensures { result ≡ true → Refuses (run_of req.now) place cursor.position }
+    requires character { character ≡ character_at req.now cursor.position }
+    ensures { result ≡ true → RefusesAt req.now place cursor.position }
 {
     let least = operand(req, place, 2);
     if least == 0 {
@@ -97,8 +95,8 @@ fn begins_otherwise<S: StrDrive>(
 ) -> bool
     requires stands { At req.now start cursor }
     requires inside { cursor.position < end_of req.now }
-    requires character { character ≡ char_at (run_of req.now).subject cursor.position }
-    ensures { result ≡ true → Refuses (run_of req.now) start cursor.position }
+    requires character { character ≡ character_at req.now cursor.position }
+    ensures { result ≡ true → RefusesAt req.now start cursor.position }
 {
     let mut place = start;
     macro_rules! by_opcode {
@@ -141,9 +139,9 @@ fn behind_test<S: StrDrive>(
     requires opcode { OpcodeAt req.now place opcode }
     requires tests { begins_test opcode ≡ true }
     requires stands { At req.now place cursor }
-    requires read { IsRead (run_of req.now) cursor character after }
-    ensures { MatchOption result (Refuses (run_of req.now) place cursor.position)
-        (λ x. Continues (run_of req.now) (Instruction place) cursor (Instruction x.place) x.cursor) }
+    requires read { ReadAt req.now cursor character after }
+    ensures { MatchOption result (RefusesAt req.now place cursor.position)
+        (λ x. ContinuesTo req.now (Instruction place) cursor (Instruction x.place) x.cursor) }
 {
     if takes(req, place, opcode, character) {
         Some(Onward {
@@ -159,7 +157,7 @@ fn behind_test<S: StrDrive>(
 #[inline(always)]
 fn behind_jump<S: StrDrive>(req: &Request<'_, S>, place: usize, cursor: StringCursor) -> usize
     requires { At req.now place cursor }
-    ensures { Continues (run_of req.now) (Instruction place) cursor (Instruction result) cursor }
+    ensures { ContinuesTo req.now (Instruction place) cursor (Instruction result) cursor }
 {
     if word(req, place) == SreOpcode::JUMP as u32 {
         let skip = operand(req, place, 1);
@@ -179,9 +177,9 @@ fn behind_set<S: StrDrive>(
 ) -> Option<Onward>
     requires opcode { OpcodeAt req.now place SreOpcode.IN }
     requires stands { At req.now place cursor }
-    requires read { IsRead (run_of req.now) cursor character after }
-    ensures { MatchOption result (Refuses (run_of req.now) place cursor.position)
-        (λ x. Continues (run_of req.now) (Instruction place) cursor (Instruction x.place) x.cursor) }
+    requires read { ReadAt req.now cursor character after }
+    ensures { MatchOption result (RefusesAt req.now place cursor.position)
+        (λ x. ContinuesTo req.now (Instruction place) cursor (Instruction x.place) x.cursor) }
 {
     let Some(behind) = behind_test(req, SreOpcode::IN, place, character, after, cursor) else {
         return None;
@@ -203,9 +201,9 @@ fn begin<S: StrDrive>(
     cursor: StringCursor,
 ) -> Option<Onward>
     requires stands { At req.now place cursor }
-    requires read { IsRead (run_of req.now) cursor character after }
-    ensures { MatchOption result (Refuses (run_of req.now) place cursor.position)
-        (λ x. Continues (run_of req.now) (Instruction place) cursor (Instruction x.place) x.cursor) }
+    requires read { ReadAt req.now cursor character after }
+    ensures { MatchOption result (RefusesAt req.now place cursor.position)
+        (λ x. ContinuesTo req.now (Instruction place) cursor (Instruction x.place) x.cursor) }
 {
     if word(req, place) == SreOpcode::LITERAL as u32 {
         return behind_test(req, SreOpcode::LITERAL, place, character, after, cursor);
@@ -252,13 +250,13 @@ fn first_alternative<S: StrDrive>(
     after: StringCursor,
     cursor: StringCursor,
 ) -> Option<Alternative>
-    requires stands { HasRun (run_of req.now) (Alternatives start) cursor }
-    requires read { IsRead (run_of req.now) cursor character after }
+    requires stands { AtPoint req.now (Alternatives start) cursor }
+    requires read { ReadAt req.now cursor character after }
     ensures { MatchOption result (Exhausted (run_of req.now) (Alternatives start) cursor.position)
-        (λ x. HasRun (run_of req.now) (Alternatives x.length_word) cursor
+        (λ x. AtPoint req.now (Alternatives x.length_word) cursor
         × (0 < word (run_of req.now).words x.length_word)
-        × Continues (run_of req.now) (Alternatives start) cursor (Alternatives x.length_word) cursor
-        × Continues (run_of req.now) (Instruction (x.length_word + 1)) cursor (Instruction x.place) x.cursor) }
+        × ContinuesTo req.now (Alternatives start) cursor (Alternatives x.length_word) cursor
+        × ContinuesTo req.now (Instruction (x.length_word + 1)) cursor (Instruction x.place) x.cursor) }
 {
     let mut place = start;
     'alternative: loop {
@@ -285,8 +283,8 @@ fn alternatives_at_end<S: StrDrive, A: Allocator>(
     place: usize,
     cursor: StringCursor,
 ) -> Result<Next, Refusal>
-    requires { HasRun (run_of req.now) (Alternatives place) cursor }
-    ensures { IfOk result (λ next. Advances (run_of req.now) (Alternatives place) cursor board.old next board.new) }
+    requires { AtPoint req.now (Alternatives place) cursor }
+    ensures { IfOk result (λ next. TurnAt req.now (Alternatives place) cursor board.old next board.new) }
 {
     let length = word(req, place) as usize;
     if length == 0 {
@@ -310,7 +308,7 @@ fn choose_alternative<S: StrDrive, A: Allocator>(
     others: usize,
     cursor: StringCursor,
 ) -> Result<Next, Refusal>
-    requires { Continues (run_of req.now) (Instruction (first.length_word + 1)) cursor
+    requires { ContinuesTo req.now (Instruction (first.length_word + 1)) cursor
         (Instruction first.place) first.cursor }
     ensures { IfOk result (λ next.
         Chooses (run_of req.now) (Instruction (first.length_word + 1)) (Alternatives others) cursor
@@ -328,8 +326,8 @@ pub(super) fn alternatives<S: StrDrive, A: Allocator>(
     start: usize,
     cursor: StringCursor,
 ) -> Result<Next, Refusal>
-    requires { HasRun (run_of req.now) (Alternatives start) cursor }
-    ensures { IfOk result (λ next. Advances (run_of req.now) (Alternatives start) cursor board.old next board.new) }
+    requires { AtPoint req.now (Alternatives start) cursor }
+    ensures { IfOk result (λ next. TurnAt req.now (Alternatives start) cursor board.old next board.new) }
 {
     if cursor.position() >= req.end() {
         return Ok(alternatives_at_end(req, board, start, cursor)?);

@@ -5,15 +5,13 @@
 //! wherever the run is come to.
 
 ghost use Rattle.std.specs.Prelude.{None, ◌≡◌, ◌+◌, ◌-◌, ◌^◌, ◌<◌, ◌≤◌, MatchOption, IfOk, true, false};
-ghost use Rattle.sre_model.specs.Grammar.{Word};
 ghost use Rattle.sre_model.specs.Ways.{unlimited};
-ghost use Rattle.sre_turns.specs.Machine.{HasRun, Advances};
-ghost use Rattle.sre_turns.specs.RunEnds.{RunsOn};
 ghost use Rattle.sre_turns.specs.declared.Point.TheVariants.{Longer};
 ghost use Rattle.sre_request.specs.Requests.{end_of};
-ghost use Rattle.sre_request.specs.Runs.{run_of, OpcodeAt, Standing, TestAt};
-ghost use Rattle.sre_machine.specs.Turns.{At, TurnOnce};
-ghost use Rattle.sre_machine.specs.EndlessRuns.{TakenAt, NotTakenAt, LacksLeast, EndsFirst, BeginsLater};
+ghost use Rattle.sre_request.specs.Runs.{OpcodeAt, Standing, TestAt};
+ghost use Rattle.sre_machine.specs.Turns.{At, TurnOnce, AtPoint, TurnAt};
+ghost use Rattle.sre_machine.specs.EndlessRuns.{TakenAt, NotTakenAt, LacksLeast, EndsFirst, BeginsLater, IsEndlessRun};
+ghost use Rattle.sre_reading.specs.Reads.{WordAt};
 
 use crate::lazy_runs::{longer, one_longer};
 use crate::machine::{opcode, refuses};
@@ -39,8 +37,8 @@ pub(super) fn is_endless_run<S: StrDrive>(
     cursor: StringCursor,
 ) -> bool
     requires { At req.now place cursor }
-    ensures on { result ≡ true → RunsOn (run_of req.now).words place }
-    ensures off { result ≡ false → RunsOn (run_of req.now).words place → ⊥ }
+    ensures on { result ≡ true → IsEndlessRun req.now place }
+    ensures off { result ≡ false → IsEndlessRun req.now place → ⊥ }
 {
     match opcode(req, place, cursor) {
         SreOpcode::REPEAT_ONE => operand(req, place, 3) as usize == MAXREPEAT,
@@ -52,7 +50,7 @@ pub(super) fn is_endless_run<S: StrDrive>(
 // Whether the run at a place is a lazy one; else it is greedy.
 #[inline(always)]
 fn is_lazy<S: StrDrive>(req: &Request<'_, S>, place: usize) -> bool
-    requires { RunsOn (run_of req.now).words place }
+    requires { IsEndlessRun req.now place }
     ensures lazy { result ≡ true → OpcodeAt req.now place SreOpcode.MIN_REPEAT_ONE }
     ensures greedy { result ≡ false → OpcodeAt req.now place SreOpcode.REPEAT_ONE }
 {
@@ -134,7 +132,7 @@ pub(super) fn endless_run<S: StrDrive, A: Allocator>(
     place: usize,
     cursor: StringCursor,
 ) -> Result<Next, Refusal>
-    requires on { RunsOn (run_of req.now).words place }
+    requires on { IsEndlessRun req.now place }
     requires stands { At req.now place cursor }
     ensures { IfOk result (λ next. TurnOnce req.now place cursor board.old next board.new) }
 {
@@ -162,7 +160,7 @@ pub(super) fn endless_run<S: StrDrive, A: Allocator>(
 fn goes_on_lazily<S: StrDrive>(req: &Request<'_, S>, place: usize) -> bool
     requires { TestAt req.now (place + 4) }
     ensures lazy { result ≡ true → OpcodeAt req.now place SreOpcode.MIN_REPEAT_ONE }
-    ensures greatest { result ≡ true → Word (run_of req.now).words (place + 3) unlimited }
+    ensures greatest { result ≡ true → WordAt req.now (place + 3) unlimited }
 {
     if word(req, place) != SreOpcode::MIN_REPEAT_ONE as u32 {
         return false;
@@ -207,8 +205,8 @@ pub(super) fn later_run<S: StrDrive, A: Allocator>(
     count: usize,
     start: StringCursor,
 ) -> Result<Next, Refusal>
-    requires { HasRun (run_of req.now) (Longer place count) start }
-    ensures { IfOk result (λ next. Advances (run_of req.now) (Longer place count) start board.old next board.new) }
+    requires { AtPoint req.now (Longer place count) start }
+    ensures { IfOk result (λ next. TurnAt req.now (Longer place count) start board.old next board.new) }
 {
     let operands = run_operands(req, place);
     let least = operands.least;

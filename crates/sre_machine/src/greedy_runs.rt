@@ -2,10 +2,10 @@
 
 ghost use Rattle.std.specs.Prelude.{◌≡◌, ◌⊎◌, MatchOption, true, IfOk};
 ghost use Rattle.sre_turns.specs.Board.{BoardValue};
-ghost use Rattle.sre_turns.specs.Machine.{HasRun, Advances, DemandsAny, Excludes, SkipsBoth};
+ghost use Rattle.sre_turns.specs.Machine.{Excludes};
 ghost use Rattle.sre_turns.specs.declared.Point.TheVariants.{Instruction, Shorter};
 ghost use Rattle.sre_request.specs.Runs.{run_of, OpcodeAt, TestAt};
-ghost use Rattle.sre_machine.specs.Turns.{At, Turn};
+ghost use Rattle.sre_machine.specs.Turns.{At, Turn, AtPoint, DemandedAt, SkipsBothAt, TurnAt};
 
 use crate::machine::{choose, first_literal, lacks};
 use crate::run_operands::run_operands;
@@ -36,11 +36,11 @@ fn first_shorter<S: StrDrive>(
     count: usize,
     start: StringCursor,
 ) -> Option<ShorterRun>
-    requires wanted { DemandsAny (run_of req.now) tail wanted }
-    requires stands { HasRun (run_of req.now) (Shorter tail count) start }
+    requires wanted { DemandedAt req.now tail wanted }
+    requires stands { AtPoint req.now (Shorter tail count) start }
     ensures { MatchOption result
-        ((b : BoardValue) → Advances (run_of req.now) (Shorter tail count) start b Next.Back b)
-        (λ x. SkipsBoth (run_of req.now) (Shorter tail count) start (Instruction tail) (Shorter tail x.left) x.end) }
+        ((b : BoardValue) → TurnAt req.now (Shorter tail count) start b Next.Back b)
+        (λ x. SkipsBothAt req.now (Shorter tail count) start (Instruction tail) (Shorter tail x.left) x.end) }
 {
     if count == 0 {
         return None;
@@ -77,9 +77,9 @@ fn shorter<S: StrDrive, A: Allocator>(
     count: usize,
     start: StringCursor,
 ) -> Result<Next, Refusal>
-    requires wanted { DemandsAny (run_of req.now) tail wanted }
-    requires stands { HasRun (run_of req.now) (Shorter tail count) start }
-    ensures { IfOk result (λ next. Advances (run_of req.now) (Shorter tail count) start board.old next board.new) }
+    requires wanted { DemandedAt req.now tail wanted }
+    requires stands { AtPoint req.now (Shorter tail count) start }
+    ensures { IfOk result (λ next. TurnAt req.now (Shorter tail count) start board.old next board.new) }
 {
     let Some(found) = first_shorter(req, tail, wanted, count, start) else {
         return Ok(Next::Back);
@@ -105,8 +105,8 @@ pub(super) fn shorter_saved<S: StrDrive, A: Allocator>(
     count: usize,
     start: StringCursor,
 ) -> Result<Next, Refusal>
-    requires { HasRun (run_of req.now) (Shorter tail count) start }
-    ensures { IfOk result (λ next. Advances (run_of req.now) (Shorter tail count) start board.old next board.new) }
+    requires { AtPoint req.now (Shorter tail count) start }
+    ensures { IfOk result (λ next. TurnAt req.now (Shorter tail count) start board.old next board.new) }
 {
     if count == 0 {
         return Ok(Next::Back);

@@ -7,10 +7,9 @@ ghost use Rattle.sre_model.specs.Ways.{unlimited};
 ghost use Rattle.sre_model.specs.Grammar.{skip};
 ghost use Rattle.sre_turns.specs.Board.{BoardValue};
 ghost use Rattle.sre_turns.specs.declared.Point.TheVariants.{Instruction, Longer};
-ghost use Rattle.sre_turns.specs.Machine.{HasRun, Advances, SkipsBoth};
 ghost use Rattle.sre_request.specs.Runs.{run_of, OpcodeAt};
 ghost use Rattle.sre_machine.specs.Runs.{AreOperands};
-ghost use Rattle.sre_machine.specs.Turns.{At, Turn};
+ghost use Rattle.sre_machine.specs.Turns.{At, Turn, AtPoint, SkipsBothAt, TurnAt};
 
 use crate::machine::{choose, first_literal, lacks, refuses};
 use crate::run_operands::{RunOperands, run_operands};
@@ -46,10 +45,10 @@ pub(super) fn one_longer<S: StrDrive>(
 ) -> Option<StringCursor>
     requires read { AreOperands req.now place operands }
     requires opcode { OpcodeAt req.now (place + 4) opcode }
-    requires stands { HasRun (run_of req.now) (Longer place count) cursor }
+    requires stands { AtPoint req.now (Longer place count) cursor }
     ensures longer { MatchOption result
-        ((b : BoardValue) → Advances (run_of req.now) (Longer place count) cursor b Next.Back b)
-        (λ after. SkipsBoth (run_of req.now) (Longer place count) cursor (Instruction operands.tail)
+        ((b : BoardValue) → TurnAt req.now (Longer place count) cursor b Next.Back b)
+        (λ after. SkipsBothAt req.now (Longer place count) cursor (Instruction operands.tail)
         (Longer place (count + 1)) after) }
     ensures inside { MatchOption result ⊤
         (λ after. (cursor.position < (run_of req.now).subject.end) × (after.position ≡ cursor.position + 1)) }
@@ -86,10 +85,10 @@ fn first_longer<S: StrDrive>(
     start: StringCursor,
 ) -> Reach
     requires tail { tail ≡ skip (run_of req.now).words (place + 1) }
-    requires stands { HasRun (run_of req.now) (Longer place least) start }
+    requires stands { AtPoint req.now (Longer place least) start }
     ensures { MatchOption result.end
-        ((b : BoardValue) → Advances (run_of req.now) (Longer place least) start b Next.Back b)
-        (λ end. SkipsBoth (run_of req.now) (Longer place least) start (Instruction tail) (Longer place result.count)
+        ((b : BoardValue) → TurnAt req.now (Longer place least) start b Next.Back b)
+        (λ end. SkipsBothAt req.now (Longer place least) start (Instruction tail) (Longer place result.count)
         end) }
 {
     let operands = run_operands(req, place);
@@ -127,8 +126,8 @@ pub(super) fn longer<S: StrDrive, A: Allocator>(
     count: usize,
     start: StringCursor,
 ) -> Result<Next, Refusal>
-    requires { HasRun (run_of req.now) (Longer place count) start }
-    ensures { IfOk result (λ next. Advances (run_of req.now) (Longer place count) start board.old next board.new) }
+    requires { AtPoint req.now (Longer place count) start }
+    ensures { IfOk result (λ next. TurnAt req.now (Longer place count) start board.old next board.new) }
 {
     let tail = run_operands(req, place).tail;
     let reach = first_longer(req, place, tail, count, start);

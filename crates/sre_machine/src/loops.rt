@@ -9,9 +9,9 @@ ghost use Rattle.std.specs.Prelude.{◌≡◌, ◌+◌, IfOk};
 ghost use Rattle.sre_model.specs.Ways.{may_repeat};
 ghost use Rattle.sre_turns.specs.declared.Point.TheVariants.{Instruction};
 ghost use Rattle.sre_turns.specs.MovesInLoops.{next_frame};
-ghost use Rattle.sre_turns.specs.Machine.{IsAt, with_loop};
-ghost use Rattle.sre_request.specs.Runs.{run_of, OpcodeAt};
-ghost use Rattle.sre_machine.specs.Turns.{Turn};
+ghost use Rattle.sre_turns.specs.Machine.{with_loop};
+ghost use Rattle.sre_request.specs.Runs.{OpcodeAt};
+ghost use Rattle.sre_machine.specs.Turns.{Turn, AtOnBoard};
 
 use crate::machine::{opcode, refuses};
 use sre_board::Board;
@@ -56,7 +56,7 @@ pub(super) fn repeat<S: StrDrive, A: Allocator>(
     cursor: StringCursor,
 ) -> Result<Next, Refusal>
     requires opcode { OpcodeAt req.now place SreOpcode.REPEAT }
-    requires stands { IsAt (run_of req.now) (Instruction place) cursor board.old }
+    requires stands { AtOnBoard req.now (Instruction place) cursor board.old }
     ensures { IfOk result (λ next. Turn req.now place cursor board.old next board.new) }
 {
     let skip = operand(req, place, 1);
@@ -85,7 +85,7 @@ fn further<S: StrDrive, A: Allocator>(
     cursor: StringCursor,
 ) -> Result<Next, Refusal>
     requires opcode { OpcodeAt req.now place SreOpcode.MAX_UNTIL }
-    requires stands { IsAt (run_of req.now) (Instruction place) cursor (with_loop frame board.old) }
+    requires stands { AtOnBoard req.now (Instruction place) cursor (with_loop frame board.old) }
     ensures { IfOk result
         (λ next. Turn req.now place cursor (with_loop frame board.old) next board.new) }
 {
@@ -124,7 +124,7 @@ pub(super) fn max_until<S: StrDrive, A: Allocator>(
     cursor: StringCursor,
 ) -> Result<Next, Refusal>
     requires opcode { OpcodeAt req.now place SreOpcode.MAX_UNTIL }
-    requires stands { IsAt (run_of req.now) (Instruction place) cursor board.old }
+    requires stands { AtOnBoard req.now (Instruction place) cursor board.old }
     ensures { IfOk result (λ next. Turn req.now place cursor board.old next board.new) }
 {
     let frame = board.top();
@@ -141,7 +141,7 @@ pub(super) fn min_until<S: StrDrive, A: Allocator>(
     cursor: StringCursor,
 ) -> Result<Next, Refusal>
     requires opcode { OpcodeAt req.now place SreOpcode.MIN_UNTIL }
-    requires stands { IsAt (run_of req.now) (Instruction place) cursor board.old }
+    requires stands { AtOnBoard req.now (Instruction place) cursor board.old }
     ensures { IfOk result (λ next. Turn req.now place cursor board.old next board.new) }
 {
     let _opcode = operand(req, place, 0);

@@ -8,11 +8,12 @@ ghost use Rattle.std.specs.Prelude.{◌≡◌, ℕ, ◌+◌, ◌^◌, ◌<◌, I
 ghost use Rattle.sre_turns.specs.Board.{BoardValue};
 ghost use Rattle.sre_turns.specs.declared.Point.TheVariants.{Instruction, Longer};
 ghost use Rattle.sre_turns.specs.declared.Point.{Point};
-ghost use Rattle.sre_turns.specs.Machine.{IsAt, IsBack, Chooses, HasRun, Advances, Refuses, DemandsAny};
+ghost use Rattle.sre_turns.specs.Machine.{IsBack, Chooses};
 ghost use Rattle.sre_model.specs.Roles.{begins_test};
 ghost use Rattle.sre_request.specs.Runs.{run_of, OpcodeAt, Standing};
-ghost use Rattle.sre_machine.specs.Memos.{Recalls};
-ghost use Rattle.sre_machine.specs.Turns.{At, Turn, Retreats, Finishes};
+ghost use Rattle.sre_machine.specs.Memos.{RecallsOf};
+ghost use Rattle.sre_machine.specs.Turns.{At, AtPoint, AtOnBoard, Turn, TurnAt, DemandedAt, RefusesAt};
+ghost use Rattle.sre_machine.specs.Turns.{Retreats, Finishes};
 
 use crate::branches::{alternatives, branch};
 use crate::endless_runs::later_run;
@@ -159,7 +160,7 @@ pub(super) fn first_literal<S: StrDrive>(
     cursor: StringCursor,
 ) -> Option<u32>
     requires { At req.now start cursor }
-    ensures { DemandsAny (run_of req.now) start result }
+    ensures { DemandedAt req.now start result }
 {
     let mut place = start;
     'mark: loop {
@@ -183,7 +184,7 @@ pub(super) fn lacks<S: StrDrive>(
 ) -> bool
     requires { Standing req.now cursor }
     ensures { result ≡ true
-        → (i : ℕ) → DemandsAny (run_of req.now) i wanted → Refuses (run_of req.now) i cursor.position }
+        → (i : ℕ) → DemandedAt req.now i wanted → RefusesAt req.now i cursor.position }
 {
     let Some(value) = wanted else {
         return false;
@@ -202,7 +203,7 @@ pub(super) fn lacks<S: StrDrive>(
 #[inline(always)]
 pub(super) fn refuses<S: StrDrive>(req: &Request<'_, S>, place: usize, cursor: StringCursor) -> bool
     requires { At req.now place cursor }
-    ensures { result ≡ true → Refuses (run_of req.now) place cursor.position }
+    ensures { result ≡ true → RefusesAt req.now place cursor.position }
 {
     let wanted = first_literal(req, place, cursor);
     lacks(req, wanted, cursor)
@@ -233,8 +234,8 @@ fn longer_saved<S: StrDrive, A: Allocator, const KEEPS: bool>(
     count: usize,
     start: StringCursor,
 ) -> Result<Next, Refusal>
-    requires { HasRun (run_of req.now) (Longer place count) start }
-    ensures { IfOk result (λ next. Advances (run_of req.now) (Longer place count) start board.old next board.new) }
+    requires { AtPoint req.now (Longer place count) start }
+    ensures { IfOk result (λ next. TurnAt req.now (Longer place count) start board.old next board.new) }
 {
     if KEEPS && memo.is_open() {
         return later_run(req, board, place, count, start);
@@ -251,11 +252,11 @@ pub(super) fn back<S: StrDrive, A: Allocator, const KEEPS: bool>(
     memo: &mut Memo<A>,
 ) -> Result<Option<Next>, Refusal>
     requires stands { IsBack (run_of req.now) board.old }
-    requires remembers { Recalls (run_of req.now) memo.old }
+    requires remembers { RecallsOf req.now memo.old }
     ensures next { IfOk result (λ found. MatchOption found
         (Finishes req.now KEEPS board.old memo.old memo.new)
         (λ next. Retreats req.now KEEPS board.old memo.old next board.new memo.new)) }
-    ensures remembers { Recalls (run_of req.now) memo.new }
+    ensures remembers { RecallsOf req.now memo.new }
     ensures same { IfOk result (λ _. memo.new ≡ record memo.old { kept = memo.new.kept; marked = memo.new.marked }) }
 {
     'choice: loop {
@@ -295,7 +296,7 @@ pub(super) fn instruction<S: StrDrive, A: Allocator>(
     place: usize,
     cursor: StringCursor,
 ) -> Result<Next, Refusal>
-    requires { IsAt (run_of req.now) (Instruction place) cursor board.old }
+    requires { AtOnBoard req.now (Instruction place) cursor board.old }
     ensures { IfOk result (λ next. Turn req.now place cursor board.old next board.new) }
 {
     let code = opcode(req, place, cursor);

@@ -14,11 +14,10 @@ ghost use Rattle.sre_turns.specs.Moves.{spot_at};
 ghost use Rattle.sre_turns.specs.declared.Point.TheVariants.{Instruction};
 ghost use Rattle.sre_growth.specs.Refusal.{Refused};
 ghost use Rattle.sre_board.specs.Failures.{HoldsNone, HoldsNoMore, HoldsOneMore, Tells};
-ghost use Rattle.sre_machine.specs.Memos.{Recalls, MakesRoom};
+ghost use Rattle.sre_machine.specs.Memos.{MakesRoom, RecallsOf};
 ghost use Rattle.sre_board.specs.Failures.{KeepsSpot, kept_of};
 ghost use Rattle.sre_turns.specs.Nested.{repeats};
 ghost use Rattle.sre_request.specs.Requests.{start_of, end_of};
-ghost use Rattle.sre_request.specs.Runs.{run_of};
 
 use crate::marked::Marked;
 use sre_board::{Board, Failures, Known};
@@ -88,7 +87,7 @@ impl<A: Allocator> Memo<A> {
     /// of memory is kept.
     #[inline(always)]
     pub fn begin<S: StrDrive>(&mut self, req: &Request<'_, S>, board: &mut Board<A>)
-        ensures remembers { Recalls (run_of req.now) self.new }
+        ensures remembers { RecallsOf req.now self.new }
         ensures none { HoldsNone self.new.kept }
         ensures empty { self.new.kept ≡ kept_of [] [] [] }
         ensures opened { self.new.is_open ≡ false }

@@ -5,9 +5,8 @@
 
 ghost use Rattle.std.specs.Prelude.{IfOk};
 ghost use Rattle.sre_turns.specs.declared.Point.TheVariants.{Again};
-ghost use Rattle.sre_turns.specs.Machine.{IsAt, Advances};
-ghost use Rattle.sre_request.specs.Runs.{run_of, OpcodeAt};
-ghost use Rattle.sre_machine.specs.Turns.{At, Turn};
+ghost use Rattle.sre_request.specs.Runs.{OpcodeAt};
+ghost use Rattle.sre_machine.specs.Turns.{At, Turn, AtOnBoard, TurnAt};
 
 use crate::loops::{may_repeat, next_frame};
 use sre_board::Board;
@@ -46,8 +45,8 @@ pub(super) fn again<S: StrDrive, A: Allocator>(
     board: &mut Board<A>,
     cursor: StringCursor,
 ) -> Result<Next, Refusal>
-    requires { IsAt (run_of req.now) Again cursor board.old }
-    ensures { IfOk result (λ next. Advances (run_of req.now) Again cursor board.old next board.new) }
+    requires { AtOnBoard req.now Again cursor board.old }
+    ensures { IfOk result (λ next. TurnAt req.now Again cursor board.old next board.new) }
 {
     let frame = board.top();
     let least = operand(req, frame.repeat, 2);

@@ -4,9 +4,8 @@
 ghost use Rattle.std.specs.Prelude.{◌≡◌, ◌+◌, nat_le};
 ghost use Rattle.sre_turns.specs.declared.Point.TheVariants.{Instruction};
 ghost use Rattle.sre_model.specs.Roles.{ToRefer, role};
-ghost use Rattle.sre_turns.specs.Machine.{IsAt};
-ghost use Rattle.sre_request.specs.Runs.{run_of, OpcodeAt};
-ghost use Rattle.sre_machine.specs.Turns.{At, Turn};
+ghost use Rattle.sre_request.specs.Runs.{OpcodeAt};
+ghost use Rattle.sre_machine.specs.Turns.{At, Turn, AtOnBoard};
 
 use sre_board::Board;
 use sre_chars::constants::SreOpcode;
@@ -37,7 +36,7 @@ pub(super) fn reference<S: StrDrive, A: Allocator>(
 ) -> Next
     requires opcode { OpcodeAt req.now place opcode }
     requires refers { role opcode ≡ ToRefer }
-    requires stands { IsAt (run_of req.now) (Instruction place) cursor board.old }
+    requires stands { AtOnBoard req.now (Instruction place) cursor board.old }
     ensures { Turn req.now place cursor board.old result board.new }
 {
     let number = operand(req, place, 1);

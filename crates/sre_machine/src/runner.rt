@@ -9,7 +9,7 @@ ghost use Rattle.sre_turns.specs.Board.{bare};
 ghost use Rattle.sre_request.specs.Requests.{start_of, end_of};
 ghost use Rattle.sre_request.specs.Runs.{run_of, Standing};
 ghost use Rattle.sre_machine.specs.Allowances.{Halted, is_limited};
-ghost use Rattle.sre_machine.specs.Memos.{Recalls, Begins};
+ghost use Rattle.sre_machine.specs.Memos.{Recalls, Begins, RecallsOf};
 ghost use Rattle.sre_machine.specs.Runners.{IsReady, MayRun, Began, AttemptDecides, ClearsUnfound, AttemptCosts};
 ghost use Rattle.sre_machine.specs.Spending.{RunDecides, Spends, RunCosts, AnewCosts};
 
@@ -165,7 +165,7 @@ impl<A: Allocator> Runner<A> {
         requires may { MayRun req.now literals start }
         requires ready { IsReady req.now self.old }
         ensures began { Began (is_limited allowed.old) self.old self.new }
-        ensures remembers { Recalls (run_of req.now) self.new.memo }
+        ensures remembers { RecallsOf req.now self.new.memo }
         ensures decides { AttemptDecides req.now literals start.position result self.new.board }
         ensures costs { AttemptCosts req.now literals start result self.old self.new allowed.old allowed.new }
         ensures halted { IfErr result (Halted allowed.new) }
@@ -189,10 +189,10 @@ impl<A: Allocator> Runner<A> {
     ) -> Result<Option<StringCursor>, Halt>
         requires may { MayRun req.now literals start }
         requires room { self.old.restarted + 1 < 2 ^ 64 }
-        requires remembers { Recalls (run_of req.now) self.old.memo }
+        requires remembers { RecallsOf req.now self.old.memo }
         ensures started { self.new.started ≡ self.old.started }
         ensures restarted { self.new.restarted ≡ self.old.restarted + 1 }
-        ensures remembers { Recalls (run_of req.now) self.new.memo }
+        ensures remembers { RecallsOf req.now self.new.memo }
         ensures decides { AttemptDecides req.now literals start.position result self.new.board }
         ensures spends { Spends result allowed.old allowed.new }
         ensures costs { AnewCosts req.now literals start self.new.memo result allowed.old allowed.new }
@@ -217,9 +217,9 @@ impl<A: Allocator> Runner<A> {
     ) -> Result<Decision, Halt>
         requires may { MayRun req.now literals start }
         requires fresh { self.old.board ≡ bare no_marks }
-        requires remembers { Recalls (run_of req.now) self.old.memo }
+        requires remembers { RecallsOf req.now self.old.memo }
         ensures same { self.new ≡ record self.old { board = self.new.board; memo = self.new.memo } }
-        ensures remembers { Recalls (run_of req.now) self.new.memo }
+        ensures remembers { RecallsOf req.now self.new.memo }
         ensures decides { RunDecides req.now literals start.position result self.new.board self.old.memo allowed.old }
         ensures spends { Spends result allowed.old allowed.new }
         ensures costs { RunCosts req.now literals start self.old.memo self.new.memo result allowed.old allowed.new }

@@ -8,13 +8,13 @@ ghost use Rattle.sre_turns.specs.Potential.{units};
 ghost use Rattle.sre_machine.specs.Paying.{HoldsTried};
 ghost use Rattle.sre_turns.specs.declared.Point.TheVariants.{Instruction};
 ghost use Rattle.sre_turns.specs.Fruit.{is_inside};
-ghost use Rattle.sre_turns.specs.Machine.{IsAt, spot};
-ghost use Rattle.sre_turns.specs.MovesAtReferences.{HasReference};
-ghost use Rattle.sre_turns.specs.Asked.{MarksAlike, Unmarked};
-ghost use Rattle.sre_machine.specs.Memos.{Recalls};
+ghost use Rattle.sre_turns.specs.Machine.{spot};
+ghost use Rattle.sre_turns.specs.Asked.{Unmarked};
+ghost use Rattle.sre_machine.specs.Memos.{RecallsOf};
 ghost use Rattle.sre_request.specs.Runs.{run_of, OpcodeAt};
-ghost use Rattle.sre_machine.specs.Turns.{At, Fails, Takes, TriesOn, IsKeeping, LeavesOrStays};
-ghost use Rattle.sre_turns.specs.RunEnds.{RunsOn};
+ghost use Rattle.sre_machine.specs.EndlessRuns.{IsEndlessRun};
+ghost use Rattle.sre_machine.specs.Turns.{At, AtOnBoard, Fails, Takes, TriesOn, IsKeeping, LeavesOrStays};
+ghost use Rattle.sre_machine.specs.Turns.{RefersToGroups, UnaskedMarks, AlikeMarks};
 ghost use Rattle.sre_growth.specs.Refusal.{Refused};
 
 use crate::endless_runs::{endless_run, is_endless_run};
@@ -50,8 +50,8 @@ fn may_branch<S: StrDrive>(req: &Request<'_, S>, place: usize, cursor: StringCur
 // Whether no mark is set that the words ask for: those that are set end before the first group that is asked for.
 #[inline(always)]
 fn is_unmarked<S: StrDrive, A: Allocator>(req: &Request<'_, S>, board: &Board<A>) -> bool
-    ensures unmarked { result ≡ true → Unmarked (run_of req.now).words board.now.marks }
-    ensures marked { result ≡ false → HasReference (run_of req.now).words }
+    ensures unmarked { result ≡ true → UnaskedMarks req.now board.now.marks }
+    ensures marked { result ≡ false → RefersToGroups req.now }
 {
     let code = req.pattern_codes();
     if !code.refers() {
@@ -68,8 +68,8 @@ fn is_marked_so<S: StrDrive, A: Allocator>(
     board: &Board<A>,
     memo: &Memo<A>,
 ) -> bool
-    requires { Recalls (run_of req.now) memo.now }
-    ensures { result ≡ true → MarksAlike (run_of req.now).words memo.now.marked.marks board.now.marks }
+    requires { RecallsOf req.now memo.now }
+    ensures { result ≡ true → AlikeMarks req.now memo.now.marked.marks board.now.marks }
 {
     let first = 2 * req.pattern_codes().asked_from() as usize;
     memo.agrees(board.marks().raw(), first)
@@ -97,7 +97,7 @@ fn keeping_at<S: StrDrive, A: Allocator>(
     cursor: StringCursor,
 ) -> Keeping
     requires stands { At req.now place cursor }
-    requires remembers { Recalls (run_of req.now) memo.now }
+    requires remembers { RecallsOf req.now memo.now }
     ensures { IsKeeping req.now result board.now memo.now }
 {
     if !memo.is_open() {
@@ -121,10 +121,10 @@ fn keep_marked<S: StrDrive, A: Allocator>(
     place: usize,
     cursor: StringCursor,
 )
-    requires failed { (m : Marks) → MarksAlike (run_of req.now).words m board.now.marks
+    requires failed { (m : Marks) → AlikeMarks req.now m board.now.marks
         → Fails req.now place cursor.position m board.now }
-    requires remembers { Recalls (run_of req.now) memo.old }
-    ensures remembers { Recalls (run_of req.now) memo.new }
+    requires remembers { RecallsOf req.now memo.old }
+    ensures remembers { RecallsOf req.now memo.new }
     ensures same { memo.new ≡ record memo.old { marked = memo.new.marked } }
 {
     if is_marked_so(req, board, memo) {
@@ -142,10 +142,10 @@ pub(super) fn keep<S: StrDrive, A: Allocator>(
     place: usize,
     cursor: StringCursor,
 )
-    requires failed { (m : Marks) → MarksAlike (run_of req.now).words m board.now.marks
+    requires failed { (m : Marks) → AlikeMarks req.now m board.now.marks
         → Fails req.now place cursor.position m board.now }
-    requires remembers { Recalls (run_of req.now) memo.old }
-    ensures remembers { Recalls (run_of req.now) memo.new }
+    requires remembers { RecallsOf req.now memo.old }
+    ensures remembers { RecallsOf req.now memo.new }
     ensures same { memo.new ≡ record memo.old { kept = memo.new.kept; marked = memo.new.marked } }
     ensures account { is_inside board.now.choices ≡ false
         → HoldsTried req.now (spot (Instruction place) cursor board.now) memo.old.kept memo.new.kept }
@@ -169,10 +169,10 @@ fn has_failed<S: StrDrive, A: Allocator>(
     place: usize,
     cursor: StringCursor,
 ) -> bool
-    requires remembers { Recalls (run_of req.now) memo.old }
+    requires remembers { RecallsOf req.now memo.old }
     requires opened { memo.old.is_open ≡ true }
-    requires unmarked { Unmarked (run_of req.now).words board.old.marks }
-    ensures remembers { Recalls (run_of req.now) memo.new }
+    requires unmarked { UnaskedMarks req.now board.old.marks }
+    ensures remembers { RecallsOf req.now memo.new }
     ensures leaves { LeavesOrStays req.now place cursor result board.old memo.old board.new memo.new }
     ensures tries { result ≡ false → TriesOn req.now place cursor board.old memo.old board.new memo.new }
     ensures still { memo.new.is_open ≡ true ⊎ Refused }
@@ -198,10 +198,10 @@ fn has_failed_marked<S: StrDrive, A: Allocator>(
     place: usize,
     cursor: StringCursor,
 ) -> bool
-    requires remembers { Recalls (run_of req.now) memo.old }
-    requires marked { MarksAlike (run_of req.now).words memo.old.marked.marks board.old.marks }
-    requires refers { HasReference (run_of req.now).words }
-    ensures remembers { Recalls (run_of req.now) memo.new }
+    requires remembers { RecallsOf req.now memo.old }
+    requires marked { AlikeMarks req.now memo.old.marked.marks board.old.marks }
+    requires refers { RefersToGroups req.now }
+    ensures remembers { RecallsOf req.now memo.new }
     ensures leaves { LeavesOrStays req.now place cursor result board.old memo.old board.new memo.new }
     ensures tries { result ≡ false → TriesOn req.now place cursor board.old memo.old board.new memo.new }
     ensures still { memo.old.is_open ≡ true → memo.new.is_open ≡ true ⊎ Refused }
@@ -228,8 +228,8 @@ fn meet_marks<S: StrDrive, A: Allocator>(
     cursor: StringCursor,
 )
     requires stands { At req.now place cursor }
-    requires remembers { Recalls (run_of req.now) memo.old }
-    ensures remembers { Recalls (run_of req.now) memo.new }
+    requires remembers { RecallsOf req.now memo.old }
+    ensures remembers { RecallsOf req.now memo.new }
     ensures closed { memo.old.is_open ≡ false → memo.new ≡ memo.old }
     ensures still { memo.old.is_open ≡ true → memo.new.is_open ≡ true ⊎ Refused }
 {
@@ -250,11 +250,11 @@ fn is_hopeless<S: StrDrive, A: Allocator>(
     cursor: StringCursor,
 ) -> bool
     requires stands { At req.now place cursor }
-    requires remembers { Recalls (run_of req.now) memo.old }
+    requires remembers { RecallsOf req.now memo.old }
     requires keeping { IsKeeping req.now keeping board.old memo.old }
-    ensures remembers { Recalls (run_of req.now) memo.new }
+    ensures remembers { RecallsOf req.now memo.new }
     ensures leaves { LeavesOrStays req.now place cursor result board.old memo.old board.new memo.new }
-    ensures tries { result ≡ false → keeping ≢ Keeping.Nothing → RunsOn (run_of req.now).words place
+    ensures tries { result ≡ false → keeping ≢ Keeping.Nothing → IsEndlessRun req.now place
         → TriesOn req.now place cursor board.old memo.old board.new memo.new }
     ensures closed { memo.old.is_open ≡ false → memo.new ≡ memo.old }
     ensures still { memo.old.is_open ≡ true → memo.new.is_open ≡ true ⊎ Refused }
@@ -284,8 +284,8 @@ fn goes_on_endlessly<S: StrDrive>(
 ) -> bool
     requires { At req.now place cursor }
     ensures keeps { result ≡ true → keeping ≢ Keeping.Nothing }
-    ensures on { result ≡ true → RunsOn (run_of req.now).words place }
-    ensures off { result ≡ false → keeping ≢ Keeping.Nothing → RunsOn (run_of req.now).words place → ⊥ }
+    ensures on { result ≡ true → IsEndlessRun req.now place }
+    ensures off { result ≡ false → keeping ≢ Keeping.Nothing → IsEndlessRun req.now place → ⊥ }
 {
     keeping != Keeping::Nothing && is_endless_run(req, place, cursor)
 }
@@ -300,10 +300,10 @@ pub(super) fn instruction_or_back<S: StrDrive, A: Allocator>(
     place: usize,
     cursor: StringCursor,
 ) -> Result<Next, Refusal>
-    requires stands { IsAt (run_of req.now) (Instruction place) cursor board.old }
-    requires remembers { Recalls (run_of req.now) memo.old }
+    requires stands { AtOnBoard req.now (Instruction place) cursor board.old }
+    requires remembers { RecallsOf req.now memo.old }
     ensures turn { IfOk result (λ next. Takes req.now place cursor board.old memo.old next board.new memo.new) }
-    ensures remembers { Recalls (run_of req.now) memo.new }
+    ensures remembers { RecallsOf req.now memo.new }
     ensures closed { memo.old.is_open ≡ false → memo.new ≡ memo.old }
     ensures still { memo.old.is_open ≡ true → memo.new.is_open ≡ true ⊎ Refused }
 {

@@ -3,10 +3,11 @@
 ghost use Rattle.std.specs.Prelude.{◌≡◌, ◌≢◌, ℕ, ◌+◌, ◌-◌, ◌*◌, ◌^◌, ◌<◌, ◌≤◌, [], List, IfOk, IfErr, true, false};
 ghost use Rattle.sre_model.specs.Ways.{Way};
 ghost use Rattle.sre_model.specs.TurnBounds.{most_each};
-ghost use Rattle.sre_turns.specs.Machine.{StandsWithin, SaysAccepted, Decides};
+ghost use Rattle.sre_turns.specs.Machine.{SaysAccepted, Decides};
 ghost use Rattle.sre_machine.specs.Allowances.{is_limited, left_of};
-ghost use Rattle.sre_machine.specs.Memos.{Recalls};
+ghost use Rattle.sre_machine.specs.Memos.{RecallsOf};
 ghost use Rattle.sre_machine.specs.Paying.{Remembering, each_of, IfDecided};
+ghost use Rattle.sre_machine.specs.Turns.{WithinTurns};
 ghost use Rattle.sre_machine.specs.Spending.{TurnsDecide, Spends, TurnsCost};
 ghost use Rattle.sre_request.specs.Requests.{asked_of};
 ghost use Rattle.sre_request.specs.Runs.{run_of};
@@ -207,10 +208,10 @@ fn remembering_turns<L: Ledger, K: Plan, S: StrDrive, A: Allocator>(
     allowed: &mut Allowance,
 ) -> Result<Decision, Halt>
     requires within { turned.old ≤ K.limit }
-    requires stands { StandsWithin (run_of req.now) K.all (K.limit - turned.old) first board.old }
-    requires remembers { Recalls (run_of req.now) memo.old }
+    requires stands { WithinTurns req.now K.all (K.limit - turned.old) first board.old }
+    requires remembers { RecallsOf req.now memo.old }
     ensures decides { TurnsDecide req.now K.all result board.new memo.old allowed.old }
-    ensures remembers { Recalls (run_of req.now) memo.new }
+    ensures remembers { RecallsOf req.now memo.new }
     ensures spends { Spends result allowed.old allowed.new }
     ensures costs { TurnsCost req.now K.all K.limit first board.old memo.old memo.new turned.old result allowed.old
         allowed.new }
@@ -262,11 +263,11 @@ fn turns<L: Ledger, K: Plan, S: StrDrive, A: Allocator>(
     turned: &mut Turned<L>,
 ) -> Result<Decision, Halt>
     requires new { turned.old ≡ 0 }
-    requires stands { StandsWithin (run_of req.now) K.all K.limit (Next.At place start) board.old }
-    requires remembers { Recalls (run_of req.now) memo.old }
+    requires stands { WithinTurns req.now K.all K.limit (Next.At place start) board.old }
+    requires remembers { RecallsOf req.now memo.old }
     ensures decides { IfOk result
         (λ told. IfDecided told (λ found. Decides (run_of req.now) K.all found board.new.marks)) }
-    ensures remembers { Recalls (run_of req.now) memo.new }
+    ensures remembers { RecallsOf req.now memo.new }
     ensures decided { IfOk result (λ told. told ≢ Decision.Opened) }
     ensures used { IfErr result (λ halt. halt ≡ Halt.UsedUp → ⊥) }
 {
@@ -324,10 +325,10 @@ pub(crate) fn turns_from<L: Ledger, K: Plan, S: StrDrive, A: Allocator>(
     requires parts { blank.parts ≡ L.parts }
     requires some { 0 < blank.parts }
     requires room { 2 * literals < 2 ^ 64 }
-    requires stands { StandsWithin (run_of req.now) K.all K.limit (Next.At (2 * literals) start) board.old }
-    requires remembers { Recalls (run_of req.now) memo.old }
+    requires stands { WithinTurns req.now K.all K.limit (Next.At (2 * literals) start) board.old }
+    requires remembers { RecallsOf req.now memo.old }
     ensures decides { TurnsDecide req.now K.all result board.new memo.old allowed.old }
-    ensures remembers { Recalls (run_of req.now) memo.new }
+    ensures remembers { RecallsOf req.now memo.new }
     ensures spends { Spends result allowed.old allowed.new }
     ensures costs { TurnsCost req.now K.all K.limit (Next.At (2 * literals) start) board.old memo.old memo.new 0
         result allowed.old allowed.new }

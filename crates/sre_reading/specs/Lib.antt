@@ -1,2 +1,3 @@
 pub mod AsciiSets
 pub mod Stretches
+pub mod Reads

@@ -4,9 +4,10 @@
 
 ghost use Rattle.std.specs.Prelude.{◌≡◌, ℕ, List};
 ghost use Rattle.sre_model.specs.Tree.{Test, Locale, SetItem};
-ghost use Rattle.sre_model.specs.Characters.{is_literal, in_set, holds};
-ghost use Rattle.sre_model.specs.Standing.{SetStands, HasSet, TestStands};
-ghost use Rattle.sre_request.specs.Runs.{run_of, OpcodeAt, TestAt};
+ghost use Rattle.sre_model.specs.Characters.{is_literal, in_set};
+ghost use Rattle.sre_model.specs.Standing.{SetStands, HasSet};
+ghost use Rattle.sre_request.specs.Runs.{OpcodeAt, TestAt};
+ghost use Rattle.sre_reading.specs.Reads.{TestStandsAt, test_takes};
 
 use crate::words::word;
 use sre_chars::constants::SreOpcode;
@@ -57,8 +58,8 @@ pub fn takes<S: StrDrive>(
 ) -> bool
     requires code { OpcodeAt req.now place opcode }
     requires stands { TestAt req.now place }
-    ensures { (j : ℕ) (t : Test) → TestStands (run_of req.now).words place j t
-        → result ≡ holds (run_of req.now).subject.table t character }
+    ensures { (j : ℕ) (t : Test) → TestStandsAt req.now place j t
+        → result ≡ test_takes req.now t character }
 {
     let words = req.pattern_codes().items();
     let uni = req.pattern_codes().uni();
@@ -102,8 +103,8 @@ pub fn takes_seldom<S: StrDrive>(
 ) -> bool
     requires code { OpcodeAt req.now place opcode }
     requires stands { TestAt req.now place }
-    ensures { (j : ℕ) (t : Test) → TestStands (run_of req.now).words place j t
-        → result ≡ holds (run_of req.now).subject.table t character }
+    ensures { (j : ℕ) (t : Test) → TestStandsAt req.now place j t
+        → result ≡ test_takes req.now t character }
 {
     takes(req, place, opcode, character)
 }
@@ -113,7 +114,7 @@ pub fn takes_seldom<S: StrDrive>(
 pub fn test_end<S: StrDrive>(req: &Request<'_, S>, place: usize, opcode: SreOpcode) -> usize
     requires code { OpcodeAt req.now place opcode }
     requires stands { TestAt req.now place }
-    ensures { (j : ℕ) (t : Test) → TestStands (run_of req.now).words place j t → result ≡ j }
+    ensures { (j : ℕ) (t : Test) → TestStandsAt req.now place j t → result ≡ j }
 {
     let words = req.pattern_codes().items();
     match opcode {

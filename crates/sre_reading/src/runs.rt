@@ -12,11 +12,12 @@ ghost use Rattle.sre_model.specs.Characters.{item_holds, is_member, holds};
 ghost use Rattle.sre_code.specs.AsciiSet.{contains};
 ghost use Rattle.sre_model.specs.Subject.{passes};
 ghost use Rattle.sre_model.specs.Ways.{most_from, run_length, longest_run};
-ghost use Rattle.sre_model.specs.Standing.{SetStands, TestStands};
+ghost use Rattle.sre_model.specs.Standing.{SetStands};
 ghost use Rattle.sre_request.specs.Requests.{end_of};
 ghost use Rattle.sre_request.specs.Runs.{run_of, OpcodeAt, Standing, TestAt};
 ghost use Rattle.sre_reading.specs.AsciiSets.{IsAsciiPart};
 ghost use Rattle.sre_reading.specs.Stretches.{IsLongest};
+ghost use Rattle.sre_reading.specs.Reads.{TestStandsAt, test_takes};
 
 use crate::one_character::{opcode, takes};
 use crate::text::read;
@@ -209,8 +210,8 @@ fn run_while<S: StrDrive, T: Taker, const WANTED: bool>(
     start: StringCursor,
 ) -> Stretch
     requires fits { T.fits taker.now }
-    requires taker { (j c : ℕ) (taken : Bool) (t : Test) → TestStands (run_of req.now).words place j t
-        → T.says taker.now c taken → taken ≡ holds (run_of req.now).subject.table t c }
+    requires taker { (j c : ℕ) (taken : Bool) (t : Test) → TestStandsAt req.now place j t
+        → T.says taker.now c taken → taken ≡ test_takes req.now t c }
     requires stands { Standing req.now start }
     requires most { most ≤ end_of req.now - start.position }
     ensures { IsLongest req.now place WANTED most start result }
@@ -343,7 +344,7 @@ pub fn run_up_to<S: StrDrive>(
     requires test { TestAt req.now place }
     requires stands { Standing req.now start }
     requires most { most ≤ end_of req.now - start.position }
-    ensures count { (j : ℕ) (t : Test) → TestStands (run_of req.now).words place j t
+    ensures count { (j : ℕ) (t : Test) → TestStandsAt req.now place j t
         → result.count ≡ run_length (run_of req.now).subject t most start.position }
     ensures position { result.end.position ≡ start.position + result.count }
     ensures stands { Standing req.now result.end }
@@ -361,7 +362,7 @@ pub fn longest_run<S: StrDrive>(
 ) -> Stretch
     requires test { TestAt req.now place }
     requires stands { Standing req.now start }
-    ensures count { (j : ℕ) (t : Test) → TestStands (run_of req.now).words place j t
+    ensures count { (j : ℕ) (t : Test) → TestStandsAt req.now place j t
         → result.count ≡ longest_run (run_of req.now).subject t high start.position }
     ensures position { result.end.position ≡ start.position + result.count }
     ensures stands { Standing req.now result.end }
@@ -381,10 +382,10 @@ pub fn first_taken<S: StrDrive>(
     requires test { TestAt req.now place }
     requires stands { Standing req.now start }
     requires inside { start.position ≤ end_of req.now }
-    ensures passed { (j q : ℕ) (t : Test) → TestStands (run_of req.now).words place j t → start.position ≤ q
+    ensures passed { (j q : ℕ) (t : Test) → TestStandsAt req.now place j t → start.position ≤ q
         → q < result.position → passes (run_of req.now).subject t q ≡ false }
     ensures taken { result.position < end_of req.now → (j : ℕ) (t : Test)
-        → TestStands (run_of req.now).words place j t
+        → TestStandsAt req.now place j t
         → passes (run_of req.now).subject t result.position ≡ true }
     ensures from { start.position ≤ result.position }
     ensures inside { result.position ≤ end_of req.now }

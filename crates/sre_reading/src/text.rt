@@ -1,9 +1,9 @@
 //! Steps over the text of a request, by one character or by some.
 
 ghost use Rattle.std.specs.Prelude.{◌≡◌, ◌+◌, ◌-◌, ◌<◌, ◌≤◌, length};
-ghost use Rattle.sre_model.specs.Subject.{char_at};
 ghost use Rattle.sre_request.specs.Requests.{end_of};
 ghost use Rattle.sre_request.specs.Runs.{run_of, Standing};
+ghost use Rattle.sre_reading.specs.Reads.{character_at};
 
 use sre_chars::string::{StrDrive, StringCursor};
 use sre_request::Request;
@@ -13,7 +13,7 @@ use sre_request::Request;
 pub fn read<S: StrDrive>(req: &Request<'_, S>, cursor: StringCursor) -> (u32, StringCursor)
     requires stands { Standing req.now cursor }
     requires inside { cursor.position < end_of req.now }
-    ensures character { result.0 ≡ char_at (run_of req.now).subject cursor.position }
+    ensures character { result.0 ≡ character_at req.now cursor.position }
     ensures position { result.1.position ≡ cursor.position + 1 }
     ensures stands { (run_of req.now).stands result.1 (cursor.position + 1) }
 {
@@ -25,7 +25,7 @@ pub fn read<S: StrDrive>(req: &Request<'_, S>, cursor: StringCursor) -> (u32, St
 pub fn read_in_text<S: StrDrive>(req: &Request<'_, S>, cursor: StringCursor) -> (u32, StringCursor)
     requires stands { Standing req.now cursor }
     requires inside { cursor.position < length (run_of req.now).subject.text }
-    ensures character { result.0 ≡ char_at (run_of req.now).subject cursor.position }
+    ensures character { result.0 ≡ character_at req.now cursor.position }
     ensures position { result.1.position ≡ cursor.position + 1 }
     ensures stands { (run_of req.now).stands result.1 (cursor.position + 1) }
 {
@@ -40,7 +40,7 @@ pub fn read_back<S: StrDrive>(req: &Request<'_, S>, cursor: StringCursor) -> (u3
     requires stands { Standing req.now cursor }
     requires past { 1 ≤ cursor.position }
     ensures position { cursor.position ≡ result.1.position + 1 }
-    ensures character { result.0 ≡ char_at (run_of req.now).subject result.1.position }
+    ensures character { result.0 ≡ character_at req.now result.1.position }
     ensures stands { Standing req.now result.1 }
 {
     let mut before = cursor;

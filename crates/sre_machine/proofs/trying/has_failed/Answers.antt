@@ -31,8 +31,8 @@ returns-in-Failed-clause-leaves g c =
     (subst (λ (ws : List ℕ). Holds m.kept ws inside (record x { position = c.position.result })) same
     c.in-Failed.ensures) in (
       hopeless_left r c.args.place c.args.cursor b no_marks c.requires.unmarked
-          (remembers_still r no_marks _ _ c.prepare.ensures.makes.grows.no_more c.requires.remembers.plain inside x held) all limit
-          arrives,
+          (remembers_still r no_marks _ _ c.prepare.ensures.makes.grows.no_more c.requires.remembers.plain inside x
+          held) all limit arrives,
       pays_prepared c.args.req.now c.args.place c.args.cursor b c.args.memo.now m p all limit arrives,
     ))
 

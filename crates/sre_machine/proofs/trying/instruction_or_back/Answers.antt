@@ -7,7 +7,8 @@ instruction-requires g c =
 
 pub returns-then-is_hopeless-clause-turn : goal.returns-then-is_hopeless-clause-turn
 returns-then-is_hopeless-clause-turn g c =
-    turn_left c.args.req.now c.args.place c.args.cursor _ _ _ _ (c.is_hopeless.ensures.leaves.left c.if-is_hopeless.true)
+    turn_left c.args.req.now c.args.place c.args.cursor _ _ _ _
+    (c.is_hopeless.ensures.leaves.left c.if-is_hopeless.true)
 
 pub returns-clause-turn : goal.returns-clause-turn
 returns-clause-turn g c =

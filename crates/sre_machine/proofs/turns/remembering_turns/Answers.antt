@@ -56,13 +56,15 @@ turn-preserved g c =
           c.turn.invariant.remembers;
       counts =
           counts_on c.args.req.now g.K.Plan.all c.args.first c.args.board.now c.args.memo.now
-          c.args.turned.now c.turn.memo c.turn.turned (left_of c.args.allowed.now) (left_of c.turn.allowed) (left_of c.takes_turns.new.allowed)
+          c.args.turned.now c.turn.memo c.turn.turned (left_of c.args.allowed.now) (left_of c.turn.allowed)
+          (left_of c.takes_turns.new.allowed)
           c.turns_due-turns.result c.turn.invariant.counts c.turns_due-turns.ensures.each c.takes_turns.ensures.spent
           c.waits_on.new.memo c.tick.new.self c.tick.ensures
           (λ h. inl (ap (λ (k : MemoValue). k.is_open) c.waits_on.ensures.same ∙ h));
       waited = λ w.
-          waited_on c.args.memo.now c.turn.memo c.waits_on.new.memo c.waits_on.new.memo (left_of c.args.allowed.now) (left_of c.turn.allowed)
-          (left_of c.takes_turns.new.allowed) c.turns_due-turns.result (c.turn.invariant.waited w) c.waits_on.ensures.same
+          waited_on c.args.memo.now c.turn.memo c.waits_on.new.memo c.waits_on.new.memo (left_of c.args.allowed.now)
+          (left_of c.turn.allowed) (left_of c.takes_turns.new.allowed) c.turns_due-turns.result (c.turn.invariant.waited w)
+          c.waits_on.ensures.same
           (c.waits_on.ensures.waited c.if-not-waits_on.false w) c.takes_turns.ensures.spent
           (λ h. (refl, refl));
       limited = c.takes_turns.ensures.limited ∙ c.turn.invariant.limited;
@@ -106,14 +108,16 @@ turn-preserved-in-At g c =
       remembers = c.instruction_or_back.ensures.remembers;
       counts =
           counts_on c.args.req.now g.K.Plan.all c.args.first c.args.board.now c.args.memo.now
-          c.args.turned.now c.turn.memo c.turn.turned (left_of c.args.allowed.now) (left_of c.turn.allowed) (left_of c.takes_turns.new.allowed)
+          c.args.turned.now c.turn.memo c.turn.turned (left_of c.args.allowed.now) (left_of c.turn.allowed)
+          (left_of c.takes_turns.new.allowed)
           c.turns_due-turns.result c.turn.invariant.counts c.turns_due-turns.ensures.each c.takes_turns.ensures.spent
           c.instruction_or_back.new.memo c.tick.new.self c.tick.ensures
           (λ h. c.in_ok-next-in-At.ensures.still (ap (λ (k : MemoValue). k.is_open) c.waits_on.ensures.same ∙ h));
       waited = λ w.
-          waited_on c.args.memo.now c.turn.memo c.waits_on.new.memo c.instruction_or_back.new.memo (left_of c.args.allowed.now)
-          (left_of c.turn.allowed)
-          (left_of c.takes_turns.new.allowed) c.turns_due-turns.result (c.turn.invariant.waited w) c.waits_on.ensures.same
+          waited_on c.args.memo.now c.turn.memo c.waits_on.new.memo c.instruction_or_back.new.memo
+          (left_of c.args.allowed.now)
+          (left_of c.turn.allowed) (left_of c.takes_turns.new.allowed) c.turns_due-turns.result (c.turn.invariant.waited w)
+          c.waits_on.ensures.same
           (c.waits_on.ensures.waited c.if-not-waits_on.false w) c.takes_turns.ensures.spent
           (λ h. same_memo c.waits_on.new.memo c.instruction_or_back.new.memo (c.in_ok-next-in-At.ensures.closed h));
       limited = c.takes_turns.ensures.limited ∙ c.turn.invariant.limited;
@@ -158,13 +162,15 @@ turn-preserved-in-Again g c =
           c.turn.invariant.remembers;
       counts =
           counts_on c.args.req.now g.K.Plan.all c.args.first c.args.board.now c.args.memo.now
-          c.args.turned.now c.turn.memo c.turn.turned (left_of c.args.allowed.now) (left_of c.turn.allowed) (left_of c.takes_turns.new.allowed)
+          c.args.turned.now c.turn.memo c.turn.turned (left_of c.args.allowed.now) (left_of c.turn.allowed)
+          (left_of c.takes_turns.new.allowed)
           c.turns_due-turns.result c.turn.invariant.counts c.turns_due-turns.ensures.each c.takes_turns.ensures.spent
           c.waits_on.new.memo c.tick.new.self c.tick.ensures
           (λ h. inl (ap (λ (k : MemoValue). k.is_open) c.waits_on.ensures.same ∙ h));
       waited = λ w.
-          waited_on c.args.memo.now c.turn.memo c.waits_on.new.memo c.waits_on.new.memo (left_of c.args.allowed.now) (left_of c.turn.allowed)
-          (left_of c.takes_turns.new.allowed) c.turns_due-turns.result (c.turn.invariant.waited w) c.waits_on.ensures.same
+          waited_on c.args.memo.now c.turn.memo c.waits_on.new.memo c.waits_on.new.memo (left_of c.args.allowed.now)
+          (left_of c.turn.allowed) (left_of c.takes_turns.new.allowed) c.turns_due-turns.result (c.turn.invariant.waited w)
+          c.waits_on.ensures.same
           (c.waits_on.ensures.waited c.if-not-waits_on.false w) c.takes_turns.ensures.spent
           (λ h. (refl, refl));
       limited = c.takes_turns.ensures.limited ∙ c.turn.invariant.limited;
@@ -199,13 +205,15 @@ turn-preserved-in-Some-end g c =
           c.turn.invariant.remembers;
       counts =
           counts_on c.args.req.now g.K.Plan.all c.args.first c.args.board.now c.args.memo.now
-          c.args.turned.now c.turn.memo c.turn.turned (left_of c.args.allowed.now) (left_of c.turn.allowed) (left_of c.takes_turns.new.allowed)
+          c.args.turned.now c.turn.memo c.turn.turned (left_of c.args.allowed.now) (left_of c.turn.allowed)
+          (left_of c.takes_turns.new.allowed)
           c.turns_due-turns.result c.turn.invariant.counts c.turns_due-turns.ensures.each c.takes_turns.ensures.spent
           c.waits_on.new.memo c.tick.new.self c.tick.ensures
           (λ h. inl (ap (λ (k : MemoValue). k.is_open) c.waits_on.ensures.same ∙ h));
       waited = λ w.
-          waited_on c.args.memo.now c.turn.memo c.waits_on.new.memo c.waits_on.new.memo (left_of c.args.allowed.now) (left_of c.turn.allowed)
-          (left_of c.takes_turns.new.allowed) c.turns_due-turns.result (c.turn.invariant.waited w) c.waits_on.ensures.same
+          waited_on c.args.memo.now c.turn.memo c.waits_on.new.memo c.waits_on.new.memo (left_of c.args.allowed.now)
+          (left_of c.turn.allowed) (left_of c.takes_turns.new.allowed) c.turns_due-turns.result (c.turn.invariant.waited w)
+          c.waits_on.ensures.same
           (c.waits_on.ensures.waited c.if-not-waits_on.false w) c.takes_turns.ensures.spent
           (λ h. (refl, refl));
       limited = c.takes_turns.ensures.limited ∙ c.turn.invariant.limited;
@@ -238,14 +246,16 @@ turn-preserved-in-Some g c =
       remembers = c.in_ok-after-in-Back.ensures.remembers;
       counts =
           counts_on c.args.req.now g.K.Plan.all c.args.first c.args.board.now c.args.memo.now
-          c.args.turned.now c.turn.memo c.turn.turned (left_of c.args.allowed.now) (left_of c.turn.allowed) (left_of c.takes_turns.new.allowed)
+          c.args.turned.now c.turn.memo c.turn.turned (left_of c.args.allowed.now) (left_of c.turn.allowed)
+          (left_of c.takes_turns.new.allowed)
           c.turns_due-turns.result c.turn.invariant.counts c.turns_due-turns.ensures.each c.takes_turns.ensures.spent
           c.back.new.memo c.tick.new.self c.tick.ensures
           (λ h. inl (ap (λ (k : MemoValue). k.is_open) c.in_ok-after-in-Back.ensures.same ∙
           (ap (λ (k : MemoValue). k.is_open) c.waits_on.ensures.same ∙ h)));
       waited = λ w.
-          waited_on c.args.memo.now c.turn.memo c.waits_on.new.memo c.back.new.memo (left_of c.args.allowed.now) (left_of c.turn.allowed)
-          (left_of c.takes_turns.new.allowed) c.turns_due-turns.result (c.turn.invariant.waited w) c.waits_on.ensures.same
+          waited_on c.args.memo.now c.turn.memo c.waits_on.new.memo c.back.new.memo (left_of c.args.allowed.now)
+          (left_of c.turn.allowed) (left_of c.takes_turns.new.allowed) c.turns_due-turns.result (c.turn.invariant.waited w)
+          c.waits_on.ensures.same
           (c.waits_on.ensures.waited c.if-not-waits_on.false w) c.takes_turns.ensures.spent
           (λ h. kept_memo c.waits_on.new.memo c.back.new.memo c.in_ok-after-in-Back.ensures.same);
       limited = c.takes_turns.ensures.limited ∙ c.turn.invariant.limited;
