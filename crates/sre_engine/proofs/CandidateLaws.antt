@@ -1,5 +1,5 @@
 -- What is found of a start makes it a candidate, and what is passed behind one that failed.
-use Rattle.std.proofs.Common.{◌≡◌, ◌≤◌, ◌<◌, ◌+◌, ℕ, Bool, true, List, length, Option, Some, None, refl, subst, arith, inl, inr}
+use Rattle.std.proofs.Common.{◌≡◌, ◌≤◌, ◌<◌, ◌+◌, ℕ, Bool, true, List, length, Some, None, refl, subst, arith, inl, inr}
 use Rattle.std.proofs.lemmas.Bool.{cases_lt}
 use Rattle.sre_chars.specs.declared.string.StrDrive.{Ghosts}
 use Rattle.sre_chars.specs.declared.string.StringCursor.{StringCursor}
@@ -17,7 +17,7 @@ use Rattle.sre_request.specs.Runs.{run_of}
 use Rattle.sre_engine.specs.Candidates.{MayBegin, IsCandidate, IsBare, Failed, bare_candidate}
 use Rattle.sre_engine.specs.Prefixed.{IsPrefix}
 use Rattle.sre_engine.specs.Scans.{NoPlace, NoMatch}
-use Rattle.sre_engine.specs.Starts.{NoneUntil}
+use Rattle.sre_engine.specs.Starts.{NoneBetween, NoneUntil}
 use Rattle.sre_engine.specs.declared.engine.candidates.Candidate.{Candidate}
 use Rattle.sre_engine.proofs.Anchored.{anchored_none}
 use Rattle.sre_engine.proofs.Searching.{unplaced_between}
@@ -41,23 +41,17 @@ module _ {S : Type 0} {text : Ghosts S} (r : Request S text) where
     far = λ t whole m e. omega (arith, nothing);
   })
 
-  module _ (c : Candidate) (is : IsBare c) (failed : Failed (asked_of r) (code_of r) c.start)
-      (behind : Option StringCursor)
-      (none : (t : Tree) → WholeItems (run_of r).words t → at_start (asked_of r) t c.cursor.position ≡ None
-      → NoneUntil (asked_of r) t c.cursor.position behind) where
-    none_behind : (t : Tree) → Whole (words_of (code_of r)) t → NoneUntil (asked_of r) t c.start behind
-    none_behind t whole =
+  -- from a candidate that failed on none has a match up to where it is passed to
+  pub passed_to : (c : Candidate) → IsBare c → Failed (asked_of r) (code_of r) c.start → (to : ℕ)
+      → ((t : Tree) → WholeItems (run_of r).words t → at_start (asked_of r) t c.cursor.position ≡ None
+      → NoneBetween (asked_of r) t c.cursor.position to)
+      → c.start ≤ to → NoMatch (asked_of r) (code_of r) c.start to
+  passed_to c is failed to none on = record {
+    forward = on;
+    none = λ t whole.
         let here = rw is.start at none t (items_whole (code_of r) t whole) in
-        here (failed.none t whole)
-
-    -- none is left
-    pub none_left : behind ≡ None → c.start ≤ end_of r → NoMatch (asked_of r) (code_of r) c.start (end_of r + 1)
-    none_left e inside = record { forward = omega (arith, inside); none = rw e at none_behind }
-
-    -- the next one is further on
-    pub none_passed : (next : StringCursor) → behind ≡ Some next → c.start ≤ next.position
-        → NoMatch (asked_of r) (code_of r) c.start next.position
-    none_passed next e on = record { forward = on; none = rw e at none_behind }
+        here (failed.none t whole);
+  }
 
 -- behind the start of a code that is anchored at the text's start none has a match
 pub anchored_over : (a : Asked) (code : Code) (p : ℕ)

@@ -1,15 +1,15 @@
 use Rattle.std.proofs.Common.{arith}
-use Rattle.sre_engine.proofs.CandidateLaws.{none_left, none_passed}
+use Rattle.sre_engine.proofs.CandidateLaws.{passed_to}
 use Rattle.sre_engine.proofs.engine.candidates.openings.OpeningsCandidates.pass.Goals as goal
 
-pub returns-in_default-clause-none : goal.returns-in_default-clause-none
-returns-in_default-clause-none g c = λ _.
-    let bare = c.requires.is_at.1 in
-    none_left c.args.req.now c.args.candidate bare c.requires.failed _ c.start_behind.ensures.none c.in_default.is
-    (omega (arith, bare.start, c.requires.inside))
-
 pub returns-clause-passed : goal.returns-clause-passed
-returns-clause-passed g c = λ _.
+returns-clause-passed g c = λ e.
     let bare = c.requires.is_at.1 in
-    none_passed c.args.req.now c.args.candidate bare c.requires.failed _ c.start_behind.ensures.none c.in-Some.behind
-    c.in-Some.is (omega (arith, bare.start, c.in-Some.ensures.next.0))
+    passed_to c.args.req.now c.args.candidate bare c.requires.failed _ (rw e at c.pass_start.ensures.none)
+    (omega (arith, bare.start, (c.pass_start.ensures.next e).0))
+
+pub returns-clause-none : goal.returns-clause-none
+returns-clause-none g c = λ e.
+    let bare = c.requires.is_at.1 in
+    passed_to c.args.req.now c.args.candidate bare c.requires.failed _ (rw e at c.pass_start.ensures.none)
+    (omega (arith, bare.start, c.requires.inside))
