@@ -16,11 +16,6 @@ abbrev pub left_of : Allowance → ℕ
 left_of Unlimited = 0
 left_of (Turns left) = left
 
--- so many turns are left, where they are limited
-abbrev pub leaves : Allowance → ℕ → Allowance
-leaves Unlimited left = Unlimited
-leaves (Turns before) left = Turns left
-
 -- why a run is given up: memory was refused to it, or its turns are limited and used up
 abbrev pub Halted : Allowance → Halt → Type 0
 Halted allowed (halt.Refused refusal) = Refused

@@ -1,7 +1,7 @@
 //! How many turns of the machine are allowed.
 
 ghost use Rattle.std.specs.Prelude.{◌≡◌};
-ghost use Rattle.sre_machine.specs.Allowances.{is_limited, left_of, leaves};
+ghost use Rattle.sre_machine.specs.Allowances.{is_limited, left_of};
 
 /// How many turns are left to what runs.
 #[derive(Clone, Copy, Debug)]
@@ -29,16 +29,6 @@ impl Allowance {
         match self {
             Allowance::Unlimited => 0,
             Allowance::Turns(left) => *left,
-        }
-    }
-
-    /// Leaves so many turns, where they are limited.
-    #[inline(always)]
-    pub fn leave(&mut self, left: u64)
-        ensures { self.new ≡ leaves self.old left }
-    {
-        if self.is_limited() {
-            *self = Allowance::Turns(left);
         }
     }
 }
