@@ -93,13 +93,13 @@ fn one_on<S: StrDrive>(req: &Request<'_, S>, start: StringCursor) -> Option<Stri
 // The next start that a match may have, behind a start that has none and the run that leads from there.
 fn past_run<S: StrDrive>(
     req: &Request<'_, S>,
-    lead: LeadingRun,
+    lead: &LeadingRun,
     start: StringCursor,
 ) -> Option<StringCursor>
     requires stands { Standing req.now start }
     requires inside { start.position ≤ end_of req.now }
     requires lead { (t : Tree) → WholeItems (run_of req.now).words t
-        → RunStands (run_of req.now).words t lead.first lead.test }
+        → RunStands (run_of req.now).words t lead.now.first lead.now.test }
     ensures next { IfSome result (λ next. (start.position < next.position) × (next.position ≤ end_of req.now)) }
     ensures stands { IfSome result (λ next. Standing req.now next) }
     ensures none { (t : Tree) → WholeItems (run_of req.now).words t
@@ -126,13 +126,13 @@ fn past_run<S: StrDrive>(
 #[inline(always)]
 pub(crate) fn pass_start<S: StrDrive>(
     req: &Request<'_, S>,
-    lead: Option<LeadingRun>,
+    lead: &Option<LeadingRun>,
     start: &mut StringCursor,
 ) -> bool
     requires stands { Standing req.now start.old }
     requires inside { start.old.position ≤ end_of req.now }
     requires lead { (t : Tree) → WholeItems (run_of req.now).words t
-        → IfSome lead (λ run. RunStands (run_of req.now).words t run.first run.test) }
+        → IfSome lead.now (λ run. RunStands (run_of req.now).words t run.first run.test) }
     ensures next { result ≡ true
         → (start.old.position < start.new.position) × (start.new.position ≤ end_of req.now) }
     ensures stands { result ≡ true → Standing req.now start.new }

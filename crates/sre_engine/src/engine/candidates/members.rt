@@ -38,6 +38,6 @@ impl<S: StrDrive> Candidates<S> for Members {
     #[inline(always)]
     fn pass(&mut self, req: &Request<'_, S>, _compared: u64, candidate: Candidate) -> bool {
         self.start = candidate.cursor;
-        pass_start(req, leading_run(req), &mut self.start)
+        pass_start(req, &leading_run(req), &mut self.start)
     }
 }

@@ -1,6 +1,9 @@
 //! Candidates where neither a prefix nor a first set is confirmed: the starts that what has to come first leaves.
 
-ghost use Rattle.std.specs.Prelude.{◌≡◌, None};
+ghost use Rattle.std.specs.Prelude.{◌≡◌, None, IfSome};
+ghost use Rattle.sre_model.specs.Tree.{Tree};
+ghost use Rattle.sre_model.specs.Grammar.{WholeItems};
+ghost use Rattle.sre_model.specs.LeadingRuns.{RunStands};
 ghost use Rattle.sre_request.specs.Runs.{run_of};
 ghost use Rattle.sre_engine.specs.Starts.{Bars, TestsThere};
 
@@ -39,6 +42,20 @@ impl Openings {
             start: from,
         }
     }
+
+    // Reads what is worth to be read once a start has failed. It is out of line, since most searches end before.
+    #[inline(never)]
+    fn read_on<S: StrDrive>(&mut self, req: &Request<'_, S>)
+        ensures test { TestsThere (run_of req.now).words self.new.first.wanted }
+        ensures bars { Bars (run_of req.now).words self.new.first }
+        ensures lead { (t : Tree) → WholeItems (run_of req.now).words t
+            → IfSome self.new.lead (λ run. RunStands (run_of req.now).words t run.first run.test) }
+    {
+        let reads_alternatives = true;
+        self.first = First::of_items(req.pattern_codes().items(), reads_alternatives);
+        self.lead = leading_run(req);
+        self.is_read = true;
+    }
 }
 
 impl<S: StrDrive> Candidates<S> for Openings {
@@ -67,12 +84,9 @@ impl<S: StrDrive> Candidates<S> for Openings {
     #[inline(always)]
     fn pass(&mut self, req: &Request<'_, S>, _compared: u64, candidate: Candidate) -> bool {
         if !self.is_read {
-            let reads_alternatives = true;
-            self.first = First::of_items(req.pattern_codes().items(), reads_alternatives);
-            self.lead = leading_run(req);
-            self.is_read = true;
+            self.read_on(req);
         }
         self.start = candidate.cursor;
-        pass_start(req, self.lead, &mut self.start)
+        pass_start(req, &self.lead, &mut self.start)
     }
 }

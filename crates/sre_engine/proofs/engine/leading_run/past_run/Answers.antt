@@ -22,26 +22,26 @@ pub returns-in_default-clause-none : goal.returns-in_default-clause-none
 returns-in_default-clause-none g c = λ t whole none.
     let asked = asked_of c.args.req.now in
     let words = (run_of c.args.req.now).words in
-    let lead = subst (λ first. RunStands words t first c.args.lead.test) c.in_default.is (c.requires.lead t whole) in
+    let lead = subst (λ first. RunStands words t first c.args.lead.now.test) c.in_default.is (c.requires.lead t whole) in
     let p = c.args.start.position in
     let run = c.longest_run-run in
     none_until asked t p run.result.end.position c.one_on.result
     (subst (λ q. NoneBetween asked t p (q + 1)) (sym run.ensures.position)
-    (none_past_run asked t words c.args.lead.test p none run.result.count lead run.ensures.count))
+    (none_past_run asked t words c.args.lead.now.test p none run.result.count lead run.ensures.count))
     c.one_on.ensures.next
 
 pub opcode-requires : goal.opcode-requires
 opcode-requires g c =
     let words = (run_of c.args.req.now).words in
-    front_test words (tree_of words) c.in-Some.first c.args.lead.test
-    (subst (λ first. RunStands words (tree_of words) first c.args.lead.test) c.in-Some.is
+    front_test words (tree_of words) c.in-Some.first c.args.lead.now.test
+    (subst (λ first. RunStands words (tree_of words) first c.args.lead.now.test) c.in-Some.is
     (c.requires.lead (tree_of words) (whole_of c.args.req.now.pattern_codes)))
 
 pub takes-requires-clause-stands : goal.takes-requires-clause-stands
 takes-requires-clause-stands g c =
     let words = (run_of c.args.req.now).words in
-    front_test words (tree_of words) c.in-Some.first c.args.lead.test
-    (subst (λ first. RunStands words (tree_of words) first c.args.lead.test) c.in-Some.is
+    front_test words (tree_of words) c.in-Some.first c.args.lead.now.test
+    (subst (λ first. RunStands words (tree_of words) first c.args.lead.now.test) c.in-Some.is
     (c.requires.lead (tree_of words) (whole_of c.args.req.now.pattern_codes)))
 
 pub longest_run-run-requires-2-clause-test : goal.longest_run-run-requires-2-clause-test
@@ -66,14 +66,14 @@ pub returns-clause-none : goal.returns-clause-none
 returns-clause-none g c = λ t whole none.
     let asked = asked_of c.args.req.now in
     let words = (run_of c.args.req.now).words in
-    let lead = subst (λ first. RunStands words t first c.args.lead.test) c.in-Some.is (c.requires.lead t whole) in
+    let lead = subst (λ first. RunStands words t first c.args.lead.now.test) c.in-Some.is (c.requires.lead t whole) in
     let p = c.args.start.position in
     let run = c.longest_run-run-2 in
     let inside : p < asked.end = omega arith in
     let next : run.result.end.position ≡ p + 1 + run.result.count =
     omega (arith, run.ensures.position, c.read-character.ensures.position) in
-    let count = λ (j : ℕ) (x : Test) (stands : TestStands words c.args.lead.test j x).
+    let count = λ (j : ℕ) (x : Test) (stands : TestStands words c.args.lead.now.test j x).
     run.ensures.count j x stands ∙ ap (longest_run (subject_of asked) x unlimited) c.read-character.ensures.position in
     subst (λ q. NoneBetween asked t p q) (sym next)
-    (none_behind_front asked t words c.args.lead.test p none c.in-Some.first c.read-character.result.0 run.result.count
+    (none_behind_front asked t words c.args.lead.now.test p none c.in-Some.first c.read-character.result.0 run.result.count
     c.takes.result lead inside c.read-character.ensures.character c.takes.ensures c.if-not-takes.false count)
