@@ -1,5 +1,5 @@
 -- Turns that are enough for a search, where all that failed is remembered, are not used up unless memory was refused.
-use Rattle.std.proofs.Common.{◌≡◌, ℕ, ◌+◌, ◌-◌, ◌*◌, ◌≤◌, inl, inr, Bool, Result, Err, refl, ap, ◌∙◌, subst, length, arith, mul-le-mul}
+use Rattle.std.proofs.Common.{◌≡◌, ℕ, ◌+◌, ◌-◌, ◌*◌, ◌≤◌, inl, inr, Bool, None, Result, Ok, Err, refl, ap, ◌∙◌, subst, length, arith, mul-le-mul}
 use Rattle.std.proofs.Math.Nat.{mul_assoc, mul-le-mul_right}
 use Rattle.sre_chars.specs.declared.string.StrDrive.{Ghosts}
 use Rattle.sre_growth.specs.Refusal.{Refused}
@@ -9,7 +9,7 @@ use Rattle.sre_request.specs.declared.request.Request.{Request}
 use Rattle.sre_request.specs.Requests.{start_of, end_of, asked_of, code_of}
 use Rattle.sre_request.specs.Runs.{run_of}
 use Rattle.sre_code.proofs.Checked.{items_whole}
-use Rattle.sre_engine.specs.Counts.{AreEnough}
+use Rattle.sre_engine.specs.Counts.{AreEnough, KeepsToTurns}
 use Rattle.sre_engine.specs.Costs.{Charged, SearchGivenUp, search_cost, most_tolls, most_waits}
 use Rattle.sre_turns.specs.Limits.{grant}
 use Rattle.sre_machine.specs.Allowances.{left_of}
@@ -61,11 +61,18 @@ module _ {S : Type 0} {text : Ghosts S} (r : Request S text) (given : ℕ)
     | inr cost ↦ absurd (omega (arith, cost, none, few r remembering runs l, enough.more))
   ]
 
-  -- nor is a search given up that is charged
-  pub charged_enough : (a a' : Allowance) (told : Result Bool Halt) (started runs : ℕ)
-      → Charged r told started runs a a' → (why : Halt) → told ≡ Err why → why ≡ halt.UsedUp → left_of a ≡ given
-      → started ≤ end_of r + 1 - start_of r → Refused
-  charged_enough a a' told started runs charged why e used same l =
-      let up = subst (λ t. Charged r t started runs a a') (e ∙ ap Err used) charged in
-      let cost = rw same at up.given_up refl in
-      never_given_up (left_of a') started cost up.halted.1 l
+-- a search whose turns are used up keeps to them
+pub used_up : {S E : Type 0} {text : Ghosts S} (r : Request S text) (given : ℕ) (a a' : Allowance)
+    (told : Result Bool Halt) (started runs left : ℕ) → Charged r told started runs a a' → (why : Halt)
+    → told ≡ Err why → why ≡ halt.UsedUp → left_of a ≡ given → left ≡ left_of a'
+    → (AreEnough (asked_of r) (code_of r) given → started ≤ end_of r + 1 - start_of r)
+    → KeepsToTurns {E = E} (asked_of r) (code_of r) (Ok None) runs given left
+used_up r given a a' told started runs left charged why e used same own few =
+    let up = subst (λ t. Charged r t started runs a a') (e ∙ ap Err used) charged in
+    let cost = rw same at up.given_up refl in
+    record {
+      used = λ _. own ∙ up.halted.1;
+      spent = rw (← own) at (rw same at up.spent);
+      fewer = omega (arith, own, same, up.fewer);
+      enough = λ enough _. never_given_up r given enough (left_of a') started cost up.halted.1 (few enough);
+    }

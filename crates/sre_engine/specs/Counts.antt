@@ -1,7 +1,8 @@
 -- What a search counts at most.
 -- Public clauses rest on it.
 use Rattle.std.specs.Prelude.{ℕ, ◌+◌, ◌-◌, ◌*◌, ◌≡◌, ◌<◌, ◌≤◌, ◌&&◌, ◌||◌, nat_le, Bool, true, false, not, List, length}
-use Rattle.std.specs.Prelude.{Option, Some, None}
+use Rattle.std.specs.Prelude.{Option, Some, None, Result, IfOk}
+use Rattle.sre_growth.specs.Refusal.{Refused}
 use Rattle.sre_model.specs.Tree.{Tree, SetItem}
 use Rattle.sre_model.specs.Grammar.{Whole}
 use Rattle.sre_model.specs.TurnBounds.{RunsWithin}
@@ -81,3 +82,13 @@ pub record AreEnough (a : Asked) (code : Code) (turns : ℕ) : Type 0 where
   pub whole : Whole (words_of code) tree
   pub remembered : IsRemembered (length (items_of code)) tree a
   pub more : enough_turns (length (items_of code)) tree a < turns
+
+-- what a search within turns that were given says of them: where it has no answer all are used up; those that are left
+-- are no fewer than those that so many runs of the machine leave, and none is added; and more than are enough are used
+-- up only where memory was refused
+pub record KeepsToTurns {E : Type 0} (a : Asked) (code : Code) (told : Result (Option Bool) E) (runs given left : ℕ) :
+    Type 0 where
+  pub used : IfOk told (λ b. b ≡ None → left ≡ 0)
+  pub spent : SpentUpTo a code given left runs
+  pub fewer : left ≤ given
+  pub enough : AreEnough a code given → IfOk told (λ b. b ≡ None → Refused)

@@ -1,6 +1,6 @@
 -- What a search of a request says of its answer.
 -- Words of the search's contracts. What is public rests on some of them, by `step_by`.
-use Rattle.std.specs.Prelude.{◌+◌, ◌≡◌, ◌<◌, ◌≤◌, Bool, true, false, Result, Ok, IfOk, OnErr}
+use Rattle.std.specs.Prelude.{◌+◌, ◌≡◌, ◌<◌, ◌≤◌, Bool, true, false, Option, None, Some, Result, Ok, Err, IfOk, OnErr}
 use Rattle.sre_chars.specs.declared.string.StrDrive.{Ghosts}
 use Rattle.sre_model.specs.Tree.{Tree}
 use Rattle.sre_model.specs.Grammar.{Whole}
@@ -58,6 +58,18 @@ NoErrorIfLiteral r result = (hints_of (code_of r)).literal ≡ true → OnErr re
 abbrev pub WalksOn : {S : Type 0} {text : Ghosts S} → Request S text → Bool → Shown → Request S text → Type 0
 WalksOn r b s next =
     (t : Tree) → Whole (words_of (code_of r)) t → StepsTo (walk (asked_of r) t) b s (walk (asked_of next) t)
+
+-- whether a match was found within turns
+abbrev pub has_found : {E : Type 0} → Result (Option Bool) E → Bool
+has_found (Ok (Some b)) = b
+has_found (Ok None) = false
+has_found (Err e) = false
+
+-- all that a search counts: over the window, up to a match, and where a code is anchored at the text's start
+pub record CountsAll {S : Type 0} {text : Ghosts S} (r : Request S text) (b : Bool) (s : Shown) : Type 0 where
+  pub inside : CountsInside r s
+  pub up_to_match : CountsToMatch r b s
+  pub anchored : RunsOnceAnchored r s
 
 -- a step of a walk: what it tells of the matches left, what is asked next, and what was counted
 pub record Stepped {S E : Type 0} {text : Ghosts S} (r : Request S text) (told : Result Bool E) (s : Shown)

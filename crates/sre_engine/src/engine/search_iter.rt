@@ -44,7 +44,7 @@ pub struct SearchIter<'a, S: StrDrive, A: Allocator + Copy = Global> {
 
 impl<'a, S: StrDrive, A: Allocator + Copy> SearchIter<'a, S, A> {
     ghost use Rattle.sre_engine.specs.Iterators.{request_of, shown_of, has_ended, most_items, NextGives, NextWithin};
-    ghost use Rattle.sre_engine.specs.Counts.{SpentUpTo, runs_of, AreEnough};
+    ghost use Rattle.sre_engine.specs.Counts.{KeepsToTurns, runs_of};
     ghost use Rattle.sre_growth.specs.Refusal.{Refused};
 
     /// The walk over the request's window. The state shows what it showed until the first item comes.
@@ -81,12 +81,8 @@ impl<'a, S: StrDrive, A: Allocator + Copy> SearchIter<'a, S, A> {
     /// [`SreError::Memory`], where a growth of the state's memory was refused; the walk has then ended.
     pub fn next_within(&mut self, turns: &mut u64) -> Result<Option<bool>, SreError>
         ensures gives { NextWithin self.old result self.new }
-        ensures used { IfOk result (λ told. told ≡ None → turns.new ≡ 0) }
-        ensures spent { SpentUpTo (asked_of (request_of self.old)) (code_of (request_of self.old)) turns.old turns.new
-            (runs_of (shown_of self.new)) }
-        ensures fewer { turns.new ≤ turns.old }
-        ensures enough { AreEnough (asked_of (request_of self.old)) (code_of (request_of self.old)) turns.old
-            → IfOk result (λ told. told ≡ None → Refused) }
+        ensures turns { KeepsToTurns (asked_of (request_of self.old)) (code_of (request_of self.old)) result
+            (runs_of (shown_of self.new)) turns.old turns.new }
     {
         if self.ended {
             return Ok(Some(false));

@@ -10,8 +10,9 @@ ghost use Rattle.sre_model.specs.Anchors.{is_anchored};
 ghost use Rattle.sre_code.specs.Codes.{words_of, hints_of};
 ghost use Rattle.sre_request.specs.Requests.{string_of, start_of, end_of, code_of, asked_of, stands_in};
 ghost use Rattle.sre_engine.specs.Answers.{Answers, AnswersAlike, Spans};
-ghost use Rattle.sre_engine.specs.Counts.{CountsStay, CountsUpTo, SpentUpTo, BeginsAgain, runs_of, AreEnough};
+ghost use Rattle.sre_engine.specs.Counts.{CountsStay, CountsUpTo, BeginsAgain, KeepsToTurns, runs_of};
 ghost use Rattle.sre_engine.specs.Costs.{Charged};
+ghost use Rattle.sre_engine.specs.Searches.{Answered, CountsAll, has_found, RunsOnceAnchored, NoErrorIfLiteral};
 ghost use Rattle.sre_growth.specs.Refusal.{Refused};
 
 use crate::engine::told::{Nobody, Starts};
@@ -247,11 +248,7 @@ impl<A: Allocator + Copy> State<A> {
             (λ told. IfSome told (λ b. AnswersAlike (λ asked. matched asked t) (asked_of req.now) b self.new)) }
         ensures span { IfOk result (λ told. told ≡ Some true → Spans (start_of req.now) (end_of req.now) self.new) }
         ensures no { IfOk result (λ told. told ≢ Some true → self.new.marks ≡ no_marks) }
-        ensures used { IfOk result (λ told. told ≡ None → turns.new ≡ 0) }
-        ensures spent { SpentUpTo (asked_of req.now) (code_of req.now) turns.old turns.new 2 }
-        ensures fewer { turns.new ≤ turns.old }
-        ensures enough { AreEnough (asked_of req.now) (code_of req.now) turns.old
-            → IfOk result (λ told. told ≡ None → Refused) }
+        ensures turns { KeepsToTurns (asked_of req.now) (code_of req.now) result 2 turns.old turns.new }
         ensures err { OnErr result (self.new.marks ≡ no_marks) }
         ensures refused { OnErr result Refused }
         ensures compared { self.new.compared ≡ self.old.compared }
@@ -356,23 +353,13 @@ impl<A: Allocator + Copy> State<A> {
     ) -> Result<bool, SreError>
         requires suits { F.suits starts.old (string_of req) (code_of req) }
         ensures suits { F.suits starts.new (string_of req.entry) (code_of req.entry) }
-        ensures ok { (t : Tree) → Whole (words_of (code_of req.entry)) t
-            → IfOk result (λ b. Answers (stands_in req.entry) (found (asked_of req.entry) t) b self.new) }
+        ensures answers { Answered req.entry result self.new }
         ensures alike { (t : Tree) → Whole (words_of (code_of req.entry)) t
             → IfOk result (λ b. AnswersAlike (λ asked. found asked t) (asked_of req.entry) b self.new) }
-        ensures span { IfOk result
-            (λ b. b ≡ true → (start_of req.entry ≤ self.new.start) × Spans self.new.start (end_of req.entry) self.new) }
-        ensures no { IfOk result (λ b. b ≡ false → self.new.marks ≡ no_marks) }
-        ensures err { OnErr result (self.new.marks ≡ no_marks) }
         ensures refused { OnErr result Refused }
-        ensures counts { CountsUpTo (asked_of req.entry) (code_of req.entry) (end_of req.entry + 1) (end_of req.entry)
-            self.new }
-        ensures up_to_match { IfOk result (λ b. b ≡ true → CountsUpTo (asked_of req.entry) (code_of req.entry)
-            (self.new.start + 1) self.new.cursor.position self.new) }
-        ensures anchored { (t : Tree) → Whole (words_of (code_of req.entry)) t
-            → is_anchored t ≡ true → self.new.started ≤ 1 }
+        ensures anchored { RunsOnceAnchored req.entry self.new }
         ensures once { self.new.restarted ≡ 0 }
-        ensures literal { (hints_of (code_of req.entry)).literal ≡ true → OnErr result ⊥ }
+        ensures literal { NoErrorIfLiteral req.entry result }
     {
         let start = req.string().create_cursor(req.start());
         match self.search_from(&req, start, &mut Allowance::Unlimited, starts) {
@@ -411,20 +398,12 @@ impl<A: Allocator + Copy> State<A> {
         ensures span { IfOk result (λ told. told ≡ Some true
             → (start_of req.entry ≤ self.new.start) × Spans self.new.start (end_of req.entry) self.new) }
         ensures no { IfOk result (λ told. told ≢ Some true → self.new.marks ≡ no_marks) }
-        ensures used { IfOk result (λ told. told ≡ None → turns.new ≡ 0) }
-        ensures spent { SpentUpTo (asked_of req.entry) (code_of req.entry) turns.old turns.new (runs_of self.new) }
-        ensures fewer { turns.new ≤ turns.old }
+        ensures turns { KeepsToTurns (asked_of req.entry) (code_of req.entry) result (runs_of self.new) turns.old
+            turns.new }
         ensures again { BeginsAgain true self.new }
-        ensures enough { AreEnough (asked_of req.entry) (code_of req.entry) turns.old
-            → IfOk result (λ told. told ≡ None → Refused) }
         ensures err { OnErr result (self.new.marks ≡ no_marks) }
         ensures refused { OnErr result Refused }
-        ensures counts { CountsUpTo (asked_of req.entry) (code_of req.entry) (end_of req.entry + 1) (end_of req.entry)
-            self.new }
-        ensures up_to_match { IfOk result (λ told. told ≡ Some true → CountsUpTo (asked_of req.entry)
-            (code_of req.entry) (self.new.start + 1) self.new.cursor.position self.new) }
-        ensures anchored { (t : Tree) → Whole (words_of (code_of req.entry)) t
-            → is_anchored t ≡ true → self.new.started ≤ 1 }
+        ensures counts { CountsAll req.entry (has_found result) self.new }
         ensures literal { (hints_of (code_of req.entry)).literal ≡ true
             → (OnErr result ⊥) × IfOk result (λ told. told ≢ None) }
     {

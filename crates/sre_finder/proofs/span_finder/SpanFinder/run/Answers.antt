@@ -6,7 +6,7 @@ use Rattle.sre_finder.proofs.span_finder.SpanFinder.run.Goals as goal
 pub returns-clause-some : goal.returns-clause-some
 returns-clause-some g c =
     let asked = c.args.req.now in
-    let ok = c.in_ok-step_by.ensures in
+    let ok = c.in_ok-step_by.ensures.stepped in
     let yes = c.if-not-branch.false in
     let goes = ok.yes yes in
     let start = c.skip.new.cursor in

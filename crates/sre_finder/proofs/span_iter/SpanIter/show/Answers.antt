@@ -34,7 +34,7 @@ returns-clause-shown g c = λ t whole.
     asked_there it.req r it.at.position it.advances string (last.start ∙ c.position.ensures)
     (last.end ∙ first.end ∙ ap end_of own) code (last.match_all ∙ first.match_all ∙ ap match_all_of own)
     (last.must_advance ∙ first.must_advance) (last.empty_rule ∙ first.empty_rule ∙ ap empty_rule_of own) in
-    let ok = c.in_ok-shown.ensures in
+    let ok = c.in_ok-shown.ensures.stepped in
     let answer =
     step_answers r c.in_ok-shown.shown s c.step_by.new.req ok.ok ok.yes t
     (subst (λ d. Whole (words_of d) t) (sym code) whole) in
