@@ -71,15 +71,15 @@ place_of s = s.spot.cursor.position - s.spot.matched
 
 -- it scans for a prefix that is not all of the code
 pub record Scans (s : Places) (r : Run) (a : Asked) (code : Code) (compared : ℕ) : Type 0 where
-  pub is : IsPrefix code s.prefix.words.now s.prefix.literals s.prefix.whole
-  pub more : s.prefix.whole ≡ false
+  pub is : IsPrefix code s.prefix.now.words.now s.prefix.now.literals s.prefix.now.whole
+  pub more : s.prefix.now.whole ≡ false
   pub stands : r.stands s.spot.cursor s.spot.cursor.position
-  pub here : Here a.text s.prefix.words.now a.start a.end s.spot.cursor.position s.spot.matched compared
+  pub here : Here a.text s.prefix.now.words.now a.start a.end s.spot.cursor.position s.spot.matched compared
 
 -- it is behind a place
 pub record ScansBehind (s : Places) (r : Run) (a : Asked) (code : Code) (c : Candidate) (compared : ℕ) : Type 0 where
   pub scans : Scans s r a code compared
-  pub matched : s.spot.matched ≡ length s.prefix.words.now
+  pub matched : s.spot.matched ≡ length s.prefix.now.words.now
   pub start : c.start ≡ place_of s
 
 -- Along the members of a first set

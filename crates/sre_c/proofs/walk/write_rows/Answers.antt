@@ -26,6 +26,6 @@ matches-preserved g c =
       omega (arith, kept.2, places),
       omega (arith, kept.2, kept.3),
       omega (arith, kept.4, c.write_row.auto.rows),
-      omega (arith, kept.5, turns, c.in-Ok-Some-true.ensures.fewer),
+      omega (arith, kept.5, turns, c.in-Ok-Some-true.ensures.turns.fewer),
       λ none. absurd (omega (arith, count, none)),
     )

@@ -12,15 +12,15 @@ use sre_request::Request;
 /// A scan for a prefix that is not all of the code.
 #[derive(Clone, Copy)]
 pub(crate) struct Places<'a> {
-    prefix: Prefix<'a>,
+    prefix: &'a Prefix<'a>,
     spot: Spot,
 }
 
 impl<'a> Places<'a> {
     /// The places from a cursor on.
     #[inline(always)]
-    pub(crate) fn new(prefix: Prefix<'a>, from: StringCursor) -> Places<'a>
-        ensures prefix { result.prefix ≡ prefix.entry }
+    pub(crate) fn new(prefix: &'a Prefix<'a>, from: StringCursor) -> Places<'a>
+        ensures prefix { result.prefix.now ≡ prefix.now }
         ensures cursor { result.spot.cursor ≡ from }
         ensures matched { result.spot.matched ≡ 0 }
     {
@@ -51,19 +51,19 @@ impl<'a, S: StrDrive> Candidates<S> for Places<'a> {
         compared: &mut u64,
         starts: &mut F,
     ) -> Option<Candidate> {
-        if !find_told(req, &self.prefix, compared, &mut self.spot, starts) {
+        if !find_told(req, self.prefix, compared, &mut self.spot, starts) {
             return None;
         }
         Some(Candidate {
-            start: prefix_start(&self.prefix, self.spot),
+            start: prefix_start(self.prefix, self.spot),
             literals: self.prefix.literals,
-            cursor: behind_literals(req, &self.prefix, self.spot),
+            cursor: behind_literals(req, self.prefix, self.spot),
         })
     }
 
     #[inline(always)]
     fn pass(&mut self, req: &Request<'_, S>, compared: u64, _candidate: Candidate) -> bool {
-        self.spot = go_on(req, &self.prefix, &compared, self.spot);
+        self.spot = go_on(req, self.prefix, &compared, self.spot);
         true
     }
 }

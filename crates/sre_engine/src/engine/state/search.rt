@@ -49,7 +49,7 @@ impl<A: Allocator + Copy> State<A> {
             if prefix.whole {
                 return Ok(self.search_whole(req, &prefix, from));
             }
-            return self.search_along(req, &mut Places::new(prefix, from), allowed, starts);
+            return self.search_along(req, &mut Places::new(&prefix, from), allowed, starts);
         }
         if req.pattern_codes().hints().first_set {
             return self.search_along(req, &mut Members { start: from }, allowed, starts);

@@ -6,14 +6,14 @@ pub returns-in-Ok-None-clause-never : goal.returns-in-Ok-None-clause-never
 returns-in-Ok-None-clause-never g c = λ lasts.
     let told = c.in-Ok-None in
     let stays = (rw told.field-0-is at told.ensures.gives).0 in
-    let used = rw told.field-0-is at told.ensures.used in
+    let used = rw told.field-0-is at told.ensures.turns.used in
     absurd
     (lasts_step c.args.walk.now c.next_within.new.self c.args.turns.now c.next_within.new.turns stays.counted
-    c.next_within.ensures.spent lasts (used refl))
+    c.next_within.ensures.turns.spent lasts (used refl))
 
 pub returns-in-Ok-Some-true-clause-lasts : goal.returns-in-Ok-Some-true-clause-lasts
 returns-in-Ok-Some-true-clause-lasts g c = λ lasts some.
     let told = c.in-Ok-Some-true in
     let gives = rw (told.field-0-is, told.field-0-0-test) at told.ensures.gives in
     lasts_on c.args.walk.now c.next_within.new.self c.args.turns.now c.next_within.new.turns gives
-    c.next_within.ensures.spent lasts
+    c.next_within.ensures.turns.spent lasts

@@ -27,7 +27,7 @@ returns g c =
     record { order = omega (arith, c.start-start.ensures.value, c.start-start.ensures.in_window); within = c.requires }
     in
     given_up _ c.search_within.result
-    (c.search_within.ensures.enough
+    (c.search_within.ensures.turns.enough
     (record {
       tree = t.0;
       whole = subst (λ k. Whole (words_of k) t.0) same whole;

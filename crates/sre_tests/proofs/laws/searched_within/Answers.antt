@@ -21,8 +21,8 @@ returns-clause-told g c =
     let whole : Whole (words_of code) t.0 =
     subst (λ (ws : List ℕ). Whole ws t.0) (c.words-words.ensures.same ∙ ap words_of c.pattern_codes.ensures) t.1 in
     let m = c.requires t.0 whole in
-    answered c.search_within.new.turns c.search_within.result c.search_within.ensures.used
+    answered c.search_within.new.turns c.search_within.result c.search_within.ensures.turns.used
     (never_used_up (asked_of c.args.req) code t.0 c.args.turns.now c.search_within.new.turns
     (runs_of c.search_within.new.self) m.0 (2 * (end_of c.args.req + 1 - start_of c.args.req)) whole m.1
-    c.search_within.ensures.spent
-    (omega (arith, once _ code _ _ _ c.search_within.ensures.counts, c.search_within.ensures.again.few)) m.2)
+    c.search_within.ensures.turns.spent
+    (omega (arith, once _ code _ _ _ c.search_within.ensures.counts.inside, c.search_within.ensures.again.few)) m.2)

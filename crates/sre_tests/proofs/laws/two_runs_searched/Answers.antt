@@ -16,7 +16,7 @@ returns g c =
     let places : 22 ≡ length (items_of (code_of req)) = sym (ap (λ (ws : List ℕ). length (behind_block ws)) same) in
     let order : start_of req ≤ end_of req = omega (arith, c.new.ensures.start) in
     let short : end_of req ≤ 1000 = omega (arith, c.new.ensures.end, c.requires.short) in
-    c.search_within.ensures.enough
+    c.search_within.ensures.turns.enough
     (record {
       tree = two_runs;
       whole = subst (λ (ws : List ℕ). Whole ws two_runs) (sym same) its_words;

@@ -17,7 +17,7 @@ pub returns-clause-some : goal.returns-clause-some
 returns-clause-some g c =
     let r = c.args.req.now in
     let a = asked_of r in
-    let prefix = c.args.self.now.prefix in
+    let prefix = c.args.self.now.prefix.now in
     let vs = prefix.words.now in
     let is = c.requires.looks.is in
     let some = prefix.confirmed.some in

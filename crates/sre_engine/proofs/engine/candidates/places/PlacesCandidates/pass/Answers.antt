@@ -7,5 +7,5 @@ returns-clause-passed g c = λ _.
     let is_at = c.requires.is_at in
     let scans = is_at.scans in
     unplaced_passed (asked_of c.args.req.now) (code_of c.args.req.now) _ _ _ scans.is
-    c.args.self.now.prefix.confirmed.some c.args._candidate.start _ c.requires.failed
+    c.args.self.now.prefix.now.confirmed.some c.args._candidate.start _ c.requires.failed
     (rw (← is_at.start) at c.go_on-self.ensures.passed)
