@@ -1,3 +1,4 @@
 mod AsciiTests
+mod FarRuns
 pub mod Repeating
 mod TestOperands

@@ -2,7 +2,7 @@
 //!
 //! The opcode is looked at once, before a loop of its own that holds what it needs of the words.
 
-ghost use Rattle.std.specs.Prelude.{⊤, ◌≡◌, ℕ, ◌+◌, ◌-◌, ◌<◌, ◌≤◌, Bool, true, false, cond, List, length};
+ghost use Rattle.std.specs.Prelude.{⊤, ◌≡◌, ℕ, ◌+◌, ◌-◌, ◌<◌, ◌≤◌, Bool, true, false, cond, List, length, IfSome};
 ghost use Rattle.std.specs.Prelude.{slice_range};
 ghost use Rattle.sre_chars.specs.Numbers.{category_number};
 ghost use Rattle.sre_chars.specs.Categories.{category};
@@ -16,11 +16,11 @@ ghost use Rattle.sre_model.specs.Standing.{SetStands};
 ghost use Rattle.sre_request.specs.Requests.{end_of};
 ghost use Rattle.sre_request.specs.Runs.{run_of, OpcodeAt, Standing, TestAt};
 ghost use Rattle.sre_reading.specs.AsciiSets.{IsAsciiPart};
-ghost use Rattle.sre_reading.specs.Stretches.{IsLongest};
+ghost use Rattle.sre_reading.specs.Stretches.{IsLongest, SaysOtherwiseOf, GoesUpTo};
 ghost use Rattle.sre_reading.specs.Reads.{TestStandsAt, test_takes};
 
 use crate::one_character::{opcode, takes};
-use crate::text::read;
+use crate::text::{back_one, read};
 use sre_chars::constants::{MAXREPEAT, SreCatCode, SreOpcode};
 use sre_chars::string::{LentTable, StrDrive, StringCursor};
 use sre_code::ascii_members::ascii_members;
@@ -103,6 +103,104 @@ fn run_tested<S: StrDrive, const WANTED: bool>(
         count += 1;
     }
     Stretch { count, end: cursor }
+}
+
+// How many characters of a run are looked at one by one before its end is sought: to seek over fewer costs more.
+const FEW: usize = 16;
+
+// The one character of which the test whose opcode is at a place says otherwise than is wanted, where it says what is
+// wanted of all others.
+#[inline(always)]
+fn only_other<S: StrDrive, const WANTED: bool>(
+    req: &Request<'_, S>,
+    place: usize,
+    opcode: SreOpcode,
+) -> Option<u32>
+    requires code { OpcodeAt req.now place opcode }
+    requires test { TestAt req.now place }
+    ensures { IfSome result (λ other. SaysOtherwiseOf req.now place WANTED other) }
+{
+    let words = req.pattern_codes().items();
+    match opcode {
+        SreOpcode::ANY if WANTED => Some(10),
+        SreOpcode::NOT_LITERAL if WANTED => Some(operand(words, place, 1)),
+        SreOpcode::LITERAL if !WANTED => Some(operand(words, place, 1)),
+        _ => None,
+    }
+}
+
+// A stretch up to the next such character, or of as many characters as it may have where none of them is.
+#[inline(never)]
+fn stretch_to<S: StrDrive>(
+    req: &Request<'_, S>,
+    character: u32,
+    most: usize,
+    start: StringCursor,
+) -> Stretch
+    requires stands { Standing req.now start }
+    requires inside { start.position ≤ end_of req.now }
+    requires most { most ≤ end_of req.now - start.position }
+    ensures { GoesUpTo req.now character most start result }
+{
+    let end = start.position() + most;
+    let mut cursor = start;
+    if req.string().seek(&mut cursor, character, end) {
+        cursor = back_one(req, cursor);
+    }
+    Stretch {
+        count: cursor.position() - start.position(),
+        end: cursor,
+    }
+}
+
+// The longest run of characters of which the test whose opcode is at a place says what is wanted, where it says
+// otherwise of one character alone.
+#[inline(always)]
+fn run_but<S: StrDrive, const WANTED: bool>(
+    req: &Request<'_, S>,
+    place: usize,
+    opcode: SreOpcode,
+    other: u32,
+    most: usize,
+    start: StringCursor,
+) -> Stretch
+    requires code { OpcodeAt req.now place opcode }
+    requires test { TestAt req.now place }
+    requires other { SaysOtherwiseOf req.now place WANTED other }
+    requires stands { Standing req.now start }
+    requires most { most ≤ end_of req.now - start.position }
+    ensures { IsLongest req.now place WANTED most start result }
+{
+    let near = run_tested::<S, WANTED>(req, place, opcode, most.min(FEW), start);
+    if near.count < FEW {
+        return near;
+    }
+    let far = stretch_to(req, other, most - near.count, near.end);
+    Stretch {
+        count: near.count + far.count,
+        end: far.end,
+    }
+}
+
+// The same, whatever the test says of others.
+#[inline(always)]
+fn run_by<S: StrDrive, const WANTED: bool>(
+    req: &Request<'_, S>,
+    place: usize,
+    opcode: SreOpcode,
+    most: usize,
+    start: StringCursor,
+) -> Stretch
+    requires code { OpcodeAt req.now place opcode }
+    requires test { TestAt req.now place }
+    requires stands { Standing req.now start }
+    requires most { most ≤ end_of req.now - start.position }
+    ensures { IsLongest req.now place WANTED most start result }
+{
+    match only_other::<S, WANTED>(req, place, opcode) {
+        Some(other) => run_but::<S, WANTED>(req, place, opcode, other, most, start),
+        None => run_tested::<S, WANTED>(req, place, opcode, most, start),
+    }
 }
 
 // A test with its operands at hand.
@@ -319,7 +417,7 @@ fn run_wanted<S: StrDrive, const WANTED: bool>(
                 SreOpcode::ANY_ALL => run_any::<S, WANTED>(req, most, start),
                 SreOpcode::IN => run_in_set::<S, WANTED>(req, place, most, start),
                 $(SreOpcode::$opcode => {
-                    run_tested::<S, WANTED>(req, place, SreOpcode::$opcode, most, start)
+                    run_by::<S, WANTED>(req, place, SreOpcode::$opcode, most, start)
                 })*
                 _ => unreachable!(),
             }
