@@ -9,7 +9,7 @@ use Rattle.sre_model.specs.RunCounts.{most_counts}
 use Rattle.sre_model.specs.Alternatives.{most_alternatives}
 use Rattle.sre_model.specs.References.{refers}
 use Rattle.sre_model.specs.Grammar.{Reads, WholeItems, Whole, behind_block}
-use Rattle.sre_model.specs.Remembered.{IsRemembered, enough_turns}
+use Rattle.sre_model.specs.Remembered.{window_positions, words_at_place, IsRemembered, enough_turns}
 use Rattle.sre_model.proofs.WiderWindows.{IsInside, remembered_inside, enough_inside}
 use Rattle.sre_code.specs.PlainItems.{IsPlain, AreTold}
 use Rattle.sre_code.specs.EnoughTurns.{IsWindow, IsWholeText, AreEnoughFor, HasNoNumber}
@@ -19,27 +19,13 @@ use Rattle.sre_code.specs.declared.code.slots.Passed.{Passed}
 -- the number as it is written, of positions from start to end
 abbrev written : ℕ → ℕ → ℕ → ℕ → ℕ → ℕ → ℕ
 written p s d m start end =
-    2 * (32 * (end - start + 1))
-    + ((end + 1 - start) * (2 * p + 4)
-    + 2 * (p * (s * (end + 1 - start))) * (1 + max (min m end) d) * (4 * (p + 3)))
-    * (1 + min m end / 8)
-
--- and as it is told
-in_order : (p s f w k : ℕ)
-    → 2 * (32 * f) + (f * (2 * p + 4) + 2 * (p * (s * f)) * (1 + w) * (4 * (p + 3))) * (1 + k)
-    ≡ f * 64 + (f * (p * 2 + 4) + p * s * f * 2 * (w + 1) * ((p + 3) * 4)) * (k + 1)
-in_order p s f w k = omega arith
+    (end + 1 - start)
+    * (32 + (2 * p + 4 + 4 * p * (p + 3) * s * (1 + max (min m end) d)) * (1 + min m end / 8))
 
 from_start : (p s d m n : ℕ) → written p s d m 0 n ≡ turns_on p s d m n
 from_start p s d m n =
-    let one : n - 0 + 1 ≡ n + 1 = omega arith in
     let all : n + 1 - 0 ≡ n + 1 = omega arith in
-    let w : ℕ = max (min m n) d in
-    let k : ℕ = min m n / 8 in
-    ap (λ f. 2 * (32 * f) + ((n + 1 - 0) * (2 * p + 4)
-    + 2 * (p * (s * (n + 1 - 0))) * (1 + w) * (4 * (p + 3))) * (1 + k)) one
-    ∙ ap (λ f. 2 * (32 * (n + 1)) + (f * (2 * p + 4) + 2 * (p * (s * f)) * (1 + w) * (4 * (p + 3))) * (1 + k)) all
-    ∙ in_order p s (n + 1) w k
+    ap (λ f. f * (32 + (2 * p + 4 + 4 * p * (p + 3) * s * (1 + max (min m n) d)) * (1 + min m n / 8))) all
 
 module _ (places : ℕ) (t : Tree) (n : ℕ) where
   abbrev told : ℕ
@@ -52,9 +38,9 @@ module _ (places : ℕ) (t : Tree) (n : ℕ) where
       ∙ from_start places (most_slots t) (most_alternatives t) (most_counts t) n
 
   room_on_whole : (a : Asked) → IsWholeText n a
-      → places * (most_slots t * 2 * (a.end + 1 - a.start) / 64 + 1) ≡ room_by places (n + 1) (most_slots t)
+      → places * words_at_place t a ≡ room_by places (n + 1) (most_slots t)
   room_on_whole a w =
-      let all : a.end + 1 - a.start ≡ n + 1 = omega (arith, w.start, w.end) in
+      let all : window_positions a ≡ n + 1 = omega (arith, w.start, w.end) in
       ap (λ f. places * (most_slots t * 2 * f / 64 + 1)) all
 
   -- the whole text that a window stands in

@@ -19,6 +19,7 @@ pub mod FirstSets
 pub mod Walking
 pub mod Scanning
 pub mod Asking
+pub mod MarksOutside
 pub mod ScanningLoops
 pub mod PassedParts
 pub mod CappedTurns

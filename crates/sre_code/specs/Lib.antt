@@ -9,6 +9,7 @@ pub mod AsciiSet
 pub mod AsciiSets
 pub mod Instructions
 pub mod PlainItems
+pub mod RegionWords
 pub mod EnoughTurns
 pub mod TurnsTold
 pub mod Steps

@@ -13,9 +13,7 @@ NumberTold places t characters None = HasNoNumber places t characters
 -- go on, and how far characters count
 abbrev pub turns_by : ℕ → ℕ → ℕ → ℕ → ℕ → ℕ
 turns_by places positions slots ways counts =
-    positions * 64
-    + (positions * (places * 2 + 4) + places * slots * positions * 2 * (ways + 1) * ((places + 3) * 4))
-    * (counts / 8 + 1)
+    positions * (32 + (2 * places + 4 + 4 * places * (places + 3) * slots * (1 + ways)) * (1 + counts / 8))
 
 -- how many words of bits what failed at all places may take
 abbrev pub room_by : ℕ → ℕ → ℕ → ℕ

@@ -12,6 +12,7 @@ ghost use Rattle.sre_model.specs.Tree.{Tree};
 ghost use Rattle.sre_model.specs.Grammar.{Whole};
 ghost use Rattle.sre_model.specs.References as references;
 ghost use Rattle.sre_model.specs.RunCounts as run_counts;
+ghost use Rattle.sre_model.specs.MarksSet.{marks_in_regions};
 ghost use Rattle.sre_code.specs.Hinted.{Confirmed};
 ghost use Rattle.sre_model.specs.Grammar.{AreItems, IsCode, HasOneTree, behind_block};
 ghost use Rattle.sre_code.specs.Refusals.{place_of};
@@ -30,6 +31,7 @@ mod descent;
 mod error;
 mod first_set;
 mod item;
+mod marked_regions;
 mod part;
 mod prefix;
 mod region;
@@ -215,9 +217,9 @@ impl<'a> Code<'a> {
         self.refers
     }
 
-    /// From which group on the code asks for groups, counted from 0: no reference in it is to one before. It is 0 where a
-    /// condition is in the code, and 4294967295 where it has neither. So marks that end before those of this group, the
-    /// first of which is twice its number, change nothing of what the items pass.
+    /// From which group on the code asks for groups, counted from 0: no reference in it is to one before. It is 0 where
+    /// a condition is in the code, and 4294967295 where it has neither. So marks that end before those of this group,
+    /// the first of which is twice its number, change nothing of what the items pass.
     #[inline(always)]
     pub fn asked_from(&self) -> u32
         ensures { (tree : Tree) → Whole (words_of self.now) tree → result ≡ references.asked_from tree }
@@ -234,6 +236,25 @@ impl<'a> Code<'a> {
             → result ≡ run_counts.most_counts tree }
     {
         self.most_counts
+    }
+
+    /// Whether a mark may be set inside a region, which is an atomic group, a look or a possessive loop. It is `false`
+    /// only where no region of the code sets one. It may be `true` where none does, too: operands that look like a
+    /// region, or like a mark, are taken for one.
+    ///
+    /// Each call goes over the words anew, so its time grows with them. The machine asks this once a search, before it
+    /// keeps where the bodies of regions end.
+    ///
+    /// ```
+    /// // The words of `(?>(a))`, where a group is inside an atomic one, and of `((?>a))`, where it is around one.
+    /// let inside = Code::check(alloc, &[27, 8, 17, 0, 16, 97, 17, 1, 1, 1], &uni)?;
+    /// let around = Code::check(alloc, &[17, 0, 27, 4, 16, 97, 1, 17, 1, 1], &uni)?;
+    /// assert!(inside.regions_set_marks() && !around.regions_set_marks());
+    /// ```
+    pub fn regions_set_marks(&self) -> bool
+        ensures { result ≡ false → (tree : Tree) → Whole (words_of self.now) tree → marks_in_regions tree ≡ false }
+    {
+        marked_regions::regions_set_marks(self.items())
     }
 
     /// A number of turns within which a match, a search or a step of a walk is answered unless memory is refused, in

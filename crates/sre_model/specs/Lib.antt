@@ -17,6 +17,7 @@ pub mod Prefixes
 pub mod Folding
 pub mod References
 pub mod Regions
+pub mod MarksSet
 pub mod Slots
 pub mod RunCounts
 pub mod Alternatives

@@ -9,9 +9,13 @@ use Rattle.sre_model.specs.Slots.{most_slots}
 use Rattle.sre_model.specs.RunCounts.{most_counts}
 use Rattle.sre_model.specs.Alternatives.{most_alternatives}
 
+-- how many positions a window has, its end among them
+abbrev pub window_positions : Asked → ℕ
+window_positions a = a.end + 1 - a.start
+
 -- for so many words of 64 bits there has to be room at each place of the code: two bits for each slot and position
 abbrev pub words_at_place : Tree → Asked → ℕ
-words_at_place t a = most_slots t * 2 * (a.end + 1 - a.start) / 64 + 1
+words_at_place t a = most_slots t * 2 * window_positions a / 64 + 1
 
 -- the tree has neither regions nor references, its loops have few slots, and there is room for what failed at all of so
 -- many places
@@ -31,24 +35,12 @@ counts_at_most t a = min (most_counts t) a.end
 abbrev pub ways_at_most : Tree → Asked → ℕ
 ways_at_most t a = max (counts_at_most t a) (most_alternatives t)
 
--- how many turns come at most of one way of an instruction that may branch before another one is gone on with
-abbrev pub turns_between : ℕ → ℕ
-turns_between places = 4 * (places + 3)
-
--- how many spots there are at a place of which it makes a difference that they failed: one for each position and slot
-abbrev pub spots_at_place : Tree → Asked → ℕ
-spots_at_place t a = most_slots t * (a.end + 1 - a.start)
-
--- how often a way is gone on with at most, once failures are kept: each way of each spot once, and one more, in each of
--- the two parts of a search
-abbrev pub most_ways : ℕ → Tree → Asked → ℕ
-most_ways places t a = 2 * (places * spots_at_place t a) * (1 + ways_at_most t a)
-
--- so many turns are enough for a search: those that each of its two parts goes on without failures, and those that come
--- of each start and of each way. A turn counts for more where it passes a long stretch of characters: for one more for
--- each eight of those that make a difference
+-- so many turns are enough for a search. Each position pays for those that come before failures are kept, for a run that
+-- begins there, and for each way, and one more, of each place and slot, of which a few times as many turns come as there
+-- are places. A turn counts for more where it passes a long stretch of characters: for one more for each eight of those
+-- that make a difference
 abbrev pub enough_turns : ℕ → Tree → Asked → ℕ
 enough_turns places t a =
-    2 * (32 * (a.end - a.start + 1))
-    + ((a.end + 1 - a.start) * (2 * places + 4) + most_ways places t a * turns_between places)
-    * (1 + counts_at_most t a / 8)
+    window_positions a
+    * (32 + (2 * places + 4 + 4 * places * (places + 3) * most_slots t * (1 + ways_at_most t a))
+    * (1 + counts_at_most t a / 8))

@@ -17,11 +17,11 @@ two_runs =
     items (Loop Greedy 1 unlimited (items (Run GreedyRun 1 unlimited is_a ∷ Run GreedyRun 1 unlimited is_a ∷ [])) ∷ b
     ∷ [])
 
-turns_of_two_runs : enough_turns 22 two_runs (letters 100) ≡ 3566512
+turns_of_two_runs : enough_turns 22 two_runs (letters 100) ≡ 1785680
 turns_of_two_runs = refl
 
 -- with ten times the letters, but for what the window's end adds, ten times the turns
-turns_of_more_letters : enough_turns 22 two_runs (letters 1000) ≡ 35347312
+turns_of_more_letters : enough_turns 22 two_runs (letters 1000) ≡ 17697680
 turns_of_more_letters = refl
 
 -- and there has to be room for two bits for each of four slots and 1,001 positions, at each place
@@ -30,13 +30,13 @@ room_of_two_runs = refl
 
 -- (?:a|aa)+$, of which 20 words are made: a branch has two alternatives
 turns_of_alternatives : enough_turns 20 (items (Loop Greedy 1 unlimited
-    (items (a ∷ Branch (Or Empty (Only (items (a ∷ [])))) ∷ [])) ∷ At END ∷ [])) (letters 100) ≡ 4471068
+    (items (a ∷ Branch (Or Empty (Only (items (a ∷ [])))) ∷ [])) ∷ At END ∷ [])) (letters 100) ≡ 2237756
 turns_of_alternatives = refl
 
 -- a{0,20}b, which has ten words: a run tries as many ends, and each turn may count for two more
-turns_of_a_counted_run : enough_turns 10 (items (Run GreedyRun 0 20 is_a ∷ b ∷ [])) (letters 100) ≡ 6631256
+turns_of_a_counted_run : enough_turns 10 (items (Run GreedyRun 0 20 is_a ∷ b ∷ [])) (letters 100) ≡ 3319264
 turns_of_a_counted_run = refl
 
 -- or for one, where the window has ten characters
-turns_of_a_short_window : enough_turns 10 (items (Run GreedyRun 0 20 is_a ∷ b ∷ [])) (letters 10) ≡ 252912
+turns_of_a_short_window : enough_turns 10 (items (Run GreedyRun 0 20 is_a ∷ b ∷ [])) (letters 10) ≡ 126720
 turns_of_a_short_window = refl

@@ -22,7 +22,7 @@ pub first_none : (xs ys : List Way) → first xs ≡ first ys → ys ≡ [] → 
 first_none [] ys h e = refl
 first_none (x ∷ xs) ys h e = let none : x ∷ [] ≡ [] = rw e at h in absurd (cc)
 
-first_append : (xs ys zs : List Way) → first xs ≡ first ys → first (xs ++ zs) ≡ first (ys ++ zs)
+pub first_append : (xs ys zs : List Way) → first xs ≡ first ys → first (xs ++ zs) ≡ first (ys ++ zs)
 first_append [] [] zs h = refl
 first_append [] (y ∷ ys) zs h = absurd (cc)
 first_append (x ∷ xs) [] zs h = absurd (cc)

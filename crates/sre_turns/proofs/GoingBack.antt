@@ -10,7 +10,8 @@ use Rattle.sre_turns.specs.Limits.{Limit, earlier, Wider, Fares}
 use Rattle.sre_turns.specs.Machine.{spot, Waits, outermost, otherwise, Goes, Arrives, Backs, Stands, Later}
 use Rattle.sre_turns.specs.Machine.{without_outcome}
 use Rattle.sre_model.specs.Runs.{Run}
-use Rattle.sre_turns.specs.Machine.{without_loop}
+use Rattle.sre_turns.specs.Machine.{without_loop, IsBack, HasRun}
+use Rattle.sre_turns.specs.Confining.{ChoicesConfined}
 use Rattle.sre_turns.specs.declared.Next.{Next}
 use Rattle.sre_turns.specs.declared.Next.TheVariants as next
 use Rattle.sre_turns.proofs.FirstOutcomes.{first_none}
@@ -46,6 +47,9 @@ back_goes r b b' pt c e all limit g = go (subst (λ x. Waits r x 0 [] all g.late
         within = omega arith;
         fares = λ pl o w. choice_taken r pl limit pt b'.frames c b'.marks b'.choices
             (subst (λ x. Fares r pl limit 0 x) e (g.fares pl));
+        confined = λ none.
+            let f = subst (λ x. ChoicesConfined r.words x) e (g.confined none) in
+            record { here = f.each.0; others = record { each = f.each.1 } };
       },
     )
 
@@ -67,6 +71,20 @@ pub back_at : (r : Run) (b b' : BoardValue) (pt pt' : Point) (c : StringCursor)
 back_at r b b' pt pt' c e same is free all limit g =
     let s = back_arrives r b b' pt pt' c e same is all limit g in (s.0, arrived free s.1)
 
+-- so the machine is at that point, wherever it was
+pub back_run : (r : Run) (b b' : BoardValue) (pt pt' : Point) (c : StringCursor)
+    → b.choices ≡ choice pt b'.frames c b'.marks ∷ b'.choices → pt ≡ pt'
+    → choice pt' b'.frames c b'.marks ≡ Else pt' b'.frames c b'.marks → IsBack r b → HasRun r pt' c
+back_run r b b' pt pt' c e same is x =
+    let g = (back_arrives r b b' pt pt' c e same is x.all x.limit x.backs).1 in record {
+      frames = b'.frames;
+      marks = b'.marks;
+      outcomes = g.now;
+      turns = g.turns;
+      stands = g.stands;
+      runs = g.runs;
+    }
+
 -- a region whose body has no outcome
 pub back_region : (r : Run) (b b' b'' : BoardValue) (pt : Point) (g : Region) (c : StringCursor) (n : Next)
     → b.choices ≡ choice pt b'.frames c b'.marks ∷ b'.choices → pt ≡ Inside g → n ≡ without_outcome g c
@@ -76,8 +94,8 @@ back_region r b b' b'' pt g c n e same is left all limit k =
     let kept : Waits r (Keep g b'.frames c b'.marks ∷ b'.choices) 0 [] all k.later =
     subst (λ x. Waits r x 0 [] all k.later) found k.waits in
     let back : Later r all limit (without_outcome g c) (without_loop g b') =
-    region_back r c b' (λ pl. region_waits r pl limit 0 b.choices (ap (λ x. from_region x) found) (k.fares pl)) g all
-    limit k.later kept k.within in
+    region_back r c b' (λ pl. region_waits r pl limit 0 b.choices (ap (λ x. from_region x) found) (k.fares pl)) g
+    (λ none. (subst (λ x. ChoicesConfined r.words x) found (k.confined none)).each) all limit k.later kept k.within in
     subst (λ x. Later r all limit x b'') (sym is)
     (subst (λ y. Later r all limit (without_outcome g c) y) (sym left) back)
 
@@ -94,6 +112,7 @@ arrives_wider r all limit more pt c b l g = record {
   waits = g.waits;
   within = omega (arith, g.within, l.turns);
   fares = λ pl o w. fares_at_wider r pl limit more _ (spot pt c b) b.choices l (g.fares pl o w);
+  confined = g.confined;
 }
 
 -- a state within a limit is one within a wider limit
@@ -106,6 +125,7 @@ stands_wider r all limit more next.Back b l g = record {
   waits = g.waits;
   within = omega (arith, g.within, l.turns);
   fares = λ pl. fares_wider r pl limit more 0 b.choices l (g.fares pl);
+  confined = g.confined;
 }
 stands_wider r all limit more (next.Done c) b l g = record {
   later = g.later;
@@ -114,6 +134,7 @@ stands_wider r all limit more (next.Done c) b l g = record {
   waits = g.waits;
   within = omega (arith, g.within, l.turns);
   fares = λ pl. fares_wider r pl limit more 2 b.choices l (g.fares pl);
+  confined = g.confined;
 }
 
 pub earlier_wider : (limit : Limit) → Wider (earlier limit) limit

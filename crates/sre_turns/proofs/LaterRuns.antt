@@ -20,6 +20,7 @@ use Rattle.sre_turns.specs.Board.{Choice}
 use Rattle.sre_turns.specs.Limits.{Limit, FaresBoth}
 use Rattle.sre_turns.specs.Machine.{GoesBoth}
 use Rattle.sre_turns.specs.Moves.{Spot, spot_at}
+use Rattle.sre_turns.specs.Bodies.{IsConfined}
 use Rattle.sre_turns.specs.Nested.{IsAt, LiesIn, LiesInItem, LiesInBranch, repeats}
 use Rattle.sre_turns.specs.Potential.{path, potential_of, more_ends}
 use Rattle.sre_turns.specs.RunEnds.{AllPass}
@@ -104,6 +105,9 @@ module _ (r : runs.Run) (i low v : ℕ) (fs : List Frame) (m : Marks) (w : Opcod
     from = omega (arith, h.from, later);
   }
 
+  later_confined : (ks : List ℕ) → IsConfined r.words (Longer i n) ks → IsConfined r.words (Instruction i) ks
+  later_confined ks l = let b = l.0 in (b, lies r.words b.start b.end b.tree b.reads [] i n ks l.1)
+
   -- what waits has enough left for it
   enough : potential_of r.words r.subject.end anew ≤ potential_of r.words r.subject.end counts
   enough =
@@ -137,5 +141,11 @@ module _ (r : runs.Run) (i low v : ℕ) (fs : List Frame) (m : Marks) (w : Opcod
           first = f.first;
           second = settled pl limit.start f.second;
           fares = fares_less r pl limit cs _ _ (omega (arith, enough)) f.fares;
+        };
+    confined = λ none.
+        let f = g.confined none in record {
+          first = f.first;
+          second = λ inside. later_confined (repeats fs) (f.second inside);
+          others = f.others;
         };
   }

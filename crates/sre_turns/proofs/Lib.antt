@@ -41,3 +41,7 @@ pub mod NextRuns
 pub mod LaterRuns
 pub mod OpenMarks
 pub mod WaitingTwice
+pub mod Bodies
+pub mod Confining
+pub mod BodyEnds
+pub mod Admitting

@@ -23,6 +23,9 @@ use Rattle.sre_turns.specs.MovesAtReferences.{ReferenceMove, ConditionMove}
 use Rattle.sre_turns.specs.Limits.{Limit, earlier, raised, pool, FaresAt}
 use Rattle.sre_turns.specs.Potential.{potential_of, units}
 use Rattle.sre_turns.specs.Settled.{Regionless}
+use Rattle.sre_turns.specs.Confining.{StandsConfined}
+use Rattle.sre_turns.proofs.Confining.{turn_confined, goes_confined, splits_confined, first_confined, first_left}
+use Rattle.sre_turns.proofs.Confining.{second_left}
 use Rattle.sre_turns.proofs.Faring.{FreeOfToll, turn_leaves, fares_less, first_waits, first_alone, second_alone}
 use Rattle.sre_turns.proofs.Faring.{second_goes, nothing_left, run_code, with_tolls, with_toll}
 use Rattle.sre_turns.specs.Machine.{Placed, InRole, Moves, MovesAt, Runs, turns, Comes, stops, ends, goes, splits}
@@ -283,6 +286,7 @@ arrived {r} {all} {limit} {pt} {c} {b} free g = record {
             fares_less r pl limit b.choices (pool r.words r.subject.end o pt c.position) _
             (omega (arith, free.same r.words r.subject.end c.position o)) f.fares;
       };
+  confined = g.confined;
 }
 
 -- an instruction is gone on with, for the tolls of its opcode
@@ -303,6 +307,7 @@ arrived_at {r} {all} {limit} {i} {c} {b} o w g = record {
       subst (λ q. FaresAt r pl (raised (units r.words r.subject.end i (role q)) limit)
       (pool r.words r.subject.end o' (Instruction i) c.position) x b.choices) (same_opcode r.words i o' o w' w)
       (with_tolls r pl limit i x b.choices o' refl (g.fares pl o' w'));
+  confined = g.confined;
 }
 
 -- or for one toll alone
@@ -318,6 +323,7 @@ arrived_once {r} {all} {limit} {i} {c} {b} g = record {
   waits = sooner (g.turns + 1) (g.turns + 0) (omega arith) g.waits;
   within = g.within;
   fares = λ pl o w. with_toll r pl limit (spot (Instruction i) c b) b.choices (g.fares pl o w);
+  confined = g.confined;
 }
 
 -- what one turn keeps
@@ -336,6 +342,7 @@ module _ (r : Run) (pt : Point) (c : StringCursor) (b : BoardValue) where
           waits = sooner (1 + 0) 0 (omega arith) wt;
           within = omega arith;
           fares = λ pl. turn_leaves r pl limit b.choices (spot pt c b) Stop h (g.fares pl);
+          confined = λ none. (g.confined none).others;
         },
       )
 
@@ -354,6 +361,7 @@ module _ (r : Run) (pt : Point) (c : StringCursor) (b : BoardValue) where
           waits = sooner (2 + 0) 0 (omega arith) wt;
           within = omega arith;
           fares = λ pl. turn_leaves r pl limit b.choices (spot pt c b) End h (g.fares pl);
+          confined = λ none. (g.confined none).others;
         },
       )
 
@@ -382,6 +390,9 @@ module _ (r : Run) (pt : Point) (c : StringCursor) (b : BoardValue) where
               subst (λ x. FaresAt r pl (earlier limit) (potential_of r.words r.subject.end (spot pt' c' b'))
               (spot pt' c' b') x) (sym e)
               (turn_leaves r pl limit b.choices (spot pt c b) (Go (spot pt' c' b')) h (g.fares pl));
+          confined = λ none.
+              subst (λ x. StandsConfined r.words (spot pt' c' b') x) (sym e)
+              (goes_confined r.words r.subject (spot pt c b) (spot pt' c' b') b.choices h (g.confined none));
         },
       )
 
@@ -407,6 +418,8 @@ module _ (r : Run) (pt : Point) (c : StringCursor) (b : BoardValue) where
         waits = sooner (suc (suc (n₁ + n₂)) + 0) (n₁ + n₂ + 2) (omega arith) wt;
         within = omega arith;
         fares = λ pl. turn_leaves r pl limit b.choices (spot pt c b) (Split y z) h (g.fares pl);
+        confined = λ none.
+            splits_confined r.words r.subject (spot pt c b) y z b.choices h (g.confined none);
       }
 
 -- of two spots, the first comes to nothing
@@ -428,6 +441,8 @@ both_pass r i second c b free no_ all limit g =
       within = omega (arith, g.within);
       fares = λ pl o w.
           second_goes r pl limit (spot (Instruction i) c b) (spot second c b) b.choices (g.fares pl) o free;
+      confined = λ none.
+          second_left r.words (spot (Instruction i) c b) (spot second c b) b.choices (g.confined none);
     }
 
 pub both_skips : (r : Run) (pt : Point) (start : StringCursor) (i : ℕ) (second : Point) (c : StringCursor)
@@ -466,6 +481,9 @@ both_wait r i z c b b' cs same_place eb all limit g =
             let x : Spot = spot (Instruction i) c b' in
             subst (λ xs. FaresAt r pl (earlier limit) (potential_of r.words r.subject.end x) x xs) (sym eb)
             (first_waits r pl limit x z cs (g.fares pl) c same_place);
+        confined = λ none.
+            subst (λ xs. StandsConfined r.words (spot (Instruction i) c b') xs) (sym eb)
+            (first_confined r.words (spot (Instruction i) c b') z c cs (g.confined none));
       },
     )
 
@@ -521,6 +539,9 @@ both_second r y i c b cs none e all limit g =
             let x : Spot = spot (Instruction i) c b in
             subst (λ xs. FaresAt r pl (earlier limit) (potential_of r.words r.subject.end x) x xs) (sym e)
             (second_alone r pl limit y x cs (g.fares pl));
+        confined = λ none.
+            subst (λ xs. StandsConfined r.words (spot (Instruction i) c b) xs) (sym e)
+            (second_left r.words y (spot (Instruction i) c b) cs (g.confined none));
       },
     )
 
@@ -545,6 +566,9 @@ both_first r z i c b cs none e all limit g =
             let x : Spot = spot (Instruction i) c b in
             subst (λ xs. FaresAt r pl (earlier limit) (potential_of r.words r.subject.end x) x xs) (sym e)
             (first_alone r pl limit x z cs (g.fares pl));
+        confined = λ none.
+            subst (λ xs. StandsConfined r.words (spot (Instruction i) c b) xs) (sym e)
+            (first_left r.words (spot (Instruction i) c b) z cs (g.confined none));
       },
     )
 
@@ -563,7 +587,7 @@ some_turns {ws} {s} (turns mv h d) = go d
     go ends = omega arith
     go (goes e) = omega arith
     go (splits e f) = omega arith
-    go (enters e f) = omega arith
+    go (enters lies e f) = omega arith
 
 -- of a spot that splits, where nothing comes of the first
 pub run_second : {ws : List ℕ} {s : Subject} {x : Spot} {os : List Way} {n : ℕ} (y z : Spot) → Moves ws s x (Split y z)
@@ -590,6 +614,7 @@ exhausted_back r pt c b none all limit g = (
         g.waits);
     within = omega (arith, some_turns g.runs, g.within);
     fares = λ pl. nothing_left r pl limit b.choices (spot pt c b) g.runs (g.fares pl);
+    confined = λ none. (g.confined none).others;
   },
 )
 
@@ -600,6 +625,10 @@ module _ (r : Run) (pt pt' : Point) (c c' : StringCursor) (on : Continues r pt c
   continues_fares pl limit b n k l m f =
       let x = on.fares pl limit.start b.frames b.marks f.here in
       record { here = x.0; fares = fares_less r pl limit b.choices k n (omega (arith, l, m, x.1)) f.fares }
+
+  continues_confined : (b : BoardValue) → StandsConfined r.words (spot pt c b) b.choices
+      → StandsConfined r.words (spot pt' c' b) b.choices
+  continues_confined b f = record { here = λ inside. on.confines b.frames (f.here inside); others = f.others }
 
   pub continues_goes : FreeOfToll pt → FreeOfToll pt' → (b : BoardValue) (all : List Way) (limit : Limit)
       → Goes r all limit pt c b → Goes r all limit pt' c' b
@@ -618,6 +647,7 @@ module _ (r : Run) (pt pt' : Point) (c c' : StringCursor) (on : Continues r pt c
             let old = run_code r (spot pt c b) g.runs in
             continues_fares pl limit b _ _ (omega (arith, free.same r.words r.subject.end c.position old.0))
             (omega (arith, free'.same r.words r.subject.end c'.position o)) (g.fares pl old.0 old.1);
+        confined = λ none. continues_confined b (g.confined none);
       }
 
   pub continues_arrives : (b : BoardValue) (all : List Way) (limit : Limit) → Arrives r all limit pt c b
@@ -636,6 +666,7 @@ module _ (r : Run) (pt pt' : Point) (c c' : StringCursor) (on : Continues r pt c
         fares = λ pl o w.
             let old = run_code r (spot pt c b) g.runs in
             continues_fares pl limit b _ _ (omega arith) (omega arith) (g.fares pl old.0 old.1);
+        confined = λ none. continues_confined b (g.confined none);
       }
 
   pub continues_run : HasRun r pt c → HasRun r pt' c'
@@ -656,6 +687,7 @@ module _ (r : Run) (pt pt' : Point) (c c' : StringCursor) (on : Continues r pt c
         fares = λ pl start fs m h.
             let x = on.fares pl start fs m h in
             let y = then.fares pl start fs m x.0 in (y.0, omega (arith, x.1, y.1));
+        confines = λ fs l. then.confines fs (on.confines fs l);
       }
 
 -- the machine goes on at an instruction: at where that continues
@@ -692,6 +724,12 @@ both_continue r y pt pt' c b on all limit g =
             second = z.0;
             fares = fares_less r pl limit b.choices _ _ (omega (arith, z.1)) f.fares;
           };
+      confined = λ none.
+          let f = g.confined none in record {
+            first = f.first;
+            second = λ inside. on.confines b.frames (f.second inside);
+            others = f.others;
+          };
     }
 
 pub both_exhausted : (r : Run) (i : ℕ) (pt : Point) (c : StringCursor) (b : BoardValue) → Exhausted r pt c.position
@@ -716,7 +754,7 @@ turn_enters r pt fs j g c c' b b' h there e em all limit st = go (comes (Enter g
 
     go : {os : List Way} {n k : ℕ} → Comes r.words r.subject (spot pt c b) (Enter g y z) os n
         → Waits r b.choices (n + 0) os all k → n + k ≤ limit.turns → Later r all limit (next.At j c') b'
-    go {os} {n} {k} (enters {now = now} {n₁ = n₁} {n₂ = n₂} d f) wt l =
+    go {os} {n} {k} (enters {now = now} {n₁ = n₁} {n₂ = n₂} lies d f) wt l =
         let behind : Waits r (Keep g fs c b.marks ∷ b.choices) (n₁ + 1) now all (n₂ + k) =
         kept {pt = pt} st.stands st.placed f (sooner (suc (n₁ + n₂) + 0) (n₁ + 1 + n₂) (omega arith) wt) in
         let later : Waits r b'.choices (n₁ + 1) now all (n₂ + k) =
@@ -733,6 +771,10 @@ turn_enters r pt fs j g c c' b b' h there e em all limit st = go (comes (Enter g
             within = omega arith;
             fares = λ pl o w.
                 absurd (turn_leaves r pl limit b.choices (spot pt c b) (Enter g y z) h (st.fares pl));
+            confined = λ none.
+                let f = turn_confined r.words r.subject (spot pt c b) (Enter g y z) b.choices h (st.confined none) in
+                subst (λ x. StandsConfined r.words z x) (sym e)
+                (record { here = λ inside. lies none; others = record { each = (f.0.1, f.1.each) } });
           },
         )
 

@@ -1,7 +1,7 @@
 -- Each turn of a spot that lies in the words of a tree leads to spots that lie there.
 -- The law that a search takes few turns (`enough` of sre_engine) rests on this.
 use Rattle.std.proofs.Common.{◌≡◌, ℕ, ◌+◌, ◌-◌, inl, inr, Bool, true, false, cond, ◌&&◌, ◌||◌, nat_lt, nat_eq}
-use Rattle.std.proofs.Common.{nat_le, List, [], ◌∷◌, length, drop, Option, Some, None, refl, sym, ap, ◌∙◌, subst}
+use Rattle.std.proofs.Common.{nat_le, List, [], ◌∷◌, length, Option, Some, None, refl, sym, ap, ◌∙◌, subst}
 use Rattle.sre_chars.specs.declared.constants.SreOpcode.{SreOpcode}
 use Rattle.sre_chars.specs.declared.constants.SreOpcode.TheVariants as opcode
 use Rattle.sre_model.specs.Tree.{Tree, Empty, Then, Item, Fail, One, At, Mark, Branch, Loop, Run, PossessiveLoop}
@@ -23,14 +23,15 @@ use Rattle.sre_turns.specs.declared.Region.TheVariants.{AtomicGroup, Ahead, NotA
 use Rattle.sre_turns.specs.declared.Region.{Region}
 use Rattle.sre_turns.specs.declared.Point.TheVariants.{Instruction, Alternatives, Shorter, Longer, Again}
 use Rattle.sre_turns.specs.declared.Point.{Point}
-use Rattle.sre_turns.specs.Moves.{Spot, to_place, into_region, Move, Stop, Go, Enter, closing_move}
+use Rattle.sre_turns.specs.Moves.{Spot, to_place, into_region, Move, Stop, End, Go, Split, Enter, closing_move}
 use Rattle.sre_turns.specs.Moves.{AlternativesMove}
 use Rattle.sre_turns.specs.MovesInRuns.{run_turn, ShorterMove, LongerMove}
-use Rattle.sre_turns.specs.MovesInLoops.{at_body, behind, in_order, next_frame, AgainMove}
+use Rattle.sre_turns.specs.MovesInLoops.{at_body, behind, in_order, AgainMove}
 use Rattle.sre_turns.specs.MovesInRegions.{look}
 use Rattle.sre_turns.specs.MovesAtReferences.{reference_turn, condition_place}
 use Rattle.sre_turns.specs.Machine.{InRole, MovesAt, Moves}
-use Rattle.sre_turns.specs.Nested.{repeats, IsAt, LiesIn, LiesInItem, LiesInBranch, Lies, Onto, Leads}
+use Rattle.sre_turns.specs.Nested.{repeats, IsAt, LiesIn, LiesInItem, LiesInBranch, Lies, Onto, Leads, ClosesAt}
+use Rattle.sre_turns.specs.Nested.{LeadsTo}
 
 -- the first place of a tree's words lies there, and so does their end
 pub begins : (ws : List ℕ) (i j : ℕ) (t : Tree) (r : Reads ws i j t) (js : List ℕ)
@@ -57,44 +58,43 @@ in_role ws s i x mv o f w e h =
 put : (P : Point → List ℕ → Type 0) (pt at : Point) (ks js : List ℕ) → pt ≡ at → ks ≡ js → P at js → P pt ks
 put P pt at ks js e f h = rw (e, f) h
 
-pub leads_cond : (ws : List ℕ) (s : Subject) (P : Spot → Type 0) (b : Bool) (a c : Move) → Leads ws s P a
-    → Leads ws s P c → Leads ws s P (cond b a c)
-leads_cond ws s P true a c k l = k
-leads_cond ws s P false a c k l = l
+leads_cond : (P : Point → List ℕ → Type 0) (b : Bool) (a c : Move) → LeadsTo P a → LeadsTo P c → LeadsTo P (cond b a c)
+leads_cond P true a c k l = k
+leads_cond P false a c k l = l
 
-pub leads_order : (ws : List ℕ) (s : Subject) (P : Spot → Type 0) (o : Order) (y z : Spot) → P y → P z
-    → Leads ws s P (in_order o y z)
-leads_order ws s P Greedy y z k l = (k, l)
-leads_order ws s P Lazy y z k l = (l, k)
+leads_order : (P : Point → List ℕ → Type 0) (o : Order) (y z : Spot) → P y.point (repeats y.frames)
+    → P z.point (repeats z.frames) → LeadsTo P (in_order o y z)
+leads_order P Greedy y z k l = (k, l)
+leads_order P Lazy y z k l = (l, k)
+
+-- where a region closes, whatever its body has
+closing : (P : Point → List ℕ → Type 0) (g : Region) (y : Spot) (now : List Way) → ClosesAt P g y.frames
+    → Onto (λ (z : Spot). P z.point (repeats z.frames)) (closing_move g y now)
+closing P (AtomicGroup t) y [] c = tt
+closing P (AtomicGroup t) y (w ∷ os) c = c
+closing P (Ahead t) y [] c = tt
+closing P (Ahead t) y (w ∷ os) c = c
+closing P (NotAhead t) y [] c = c
+closing P (NotAhead t) y (w ∷ os) c = tt
+closing P Owed y [] c = tt
+closing P Owed y (w ∷ os) c = c
+closing P (Further t) y [] c = c.1
+closing P (Further t) y (w ∷ os) c = c.0
+
+-- so what a turn leads to is that of spots
+pub leads_on : (ws : List ℕ) (s : Subject) (P : Point → List ℕ → Type 0) (mv : Move) → LeadsTo P mv
+    → Leads ws s (λ (y : Spot). P y.point (repeats y.frames)) mv
+leads_on ws s P Stop h = tt
+leads_on ws s P End h = tt
+leads_on ws s P (Go y) h = h
+leads_on ws s P (Split y z) h = h
+leads_on ws s P (Enter g y z) h = (h.0, λ now n d. closing P g y now h.1)
 
 -- a spot, a turn there, and a kind of points and loops
 module _ (ws : List ℕ) (s : Subject) (x : Spot) (mv : Move) (h : Moves ws s x mv)
     (P : Point → List ℕ → Type 0) where
-  abbrev Told : Spot → Type 0
-  Told y = P y.point (repeats y.frames)
-
   abbrev Leading : Move → Type 0
-  Leading a = Leads ws s Told a
-
-  -- where a region closes
-  abbrev Closes : Region → Spot → Type 0
-  Closes (AtomicGroup t) y = P (Instruction t) (repeats y.frames)
-  Closes (Ahead t) y = P (Instruction t) (repeats y.frames)
-  Closes (NotAhead t) y = P (Instruction t) (repeats y.frames)
-  Closes Owed y = P Again (repeats y.frames)
-  Closes (Further t) y = P Again (repeats y.frames) × P (Instruction t) (repeats (drop 1 y.frames))
-
-  closing : (g : Region) (y : Spot) (now : List Way) → Closes g y → Onto Told (closing_move g y now)
-  closing (AtomicGroup t) y [] c = tt
-  closing (AtomicGroup t) y (w ∷ os) c = c
-  closing (Ahead t) y [] c = tt
-  closing (Ahead t) y (w ∷ os) c = c
-  closing (NotAhead t) y [] c = c
-  closing (NotAhead t) y (w ∷ os) c = tt
-  closing Owed y [] c = tt
-  closing Owed y (w ∷ os) c = c
-  closing (Further t) y [] c = c.1
-  closing (Further t) y (w ∷ os) c = c.0
+  Leading a = LeadsTo P a
 
   -- the spot is at an instruction, under the loops js
   module _ (i : ℕ) (js : List ℕ) (at : IsAt (Instruction i) js x.point (repeats x.frames)) where
@@ -122,13 +122,13 @@ module _ (ws : List ℕ) (s : Subject) (x : Spot) (mv : Move) (h : Moves ws s x 
           let shorter : (k : ℕ) → P (Shorter (skip ws (i + 1)) k) (repeats x.frames) =
           λ k. put P (Shorter (skip ws (i + 1)) k) (Shorter j k) (repeats x.frames) js
           (ap (λ n. Shorter n k) e) at.1 (f k) in
-          leads_cond ws s Told (nat_lt (longest_run s test high x.position) low) _ _ tt
+          leads_cond P (nat_lt (longest_run s test high x.position) low) _ _ tt
           (instruction (skip ws (i + 1)) j e end, shorter (longest_run s test high x.position - low))
       run_leads LazyRun low high test e f g =
-          leads_cond ws s Told (nat_lt (run_length s test low x.position) low) _ _ tt
+          leads_cond P (nat_lt (run_length s test low x.position) low) _ _ tt
           (instruction (skip ws (i + 1)) j e end, same (Longer i low) (g low))
       run_leads PossessiveRun low high test e f g =
-          leads_cond ws s Told (nat_lt (longest_run s test high x.position) low) _ _ tt
+          leads_cond P (nat_lt (longest_run s test high x.position) low) _ _ tt
           (instruction (skip ws (i + 1)) j e end)
 
       reference_leads : (fold : Fold) (n : ℕ) → j ≡ i + 2 → Leading (reference_turn s fold n (i + 2) x)
@@ -143,18 +143,18 @@ module _ (ws : List ℕ) (s : Subject) (x : Spot) (mv : Move) (h : Moves ws s x 
           ])
           go None = tt
           go (Some span) =
-              leads_cond ws s Told (nat_le (x.position + (span.1 - span.0)) s.end
+              leads_cond P (nat_le (x.position + (span.1 - span.0)) s.end
               && same_folded s fold (span.1 - span.0) span.0 x.position) _ _ (instruction (i + 2) j (sym e) end) tt
 
       look_leads : (sign : Sign) (t back : ℕ) → j ≡ t → P (Instruction (i + 3)) []
           → Leading (cond (nat_lt x.position back) (closing_move (look sign t) x [])
           (Enter (look sign t) x (into_region x (i + 3) (x.position - back))))
       look_leads Positive t back e body =
-          leads_cond ws s Told (nat_lt x.position back) _ _ tt
-          (body, λ now n d. closing (Ahead t) x now (instruction t j (sym e) end))
+          leads_cond P (nat_lt x.position back) _ _ tt
+          (body, instruction t j (sym e) end)
       look_leads Negative t back e body =
-          leads_cond ws s Told (nat_lt x.position back) _ _ (instruction t j (sym e) end)
-          (body, λ now n d. closing (NotAhead t) x now (instruction t j (sym e) end))
+          leads_cond P (nat_lt x.position back) _ _ (instruction t j (sym e) end)
+          (body, instruction t j (sym e) end)
 
       condition_leads : (n : ℕ) → P (Instruction (i + 3)) js → P (Instruction (i + 1 + word ws (i + 2))) js
           → P (Instruction (condition_place ws i n x.marks)) (repeats x.frames)
@@ -173,11 +173,11 @@ module _ (ws : List ℕ) (s : Subject) (x : Spot) (mv : Move) (h : Moves ws s x 
           let m = known (test_opcode t) (ToTest (test_kind t)) r.0 (test_role t) in
           let e : m.end ≡ j = (test_same m.test t ws i m.end j m.stands.code m.stands.operands r.0 r.1).1 in
           subst (λ a. Leading a) (sym m.is)
-          (leads_cond ws s Told (passes s m.test x.position) _ _ (instruction m.end j e end) tt)
+          (leads_cond P (passes s m.test x.position) _ _ (instruction m.end j e end) tt)
       item_leads (At a) r f =
           let m = known opcode.AT ToCheckPosition r.0 refl in
           subst (λ a. Leading a) (sym m.is)
-          (leads_cond ws s Told (holds_at s m.code x.position) _ _ (instruction (i + 2) j (sym r.1.1) end) tt)
+          (leads_cond P (holds_at s m.code x.position) _ _ (instruction (i + 2) j (sym r.1.1) end) tt)
       item_leads (Mark n) r f =
           let m = known opcode.MARK ToMark r.0 refl in
           subst (λ a. Leading a) (sym m.is) (instruction (i + 2) j (sym r.1.1) end)
@@ -201,7 +201,7 @@ module _ (ws : List ℕ) (s : Subject) (x : Spot) (mv : Move) (h : Moves ws s x 
           let m = known opcode.ATOMIC_GROUP ToGroupAtomically r.0 refl in
           subst (λ a. Leading a) (sym m.is) (
             f _ _ (begins ws (i + 2) (j - 1) body r.1.1 []),
-            λ now n d. closing (AtomicGroup (skip ws (i + 1))) x now (instruction (skip ws (i + 1)) j (sym r.1.0) end),
+            instruction (skip ws (i + 1)) j (sym r.1.0) end,
           )
       item_leads (Look sign back body) r f =
           let m = known (look_opcode sign) (ToLook sign) r.0 (look_role sign) in
@@ -251,9 +251,9 @@ module _ (ws : List ℕ) (s : Subject) (x : Spot) (mv : Move) (h : Moves ws s x 
       let out : P (Instruction (u + 1)) (repeats m.outer) =
       put P (Instruction (u + 1)) (Instruction (u + 1)) (repeats m.outer) js refl e.1 end in
       subst (λ a. Leading a) (sym m.is)
-      (leads_cond ws s Told (nat_lt m.frame.count m.low) _ _ body
-      (leads_cond ws s Told (may_repeat m.high m.frame.count m.frame.last x.position) _ _
-      (leads_order ws s Told o (at_body m.frame (Some x.position) m.outer x) (behind u m.outer x) body out) out))
+      (leads_cond P (nat_lt m.frame.count m.low) _ _ body
+      (leads_cond P (may_repeat m.high m.frame.count m.frame.last x.position) _ _
+      (leads_order P o (at_body m.frame (Some x.position) m.outer x) (behind u m.outer x) body out) out))
 
   -- at a possessive loop
   again_leads : (i j : ℕ) (js : List ℕ) → j ≡ skip ws (i + 1) + 1
@@ -272,13 +272,9 @@ module _ (ws : List ℕ) (s : Subject) (x : Spot) (mv : Move) (h : Moves ws s x 
       put P (Instruction (u + 1)) (Instruction j) (repeats m.outer) js
       (ap (λ n. Instruction (skip ws (n + 1) + 1)) e.0 ∙ ap (λ n. Instruction n) (sym l)) e.1 end in
       subst (λ a. Leading a) (sym m.is)
-      (leads_cond ws s Told (nat_lt m.frame.count m.low) _ _
-      (into, λ now n d. closing Owed (record x { frames = next_frame m.frame m.frame.last ∷ m.outer }) now more_)
-      (leads_cond ws s Told (may_repeat m.high m.frame.count m.frame.last x.position) _ _ (
-        into,
-        λ now n d. closing (Further (u + 1))
-            (record x { frames = next_frame m.frame (Some x.position) ∷ m.outer }) now (more_, out),
-      ) out))
+      (leads_cond P (nat_lt m.frame.count m.low) _ _
+      (into, more_)
+      (leads_cond P (may_repeat m.high m.frame.count m.frame.last x.position) _ _ (into, (more_, out)) out))
 
   -- at the counts of a run
   shorter_leads : (j k : ℕ) (js : List ℕ) → IsAt (Shorter j k) js x.point (repeats x.frames)
@@ -286,7 +282,7 @@ module _ (ws : List ℕ) (s : Subject) (x : Spot) (mv : Move) (h : Moves ws s x 
   shorter_leads j k js at f end =
       let m : ShorterMove j k x mv = subst (λ pt. MovesAt ws s pt x mv) at.0 h in
       subst (λ a. Leading a) (sym m.is)
-      (leads_cond ws s Told (nat_eq k 0) _ _ tt (
+      (leads_cond P (nat_eq k 0) _ _ tt (
         put P (Instruction j) (Instruction j) (repeats x.frames) js refl at.1 end,
         put P (Shorter j (k - 1)) (Shorter j (k - 1)) (repeats x.frames) js refl at.1 (f (k - 1)),
       ))
@@ -299,7 +295,7 @@ module _ (ws : List ℕ) (s : Subject) (x : Spot) (mv : Move) (h : Moves ws s x 
       put P (Instruction (skip ws (i + 1))) (Instruction j) (repeats x.frames) js (ap (λ k. Instruction k) l) at.1
       end in
       subst (λ a. Leading a) (sym m.is)
-      (leads_cond ws s Told ((nat_eq m.high unlimited || nat_lt n m.high) && passes s m.test x.position) _ _
+      (leads_cond P ((nat_eq m.high unlimited || nat_lt n m.high) && passes s m.test x.position) _ _
       (past, put P (Longer i (n + 1)) (Longer i (n + 1)) (repeats x.frames) js refl at.1 (f (n + 1))) tt)
 
   -- at an alternative, and behind the last one
@@ -309,7 +305,7 @@ module _ (ws : List ℕ) (s : Subject) (x : Spot) (mv : Move) (h : Moves ws s x 
       let m : AlternativesMove ws q x mv = subst (λ pt. MovesAt ws s pt x mv) at.0 h in
       let e : q + m.value ≡ skip ws q = ap (λ n. q + n) (sym (word_of ws q m.value m.there)) in
       subst (λ a. Leading a) (sym m.is)
-      (leads_cond ws s Told (nat_eq m.value 0) _ _ tt (
+      (leads_cond P (nat_eq m.value 0) _ _ tt (
         put P (Instruction (q + 1)) (Instruction (q + 1)) (repeats x.frames) js refl at.1 first,
         put P (Alternatives (q + m.value)) (Alternatives (skip ws q)) (repeats x.frames) js
             (ap (λ n. Alternatives n) e) at.1 next,
@@ -395,10 +391,16 @@ module _ (ws : List ℕ) (s : Subject) (x : Spot) (mv : Move) (h : Moves ws s x 
     branch_leads q j (Or t ts) r js f e (inr (inr y)) =
         branch_leads (skip ws q) j ts r.2 js (λ pt ks z. f pt ks (inr (inr z))) e y
 
--- so in words that have a tree
+-- so in words that are a tree's, up to a SUCCESS: the whole, or the body of a region
+pub body_moves : (ws : List ℕ) (s : Subject) (i j : ℕ) (t : Tree) (r : Reads ws i j t) → Opcode ws j opcode.SUCCESS
+    → (x : Spot) (mv : Move) → LiesIn ws i j t r [] x.point (repeats x.frames) → Moves ws s x mv
+    → LeadsTo (λ pt ks. LiesIn ws i j t r [] pt ks) mv
+body_moves ws s i j t r w x mv y h =
+    let P : Point → List ℕ → Type 0 = λ pt ks. LiesIn ws i j t r [] pt ks in
+    tree_leads ws s x mv h P i j t r [] (λ pt ks z. z) (λ z. success_leads ws s x mv h P j [] z w) y
+
 pub lies_moves : (ws : List ℕ) (s : Subject) (t : Tree) (w : WholeItems ws t) (x : Spot) (mv : Move) → Lies ws t w x
     → Moves ws s x mv → Leads ws s (Lies ws t w) mv
 lies_moves ws s t w x mv y h =
-    let P : Point → List ℕ → Type 0 = λ pt ks. LiesIn ws 0 (length ws - 1) t w.0 [] pt ks in
-    tree_leads ws s x mv h P 0 (length ws - 1) t w.0 [] (λ pt ks z. z)
-    (λ z. success_leads ws s x mv h P (length ws - 1) [] z w.1) y
+    leads_on ws s (λ pt ks. LiesIn ws 0 (length ws - 1) t w.0 [] pt ks) mv
+    (body_moves ws s 0 (length ws - 1) t w.0 w.1 x mv y h)

@@ -23,6 +23,8 @@ use Rattle.sre_turns.specs.Settled.{Regionless, SettledIn}
 use Rattle.sre_turns.specs.declared.Frame.{Frame}
 use Rattle.sre_turns.specs.declared.Next.TheVariants as next
 use Rattle.sre_turns.specs.declared.Point.TheVariants.{Instruction, Shorter, Longer}
+use Rattle.sre_turns.specs.Confining.{StandsConfined}
+use Rattle.sre_turns.proofs.Confining.{splits_confined, first_confined, first_left}
 use Rattle.sre_turns.proofs.Faring.{fares_less, fares_earlier, first_waits, run_code}
 use Rattle.sre_turns.proofs.Moving.{comes, run_nothing, some_turns, sooner}
 use Rattle.sre_turns.proofs.Onward.{all_later}
@@ -57,6 +59,7 @@ tries_nothing r i c b none all limit g = (
     fares = λ pl.
         let code = run_code r (spot (Instruction i) c b) g.runs in
         fares_earlier r pl limit b.choices 0 _ (omega arith) (g.fares pl code.0 code.1).fares;
+    confined = λ none. (g.confined none).others;
   },
 )
 
@@ -102,6 +105,9 @@ tries_first r i j z c d b mv none stands all limit g = go (comes (Split y z) mv 
                 (subst (λ us. Waits r b.choices (suc (suc (n₁ + n₂)) + 0) us all k) same wt);
             within = omega arith;
             fares = λ pl o w. first_fares pl;
+            confined = λ none.
+                first_left r.words y z b.choices
+                (splits_confined r.words r.subject x y z b.choices mv (g.confined none));
           },
         )
 
@@ -128,21 +134,29 @@ module _ (r : Run) (i low v : ℕ) (w : Opcode r.words i opcode.REPEAT_ONE) (the
   abbrev run_at : ℕ → Spot
   run_at q = spot_at (Instruction i) b.frames q b.marks
 
+  -- its turn where more than its least count passes
+  greedy_moves : AllPass r.subject there.test c.position (c.position + low + 1)
+      → Moves r.words r.subject (run_at c.position)
+      (Split (tail_at (c.position + longest_run r.subject there.test unlimited c.position))
+      (spot_at (Shorter (i + 1 + v) (longest_run r.subject there.test unlimited c.position - low)) b.frames
+      (c.position + longest_run r.subject there.test unlimited c.position) b.marks))
+  greedy_moves all_pass =
+      let reaches = longest_reaches r there.test c.position (c.position + low + 1) all_pass in
+      run_moves r i low v b.frames b.marks w there wv wl wh c.position
+      (longest_run r.subject there.test unlimited c.position) refl (omega (arith, reaches))
+
   -- one toll pays for the run from the next character on, and for its own first end
   greedy_fare : (pl : Regionless r) (limit : Limit) → AllPass r.subject there.test c.position (c.position + low + 1)
       → FaresAt r pl limit (potential_of r.words r.subject.end (run_at c.position) + grant r.words)
       (run_at c.position) b.choices
       → FaresBoth r pl limit (run_at (c.position + 1)) (tail_at (c.position + low)) b.choices
   greedy_fare pl limit all_pass f =
-      let reaches = longest_reaches r there.test c.position (c.position + low + 1) all_pass in
       let inside : c.position + low < r.subject.end =
       passes-below r.subject there.test (c.position + low) (all_pass (c.position + low) (omega arith) (omega arith)) in
       let on = settled_moves r.words r.subject pl.tree pl.whole limit.start pl.no_region (run_at c.position)
       (Split (tail_at (c.position + longest_run r.subject there.test unlimited c.position))
       (spot_at (Shorter (i + 1 + v) (longest_run r.subject there.test unlimited c.position - low)) b.frames
-      (c.position + longest_run r.subject there.test unlimited c.position) b.marks)) f.here
-      (run_moves r i low v b.frames b.marks w there wv wl wh c.position
-      (longest_run r.subject there.test unlimited c.position) refl (omega (arith, reaches))) in
+      (c.position + longest_run r.subject there.test unlimited c.position) b.marks)) f.here (greedy_moves all_pass) in
       both_fare r pl limit _ (run_at (c.position + 1)) (tail_at (c.position + low)) b.choices
       (settled_on r pl limit.start i i c.position (c.position + 1) c.position b.frames b.marks f.here f.here.lies
       (omega arith) (omega (arith, inside)))
@@ -174,6 +188,10 @@ module _ (r : Run) (i low v : ℕ) (w : Opcode r.words i opcode.REPEAT_ONE) (the
             (subst (λ us. Waits r b.choices (g.turns + 0) us all g.later) y.both g.waits);
         within = omega (arith, y.sum, g.within);
         fares = λ pl. greedy_fare pl limit all_pass (g.fares pl opcode.REPEAT_ONE w);
+        confined = λ none.
+            let f = splits_confined r.words r.subject (run_at c.position) _ _ b.choices (greedy_moves all_pass)
+            (g.confined none) in
+            record { first = (g.confined none).here; second = f.first; others = f.others };
       }
 
   -- where no more passes, its first end is its only one
@@ -247,6 +265,11 @@ module _ (r : Run) (i low v : ℕ) (w : Opcode r.words i opcode.MIN_REPEAT_ONE) 
             (subst (λ us. Waits r b.choices (g.turns + 0) us all g.later) y.both g.waits);
         within = omega (arith, y.sum, g.within);
         fares = λ pl. lazy_fare pl limit all_pass (g.fares pl opcode.MIN_REPEAT_ONE w);
+        confined = λ none.
+            let f = splits_confined r.words r.subject (lazy_at c.position) _ _ b.choices
+            (lazy_moves r i low v b.frames b.marks w there wv wl wh c.position
+            (λ d from to. all_pass d from (omega (arith, to)))) (g.confined none) in
+            record { first = f.first; second = (g.confined none).here; others = f.others };
       }
 
   -- where no more passes, its first end is its only one
@@ -294,5 +317,8 @@ both_wait_there r i z c d b b' cs same_place stands eb all limit g =
             let x : Spot = spot (Instruction i) c b' in
             subst (λ xs. FaresAt r pl (earlier limit) (potential_of r.words r.subject.end x) x xs) (sym eb)
             (first_waits r pl limit x z cs (g.fares pl) d same_place);
+        confined = λ none.
+            subst (λ xs. StandsConfined r.words (spot (Instruction i) c b') xs) (sym eb)
+            (first_confined r.words (spot (Instruction i) c b') z d cs (g.confined none));
       },
     )

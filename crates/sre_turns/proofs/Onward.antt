@@ -367,7 +367,7 @@ module _ (ws : List ℕ) (s : Subject) where
         let first = outcomes_end p (omega (arith, l, h.0.onward)) d in
         let second = outcomes_end p (omega (arith, l, h.1.onward)) e in
         both_there o p os₁ os₂ (first.0, λ w. first.1 (h.0.inside w)) (second.0, λ w. second.1 (h.1.inside w))
-    comes_end o p q fs l k inside h (enters {y = y} {g = g} {now = now} d e) =
+    comes_end o p q fs l k inside h (enters {y = y} {g = g} {now = now} lies d e) =
         let closed : Reaching s y.position y.position y.frames (closing_move g y now) =
         onto_reaching s y.position y.position y.frames (closing_move g y now)
         (closing_reaches s y g now (λ w. (outcomes_end y.position (h.3 w) d).0)

@@ -14,6 +14,7 @@ use Rattle.sre_model.specs.Grammar.{Word, Opcode, skip}
 use Rattle.sre_turns.specs.declared.Frame.{Frame}
 use Rattle.sre_turns.specs.declared.Region.TheVariants.{Owed, Further}
 use Rattle.sre_turns.specs.declared.Point.TheVariants.{Instruction, Again}
+use Rattle.sre_turns.specs.Bodies.{IsConfined, MarklessRegions}
 use Rattle.sre_turns.specs.Moves.{Spot, spot_at, Move, Go, Enter, closing_move}
 use Rattle.sre_turns.specs.MovesInLoops.{again_move}
 use Rattle.sre_turns.specs.Machine.{Moves, Runs, turns, stops, goes, enters, Comes}
@@ -29,7 +30,7 @@ use Rattle.sre_turns.proofs.RanInLoops.{may_repeat-held, Room, room_left}
 module _ (ws : List ℕ) (s : Subject) (i u low high : ℕ) (W : Body) (counted : Costs → Costs) (b : Bounded s W)
     (highest : high ≤ unlimited) (counts : low ≤ high) (wl : Word ws (i + 2) low) (wh : Word ws (i + 3) high)
     (r : Ran ws s (Instruction (i + 4)) u W counted) (wu : Opcode ws u opcode.SUCCESS)
-    (leads : u ≡ skip ws (i + 1)) where
+    (leads : u ≡ skip ws (i + 1)) (lies : MarklessRegions ws → IsConfined ws (Instruction (i + 4)) []) where
   abbrev frame : ℕ → Option ℕ → Frame
   frame n last = record { repeat = i; count = n; last = last }
 
@@ -110,7 +111,7 @@ module _ (ws : List ℕ) (s : Subject) (i u low high : ℕ) (W : Body) (counted 
       subst (λ y. Runs ws s (at_loop n last fs p m) (followed K (or_here K' p m y))
       (suc (counted ending p m + further_cost C C' p m (W p m))))
       (sym (first_of_body-all s W p m b e))
-      (turns mv move (enters (region ws s (i + 4) u W counted r wu [] p m e) behind))
+      (turns mv move (enters lies (region ws s (i + 4) u W counted r wu [] p m e) behind))
   more_step fuel n c p last m fs K C en l e f ih false x =
       loop_ends n last fs p m (followed K (here p m)) (C p m) (omega arith)
       (may_repeat-held high n c p last highest en ∙ x) (alone (f p m (omega arith) e))
@@ -159,7 +160,7 @@ module _ (ws : List ℕ) (s : Subject) (i u low high : ℕ) (W : Body) (counted 
       within-all s p (first_of_body s W p m) (first-bounded s W p m e) ∙ first_of_body-all s W p m b e in
       subst (λ y. Runs ws s (at_loop n None fs p m) (followed K (flat_map (λ (w : Way). K' w.stop w.marks) y))
       (suc (counted ending p m + atomic_cost C' (W p m)))) (sym firsts)
-      (turns mv move (enters (region ws s (i + 4) u W counted r wu [] p m e)
+      (turns mv move (enters lies (region ws s (i + 4) u W counted r wu [] p m e)
       (owed-closed fs g K K' C' p m (W p m) (b p m e) ih)))
 
   pub possessive-ran : Opcode ws i opcode.POSSESSIVE_REPEAT

@@ -10,6 +10,7 @@ use Rattle.sre_model.specs.Grammar.{Word, Opcode, skip, look_opcode}
 use Rattle.sre_turns.specs.declared.Frame.{Frame}
 use Rattle.sre_turns.specs.declared.Region.TheVariants.{AtomicGroup, Ahead, NotAhead}
 use Rattle.sre_turns.specs.declared.Point.TheVariants.{Instruction}
+use Rattle.sre_turns.specs.Bodies.{IsConfined, MarklessRegions}
 use Rattle.sre_turns.specs.Moves.{Spot, spot_at, Stop, Go, Enter, closing_move}
 use Rattle.sre_turns.specs.Machine.{Moves, Runs, turns, stops, goes, enters, Comes}
 use Rattle.sre_turns.proofs.Moving.{at_instruction}
@@ -45,7 +46,7 @@ not_ahead-closed ws s x j K C (w ∷ os) e f = stops
 
 module _ (ws : List ℕ) (s : Subject) (i j k : ℕ) (W : Body) (counted : Costs → Costs)
     (r : Ran ws s (Instruction k) (j - 1) W counted) (ends : Opcode ws (j - 1) opcode.SUCCESS)
-    (leads : j ≡ skip ws (i + 1)) where
+    (leads : j ≡ skip ws (i + 1)) (lies : MarklessRegions ws → IsConfined ws (Instruction k) []) where
   pub atomic-ran : Opcode ws i opcode.ATOMIC_GROUP → i + 1 < length ws → k ≡ i + 2 → Bounded s W
       → Ran ws s (Instruction i) j (λ p m. first (W p m)) (λ C p m. suc (counted ending p m + atomic_cost C (W p m)))
   atomic-ran w there at b fs K C p m e f =
@@ -55,7 +56,7 @@ module _ (ws : List ℕ) (s : Subject) (i j k : ℕ) (W : Body) (counted : Costs
       at_instruction opcode.ATOMIC_GROUP ToGroupAtomically refl w
       (record { there = there; is = rw (leads, at) refl }) in
       turns (Enter (AtomicGroup j) x body) move
-      (enters (region ws s k (j - 1) W counted r ends [] p m e) (atomic-closed ws s x j K C (W p m) (b p m e) f))
+      (enters lies (region ws s k (j - 1) W counted r ends [] p m e) (atomic-closed ws s x j K C (W p m) (b p m e) f))
 
   module _ (back : ℕ) (there : Word ws (i + 2) back) (at : k ≡ i + 3) where
     -- a look is entered, or comes too early
@@ -85,7 +86,7 @@ module _ (ws : List ℕ) (s : Subject) (i j k : ℕ) (W : Body) (counted : Costs
         go false y =
             turns (Enter (Ahead j) x (spot_at (Instruction k) [] (p - back) m))
             (look_entered Positive refl w fs p m false y)
-            (enters (region ws s k (j - 1) W counted r ends [] (p - back) m (omega arith))
+            (enters lies (region ws s k (j - 1) W counted r ends [] (p - back) m (omega arith))
             (ahead-closed ws s x j K C (W (p - back) m) e f))
 
     pub not_ahead-ran : Opcode ws i opcode.ASSERT_NOT
@@ -106,5 +107,5 @@ module _ (ws : List ℕ) (s : Subject) (i j k : ℕ) (W : Body) (counted : Costs
         go false y =
             turns (Enter (NotAhead j) x (spot_at (Instruction k) [] (p - back) m))
             (look_entered Negative refl w fs p m false y)
-            (enters (region ws s k (j - 1) W counted r ends [] (p - back) m (omega arith))
+            (enters lies (region ws s k (j - 1) W counted r ends [] (p - back) m (omega arith))
             (not_ahead-closed ws s x j K C (W (p - back) m) e f))

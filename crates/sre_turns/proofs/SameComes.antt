@@ -40,8 +40,8 @@ module _ (ws : List ℕ) (s : Subject) where
         let one = twins_come h.0 d e in
         let two = twins_come h.1 d' e' in
         (outcomes_appended ws _ _ _ _ one.0 two.0, omega (arith, one.1, two.1))
-    twins_after x y (Enter g v v') (Enter k w w') at h (enters {now = now} {n₁ = n₁} d d')
-        (enters {now = after} {os = us} {n₂ = k₂} e e') =
+    twins_after x y (Enter g v v') (Enter k w w') at h (enters {now = now} {n₁ = n₁} lies d d')
+        (enters {now = after} {os = us} {n₂ = k₂} lies' e e') =
         let body = twins_come h.1.begins d e in
         let turn = region-alike ws s g v w v' w' now after n₁ h.1 d body.0 in
         let moved : Comes ws s w (closing_move g w after) us k₂ =

@@ -1,22 +1,24 @@
 -- How a run begins, and how it ends.
 use Rattle.std.proofs.Common.{◌≡◌, ℕ, ◌-◌, ◌≤◌, ◌++◌, Bool, true, false, List, [], ◌∷◌, refl, sym, ap, ◌∙◌, subst}
 use Rattle.std.proofs.Common.{arith, length, zero, suc}
-use Rattle.std.proofs.lemmas.Bool.{or_right}
+use Rattle.std.proofs.lemmas.Bool.{or_right, or_parts, true≢false}
 use Rattle.sre_chars.specs.declared.constants.SreOpcode.TheVariants as opcode
 use Rattle.sre_chars.specs.declared.string.StringCursor.{StringCursor}
 use Rattle.sre_model.specs.Tree.{Tree, Empty, Then}
 use Rattle.sre_model.specs.References.{refers, by_references, asked_from}
 use Rattle.sre_model.specs.Folding.{of_item}
+use Rattle.sre_model.specs.MarksSet.{marks_in_regions, by_marked_regions}
 use Rattle.sre_model.specs.Prefixes.{behind_items}
 use Rattle.sre_model.specs.Marks.{no_marks}
 use Rattle.sre_model.specs.Ways.{Way, first, ways}
 use Rattle.sre_model.specs.Grammar.{Opcode, Reads, WholeItems}
 use Rattle.sre_model.specs.Standing.{AreWords}
 use Rattle.sre_turns.specs.Board.{Choice, Else, Keep, Trying, from_region, BoardValue, bare}
-use Rattle.sre_turns.specs.Fruit.{Fruitless, FruitlessWith, is_inside}
+use Rattle.sre_turns.specs.Fruit.{SameFruit, is_inside}
 use Rattle.sre_turns.specs.declared.Point.TheVariants.{Instruction}
 use Rattle.sre_turns.specs.Limits.{Limit}
 use Rattle.sre_turns.specs.Moves.{spot_at}
+use Rattle.sre_turns.specs.MovesAtReferences.{MayAsk}
 use Rattle.sre_turns.specs.Potential.{potential}
 use Rattle.sre_turns.specs.Settled.{Regionless, SettledIn}
 use Rattle.sre_turns.proofs.Faring.{fares_earlier}
@@ -29,7 +31,7 @@ use Rattle.sre_model.specs.Cost.{cost, ending}
 use Rattle.sre_model.proofs.Unique.{items_same}
 use Rattle.sre_turns.proofs.Outcomes.{region}
 use Rattle.sre_turns.proofs.Placed.{none_placed}
-use Rattle.sre_turns.proofs.Ran.{ran, AskedIn}
+use Rattle.sre_turns.proofs.Ran.{ran, PartOf}
 
 -- a reference behind some items is one of the whole
 behind_refers : (n : ℕ) (t : Tree) → refers (behind_items n t) ≡ true → refers t ≡ true
@@ -44,13 +46,24 @@ behind_asked (suc n) Empty = omega arith
 behind_asked (suc n) (Then x rest) = let l = behind_asked n rest in omega (arith, l)
 
 -- so the words do
-pub behind_has : (ws : List ℕ) (n : ℕ) (t : Tree) → WholeItems ws t → AskedIn ws (behind_items n t)
-behind_has ws n t w g e l = (
+behind_asks : (ws : List ℕ) (n : ℕ) (t : Tree) → WholeItems ws t → (g : ℕ) → refers (behind_items n t) ≡ true
+    → asked_from (behind_items n t) ≤ g → MayAsk ws g
+behind_asks ws n t w g e l = (
   λ u w'. subst (λ x. refers x ≡ true) (items_same ws t u w w') (behind_refers n t e),
   λ u w'.
       let from : asked_from t ≤ g = omega (arith, l, behind_asked n t) in
       subst (λ x. asked_from x ≤ g) (items_same ws t u w w') from,
 )
+
+-- a region behind some items is one of the whole
+behind_markless : (n : ℕ) (t : Tree) → marks_in_regions t ≡ false → marks_in_regions (behind_items n t) ≡ false
+behind_markless zero t e = e
+behind_markless (suc n) Empty e = e
+behind_markless (suc n) (Then x rest) e =
+    behind_markless n rest (or_parts (of_item by_marked_regions x) (marks_in_regions rest) e).1
+
+pub behind_has : (ws : List ℕ) (n : ℕ) (t : Tree) → WholeItems ws t → PartOf ws (behind_items n t)
+behind_has ws n t w = (λ g e l. behind_asks ws n t w g e l, λ markless. behind_markless n t (markless.none t w))
 
 -- the limit of a run of a tree from a place and a cursor, in a window from a start on
 abbrev pub first_limit : Run → ℕ → Tree → StringCursor → ℕ → Limit
@@ -65,7 +78,7 @@ first_limit r i t c start = record {
 
 -- a run from a cursor and a place has the accepted ways of the tree whose words are those from there on
 pub started : (r : Run) (i : ℕ) (t : Tree) (c : StringCursor) (b : BoardValue) (start : ℕ) → AreWords r.words
-    → AskedIn r.words t
+    → PartOf r.words t
     → Reads r.words i (length r.words - 1) t → Opcode r.words (length r.words - 1) opcode.SUCCESS
     → r.stands c c.position → c.position ≤ r.subject.end → b ≡ bare no_marks
     → ((pl : Regionless r) → SettledIn r pl start (spot_at (Instruction i) [] c.position no_marks))
@@ -88,12 +101,13 @@ started r i t c b start v has reads ends stands inside fresh settled =
         here = settled pl;
         fares = record { settled = tt; trying = refl; left = omega arith };
       };
+      confined = λ none. record { here = λ inside. absurd (true≢false (sym inside)); others = record { each = tt } };
     })
 
 -- an outcome that is not accepted changes nothing of what came
 refused_fruit : (r : Run) (os : List Way) (w : Way) (now : List Way) → r.accepts w ≡ false
-    → FruitlessWith r false os (w ∷ now) → FruitlessWith r false os now
-refused_fruit r os w now e h = λ (none : Fruitless r false now). h (rw e none)
+    → SameFruit r false os (w ∷ now) → SameFruit r false os now
+refused_fruit r os w now e h = rw e at h
 
 -- what waits outside all regions is not inside one
 pub none_inside : (cs : List Choice) → from_region cs ≡ [] → is_inside cs ≡ false
@@ -122,9 +136,9 @@ refused_waits r (Else pt fs c m ∷ cs) w rest none n (otherwise {os = os} there
     otherwise there placed d (refused_waits r cs w (rest ++ os) none n wt)
 refused_waits r (Trying i fs c m ∷ cs) w rest none n (tried {os = os} there placed d most same wt) =
     let outside : is_inside cs ≡ false = none_inside cs none in
-    let was : FruitlessWith r false os (w ∷ rest) = subst (λ b. FruitlessWith r b os (w ∷ rest)) outside same in
-    let left : FruitlessWith r (is_inside cs) os rest =
-    subst (λ b. FruitlessWith r b os rest) (sym outside) (refused_fruit r os w rest n was) in
+    let was : SameFruit r false os (w ∷ rest) = subst (λ b. SameFruit r b os (w ∷ rest)) outside same in
+    let left : SameFruit r (is_inside cs) os rest =
+    subst (λ b. SameFruit r b os rest) (sym outside) (refused_fruit r os w rest n was) in
     tried there placed d most left (refused_waits r cs w rest none n wt)
 refused_waits r (Keep g fs c m ∷ cs) w rest none n wt = absurd (cc)
 
@@ -158,5 +172,6 @@ module _ (r : Run) (all : List Way) (limit : Limit) (p : ℕ) (n : Next) (c : St
       waits = refused_waits r b.choices _ [] none (sym said ∙ left) ends.waits;
       within = omega (arith, ends.within);
       fares = λ pl. fares_earlier r pl limit b.choices 0 2 (omega arith) (ends.fares pl);
+      confined = ends.confined;
     },
   )

@@ -27,6 +27,7 @@ use Rattle.sre_model.proofs.Words.{same_word, at_low, word_of, word_within}
 use Rattle.sre_turns.proofs.Faring.{next_less, test_pool}
 use Rattle.sre_turns.proofs.Moving.{in_role, in_test, at_instruction, at_test, run_nothing, run_goes, run_on}
 use Rattle.sre_turns.proofs.Moving.{nothing_after, has_run}
+use Rattle.sre_turns.proofs.Confining.{turn_confines}
 use Rattle.sre_turns.proofs.Moving.{turn_stops, turn_ends, turn_goes}
 use Rattle.sre_model.proofs.Passing.{past_end, read_passes, stands_at_own}
 use Rattle.sre_turns.proofs.Placed.{set_placed}
@@ -163,6 +164,9 @@ jump_continues r i v c w wv stands = record {
       (spot_at (Instruction (i + 1 + v)) fs c.position m) opcode.JUMP w (omega arith)
       (at_instruction opcode.JUMP ToJump refl w
       (record { there = word_within r.words (i + 1) v wv; is = rw (word_of r.words (i + 1) v wv) refl })) h;
+  confines = turn_confines r.words r.subject (Instruction i) (Instruction (i + 1 + v)) c.position c.position
+      (λ fs m. at_instruction opcode.JUMP ToJump refl w
+      (record { there = word_within r.words (i + 1) v wv; is = rw (word_of r.words (i + 1) v wv) refl }));
 }
 
 -- a LITERAL that is not the character, or that stands at the window's end
@@ -215,6 +219,13 @@ module _ (r : Run) (i ch : ℕ) (o : SreOpcode) (takes : Bool) (c : StringCursor
           stands = there.stands;
           is = rw (passes_as_read ∙ y, moved_on, ends there.end there.test there.stands) refl;
         })) h;
+    confines = turn_confines r.words r.subject (Instruction i) (Instruction end) c.position after.position
+        (λ fs m. at_test o f w (record {
+          end = there.end;
+          test = there.test;
+          stands = there.stands;
+          is = rw (passes_as_read ∙ y, moved_on, ends there.end there.test there.stands) refl;
+        }));
   }
 
 -- a literal demands its character, and nothing comes of a mark behind which nothing comes

@@ -17,6 +17,8 @@ use Rattle.sre_model.specs.Roles.{ToBranch}
 use Rattle.sre_turns.specs.declared.Next.TheVariants as next
 use Rattle.sre_model.proofs.Words.{word_within}
 use Rattle.sre_turns.proofs.Faring.{second_less, alternatives_free}
+use Rattle.sre_model.specs.Marks.{no_marks}
+use Rattle.sre_turns.proofs.Confining.{confined_leads}
 use Rattle.sre_turns.proofs.Moving.{at_instruction, has_run, run_goes, run_splits, turn_stops, turn_goes, turn_splits}
 use Rattle.sre_turns.proofs.Moving.{run_nothing, run_second, arrived}
 
@@ -100,4 +102,7 @@ alternatives_pass r q v c w l stands none = record {
       (spot_at (Instruction (q + 1)) fs c.position m) (spot_at (Alternatives (q + v)) fs c.position m)
       alternatives_free (alternatives_move r.words r.subject q v (spot_at (Alternatives q) fs c.position m) refl w l)
       h;
+  confines = λ fs h.
+      (confined_leads r.words r.subject (spot_at (Alternatives q) fs c.position no_marks) _
+      (alternatives_move r.words r.subject q v (spot_at (Alternatives q) fs c.position no_marks) refl w l) h).1;
 }

@@ -82,6 +82,7 @@ repeat_further r i v c b b' n w wv we h all limit g =
                   );
             };
           };
+      confined = at.confined;
     } in
     later_again r all limit n b' begun.0 (h all (earlier limit) goes)
 

@@ -16,7 +16,12 @@ use Rattle.sre_turns.specs.declared.Point.{Point}
 use Rattle.sre_turns.specs.declared.Frame.{Frame}
 use Rattle.sre_turns.specs.Moves.{Spot, spot_at, Stop, Go, Enter, closing_move}
 use Rattle.sre_turns.specs.MovesInRegions.{look}
+use Rattle.sre_turns.specs.Bodies.{MarklessRegions}
+use Rattle.sre_turns.specs.Confining.{ConfinedInside, AllConfined, ChoicesConfined, StandsConfined}
+use Rattle.sre_turns.specs.Fruit.{is_inside}
+use Rattle.sre_turns.specs.Nested.{repeats, ClosesAt}
 use Rattle.sre_turns.specs.Settled.{Regionless}
+use Rattle.sre_turns.proofs.Confining.{region_confined}
 use Rattle.sre_turns.proofs.Faring.{region_waits}
 use Rattle.sre_turns.specs.Limits.{Limit, earlier}
 use Rattle.sre_turns.specs.Machine.{Moves, Runs, Comes, stops, goes, Waits, kept, Goes, Arrives, Placed, Ends}
@@ -103,28 +108,41 @@ look_step r sign i v back c c' b b' h l place there eb all limit g =
 
 -- a body has an outcome at a cursor: what comes of the region that is cut
 module _ (r : Run) (c d : StringCursor) (b b' : BoardValue) where
+  -- where it goes on, and what waits, as the region told it
+  abbrev Closing : Region → Type 0
+  Closing g = MarklessRegions r.words
+      → ClosesAt (ConfinedInside r.words (is_inside b'.choices)) g b'.frames × AllConfined r.words b'.choices
+
+  goes_on : {x : Spot}
+      → ConfinedInside r.words (is_inside b'.choices) x.point (repeats x.frames) × AllConfined r.words b'.choices
+      → StandsConfined r.words x b'.choices
+  goes_on f = record { here = f.0; others = record { each = f.1 } }
+
   -- nothing comes of it
-  ends_stop : (Regionless r → ⊥) → {x : Spot} {all os : List Way} (limit : Limit) {n k j later : ℕ}
+  ends_stop : (Regionless r → ⊥) → (MarklessRegions r.words → ChoicesConfined r.words b'.choices)
+      → {x : Spot} {all os : List Way} (limit : Limit) {n k j later : ℕ}
       → Comes r.words r.subject x Stop os n
       → Waits r b'.choices (0 + n) os all k → n + k ≤ j → j ≤ later → later + 1 ≤ limit.turns
       → Later r all limit next.Back b'
-  ends_stop never limit stops wt e l m = (
+  ends_stop never lies limit stops wt e l m = (
     omega arith,
     record {
       later = _;
       waits = sooner (0 + 1) 0 (omega arith) wt;
       within = omega arith;
       fares = λ pl. absurd (never pl);
+      confined = lies;
     },
   )
 
   -- it goes on at a cursor
   ends_go : (Regionless r → ⊥) → {x : Spot} {all os : List Way} (limit : Limit) {n k j later : ℕ} (pt : Point)
-      (at : StringCursor) → r.stands at at.position → Placed r.subject b.marks → b'.marks ≡ b.marks
+      (at : StringCursor) → (MarklessRegions r.words → StandsConfined r.words (spot pt at b') b'.choices)
+      → r.stands at at.position → Placed r.subject b.marks → b'.marks ≡ b.marks
       → Comes r.words r.subject x (Go (spot_at pt b'.frames at.position b.marks)) os n
       → Waits r b'.choices (0 + n) os all k → n + k ≤ j → j ≤ later → later + 1 ≤ limit.turns
       → (1 ≤ limit.turns) × Arrives r all (earlier limit) pt at b'
-  ends_go never {x} {all} {os} limit {n} {k} pt at there placed em (goes {n = n'} e) wt same l m =
+  ends_go never {x} {all} {os} limit {n} {k} pt at lies there placed em (goes {n = n'} e) wt same l m =
       let moved : Runs r.words r.subject (spot pt at b') os n' =
       subst (λ ms. Runs r.words r.subject (spot_at pt b'.frames at.position ms) os n') (sym em) e in (
         omega arith,
@@ -138,55 +156,62 @@ module _ (r : Run) (c d : StringCursor) (b b' : BoardValue) where
           waits = sooner (0 + suc n') (n' + 1) (omega arith) wt;
           within = omega arith;
           fares = λ pl o w. absurd (never pl);
+          confined = lies;
         },
       )
 
-  region_ends : (Regionless r → ⊥) → (g : Region) (m : Marks) (us all : List Way) (limit : Limit) (j later : ℕ)
+  region_ends : (Regionless r → ⊥) → (g : Region) → Closing g
+      → (m : Marks) (us all : List Way) (limit : Limit) (j later : ℕ)
       → b'.marks ≡ b.marks
       → r.stands c c.position → Placed r.subject b.marks
       → Waits r (Keep g b'.frames d m ∷ b'.choices) 0 (record { stop = c.position; marks = b.marks } ∷ us) all j
       → j ≤ later → later + 1 ≤ limit.turns → Later r all limit (after_outcome g c d) b'
-  region_ends never (AtomicGroup t) m us all limit j later em there placed (kept at _ f wt) l k =
-      ends_go never limit (Instruction t) c there placed em f wt (omega arith) l k
-  region_ends never (Ahead t) m us all limit j later em there placed (kept at _ f wt) l k =
-      ends_go never limit (Instruction t) d at placed em f wt (omega arith) l k
-  region_ends never (NotAhead t) m us all limit j later em there placed (kept at _ f wt) l k =
-      ends_stop never limit f wt (omega arith) l k
-  region_ends never Owed m us all limit j later em there placed (kept at _ f wt) l k =
-      ends_go never limit Again c there placed em f wt (omega arith) l k
-  region_ends never (Further t) m us all limit j later em there placed (kept at _ f wt) l k =
-      ends_go never limit Again c there placed em f wt (omega arith) l k
+  region_ends never (AtomicGroup t) lies m us all limit j later em there placed (kept at _ f wt) l k =
+      ends_go never limit (Instruction t) c (λ none. goes_on (lies none)) there placed em f wt (omega arith) l k
+  region_ends never (Ahead t) lies m us all limit j later em there placed (kept at _ f wt) l k =
+      ends_go never limit (Instruction t) d (λ none. goes_on (lies none)) at placed em f wt (omega arith) l k
+  region_ends never (NotAhead t) lies m us all limit j later em there placed (kept at _ f wt) l k =
+      ends_stop never (λ none. record { each = (lies none).1 }) limit f wt (omega arith) l k
+  region_ends never Owed lies m us all limit j later em there placed (kept at _ f wt) l k =
+      ends_go never limit Again c (λ none. goes_on (lies none)) there placed em f wt (omega arith) l k
+  region_ends never (Further t) lies m us all limit j later em there placed (kept at _ f wt) l k =
+      ends_go never limit Again c (λ none. goes_on ((lies none).0.0, (lies none).1)) there placed em f wt (omega arith) l k
 
   pub region_closes : (g : Region) → Cuts b g d b' → (all : List Way) (limit : Limit) → Ends r all limit c b
       → Later r all limit (after_outcome g c d) b'
   region_closes g cut all limit e =
       let u = cut_waits r b.choices b'.choices g b'.frames d cut.entered
       (record { stop = c.position; marks = b.marks }) [] all e.later cut.region e.waits in
-      region_ends (λ pl. region_waits r pl limit 2 b.choices cut.region
-      (e.fares pl)) g cut.entered u.0 all limit u.1 e.later cut.marks e.stands e.placed u.3 u.2 e.within
+      region_ends (λ pl. region_waits r pl limit 2 b.choices cut.region (e.fares pl)) g
+      (λ none. subst (λ x. AllConfined r.words x) cut.region (region_confined r.words b.choices (e.confined none).each))
+      cut.entered u.0 all limit u.1 e.later cut.marks e.stands e.placed u.3 u.2 e.within
 
 -- a body has no outcome
 module _ (r : Run) (c : StringCursor) (b' : BoardValue) where
-  back_stop : (Regionless r → ⊥) → {x : Spot} {all os : List Way} (limit : Limit) {n k : ℕ}
+  back_stop : (Regionless r → ⊥) → (MarklessRegions r.words → ChoicesConfined r.words b'.choices)
+      → {x : Spot} {all os : List Way} (limit : Limit) {n k : ℕ}
       → Comes r.words r.subject x Stop os n
       → Waits r b'.choices (0 + n) os all k → n + k ≤ limit.turns → Later r all limit next.Back b'
-  back_stop never limit stops wt l = (
+  back_stop never lies limit stops wt l = (
     omega arith,
     record {
       later = _;
       waits = sooner (0 + 1) 0 (omega arith) wt;
       within = omega arith;
       fares = λ pl. absurd (never pl);
+      confined = lies;
     },
   )
 
   back_go : (Regionless r → ⊥) → {x : Spot} {all os : List Way} (limit : Limit) {n k : ℕ} (t : ℕ) (fs : List Frame)
+      → (MarklessRegions r.words
+      → ConfinedInside r.words (is_inside b'.choices) (Instruction t) (repeats fs) × AllConfined r.words b'.choices)
       → r.stands c c.position
       → Placed r.subject b'.marks
       → Comes r.words r.subject x (Go (spot_at (Instruction t) fs c.position b'.marks)) os n
       → Waits r b'.choices (0 + n) os all k → n + k ≤ limit.turns → Later r all limit (next.At t c)
       (record b' { frames = fs })
-  back_go never limit t fs there placed (goes {n = n'} e) wt l = (
+  back_go never limit t fs lies there placed (goes {n = n'} e) wt l = (
     omega arith,
     record {
       now = _;
@@ -198,15 +223,22 @@ module _ (r : Run) (c : StringCursor) (b' : BoardValue) where
       waits = sooner (0 + suc n') (n' + 1) (omega arith) wt;
       within = omega arith;
       fares = λ pl o w. absurd (never pl);
+      confined = λ none. let f = lies none in record { here = f.0; others = record { each = f.1 } };
     },
   )
 
-  pub region_back : (Regionless r → ⊥) → (g : Region) (all : List Way) (limit : Limit) (k : ℕ)
+  pub region_back : (Regionless r → ⊥) → (g : Region)
+      → (MarklessRegions r.words → AllConfined r.words (Keep g b'.frames c b'.marks ∷ b'.choices))
+      → (all : List Way) (limit : Limit) (k : ℕ)
       → Waits r (Keep g b'.frames c b'.marks ∷ b'.choices) 0 [] all k → k ≤ limit.turns
       → Later r all limit (without_outcome g c) (without_loop g b')
-  region_back never (AtomicGroup t) all limit k (kept at _ f wt) l = back_stop never limit f wt l
-  region_back never (Ahead t) all limit k (kept at _ f wt) l = back_stop never limit f wt l
-  region_back never (NotAhead t) all limit k (kept at placed f wt) l = back_go never limit t b'.frames at placed f wt l
-  region_back never Owed all limit k (kept at _ f wt) l = back_stop never limit f wt l
-  region_back never (Further t) all limit k (kept at placed f wt) l =
-      back_go never limit t (drop 1 b'.frames) at placed f wt l
+  region_back never (AtomicGroup t) lies all limit k (kept at _ f wt) l =
+      back_stop never (λ none. record { each = (lies none).1 }) limit f wt l
+  region_back never (Ahead t) lies all limit k (kept at _ f wt) l =
+      back_stop never (λ none. record { each = (lies none).1 }) limit f wt l
+  region_back never (NotAhead t) lies all limit k (kept at placed f wt) l =
+      back_go never limit t b'.frames lies at placed f wt l
+  region_back never Owed lies all limit k (kept at _ f wt) l =
+      back_stop never (λ none. record { each = (lies none).1 }) limit f wt l
+  region_back never (Further t) lies all limit k (kept at placed f wt) l =
+      back_go never limit t (drop 1 b'.frames) (λ none. ((lies none).0.1, (lies none).1)) at placed f wt l

@@ -14,9 +14,11 @@ use Rattle.sre_turns.specs.declared.Next.TheVariants as next
 use Rattle.sre_turns.specs.Limits.{Limit, with_tried, without_tried, Stage, Going, Splitting, spare, Fares}
 use Rattle.sre_turns.specs.Settled.{Regionless}
 use Rattle.sre_turns.specs.Machine.{Runs, Waits, tried, GoesWith, Goes, Arrives, Tries, Backs, Later, spot}
+use Rattle.sre_turns.specs.Confining.{ChoicesConfined}
 use Rattle.sre_turns.specs.Fruit.{Fruitless, is_inside}
 use Rattle.sre_turns.specs.Alike.{Alike, LoopsAlike, least_from}
 use Rattle.sre_turns.specs.Hopeless.{Hopeless, AcceptsByStop}
+use Rattle.sre_turns.proofs.FirstOutcomes.{first_none}
 use Rattle.sre_turns.proofs.Hopeless.{hopeless_again, fruitless_waits, fruitless_none}
 use Rattle.sre_turns.specs.Potential.{potential_of}
 use Rattle.sre_turns.proofs.Moving.{sooner, some_turns}
@@ -36,7 +38,7 @@ tried_with stage none r i c b b' e all limit g =
       stands = g.stands;
       placed = g.placed;
       runs = g.runs;
-      waits = tried g.stands g.placed g.runs (omega (arith, none)) (λ none_. none_) g.waits;
+      waits = tried g.stands g.placed g.runs (omega (arith, none)) refl g.waits;
       within = g.within;
       fares = λ pl o w.
           let f = g.fares pl o w in
@@ -48,6 +50,8 @@ tried_with stage none r i c b b' e all limit g =
               left = omega (arith, f.fares.left);
             };
           };
+      confined = λ none.
+          let f = g.confined none in record { here = f.here; others = record { each = (f.here, f.others.each) } };
     })
 
 -- so it is where its turn is under way
@@ -81,7 +85,13 @@ tried_waits r i c b b' e all limit g = go (subst (λ x. Waits r x 0 [] all g.lat
 
     go : {k : ℕ} → Waits r (Trying i b'.frames c b'.marks ∷ b'.choices) 0 [] all k → k ≤ limit.turns
         → Backs r all (without_tried limit) b'
-    go (tried {k = k} there placed d most same wt) l = record { later = k; waits = wt; within = l; fares = left }
+    go (tried {k = k} there placed d most same wt) l = record {
+      later = k;
+      waits = wt;
+      within = l;
+      fares = left;
+      confined = λ none. record { each = (subst (λ x. ChoicesConfined r.words x) e (g.confined none)).each.1 };
+    }
 
 -- what comes of a spot, which is nothing
 pub record CameToNothing (r : Run) (inside : Bool) (x : Spot) : Type 0 where
@@ -104,7 +114,12 @@ tried_came r i c b b' e all limit g = go (subst (λ x. Waits r x 0 [] all g.late
     go : {k : ℕ} → Waits r (Trying i b'.frames c b'.marks ∷ b'.choices) 0 [] all k
         → CameToNothing r (is_inside b'.choices) (spot (Instruction i) c b')
     go (tried {n = n} {os = os} there placed d most same wt) =
-        record { outcomes = os; turns = n; runs = d; fruitless = same (fruitless_none r (is_inside b'.choices)) }
+        record {
+          outcomes = os;
+          turns = n;
+          runs = d;
+          fruitless = first_none _ _ same (fruitless_none r (is_inside b'.choices));
+        }
 
 -- so it is hopeless under marks that are alike
 pub tried_hopeless : (r : Run) → AcceptsByStop r → (i : ℕ) (c : StringCursor) (b b' : BoardValue) (m : Marks)
@@ -145,5 +160,6 @@ hopeless_left r i c b m alike hopeless all limit g =
             let code = run_code r x g.runs in
             fares_earlier r pl limit b.choices 0 (potential_of r.words r.subject.end x) (omega arith)
             (g.fares pl code.0 code.1).fares;
+        confined = λ none. (g.confined none).others;
       },
     )

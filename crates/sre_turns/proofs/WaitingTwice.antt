@@ -14,19 +14,19 @@ use Rattle.sre_turns.specs.declared.Next.TheVariants as next
 use Rattle.sre_turns.specs.Limits.{Limit, earlier}
 use Rattle.sre_turns.specs.Moves.{Spot, Move, Stop, End, Go, Split, Enter, closing_move}
 use Rattle.sre_turns.specs.MovesAtReferences.{HasReference}
-use Rattle.sre_turns.specs.Hopeless.{AcceptsByStop, Fruitless, is_inside}
+use Rattle.sre_turns.specs.Hopeless.{AcceptsByStop, SameFruit, is_inside}
 use Rattle.sre_turns.specs.Machine.{Runs, turns, Comes, stops, ends, goes, splits, enters, Waits, outermost, otherwise}
 use Rattle.sre_turns.specs.Machine.{kept, tried, Arrives, Later, spot}
-use Rattle.sre_turns.proofs.FirstOutcomes.{SameFirsts, first_none, firsts_append, firsts_begin, closes_same}
+use Rattle.sre_turns.proofs.FirstOutcomes.{SameFirsts, firsts_append, firsts_begin, closes_same}
 use Rattle.sre_turns.proofs.FirstOutcomes.{firsts_again}
 use Rattle.sre_turns.proofs.Moving.{comes, sooner}
 use Rattle.sre_turns.proofs.SameComes.{marks_apart}
 
--- where nothing comes of some outcomes nothing comes of those that begin with the same
-fruitless_alike : (r : Run) → AcceptsByStop r → (inside : Bool) (xs ys : List Way) → SameFirsts xs ys
-    → Fruitless r inside ys → Fruitless r inside xs
-fruitless_alike r told true xs ys h e = first_none xs ys (firsts_begin xs ys h) e
-fruitless_alike r told false xs ys h e = first_none _ _ (h r.accepts told) e
+-- of outcomes that begin with the same under each test the first that counts is the same
+fruit_alike : (r : Run) → AcceptsByStop r → (inside : Bool) (xs ys : List Way) → SameFirsts xs ys
+    → SameFruit r inside xs ys
+fruit_alike r told true xs ys h = firsts_begin xs ys h
+fruit_alike r told false xs ys h = h r.accepts told
 
 -- what waits behind some outcomes waits behind all that begin with the same under each test
 pub waits_alike : (r : Run) → AcceptsByStop r → (cs : List Choice) (xs ys : List Way) {all : List Way} {u k : ℕ}
@@ -37,8 +37,7 @@ waits_alike r told (Else pt fs c m ∷ cs) xs ys h (otherwise {os = os} there pl
 waits_alike r told (Keep g fs c m ∷ cs) xs ys h (kept {pt = pt} there placed d wt) =
     kept {pt = pt} there placed (rw (closes_same g _ xs ys (firsts_begin xs ys h)) at d) wt
 waits_alike r told (Trying i fs c m ∷ cs) xs ys h (tried there placed d most same wt) =
-    tried there placed d most (λ none_. same (fruitless_alike r told (is_inside cs) xs ys h none_))
-    (waits_alike r told cs xs ys h wt)
+    tried there placed d most (same ∙ fruit_alike r told (is_inside cs) xs ys h) (waits_alike r told cs xs ys h wt)
 
 -- what comes of a spot is determined
 module _ (ws : List ℕ) (s : Subject) where
@@ -52,7 +51,8 @@ module _ (ws : List ℕ) (s : Subject) where
     comes_same End ends ends = refl
     comes_same (Go y) (goes d) (goes e) = runs_same d e
     comes_same (Split y z) (splits d d') (splits e e') = rw (runs_same d e, runs_same d' e') refl
-    comes_same {x} (Enter g y z) (enters {now = now} d d') (enters {now = after} {os = us} {n₂ = k₂} e e') =
+    comes_same {x} (Enter g y z) (enters {now = now} lies d d')
+        (enters {now = after} {os = us} {n₂ = k₂} lies' e e') =
         comes_same (closing_move g y now) d'
         (subst (λ os. Comes ws s y (closing_move g y os) us k₂) (sym (runs_same d e)) e')
 
@@ -109,6 +109,10 @@ dropped_arrives r told i c matter b b' m same none e all limit g =
                   left = omega (arith, f.fares.left);
                 };
               };
+          confined = λ none. let f = a.confined none in record {
+            here = f.here;
+            others = record { each = f.others.each.1 };
+          };
         }
 
 -- a turn later, where it went or did not

@@ -1,20 +1,25 @@
--- What came of an instruction that was tried.
+-- What came of an instruction that is tried. The first of its outcomes that counts is the first that counts of what is
+-- to come: where the machine goes back nothing came, and where the body of a region ends that end is the first.
 -- Words of the machine's contracts; what sre_engine makes public does not rest on it.
 use Rattle.std.specs.Prelude.{◌≡◌, Bool, true, false, List, [], ◌∷◌}
 use Rattle.std.specs.List.{filter}
-use Rattle.sre_model.specs.Ways.{Way}
+use Rattle.sre_model.specs.Ways.{Way, first}
 use Rattle.sre_model.specs.Runs.{Run}
 use Rattle.sre_turns.specs.Board.{Choice, from_region}
 
--- that nothing came: inside a region, no outcome; outside all regions, none that is accepted
+-- what counts of some outcomes: inside a region each, outside all regions those that are accepted
+abbrev pub fruit : Run → Bool → List Way → List Way
+fruit r true os = os
+fruit r false os = filter r.accepts os
+
+-- that nothing came
 abbrev pub Fruitless : Run → Bool → List Way → Type 0
-Fruitless r true os = os ≡ []
-Fruitless r false os = filter r.accepts os ≡ []
+Fruitless r inside os = fruit r inside os ≡ []
+
+-- the first that counts of some outcomes is that of others
+abbrev pub SameFruit : Run → Bool → List Way → List Way → Type 0
+SameFruit r inside os now = first (fruit r inside os) ≡ first (fruit r inside now)
 
 -- whether what waits is inside a region
 abbrev pub is_inside : List Choice → Bool
 is_inside cs = elim (from_region cs) [ [] ↦ false | (c ∷ rest) ↦ true ]
-
--- nothing came of some outcomes where nothing comes of others
-abbrev pub FruitlessWith : Run → Bool → List Way → List Way → Type 0
-FruitlessWith r inside os now = Fruitless r inside now → Fruitless r inside os

@@ -6,6 +6,8 @@ pub mod MovesInLoops
 pub mod MovesInRegions
 pub mod MovesAtReferences
 pub mod Asked
+pub mod Lying
+pub mod Bodies
 pub mod Turning
 pub mod Alike
 pub mod Nested
@@ -14,6 +16,9 @@ pub mod Settled
 pub mod Limits
 pub mod Machine
 pub mod Fruit
+pub mod Confining
 pub mod Hopeless
 pub mod RunEnds
 pub mod OpenMarks
+pub mod BodyEnds
+pub mod Admitting

@@ -14,7 +14,10 @@ use Rattle.sre_model.specs.Ways.{Way, first, here, ways}
 use Rattle.sre_model.specs.Runs.{Run}
 use Rattle.sre_model.specs.Standing.{TestStands}
 use Rattle.sre_turns.specs.Board.{Choice, Else, Keep, Trying, BoardValue}
-use Rattle.sre_turns.specs.Fruit.{FruitlessWith, is_inside}
+use Rattle.sre_turns.specs.Bodies.{IsConfined, MarklessRegions}
+use Rattle.sre_turns.specs.Lying.{repeats}
+use Rattle.sre_turns.specs.Confining.{ChoicesConfined, StandsConfined, BothConfined}
+use Rattle.sre_turns.specs.Fruit.{SameFruit, is_inside}
 use Rattle.sre_turns.specs.declared.Frame.{Frame}
 use Rattle.sre_turns.specs.declared.Region.TheVariants.{AtomicGroup, Ahead, NotAhead, Owed, Further}
 use Rattle.sre_turns.specs.declared.Region.{Region}
@@ -53,7 +56,7 @@ pub data Waits (r : Run) : List Choice → ℕ → List Way → List Way → ℕ
       {cs : List Choice}
       → r.stands c c.position → Placed r.subject m
       → Runs r.words r.subject (spot_at (Instruction i) fs c.position m) os n → u ≤ n
-      → FruitlessWith r (is_inside cs) os now
+      → SameFruit r (is_inside cs) os now
       → Waits r cs u now all k → Waits r (Trying i fs c m ∷ cs) u now all k
 
 -- where the machine stands at a point and a cursor
@@ -75,6 +78,7 @@ pub record GoesWith (stage : Stage) (r : Run) (all : List Way) (limit : Limit) (
   pub within : turns + later ≤ limit.turns
   pub fares : (pl : Regionless r) (o : SreOpcode) → CodeAt r.words pt o
       → FaresAt r pl limit (share stage r.words r.subject.end o (spot pt c b)) (spot pt c b) b.choices
+  pub confined : MarklessRegions r.words → StandsConfined r.words (spot pt c b) b.choices
 
 -- its turn is under way: a mark for it may wait already
 abbrev pub Goes : Run → List Way → Limit → Point → StringCursor → BoardValue → Type 0
@@ -104,6 +108,7 @@ pub record GoesBoth (r : Run) (all : List Way) (limit : Limit) (first second : S
   pub waits : Waits r cs (turns + further + 2) (now ++ next) all later
   pub within : turns + further + later + 2 ≤ limit.turns
   pub fares : (pl : Regionless r) → FaresBoth r pl limit first second cs
+  pub confined : MarklessRegions r.words → BothConfined r.words first second cs
 
 -- the innermost region has no more outcomes
 pub record Backs (r : Run) (all : List Way) (limit : Limit) (b : BoardValue) : Type 0 where
@@ -111,6 +116,7 @@ pub record Backs (r : Run) (all : List Way) (limit : Limit) (b : BoardValue) : T
   pub waits : Waits r b.choices 0 [] all later
   pub within : later ≤ limit.turns
   pub fares : (pl : Regionless r) → Fares r pl limit 0 b.choices
+  pub confined : MarklessRegions r.words → ChoicesConfined r.words b.choices
 
 -- the innermost region ends at a cursor
 pub record Ends (r : Run) (all : List Way) (limit : Limit) (c : StringCursor) (b : BoardValue) : Type 0 where
@@ -120,6 +126,7 @@ pub record Ends (r : Run) (all : List Way) (limit : Limit) (c : StringCursor) (b
   pub waits : Waits r b.choices 0 (here c.position b.marks) all later
   pub within : later + 1 ≤ limit.turns
   pub fares : (pl : Regionless r) → Fares r pl limit 2 b.choices
+  pub confined : MarklessRegions r.words → ChoicesConfined r.words b.choices
 
 abbrev pub Stands : Run → List Way → Limit → Next → BoardValue → Type 0
 Stands r all limit (next.At i c) b = Arrives r all limit (Instruction i) c b
@@ -250,7 +257,8 @@ pub record Excludes (ws : List ℕ) (i : ℕ) (wanted : Option ℕ) : Type 0 whe
   pub known : wanted ≡ Some character
   pub each : (table : Table) (j : ℕ) (t : Test) → TestStands ws i j t → holds table t character ≡ false
 
--- what comes of one point and cursor comes of another, in no more turns, and with no more potential
+-- what comes of one point and cursor comes of another, in no more turns, and with no more potential; and where the one
+-- lies in the body of a region, the other does
 pub record Continues (r : Run) (pt : Point) (c : StringCursor) (pt' : Point) (c' : StringCursor) : Type 0 where
   pub stands : r.stands c' c'.position
   pub runs : (fs : List Frame) (m : Marks) (os : List Way) (n : ℕ)
@@ -261,6 +269,7 @@ pub record Continues (r : Run) (pt : Point) (c : StringCursor) (pt' : Point) (c'
       → SettledIn r pl start (spot_at pt' fs c'.position m)
       × (potential_of r.words r.subject.end (spot_at pt' fs c'.position m)
       ≤ potential_of r.words r.subject.end (spot_at pt fs c.position m))
+  pub confines : (fs : List Frame) → IsConfined r.words pt (repeats fs) → IsConfined r.words pt' (repeats fs)
 
 -- the character at a cursor inside the window, and the cursor behind it
 pub record IsRead (r : Run) (c : StringCursor) (ch : ℕ) (after : StringCursor) : Type 0 where

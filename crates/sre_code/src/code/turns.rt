@@ -28,21 +28,17 @@ fn has_room(places: u64, positions: u64, slots: u64) -> bool
 fn turns_by(places: u64, positions: u64, slots: u64, ways: u64, counts: u64) -> u64
     ensures { result ≡ min (turns_by places positions slots ways counts) (2 ^ 64 - 1) }
 {
-    let doubled = places.saturating_mul(2);
-    let each = doubled.saturating_add(4);
-    let starts = positions.saturating_mul(each);
-    let shapes = places.saturating_mul(slots);
-    let spots = shapes.saturating_mul(positions);
-    let both = spots.saturating_mul(2);
-    let tried = ways.saturating_add(1);
-    let tries = both.saturating_mul(tried);
+    let own = places.saturating_mul(2).saturating_add(4);
     let further = places.saturating_add(3);
-    let between = further.saturating_mul(4);
-    let turns = tries.saturating_mul(between);
-    let sum = starts.saturating_add(turns);
-    let long = sum.saturating_mul(counts / 8 + 1);
-    let waits = positions.saturating_mul(64);
-    waits.saturating_add(long)
+    let fourfold = places.saturating_mul(4);
+    let shapes = fourfold.saturating_mul(further);
+    let spots = shapes.saturating_mul(slots);
+    let tried = ways.saturating_add(1);
+    let tries = spots.saturating_mul(tried);
+    let turns = own.saturating_add(tries);
+    let long = turns.saturating_mul(counts / 8 + 1);
+    let each = long.saturating_add(32);
+    positions.saturating_mul(each)
 }
 
 /// One turn more than are enough on a text of so many characters, of items of which this was passed; none where there

@@ -18,25 +18,21 @@ returns c =
     let two : Held 2 2 = held_same 2 (omega arith) in
     let three : Held 3 3 = held_same 3 (omega arith) in
     let four : Held 4 4 = held_same 4 (omega arith) in
-    let many : Held 64 64 = held_same 64 (omega arith) in
-    let doubled = held_times p 2 p 2 _ ps two c.saturating_mul-doubled.ensures in
-    let each = held_plus (p * 2) 4 _ 4 _ doubled four c.saturating_add-each.ensures in
-    let starts = held_times f (p * 2 + 4) f _ _ fs each c.saturating_mul-starts.ensures in
-    let shapes = held_times p s p s _ ps ss c.saturating_mul-shapes.ensures in
-    let spots = held_times (p * s) f _ f _ shapes fs c.saturating_mul-spots.ensures in
-    let both = held_times (p * s * f) 2 _ 2 _ spots two c.saturating_mul-both.ensures in
-    let tried = held_plus w 1 w 1 _ ws one c.saturating_add-tried.ensures in
-    let tries = held_times (p * s * f * 2) (w + 1) _ _ _ both tried c.saturating_mul-tries.ensures in
+    let many : Held 32 32 = held_same 32 (omega arith) in
+    let doubled = held_times p 2 p 2 _ ps two c.saturating_mul.ensures in
+    let own = held_plus (p * 2) 4 _ 4 _ doubled four c.saturating_add-own.ensures in
     let further = held_plus p 3 p 3 _ ps three c.saturating_add-further.ensures in
-    let between = held_times (p + 3) 4 _ 4 _ further four c.saturating_mul-between.ensures in
+    let fourfold = held_times p 4 p 4 _ ps four c.saturating_mul-fourfold.ensures in
+    let shapes = held_times (p * 4) (p + 3) _ _ _ fourfold further c.saturating_mul-shapes.ensures in
+    let spots = held_times (p * 4 * (p + 3)) s _ s _ shapes ss c.saturating_mul-spots.ensures in
+    let tried = held_plus w 1 w 1 _ ws one c.saturating_add-tried.ensures in
+    let tries = held_times (p * 4 * (p + 3) * s) (w + 1) _ _ _ spots tried c.saturating_mul-tries.ensures in
     let turns =
-    held_times (p * s * f * 2 * (w + 1)) ((p + 3) * 4) _ _ _ tries between c.saturating_mul-turns.ensures in
-    let sum =
-    held_plus (f * (p * 2 + 4)) (p * s * f * 2 * (w + 1) * ((p + 3) * 4)) _ _ _ starts turns
-    c.saturating_add-sum.ensures in
+    held_plus (p * 2 + 4) (p * 4 * (p + 3) * s * (w + 1)) _ _ _ own tries c.saturating_add-turns.ensures in
     let long =
-    held_times (f * (p * 2 + 4) + p * s * f * 2 * (w + 1) * ((p + 3) * 4)) k _ k _ sum ks
-    c.saturating_mul-long.ensures in
-    let waits = held_times f 64 f 64 _ fs many c.saturating_mul-waits.ensures in
-    (held_plus (f * 64) ((f * (p * 2 + 4) + p * s * f * 2 * (w + 1) * ((p + 3) * 4)) * k) _ _ _ waits long
-    c.saturating_add.ensures).is
+    held_times (p * 2 + 4 + p * 4 * (p + 3) * s * (w + 1)) k _ k _ turns ks c.saturating_mul-long.ensures in
+    let each =
+    held_plus ((p * 2 + 4 + p * 4 * (p + 3) * s * (w + 1)) * k) 32 _ 32 _ long many c.saturating_add-each.ensures in
+    let all =
+    held_times f ((p * 2 + 4 + p * 4 * (p + 3) * s * (w + 1)) * k + 32) _ _ _ fs each c.saturating_mul-2.ensures in
+    omega (arith, all.is)

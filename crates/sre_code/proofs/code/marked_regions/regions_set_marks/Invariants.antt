@@ -1,0 +1,9 @@
+use Rattle.std.proofs.Common.{◌-◌, length}
+use Rattle.sre_code.proofs.MarksOutside.{ScannedTo}
+use Rattle.sre_code.proofs.code.marked_regions.regions_set_marks.Given as goal
+
+abbrev pub invariant-word : goal.invariant-word
+invariant-word l = ScannedTo l.items l.place l.farthest
+
+abbrev pub decreases-word : goal.decreases-word
+decreases-word l = length l.items - l.place

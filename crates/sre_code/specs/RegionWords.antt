@@ -1,0 +1,21 @@
+-- Words of regions, which are atomic groups, looks and possessive loops: up to where a body stands behind an opcode.
+-- Words of the check's contracts; what sre_engine makes public does not rest on it.
+use Rattle.std.specs.Prelude.{ℕ, ◌+◌, ◌-◌, ◌≡◌, List, Option, Some, None}
+use Rattle.sre_chars.specs.declared.constants.SreOpcode.{SreOpcode}
+use Rattle.sre_chars.specs.declared.constants.SreOpcode.TheVariants as opcode
+use Rattle.sre_model.specs.Roles.{Role, ToRepeatPossessively, ToGroupAtomically, ToLook, role}
+use Rattle.sre_model.specs.Grammar.{Opcode, skip}
+
+-- where the SUCCESS stands that ends a region's body, by where its skip leads: there, or before it; None for others
+abbrev pub closing_place : Role → ℕ → Option ℕ
+closing_place ToRepeatPossessively tail = Some tail
+closing_place ToGroupAtomically tail = Some (tail - 1)
+closing_place (ToLook sign) tail = Some (tail - 1)
+closing_place _ tail = None
+
+-- at i stands a region whose body ends at e, or operands that look like one
+pub record RegionWord (ws : List ℕ) (i e : ℕ) : Type 0 where
+  pub code : SreOpcode
+  pub there : Opcode ws i code
+  pub ends : closing_place (role code) (skip ws (i + 1)) ≡ Some e
+  pub closed : Opcode ws e opcode.SUCCESS

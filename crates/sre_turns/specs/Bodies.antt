@@ -1,0 +1,35 @@
+-- Bodies of regions that set no mark, where points lie in one, and words whose regions all have such a body.
+-- Words of the machine's contracts; what sre_engine makes public does not rest on it.
+use Rattle.std.specs.Prelude.{ℕ, ◌≡◌, false, List, []}
+use Rattle.sre_chars.specs.declared.constants.SreOpcode.TheVariants as opcode
+use Rattle.sre_model.specs.Tree.{Tree}
+use Rattle.sre_model.specs.MarksSet.{sets_mark, marks_in_regions}
+use Rattle.sre_model.specs.Grammar.{Opcode, Reads, WholeItems}
+use Rattle.sre_turns.specs.declared.Point.{Point}
+use Rattle.sre_turns.specs.Moves.{Spot}
+use Rattle.sre_turns.specs.Lying.{repeats, LiesIn}
+
+-- the body of a region that sets no mark: its words, and the SUCCESS behind them
+pub record MarklessBody (ws : List ℕ) : Type 0 where
+  pub start : ℕ
+  pub end : ℕ
+  pub tree : Tree
+  pub reads : Reads ws start end tree
+  pub ends : Opcode ws end opcode.SUCCESS
+  pub markless : sets_mark tree ≡ false
+
+-- a point lies in such a body, under these loops of the body alone
+abbrev pub LiesInBody : (ws : List ℕ) → MarklessBody ws → Point → List ℕ → Type 0
+LiesInBody ws b pt ks = LiesIn ws b.start b.end b.tree b.reads [] pt ks
+
+-- it lies in one of them
+abbrev pub IsConfined : List ℕ → Point → List ℕ → Type 0
+IsConfined ws pt ks = (b : MarklessBody ws) × LiesInBody ws b pt ks
+
+-- a spot does
+abbrev pub Confined : List ℕ → Spot → Type 0
+Confined ws x = IsConfined ws x.point (repeats x.frames)
+
+-- no region of the words sets a mark, whatever tree they have
+pub record MarklessRegions (ws : List ℕ) : Type 0 where
+  pub none : (t : Tree) → WholeItems ws t → marks_in_regions t ≡ false
