@@ -6,6 +6,7 @@ pub mod AlikeBySlot
 pub mod SlotsThere
 pub mod Remembering
 pub mod KeptSpots
+mod OpenSpots
 pub mod CountingBits
 pub mod KeptStill
 pub mod RowNumbers
@@ -21,3 +22,4 @@ pub mod LoopsRead
 pub mod OwnedBits
 pub mod AccountLaws
 pub mod Prepared
+pub mod EndsKept

@@ -1,6 +1,8 @@
 -- The choices of a board, which share one trail and one table of chains.
 -- Words of private contracts: the value of a board is `BoardValue` of sre_turns.
 use Rattle.std.specs.Prelude.{ℕ, ◌+◌, ◌<◌, ◌≤◌, cond, nat_eq, List, [], ◌∷◌, map, reverse, slice_index_or}
+use Rattle.std.specs.Prelude.{◌≡◌, Some, slice_get}
+use Rattle.sre_chars.specs.declared.string.StringCursor.{StringCursor}
 use Rattle.sre_model.specs.Marks.{Marks, no_marks}
 use Rattle.sre_board.specs.Trail.{Trail, states}
 use Rattle.sre_turns.specs.Board.{Choice, choice, BoardValue}
@@ -20,6 +22,10 @@ board_of t chains frame saved = record {
   marks = t.now;
   choices = map (choice_of chains (states t)) (reverse saved);
 }
+
+-- a choice waits below so many: to go on at a point and a cursor, under these loops and some marks
+abbrev pub WaitsAt : List Choice → ℕ → Point → List Frame → StringCursor → Type 0
+WaitsAt cs depth pt fs c = (m : Marks) × (slice_get cs depth ≡ Some (choice pt fs c m))
 
 -- newest first, where there are n chains and c changes: none rests on a chain or a change that came after it
 abbrev pub Fits : List Saved → ℕ → ℕ → Type 0

@@ -4,3 +4,4 @@ pub mod Choices
 pub mod Failures
 pub mod Apart
 pub mod Accounts
+pub mod Ends

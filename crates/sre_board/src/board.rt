@@ -4,13 +4,13 @@
 //! one table of chains, and a chain is forgotten as soon as no choice can come back to it.
 
 ghost use Rattle.std.specs.Prelude.{◌≡◌, ℕ, ◌<◌, ◌≤◌, [], ◌∷◌, drop, length, reverse, IfOk, MatchOption};
-ghost use Rattle.std.specs.Prelude.{true, false, slice_index_or};
+ghost use Rattle.std.specs.Prelude.{true, false, slice_index_or, IfSome, ◌+◌, ◌^◌};
 ghost use Rattle.sre_model.specs.Marks.{no_marks, set_mark, group};
 ghost use Rattle.sre_growth.specs.Refusal.{Refused};
 ghost use Rattle.sre_turns.specs.Board.{Keep, Trying, choice, from_region, Cuts, Dropped, bare};
 ghost use Rattle.sre_turns.specs.Fruit.{is_inside};
 ghost use Rattle.sre_turns.specs.declared.Point.TheVariants.{Instruction, Inside};
-ghost use Rattle.sre_board.specs.Choices.{Fits, regions_of, down_to_region};
+ghost use Rattle.sre_board.specs.Choices.{Fits, regions_of, down_to_region, WaitsAt};
 
 use crate::chains::{Chains, frame_of};
 use crate::marks::Marks;
@@ -189,6 +189,20 @@ impl<A: Allocator> Board<A> {
         ensures frames { slice_index_or result.0.now result.1 [] ≡ self.now.frames }
     {
         (&self.chains, self.frame)
+    }
+
+    /// What was saved with the choice that stands so many below the newest one, and the chains, of which its own is one.
+    #[inline(always)]
+    pub(crate) fn saved(&self, depth: usize) -> Option<(&Chains<A>, Saved)>
+        ensures room { IfSome result (λ _. depth + 1 < 2 ^ 64) }
+        ensures waits { MatchOption result (length self.now.choices ≤ depth)
+            (λ x. (x.1.frame < length x.0.now)
+            × WaitsAt self.now.choices depth x.1.point (slice_index_or x.0.now x.1.frame []) x.1.cursor) }
+    {
+        if depth >= self.choices.len() {
+            return None;
+        }
+        Some((&self.chains, self.choices[self.choices.len() - 1 - depth]))
     }
 
     /// Takes all away but what was counted, which is of a whole search; the memory is kept.

@@ -7,23 +7,22 @@
 //! A row is for the loops that were in progress when it was made, so a spot under others has no bit. Nothing is
 //! expected of the words: where one is missing there is no bit either.
 
-ghost use Rattle.std.specs.Prelude.{◌≡◌, ℕ, ◌+◌, ◌-◌, ◌*◌, ◌^◌, ◌<◌, ◌≤◌, true, false, List, []};
-ghost use Rattle.std.specs.Prelude.{◌∷◌, if◌then◌else◌, is_ok};
-ghost use Rattle.std.specs.Prelude.{◌++◌, ◌≢◌, length, MatchOption, Some, IfOk, slice_get, slice_index_or};
-ghost use Rattle.sre_turns.specs.Alike.{is_last};
+ghost use Rattle.std.specs.Prelude.{◌≡◌, ◌≢◌, ℕ, ◌+◌, ◌-◌, ◌*◌, ◌^◌, ◌<◌, ◌≤◌, true, false, [], ◌∷◌, ◌++◌, length};
+ghost use Rattle.std.specs.Prelude.{if◌then◌else◌, is_ok, MatchOption, Some, IfOk, IfSome, slice_get, slice_index_or};
+ghost use Rattle.sre_model.specs.Marks.{Marks};
 ghost use Rattle.sre_turns.specs.Fruit.{is_inside};
 ghost use Rattle.sre_turns.specs.Moves.{spot_at};
 ghost use Rattle.sre_turns.specs.Nested.{repeats, slots};
 ghost use Rattle.sre_turns.specs.declared.Point.TheVariants.{Instruction};
-ghost use Rattle.sre_board.specs.Failures.{Entry, HoldsNone, HoldsNoMore, HoldsOneMore, HasSlot, IsPassed};
+ghost use Rattle.sre_board.specs.Ends.{NumberOf};
+ghost use Rattle.sre_board.specs.Failures.{Entry, HoldsNone, HoldsNoMore, HoldsOneMore, HasBit, HasNoRow, HasSlots};
 ghost use Rattle.sre_board.specs.Failures.{HoldsStill, BitsStay, BitsKept, Grows, Sets, Tells, Roomy, OneRowMore, Laid};
-ghost use Rattle.sre_board.specs.Failures.{counted_at, digit, radix, ones, most_words, HasNoRow, HasBit, AreRead};
-ghost use Rattle.sre_board.specs.Failures.{HasShape, HasSlots, WordsThere, Capacity, HasRow, NewRow, kept_of};
+ghost use Rattle.sre_board.specs.Failures.{ones, most_words, Capacity, HasRow, NewRow, kept_of};
 
 use crate::board::Board;
-use crate::chains::{Chains, frame_of};
+use crate::chains::Chains;
+use crate::slots::{add_shape, slot_of};
 use sre_growth::Refusal;
-use sre_turns::Frame;
 use std::alloc::Allocator;
 use std::marker::Model;
 
@@ -76,9 +75,6 @@ struct Bit {
     number: u32,
 }
 
-// A row has at most so many slots.
-const MOST_SLOTS: usize = 4096;
-
 // A row has fewer positions, so that their bits can be counted.
 const MOST_POSITIONS: usize = 34359738368;
 
@@ -87,92 +83,6 @@ const MOST_WORDS_IN_ROW: usize = 1073741824;
 
 // All rows have at most so many words, as many as a list can be filled up to.
 const MOST_WORDS: usize = 4294967296;
-
-// Up to which number the bodies of the loop at a place are counted, if its words are there.
-#[inline(always)]
-fn counted_at(words: &[u32], repeat: usize) -> Option<usize>
-    ensures { MatchOption result (length words.now ≤ repeat + 3)
-        (λ n. (n ≡ counted_at words.now repeat) × (n < 2 ^ 32) × (repeat + 3 < length words.now)) }
-{
-    if words.len() < 4 || repeat > words.len() - 4 {
-        return None;
-    }
-    let low = words[repeat + 2];
-    let high = words[repeat + 3];
-    if high == u32::MAX {
-        return Some(low as usize);
-    }
-    Some(low.max(high) as usize)
-}
-
-// Whether a loop's last body began at a position; none where it began behind it.
-#[inline(always)]
-fn is_here(last: Option<usize>, position: usize) -> Option<bool>
-    ensures { MatchOption result (IsPassed last position → ⊥)
-        (λ here. IsPassed last position × (here ≡ is_last last position)) }
-{
-    match last {
-        None => Some(false),
-        Some(last) if last > position => None,
-        Some(last) => Some(last == position),
-    }
-}
-
-// The slot of the inner loops with one loop more, if there is one.
-#[inline(always)]
-fn with_loop(words: &[u32], frame: Frame, position: usize, slot: usize) -> Option<usize>
-    requires { slot < 4096 }
-    ensures { MatchOption result
-        (frame.repeat + 3 < length words.now → IsPassed frame.last position
-        → 4096 ≤ slot * radix words.now frame.repeat + digit words.now position frame)
-        (λ n. (n < 4096) × IsPassed frame.last position × (frame.repeat + 3 < length words.now)
-        × (n ≡ slot * radix words.now frame.repeat + digit words.now position frame)) }
-{
-    let counted = counted_at(words, frame.repeat)?;
-    let here = is_here(frame.last, position)?;
-    let count = counted.min(frame.count as usize);
-    let inner = slot * ((counted + 1) * 2);
-    let next = inner + (count * 2 + if here { 1 } else { 0 });
-    if next >= MOST_SLOTS {
-        return None;
-    }
-    Some(next)
-}
-
-// The slot of the loops in progress, if they are those of a row.
-#[inline(always)]
-fn slot_of<A: Allocator>(
-    words: &[u32],
-    shapes: &[usize],
-    row: Row,
-    chains: &Chains<A>,
-    innermost: usize,
-    position: usize,
-) -> Option<usize>
-    requires { innermost < length chains.now }
-    ensures { let frames = slice_index_or chains.now innermost [] in MatchOption result
-        ((slot : ℕ) → slot < 4096 → AreRead words.now frames
-        → HasSlot words.now position shapes.now row.end row.shape 0 frames slot → ⊥)
-        (λ slot. (slot < 4096) × AreRead words.now frames
-        × HasSlot words.now position shapes.now row.end row.shape 0 frames slot) }
-{
-    let mut id = innermost;
-    let mut at = row.shape;
-    let mut slot = 0;
-    'walk: while !chains.is_empty(id) {
-        let node = chains.node(id);
-        if at >= shapes.len() || shapes[at] != node.repeat {
-            return None;
-        }
-        slot = with_loop(words, frame_of(node), position, slot)?;
-        at += 1;
-        id = node.parent;
-    }
-    if at != row.end {
-        return None;
-    }
-    Some(slot)
-}
 
 // Sets the number of a place's row, in a list for so many places.
 #[inline(always)]
@@ -192,55 +102,6 @@ fn set_number<A: Allocator>(
     }
     numbers[place] = number;
     Ok(())
-}
-
-// How many slots there are with one loop more: none where they are too many, or its words are not there.
-#[inline(always)]
-fn more_slots(words: &[u32], repeat: usize, slots: usize) -> usize
-    ensures few { result ≤ 4096 }
-    ensures all { repeat + 3 < length words.now → slots * radix words.now repeat ≤ 4096
-        → result ≡ slots * radix words.now repeat }
-{
-    let Some(counted) = counted_at(words, repeat) else {
-        return 0;
-    };
-    let all = slots.saturating_mul((counted + 1) * 2);
-    if all > MOST_SLOTS { 0 } else { all }
-}
-
-// Appends the places of the loops in progress, innermost first, and says how many slots they have. Where these are too
-// many it says none, and none of the places stays: else those of loops in loops would take the square of their depth.
-#[inline(always)]
-fn add_shape<A: Allocator>(
-    shapes: &mut Vec<usize, A>,
-    words: &[u32],
-    chains: &Chains<A>,
-    innermost: usize,
-) -> Result<usize, Refusal>
-    requires { innermost < length chains.now }
-    ensures more { (more : List ℕ) × (shapes.new.items ≡ shapes.old.items ++ more) }
-    ensures few { IfOk result (λ n. n ≤ 4096) }
-    ensures shape { IfOk result (λ n. 1 ≤ n
-        → HasShape shapes.new.items (length shapes.new.items) (length shapes.old.items)
-        (repeats (slice_index_or chains.now innermost []))) }
-    ensures slots { IfOk result (λ n. WordsThere words.now (repeats (slice_index_or chains.now innermost []))
-        → slots words.now (repeats (slice_index_or chains.now innermost [])) ≤ 4096
-        → n ≡ slots words.now (repeats (slice_index_or chains.now innermost []))) }
-{
-    let held = shapes.len();
-    let mut id = innermost;
-    let mut slots = 1;
-    'walk: while !chains.is_empty(id) {
-        let node = chains.node(id);
-        slots = more_slots(words, node.repeat, slots);
-        if slots == 0 {
-            shapes.truncate(held);
-            return Ok(0);
-        }
-        sre_growth::push(shapes, node.repeat)?;
-        id = node.parent;
-    }
-    Ok(slots)
 }
 
 // How many positions there are from `first` to `end`, and how many words their bits take behind those that are taken:
@@ -423,21 +284,30 @@ impl<A: Allocator> Failures<A> {
         Some(row)
     }
 
-    // Where the bit of a spot stands, if there is one for it.
+    // Where the bit of a spot stands, if there is one for it: under the loops of a chain, inside a region or not.
     #[inline(always)]
-    fn bit(&self, words: &[u32], board: &Board<A>, place: usize, position: usize) -> Option<Bit>
-        ensures { let spot = spot_at (Instruction place) board.now.frames position board.now.marks in
-            MatchOption result (HasBit self.now words.now (is_inside board.now.choices) spot → ⊥)
+    fn bit_under(
+        &self,
+        words: &[u32],
+        chains: &Chains<A>,
+        innermost: usize,
+        inside: bool,
+        place: usize,
+        position: usize,
+    ) -> Option<Bit>
+        requires { innermost < length chains.now }
+        ensures { (m : Marks)
+            → let spot = spot_at (Instruction place) (slice_index_or chains.now innermost []) position m in
+            MatchOption result (HasBit self.now words.now inside spot → ⊥)
             (λ b. (b.word < length self.now.bits) × (b.number < 64)
-            × Entry self.now words.now (is_inside board.now.choices) spot b.word b.number) }
+            × Entry self.now words.now inside spot b.word b.number × (b.word < 2 ^ 32)) }
     {
         let row = self.row(place)?;
         if position < row.first || position - row.first >= row.positions {
             return None;
         }
-        let (chains, innermost) = board.loops();
         let slot = slot_of(words, &self.shapes, row, chains, innermost, position)?;
-        let line = slot * 2 + if board.is_inside() { 1 } else { 0 };
+        let line = slot * 2 + if inside { 1 } else { 0 };
         let index = line
             .checked_mul(row.positions)?
             .checked_add(position - row.first)?;
@@ -448,6 +318,57 @@ impl<A: Allocator> Failures<A> {
             word: row.base + index / 64,
             number: (index % 64) as u32,
         })
+    }
+
+    // The same under the loops of a board, inside a region or not as it is.
+    #[inline(always)]
+    fn bit(&self, words: &[u32], board: &Board<A>, place: usize, position: usize) -> Option<Bit>
+        ensures { let spot = spot_at (Instruction place) board.now.frames position board.now.marks in
+            MatchOption result (HasBit self.now words.now (is_inside board.now.choices) spot → ⊥)
+            (λ b. (b.word < length self.now.bits) × (b.number < 64)
+            × Entry self.now words.now (is_inside board.now.choices) spot b.word b.number × (b.word < 2 ^ 32)) }
+    {
+        let (chains, innermost) = board.loops();
+        self.bit_under(words, chains, innermost, board.is_inside(), place, position)
+    }
+
+    // The number of the bit of a spot inside a region, under the loops of a chain; none where it has no bit.
+    #[inline(always)]
+    pub(crate) fn number_under(
+        &self,
+        words: &[u32],
+        chains: &Chains<A>,
+        innermost: usize,
+        place: usize,
+        position: usize,
+    ) -> Option<usize>
+        requires { innermost < length chains.now }
+        ensures { (m : Marks)
+            → let spot = spot_at (Instruction place) (slice_index_or chains.now innermost []) position m in
+            IfSome result (λ n. NumberOf self.now words.now true spot n) }
+    {
+        let bit = self.bit_under(words, chains, innermost, true, place, position)?;
+        Some(bit.word * 64 + bit.number as usize)
+    }
+
+    /// The number of the bit of the spot at a place and a position, among the bits of all spots, under the loops of a
+    /// board and inside a region or not as it is; none where the spot has no bit.
+    #[inline(never)]
+    pub fn number(
+        &self,
+        words: &[u32],
+        board: &Board<A>,
+        place: usize,
+        position: usize,
+    ) -> Option<usize>
+        ensures number { let spot = spot_at (Instruction place) board.now.frames position board.now.marks in
+            MatchOption result (HasBit self.now words.now (is_inside board.now.choices) spot → ⊥)
+            (λ n. NumberOf self.now words.now (is_inside board.now.choices) spot n) }
+        ensures laid { Laid self.now }
+    {
+        let _words = self.bits.len(); // in which the rows are laid
+        let bit = self.bit(words, board, place, position)?;
+        Some(bit.word * 64 + bit.number as usize)
     }
 
     /// What is known of the spot at a place and a position, under the loops of a board and inside a region or not as it

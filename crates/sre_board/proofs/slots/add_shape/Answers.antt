@@ -1,6 +1,6 @@
 use Rattle.std.proofs.Common.{◌∷◌, [], ◌++◌, ap, ◌∙◌, arith, append_assoc, List, ℕ}
 use Rattle.sre_board.proofs.ShapesAdded.{place_more, slots_more, none_few, cut_back, shape_whole}
-use Rattle.sre_board.proofs.failures.add_shape.Goals as goal
+use Rattle.sre_board.proofs.slots.add_shape.Goals as goal
 
 pub walk-preserved : goal.walk-preserved
 walk-preserved g c = record {

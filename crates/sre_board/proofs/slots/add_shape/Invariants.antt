@@ -1,7 +1,7 @@
 use Rattle.std.proofs.Common.{◌≡◌, ℕ, ◌<◌, ◌≤◌, ◌*◌, List, [], ◌++◌, length, slice_index_or}
 use Rattle.sre_turns.specs.Nested.{repeats, slots}
 use Rattle.sre_board.specs.Failures.{WordsThere}
-use Rattle.sre_board.proofs.failures.add_shape.Given as goal
+use Rattle.sre_board.proofs.slots.add_shape.Given as goal
 
 abbrev pub invariant-walk : goal.invariant-walk
 invariant-walk g l = record {

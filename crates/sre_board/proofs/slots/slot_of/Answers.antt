@@ -2,7 +2,7 @@ use Rattle.std.proofs.Common.{◌≡◌, ◌∙◌, ap, sym, arith, Some, slice_
 use Rattle.sre_turns.specs.declared.Frame.{Frame}
 use Rattle.sre_board.proofs.ChainLaws.{get_some}
 use Rattle.sre_board.proofs.NoSlot.{no_slot_with, slot_onward, slot_back, read_onward, read_back}
-use Rattle.sre_board.proofs.failures.slot_of.Goals as goal
+use Rattle.sre_board.proofs.slots.slot_of.Goals as goal
 
 pub returns-in_err-slot : goal.returns-in_err-slot
 returns-in_err-slot g c =

@@ -1,6 +1,6 @@
 use Rattle.std.proofs.Common.{ℕ, ◌<◌, [], length, slice_index_or}
 use Rattle.sre_board.specs.Failures.{HasSlot, AreRead}
-use Rattle.sre_board.proofs.failures.slot_of.Given as goal
+use Rattle.sre_board.proofs.slots.slot_of.Given as goal
 
 abbrev pub invariant-walk : goal.invariant-walk
 invariant-walk g l = record {

@@ -1,0 +1,119 @@
+-- The spots that are tried in the innermost region, gone over from choice to choice.
+use Rattle.std.proofs.Common.{◌≡◌, ℕ, zero, suc, ◌+◌, ◌-◌, ◌<◌, inl, inr, List, [], ◌∷◌, ◌++◌, drop, length}
+use Rattle.std.proofs.Common.{map, reverse, get_or, option_map, Some, slice_get, refl, sym, ap, ◌∙◌, subst, arith}
+use Rattle.std.proofs.lemmas.List.{append_assoc, get_or-reverse, length-reverse}
+use Rattle.std.proofs.lemmas.Option.{slice_get-map, slice_get-get_or}
+use Rattle.sre_chars.specs.declared.string.StringCursor.{StringCursor}
+use Rattle.sre_model.specs.Marks.{Marks}
+use Rattle.sre_turns.specs.Board.{Choice, Trying, choice}
+use Rattle.sre_turns.specs.Moves.{Spot, spot_at}
+use Rattle.sre_turns.specs.OpenMarks.{open_spots}
+use Rattle.sre_turns.specs.declared.Frame.{Frame}
+use Rattle.sre_turns.specs.declared.Region.{Region}
+use Rattle.sre_turns.specs.declared.Point.{Point}
+use Rattle.sre_turns.specs.declared.Point.TheVariants.{Instruction, Alternatives, Shorter, Longer, Inside, Again, Tried}
+use Rattle.sre_board.specs.Failures.{Kept}
+use Rattle.sre_board.specs.Choices.{Fits}
+use Rattle.sre_board.specs.declared.board.Saved.{Saved}
+use Rattle.sre_board.specs.Ends.{EndsTable, HoldsSpotMore, HoldsOpenMore}
+
+-- a choice by how many are newer, as the board has it and as its value has it
+module _ (items : List Saved) (depth : ℕ) (s : Saved) (l : depth < length items)
+    (e : s ≡ get_or items (length items - 1 - depth) s) where
+  pub newest_at : slice_get (reverse items) depth ≡ Some s
+  newest_at =
+      let there : slice_get (reverse items) depth ≡ Some (get_or (reverse items) depth s) =
+      slice_get-get_or (reverse items) depth s (omega (arith, length-reverse items, l)) in
+      let is : get_or (reverse items) depth s ≡ s = get_or-reverse items depth s l ∙ sym e in
+      there ∙ ap (λ (x : Saved). Some x) is
+
+  pub chosen_at : (f : Saved → Choice) → slice_get (map f (reverse items)) depth ≡ Some (f s)
+  chosen_at f = slice_get-map f (reverse items) depth ∙ ap (option_map f) newest_at
+
+-- each rests on a chain that is there
+pub fits_at : (ss : List Saved) (n c depth : ℕ) (s : Saved) → Fits ss n c → slice_get ss depth ≡ Some s → s.frame < n
+fits_at [] n c depth s fits e = absurd (cc)
+fits_at (x ∷ ss) n c zero s fits e =
+    let same : x ≡ s = cc in subst (λ (y : Saved). y.frame < n) same (omega (arith, fits.0, fits.2))
+fits_at (x ∷ ss) n c (suc depth) s fits e =
+    let below = fits_at ss (x.chains + 1) x.changes depth s fits.3 e in omega (arith, below, fits.0)
+
+-- what is left of a list from an item on
+from_item : {A : Type 0} (xs : List A) (i : ℕ) (x : A) → slice_get xs i ≡ Some x → drop i xs ≡ x ∷ drop (i + 1) xs
+from_item [] zero x e = absurd (cc)
+from_item [] (suc i) x e = absurd (cc)
+from_item (y ∷ xs) zero x e = let same : y ≡ x = cc in ap (λ z. z ∷ xs) same
+from_item (y ∷ xs) (suc i) x e =
+    let one : suc i + 1 ≡ suc (i + 1) = omega arith in
+    from_item xs i x e ∙ ap (λ n. x ∷ drop n (y ∷ xs)) (sym one)
+
+-- a choice that is neither a region nor an instruction that is tried
+pub passed_over : (pt : Point) (fs : List Frame) (c : StringCursor) (m : Marks) (cs : List Choice)
+    → ((g : Region) → pt ≡ Inside g → ⊥) → ((i : ℕ) → pt ≡ Tried i → ⊥)
+    → open_spots (choice pt fs c m ∷ cs) ≡ open_spots cs
+passed_over (Inside g) fs c m cs region tried = absurd (region g refl)
+passed_over (Tried i) fs c m cs region tried = absurd (tried i refl)
+passed_over (Instruction i) fs c m cs region tried = refl
+passed_over (Alternatives q) fs c m cs region tried = refl
+passed_over (Shorter j n) fs c m cs region tried = refl
+passed_over (Longer i n) fs c m cs region tried = refl
+passed_over Again fs c m cs region tried = refl
+
+-- the spots from a depth on, where those above it were gone over
+pub record GoneOver (cs : List Choice) (depth : ℕ) : Type 0 where
+  pub newer : List Spot
+  pub all : open_spots cs ≡ newer ++ open_spots (drop depth cs)
+
+pub gone_none : (cs : List Choice) → GoneOver cs 0
+gone_none cs = record { newer = []; all = refl }
+
+module _ (cs : List Choice) (depth : ℕ) (gone : GoneOver cs depth) where
+  -- past a choice that is another point
+  pub gone_else : (x : Choice) → slice_get cs depth ≡ Some x
+      → open_spots (x ∷ drop (depth + 1) cs) ≡ open_spots (drop (depth + 1) cs) → GoneOver cs (depth + 1)
+  gone_else x e same = record {
+    newer = gone.newer;
+    all = gone.all ∙ ap (λ ds. gone.newer ++ open_spots ds) (from_item cs depth x e)
+        ∙ ap (λ xs. gone.newer ++ xs) same;
+  }
+
+  module _ (i : ℕ) (fs : List Frame) (c : StringCursor) (m : Marks)
+      (e : slice_get cs depth ≡ Some (Trying i fs c m)) where
+    abbrev here : Spot
+    here = spot_at (Instruction i) fs c.position m
+
+    rest : open_spots cs ≡ gone.newer ++ here ∷ open_spots (drop (depth + 1) cs)
+    rest = gone.all ∙ ap (λ ds. gone.newer ++ open_spots ds) (from_item cs depth (Trying i fs c m) e)
+
+    -- past an instruction that is tried
+    pub gone_tried : GoneOver cs (depth + 1)
+    gone_tried = record {
+      newer = gone.newer ++ here ∷ [];
+      all = rest ∙ sym (append_assoc gone.newer (here ∷ []) (open_spots (drop (depth + 1) cs)));
+    }
+
+    -- for which an end may have been kept
+    pub more_tried : (k : Kept) (ws : List ℕ) (d : StringCursor) (old mid new : EndsTable)
+        → HoldsOpenMore k ws cs d old mid → HoldsSpotMore k ws here d mid new → HoldsOpenMore k ws cs d old new
+    more_tried k ws d old mid new before one = λ n b h.
+        elim (one n b h) [
+          | inl held ↦ before n b held
+          | inr it ↦
+              inr (
+                it.0,
+                (
+                  here,
+                  record {
+                    newer = gone.newer;
+                    older = open_spots (drop (depth + 1) cs);
+                    there = rest;
+                  },
+                  it.1,
+                ),
+              )
+        ]
+
+-- nothing more is kept at first
+pub more_none : (k : Kept) (ws : List ℕ) (cs : List Choice) (d : StringCursor) (t : EndsTable)
+    → HoldsOpenMore k ws cs d t t
+more_none k ws cs d t = λ n b h. inl h

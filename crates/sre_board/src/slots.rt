@@ -1,0 +1,153 @@
+//! The loops in progress as one number, their slot: of each the count and whether its last body began here.
+//!
+//! Of each list of loops' places, innermost first, a row has as many slots as there are such numbers, or it has none.
+
+ghost use Rattle.std.specs.Prelude.{◌≡◌, ℕ, ◌+◌, ◌*◌, ◌^◌, ◌<◌, ◌≤◌, List, [], ◌++◌, length};
+ghost use Rattle.std.specs.Prelude.{MatchOption, IfOk, slice_index_or};
+ghost use Rattle.sre_turns.specs.Alike.{is_last};
+ghost use Rattle.sre_turns.specs.Nested.{repeats, slots};
+ghost use Rattle.sre_board.specs.Failures.{HasSlot, HasShape, IsPassed, AreRead, WordsThere, counted_at, digit, radix};
+
+use crate::chains::{Chains, frame_of};
+use crate::failures::Row;
+use sre_growth::Refusal;
+use sre_turns::Frame;
+use std::alloc::Allocator;
+
+// A row has at most so many slots.
+const MOST_SLOTS: usize = 4096;
+
+// Up to which number the bodies of the loop at a place are counted, if its words are there.
+#[inline(always)]
+fn counted_at(words: &[u32], repeat: usize) -> Option<usize>
+    ensures { MatchOption result (length words.now ≤ repeat + 3)
+        (λ n. (n ≡ counted_at words.now repeat) × (n < 2 ^ 32) × (repeat + 3 < length words.now)) }
+{
+    if words.len() < 4 || repeat > words.len() - 4 {
+        return None;
+    }
+    let low = words[repeat + 2];
+    let high = words[repeat + 3];
+    if high == u32::MAX {
+        return Some(low as usize);
+    }
+    Some(low.max(high) as usize)
+}
+
+// Whether a loop's last body began at a position; none where it began behind it.
+#[inline(always)]
+fn is_here(last: Option<usize>, position: usize) -> Option<bool>
+    ensures { MatchOption result (IsPassed last position → ⊥)
+        (λ here. IsPassed last position × (here ≡ is_last last position)) }
+{
+    match last {
+        None => Some(false),
+        Some(last) if last > position => None,
+        Some(last) => Some(last == position),
+    }
+}
+
+// The slot of the inner loops with one loop more, if there is one.
+#[inline(always)]
+fn with_loop(words: &[u32], frame: Frame, position: usize, slot: usize) -> Option<usize>
+    requires { slot < 4096 }
+    ensures { MatchOption result
+        (frame.repeat + 3 < length words.now → IsPassed frame.last position
+        → 4096 ≤ slot * radix words.now frame.repeat + digit words.now position frame)
+        (λ n. (n < 4096) × IsPassed frame.last position × (frame.repeat + 3 < length words.now)
+        × (n ≡ slot * radix words.now frame.repeat + digit words.now position frame)) }
+{
+    let counted = counted_at(words, frame.repeat)?;
+    let here = is_here(frame.last, position)?;
+    let count = counted.min(frame.count as usize);
+    let inner = slot * ((counted + 1) * 2);
+    let next = inner + (count * 2 + if here { 1 } else { 0 });
+    if next >= MOST_SLOTS {
+        return None;
+    }
+    Some(next)
+}
+
+// The slot of the loops in progress, if they are those of a row.
+#[inline(always)]
+pub(crate) fn slot_of<A: Allocator>(
+    words: &[u32],
+    shapes: &[usize],
+    row: Row,
+    chains: &Chains<A>,
+    innermost: usize,
+    position: usize,
+) -> Option<usize>
+    requires { innermost < length chains.now }
+    ensures { let frames = slice_index_or chains.now innermost [] in MatchOption result
+        ((slot : ℕ) → slot < 4096 → AreRead words.now frames
+        → HasSlot words.now position shapes.now row.end row.shape 0 frames slot → ⊥)
+        (λ slot. (slot < 4096) × AreRead words.now frames
+        × HasSlot words.now position shapes.now row.end row.shape 0 frames slot) }
+{
+    let mut id = innermost;
+    let mut at = row.shape;
+    let mut slot = 0;
+    'walk: while !chains.is_empty(id) {
+        let node = chains.node(id);
+        if at >= shapes.len() || shapes[at] != node.repeat {
+            return None;
+        }
+        slot = with_loop(words, frame_of(node), position, slot)?;
+        at += 1;
+        id = node.parent;
+    }
+    if at != row.end {
+        return None;
+    }
+    Some(slot)
+}
+
+// How many slots there are with one loop more: none where they are too many, or its words are not there.
+#[inline(always)]
+fn more_slots(words: &[u32], repeat: usize, slots: usize) -> usize
+    ensures few { result ≤ 4096 }
+    ensures all { repeat + 3 < length words.now → slots * radix words.now repeat ≤ 4096
+        → result ≡ slots * radix words.now repeat }
+{
+    let Some(counted) = counted_at(words, repeat) else {
+        return 0;
+    };
+    let all = slots.saturating_mul((counted + 1) * 2);
+    if all > MOST_SLOTS { 0 } else { all }
+}
+
+// Appends the places of the loops in progress, innermost first, and says how many slots they have. Where these are too
+// many it says none, and none of the places stays: else those of loops in loops would take the square of their depth.
+#[inline(always)]
+pub(crate) fn add_shape<A: Allocator>(
+    shapes: &mut Vec<usize, A>,
+    words: &[u32],
+    chains: &Chains<A>,
+    innermost: usize,
+) -> Result<usize, Refusal>
+    requires { innermost < length chains.now }
+    ensures more { (more : List ℕ) × (shapes.new.items ≡ shapes.old.items ++ more) }
+    ensures few { IfOk result (λ n. n ≤ 4096) }
+    ensures shape { IfOk result (λ n. 1 ≤ n
+        → HasShape shapes.new.items (length shapes.new.items) (length shapes.old.items)
+        (repeats (slice_index_or chains.now innermost []))) }
+    ensures slots { IfOk result (λ n. WordsThere words.now (repeats (slice_index_or chains.now innermost []))
+        → slots words.now (repeats (slice_index_or chains.now innermost [])) ≤ 4096
+        → n ≡ slots words.now (repeats (slice_index_or chains.now innermost []))) }
+{
+    let held = shapes.len();
+    let mut id = innermost;
+    let mut slots = 1;
+    'walk: while !chains.is_empty(id) {
+        let node = chains.node(id);
+        slots = more_slots(words, node.repeat, slots);
+        if slots == 0 {
+            shapes.truncate(held);
+            return Ok(0);
+        }
+        sre_growth::push(shapes, node.repeat)?;
+        id = node.parent;
+    }
+    Ok(slots)
+}
