@@ -1,0 +1,13 @@
+use Rattle.sre_turns.specs.declared.Point.TheVariants.{Shorter}
+use Rattle.sre_turns.specs.Machine.{HasRun, Skips}
+use Rattle.sre_request.specs.Runs.{run_of}
+use Rattle.sre_machine.proofs.admitted_runs.first_shorter_before.Given as goal
+
+abbrev pub invariant-count : goal.invariant-count
+invariant-count g l = record {
+  at : HasRun (run_of l.req) (Shorter l.tail l.left) l.cursor;
+  same : Skips (run_of l.req) (Shorter l.tail l.count) l.fn.start (Shorter l.tail l.left) l.cursor;
+}
+
+abbrev pub decreases-count : goal.decreases-count
+decreases-count g l = l.left

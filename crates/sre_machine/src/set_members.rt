@@ -1,0 +1,196 @@
+//! The ASCII characters that sets take, told for all places of the words in one pass.
+//!
+//! What the items of a set take from a place on is told by the item there and by what those behind it take. So a pass
+//! from the last word to the first tells each set, in as many steps as there are words. Nothing is expected of the
+//! words: what is told of a place holds of each set whose items begin there, if one does.
+
+ghost use Rattle.std.specs.Prelude.{◌≡◌, ℕ, ◌+◌, ◌<◌, ◌≤◌, length, slice_range, slice_get, Some, IfOk, IfSome};
+ghost use Rattle.sre_chars.specs.Tables.{Table};
+ghost use Rattle.sre_model.specs.Tree.{Charset};
+ghost use Rattle.sre_model.specs.Characters.{item_holds};
+ghost use Rattle.sre_model.specs.Grammar.{Word, Opcode};
+ghost use Rattle.sre_code.specs.AsciiSet.{contains};
+ghost use Rattle.sre_code.specs.AsciiSets.{HoldsFor, AreTold};
+ghost use Rattle.sre_machine.specs.ByPlace.{AllTold};
+
+use sre_chars::constants::{SreCatCode, SreOpcode};
+use sre_code::ascii_set::AsciiSet;
+use sre_code::operands::word;
+use sre_growth::Refusal;
+use std::alloc::Allocator;
+use std::convert::TryFrom;
+
+// The ASCII characters for which an item of a set holds, and where the next item begins.
+#[derive(Clone, Copy)]
+struct Item {
+    members: AsciiSet,
+    next: usize,
+}
+
+/// The word at a place, if one is there.
+#[inline(always)]
+pub(crate) fn word_at(words: &[u32], place: usize) -> Option<u32>
+    ensures { IfSome result (λ w. Word words.now place w) }
+{
+    match words.get(place) {
+        Some(word) => Some(*word),
+        None => None,
+    }
+}
+
+// The item of a LITERAL, if its operand is there.
+fn literal(words: &[u32], place: usize) -> Option<Item>
+    requires { Opcode words.now place SreOpcode.LITERAL }
+    ensures { IfSome result (λ item. HoldsFor words.now place item.members item.next) }
+{
+    let _length = words.len(); // a slice has few items, so no place overflows
+    let value = word_at(words, place + 1)?;
+    Some(Item {
+        members: AsciiSet::of_character(value),
+        next: place + 2,
+    })
+}
+
+// The item of a RANGE, if its operands are there.
+fn range(words: &[u32], place: usize) -> Option<Item>
+    requires { Opcode words.now place SreOpcode.RANGE }
+    ensures { IfSome result (λ item. HoldsFor words.now place item.members item.next) }
+{
+    let _length = words.len(); // a slice has few items, so no place overflows
+    let low = word_at(words, place + 1)?;
+    let high = word_at(words, place + 2)?;
+    Some(Item {
+        members: AsciiSet::of_range(low, high),
+        next: place + 3,
+    })
+}
+
+// The item of a CATEGORY, if a category's number is there.
+fn category(words: &[u32], place: usize) -> Option<Item>
+    requires { Opcode words.now place SreOpcode.CATEGORY }
+    ensures { IfSome result (λ item. HoldsFor words.now place item.members item.next) }
+{
+    let _length = words.len(); // a slice has few items, so no place overflows
+    let number = word_at(words, place + 1)?;
+    match SreCatCode::try_from(number) {
+        Ok(code) => Some(Item {
+            members: AsciiSet::of_category(code),
+            next: place + 2,
+        }),
+        Err(_) => None,
+    }
+}
+
+// The ASCII characters whose bits are set in the words behind a CHARSET.
+fn ascii_bits(words: &[u32], place: usize) -> AsciiSet
+    requires { place + 9 ≤ length words.now }
+    ensures { (table : Table) (c : ℕ) → c < 128
+        → contains result c ≡ item_holds table (Charset (slice_range words.now (place + 1) (place + 9))) c }
+{
+    let _length = words.len(); // a slice has few items, so no place overflows
+    AsciiSet::of_bits([
+        words[place + 1],
+        words[place + 2],
+        words[place + 3],
+        words[place + 4],
+    ])
+}
+
+// The item of a CHARSET, if its words are there.
+fn charset(words: &[u32], place: usize) -> Option<Item>
+    requires { Opcode words.now place SreOpcode.CHARSET }
+    ensures { IfSome result (λ item. HoldsFor words.now place item.members item.next) }
+{
+    let length = words.len();
+    if length < 9 || place > length - 9 {
+        return None;
+    }
+    Some(Item {
+        members: ascii_bits(words, place),
+        next: place + 9,
+    })
+}
+
+// The item at a place, if it is a LITERAL, a RANGE, a CATEGORY or a CHARSET.
+fn item_at(words: &[u32], place: usize, opcode: SreOpcode) -> Option<Item>
+    requires { Opcode words.now place opcode }
+    ensures { IfSome result (λ item. HoldsFor words.now place item.members item.next) }
+{
+    match opcode {
+        SreOpcode::LITERAL => literal(words, place),
+        SreOpcode::RANGE => range(words, place),
+        SreOpcode::CATEGORY => category(words, place),
+        SreOpcode::CHARSET => charset(words, place),
+        _ => None,
+    }
+}
+
+/// What a list tells of a place.
+pub(crate) fn members_at(words: &[u32], list: &[Option<AsciiSet>], place: usize) -> Option<AsciiSet>
+    requires { AllTold words.now list.now }
+    ensures { AreTold words.now place result }
+{
+    match list.get(place) {
+        Some(members) => *members,
+        None => None,
+    }
+}
+
+// The ASCII characters that a set takes whose items begin at a place, by those that the items behind take.
+#[tactic(auto, using(crate::proofs::ByPlace::members_laws))]
+fn members(words: &[u32], list: &[Option<AsciiSet>], place: usize) -> Option<AsciiSet>
+    requires there { place < length words.now }
+    requires told { AllTold words.now list.now }
+    ensures { AreTold words.now place result }
+{
+    let opcode = SreOpcode::try_from(word(words, place)).ok()?;
+    match opcode {
+        SreOpcode::FAILURE => Some(AsciiSet::new()),
+        SreOpcode::NEGATE => {
+            let others = members_at(words, list, place + 1)?;
+            Some(others.complement())
+        }
+        _ => {
+            let first = item_at(words, place, opcode)?;
+            let others = members_at(words, list, first.next)?;
+            Some(first.members.union(others))
+        }
+    }
+}
+
+/// A list of so many equal items.
+pub(crate) fn filled<T: Copy + Drop, A: Allocator>(
+    alloc: A,
+    count: usize,
+    value: T,
+) -> Result<Vec<T, A>, Refusal>
+    ensures length { IfOk result (λ list. length list.items ≡ count) }
+    ensures each { IfOk result (λ list. (i : ℕ) (x : T) → slice_get list.items i ≡ Some x → x ≡ value) }
+{
+    let mut list = Vec::new(alloc);
+    'item: for _item in 0..count {
+        sre_growth::push(&mut list, value)?;
+    }
+    Ok(list)
+}
+
+/// For each place of the words the ASCII characters that a set takes whose items begin there, where they are told:
+/// those of a set whose items are each a LITERAL, a RANGE, a CATEGORY, a CHARSET or a NEGATE.
+///
+/// # Errors
+///
+/// [`Refusal`], where the memory of the list was refused.
+pub(crate) fn set_members<A: Allocator>(
+    alloc: A,
+    words: &[u32],
+) -> Result<Vec<Option<AsciiSet>, A>, Refusal>
+    ensures { IfOk result (λ list. AllTold words.now list.items) }
+{
+    let mut list = filled(alloc, words.len(), None)?;
+    let mut place = words.len();
+    'place: while place > 0 {
+        place -= 1;
+        list[place] = members(words, &list, place);
+    }
+    Ok(list)
+}
