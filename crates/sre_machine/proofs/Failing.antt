@@ -5,7 +5,7 @@ use Rattle.std.proofs.lemmas.Bool.{true≢false}
 use Rattle.sre_chars.specs.declared.string.StrDrive.{Ghosts}
 use Rattle.sre_chars.specs.declared.string.StringCursor.{StringCursor}
 use Rattle.sre_model.specs.Runs.{Run}
-use Rattle.sre_model.specs.Marks.{Marks}
+use Rattle.sre_model.specs.Marks.{Marks, no_marks}
 use Rattle.sre_model.specs.Ways.{Way}
 use Rattle.sre_turns.specs.Board.{BoardValue, Trying}
 use Rattle.sre_turns.specs.Machine.{IsAt, IsBack, Backs}
@@ -25,6 +25,7 @@ use Rattle.sre_request.specs.declared.request.Request.{Request}
 use Rattle.sre_request.specs.Requests.{code_of}
 use Rattle.sre_request.specs.Runs.{run_of}
 use Rattle.sre_machine.specs.Turns.{Turn, TurnOnce, Takes, GivesUp, GoesOn, TriesOn, StaysAt, LeavesOrStays, Fails}
+use Rattle.sre_machine.specs.Turns.{EndsThere}
 use Rattle.sre_machine.specs.Paying.{Pays}
 use Rattle.sre_turns.specs.RunEnds.{RunsOn}
 use Rattle.sre_turns.specs.Fruit.{is_inside}
@@ -34,7 +35,8 @@ use Rattle.sre_board.proofs.Remembering.{remembers_more}
 use Rattle.sre_machine.specs.Memos.{MemoValue}
 use Rattle.sre_machine.specs.declared.trying.Keeping.{Keeping}
 use Rattle.sre_machine.specs.declared.trying.Keeping.TheVariants.{Nothing, Unmarked, Marked}
-use Rattle.sre_machine.proofs.Paying.{grants_nothing, pays_left}
+use Rattle.sre_machine.proofs.Paying.{grants_nothing, pays_left, pays_nothing}
+use Rattle.sre_turns.proofs.BodyEnds.{end_taken}
 
 -- a mark was made, or none: the machine may stand there still
 pub stays_tried : (r : Run) (place : ℕ) (cursor : StringCursor) (b c : BoardValue) (made : Bool)
@@ -97,6 +99,16 @@ pub turn_left : {S : Type 0} {text : Ghosts S} (r : Request S text) (place : ℕ
     (b c : BoardValue) (m m' : MemoValue) → GivesUp r place cursor b m c m' → Takes r place cursor b m next.Back c m'
 turn_left r place cursor b c m m' left all limit x =
     let g = left all limit x in (limit, grants_nothing limit, g.0, g.1)
+
+-- and where the body that it is in is known to end, the machine goes there
+pub turn_ended : {S : Type 0} {text : Ghosts S} (r : Request S text) (place : ℕ) (cursor end : StringCursor)
+    (b : BoardValue) (m : MemoValue) → EndsThere r place cursor b end → Takes r place cursor b m (next.Done end) b m
+turn_ended r place cursor end b m e all limit x = (
+  limit,
+  grants_nothing limit,
+  end_taken (run_of r) place cursor end b no_marks e.inside e.unmarked e.stands e.ends all limit x,
+  pays_nothing r m m limit limit refl (λ h. h) refl refl,
+)
 
 -- the groups that the words ask for are those from the one on that their code tells
 pub asked_few : {S : Type 0} {text : Ghosts S} (r : Request S text) (code : Code) (least : ℕ) → code ≡ code_of r

@@ -97,6 +97,18 @@ module _ {S : Type 0} {text : Ghosts S} (r : Request S text) (all : List Way) (f
   nothing_granted n' b'' m' l x =
       (l, grants_nothing l, x, pays_nothing r m' m' l l refl (λ h. h) refl refl)
 
+  -- and in which ends of bodies may have been kept
+  pub ends_kept_then : (n' : Next) (b'' : BoardValue) (m' m'' : MemoValue) (l : Limit)
+      → m'' ≡ record m' { ends = m''.ends } → Later (run_of r) all l n' b''
+      → Proceeds (run_of r) all l n' b'' (λ more. Pays r m' l m'' more)
+  ends_kept_then n' b'' m' m'' l same x = (
+    l,
+    grants_nothing l,
+    x,
+    pays_nothing r m' m'' l l (ap (λ (k : MemoValue). k.kept) same)
+        (λ h. ap (λ (k : MemoValue). k.is_open) same ∙ h) refl refl,
+  )
+
   -- so many turns cost no more than the potential and the tolls
   cost_of : (pl : Remembering r) (limit more : Limit) (turned left left' : ℕ) → limit.granted ≡ more.granted
       → limit.taken ≡ before → more.taken + before ≡ limit.taken + turned → Within (run_of r) more
@@ -205,6 +217,10 @@ waited_on m m' m₁ m'' given left left' due x same fewer spent still =
 -- a memo that is the same, or keeps more, waits as long
 pub same_memo : (m m' : MemoValue) → m' ≡ m → (m'.is_open ≡ m.is_open) × (m'.waits ≡ m.waits)
 same_memo m m' e = (ap (λ (k : MemoValue). k.is_open) e, ap (λ (k : MemoValue). k.waits) e)
+
+pub ended_memo : (m m' : MemoValue) → m' ≡ record m { ends = m'.ends }
+    → (m'.is_open ≡ m.is_open) × (m'.waits ≡ m.waits)
+ended_memo m m' e = (ap (λ (k : MemoValue). k.is_open) e, ap (λ (k : MemoValue). k.waits) e)
 
 pub kept_memo : (m m' : MemoValue) → m' ≡ record m { kept = m'.kept; marked = m'.marked }
     → (m'.is_open ≡ m.is_open) × (m'.waits ≡ m.waits)

@@ -3,9 +3,13 @@ pub mod Halting
 pub mod Failing
 pub mod AskedGroups
 pub mod Recalling
+pub mod KnownEnds
 pub mod EndlessRuns
 pub mod LaterRuns
 pub mod Taken
 pub mod Opening
 pub mod Keeping
 pub mod Following
+pub mod ByPlace
+pub mod AdmittedHere
+pub mod SameSets

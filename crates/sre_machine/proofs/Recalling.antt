@@ -1,63 +1,116 @@
--- What a memo keeps is hopeless.
-use Rattle.std.proofs.Common.{◌≡◌, ℕ, ◌+◌, ◌*◌, ◌<◌, ◌⊎◌, inl, inr, List, sym, ap, subst}
+-- What a memo keeps is hopeless, and the ends that it keeps are right.
+use Rattle.std.proofs.Common.{◌≡◌, ℕ, ◌+◌, ◌*◌, ◌<◌, ◌⊎◌, inl, inr, List, Bool, true, sym, ap, ◌∙◌, subst}
 use Rattle.sre_model.specs.Marks.{no_marks}
 use Rattle.sre_model.specs.Runs.{Run}
+use Rattle.sre_turns.specs.Bodies.{MarklessRegions}
 use Rattle.sre_turns.specs.MovesAtReferences.{Named}
-use Rattle.sre_board.specs.Failures.{Kept, HoldsNone, HoldsNoMore, Remembers}
+use Rattle.sre_board.specs.Ends.{EndsTable, EndsRight, HoldsNoEnd}
+use Rattle.sre_board.specs.Failures.{Kept, HoldsNone, HoldsNoMore, BitsStay, Grows, Remembers}
+use Rattle.sre_board.proofs.EndsKept.{right_none, right_stays}
 use Rattle.sre_board.proofs.Remembering.{remembers_none, remembers_still}
-use Rattle.sre_machine.specs.Memos.{MarkedValue, MemoValue, Covers, Recalled, Recalls}
+use Rattle.sre_machine.specs.Memos.{MarkedValue, MemoValue, Covers, Recalled, Recalls, EndsStay}
 use Rattle.sre_machine.proofs.AskedGroups.{covers_named}
 
 -- nothing is kept
-pub recalls_none : (r : Run) (k : Kept) (m : MarkedValue) → HoldsNone k → HoldsNone m.kept → Covers r.words m.end
-    → Recalled r k m
-recalls_none r k m none unmarked covers = record {
+pub recalls_none : (r : Run) (k : Kept) (m : MarkedValue) (e : EndsTable) (h : Bool) → HoldsNone k → HoldsNone m.kept
+    → Covers r.words m.end → HoldsNoEnd e → (h ≡ true → MarklessRegions r.words) → Recalled r k m e h
+recalls_none r k m e h none unmarked covers no_end markless = record {
   plain = remembers_none r no_marks k none;
   marked = remembers_none r m.marks m.kept unmarked;
   covers = covers;
+  ends = right_none r k e no_end;
+  markless = markless;
 }
 
+-- the ends are right still where bits stay
+module _ (r : Run) (m m' : MemoValue) (same : EndsStay m m') (stay : BitsStay m.kept m'.kept) (recalls : Recalls r m)
+  where
+    pub ends_kept : EndsRight r m'.kept m'.ends
+    ends_kept =
+        subst (λ e. EndsRight r m'.kept e) (sym same.0) (right_stays r m.kept m'.kept m.ends stay recalls.ends)
+
+    pub still_markless : m'.keeps_ends ≡ true → MarklessRegions r.words
+    still_markless keeps = recalls.markless (sym same.1 ∙ keeps)
+
+-- bits stay where what is kept does
+pub bits_stay : (k k' : Kept) → k' ≡ k → BitsStay k k'
+bits_stay k k' same = subst (λ l. BitsStay k l) (sym same) (λ ws inside x at bit entry. entry)
+
 -- what was kept under marks is kept still, or is forgotten
-pub recalls_met : (r : Run) (m m' : MemoValue) → m'.kept ≡ m.kept
+pub recalls_met : (r : Run) (m m' : MemoValue) → m'.kept ≡ m.kept → EndsStay m m'
     → (m'.marked ≡ m.marked) ⊎ HoldsNone m'.marked.kept → (ws : List ℕ) → ws ≡ r.words
     → (m'.marked.end ≡ m.marked.end) ⊎ ((g : ℕ) → Named ws g → 2 * g + 1 < m'.marked.end) → Recalls r m → Recalls r m'
-recalls_met r m m' same met ws words told recalls = record {
+recalls_met r m m' same ends met ws words told recalls = record {
   plain = subst (λ k. Remembers r no_marks k) (sym same) recalls.plain;
   marked = elim met [
     | inl e ↦ subst (λ (x : MarkedValue). Remembers r x.marks x.kept) (sym e) recalls.marked
     | inr none ↦ remembers_none r m'.marked.marks m'.marked.kept none
   ];
   covers = covers_named r.words ws m.marked.end m'.marked.end words told recalls.covers;
+  ends = ends_kept r m m' ends (bits_stay m.kept m'.kept same) recalls;
+  markless = still_markless r m m' ends (bits_stay m.kept m'.kept same) recalls;
 }
 
 -- no more is kept under marks
-pub recalls_still : (r : Run) (m m' : MemoValue) → m'.kept ≡ m.kept → m'.marked.marks ≡ m.marked.marks
+pub recalls_still : (r : Run) (m m' : MemoValue) → m'.kept ≡ m.kept → EndsStay m m' → m'.marked.marks ≡ m.marked.marks
     → m'.marked.end ≡ m.marked.end → HoldsNoMore m.marked.kept m'.marked.kept → Recalls r m → Recalls r m'
-recalls_still r m m' same marks end no_more recalls = record {
+recalls_still r m m' same ends marks end no_more recalls = record {
   plain = subst (λ k. Remembers r no_marks k) (sym same) recalls.plain;
   marked = subst (λ k. Remembers r k m'.marked.kept) (sym marks)
       (remembers_still r m.marked.marks m.marked.kept m'.marked.kept no_more recalls.marked);
   covers = subst (λ k. Covers r.words k) (sym end) recalls.covers;
+  ends = ends_kept r m m' ends (bits_stay m.kept m'.kept same) recalls;
+  markless = still_markless r m m' ends (bits_stay m.kept m'.kept same) recalls;
 }
 
 -- no more is kept where no mark is set
-pub recalls_prepared : (r : Run) (m m' : MemoValue) → m'.marked ≡ m.marked → HoldsNoMore m.kept m'.kept → Recalls r m
-    → Recalls r m'
-recalls_prepared r m m' same no_more recalls = record {
-  plain = remembers_still r no_marks m.kept m'.kept no_more recalls.plain;
+pub recalls_prepared : (r : Run) (m m' : MemoValue) → m'.marked ≡ m.marked → EndsStay m m' → Grows m.kept m'.kept
+    → Recalls r m → Recalls r m'
+recalls_prepared r m m' same ends grows recalls = record {
+  plain = remembers_still r no_marks m.kept m'.kept grows.no_more recalls.plain;
   marked = subst (λ (x : MarkedValue). Remembers r x.marks x.kept) (sym same) recalls.marked;
   covers = subst (λ (x : MarkedValue). Covers r.words x.end) (sym same) recalls.covers;
+  ends = ends_kept r m m' ends grows.stay recalls;
+  markless = still_markless r m m' ends grows.stay recalls;
 }
 
 -- one more is kept where no mark is set
-pub recalls_kept : (r : Run) (m m' : MemoValue) → m' ≡ record m { kept = m'.kept } → Remembers r no_marks m'.kept
-    → Recalls r m → Recalls r m'
-recalls_kept r m m' same plain recalls =
-    let marked : m'.marked ≡ m.marked = ap (λ (y : MemoValue). y.marked) same in record {
+pub recalls_kept : (r : Run) (m m' : MemoValue) → m' ≡ record m { kept = m'.kept } → BitsStay m.kept m'.kept
+    → Remembers r no_marks m'.kept → Recalls r m → Recalls r m'
+recalls_kept r m m' same stay plain recalls =
+    let marked : m'.marked ≡ m.marked = ap (λ (y : MemoValue). y.marked) same in
+    let ends : EndsStay m m' = (ap (λ (y : MemoValue). y.ends) same, ap (λ (y : MemoValue). y.keeps_ends) same) in
+    record {
       plain = plain;
       marked = subst (λ (x : MarkedValue). Remembers r x.marks x.kept) (sym marked) recalls.marked;
       covers = subst (λ (x : MarkedValue). Covers r.words x.end) (sym marked) recalls.covers;
+      ends = ends_kept r m m' ends stay recalls;
+      markless = still_markless r m m' ends stay recalls;
     }
+
+-- other ends are kept, which are right
+pub recalls_ended : (r : Run) (m m' : MemoValue) → m' ≡ record m { ends = m'.ends } → EndsRight r m.kept m'.ends
+    → Recalls r m → Recalls r m'
+recalls_ended r m m' same ends recalls =
+    subst (λ (x : MemoValue). Recalls r x) (sym same) (record {
+      plain = recalls.plain;
+      marked = recalls.marked;
+      covers = recalls.covers;
+      ends = ends;
+      markless = recalls.markless;
+    })
+
+-- from now on failures are kept
+pub recalls_begun : (r : Run) (m' : MemoValue) (k : Kept) (m : MarkedValue) (e : EndsTable) (h : Bool) → m'.kept ≡ k
+    → m'.marked ≡ m → m'.ends ≡ e → (m'.keeps_ends ≡ true → MarklessRegions r.words) → Recalled r k m e h
+    → Recalls r m'
+recalls_begun r m' k m e h kept marked ends markless recalls = record {
+  plain = subst (λ l. Remembers r no_marks l) (sym kept) recalls.plain;
+  marked = subst (λ (x : MarkedValue). Remembers r x.marks x.kept) (sym marked) recalls.marked;
+  covers = subst (λ (x : MarkedValue). Covers r.words x.end) (sym marked) recalls.covers;
+  ends = subst (λ l. EndsRight r l m'.ends) (sym kept) (subst (λ t. EndsRight r k t) (sym ends) recalls.ends);
+  markless = markless;
+}
 
 -- as it is while turns are waited
 pub recalls_waited : (r : Run) (m m' : MemoValue) → m' ≡ record m { waits = m'.waits } → Recalls r m → Recalls r m'

@@ -6,3 +6,4 @@ pub mod Runners
 pub mod Runs
 pub mod EndlessRuns
 pub mod Spending
+pub mod ByPlace

@@ -1,4 +1,4 @@
--- What a memo has: the failures that are kept, and how long the search goes on without keeping any.
+-- What a memo has: the failures and the ends of bodies that are kept, and how long the search goes on without.
 use Rattle.std.specs.Prelude.{ℕ, ◌+◌, ◌-◌, ◌*◌, ◌<◌, ◌≤◌, ◌≡◌, Bool, true, false, List, Option, Some, None, negsuc}
 use Rattle.sre_chars.specs.declared.string.StrDrive.{Ghosts}
 use Rattle.sre_growth.specs.declared.Refusal.{Refusal}
@@ -7,6 +7,8 @@ use Rattle.sre_model.specs.Runs.{Run}
 use Rattle.sre_turns.specs.MovesAtReferences.{Asks}
 use Rattle.sre_request.specs.declared.request.Request.{Request}
 use Rattle.sre_request.specs.Runs.{run_of}
+use Rattle.sre_turns.specs.Bodies.{MarklessRegions}
+use Rattle.sre_board.specs.Ends.{EndsTable, EndsRight}
 use Rattle.sre_board.specs.Failures.{Kept, Remembers, Grows, Laid, HasSlots, Roomy, NewRow, Capacity, HasRow}
 
 -- failures, the marks under which they were kept, and behind which mark none is asked for
@@ -22,12 +24,15 @@ marked_of raw end k = record { marks = record { raw = raw; last = negsuc 0 }; en
 abbrev pub Covers : List ℕ → ℕ → Type 0
 Covers ws end = (g : ℕ) → Asks ws g → 2 * g + 1 < end
 
--- the failures; those that are kept while marks are set which are asked for; how many steps are left before the next
--- look, and how many were taken up to that look; how many turns a search within turns goes on without failures; whether
--- failures are kept by now; and whether no more are, since memory was refused for a place
+-- the failures; those that are kept while marks are set which are asked for; where bodies of regions end, and whether
+-- such ends are kept; how many steps are left before the next look, and how many were taken up to that look; how many
+-- turns a search within turns goes on without failures; whether failures are kept by now; and whether no more are, since
+-- memory was refused for a place
 pub record MemoValue : Type 0 where
   pub kept : Kept
   pub marked : MarkedValue
+  pub ends : EndsTable
+  pub keeps_ends : Bool
   pub patience : ℕ
   pub waited : ℕ
   pub waits : ℕ
@@ -38,19 +43,34 @@ abbrev pub has_refusal : Option Refusal → Bool
 has_refusal None = false
 has_refusal (Some r) = true
 
-abbrev pub memo_of : Kept → MarkedValue → ℕ → ℕ → ℕ → Bool → Option Refusal → MemoValue
-memo_of k m p w t o r =
-    record { kept = k; marked = m; patience = p; waited = w; waits = t; is_open = o; stopped = has_refusal r }
+abbrev pub memo_of : Kept → MarkedValue → EndsTable → Bool → ℕ → ℕ → ℕ → Bool → Option Refusal → MemoValue
+memo_of k m e h p w t o r = record {
+  kept = k;
+  marked = m;
+  ends = e;
+  keeps_ends = h;
+  patience = p;
+  waited = w;
+  waits = t;
+  is_open = o;
+  stopped = has_refusal r;
+}
 
 -- each spot that is kept is hopeless: under no marks, or under those that are kept with it, as far as they are asked
--- for
-pub record Recalled (r : Run) (k : Kept) (m : MarkedValue) : Type 0 where
+-- for; and each end that is kept is right, and kept only where no region of the words sets a mark
+pub record Recalled (r : Run) (k : Kept) (m : MarkedValue) (e : EndsTable) (h : Bool) : Type 0 where
   pub plain : Remembers r no_marks k
   pub marked : Remembers r m.marks m.kept
   pub covers : Covers r.words m.end
+  pub ends : EndsRight r k e
+  pub markless : h ≡ true → MarklessRegions r.words
 
 abbrev pub Recalls : Run → MemoValue → Type 0
-Recalls r m = Recalled r m.kept m.marked
+Recalls r m = Recalled r m.kept m.marked m.ends m.keeps_ends
+
+-- the ends are as they were
+abbrev pub EndsStay : MemoValue → MemoValue → Type 0
+EndsStay m m' = (m'.ends ≡ m.ends) × (m'.keeps_ends ≡ m.keeps_ends)
 
 -- the same for a request
 abbrev pub RecallsOf : {S : Type 0} {text : Ghosts S} → Request S text → MemoValue → Type 0

@@ -3,7 +3,7 @@
 use Rattle.std.specs.Prelude.{ℕ, ◌≡◌, ◌≢◌, Bool, true, false, List, [], Option}
 use Rattle.sre_chars.specs.declared.string.StrDrive.{Ghosts}
 use Rattle.sre_chars.specs.declared.string.StringCursor.{StringCursor}
-use Rattle.sre_model.specs.Marks.{Marks}
+use Rattle.sre_model.specs.Marks.{Marks, no_marks}
 use Rattle.sre_model.specs.Runs.{Run}
 use Rattle.sre_turns.specs.Board.{BoardValue}
 use Rattle.sre_turns.specs.Asked as marks
@@ -15,6 +15,8 @@ use Rattle.sre_turns.specs.MovesAtReferences.{HasReference}
 use Rattle.sre_turns.specs.Settled.{Regionless}
 use Rattle.sre_model.specs.Ways.{Way}
 use Rattle.sre_turns.specs.Machine.{HasRun, IsAt, StandsWithin, Goes, Tries, Arrives, Backs, Advances, Later}
+use Rattle.sre_turns.specs.BodyEnds.{EndsAt}
+use Rattle.sre_turns.specs.Machine.{Ends, spot}
 use Rattle.sre_turns.specs.Machine.{Refuses, DemandsAny, Continues, SkipsBoth, IsRead}
 use Rattle.sre_turns.specs.RunEnds.{RunsOn}
 use Rattle.sre_turns.specs.Limits.{Limit, Grants}
@@ -164,3 +166,19 @@ pub record IsKeeping {S : Type 0} {text : Ghosts S} (r : Request S text) (keepin
   pub marked : keeping ≡ Marked → AlikeMarks r m.marked.marks b.marks
   pub refers : keeping ≡ Marked → RefersToGroups r
   pub left : keeping ≡ Nothing → m.is_open ≡ true → RefersToGroups r
+
+-- from the instruction at a place, inside a region, its body ends at a cursor: so it does from what is alike, as long as
+-- no mark is set that the words ask for
+pub record EndsThere {S : Type 0} {text : Ghosts S} (r : Request S text) (place : ℕ) (cursor : StringCursor)
+    (b : BoardValue) (end : StringCursor) : Type 0 where
+  pub inside : is_inside b.choices ≡ true
+  pub unmarked : UnaskedMarks r b.marks
+  pub stands : (run_of r).stands end end.position
+  pub ends : EndsAt (run_of r) no_marks (spot (Instruction place) cursor b) end.position
+
+-- the machine stands where the body of the innermost region, or the whole, ends at a cursor
+pub record BodyEnds {S : Type 0} {text : Ghosts S} (r : Request S text) (cursor : StringCursor) (b : BoardValue) :
+    Type 0 where
+  pub all : List Way
+  pub limit : Limit
+  pub ends : Ends (run_of r) all limit cursor b

@@ -3,11 +3,15 @@
 //! Each turn does one instruction, or takes up what is still to be tried; what it does is said by the model's relation
 //! over the words. [`runner::Runner::attempt`] answers with the first accepted way.
 //!
-//! A search that has gone back often remembers what it tried in vain ([`memo::Memo`]), and leaves at once what is
-//! alike. The answer is the same.
+//! A search that has gone back often remembers what it tried in vain, and where bodies of regions end
+//! ([`memo::Memo`]): it leaves at once what is alike. The answer is the same.
 #![tactic(auto)]
 
+mod admitted_runs;
+pub mod admitting;
 pub mod allowance;
+pub mod barring;
+mod body_ends;
 mod branches;
 mod endless_runs;
 mod greedy_runs;
@@ -22,5 +26,6 @@ mod references;
 mod regions;
 mod run_operands;
 pub mod runner;
+mod set_members;
 mod trying;
 pub mod turns;

@@ -6,22 +6,25 @@
 //! twice as many for each character. The run that is under way then goes on, and remembers what it tries from there on;
 //! within turns it begins again.
 
-ghost use Rattle.std.specs.Prelude.{[], ℕ, ◌≡◌, ◌⊎◌, ◌+◌, ◌-◌, ◌*◌, ◌<◌, ◌≤◌, None, slice_index_or, true, false};
+ghost use Rattle.std.specs.Prelude.{[], ℕ, ◌≡◌, ◌⊎◌, ◌+◌, ◌-◌, ◌*◌, ◌<◌, ◌≤◌, None, IfSome, slice_index_or, true, false};
 ghost use Rattle.sre_model.specs.Marks.{mark_at};
 ghost use Rattle.sre_turns.specs.Fruit.{is_inside};
 ghost use Rattle.sre_turns.specs.MovesAtReferences.{Named};
 ghost use Rattle.sre_turns.specs.Moves.{spot_at};
 ghost use Rattle.sre_turns.specs.declared.Point.TheVariants.{Instruction};
 ghost use Rattle.sre_growth.specs.Refusal.{Refused};
-ghost use Rattle.sre_board.specs.Failures.{HoldsNone, HoldsNoMore, HoldsOneMore, Tells};
-ghost use Rattle.sre_machine.specs.Memos.{MakesRoom, RecallsOf};
+ghost use Rattle.sre_board.specs.Failures.{HoldsNone, HoldsNoMore, HoldsOneMore, Tells, Laid};
+ghost use Rattle.sre_machine.specs.Memos.{MakesRoom, RecallsOf, EndsStay};
+ghost use Rattle.sre_board.specs.Ends.{TellsEnd, HoldsOpenMore};
+ghost use Rattle.sre_turns.specs.Bodies.{MarklessRegions};
+ghost use Rattle.sre_request.specs.Runs.{run_of};
 ghost use Rattle.sre_board.specs.Failures.{KeepsSpot, kept_of};
 ghost use Rattle.sre_turns.specs.Nested.{repeats};
 ghost use Rattle.sre_request.specs.Requests.{start_of, end_of};
 
 use crate::marked::Marked;
-use sre_board::{Board, Failures, Known};
-use sre_chars::string::StrDrive;
+use sre_board::{Board, Ends, Failures, Known};
+use sre_chars::string::{StrDrive, StringCursor};
 use sre_code::operands::know_words;
 use sre_growth::Refusal;
 use sre_request::Request;
@@ -40,6 +43,10 @@ pub struct Memo<A: Allocator> {
     failures: Failures<A>,
     // those that are kept while marks are set which are asked for
     marked: Marked<A>,
+    // where the bodies of regions end, by the spots inside that were tried
+    ends: Ends<A>,
+    // whether such ends are kept: no region of the code sets a mark
+    keeps_ends: bool,
     // how many steps are left before the next look
     patience: usize,
     // how many were taken up to that look
@@ -57,7 +64,8 @@ impl<A: Allocator> Model for Memo<A> {
 
     ghost Value = { MemoValue };
 
-    ghost view = { λ m. memo_of m.failures m.marked m.patience m.waited m.waits m.is_open m.refused };
+    ghost view = { λ m.
+        memo_of m.failures m.marked m.ends m.keeps_ends m.patience m.waited m.waits m.is_open m.refused };
 
     ghost invariant = { λ m. IsMemo m.is_open m.patience };
 }
@@ -73,6 +81,8 @@ impl<A: Allocator + Copy> Memo<A> {
         Memo {
             failures: Failures::new(alloc),
             marked: Marked::new(alloc),
+            ends: Ends::new(alloc),
+            keeps_ends: false,
             patience: STRIDE,
             waited: STRIDE,
             waits: 0,
@@ -99,6 +109,8 @@ impl<A: Allocator> Memo<A> {
         know_words(req.pattern_codes().items());
         self.failures.forget();
         self.marked.begin();
+        self.ends.forget();
+        self.keeps_ends = false;
         self.patience = STRIDE;
         self.waited = STRIDE;
         let window = req.end().saturating_sub(req.start());
@@ -119,18 +131,28 @@ impl<A: Allocator> Memo<A> {
 
     /// Failures are kept from now on, of which there are none yet.
     #[inline(never)]
-    pub(crate) fn open(&mut self)
+    pub(crate) fn open<S: StrDrive>(&mut self, req: &Request<'_, S>)
         ensures opened { self.new.is_open ≡ true }
         ensures empty { self.new.kept ≡ kept_of [] [] [] }
-        ensures none { HoldsNone self.new.kept }
-        ensures unmarked { HoldsNone self.new.marked.kept }
-        ensures end { self.new.marked.end ≡ self.old.marked.end }
+        ensures recalls { RecallsOf req.now self.old → RecallsOf req.now self.new }
         ensures stopped { self.new.stopped ≡ self.old.stopped }
     {
         self.failures.forget();
         self.marked.forget();
+        self.ends.forget();
         self.patience = 0;
+        self.begin_keeping(req);
+    }
+
+    // Failures are kept, and where no region sets a mark the ends of their bodies, too.
+    #[inline(always)]
+    fn begin_keeping<S: StrDrive>(&mut self, req: &Request<'_, S>)
+        requires { self.old.patience ≡ 0 }
+        ensures same { self.new ≡ record self.old { is_open = true; keeps_ends = self.new.keeps_ends } }
+        ensures markless { self.new.keeps_ends ≡ true → MarklessRegions (run_of req.now).words }
+    {
         self.is_open = true;
+        self.keeps_ends = !req.pattern_codes().regions_set_marks();
     }
 
     // Whether failures are kept by now.
@@ -160,6 +182,7 @@ impl<A: Allocator> Memo<A> {
     pub(crate) fn opens<S: StrDrive>(&mut self, req: &Request<'_, S>, board: &mut Board<A>) -> bool
         ensures kept { self.new.kept ≡ self.old.kept }
         ensures marked { self.new.marked ≡ self.old.marked }
+        ensures recalls { RecallsOf req.now self.old → RecallsOf req.now self.new }
         ensures stopped { self.new.stopped ≡ self.old.stopped }
         ensures opened { self.new.is_open ≡ result }
         ensures board { board.new ≡ board.old }
@@ -178,6 +201,7 @@ impl<A: Allocator> Memo<A> {
         requires { self.old.patience ≡ 0 }
         ensures kept { self.new.kept ≡ self.old.kept }
         ensures marked { self.new.marked ≡ self.old.marked }
+        ensures recalls { RecallsOf req.now self.old → RecallsOf req.now self.new }
         ensures stopped { self.new.stopped ≡ self.old.stopped }
         ensures opened { self.new.is_open ≡ result }
         ensures board { board.new ≡ board.old }
@@ -189,7 +213,7 @@ impl<A: Allocator> Memo<A> {
         let bodies = self.waited.saturating_add(board.take_entered());
         self.waited = bodies.saturating_add(board.take_passed() / 8);
         if self.waited / 16 > window {
-            self.is_open = true;
+            self.begin_keeping(req);
             return true;
         }
         self.waited = self.waited.saturating_add(STRIDE);
@@ -209,6 +233,7 @@ impl<A: Allocator> Memo<A> {
     )
         ensures makes { MakesRoom words.now first end place (repeats board.now.frames) self.old self.new }
         ensures marked { self.new.marked ≡ self.old.marked }
+        ensures ends { EndsStay self.old self.new }
         ensures same { self.new.stopped ≡ false → self.new ≡ record self.old { kept = self.new.kept } }
         ensures stopped { self.old.stopped ≡ true → self.new.stopped ≡ true }
         ensures refused { self.new.stopped ≡ true → Refused }
@@ -223,6 +248,7 @@ impl<A: Allocator> Memo<A> {
     fn close(&mut self, refusal: Refusal)
         ensures kept { self.new.kept ≡ self.old.kept }
         ensures marked { self.new.marked ≡ self.old.marked }
+        ensures ends { EndsStay self.old self.new }
         ensures stopped { self.new.stopped ≡ true }
         ensures refused { Refused }
     {
@@ -257,6 +283,42 @@ impl<A: Allocator> Memo<A> {
         self.failures.keep(words, board, place, position);
     }
 
+    // Whether ends of bodies are kept.
+    #[inline(always)]
+    pub(crate) fn keeps_ends(&self) -> bool
+        ensures { result ≡ self.now.keeps_ends }
+    {
+        self.keeps_ends
+    }
+
+    // Where the body of the innermost region ends, from an instruction inside at a position, as the board is; if that
+    // is kept.
+    #[inline(never)]
+    pub(crate) fn end(
+        &self,
+        words: &[u32],
+        board: &Board<A>,
+        place: usize,
+        position: usize,
+    ) -> Option<StringCursor>
+        ensures told { IfSome result (λ end. TellsEnd self.now.kept self.now.ends words.now
+            (is_inside board.now.choices)
+            (spot_at (Instruction place) board.now.frames position board.now.marks) end) }
+        ensures laid { Laid self.now.kept }
+    {
+        let number = self.failures.number(words, board, place, position)?;
+        self.ends.end(number)
+    }
+
+    // Keeps that the body of the innermost region ends at a cursor, for each instruction that is tried inside.
+    #[inline(never)]
+    pub(crate) fn keep_ends(&mut self, words: &[u32], board: &Board<A>, end: StringCursor)
+        ensures more { HoldsOpenMore self.old.kept words.now board.now.choices end self.old.ends self.new.ends }
+        ensures same { self.new ≡ record self.old { ends = self.new.ends } }
+    {
+        self.ends.keep_open(&self.failures, words, board, end);
+    }
+
     // Whether failures are kept under marks that are the same as these from an entry on.
     #[inline(always)]
     pub(crate) fn agrees(&self, raw: &[Option<usize>], from: usize) -> bool
@@ -273,6 +335,7 @@ impl<A: Allocator> Memo<A> {
         ensures end { (self.new.marked.end ≡ self.old.marked.end)
             ⊎ ((g : ℕ) → Named words.now g → 2 * g + 1 < self.new.marked.end) }
         ensures kept { self.new.kept ≡ self.old.kept }
+        ensures ends { EndsStay self.old self.new }
         ensures still { self.old.is_open ≡ true → self.new.is_open ≡ true ⊎ Refused }
     {
         if !self.marked.is_worn() {
@@ -297,6 +360,7 @@ impl<A: Allocator> Memo<A> {
         ensures kept { self.new.kept ≡ self.old.kept }
         ensures marks { self.new.marked.marks ≡ self.old.marked.marks }
         ensures end { self.new.marked.end ≡ self.old.marked.end }
+        ensures ends { EndsStay self.old self.new }
         ensures still { self.old.is_open ≡ true → self.new.is_open ≡ true ⊎ Refused }
     {
         if let Err(refusal) = self.marked.prepare(words, board, place, first, end) {

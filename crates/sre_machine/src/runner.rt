@@ -198,7 +198,7 @@ impl<A: Allocator> Runner<A> {
         ensures costs { AnewCosts req.now literals start self.new.memo result allowed.old allowed.new }
     {
         self.board.clear();
-        self.memo.open();
+        self.memo.open(req);
         self.begun.restarted += 1;
         match self.run_once(req, literals, start, allowed)? {
             Decision::Decided(found) => Ok(found),

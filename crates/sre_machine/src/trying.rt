@@ -17,6 +17,7 @@ ghost use Rattle.sre_machine.specs.Turns.{At, AtOnBoard, Fails, Takes, TriesOn, 
 ghost use Rattle.sre_machine.specs.Turns.{RefersToGroups, UnaskedMarks, AlikeMarks};
 ghost use Rattle.sre_growth.specs.Refusal.{Refused};
 
+use crate::body_ends::known_end;
 use crate::endless_runs::{endless_run, is_endless_run};
 use crate::machine::{instruction, opcode};
 use crate::memo::Memo;
@@ -28,10 +29,14 @@ use sre_request::Request;
 use sre_turns::Next;
 use std::alloc::Allocator;
 
-// Whether the machine may have more than one way to go on at a place: between two such places nothing branches, so
-// failures are kept there alone.
+/// Whether the machine may have more than one way to go on at a place: between two such places nothing branches, so
+/// failures are kept there alone.
 #[inline(always)]
-fn may_branch<S: StrDrive>(req: &Request<'_, S>, place: usize, cursor: StringCursor) -> bool
+pub(super) fn may_branch<S: StrDrive>(
+    req: &Request<'_, S>,
+    place: usize,
+    cursor: StringCursor,
+) -> bool
     requires { At req.now place cursor }
     ensures { result ≡ false → (o : SreOpcode) → OpcodeAt req.now place o
         → units (run_of req.now).words (run_of req.now).subject.end place (role o) ≡ 0 }
@@ -47,9 +52,9 @@ fn may_branch<S: StrDrive>(req: &Request<'_, S>, place: usize, cursor: StringCur
     )
 }
 
-// Whether no mark is set that the words ask for: those that are set end before the first group that is asked for.
+/// Whether no mark is set that the words ask for: those that are set end before the first group that is asked for.
 #[inline(always)]
-fn is_unmarked<S: StrDrive, A: Allocator>(req: &Request<'_, S>, board: &Board<A>) -> bool
+pub(super) fn is_unmarked<S: StrDrive, A: Allocator>(req: &Request<'_, S>, board: &Board<A>) -> bool
     ensures unmarked { result ≡ true → UnaskedMarks req.now board.now.marks }
     ensures marked { result ≡ false → RefersToGroups req.now }
 {
@@ -75,9 +80,9 @@ fn is_marked_so<S: StrDrive, A: Allocator>(
     memo.agrees(board.marks().raw(), first)
 }
 
-// Under which marks failures are kept, those of the board being such.
+/// Under which marks failures are kept, those of the board being such.
 #[derive(Clone, Copy, Debug, PartialEq, Eq)]
-enum Keeping {
+pub(super) enum Keeping {
     // None are kept.
     Nothing,
     // No mark is set that the words ask for.
@@ -290,7 +295,7 @@ fn goes_on_endlessly<S: StrDrive>(
     keeping != Keeping::Nothing && is_endless_run(req, place, cursor)
 }
 
-/// One instruction, which is left at once where it is known to fail.
+/// One instruction, which is left at once where it is known to fail, or where the body that it is in is known to end.
 #[tactic(auto, using(sre_turns::proofs::Moving::on_board))]
 #[inline(always)]
 pub(super) fn instruction_or_back<S: StrDrive, A: Allocator>(
@@ -308,6 +313,9 @@ pub(super) fn instruction_or_back<S: StrDrive, A: Allocator>(
     ensures still { memo.old.is_open ≡ true → memo.new.is_open ≡ true ⊎ Refused }
 {
     let keeping = keeping_at(req, board, memo, place, cursor);
+    if let Some(end) = known_end(req, board, memo, keeping, place, cursor) {
+        return Ok(Next::Done(end));
+    }
     if is_hopeless(req, board, memo, keeping, place, cursor) {
         return Ok(Next::Back);
     }

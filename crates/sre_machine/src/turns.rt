@@ -13,6 +13,7 @@ ghost use Rattle.sre_request.specs.Requests.{asked_of};
 ghost use Rattle.sre_request.specs.Runs.{run_of};
 
 use crate::allowance::Allowance;
+use crate::body_ends::keep_ends;
 use crate::machine::{back, instruction};
 use crate::memo::Memo;
 use crate::possessive_loops::again;
@@ -237,22 +238,26 @@ fn remembering_turns<L: Ledger, K: Plan, S: StrDrive, A: Allocator>(
                 Some(after) => next = after,
                 None => return Ok(Decision::Decided(None)),
             },
-            Next::Done(cursor) => match end(req, board, cursor) {
-                Some(after) => next = after,
-                None => {
-                    if is_accepted(req, cursor.position()) {
-                        return Ok(Decision::Decided(Some(cursor)));
+            Next::Done(cursor) => {
+                keep_ends(req, board, memo, cursor);
+                match end(req, board, cursor) {
+                    Some(after) => next = after,
+                    None => {
+                        if is_accepted(req, cursor.position()) {
+                            return Ok(Decision::Decided(Some(cursor)));
+                        }
+                        next = Next::Back;
                     }
-                    next = Next::Back;
                 }
-            },
+            }
         }
     }
 }
 
-// The same with no limit, and with no failure kept until the memo opens. Then the run goes on: what it saved before is
-// resumed once at most, and what comes after is remembered. It is one function out of line, whatever its size, so that
-// `Runner::attempt` is inlined where a search tries its starts.
+// The same with no limit, and with no failure kept until the memo opens, which is asked on the way back and where a
+// region ends. Then the run goes on: what it saved before is resumed once at most, and what comes after is remembered.
+// It is one function out of line, whatever its size, so that `Runner::attempt` is inlined where a search tries its
+// starts.
 #[inline(never)]
 fn turns<L: Ledger, K: Plan, S: StrDrive, A: Allocator>(
     req: &Request<'_, S>,
@@ -297,7 +302,15 @@ fn turns<L: Ledger, K: Plan, S: StrDrive, A: Allocator>(
             Next::Done(cursor) => {
                 turned.tick();
                 match end(req, board, cursor) {
-                    Some(after) => next = after,
+                    Some(after) => {
+                        if memo.opens(req, board) {
+                            let allowed = &mut Allowance::Unlimited;
+                            return remembering_turns::<L, K, S, A>(
+                                req, board, memo, after, turned, allowed,
+                            );
+                        }
+                        next = after;
+                    }
                     None => {
                         if is_accepted(req, cursor.position()) {
                             return Ok(Decision::Decided(Some(cursor)));

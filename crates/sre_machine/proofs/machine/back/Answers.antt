@@ -6,7 +6,8 @@ use Rattle.sre_request.specs.Requests.{asked_of}
 use Rattle.sre_request.specs.Runs.{run_of}
 use Rattle.sre_turns.specs.Limits.{earlier, without_tried}
 use Rattle.sre_turns.proofs.Faring.{alternatives_free, shorter_free, longer_free}
-use Rattle.sre_turns.proofs.GoingBack.{back_none, back_arrives, back_at, back_region, later_again}
+use Rattle.sre_turns.proofs.GoingBack.{back_none, back_arrives, back_at, back_run, back_region}
+use Rattle.sre_turns.proofs.GoingBack.{later_again}
 use Rattle.sre_turns.proofs.Hopeless.{asked_by_stop}
 use Rattle.sre_turns.proofs.Trying.{tried_waits, tried_hopeless}
 use Rattle.sre_turns.proofs.Faring.{nothing_waits}
@@ -15,6 +16,25 @@ use Rattle.sre_machine.proofs.Keeping.{pays_kept}
 use Rattle.sre_machine.specs.Memos.{MemoValue}
 use Rattle.sre_machine.proofs.Paying.{pays_then, grants_then}
 use Rattle.sre_machine.proofs.machine.back.Goals as goal
+
+-- the machine is at the point that it goes back to
+pub alternatives-requires : goal.alternatives-requires
+alternatives-requires g c =
+    back_run (run_of c.args.req.now) c.choice.board c.back.new.self c.in-Some.choice.0
+    (Alternatives c.in-Alternatives.place) c.in-Some.choice.1 c.in-Some.ensures c.in-Alternatives.is refl
+    c.choice.invariant.back
+
+pub shorter_saved-requires : goal.shorter_saved-requires
+shorter_saved-requires g c =
+    back_run (run_of c.args.req.now) c.choice.board c.back.new.self c.in-Some.choice.0
+    (Shorter c.in-Shorter.tail c.in-Shorter.count) c.in-Some.choice.1 c.in-Some.ensures c.in-Shorter.is refl
+    c.choice.invariant.back
+
+pub longer_saved-requires : goal.longer_saved-requires
+longer_saved-requires g c =
+    back_run (run_of c.args.req.now) c.choice.board c.back.new.self c.in-Some.choice.0
+    (Longer c.in-Longer.place c.in-Longer.count) c.in-Some.choice.1 c.in-Some.ensures c.in-Longer.is refl
+    c.choice.invariant.back
 
 pub returns-in_default-clause-next : goal.returns-in_default-clause-next
 returns-in_default-clause-next g c = λ all limit x.

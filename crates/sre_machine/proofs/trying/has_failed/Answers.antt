@@ -39,7 +39,7 @@ returns-in-Failed-clause-leaves g c =
 pub returns-in-Failed-clause-remembers : goal.returns-in-Failed-clause-remembers
 returns-in-Failed-clause-remembers g c =
     recalls_prepared (run_of c.args.req.now) c.args.memo.now c.prepare.new.self
-    c.prepare.ensures.marked c.prepare.ensures.makes.grows.no_more c.requires.remembers
+    c.prepare.ensures.marked c.prepare.ensures.ends c.prepare.ensures.makes.grows c.requires.remembers
 
 pub returns-in-Failed-clause-still : goal.returns-in-Failed-clause-still
 returns-in-Failed-clause-still g c =
@@ -49,7 +49,7 @@ returns-in-Failed-clause-still g c =
 pub returns-in-Open-clause-remembers : goal.returns-in-Open-clause-remembers
 returns-in-Open-clause-remembers g c =
     recalls_prepared (run_of c.args.req.now) c.args.memo.now c.prepare.new.self
-    c.prepare.ensures.marked c.prepare.ensures.makes.grows.no_more c.requires.remembers
+    c.prepare.ensures.marked c.prepare.ensures.ends c.prepare.ensures.makes.grows c.requires.remembers
 
 pub returns-in-Open-clause-still : goal.returns-in-Open-clause-still
 returns-in-Open-clause-still g c =
@@ -59,7 +59,7 @@ returns-in-Open-clause-still g c =
 pub returns-in-NoBit-clause-remembers : goal.returns-in-NoBit-clause-remembers
 returns-in-NoBit-clause-remembers g c =
     recalls_prepared (run_of c.args.req.now) c.args.memo.now c.prepare.new.self
-    c.prepare.ensures.marked c.prepare.ensures.makes.grows.no_more c.requires.remembers
+    c.prepare.ensures.marked c.prepare.ensures.ends c.prepare.ensures.makes.grows c.requires.remembers
 
 pub returns-in-NoBit-clause-still : goal.returns-in-NoBit-clause-still
 returns-in-NoBit-clause-still g c =

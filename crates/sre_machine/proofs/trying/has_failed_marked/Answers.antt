@@ -37,17 +37,20 @@ returns-in-Failed-clause-leaves g c =
 pub returns-in-Failed-clause-remembers : goal.returns-in-Failed-clause-remembers
 returns-in-Failed-clause-remembers g c =
     recalls_still (run_of c.args.req.now) c.args.memo.now c.prepare_marked.new.self c.prepare_marked.ensures.kept
-    c.prepare_marked.ensures.marks c.prepare_marked.ensures.end c.prepare_marked.ensures.no_more c.requires.remembers
+    c.prepare_marked.ensures.ends c.prepare_marked.ensures.marks c.prepare_marked.ensures.end
+    c.prepare_marked.ensures.no_more c.requires.remembers
 
 pub returns-in-Open-clause-remembers : goal.returns-in-Open-clause-remembers
 returns-in-Open-clause-remembers g c =
     recalls_still (run_of c.args.req.now) c.args.memo.now c.prepare_marked.new.self c.prepare_marked.ensures.kept
-    c.prepare_marked.ensures.marks c.prepare_marked.ensures.end c.prepare_marked.ensures.no_more c.requires.remembers
+    c.prepare_marked.ensures.ends c.prepare_marked.ensures.marks c.prepare_marked.ensures.end
+    c.prepare_marked.ensures.no_more c.requires.remembers
 
 pub returns-in-NoBit-clause-remembers : goal.returns-in-NoBit-clause-remembers
 returns-in-NoBit-clause-remembers g c =
     recalls_still (run_of c.args.req.now) c.args.memo.now c.prepare_marked.new.self c.prepare_marked.ensures.kept
-    c.prepare_marked.ensures.marks c.prepare_marked.ensures.end c.prepare_marked.ensures.no_more c.requires.remembers
+    c.prepare_marked.ensures.ends c.prepare_marked.ensures.marks c.prepare_marked.ensures.end
+    c.prepare_marked.ensures.no_more c.requires.remembers
 
 pub returns-in-Open-clause-leaves : goal.returns-in-Open-clause-leaves
 returns-in-Open-clause-leaves g c =

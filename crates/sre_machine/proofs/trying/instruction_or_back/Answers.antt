@@ -1,9 +1,14 @@
-use Rattle.sre_machine.proofs.Failing.{turn_goes_on, turn_tried, turn_left, paid_so}
+use Rattle.sre_machine.proofs.Failing.{turn_goes_on, turn_tried, turn_left, turn_ended, paid_so}
 use Rattle.sre_machine.proofs.trying.instruction_or_back.Goals as goal
 
 pub instruction-requires : goal.instruction-requires
 instruction-requires g c =
     c.is_hopeless.ensures.leaves.stays c.if-is_hopeless.false c.requires.stands
+
+pub returns-in-Some-clause-turn : goal.returns-in-Some-clause-turn
+returns-in-Some-clause-turn g c =
+    turn_ended c.args.req.now c.args.place c.args.cursor c.in-Some.end c.args.board.now c.args.memo.now
+    c.in-Some.ensures
 
 pub returns-then-is_hopeless-clause-turn : goal.returns-then-is_hopeless-clause-turn
 returns-then-is_hopeless-clause-turn g c =

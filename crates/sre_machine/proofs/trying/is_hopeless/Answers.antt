@@ -19,3 +19,9 @@ returns-then-not-may_branch-clause-leaves g c =
 pub returns-then-not-may_branch-clause-tries : goal.returns-then-not-may_branch-clause-tries
 returns-then-not-may_branch-clause-tries g c = λ _ _ on.
     absurd (branches_not c.args.req.now c.args.place on (c.may_branch.ensures c.if-not-may_branch.true))
+
+pub returns-else-not-may_branch-clause-tries : goal.returns-else-not-may_branch-clause-tries
+returns-else-not-may_branch-clause-tries g c = λ told _ _. c.has_failed.ensures.tries told
+
+pub returns-in-Marked-clause-tries : goal.returns-in-Marked-clause-tries
+returns-in-Marked-clause-tries g c = λ told _ _. c.has_failed_marked.ensures.tries told

@@ -11,6 +11,7 @@ use Rattle.sre_machine.proofs.trying.keep.Goals as goal
 pub returns-then-is_unmarked-clause-remembers : goal.returns-then-is_unmarked-clause-remembers
 returns-then-is_unmarked-clause-remembers g c =
     recalls_kept (run_of c.args.req.now) c.args.memo.now c.keep.new.self c.keep.ensures.same
+    c.keep.ensures.kept.stay
     (fails_kept c.args.req.now no_marks c.args.memo.now.kept c.keep.new.self.kept c.items-words.result.now c.args.place
     c.position.result c.args.cursor.position c.args.board.now
     (c.items-words.ensures.same ∙ ap items_of c.pattern_codes.ensures) c.position.ensures c.keep.ensures.kept.more

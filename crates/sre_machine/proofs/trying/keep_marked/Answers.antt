@@ -3,7 +3,8 @@ use Rattle.sre_code.specs.Codes.{items_of}
 use Rattle.sre_model.specs.Marks.{Marks, no_marks}
 use Rattle.sre_board.specs.Failures.{Remembers}
 use Rattle.sre_request.specs.Runs.{run_of}
-use Rattle.sre_machine.specs.Memos.{MemoValue, Covers}
+use Rattle.sre_machine.specs.Memos.{MemoValue, Covers, EndsStay}
+use Rattle.sre_machine.proofs.Recalling.{bits_stay, ends_kept, still_markless}
 use Rattle.sre_machine.proofs.Failing.{fails_kept}
 use Rattle.sre_machine.proofs.trying.keep_marked.Goals as goal
 
@@ -11,9 +12,14 @@ pub returns-then-is_marked_so-clause-remembers : goal.returns-then-is_marked_so-
 returns-then-is_marked_so-clause-remembers g c =
     let r = run_of c.args.req.now in
     let m = c.args.memo.now in
-    let m' = c.keep_marked.new.self in record {
-      plain = subst (λ k. Remembers r no_marks k) (sym (ap (λ (x : MemoValue). x.kept) c.keep_marked.ensures.same))
-          c.requires.remembers.plain;
+    let m' = c.keep_marked.new.self in
+    let kept = ap (λ (x : MemoValue). x.kept) c.keep_marked.ensures.same in
+    let ends : EndsStay m m' = (
+      ap (λ (x : MemoValue). x.ends) c.keep_marked.ensures.same,
+      ap (λ (x : MemoValue). x.keeps_ends) c.keep_marked.ensures.same,
+    ) in
+    record {
+      plain = subst (λ k. Remembers r no_marks k) (sym kept) c.requires.remembers.plain;
       marked = subst (λ (x : Marks). Remembers r x m'.marked.kept) (sym c.keep_marked.ensures.marks)
           (fails_kept c.args.req.now m.marked.marks m.marked.kept m'.marked.kept c.items-words.result.now c.args.place
           c.position.result c.args.cursor.position c.args.board.now
@@ -22,4 +28,6 @@ returns-then-is_marked_so-clause-remembers g c =
           (c.requires.failed m.marked.marks (c.is_marked_so.ensures c.if-is_marked_so.true))
           c.requires.remembers.marked);
       covers = subst (λ end. Covers r.words end) (sym c.keep_marked.ensures.end) c.requires.remembers.covers;
+      ends = ends_kept r m m' ends (bits_stay m.kept m'.kept kept) c.requires.remembers;
+      markless = still_markless r m m' ends (bits_stay m.kept m'.kept kept) c.requires.remembers;
     }

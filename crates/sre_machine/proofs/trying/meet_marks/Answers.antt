@@ -6,6 +6,7 @@ use Rattle.sre_machine.proofs.trying.meet_marks.Goals as goal
 
 pub returns-then-may_branch-clause-remembers : goal.returns-then-may_branch-clause-remembers
 returns-then-may_branch-clause-remembers g c =
-    recalls_met (run_of c.args.req.now) c.args.memo.now c.meets.new.self c.meets.ensures.kept c.meets.ensures.marked
+    recalls_met (run_of c.args.req.now) c.args.memo.now c.meets.new.self c.meets.ensures.kept c.meets.ensures.ends
+    c.meets.ensures.marked
     c.items.result.now (c.items.ensures.same ∙ ap items_of c.pattern_codes.ensures) c.meets.ensures.end
     c.requires.remembers

@@ -1,4 +1,4 @@
-use Rattle.std.proofs.Common.{◌≡◌, ◌-◌, ◌∙◌, inl, true, refl, arith, ap}
+use Rattle.std.proofs.Common.{◌≡◌, ◌-◌, ◌∙◌, inl, inr, true, refl, arith, ap}
 use Rattle.sre_turns.specs.Machine.{StandsWithin}
 use Rattle.sre_turns.specs.declared.Next.TheVariants as next
 use Rattle.sre_model.proofs.TurnBounds.{turn_spent, last_spent}
@@ -9,11 +9,25 @@ use Rattle.sre_machine.specs.Allowances.{left_of}
 use Rattle.sre_machine.specs.Memos.{MemoValue}
 use Rattle.sre_machine.proofs.Taken.{stands_at, proceeds_taken, later_taken, again_taken, end_taken}
 use Rattle.sre_machine.specs.Paying.{Pays}
+use Rattle.sre_machine.proofs.Paying.{pays_nothing}
 use Rattle.sre_machine.proofs.Following.{follows_on, given_up, settles, nothing_granted, stands_there}
-use Rattle.sre_machine.proofs.Following.{counts_on, waited_on, same_memo, kept_memo}
+use Rattle.sre_machine.proofs.Following.{counts_on, waited_on, same_memo, kept_memo, ended_memo, ends_kept_then}
 use Rattle.sre_turns.proofs.Faring.{again_free}
 use Rattle.sre_turns.proofs.Moving.{arrived}
 use Rattle.sre_machine.proofs.turns.remembering_turns.Goals as goal
+
+pub keep_ends-requires-clause-ends : goal.keep_ends-requires-clause-ends
+keep_ends-requires-clause-ends g c =
+    let r = run_of c.args.req.now in
+    let stands : StandsWithin r g.K.Plan.all (g.K.Plan.limit - c.turn.turned) c.turn.next c.turns_due-turns.new.board =
+    rw c.turns_due-turns.ensures.board c.turn.invariant.stands in
+    let here = stands_at r _ _ _ _ _ c.in-Done.is stands in
+    record { all = g.K.Plan.all; limit = here.limit; ends = here.stands }
+
+pub keep_ends-requires-clause-remembers : goal.keep_ends-requires-clause-remembers
+keep_ends-requires-clause-remembers g c =
+    recalls_waited (run_of c.args.req.now) c.turn.memo c.waits_on.new.memo c.waits_on.ensures.same
+    c.turn.invariant.remembers
 
 pub returns-then-is_accepted-clause-decides : goal.returns-then-is_accepted-clause-decides
 returns-then-is_accepted-clause-decides g c =
@@ -24,6 +38,24 @@ returns-then-is_accepted-clause-decides g c =
           c.turns_due-turns.new.board c.end.new.board _ c.in-Done.is c.position.ensures c.is_accepted.ensures
           c.in-None-end.ensures stands.stands c.if-is_accepted.true;
       opened = λ o. absurd (cc o);
+    }
+
+pub turn-init : goal.turn-init
+turn-init g c =
+    let r = c.args.req.now in
+    let m = c.args.memo.now in record {
+      stands = c.requires.stands;
+      follows = record {
+        each = λ limit x.
+            (limit, x, refl, refl, refl, pays_nothing r m m limit limit refl (λ h. h) refl refl);
+      };
+      within = c.requires.within;
+      limited = refl;
+      fewer = omega arith;
+      spent = omega arith;
+      counts = record { spent = λ h. inr (h, λ pl. omega arith) };
+      waited = λ w. record { closed = c.may_wait-waits.ensures.closed w; turns = omega arith };
+      remembers = c.requires.remembers;
     }
 
 pub turn-preserved : goal.turn-preserved
@@ -40,10 +72,11 @@ turn-preserved g c =
       follows =
           follows_on c.args.req.now g.K.Plan.all c.args.first c.args.board.now c.args.memo.now c.args.turned.now
           c.turn.next
-          next.Back c.turn.board c.end.new.board c.turn.memo c.waits_on.new.memo c.waits_on.new.memo
+          next.Back c.turn.board c.end.new.board c.turn.memo c.waits_on.new.memo c.keep_ends.new.memo
           c.turn.turned c.tick.new.self c.tick.ensures c.waits_on.ensures.same
-          (λ l x. nothing_granted c.args.req.now g.K.Plan.all c.args.first c.args.board.now c.args.memo.now
-          c.args.turned.now next.Back c.end.new.board c.waits_on.new.memo l
+          (λ l x. ends_kept_then c.args.req.now g.K.Plan.all c.args.first c.args.board.now c.args.memo.now
+          c.args.turned.now next.Back c.end.new.board c.waits_on.new.memo c.keep_ends.new.memo l
+          c.keep_ends.ensures.same
           (refused_over r _ l c.position.result c.turn.next c.in-Done.cursor c.turns_due-turns.new.board
           c.end.new.board _
           c.in-Done.is c.position.ensures c.is_accepted.ensures c.in-None-end.ensures
@@ -51,22 +84,22 @@ turn-preserved g c =
           c.turns_due-turns.ensures.board x) c.if-is_accepted.false)) c.turn.invariant.follows;
       stands = t.1;
       within = omega (arith, c.tick.ensures, t.0);
-      remembers =
-          recalls_waited (run_of c.args.req.now) c.turn.memo c.waits_on.new.memo c.waits_on.ensures.same
-          c.turn.invariant.remembers;
+      remembers = c.keep_ends.ensures.remembers;
       counts =
           counts_on c.args.req.now g.K.Plan.all c.args.first c.args.board.now c.args.memo.now
           c.args.turned.now c.turn.memo c.turn.turned (left_of c.args.allowed.now) (left_of c.turn.allowed)
           (left_of c.takes_turns.new.allowed)
           c.turns_due-turns.result c.turn.invariant.counts c.turns_due-turns.ensures.each c.takes_turns.ensures.spent
-          c.waits_on.new.memo c.tick.new.self c.tick.ensures
-          (λ h. inl (ap (λ (k : MemoValue). k.is_open) c.waits_on.ensures.same ∙ h));
+          c.keep_ends.new.memo c.tick.new.self c.tick.ensures
+          (λ h. inl (ap (λ (k : MemoValue). k.is_open) c.keep_ends.ensures.same
+          ∙ (ap (λ (k : MemoValue). k.is_open) c.waits_on.ensures.same ∙ h)));
       waited = λ w.
-          waited_on c.args.memo.now c.turn.memo c.waits_on.new.memo c.waits_on.new.memo (left_of c.args.allowed.now)
-          (left_of c.turn.allowed) (left_of c.takes_turns.new.allowed) c.turns_due-turns.result (c.turn.invariant.waited w)
+          waited_on c.args.memo.now c.turn.memo c.waits_on.new.memo c.keep_ends.new.memo (left_of c.args.allowed.now)
+          (left_of c.turn.allowed) (left_of c.takes_turns.new.allowed) c.turns_due-turns.result
+          (c.turn.invariant.waited w)
           c.waits_on.ensures.same
           (c.waits_on.ensures.waited c.if-not-waits_on.false w) c.takes_turns.ensures.spent
-          (λ h. (refl, refl));
+          (λ h. ended_memo c.waits_on.new.memo c.keep_ends.new.memo c.keep_ends.ensures.same);
       limited = c.takes_turns.ensures.limited ∙ c.turn.invariant.limited;
       fewer = omega (arith, c.turn.invariant.fewer, c.takes_turns.ensures.fewer);
       spent = rw c.tick.ensures (turn_spent _ _ _ _ _ c.turn.invariant.spent
@@ -116,7 +149,8 @@ turn-preserved-in-At g c =
       waited = λ w.
           waited_on c.args.memo.now c.turn.memo c.waits_on.new.memo c.instruction_or_back.new.memo
           (left_of c.args.allowed.now)
-          (left_of c.turn.allowed) (left_of c.takes_turns.new.allowed) c.turns_due-turns.result (c.turn.invariant.waited w)
+          (left_of c.turn.allowed) (left_of c.takes_turns.new.allowed) c.turns_due-turns.result
+          (c.turn.invariant.waited w)
           c.waits_on.ensures.same
           (c.waits_on.ensures.waited c.if-not-waits_on.false w) c.takes_turns.ensures.spent
           (λ h. same_memo c.waits_on.new.memo c.instruction_or_back.new.memo (c.in_ok-next-in-At.ensures.closed h));
@@ -169,7 +203,8 @@ turn-preserved-in-Again g c =
           (λ h. inl (ap (λ (k : MemoValue). k.is_open) c.waits_on.ensures.same ∙ h));
       waited = λ w.
           waited_on c.args.memo.now c.turn.memo c.waits_on.new.memo c.waits_on.new.memo (left_of c.args.allowed.now)
-          (left_of c.turn.allowed) (left_of c.takes_turns.new.allowed) c.turns_due-turns.result (c.turn.invariant.waited w)
+          (left_of c.turn.allowed) (left_of c.takes_turns.new.allowed) c.turns_due-turns.result
+          (c.turn.invariant.waited w)
           c.waits_on.ensures.same
           (c.waits_on.ensures.waited c.if-not-waits_on.false w) c.takes_turns.ensures.spent
           (λ h. (refl, refl));
@@ -192,30 +227,31 @@ turn-preserved-in-Some-end g c =
           follows_on c.args.req.now g.K.Plan.all c.args.first c.args.board.now c.args.memo.now c.args.turned.now
           c.turn.next
           c.in-Some-end.after c.turn.board c.end.new.board c.turn.memo c.waits_on.new.memo
-          c.waits_on.new.memo c.turn.turned c.tick.new.self c.tick.ensures c.waits_on.ensures.same
-          (λ l x. nothing_granted c.args.req.now g.K.Plan.all c.args.first c.args.board.now c.args.memo.now
-          c.args.turned.now c.in-Some-end.after c.end.new.board c.waits_on.new.memo l
+          c.keep_ends.new.memo c.turn.turned c.tick.new.self c.tick.ensures c.waits_on.ensures.same
+          (λ l x. ends_kept_then c.args.req.now g.K.Plan.all c.args.first c.args.board.now c.args.memo.now
+          c.args.turned.now c.in-Some-end.after c.end.new.board c.waits_on.new.memo c.keep_ends.new.memo l
+          c.keep_ends.ensures.same
           (c.in-Some-end.ensures g.K.Plan.all l
           (stands_there r _ l c.turn.next (next.Done c.in-Done.cursor) c.turn.board c.turns_due-turns.new.board
           c.in-Done.is c.turns_due-turns.ensures.board x))) c.turn.invariant.follows;
       stands = t.1;
       within = omega (arith, c.tick.ensures, t.0);
-      remembers =
-          recalls_waited (run_of c.args.req.now) c.turn.memo c.waits_on.new.memo c.waits_on.ensures.same
-          c.turn.invariant.remembers;
+      remembers = c.keep_ends.ensures.remembers;
       counts =
           counts_on c.args.req.now g.K.Plan.all c.args.first c.args.board.now c.args.memo.now
           c.args.turned.now c.turn.memo c.turn.turned (left_of c.args.allowed.now) (left_of c.turn.allowed)
           (left_of c.takes_turns.new.allowed)
           c.turns_due-turns.result c.turn.invariant.counts c.turns_due-turns.ensures.each c.takes_turns.ensures.spent
-          c.waits_on.new.memo c.tick.new.self c.tick.ensures
-          (λ h. inl (ap (λ (k : MemoValue). k.is_open) c.waits_on.ensures.same ∙ h));
+          c.keep_ends.new.memo c.tick.new.self c.tick.ensures
+          (λ h. inl (ap (λ (k : MemoValue). k.is_open) c.keep_ends.ensures.same
+          ∙ (ap (λ (k : MemoValue). k.is_open) c.waits_on.ensures.same ∙ h)));
       waited = λ w.
-          waited_on c.args.memo.now c.turn.memo c.waits_on.new.memo c.waits_on.new.memo (left_of c.args.allowed.now)
-          (left_of c.turn.allowed) (left_of c.takes_turns.new.allowed) c.turns_due-turns.result (c.turn.invariant.waited w)
+          waited_on c.args.memo.now c.turn.memo c.waits_on.new.memo c.keep_ends.new.memo (left_of c.args.allowed.now)
+          (left_of c.turn.allowed) (left_of c.takes_turns.new.allowed) c.turns_due-turns.result
+          (c.turn.invariant.waited w)
           c.waits_on.ensures.same
           (c.waits_on.ensures.waited c.if-not-waits_on.false w) c.takes_turns.ensures.spent
-          (λ h. (refl, refl));
+          (λ h. ended_memo c.waits_on.new.memo c.keep_ends.new.memo c.keep_ends.ensures.same);
       limited = c.takes_turns.ensures.limited ∙ c.turn.invariant.limited;
       fewer = omega (arith, c.turn.invariant.fewer, c.takes_turns.ensures.fewer);
       spent = rw c.tick.ensures (turn_spent _ _ _ _ _ c.turn.invariant.spent
@@ -254,7 +290,8 @@ turn-preserved-in-Some g c =
           (ap (λ (k : MemoValue). k.is_open) c.waits_on.ensures.same ∙ h)));
       waited = λ w.
           waited_on c.args.memo.now c.turn.memo c.waits_on.new.memo c.back.new.memo (left_of c.args.allowed.now)
-          (left_of c.turn.allowed) (left_of c.takes_turns.new.allowed) c.turns_due-turns.result (c.turn.invariant.waited w)
+          (left_of c.turn.allowed) (left_of c.takes_turns.new.allowed) c.turns_due-turns.result
+          (c.turn.invariant.waited w)
           c.waits_on.ensures.same
           (c.waits_on.ensures.waited c.if-not-waits_on.false w) c.takes_turns.ensures.spent
           (λ h. kept_memo c.waits_on.new.memo c.back.new.memo c.in_ok-after-in-Back.ensures.same);

@@ -1,18 +1,11 @@
-use Rattle.std.proofs.Common.{◌∙◌, ap, sym, subst}
-use Rattle.sre_request.specs.Runs.{run_of}
-use Rattle.sre_machine.specs.Memos.{Covers}
+use Rattle.std.proofs.Common.{◌∙◌, ap}
 use Rattle.sre_machine.specs.declared.turns.Decision.TheVariants.{Decided}
 use Rattle.sre_machine.proofs.Following.{anew_given_up, anew_settles, passed_up}
 use Rattle.sre_machine.proofs.Halting.{never_told}
-use Rattle.sre_machine.proofs.Recalling.{recalls_none}
 use Rattle.sre_machine.proofs.runner.Runner.run_anew.Goals as goal
 
 pub run_once-requires-clause-remembers : goal.run_once-requires-clause-remembers
-run_once-requires-clause-remembers g c =
-    let r = run_of c.args.req.now in
-    let before = rw (← c.self.view_is) at c.requires.remembers in
-    recalls_none r c.open.new.self.kept c.open.new.self.marked c.open.ensures.none c.open.ensures.unmarked
-    (subst (λ end. Covers r.words end) (sym c.open.ensures.end) before.covers)
+run_once-requires-clause-remembers g c = c.open.ensures.recalls (rw (← c.self.view_is) at c.requires.remembers)
 
 pub returns-in_err-found-clause-costs : goal.returns-in_err-found-clause-costs
 returns-in_err-found-clause-costs g c = record {

@@ -1,0 +1,15 @@
+use Rattle.std.proofs.Common.{◌≡◌, ap, ◌∙◌, true, rules}
+use Rattle.sre_code.specs.Codes.{items_of}
+use Rattle.sre_turns.specs.Fruit.{is_inside}
+use Rattle.sre_machine.specs.declared.trying.Keeping.TheVariants.{Unmarked}
+use Rattle.sre_machine.proofs.KnownEnds.{known_there}
+use Rattle.sre_machine.proofs.body_ends.known_end.Goals as goal
+
+pub returns : goal.returns
+returns g c =
+    let b = c.args.board.now in
+    let inside : is_inside b.choices ≡ true = search rules in
+    let plain : c.args.keeping ≡ Unmarked = search rules in
+    known_there c.args.req.now c.args.place c.position.result c.args.cursor b c.args.memo.now c.items.result.now
+    (c.items.ensures.same ∙ ap items_of c.pattern_codes.ensures) c.position.ensures inside
+    (c.requires.keeping.unmarked plain) c.requires.remembers c.end.ensures.laid c.end.result c.end.ensures.told

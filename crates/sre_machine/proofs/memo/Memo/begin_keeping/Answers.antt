@@ -1,0 +1,26 @@
+use Rattle.std.proofs.Common.{◌≡◌, Bool, true, false, not, subst, refl}
+use Rattle.sre_model.specs.MarksSet.{marks_in_regions}
+use Rattle.sre_model.specs.Tree.{Tree}
+use Rattle.sre_model.specs.Grammar.{Whole}
+use Rattle.sre_model.proofs.TreeOf.{tree_of}
+use Rattle.sre_turns.proofs.Bodies.{markless_regions}
+use Rattle.sre_code.specs.Codes.{words_of, items_of}
+use Rattle.sre_code.specs.declared.code.Code.{Code}
+use Rattle.sre_code.proofs.Checked.{whole_of, whole_items}
+use Rattle.sre_request.specs.Requests.{code_of}
+use Rattle.sre_request.specs.Runs.{run_of}
+use Rattle.sre_machine.proofs.memo.Memo.begin_keeping.Goals as goal
+
+pub returns-clause-markless : goal.returns-clause-markless
+returns-clause-markless g c = λ keeps.
+    let code = code_of c.args.req.now in
+    let t = tree_of (items_of code) in
+    let w = whole_of code in
+    let none : marks_in_regions t ≡ false =
+    subst (λ (d : Code). (u : Tree) → Whole (words_of d) u → marks_in_regions u ≡ false) c.pattern_codes.ensures
+    (c.regions_set_marks.ensures (turned c.regions_set_marks.result keeps)) t (whole_items code t w) in
+    markless_regions (run_of c.args.req.now).words t w none
+  where
+    turned : (b : Bool) → not b ≡ true → b ≡ false
+    turned true never = absurd (cc)
+    turned false e = refl

@@ -1,0 +1,59 @@
+//! Where the bodies of regions end: kept for each instruction that was tried inside, and gone to at once from one that is
+//! alike.
+//!
+//! Of what comes of a spot inside a region the first outcome alone counts, and where no region sets a mark that is told
+//! by where it stops. So a body that has ended once is not run again from the same place and position.
+
+ghost use Rattle.std.specs.Prelude.{◌≡◌, IfSome};
+ghost use Rattle.sre_machine.specs.Memos.{RecallsOf};
+ghost use Rattle.sre_machine.specs.Turns.{At, IsKeeping, EndsThere, BodyEnds};
+
+use crate::memo::Memo;
+use crate::trying::{Keeping, is_unmarked, may_branch};
+use sre_board::Board;
+use sre_chars::string::{StrDrive, StringCursor};
+use sre_request::Request;
+use std::alloc::Allocator;
+
+/// Where the body of the innermost region ends, from an instruction inside of which that is kept.
+#[inline(always)]
+pub(super) fn known_end<S: StrDrive, A: Allocator>(
+    req: &Request<'_, S>,
+    board: &Board<A>,
+    memo: &Memo<A>,
+    keeping: Keeping,
+    place: usize,
+    cursor: StringCursor,
+) -> Option<StringCursor>
+    requires stands { At req.now place cursor }
+    requires remembers { RecallsOf req.now memo.now }
+    requires keeping { IsKeeping req.now keeping board.now memo.now }
+    ensures { IfSome result (λ end. EndsThere req.now place cursor board.now end) }
+{
+    if keeping != Keeping::Unmarked || !board.is_inside() || !memo.keeps_ends() {
+        return None;
+    }
+    if !may_branch(req, place, cursor) {
+        return None;
+    }
+    memo.end(req.pattern_codes().items(), board, place, cursor.position())
+}
+
+/// The body of the innermost region, if there is one, ends at a cursor: that is kept for each instruction that is tried
+/// inside.
+#[inline(always)]
+pub(super) fn keep_ends<S: StrDrive, A: Allocator>(
+    req: &Request<'_, S>,
+    board: &Board<A>,
+    memo: &mut Memo<A>,
+    cursor: StringCursor,
+)
+    requires ends { BodyEnds req.now cursor board.now }
+    requires remembers { RecallsOf req.now memo.old }
+    ensures remembers { RecallsOf req.now memo.new }
+    ensures same { memo.new ≡ record memo.old { ends = memo.new.ends } }
+{
+    if memo.keeps_ends() && board.is_inside() && is_unmarked(req, board) {
+        memo.keep_ends(req.pattern_codes().items(), board, cursor);
+    }
+}
