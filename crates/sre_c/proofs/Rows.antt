@@ -9,10 +9,9 @@ use Rattle.sre_model.specs.Found.{Asked, Match, walk}
 use Rattle.sre_code.specs.Codes.{words_of}
 use Rattle.sre_request.specs.declared.request.Request.{Request}
 use Rattle.sre_engine.specs.Requests.{start_of, code_of, asked_of, must_advance_of}
-use Rattle.sre_engine.specs.Walks.{match_shown}
+use Rattle.sre_engine.specs.Answers.{match_shown}
 use Rattle.sre_engine.specs.declared.engine.search_iter.SearchIter.{SearchIter}
 use Rattle.sre_engine.specs.Iterators.{request_of, shown_of, Gives, NextWithin}
-use Rattle.sre_engine.proofs.Walking.{asked_next}
 use Rattle.sre_c.specs.declared.types.SreWalked.{SreWalked}
 use Rattle.sre_c.specs.Walked.{IsRow, AreRows, IsWritten}
 use Rattle.sre_c.specs.Rows.{IsSoFar}
@@ -66,13 +65,13 @@ module _ {S A : Type 0} {text : Ghosts S} (first : Request S text) (it next : Se
   asked_then : asked_of (request_of next)
       ≡ record (asked_of (request_of it)) { start = u.start; must_advance = u.must_advance }
   asked_then =
-      asked_next (request_of it) (shown_of next) (request_of next) gives.request
+      gives.request.asked
       ∙ ap (λ p. record (asked_of (request_of it)) {
         start = p;
         must_advance = nat_eq (shown_of next).cursor.position (shown_of next).start;
-      }) (sym (start ∙ gives.request.start))
+      }) (sym (start ∙ ap (λ (a : Asked). a.start) gives.request.asked))
       ∙ ap (λ b. record (asked_of (request_of it)) { start = u.start; must_advance = b })
-      (sym (advance ∙ gives.request.must_advance))
+      (sym (advance ∙ ap (λ (a : Asked). a.must_advance) gives.request.asked))
 
   left_then : (t : Tree) → Whole (words_of (code_of (request_of it))) t
       → walk (asked_of (request_of it)) t ≡ match_shown (shown_of next) ∷ walk (asked_of (request_of next)) t
@@ -94,5 +93,6 @@ module _ {S A : Type 0} {text : Ghosts S} (first : Request S text) (it next : Se
     same = asked_then ∙ ap (λ (a : Asked). record a { start = u.start; must_advance = u.must_advance }) before.same;
     inside =
         let last = ap (λ (a : Asked). a.end) before.same in
-        omega (arith, start, gives.request.start, gives.request.span.inside, last);
+        let at = ap (λ (a : Asked). a.start) gives.request.asked in
+        omega (arith, start, at, gives.request.span.inside, last);
   }

@@ -8,8 +8,7 @@ ghost use Rattle.sre_model.specs.Found.{found, matched};
 ghost use Rattle.sre_growth.specs.Refusal.{Refused};
 ghost use Rattle.sre_engine.specs.Codes.{words_of, uni_of};
 ghost use Rattle.sre_engine.specs.Requests.{asked_of, code_of, stands_in};
-ghost use Rattle.sre_engine.specs.Answers as Shown;
-ghost use Rattle.sre_engine.specs.Walks.{match_shown};
+ghost use Rattle.sre_engine.specs.Answers.{answer_of, match_shown};
 ghost use Rattle.sre_c.specs.Known.{table_in};
 ghost use Rattle.sre_c.specs.Given.{asked_in, IsEnough};
 ghost use Rattle.sre_c.specs.Answered.{mark_number, IsFound, IsTold, Answers};
@@ -69,9 +68,9 @@ fn ask<S: StrDrive>(
     search: bool,
     turns: &mut u64,
 ) -> Result<Option<bool>, SreError>
-    ensures answers { (t : Tree) → Whole (words_of (code_of request.entry)) t → IfOk result (λ told. IfSome told
-        (λ b. Shown.Answers (stands_in request.entry)
-        (cond search (found (asked_of request.entry) t) (matched (asked_of request.entry) t)) b state.new)) }
+    ensures answer { (t : Tree) → Whole (words_of (code_of request.entry)) t → IfOk result (λ told. IfSome told
+        (λ b. answer_of b state.new
+        ≡ cond search (found (asked_of request.entry) t) (matched (asked_of request.entry) t))) }
     ensures used { IfOk result (λ told. told ≡ None → turns.new ≡ 0) }
     ensures fewer { turns.new ≤ turns.old }
     ensures enough { IsEnough (words_of (code_of request.entry)) (asked_of request.entry) turns.old

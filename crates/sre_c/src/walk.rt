@@ -3,7 +3,7 @@
 ghost use Rattle.std.specs.Prelude.{◌≡◌, ◌<◌, ◌≤◌, ◌+◌, ℕ, length, slice_index, false};
 ghost use Rattle.sre_engine.specs.Requests.{start_of, end_of, must_advance_of};
 ghost use Rattle.sre_engine.specs.Iterators.{request_of, has_ended};
-ghost use Rattle.sre_engine.specs.Walks.{match_shown};
+ghost use Rattle.sre_engine.specs.Answers.{match_shown};
 ghost use Rattle.sre_c.specs.Known.{table_in};
 ghost use Rattle.sre_c.specs.Walked.{index_number, entry_of, begun_of, IsRow, Walks};
 ghost use Rattle.sre_c.specs.Rows.{WritesRows};

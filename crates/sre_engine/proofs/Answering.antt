@@ -1,6 +1,6 @@
 -- The first accepted outcome of a run is the match.
 
-use Rattle.std.proofs.Common.{[], ◌≡◌, ◌≤◌, ℕ, Bool, true, false, arith, Option, Some, None, refl}
+use Rattle.std.proofs.Common.{[], ◌≡◌, ◌≤◌, ℕ, arith, Option, Some, None}
 use Rattle.std.proofs.Common.{sym, ap, ◌∙◌, subst}
 use Rattle.sre_chars.specs.declared.string.StringCursor.{StringCursor}
 use Rattle.sre_model.specs.Tree.{Tree}
@@ -10,7 +10,6 @@ use Rattle.sre_model.specs.Found.{Asked, Match, subject_of, is_accepted, at_star
 use Rattle.sre_turns.specs.Machine.{Decides, outcomes}
 use Rattle.sre_model.specs.Runs.{Run}
 use Rattle.sre_engine.specs.Starts.{NoneBetween}
-use Rattle.sre_engine.specs.Answers.{Shown, Answers, AnswersAnywhere, answer_of}
 use Rattle.sre_model.proofs.FoundLaws.{match_of_first, first_accepted-filter, at_start-is, least-found}
 
 -- what a run for a request decides about; the words are those of its tree, whatever they are
@@ -34,39 +33,6 @@ module _ (stands : StringCursor → ℕ → Type 0) (a : Asked) (t : Tree) (p : 
   -- the match lies in the window
   pub span_at : p ≤ a.end → (end : StringCursor) → decided ≡ Some end → (p ≤ end.position) × (end.position ≤ a.end)
   span_at inside end is = let from = at_start-is a t p _ inside (some_at end is).1 in (from.order, from.end)
-
--- an answer yes, with the match that the state shows
-pub answers_yes : (stands : StringCursor → ℕ → Type 0) (match : Option Match) (p : ℕ) (end : StringCursor)
-    (shown : Shown)
-    → shown.start ≡ p → shown.cursor ≡ end → stands end end.position
-    → match ≡ Some (record { start = p; end = end.position; marks = shown.marks }) → Answers stands match true shown
-answers_yes stands match p end shown start cursor there some = rw some (
-  refl,
-  record {
-    start = start;
-    at = ap (λ x. x.position) cursor;
-    end = subst (λ x. stands x end.position) (sym cursor) there;
-    marks = refl;
-  },
-)
-
--- an answer no
-pub answers_no : (stands : StringCursor → ℕ → Type 0) (match : Option Match) (shown : Shown) → match ≡ None
-    → Answers stands match false shown
-answers_no stands match shown none = rw none refl
-
--- an answer is the model's match
-pub given-answer : (stands : StringCursor → ℕ → Type 0) (match : Option Match) (b : Bool) (shown : Shown)
-    → Answers stands match b shown → answer_of b shown ≡ match
-given-answer stands None b shown none = rw none refl
-given-answer stands (Some m) b shown some = rw (some.0, some.1.start, some.1.at, some.1.marks) refl
-
--- an answer tells its match
-pub told : (stands : StringCursor → ℕ → Type 0) (match : Option Match) (b : Bool) (shown : Shown)
-    → Answers stands match b shown → AnswersAnywhere match b shown
-told stands None b shown none = none
-told stands (Some m) b shown some =
-    let s = some.1 in (some.0, record { start = s.start; at = s.at; end = tt; marks = s.marks })
 
 -- no start before a position has a match
 abbrev pub NoneBefore : Asked → Tree → ℕ → Type 0

@@ -1,10 +1,11 @@
 -- Turns that are enough for a search, where all that failed is remembered, are not used up unless memory was refused.
-use Rattle.std.proofs.Common.{◌≡◌, ℕ, ◌+◌, ◌-◌, ◌*◌, ◌≤◌, inl, inr, Bool, None, Result, Ok, Err, refl, ap, ◌∙◌, subst, length, arith, mul-le-mul}
-use Rattle.std.proofs.Math.Nat.{mul_assoc, mul-le-mul_right}
+use Rattle.std.proofs.Common.{◌≡◌, ℕ, ◌+◌, ◌-◌, ◌*◌, ◌≤◌, inl, inr, Bool, None, Result, Ok, Err, refl, ap}
+use Rattle.std.proofs.Common.{◌∙◌, subst, length, arith}
+use Rattle.std.proofs.Math.Nat.{mul-le-mul_right}
 use Rattle.sre_chars.specs.declared.string.StrDrive.{Ghosts}
 use Rattle.sre_growth.specs.Refusal.{Refused}
-use Rattle.sre_model.specs.Remembered.{enough_turns, turns_between, most_ways}
-use Rattle.sre_board.specs.Accounts.{most_bits}
+use Rattle.sre_model.specs.Slots.{most_slots}
+use Rattle.sre_model.specs.Remembered.{window_positions, ways_at_most, enough_turns}
 use Rattle.sre_request.specs.declared.request.Request.{Request}
 use Rattle.sre_request.specs.Requests.{start_of, end_of, asked_of, code_of}
 use Rattle.sre_request.specs.Runs.{run_of}
@@ -16,26 +17,22 @@ use Rattle.sre_machine.specs.Allowances.{left_of}
 use Rattle.sre_machine.specs.declared.allowance.Allowance.{Allowance}
 use Rattle.sre_machine.specs.declared.turns.Halt.{Halt}
 use Rattle.sre_machine.specs.declared.turns.Halt.TheVariants as halt
-use Rattle.sre_machine.specs.Paying.{Remembering, weight, each_of}
+use Rattle.sre_machine.specs.Paying.{Remembering, each_of}
 
 -- runs from as many starts as there are, from where a memo begins, cost no more
 few : {S : Type 0} {text : Ghosts S} (r : Request S text) (pl : Remembering r) (runs : ℕ)
-    → runs ≤ end_of r + 1 - start_of r
+    → runs ≤ window_positions (asked_of r)
     → most_waits r + search_cost r pl runs (most_tolls r pl)
     ≤ enough_turns (length (run_of r).words) pl.plain.tree (asked_of r)
 few r pl runs l =
-    let places : ℕ = length (run_of r).words in
-    let own : runs * (2 * places + 4) ≤ (end_of r + 1 - start_of r) * (2 * places + 4) =
-    mul-le-mul l (omega arith) in
-    let bits : most_tolls r pl ≤ most_ways places pl.plain.tree (asked_of r) =
-    omega (arith, mul_assoc 2 (most_bits (run_of r) pl.plain (start_of r)) (weight r pl)) in
-    let tolls : most_tolls r pl * grant (run_of r).words
-    ≤ most_ways places pl.plain.tree (asked_of r) * turns_between places =
-    mul-le-mul bits (omega arith) in
-    let all : runs * (2 * places + 4) + most_tolls r pl * grant (run_of r).words
-    ≤ (end_of r + 1 - start_of r) * (2 * places + 4)
-    + most_ways places pl.plain.tree (asked_of r) * turns_between places =
-    omega (arith, own, tolls) in
+    let w : ℕ = length (run_of r).words in
+    let f : ℕ = window_positions (asked_of r) in
+    let s : ℕ = most_slots pl.plain.tree in
+    let ways : ℕ = 1 + ways_at_most pl.plain.tree (asked_of r) in
+    let own : runs * (2 * w + 4) ≤ f * (2 * w + 4) = mul-le-mul_right (2 * w + 4) l in
+    let tolls : most_tolls r pl * grant (run_of r).words ≤ f * (4 * w * (w + 3) * s * ways) = omega arith in
+    let all : runs * (2 * w + 4) + most_tolls r pl * grant (run_of r).words
+    ≤ f * (2 * w + 4 + 4 * w * (w + 3) * s * ways) = omega (arith, own, tolls) in
     omega (arith, mul-le-mul_right (each_of r pl) all)
 
 module _ {S : Type 0} {text : Ghosts S} (r : Request S text) (given : ℕ)

@@ -29,7 +29,6 @@ use Rattle.sre_engine.specs.Scans.{NoMatch}
 use Rattle.sre_engine.specs.Searches.{Answered, CountsInside}
 use Rattle.sre_engine.specs.declared.engine.candidates.Candidate.{Candidate}
 use Rattle.sre_engine.proofs.Answering.{NoneBefore, none_yet, none_at, some_at, span_at, found_first}
-use Rattle.sre_engine.proofs.Answering.{answers_yes, answers_no}
 use Rattle.sre_engine.proofs.Costing.{CostsSince, since_begin, since_run, since_given_up, gives_up_limited, passed_on}
 use Rattle.sre_engine.proofs.LeadingStarts.{none_joined, found_none_behind}
 use Rattle.sre_engine.proofs.MayStart.{RanBefore, ran_none, ran_later, ran_on, few_ran, counts_ran}
@@ -84,7 +83,8 @@ module _ {S : Type 0} {text : Ghosts S} (r : Request S text) where
       → s.marks ≡ no_marks → RanBefore (asked_of r) (code_of r) s.started p → p ≤ end_of r + 1
       → ComparesFew (asked_of r) (code_of r) s.compared → Answered {E = Halt} r (Ok false) s
   answered_no s p none marks ran l few = record {
-    ok = λ t whole. answers_no (stands_in r) _ s (none t whole);
+    answer = λ t whole. sym (none t whole);
+    cursor = λ never. absurd (cc never);
     span = λ never. absurd (cc never);
     no = λ e. marks;
     err = tt;
@@ -154,7 +154,8 @@ module _ {S : Type 0} {text : Ghosts S} (r : Request S text) (n n' : RunnerValue
       → s.marks ≡ no_marks → s.started ≡ n'.started → s.compared ≡ compared → Answered r result s
   answered_given_up why (Ok b) passed s marks started compares = absurd passed
   answered_given_up why (Err y) passed s marks started compares = record {
-    ok = tt;
+    answer = tt;
+    cursor = tt;
     span = tt;
     no = tt;
     err = marks;
@@ -162,7 +163,8 @@ module _ {S : Type 0} {text : Ghosts S} (r : Request S text) (n n' : RunnerValue
     up_to_match = tt;
   }
 
-  module _ (outcome : Option StringCursor) (decides : AttemptDecides r c.literals c.cursor.position (Ok outcome) n'.board)
+  module _ (outcome : Option StringCursor) (decides : AttemptDecides r c.literals c.cursor.position (Ok outcome)
+      n'.board)
     where
       decided : (t : Tree) → Whole (words_of (code_of r)) t
           → Decides (run_of r) (outcomes (run_of r) t c.start) outcome n'.board.marks
@@ -191,12 +193,15 @@ module _ {S : Type 0} {text : Ghosts S} (r : Request S text) (n n' : RunnerValue
           let own = some_at (stands_in r) (asked_of r) tree.0 c.start outcome n'.board.marks (decided tree.0 tree.1)
           end e in
           record {
-            ok = λ t whole.
-                let some = some_at (stands_in r) (asked_of r) t c.start outcome n'.board.marks (decided t whole) end e in
-                answers_yes (stands_in r) _ c.start end _ refl refl some.0
-                (found_first (asked_of r) t c.start _
+            answer = λ t whole.
+                let some = some_at (stands_in r) (asked_of r) t c.start outcome n'.board.marks (decided t whole) end e
+                in
+                sym (found_first (asked_of r) t c.start _
                 (none_joined (asked_of r) t _ _ (old.none t whole) (is.none.none t whole)) some.1
                 (omega (arith, old.from, is.none.forward)) inside refl);
+            cursor = λ _.
+                (some_at (stands_in r) (asked_of r) tree.0 c.start outcome n'.board.marks (decided tree.0 tree.1) end
+                e).0;
             span = λ _. (
               omega (arith, old.from, is.none.forward),
               record { starts = refl; forward = span.0; inside = span.1 },
@@ -238,7 +243,8 @@ module _ {S : Type 0} {text : Ghosts S} (r : Request S text) (n n' : RunnerValue
     spent = spent;
     costs = λ limited.
         let run = rw e at costs.settles (old.limited ∙ limited) in
-        since_run r n.memo n'.memo c.cursor _ _ _ n.started n'.started (old.costs limited) (run refl) from began.started;
+        since_run r n.memo n'.memo c.cursor _ _ _ n.started n'.started (old.costs limited) (run refl) from
+        began.started;
   }
 
 -- A match, of one run at one start
@@ -279,6 +285,7 @@ module _ {S : Type 0} {text : Ghosts S} (r : Request S text) (n n' : RunnerValue
     halted = passed_on result why _ passed halts;
     given_up = passed_on result why _ passed (λ used.
         let run = rw e at costs.given_up in
-        since_given_up r n.memo start _ _ _ 0 1 (since_begin r n.memo (left_of a) memo.waits memo.closed) (run used) from
+        since_given_up r n.memo start _ _ _ 0 1 (since_begin r n.memo (left_of a) memo.waits memo.closed) (run used)
+        from
         refl);
   }

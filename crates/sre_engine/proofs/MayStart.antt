@@ -1,6 +1,6 @@
 -- At how many starts a search ran: no more than there are at which a run may begin.
 use Rattle.std.proofs.Common.{◌≡◌, ◌≤◌, ◌+◌, ◌-◌, ◌*◌, ◌&&◌, ◌||◌, ℕ, List, [], Bool, true, false, not, length}
-use Rattle.std.proofs.Common.{Option, Some, None, refl, sym, ap, ◌∙◌, subst, arith}
+use Rattle.std.proofs.Common.{Option, Some, None, Result, Ok, Err, OnErr, refl, sym, ap, ◌∙◌, subst, arith}
 use Rattle.std.proofs.lemmas.Bool.Decides.{nat_tests}
 use Rattle.sre_model.specs.Tree.{SetItem}
 use Rattle.sre_model.specs.Found.{Asked, subject_of}
@@ -97,8 +97,10 @@ not_literal code plain =
     let said = code_confirmed code tree.0 tree.1 in
     said.literal ∙ claim_none (words_of code) tree.0 (sym said.prefix ∙ plain)
 
-pub never_literal : (code : Code) → (hints_of code).prefix ≡ None → (hints_of code).literal ≡ true → ⊥
-never_literal code plain all = let never : true ≡ false = sym all ∙ not_literal code plain in cc never
+-- what holds anyway holds on an error
+pub on_error : {A E P : Type 0} (told : Result A E) → P → OnErr told P
+on_error (Ok told) p = tt
+on_error (Err why) p = p
 
 -- The starts at which a run may begin
 

@@ -11,13 +11,12 @@ use Rattle.sre_code.specs.declared.code.Code.{Code}
 use Rattle.sre_chars.specs.declared.string.StrDrive.{Ghosts}
 use Rattle.sre_request.specs.declared.request.Request.{Request}
 use Rattle.sre_request.specs.Requests.{start_of, end_of, code_of, must_advance_of, asked_of}
-use Rattle.sre_engine.specs.Answers.{Shown}
+use Rattle.sre_engine.specs.Answers.{Shown, match_shown}
 use Rattle.sre_engine.specs.Counts.{CountsUpTo, StepsCount, width_fits, prefix_stands}
 use Rattle.sre_engine.specs.Searches.{CountsInside}
-use Rattle.sre_engine.specs.Walks.{match_shown, GoesOn}
+use Rattle.sre_engine.specs.Walks.{GoesOn}
 use Rattle.sre_engine.proofs.MayStart.{may_run}
 use Rattle.sre_engine.proofs.PrefixWays.{how_many_grows}
-use Rattle.sre_engine.proofs.Walking.{asked_next}
 
 -- two stretches, one behind the other
 how_many_add : (test : ℕ → Bool) (p n k : ℕ) → how_many test p (n + k) ≡ how_many test p n + how_many test (p + n) k
@@ -156,7 +155,7 @@ module _ {S : Type 0} {text : Ghosts S} (q r : Request S text) (n started compar
       let on = counts_on (asked_of q) (code_of q) (start_of r) (must_advance_of r) n started compared from before s
       (s.start + 1) s.cursor.position begun cost (own (s.start + 1) s.cursor.position counted)
       (omega (arith, goes.from)) (omega (arith, goes.from, goes.span.forward)) sum total in
-      subst (λ e. StepsCount (asked_of q) (code_of q) e e (n + 1) begun cost) (sym goes.start)
+      subst (λ e. StepsCount (asked_of q) (code_of q) e e (n + 1) begun cost) (sym (ap (λ x. x.start) goes.asked))
       (counts_match (asked_of q) (code_of q) s.start s.cursor.position n begun cost (omega (arith, from, goes.from))
       goes.span.forward on)
 
@@ -164,10 +163,10 @@ module _ {S : Type 0} {text : Ghosts S} (q r : Request S text) (n started compar
   pub asked_on : (u : Request S text) → GoesOn r s u
       → asked_of u ≡ step_of (asked_of q) (start_of u) (must_advance_of u)
   asked_on u goes =
-      asked_next r s u goes
+      goes.asked
       ∙ ap (λ x. asked_after x (match_shown s)) asked
-      ∙ ap (λ p. step_of (asked_of q) p (nat_eq s.cursor.position s.start)) (sym goes.start)
-      ∙ ap (step_of (asked_of q) (start_of u)) (sym goes.must_advance)
+      ∙ ap (λ p. step_of (asked_of q) p (nat_eq s.cursor.position s.start)) (sym (ap (λ x. x.start) goes.asked))
+      ∙ ap (step_of (asked_of q) (start_of u)) (sym (ap (λ x. x.must_advance) goes.asked))
 
 -- a list that has the walk up to a step has it up to the next one, with that step's match
 pub list_on : {A B : Type 0} (f : A → B) (xs ys : List A) (x : A) (m : B) (left next all : List B) → ys ≡ xs ++ x ∷ []

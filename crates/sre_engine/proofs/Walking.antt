@@ -1,43 +1,27 @@
 -- A step of a walk gives its first match, and leaves the walk from that match's end on.
-use Rattle.std.proofs.Common.{◌≡◌, ◌<◌, ◌∷◌, ℕ, List, Bool, true, false, Option, Some, None, refl, sym, ap, ◌∙◌}
+use Rattle.std.proofs.Common.{◌≡◌, ◌<◌, ◌∷◌, List, Bool, true, false, Some, sym, ap, ◌∙◌}
 use Rattle.std.proofs.Common.{subst}
 use Rattle.sre_chars.specs.declared.string.StrDrive.{Ghosts}
-use Rattle.sre_chars.specs.declared.string.StringCursor.{StringCursor}
 use Rattle.sre_model.specs.Tree.{Tree}
 use Rattle.sre_model.specs.Found.{Asked, Match, found, asked_after, walk}
 use Rattle.sre_model.specs.WalkBounds.{most_matches}
 use Rattle.sre_model.proofs.WalkLaws.{walk-end, walk-next, most_matches-falls}
 use Rattle.sre_request.specs.declared.request.Request.{Request}
-use Rattle.sre_request.specs.Requests.{string_of, start_of, asked_of, stands_in}
-use Rattle.sre_engine.specs.Answers.{Shown, Answers, answer_of}
-use Rattle.sre_engine.specs.Walks.{match_shown, StepsTo, GoesOn}
-use Rattle.sre_engine.proofs.Answering.{given-answer}
-
--- what is asked after a match that the state shows
-pub asked_next : {S : Type 0} {text : Ghosts S} (r : Request S text) (s : Shown) (u : Request S text) → GoesOn r s u
-    → asked_of u ≡ asked_after (asked_of r) (match_shown s)
-asked_next r s u goes =
-    rw (goes.string, goes.pattern_codes, goes.start, goes.end, goes.match_all, goes.must_advance, goes.empty_rule)
-    refl
+use Rattle.sre_request.specs.Requests.{string_of, start_of, stands_in}
+use Rattle.sre_engine.specs.Answers.{Shown, match_shown, answer_of}
+use Rattle.sre_engine.specs.Walks.{StepsTo, GoesOn}
 
 -- the cursor at its end stands where the window starts then
 pub stands_next : {S : Type 0} {text : Ghosts S} (r : Request S text) (s : Shown) (u : Request S text) → GoesOn r s u
     → stands_in u s.cursor (start_of u)
 stands_next {S} {text} r s u goes =
     subst (λ (x : S). text.stands x s.cursor (start_of u)) (sym goes.string)
-    (subst (text.stands (string_of r) s.cursor) (sym goes.start) goes.stands)
-
--- the cursor of an answer yes stands at the match's end
-pub stands_shown : (stands : StringCursor → ℕ → Type 0) (match : Option Match) (b : Bool) (s : Shown)
-    → Answers stands match b s → b ≡ true → stands s.cursor s.cursor.position
-stands_shown stands None b s answer is = absurd (cc)
-stands_shown stands (Some m) b s answer is = subst (stands s.cursor) (sym answer.1.at) answer.1.end
+    (subst (text.stands (string_of r) s.cursor) (sym (ap (λ a. a.start) goes.asked)) goes.stands)
 
 -- the answer to a search of a walk's window
-module _ (stands : StringCursor → ℕ → Type 0) (a : Asked) (t : Tree) (b : Bool) (s : Shown)
-    (answer : Answers stands (found a t) b s) where
+module _ (a : Asked) (t : Tree) (b : Bool) (s : Shown) (answer : answer_of b s ≡ found a t) where
   found_shown : b ≡ true → found a t ≡ Some (match_shown s)
-  found_shown is = sym (given-answer stands (found a t) b s answer) ∙ ap (λ c. answer_of c s) is
+  found_shown is = sym answer ∙ ap (λ c. answer_of c s) is
 
   -- a match, and the walk after it
   pub steps_on : b ≡ true → (after : Asked) → after ≡ asked_after a (match_shown s)
@@ -56,4 +40,4 @@ module _ (stands : StringCursor → ℕ → Type 0) (a : Asked) (t : Tree) (b : 
   pub steps_out : b ≡ false → (after : List Match) → StepsTo (walk a t) b s after
   steps_out is after =
       subst (λ c. StepsTo (walk a t) c s after) (sym is)
-      (walk-end a t (sym (given-answer stands (found a t) b s answer) ∙ ap (λ c. answer_of c s) is))
+      (walk-end a t (sym answer ∙ ap (λ c. answer_of c s) is))

@@ -9,16 +9,15 @@ use Rattle.sre_model.specs.Anchors.{is_anchored}
 use Rattle.sre_model.specs.Marks.{no_marks}
 use Rattle.sre_model.specs.Found.{Match, walk}
 use Rattle.sre_model.specs.WalkBounds.{most_matches}
-use Rattle.sre_code.specs.Codes.{words_of, hints_of}
-use Rattle.sre_code.specs.declared.code.Code.{Code}
+use Rattle.sre_code.specs.Codes.{words_of}
 use Rattle.sre_request.specs.declared.request.Request.{Request}
 use Rattle.sre_request.specs.Requests.{end_of, code_of, asked_of}
 use Rattle.sre_growth.specs.Refusal.{Refused}
 use Rattle.sre_engine.specs.declared.engine.state.SreError.{SreError}
 use Rattle.sre_engine.specs.declared.engine.search_iter.SearchIter.{SearchIter}
-use Rattle.sre_engine.specs.Answers.{Shown}
+use Rattle.sre_engine.specs.Answers.{Shown, match_shown, MayTakeMemory}
 use Rattle.sre_engine.specs.Counts.{CountsUpTo}
-use Rattle.sre_engine.specs.Walks.{match_shown, GoesOn}
+use Rattle.sre_engine.specs.Walks.{GoesOn}
 
 -- what is asked next, what the state shows, and whether the walk has ended
 abbrev pub request_of : {S A : Type 0} {text : Ghosts S} → SearchIter S A text → Request S text
@@ -67,10 +66,6 @@ pub record Ends {S A : Type 0} {text : Ghosts S} (it next : SearchIter S A text)
 -- no match is left
 pub record IsOver {S A : Type 0} {text : Ghosts S} (it : SearchIter S A text) : Type 0 where
   pub none : (t : Tree) → Whole (words_of (code_of (request_of it))) t → left_of it t ≡ []
-
--- no prefix is confirmed that is all of the code, with which a search takes no memory
-abbrev pub MayTakeMemory : Code → Type 0
-MayTakeMemory code = (hints_of code).literal ≡ true → ⊥
 
 -- no run of a step without a limit began again
 abbrev pub NoneAgain : {S A : Type 0} {text : Ghosts S} → SearchIter S A text → SearchIter S A text → Type 0

@@ -1,5 +1,5 @@
--- What a search of a request says of its answer.
--- Words of the search's contracts. What is public rests on some of them, by `step_by`.
+-- What a search of a request says of its answer, and a step of a walk of its match and of what is asked next.
+-- Public clauses rest on it.
 use Rattle.std.specs.Prelude.{◌+◌, ◌≡◌, ◌<◌, ◌≤◌, Bool, true, false, Option, None, Some, Result, Ok, Err, IfOk, OnErr}
 use Rattle.sre_chars.specs.declared.string.StrDrive.{Ghosts}
 use Rattle.sre_model.specs.Tree.{Tree}
@@ -8,17 +8,21 @@ use Rattle.sre_model.specs.Marks.{no_marks}
 use Rattle.sre_model.specs.Found.{found, walk}
 use Rattle.sre_model.specs.WalkBounds.{most_matches}
 use Rattle.sre_model.specs.Anchors.{is_anchored}
-use Rattle.sre_code.specs.Codes.{words_of, hints_of}
+use Rattle.sre_code.specs.Codes.{words_of}
 use Rattle.sre_request.specs.declared.request.Request.{Request}
 use Rattle.sre_request.specs.Requests.{start_of, end_of, code_of, asked_of, stands_in}
 use Rattle.sre_machine.specs.declared.turns.Halt.{Halt}
-use Rattle.sre_engine.specs.Answers.{Shown, Answers, Spans}
+use Rattle.sre_engine.specs.Answers.{Shown, Spans, answer_of}
 use Rattle.sre_engine.specs.Counts.{CountsUpTo}
 use Rattle.sre_engine.specs.Walks.{StepsTo, GoesOn}
 
--- the answer is yes exactly where a start of the window has a match; then the first of the least such start is shown
+-- the answer is the first match of the least start in the window that has one
 abbrev pub FindsFirst : {S : Type 0} {text : Ghosts S} → Request S text → Bool → Shown → Type 0
-FindsFirst r b s = (t : Tree) → Whole (words_of (code_of r)) t → Answers (stands_in r) (found (asked_of r) t) b s
+FindsFirst r b s = (t : Tree) → Whole (words_of (code_of r)) t → answer_of b s ≡ found (asked_of r) t
+
+-- the cursor stands at the end of a match that is found
+abbrev pub StandsAtEnd : {S : Type 0} {text : Ghosts S} → Request S text → Bool → Shown → Type 0
+StandsAtEnd r b s = b ≡ true → stands_in r s.cursor s.cursor.position
 
 -- a match that is found lies in the window
 abbrev pub LiesInside : {S : Type 0} {text : Ghosts S} → Request S text → Bool → Shown → Type 0
@@ -35,7 +39,8 @@ CountsToMatch r b s = b ≡ true → CountsUpTo (asked_of r) (code_of r) (s.star
 -- what a search answers and counts, whichever way it finds the starts that it tries
 pub record Answered {S E : Type 0} {text : Ghosts S} (r : Request S text) (told : Result Bool E) (s : Shown) : Type 0
   where
-    pub ok : IfOk told (λ b. FindsFirst r b s)
+    pub answer : IfOk told (λ b. FindsFirst r b s)
+    pub cursor : IfOk told (λ b. StandsAtEnd r b s)
     pub span : IfOk told (λ b. LiesInside r b s)
     pub no : IfOk told (λ b. b ≡ false → s.marks ≡ no_marks)
     pub err : OnErr told (s.marks ≡ no_marks)
@@ -49,10 +54,6 @@ AnsweredAtOnce r b s = Answered {E = Halt} r (Ok b) s
 -- a code that is anchored at the text's start is run once at most
 abbrev pub RunsOnceAnchored : {S : Type 0} {text : Ghosts S} → Request S text → Shown → Type 0
 RunsOnceAnchored r s = (t : Tree) → Whole (words_of (code_of r)) t → is_anchored t ≡ true → s.started ≤ 1
-
--- where a confirmed prefix is all of the code, there is no error
-abbrev pub NoErrorIfLiteral : {S E : Type 0} {text : Ghosts S} → Request S text → Result Bool E → Type 0
-NoErrorIfLiteral r result = (hints_of (code_of r)).literal ≡ true → OnErr result ⊥
 
 -- the matches left to a walk are the one that is shown and those left to what is asked next, where there is one
 abbrev pub WalksOn : {S : Type 0} {text : Ghosts S} → Request S text → Bool → Shown → Request S text → Type 0

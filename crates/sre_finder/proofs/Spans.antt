@@ -25,8 +25,8 @@ use Rattle.sre_code.specs.declared.code.Code.{Code}
 use Rattle.sre_request.specs.declared.request.Request.{Request}
 use Rattle.sre_request.specs.Requests.{string_of, start_of, end_of, code_of, match_all_of, must_advance_of}
 use Rattle.sre_request.specs.Requests.{empty_rule_of, asked_of, stands_in}
-use Rattle.sre_engine.specs.Answers.{Shown, Answers}
-use Rattle.sre_engine.specs.Walks.{match_shown, StepsTo, GoesOn}
+use Rattle.sre_engine.specs.Answers.{Shown, match_shown, answer_of}
+use Rattle.sre_engine.specs.Walks.{StepsTo, GoesOn}
 use Rattle.sre_engine.specs.Searches.{WalksOn}
 use Rattle.sre_shape.specs.Exact.{ExactTree}
 use Rattle.sre_shape.proofs.FirstFound.{FoundAt, found_by, none-found_by}
@@ -184,20 +184,22 @@ found_again a t m e advances is =
 -- a step of the machine, as a step over its match's span
 module _ {S : Type 0} {text : Ghosts S} (r : Request S text) (b : Bool) (s : Shown) (u : Request S text)
     (walks : WalksOn r b s u) where
+  -- what is asked next starts at the match's end
+  ends : GoesOn r s u → start_of u ≡ s.cursor.position
+  ends goes = ap (λ a. a.start) goes.asked
+
   pub steps_span : b ≡ true → GoesOn r s u → (start : ℕ) → start ≡ s.start
       → GoesOnBehind r start (start_of u) u × FindsSpan r start (start_of u)
   steps_span is goes start at = (
     record {
       from = omega (arith, at, goes.from);
-      forward = omega (arith, at, goes.span.forward, goes.start, goes.span.starts);
-      inside = omega (arith, goes.span.inside, goes.start);
-      start_is = refl;
-      must_advance = goes.must_advance ∙ ap₂ (λ x y. nat_eq x y) (sym goes.start) (sym at);
+      forward = omega (arith, at, goes.span.forward, ends goes, goes.span.starts);
+      inside = omega (arith, goes.span.inside, ends goes);
+      asked =
+          goes.asked
+          ∙ ap₂ (λ e p. record (asked_of r) { start = e; must_advance = nat_eq e p }) (sym (ends goes)) (sym at);
       string = goes.string;
-      end_is = goes.end;
       pattern_codes = goes.pattern_codes;
-      match_all = goes.match_all;
-      empty_rule = goes.empty_rule;
     },
     record {
       some = λ t whole.
@@ -205,7 +207,7 @@ module _ {S : Type 0} {text : Ghosts S} (r : Request S text) (b : Bool) (s : Sho
           let first = subst (λ c. StepsTo (walk (asked_of r) t) c s (walk (asked_of u) t)) is (walks t whole) in (
             s.marks,
             first_found (asked_of r) t shown (walk (asked_of u) t) first
-                ∙ ap (λ m. Some m) (spanned shown start (start_of u) (sym at) (sym goes.start)),
+                ∙ ap (λ m. Some m) (spanned shown start (start_of u) (sym at) (sym (ends goes))),
           );
     },
   )
@@ -217,14 +219,6 @@ module _ {S : Type 0} {text : Ghosts S} (r : Request S text) (b : Bool) (s : Sho
         nothing_left (asked_of r) t ends;
   }
 
--- what is asked behind a span
-pub asked_behind : {S : Type 0} {text : Ghosts S} (r : Request S text) (start end : ℕ) (u : Request S text)
-    (marks : Marks) → GoesOnBehind r start end u
-    → asked_of u ≡ asked_after (asked_of r) (match_with start end marks)
-asked_behind r start end u marks goes =
-    rw (goes.string, goes.pattern_codes, goes.start_is, goes.end_is, goes.match_all, goes.must_advance, goes.empty_rule)
-    refl
-
 module _ {S : Type 0} {text : Ghosts S} (r : Request S text) (start end : ℕ) (u : Request S text)
     (goes : GoesOnBehind r start end u) (t : Tree) (marks : Marks)
     (some : found (asked_of r) t ≡ Some (match_with start end marks)) where
@@ -232,12 +226,12 @@ module _ {S : Type 0} {text : Ghosts S} (r : Request S text) (start end : ℕ) (
   pub walks_behind : walk (asked_of r) t ≡ match_with start end marks ∷ walk (asked_of u) t
   walks_behind =
       walk-next (asked_of r) t (match_with start end marks) some
-      ∙ ap (λ a. match_with start end marks ∷ walk a t) (sym (asked_behind r start end u marks goes))
+      ∙ ap (λ a. match_with start end marks ∷ walk a t) (sym goes.asked)
 
   -- in which fewer can come
   pub falls_behind : most_matches (asked_of u) < most_matches (asked_of r)
   falls_behind =
-      subst (λ a. most_matches a < most_matches (asked_of r)) (sym (asked_behind r start end u marks goes))
+      subst (λ a. most_matches a < most_matches (asked_of r)) (sym goes.asked)
       (most_matches-falls (asked_of r) t (match_with start end marks) some)
 
 -- what is asked at the start of the match that came last, before it came and behind it
@@ -246,7 +240,7 @@ pub last_same : {S : Type 0} {text : Ghosts S} (r : Request S text) (start end :
     → record (asked_of u) { start = start; must_advance = advances }
     ≡ record (asked_of r) { start = start; must_advance = advances }
 last_same r start end u advances goes =
-    rw (goes.string, goes.pattern_codes, goes.end_is, goes.match_all, goes.empty_rule) refl
+    ap (λ (a : Asked). record a { start = start; must_advance = advances }) goes.asked
 
 -- the first match of a walk has the span that a step found, and is found from its start on
 pub gives_first : {S : Type 0} {text : Ghosts S} (r : Request S text) (start end : ℕ) (u : Request S text)
@@ -270,19 +264,7 @@ span_falls r start end u goes finds tree =
 
 -- the answer of a step is what is found
 pub step_answers : {S : Type 0} {text : Ghosts S} (r : Request S text) (b : Bool) (s : Shown) (u : Request S text)
-    → WalksOn r b s u → (b ≡ true → GoesOn r s u) → (t : Tree) → Whole (words_of (code_of r)) t
-    → Answers (stands_in r) (found (asked_of r) t) b s
-step_answers r true s u walks goes t whole =
-    subst (λ o. Answers (stands_in r) o true s)
-    (sym (first_found (asked_of r) t (match_shown s) (walk (asked_of u) t) (walks t whole)))
-    (refl, record { start = refl; at = refl; end = (goes refl).stands; marks = refl })
-step_answers r false s u walks goes t whole =
-    subst (λ o. Answers (stands_in r) o false s) (sym (nothing_left (asked_of r) t (walks t whole))) refl
-
--- what is asked from another start on
-pub asked_there : {S : Type 0} {text : Ghosts S} (q r : Request S text) (p : ℕ) (advances : Bool)
-    → string_of r ≡ string_of q → start_of r ≡ p → end_of r ≡ end_of q → code_of r ≡ code_of q
-    → match_all_of r ≡ match_all_of q → must_advance_of r ≡ advances → empty_rule_of r ≡ empty_rule_of q
-    → asked_of r ≡ record (asked_of q) { start = p; must_advance = advances }
-asked_there q r p advances string start end code all advance rule =
-    rw (string, start, end, code, all, advance, rule) refl
+    → WalksOn r b s u → (t : Tree) → Whole (words_of (code_of r)) t → answer_of b s ≡ found (asked_of r) t
+step_answers r true s u walks t whole =
+    sym (first_found (asked_of r) t (match_shown s) (walk (asked_of u) t) (walks t whole))
+step_answers r false s u walks t whole = sym (nothing_left (asked_of r) t (walks t whole))

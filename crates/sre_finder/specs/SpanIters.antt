@@ -12,8 +12,7 @@ use Rattle.sre_request.specs.declared.request.Request.{Request}
 use Rattle.sre_request.specs.Requests.{code_of, asked_of}
 use Rattle.sre_growth.specs.Refusal.{Refused}
 use Rattle.sre_engine.specs.declared.engine.state.SreError.{SreError}
-use Rattle.sre_engine.specs.Answers.{Shown}
-use Rattle.sre_engine.specs.Iterators.{MayTakeMemory}
+use Rattle.sre_engine.specs.Answers.{Shown, MayTakeMemory}
 use Rattle.sre_finder.specs.declared.span_iter.Span.{Span}
 use Rattle.sre_finder.specs.declared.span_iter.SpanIter.{SpanIter}
 use Rattle.sre_finder.specs.Spans.{match_with, GoesOnBehind}

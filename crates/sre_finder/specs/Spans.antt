@@ -14,8 +14,7 @@ use Rattle.sre_model.specs.Found.{Match, found}
 use Rattle.sre_code.specs.Codes.{words_of, items_of, uni_of}
 use Rattle.sre_code.specs.declared.code.Code.{Code}
 use Rattle.sre_request.specs.declared.request.Request.{Request}
-use Rattle.sre_request.specs.Requests.{string_of, start_of, end_of, code_of, match_all_of, must_advance_of}
-use Rattle.sre_request.specs.Requests.{empty_rule_of, asked_of, stands_in}
+use Rattle.sre_request.specs.Requests.{string_of, start_of, end_of, code_of, asked_of, stands_in}
 use Rattle.sre_shape.specs.Exact.{ExactTree}
 use Rattle.sre_patterns.specs.Patterns.{view_of}
 use Rattle.sre_patterns.specs.declared.encoding.Encoding.{Encoding}
@@ -65,13 +64,9 @@ pub record GoesOnBehind {S : Type 0} {text : Ghosts S} (r : Request S text) (sta
   pub from : start_of r ≤ start
   pub forward : start ≤ end
   pub inside : end ≤ end_of r
-  pub start_is : start_of u ≡ end
-  pub must_advance : must_advance_of u ≡ nat_eq end start
+  pub asked : asked_of u ≡ record (asked_of r) { start = end; must_advance = nat_eq end start }
   pub string : string_of u ≡ string_of r
-  pub end_is : end_of u ≡ end_of r
   pub pattern_codes : code_of u ≡ code_of r
-  pub match_all : match_all_of u ≡ match_all_of r
-  pub empty_rule : empty_rule_of u ≡ empty_rule_of r
 
 -- a step's match goes from a cursor to where the next window starts
 pub record StepsFrom {S : Type 0} {text : Ghosts S} (r : Request S text) (start : StringCursor) (u : Request S text)

@@ -16,8 +16,9 @@ ghost use Rattle.sre_code.specs.Codes.{words_of, hints_of};
 ghost use Rattle.sre_request.specs.Requests.{string_of, start_of, end_of, code_of, asked_of, stands_in};
 ghost use Rattle.regex_hir.specs.Meaning.{meaning};
 ghost use Rattle.sre_automata.specs.Told.{Tells};
-ghost use Rattle.sre_engine.specs.Answers.{Answers, AnswersAlike, Spans};
+ghost use Rattle.sre_engine.specs.Answers.{MayTakeMemory};
 ghost use Rattle.sre_engine.specs.Counts.{CountsUpTo, CountsOfWalk};
+ghost use Rattle.sre_engine.specs.Searches.{Answered, RunsOnceAnchored};
 ghost use Rattle.sre_engine.specs.Listed.{match_of};
 ghost use Rattle.sre_request.specs.Runs.{run_of, Standing};
 ghost use Rattle.sre_engine.specs.Starts.{NoneUntil, StartFrom};
@@ -337,23 +338,11 @@ impl<'c> Finder<'c> {
         state: &mut State<A>,
     ) -> Result<bool, SreError>
         requires { self.old.code ≡ code_of req }
-        ensures ok { (t : Tree) → Whole (words_of (code_of req.entry)) t
-            → IfOk result (λ b. Answers (stands_in req.entry) (found (asked_of req.entry) t) b state.new) }
-        ensures alike { (t : Tree) → Whole (words_of (code_of req.entry)) t
-            → IfOk result (λ b. AnswersAlike (λ asked. found asked t) (asked_of req.entry) b state.new) }
-        ensures span { IfOk result (λ b. b ≡ true
-            → (start_of req.entry ≤ state.new.start) × Spans state.new.start (end_of req.entry) state.new) }
-        ensures no { IfOk result (λ b. b ≡ false → state.new.marks ≡ no_marks) }
-        ensures err { OnErr result (state.new.marks ≡ no_marks) }
+        ensures answers { Answered req.entry result state.new }
         ensures refused { OnErr result Refused }
-        ensures counts { CountsUpTo (asked_of req.entry) (code_of req.entry) (end_of req.entry + 1)
-            (end_of req.entry) state.new }
-        ensures up_to_match { IfOk result (λ b. b ≡ true → CountsUpTo (asked_of req.entry) (code_of req.entry)
-            (state.new.start + 1) state.new.cursor.position state.new) }
-        ensures anchored { (t : Tree) → Whole (words_of (code_of req.entry)) t
-            → is_anchored t ≡ true → state.new.started ≤ 1 }
+        ensures anchored { RunsOnceAnchored req.entry state.new }
         ensures once { state.new.restarted ≡ 0 }
-        ensures literal { (hints_of (code_of req.entry)).literal ≡ true → OnErr result ⊥ }
+        ensures literal { OnErr result (MayTakeMemory (code_of req.entry)) }
         ensures code { self.new.code ≡ self.old.code }
     {
         self.reset();

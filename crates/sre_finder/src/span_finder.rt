@@ -1,9 +1,9 @@
 //! The finder of spans: where order agrees, automata tell where the next match begins and where it ends.
 
-ghost use Rattle.std.specs.Prelude.{◌≡◌, IfOk, IfSome, OnErr, true, None};
+ghost use Rattle.std.specs.Prelude.{◌≡◌, IfOk, IfSome, OnErr, None};
 ghost use Rattle.sre_growth.specs.Refusal.{Refused};
-ghost use Rattle.sre_code.specs.Codes.{hints_of};
 ghost use Rattle.sre_request.specs.Requests.{string_of, start_of, code_of, stands_in};
+ghost use Rattle.sre_engine.specs.Answers.{MayTakeMemory};
 ghost use Rattle.sre_finder.specs.Finders.{EndStands};
 ghost use Rattle.sre_finder.specs.Spans.{ExactlyAny, Knows, Between, StepsFrom, FindsNone};
 
@@ -165,7 +165,7 @@ impl<'c> SpanFinder<'c> {
         ensures here { stands_in req.new cursor.new (start_of req.new) }
         ensures err { OnErr result (req.new ≡ req.old) }
         ensures refused { OnErr result Refused }
-        ensures literal { (hints_of (code_of req.old)).literal ≡ true → OnErr result ⊥ }
+        ensures literal { OnErr result (MayTakeMemory (code_of req.old)) }
     {
         let from = *cursor;
         if !step_by(req, state, cursor, &mut self.finder)? {
@@ -194,7 +194,7 @@ impl<'c> SpanFinder<'c> {
         ensures here { stands_in req.new cursor.new (start_of req.new) }
         ensures err { OnErr result (req.new ≡ req.old) }
         ensures refused { OnErr result Refused }
-        ensures literal { (hints_of (code_of req.old)).literal ≡ true → OnErr result ⊥ }
+        ensures literal { OnErr result (MayTakeMemory (code_of req.old)) }
     {
         if self.exact.is_none() {
             return self.run(req, state, cursor);

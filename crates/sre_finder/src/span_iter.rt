@@ -1,6 +1,6 @@
 //! The walk over the spans of all matches, one after the other.
 
-ghost use Rattle.std.specs.Prelude.{◌≡◌, ◌≤◌, ◌<◌, ◌&&◌, nat_eq, false, IfOk, IfSome, OnErr};
+ghost use Rattle.std.specs.Prelude.{◌≡◌, ◌≤◌, ◌<◌, ◌&&◌, nat_eq, true, false, IfOk, IfSome, OnErr};
 ghost use Rattle.sre_growth.specs.Refusal.{Refused};
 ghost use Rattle.sre_model.specs.Tree.{Tree};
 ghost use Rattle.sre_model.specs.Grammar.{Whole};
@@ -8,7 +8,7 @@ ghost use Rattle.sre_model.specs.Marks.{no_marks};
 ghost use Rattle.sre_model.specs.Found.{found};
 ghost use Rattle.sre_code.specs.Codes.{words_of};
 ghost use Rattle.sre_request.specs.Requests.{string_of, start_of, end_of, code_of, stands_in};
-ghost use Rattle.sre_engine.specs.Answers.{Answers};
+ghost use Rattle.sre_engine.specs.Answers.{answer_of};
 ghost use Rattle.sre_finder.specs.Finders.{EndStands};
 
 use crate::haystack::Haystack;
@@ -100,8 +100,10 @@ impl<'c, 'a, S: StrDrive, A: Allocator + Copy> SpanIter<'c, 'a, S, A> {
     ///
     /// A growth of the state's memory was refused. Then there are no marks, and the walk goes on all the same.
     pub fn show(&mut self) -> Result<bool, SreError>
-        ensures shown { (t : Tree) → Whole (words_of (code_of (request_of self.old))) t → IfOk result
-            (λ b. Answers (stands_in (request_of self.old)) (found (last_asked self.old) t) b (shown_of self.new)) }
+        ensures answer { (t : Tree) → Whole (words_of (code_of (request_of self.old))) t
+            → IfOk result (λ b. answer_of b (shown_of self.new) ≡ found (last_asked self.old) t) }
+        ensures cursor { IfOk result (λ b. b ≡ true → let end = (shown_of self.new).cursor in
+            stands_in (request_of self.old) end end.position) }
         ensures no { IfOk result (λ b. b ≡ false → (shown_of self.new).marks ≡ no_marks) }
         ensures err { OnErr result ((shown_of self.new).marks ≡ no_marks) }
         ensures refused { OnErr result Refused }

@@ -13,7 +13,7 @@ use Rattle.sre_model.proofs.FoundLaws.{least-found, none-found}
 use Rattle.sre_model.proofs.WalkLaws.{walk-end, walk-next}
 use Rattle.sre_chars.specs.declared.string.StrDrive.{Ghosts}
 use Rattle.sre_engine.specs.Requests.{start_of}
-use Rattle.sre_engine.specs.Walks.{match_shown}
+use Rattle.sre_engine.specs.Answers.{match_shown}
 use Rattle.sre_engine.specs.Iterators.{request_of, shown_of, left_of, Gives, IsOver}
 use Rattle.sre_engine.specs.declared.engine.search_iter.SearchIter.{SearchIter}
 use Rattle.sre_recipes.specs.Lexed.{token_at, tokens_from, token_matches, reached}

@@ -12,9 +12,8 @@ use Rattle.sre_model.proofs.WalkLaws.{walk-end, walk-next, most_matches-falls}
 use Rattle.sre_engine.specs.Codes.{words_of, hints_of}
 use Rattle.sre_code.proofs.Checked.{code_tree}
 use Rattle.sre_engine.specs.Requests.{code_of, asked_of}
-use Rattle.sre_engine.specs.Walks.{match_shown}
+use Rattle.sre_engine.specs.Answers.{match_shown}
 use Rattle.sre_engine.specs.Iterators.{request_of, shown_of, left_of, most_items, Gives}
-use Rattle.sre_engine.proofs.Walking.{asked_next}
 use Rattle.sre_engine.specs.declared.engine.search_iter.SearchIter.{SearchIter}
 use Rattle.sre_recipes.specs.declared.bounds.Bounds.{Bounds}
 use Rattle.sre_recipes.specs.Bounded.{first_of, AreLeft}
@@ -84,7 +83,7 @@ gives_falls it next gives =
     let falls = falls_by it next gives in
     let fewer : most_matches (asked_of (request_of next)) < most_matches asked =
     subst (λ (a : Asked). most_matches a < most_matches asked)
-    (sym (asked_next (request_of it) (shown_of next) (request_of next) gives.request)) falls in
+    (sym gives.request.asked) falls in
     let before : most_items it ≡ most_matches asked + 1 =
     ap (λ (b : Bool). cond b 0 (most_matches asked + 1)) gives.before in
     let after : most_items next ≡ most_matches (asked_of (request_of next)) + 1 =

@@ -12,11 +12,10 @@ use Rattle.sre_model.specs.WalkBounds.{most_matches}
 use Rattle.sre_code.specs.declared.code.Code.{Code}
 use Rattle.sre_engine.specs.Requests.{code_of, asked_of}
 use Rattle.sre_engine.specs.Counts.{SpentUpTo, runs_of}
-use Rattle.sre_engine.specs.Walks.{match_shown}
+use Rattle.sre_engine.specs.Answers.{match_shown}
 use Rattle.sre_engine.specs.Iterators.{request_of, shown_of, Gives, Counted}
 use Rattle.sre_engine.proofs.CountLaws.{once}
 use Rattle.sre_engine.proofs.Spending.{never_used_up}
-use Rattle.sre_engine.proofs.Walking.{asked_next}
 use Rattle.sre_engine.specs.declared.engine.search_iter.SearchIter.{SearchIter}
 use Rattle.sre_recipes.specs.Bounded.{most_runs, OutlastWalk}
 use Rattle.sre_recipes.specs.Limits.{OutlastRest}
@@ -83,7 +82,7 @@ lasts_on it next given left gives spent lasts =
     outlast_after (asked_of r) (code_of r) m given left (runs_of s) gives.request.from span.forward span.inside
     (falls_by it next gives) spent few lasts in
     subst (λ (code : Code). OutlastWalk (asked_of u) code left) (sym gives.request.pattern_codes)
-    (subst (λ (a : Asked). OutlastWalk a (code_of r) left) (sym (asked_next r s u gives.request)) after)
+    (subst (λ (a : Asked). OutlastWalk a (code_of r) left) (sym gives.request.asked) after)
 
 -- turns that outlast a walk are not used up in a step
 pub lasts_step : {S A : Type 0} {text : Ghosts S} (it next : SearchIter S A text) (given left : ℕ) → Counted it next

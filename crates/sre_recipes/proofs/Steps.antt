@@ -6,13 +6,22 @@ use Rattle.sre_chars.specs.declared.string.StringCursor.{StringCursor}
 use Rattle.sre_engine.specs.Tree.{Tree}
 use Rattle.sre_engine.specs.Grammar.{Whole}
 use Rattle.sre_engine.specs.Codes.{words_of}
+use Rattle.sre_engine.specs.Found.{Asked}
 use Rattle.sre_engine.specs.Requests.{string_of, start_of, end_of, code_of}
-use Rattle.sre_engine.specs.Answers.{Shown}
-use Rattle.sre_engine.specs.Walks.{match_shown}
+use Rattle.sre_engine.specs.Answers.{Shown, match_shown}
 use Rattle.sre_engine.specs.Iterators.{request_of, shown_of, left_of, Gives}
 use Rattle.sre_engine.specs.declared.engine.search_iter.SearchIter.{SearchIter}
 use Rattle.sre_recipes.specs.Slices.{slice_of}
 use Rattle.sre_recipes.specs.Spans.{IsSpan, StandsAt}
+
+-- what is asked behind a match starts at its end, in the same window
+pub next_start : {S A : Type 0} {text : Ghosts S} {it next : SearchIter S A text} → Gives it next
+    → start_of (request_of next) ≡ (shown_of next).cursor.position
+next_start gives = ap (λ (a : Asked). a.start) gives.request.asked
+
+next_end : {S A : Type 0} {text : Ghosts S} {it next : SearchIter S A text} → Gives it next
+    → end_of (request_of next) ≡ end_of (request_of it)
+next_end gives = ap (λ (a : Asked). a.end) gives.request.asked
 
 -- a match comes off a walk whose words are still those that were asked for
 pub walk_step : {S A : Type 0} {text : Ghosts S} (it next : SearchIter S A text) (words : List ℕ) (t : Tree)
@@ -35,8 +44,8 @@ kept_on it next whole code stop gives kept =
     record {
       string = gives.request.string ∙ kept.string;
       words = ap words_of gives.request.pattern_codes ∙ kept.words;
-      end = gives.request.end ∙ kept.end;
-      inside = rw gives.request.start inside;
+      end = next_end gives ∙ kept.end;
+      inside = rw (next_start gives) inside;
     }
 
 -- the text from a match's start to its end
@@ -52,5 +61,5 @@ pub walk_on : {S A : Type 0} {text : Ghosts S} (it next : SearchIter S A text)
     → StandsAt (text.stands whole) last (start_of (request_of next))
 walk_on {S} {A} {text} it next whole last start end same gives span is = record {
   there = rw is (subst (λ (x : S). text.stands x end end.position) same span.to);
-  at = ap (λ (c : StringCursor). c.position) is ∙ span.ends ∙ sym gives.request.start;
+  at = ap (λ (c : StringCursor). c.position) is ∙ span.ends ∙ sym (next_start gives);
 }

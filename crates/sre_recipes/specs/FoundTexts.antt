@@ -4,7 +4,7 @@ use Rattle.std.specs.Prelude.{◌≡◌, false, Option, Some, None, Result, Ok, 
 use Rattle.sre_chars.specs.declared.string.StrDrive.{Ghosts}
 use Rattle.sre_growth.specs.Refusal.{Refused}
 use Rattle.sre_engine.specs.Requests.{string_of, code_of}
-use Rattle.sre_engine.specs.Iterators.{MayTakeMemory}
+use Rattle.sre_engine.specs.Answers.{MayTakeMemory}
 use Rattle.sre_engine.specs.declared.engine.state.SreError.{SreError}
 use Rattle.sre_finder.specs.declared.span_iter.Span.{Span}
 use Rattle.sre_finder.specs.declared.span_iter.SpanIter.{SpanIter}

@@ -7,7 +7,7 @@ ghost use Rattle.sre_engine.specs.Grammar.{Whole};
 ghost use Rattle.sre_engine.specs.Found.{matched, found, walk};
 ghost use Rattle.sre_engine.specs.Codes.{words_of};
 ghost use Rattle.sre_engine.specs.Requests.{string_of, start_of, end_of, code_of, asked_of, stands_in};
-ghost use Rattle.sre_engine.specs.Answers.{Answers, Spans};
+ghost use Rattle.sre_engine.specs.Answers.{answer_of, Spans};
 ghost use Rattle.sre_engine.specs.Iterators.{request_of, left_of};
 ghost use Rattle.sre_growth.specs.Refusal.{Refused};
 ghost use Rattle.sre_recipes.specs.Slices.{slice_of, to_the_end};
@@ -174,8 +174,8 @@ pub fn match_text<S: Text, A: Allocator + Copy>(
     req: &Request<'_, S>,
     state: &mut State<A>,
 ) -> Result<Option<S>, SreError>
-    ensures ok { (t : Tree) → Whole (words_of (code_of req.now)) t → IfOk result
-        (λ text. Answers (stands_in req.now) (matched (asked_of req.now) t) (is_some text) state.new) }
+    ensures answer { (t : Tree) → Whole (words_of (code_of req.now)) t
+        → IfOk result (λ text. answer_of (is_some text) state.new ≡ matched (asked_of req.now) t) }
     ensures text { IfOk result (λ text. IfSome text (λ s. S.text s
         ≡ slice_range (S.text (string_of req.now)) state.new.start state.new.cursor.position)) }
     ensures stands { IfOk result (λ text. IsSome text
@@ -197,8 +197,8 @@ pub fn search_text<S: Text, A: Allocator + Copy>(
     req: Request<'_, S>,
     state: &mut State<A>,
 ) -> Result<Option<S>, SreError>
-    ensures ok { (t : Tree) → Whole (words_of (code_of req.entry)) t → IfOk result
-        (λ text. Answers (stands_in req.entry) (found (asked_of req.entry) t) (is_some text) state.new) }
+    ensures answer { (t : Tree) → Whole (words_of (code_of req.entry)) t
+        → IfOk result (λ text. answer_of (is_some text) state.new ≡ found (asked_of req.entry) t) }
     ensures text { IfOk result (λ text. IfSome text (λ s. S.text s
         ≡ slice_range (S.text (string_of req.entry)) state.new.start state.new.cursor.position)) }
     ensures stands { IfOk result (λ text. IsSome text
@@ -245,8 +245,9 @@ pub fn full_match<S: StrDrive, A: Allocator + Copy>(
     mut req: Request<'_, S>,
     state: &mut State<A>,
 ) -> Result<bool, SreError>
-    ensures ok { (t : Tree) → Whole (words_of (code_of req.entry)) t → IfOk result
-        (λ b. Answers (stands_in req.entry) (matched (to_the_end (asked_of req.entry)) t) b state.new) }
+    ensures answer { (t : Tree) → Whole (words_of (code_of req.entry)) t
+        → IfOk result (λ b. answer_of b state.new ≡ matched (to_the_end (asked_of req.entry)) t) }
+    ensures cursor { IfOk result (λ b. b ≡ true → stands_in req.entry state.new.cursor state.new.cursor.position) }
     ensures span { IfOk result (λ b. b ≡ true → Spans (start_of req.entry) (end_of req.entry) state.new) }
     ensures refused { OnErr result Refused }
 {

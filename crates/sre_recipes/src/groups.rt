@@ -9,7 +9,7 @@ ghost use Rattle.sre_engine.specs.Grammar.{Whole};
 ghost use Rattle.sre_engine.specs.Found.{matched, found, walk};
 ghost use Rattle.sre_engine.specs.Codes.{words_of};
 ghost use Rattle.sre_engine.specs.Requests.{string_of, code_of, asked_of};
-ghost use Rattle.sre_engine.specs.Walks.{match_shown};
+ghost use Rattle.sre_engine.specs.Answers.{match_shown};
 ghost use Rattle.sre_engine.specs.Iterators.{request_of, left_of};
 ghost use Rattle.sre_growth.specs.Refusal.{Refused};
 ghost use Rattle.sre_recipes.specs.Slices.{numbered_group, captured};

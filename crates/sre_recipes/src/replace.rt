@@ -9,7 +9,7 @@ ghost use Rattle.sre_engine.specs.Grammar.{Whole};
 ghost use Rattle.sre_engine.specs.Found.{walk};
 ghost use Rattle.sre_engine.specs.Codes.{words_of};
 ghost use Rattle.sre_engine.specs.Requests.{string_of, start_of, end_of, code_of, asked_of};
-ghost use Rattle.sre_engine.specs.Walks.{match_shown};
+ghost use Rattle.sre_engine.specs.Answers.{match_shown};
 ghost use Rattle.sre_engine.specs.Iterators.{request_of, left_of};
 ghost use Rattle.sre_growth.specs.Refusal.{Refused};
 ghost use Rattle.sre_recipes.specs.Spans.{IsSpan};

@@ -34,7 +34,7 @@ impl<'a, S: StrDrive> Copy for Request<'a, S> {}
 impl<'a, S: StrDrive> Request<'a, S> {
     ghost use Rattle.std.specs.Prelude.{◌≡◌, ◌^◌, ◌<◌, ◌≤◌, length, min, false};
     ghost use Rattle.sre_request.specs.Requests.{string_of, start_of, end_of, code_of, match_all_of, must_advance_of};
-    ghost use Rattle.sre_request.specs.Requests.{empty_rule_of};
+    ghost use Rattle.sre_request.specs.Requests.{empty_rule_of, asked_of};
 
     /// A request over the window from `start` to `end` of a text: `end` is held at the number of characters, and
     /// `start` at `end`. `must_advance` is not set, and no
@@ -158,26 +158,18 @@ impl<'a, S: StrDrive> Request<'a, S> {
 
     /// Sets whether an empty match at the window's start is refused.
     pub fn set_must_advance(&mut self, must_advance: bool)
-        ensures must_advance { must_advance_of self.new ≡ must_advance }
+        ensures asked { asked_of self.new ≡ record (asked_of self.old) { must_advance = must_advance } }
         ensures string { string_of self.new ≡ string_of self.old }
-        ensures start { start_of self.new ≡ start_of self.old }
-        ensures end { end_of self.new ≡ end_of self.old }
         ensures pattern_codes { code_of self.new ≡ code_of self.old }
-        ensures match_all { match_all_of self.new ≡ match_all_of self.old }
-        ensures empty_rule { empty_rule_of self.new ≡ empty_rule_of self.old }
     {
         self.must_advance = must_advance;
     }
 
     /// Sets whether a match has to end at the window's end.
     pub fn set_match_all(&mut self, match_all: bool)
-        ensures match_all { match_all_of self.new ≡ match_all }
+        ensures asked { asked_of self.new ≡ record (asked_of self.old) { match_all = match_all } }
         ensures string { string_of self.new ≡ string_of self.old }
-        ensures start { start_of self.new ≡ start_of self.old }
-        ensures end { end_of self.new ≡ end_of self.old }
         ensures pattern_codes { code_of self.new ≡ code_of self.old }
-        ensures must_advance { must_advance_of self.new ≡ must_advance_of self.old }
-        ensures empty_rule { empty_rule_of self.new ≡ empty_rule_of self.old }
     {
         self.match_all = match_all;
     }
@@ -192,13 +184,9 @@ impl<'a, S: StrDrive> Request<'a, S> {
 
     /// Sets whether a non-boundary is on nothing.
     pub fn set_empty_rule(&mut self, empty_rule: EmptyRule)
-        ensures empty_rule { empty_rule_of self.new ≡ empty_rule }
+        ensures asked { asked_of self.new ≡ record (asked_of self.old) { empty_rule = empty_rule } }
         ensures string { string_of self.new ≡ string_of self.old }
-        ensures start { start_of self.new ≡ start_of self.old }
-        ensures end { end_of self.new ≡ end_of self.old }
         ensures pattern_codes { code_of self.new ≡ code_of self.old }
-        ensures match_all { match_all_of self.new ≡ match_all_of self.old }
-        ensures must_advance { must_advance_of self.new ≡ must_advance_of self.old }
     {
         self.empty_rule = empty_rule;
     }
@@ -206,26 +194,19 @@ impl<'a, S: StrDrive> Request<'a, S> {
     /// Moves the window's start, up to its end. It looks at no character.
     pub fn set_start(&mut self, start: usize)
         requires { start ≤ end_of self.old }
-        ensures start { start_of self.new ≡ start }
+        ensures asked { asked_of self.new ≡ record (asked_of self.old) { start = start } }
         ensures string { string_of self.new ≡ string_of self.old }
-        ensures end { end_of self.new ≡ end_of self.old }
         ensures pattern_codes { code_of self.new ≡ code_of self.old }
-        ensures match_all { match_all_of self.new ≡ match_all_of self.old }
-        ensures must_advance { must_advance_of self.new ≡ must_advance_of self.old }
-        ensures empty_rule { empty_rule_of self.new ≡ empty_rule_of self.old }
     {
         self.start = start;
     }
 
     /// Moves the window, whose ends are held as `new` holds them.
     pub fn set_window(&mut self, start: usize, end: usize)
-        ensures end { end_of self.new ≡ min end (length (S.text (string_of self.old))) }
-        ensures start { start_of self.new ≡ min start (min end (length (S.text (string_of self.old)))) }
+        ensures asked { let held = min end (length (S.text (string_of self.old))) in
+            asked_of self.new ≡ record (asked_of self.old) { start = min start held; end = held } }
         ensures string { string_of self.new ≡ string_of self.old }
         ensures pattern_codes { code_of self.new ≡ code_of self.old }
-        ensures match_all { match_all_of self.new ≡ match_all_of self.old }
-        ensures must_advance { must_advance_of self.new ≡ must_advance_of self.old }
-        ensures empty_rule { empty_rule_of self.new ≡ empty_rule_of self.old }
     {
         let end = end.min(self.string.count());
         (self.start, self.end) = (start.min(end), end);

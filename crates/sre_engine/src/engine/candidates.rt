@@ -75,7 +75,8 @@ pub(crate) trait Candidates<S: StrDrive> {
             (front self.old) c compared.new) }
         ensures is_at { IfSome result
             (λ c. is_at self.new (run_of req.now) (asked_of req.now) (code_of req.now) c compared.new) }
-        ensures none { result ≡ None → NoMatch (asked_of req.now) (code_of req.now) (front self.old) (end_of req.now + 1) }
+        ensures none { result ≡ None → NoMatch (asked_of req.now) (code_of req.now) (front self.old)
+            (end_of req.now + 1) }
         ensures few { ComparesFew (asked_of req.now) (code_of req.now) compared.new };
 
     /// Passes the candidate, which has no match, and says whether there may be another one.

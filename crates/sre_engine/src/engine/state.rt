@@ -7,12 +7,12 @@ ghost use Rattle.sre_model.specs.Grammar.{Whole};
 ghost use Rattle.sre_model.specs.Marks.{no_marks};
 ghost use Rattle.sre_model.specs.Found.{matched, found};
 ghost use Rattle.sre_model.specs.Anchors.{is_anchored};
-ghost use Rattle.sre_code.specs.Codes.{words_of, hints_of};
+ghost use Rattle.sre_code.specs.Codes.{words_of};
 ghost use Rattle.sre_request.specs.Requests.{string_of, start_of, end_of, code_of, asked_of, stands_in};
-ghost use Rattle.sre_engine.specs.Answers.{Answers, AnswersAlike, Spans};
+ghost use Rattle.sre_engine.specs.Answers.{answer_of, Spans, MayTakeMemory};
 ghost use Rattle.sre_engine.specs.Counts.{CountsStay, CountsUpTo, BeginsAgain, KeepsToTurns, runs_of};
 ghost use Rattle.sre_engine.specs.Costs.{Charged};
-ghost use Rattle.sre_engine.specs.Searches.{Answered, CountsAll, has_found, RunsOnceAnchored, NoErrorIfLiteral};
+ghost use Rattle.sre_engine.specs.Searches.{Answered, CountsAll, has_found, RunsOnceAnchored};
 ghost use Rattle.sre_growth.specs.Refusal.{Refused};
 
 use crate::engine::told::{Nobody, Starts};
@@ -195,10 +195,9 @@ impl<A: Allocator + Copy> State<A> {
     ///
     /// [`SreError::Memory`], where a growth of the state's memory was refused.
     pub fn pymatch<S: StrDrive>(&mut self, req: &Request<'_, S>) -> Result<bool, SreError>
-        ensures ok { (t : Tree) → Whole (words_of (code_of req.now)) t
-            → IfOk result (λ b. Answers (stands_in req.now) (matched (asked_of req.now) t) b self.new) }
-        ensures alike { (t : Tree) → Whole (words_of (code_of req.now)) t
-            → IfOk result (λ b. AnswersAlike (λ asked. matched asked t) (asked_of req.now) b self.new) }
+        ensures answer { (t : Tree) → Whole (words_of (code_of req.now)) t
+            → IfOk result (λ b. answer_of b self.new ≡ matched (asked_of req.now) t) }
+        ensures cursor { IfOk result (λ b. b ≡ true → stands_in req.now self.new.cursor self.new.cursor.position) }
         ensures span { IfOk result (λ b. b ≡ true → Spans (start_of req.now) (end_of req.now) self.new) }
         ensures no { IfOk result (λ b. b ≡ false → self.new.marks ≡ no_marks) }
         ensures err { OnErr result (self.new.marks ≡ no_marks) }
@@ -242,10 +241,10 @@ impl<A: Allocator + Copy> State<A> {
         req: &Request<'_, S>,
         turns: &mut u64,
     ) -> Result<Option<bool>, SreError>
-        ensures ok { (t : Tree) → Whole (words_of (code_of req.now)) t → IfOk result
-            (λ told. IfSome told (λ b. Answers (stands_in req.now) (matched (asked_of req.now) t) b self.new)) }
-        ensures alike { (t : Tree) → Whole (words_of (code_of req.now)) t → IfOk result
-            (λ told. IfSome told (λ b. AnswersAlike (λ asked. matched asked t) (asked_of req.now) b self.new)) }
+        ensures answer { (t : Tree) → Whole (words_of (code_of req.now)) t → IfOk result
+            (λ told. IfSome told (λ b. answer_of b self.new ≡ matched (asked_of req.now) t)) }
+        ensures cursor { IfOk result
+            (λ told. told ≡ Some true → stands_in req.now self.new.cursor self.new.cursor.position) }
         ensures span { IfOk result (λ told. told ≡ Some true → Spans (start_of req.now) (end_of req.now) self.new) }
         ensures no { IfOk result (λ told. told ≢ Some true → self.new.marks ≡ no_marks) }
         ensures turns { KeepsToTurns (asked_of req.now) (code_of req.now) result 2 turns.old turns.new }
@@ -274,8 +273,9 @@ impl<A: Allocator + Copy> State<A> {
         allowed: &mut Allowance,
     ) -> Result<bool, Halt>
         requires { stands_in req.now from (start_of req.now) }
-        ensures ok { (t : Tree) → Whole (words_of (code_of req.now)) t
-            → IfOk result (λ b. Answers (stands_in req.now) (matched (asked_of req.now) t) b self.new) }
+        ensures answer { (t : Tree) → Whole (words_of (code_of req.now)) t
+            → IfOk result (λ b. answer_of b self.new ≡ matched (asked_of req.now) t) }
+        ensures cursor { IfOk result (λ b. b ≡ true → stands_in req.now self.new.cursor self.new.cursor.position) }
         ensures span { IfOk result (λ b. b ≡ true → Spans (start_of req.now) (end_of req.now) self.new) }
         ensures no { IfOk result (λ b. b ≡ false → self.new.marks ≡ no_marks) }
         ensures err { OnErr result (self.new.marks ≡ no_marks) }
@@ -324,10 +324,9 @@ impl<A: Allocator + Copy> State<A> {
     ///
     /// [`SreError::Memory`], where a growth of the state's memory was refused.
     pub fn search<S: StrDrive>(&mut self, req: Request<'_, S>) -> Result<bool, SreError>
-        ensures ok { (t : Tree) → Whole (words_of (code_of req.entry)) t
-            → IfOk result (λ b. Answers (stands_in req.entry) (found (asked_of req.entry) t) b self.new) }
-        ensures alike { (t : Tree) → Whole (words_of (code_of req.entry)) t
-            → IfOk result (λ b. AnswersAlike (λ asked. found asked t) (asked_of req.entry) b self.new) }
+        ensures answer { (t : Tree) → Whole (words_of (code_of req.entry)) t
+            → IfOk result (λ b. answer_of b self.new ≡ found (asked_of req.entry) t) }
+        ensures cursor { IfOk result (λ b. b ≡ true → stands_in req.entry self.new.cursor self.new.cursor.position) }
         ensures span { IfOk result
             (λ b. b ≡ true → (start_of req.entry ≤ self.new.start) × Spans self.new.start (end_of req.entry) self.new) }
         ensures no { IfOk result (λ b. b ≡ false → self.new.marks ≡ no_marks) }
@@ -340,7 +339,7 @@ impl<A: Allocator + Copy> State<A> {
         ensures anchored { (t : Tree) → Whole (words_of (code_of req.entry)) t
             → is_anchored t ≡ true → self.new.started ≤ 1 }
         ensures once { self.new.restarted ≡ 0 }
-        ensures literal { (hints_of (code_of req.entry)).literal ≡ true → OnErr result ⊥ }
+        ensures literal { OnErr result (MayTakeMemory (code_of req.entry)) }
     {
         self.search_by(req, &mut Nobody)
     }
@@ -354,12 +353,10 @@ impl<A: Allocator + Copy> State<A> {
         requires suits { F.suits starts.old (string_of req) (code_of req) }
         ensures suits { F.suits starts.new (string_of req.entry) (code_of req.entry) }
         ensures answers { Answered req.entry result self.new }
-        ensures alike { (t : Tree) → Whole (words_of (code_of req.entry)) t
-            → IfOk result (λ b. AnswersAlike (λ asked. found asked t) (asked_of req.entry) b self.new) }
         ensures refused { OnErr result Refused }
         ensures anchored { RunsOnceAnchored req.entry self.new }
         ensures once { self.new.restarted ≡ 0 }
-        ensures literal { NoErrorIfLiteral req.entry result }
+        ensures literal { OnErr result (MayTakeMemory (code_of req.entry)) }
     {
         let start = req.string().create_cursor(req.start());
         match self.search_from(&req, start, &mut Allowance::Unlimited, starts) {
@@ -391,10 +388,10 @@ impl<A: Allocator + Copy> State<A> {
         req: Request<'_, S>,
         turns: &mut u64,
     ) -> Result<Option<bool>, SreError>
-        ensures ok { (t : Tree) → Whole (words_of (code_of req.entry)) t → IfOk result
-            (λ told. IfSome told (λ b. Answers (stands_in req.entry) (found (asked_of req.entry) t) b self.new)) }
-        ensures alike { (t : Tree) → Whole (words_of (code_of req.entry)) t → IfOk result
-            (λ told. IfSome told (λ b. AnswersAlike (λ asked. found asked t) (asked_of req.entry) b self.new)) }
+        ensures answer { (t : Tree) → Whole (words_of (code_of req.entry)) t → IfOk result
+            (λ told. IfSome told (λ b. answer_of b self.new ≡ found (asked_of req.entry) t)) }
+        ensures cursor { IfOk result
+            (λ told. told ≡ Some true → stands_in req.entry self.new.cursor self.new.cursor.position) }
         ensures span { IfOk result (λ told. told ≡ Some true
             → (start_of req.entry ≤ self.new.start) × Spans self.new.start (end_of req.entry) self.new) }
         ensures no { IfOk result (λ told. told ≢ Some true → self.new.marks ≡ no_marks) }
@@ -404,8 +401,8 @@ impl<A: Allocator + Copy> State<A> {
         ensures err { OnErr result (self.new.marks ≡ no_marks) }
         ensures refused { OnErr result Refused }
         ensures counts { CountsAll req.entry (has_found result) self.new }
-        ensures literal { (hints_of (code_of req.entry)).literal ≡ true
-            → (OnErr result ⊥) × IfOk result (λ told. told ≢ None) }
+        ensures literal { (OnErr result (MayTakeMemory (code_of req.entry)))
+            × IfOk result (λ told. told ≡ None → MayTakeMemory (code_of req.entry)) }
     {
         let start = req.string().create_cursor(req.start());
         let mut allowed = Allowance::Turns(*turns);

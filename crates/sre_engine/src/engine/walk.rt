@@ -3,9 +3,10 @@
 ghost use Rattle.std.specs.Prelude.{◌≡◌, OnErr};
 ghost use Rattle.sre_request.specs.Requests.{string_of, start_of, code_of, stands_in};
 ghost use Rattle.sre_machine.specs.Allowances.{is_limited};
+ghost use Rattle.sre_engine.specs.Answers.{MayTakeMemory};
 ghost use Rattle.sre_engine.specs.Costs.{Charged};
 ghost use Rattle.sre_engine.specs.Counts.{BeginsAgain, runs_of};
-ghost use Rattle.sre_engine.specs.Searches.{Stepped, NoErrorIfLiteral, RunsOnceAnchored};
+ghost use Rattle.sre_engine.specs.Searches.{Stepped, RunsOnceAnchored};
 ghost use Rattle.sre_growth.specs.Refusal.{Refused};
 
 use crate::engine::state::{SreError, State};
@@ -37,7 +38,7 @@ pub(crate) fn step_within<S: StrDrive, A: Allocator + Copy, F: Starts<S>>(
     ensures again { BeginsAgain (is_limited allowed.old) state.new }
     ensures charged { Charged req.old result state.new.started (runs_of state.new) allowed.old allowed.new }
     ensures anchored { RunsOnceAnchored req.old state.new }
-    ensures literal { NoErrorIfLiteral req.old result }
+    ensures literal { OnErr result (MayTakeMemory (code_of req.old)) }
 {
     if !state.search_from(req, *cursor, allowed, starts)? {
         return Ok(false);
@@ -64,7 +65,7 @@ pub fn step_by<S: StrDrive, A: Allocator + Copy, F: Starts<S>>(
     ensures refused { OnErr result Refused }
     ensures anchored { RunsOnceAnchored req.old state.new }
     ensures once { state.new.restarted ≡ 0 }
-    ensures literal { NoErrorIfLiteral req.old result }
+    ensures literal { OnErr result (MayTakeMemory (code_of req.old)) }
 {
     match step_within(req, state, cursor, &mut Allowance::Unlimited, starts) {
         Ok(found) => Ok(found),

@@ -11,7 +11,7 @@ ghost use Rattle.sre_code.specs.Codes.{words_of};
 ghost use Rattle.sre_request.specs.Requests.{string_of, start_of, end_of, code_of, asked_of, stands_in};
 ghost use Rattle.sre_engine.specs.Counts.{StepsCount, CountsOfWalk};
 ghost use Rattle.sre_engine.specs.Searches.{Stepped};
-ghost use Rattle.sre_engine.specs.Walks.{match_shown};
+ghost use Rattle.sre_engine.specs.Answers.{match_shown};
 ghost use Rattle.sre_engine.specs.Listed.{match_of};
 ghost use Rattle.sre_growth.specs.Refusal.{Refused};
 

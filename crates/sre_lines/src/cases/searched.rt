@@ -1,10 +1,10 @@
 //! The search of a case, over a long window by a finder.
 
-ghost use Rattle.std.specs.Prelude.{◌≡◌, IfOk};
+ghost use Rattle.std.specs.Prelude.{◌≡◌, true, IfOk};
 ghost use Rattle.sre_engine.specs.Tree.{Tree};
 ghost use Rattle.sre_engine.specs.Grammar.{Whole};
 ghost use Rattle.sre_engine.specs.Found.{found};
-ghost use Rattle.sre_engine.specs.Answers.{Answers};
+ghost use Rattle.sre_engine.specs.Answers.{answer_of};
 ghost use Rattle.sre_engine.specs.Codes.{words_of};
 ghost use Rattle.sre_engine.specs.Requests.{asked_of, code_of, stands_in};
 
@@ -21,8 +21,10 @@ pub fn search<S: Haystack, A: Allocator + Copy>(
     reading: Option<Encoding>,
     state: &mut State<A>,
 ) -> Result<bool, SreError>
-    ensures { (t : Tree) → Whole (words_of (code_of request.entry)) t → IfOk result
-        (λ b. Answers (stands_in request.entry) (found (asked_of request.entry) t) b state.new) }
+    ensures answer { (t : Tree) → Whole (words_of (code_of request.entry)) t
+        → IfOk result (λ b. answer_of b state.new ≡ found (asked_of request.entry) t) }
+    ensures cursor { IfOk result
+        (λ b. b ≡ true → stands_in request.entry state.new.cursor state.new.cursor.position) }
 {
     match reading {
         None => state.search(request),
@@ -38,8 +40,10 @@ fn search_told<S: Haystack, A: Allocator + Copy>(
     encoding: Encoding,
     state: &mut State<A>,
 ) -> Result<bool, SreError>
-    ensures { (t : Tree) → Whole (words_of (code_of request.entry)) t → IfOk result
-        (λ b. Answers (stands_in request.entry) (found (asked_of request.entry) t) b state.new) }
+    ensures answer { (t : Tree) → Whole (words_of (code_of request.entry)) t
+        → IfOk result (λ b. answer_of b state.new ≡ found (asked_of request.entry) t) }
+    ensures cursor { IfOk result
+        (λ b. b ≡ true → stands_in request.entry state.new.cursor state.new.cursor.position) }
 {
     let mut finder = Finder::on_demand(alloc, request.pattern_codes(), encoding);
     finder.search(request, state)

@@ -1,5 +1,5 @@
 use Rattle.std.proofs.Common.{◌≡◌, ◌<◌, ◌+◌, ℕ, length, slice_index}
-use Rattle.sre_engine.specs.Walks.{match_shown}
+use Rattle.sre_engine.specs.Answers.{match_shown}
 use Rattle.sre_c.specs.Walked.{entry_of}
 use Rattle.sre_c.proofs.walk.write_row.Given as goal
 

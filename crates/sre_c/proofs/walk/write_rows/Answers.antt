@@ -1,6 +1,6 @@
 use Rattle.std.proofs.Common.{◌∙◌, ◌*◌, Some, ap, subst, arith}
 use Rattle.sre_engine.specs.Iterators.{request_of}
-use Rattle.sre_engine.specs.Walks.{match_shown}
+use Rattle.sre_engine.specs.Answers.{match_shown}
 use Rattle.sre_c.specs.declared.types.SreWalked.{SreWalked}
 use Rattle.sre_c.specs.Walked.{IsRow}
 use Rattle.sre_c.proofs.Rows.{match_given, step_written}

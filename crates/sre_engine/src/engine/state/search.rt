@@ -1,14 +1,15 @@
 //! The search: from candidate to candidate, by what its code's hints confirm.
 
-ghost use Rattle.std.specs.Prelude.{◌≡◌, ◌≤◌, true, false};
+ghost use Rattle.std.specs.Prelude.{◌≡◌, ◌≤◌, true, false, OnErr};
 ghost use Rattle.sre_code.specs.Codes.{words_of, hints_of};
 ghost use Rattle.sre_request.specs.Requests.{string_of, start_of, code_of, asked_of, stands_in};
 ghost use Rattle.sre_request.specs.Runs.{run_of};
 ghost use Rattle.sre_machine.specs.Allowances.{is_limited};
+ghost use Rattle.sre_engine.specs.Answers.{MayTakeMemory};
 ghost use Rattle.sre_engine.specs.Counts.{BeginsAgain, runs_of};
 ghost use Rattle.sre_engine.specs.Prefixed.{IsPrefix};
 ghost use Rattle.sre_engine.specs.Costs.{Charged};
-ghost use Rattle.sre_engine.specs.Searches.{Answered, AnsweredAtOnce, RunsOnceAnchored, NoErrorIfLiteral};
+ghost use Rattle.sre_engine.specs.Searches.{Answered, AnsweredAtOnce, RunsOnceAnchored};
 
 use crate::engine::anchors::is_anchored;
 use crate::engine::candidates::Candidates;
@@ -43,7 +44,7 @@ impl<A: Allocator + Copy> State<A> {
         ensures again { BeginsAgain (is_limited allowed.old) self.new }
         ensures charged { Charged req.now result self.new.started (runs_of self.new) allowed.old allowed.new }
         ensures anchored { RunsOnceAnchored req.now self.new }
-        ensures literal { NoErrorIfLiteral req.now result }
+        ensures literal { OnErr result (MayTakeMemory (code_of req.now)) }
     {
         if let Some(prefix) = confirmed_prefix(req) {
             if prefix.whole {

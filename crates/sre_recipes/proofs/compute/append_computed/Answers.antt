@@ -3,13 +3,13 @@ use Rattle.std.specs.List.{slice_range}
 use Rattle.sre_engine.specs.Codes.{words_of}
 use Rattle.sre_engine.specs.Requests.{string_of, start_of, end_of, code_of}
 use Rattle.sre_engine.specs.Iterators.{request_of, shown_of, left_of}
-use Rattle.sre_engine.specs.Walks.{match_shown}
+use Rattle.sre_engine.specs.Answers.{match_shown}
 use Rattle.sre_recipes.specs.Slices.{captured}
 use Rattle.sre_recipes.specs.Captured.{captures_shown}
 use Rattle.sre_recipes.specs.Computed.{Computes}
 use Rattle.sre_recipes.specs.Bounded.{first_of}
 use Rattle.sre_recipes.proofs.Bounding.{left_on, taken_step, stopped}
-use Rattle.sre_recipes.proofs.Steps.{walk_on, kept_on}
+use Rattle.sre_recipes.proofs.Steps.{walk_on, kept_on, next_start}
 use Rattle.sre_recipes.proofs.Written.{computed_step, computed_end}
 use Rattle.sre_recipes.proofs.compute.append_computed.Goals as goal
 
@@ -60,7 +60,7 @@ walk-preserved g c =
           (first_of c.args.bounds.now.most (left_of c.args.walk.now t)) start (start_of (request_of after))
           (start_of asked) (end_of asked)
           (taken_step before after c.walk.bounds c.next_bounded.new.bounds words t gives takes kept.words tree)
-          gives.request.start added (_, c.in-Ok.new, shown, c.in-Ok.ensures, refl) (c.walk.invariant.left t tree);
+          (next_start gives) added (_, c.in-Ok.new, shown, c.in-Ok.ensures, refl) (c.walk.invariant.left t tree);
     }
 
 pub returns-clause-ok : goal.returns-clause-ok

@@ -4,11 +4,11 @@ use Rattle.std.specs.List.{slice_range}
 use Rattle.sre_engine.specs.Codes.{words_of}
 use Rattle.sre_engine.specs.Requests.{string_of, start_of, end_of, code_of}
 use Rattle.sre_engine.specs.Iterators.{request_of, shown_of, left_of}
-use Rattle.sre_engine.specs.Walks.{match_shown}
+use Rattle.sre_engine.specs.Answers.{match_shown}
 use Rattle.sre_recipes.specs.Pieces.{pieces_between}
 use Rattle.sre_recipes.specs.Bounded.{first_of}
 use Rattle.sre_recipes.proofs.Bounding.{left_on, taken_step, stopped}
-use Rattle.sre_recipes.proofs.Steps.{walk_on, kept_on}
+use Rattle.sre_recipes.proofs.Steps.{walk_on, kept_on, next_start}
 use Rattle.sre_recipes.proofs.Written.{pieces_step, pieces_end}
 use Rattle.sre_recipes.proofs.divide.add_pieces.Goals as goal
 
@@ -48,7 +48,7 @@ walk-preserved g c =
           ++ pieces_between text (start_of asked) (end_of asked)
           (first_of c.args.bounds.now.most (left_of c.args.walk.now t)))
           (taken_step before after c.walk.bounds c.next_bounded.new.bounds words t gives takes kept.words tree)
-          gives.request.start added
+          (next_start gives) added
           (c.walk.invariant.left t tree);
     }
 

@@ -4,12 +4,12 @@ use Rattle.std.specs.List.{slice_range}
 use Rattle.sre_engine.specs.Codes.{words_of}
 use Rattle.sre_engine.specs.Requests.{string_of, start_of, end_of, code_of}
 use Rattle.sre_engine.specs.Iterators.{request_of, shown_of, left_of}
-use Rattle.sre_engine.specs.Walks.{match_shown}
+use Rattle.sre_engine.specs.Answers.{match_shown}
 use Rattle.std.specs.Option.{option_map}
 use Rattle.sre_recipes.specs.Pieces.{first_groups, pieces_and_groups}
 use Rattle.sre_recipes.specs.Bounded.{first_of}
 use Rattle.sre_recipes.proofs.Bounding.{left_on, taken_step, stopped}
-use Rattle.sre_recipes.proofs.Steps.{walk_on, kept_on}
+use Rattle.sre_recipes.proofs.Steps.{walk_on, kept_on, next_start}
 use Rattle.sre_recipes.proofs.Written.{groups_step, groups_end}
 use Rattle.sre_recipes.proofs.divide.add_pieces_and_groups.Goals as goal
 
@@ -54,7 +54,7 @@ walk-preserved g c =
           ++ pieces_and_groups text several (start_of asked) (end_of asked)
           (first_of c.args.bounds.now.most (left_of c.args.walk.now t)))
           (taken_step before after c.walk.bounds c.next_bounded.new.bounds words t gives takes kept.words tree)
-          gives.request.start added
+          (next_start gives) added
           (c.walk.invariant.left t tree);
     }
 

@@ -3,11 +3,11 @@ use Rattle.sre_engine.specs.Codes.{words_of}
 use Rattle.sre_engine.specs.Requests.{string_of, start_of, end_of, code_of}
 use Rattle.sre_engine.specs.Answers.{Shown}
 use Rattle.sre_engine.specs.Iterators.{request_of, shown_of, left_of}
-use Rattle.sre_engine.specs.Walks.{match_shown}
+use Rattle.sre_engine.specs.Answers.{match_shown}
 use Rattle.sre_recipes.specs.Lexed.{reached, lexeme_of, lexeme_shown}
 use Rattle.sre_recipes.specs.Adjoining.{adjoining, unless_empty}
 use Rattle.sre_recipes.specs.Spans.{StandsAt}
-use Rattle.sre_recipes.proofs.Steps.{walk_step, kept_on}
+use Rattle.sre_recipes.proofs.Steps.{walk_step, kept_on, next_start}
 use Rattle.sre_recipes.proofs.Written.{tokens_step, none_left, reached_on}
 use Rattle.sre_recipes.proofs.lexer.add_tokens.Goals as goal
 
@@ -35,18 +35,18 @@ walk-preserved g c =
     record {
       kept = kept_on before after whole words (end_of asked) gives kept;
       stands =
-          rw gives.request.start
+          rw (next_start gives)
           (subst (λ (s : Shown). StandsAt (g.S.StrDrive.stands whole) end s.cursor.position) c.state.ensures stands);
       left = λ t tree.
           tokens_step text tokens new found (left_of before t) (left_of after t) start next
           (map (lexeme_shown g.S.StrDrive.text) c.args.all.now.tokens.items
           ++ map (lexeme_of text) (adjoining (start_of asked) (left_of c.args.walk.now t)))
-          (walk_step before after words t gives kept.words tree) told.here gives.request.start added
+          (walk_step before after words t gives kept.words tree) told.here (next_start gives) added
           (c.walk.invariant.left t tree);
       end = λ t tree.
           reached_on found (left_of before t) (left_of after t) start next
           (reached (start_of asked) (adjoining (start_of asked) (left_of c.args.walk.now t)))
-          (walk_step before after words t gives kept.words tree) told.here gives.request.start
+          (walk_step before after words t gives kept.words tree) told.here (next_start gives)
           (c.walk.invariant.end t tree);
     }
 

@@ -3,11 +3,11 @@ use Rattle.std.specs.List.{slice_range}
 use Rattle.sre_engine.specs.Codes.{words_of}
 use Rattle.sre_engine.specs.Requests.{string_of, start_of, end_of, code_of}
 use Rattle.sre_engine.specs.Iterators.{request_of, shown_of, left_of}
-use Rattle.sre_engine.specs.Walks.{match_shown}
+use Rattle.sre_engine.specs.Answers.{match_shown}
 use Rattle.sre_recipes.specs.Templates.{written, replaced}
 use Rattle.sre_recipes.specs.Bounded.{first_of}
 use Rattle.sre_recipes.proofs.Bounding.{left_on, taken_step, stopped}
-use Rattle.sre_recipes.proofs.Steps.{walk_on, kept_on}
+use Rattle.sre_recipes.proofs.Steps.{walk_on, kept_on, next_start}
 use Rattle.sre_recipes.proofs.Written.{replaced_step, replaced_end}
 use Rattle.sre_recipes.proofs.replace.append_replaced.Goals as goal
 
@@ -54,7 +54,7 @@ walk-preserved g c =
           ++ replaced text new (start_of asked) (end_of asked)
           (first_of c.args.bounds.now.most (left_of c.args.walk.now t)))
           (taken_step before after c.walk.bounds c.next_bounded.new.bounds words t gives takes kept.words tree)
-          gives.request.start added
+          (next_start gives) added
           (c.walk.invariant.left t tree);
     }
 

@@ -22,7 +22,8 @@ pub returns-in_default-clause-none : goal.returns-in_default-clause-none
 returns-in_default-clause-none g c = λ t whole none.
     let asked = asked_of c.args.req.now in
     let words = (run_of c.args.req.now).words in
-    let lead = subst (λ first. RunStands words t first c.args.lead.now.test) c.in_default.is (c.requires.lead t whole) in
+    let lead = subst (λ first. RunStands words t first c.args.lead.now.test) c.in_default.is (c.requires.lead t whole)
+    in
     let p = c.args.start.position in
     let run = c.longest_run-run in
     none_until asked t p run.result.end.position c.one_on.result
@@ -75,5 +76,6 @@ returns-clause-none g c = λ t whole none.
     let count = λ (j : ℕ) (x : Test) (stands : TestStands words c.args.lead.now.test j x).
     run.ensures.count j x stands ∙ ap (longest_run (subject_of asked) x unlimited) c.read-character.ensures.position in
     subst (λ q. NoneBetween asked t p q) (sym next)
-    (none_behind_front asked t words c.args.lead.now.test p none c.in-Some.first c.read-character.result.0 run.result.count
+    (none_behind_front asked t words c.args.lead.now.test p none c.in-Some.first c.read-character.result.0
+    run.result.count
     c.takes.result lead inside c.read-character.ensures.character c.takes.ensures c.if-not-takes.false count)

@@ -3,7 +3,7 @@ use Rattle.sre_model.specs.Grammar.{Whole}
 use Rattle.sre_model.specs.Found.{walk}
 use Rattle.sre_code.specs.Codes.{words_of}
 use Rattle.sre_engine.specs.Listed.{match_of}
-use Rattle.sre_engine.specs.Walks.{match_shown}
+use Rattle.sre_engine.specs.Answers.{match_shown}
 use Rattle.std.proofs.Common.{◌≡◌, ◌+◌, ◌-◌, ◌∙◌, arith, ap, subst, sym, vec_len}
 use Rattle.sre_request.specs.Requests.{start_of, code_of, asked_of}
 use Rattle.sre_engine.specs.Counts.{StepsCount}
@@ -54,11 +54,14 @@ step-preserved g c =
     let inv = c.step.invariant in
     let step = c.in_ok-counted_step.ensures in
     let goes = step.stepped.yes c.if-branch.true in
+    let at : start_of c.counted_step.new.req ≡ c.counted_step.new.state.cursor.position =
+    ap (λ a. a.start) goes.asked in
     let long : vec_len c.push.new.list ≡ vec_len c.step.all + 1 = c.in_ok-push.ensures.len in
     let same : vec_len c.push.new.list - vec_len c.args.all.now ≡ vec_len c.step.all - vec_len c.args.all.now + 1 =
     omega (arith, long, inv.longer) in
     let counted = match_on c.args.req c.step.req _ _ _ _ _ c.counted_step.new.state inv.code inv.asked inv.from
-    inv.inside inv.counted step.started step.compared c.counted_step.new.req goes (step.stepped.up_to_match c.if-branch.true) in
+    inv.inside inv.counted step.started step.compared c.counted_step.new.req goes
+    (step.stepped.up_to_match c.if-branch.true) in
     record {
       here = step.here;
       code = goes.pattern_codes ∙ inv.code;
@@ -73,8 +76,8 @@ step-preserved g c =
           c.if-branch.true) (inv.left t whole);
       asked = asked_on c.args.req c.step.req _ _ _ _ _ c.counted_step.new.state inv.code inv.asked inv.from inv.inside
           inv.counted step.started step.compared c.counted_step.new.req goes;
-      from = omega (arith, inv.from, goes.start, goes.from, goes.span.forward);
-      inside = omega (arith, goes.start, goes.span.inside, ap (λ a. a.end) inv.asked);
+      from = omega (arith, inv.from, at, goes.from, goes.span.forward);
+      inside = omega (arith, at, goes.span.inside, ap (λ a. a.end) inv.asked);
       longer = omega (arith, inv.longer, long);
       few = omega (arith, inv.few, same, step.stepped.falls c.if-branch.true);
       counted = subst (λ n. StepsCount (asked_of c.args.req) (code_of c.args.req) (start_of c.counted_step.new.req)

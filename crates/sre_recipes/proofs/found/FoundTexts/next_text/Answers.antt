@@ -1,4 +1,5 @@
 use Rattle.std.proofs.Common.{◌≡◌, ◌∙◌, ap, subst, arith}
+use Rattle.sre_engine.specs.Found.{Asked}
 use Rattle.sre_engine.specs.Requests.{string_of, start_of}
 use Rattle.sre_finder.specs.SpanIters.{request_of, GivesSpan}
 use Rattle.sre_recipes.proofs.Finding.{reaches}
@@ -52,7 +53,7 @@ invariant_of-self-in-Some-Ok g c =
       c.position.ensures,
       c.on_by-start.ensures.position,
       c.on_by-self.ensures.position,
-      gives.request.start_is,
+      ap (λ (a : Asked). a.start) gives.request.asked,
       x.from,
       x.forward,
     ) in

@@ -1,22 +1,29 @@
-use Rattle.std.proofs.Common.{◌≡◌, ◌≤◌, true, false, Some, None, refl, subst, arith, rules}
+use Rattle.std.proofs.Common.{◌≡◌, ◌≤◌, true, false, Some, None, refl, sym, subst, arith, rules}
 use Rattle.sre_model.specs.Found.{at_start}
 use Rattle.sre_code.specs.Codes.{words_of, hints_of}
 use Rattle.sre_request.specs.Requests.{start_of, end_of, code_of, asked_of, stands_in}
-use Rattle.sre_engine.proofs.Answering.{answers_yes, answers_no, none_at, some_at, span_at}
+use Rattle.sre_engine.proofs.Answering.{none_at, some_at, span_at}
 use Rattle.sre_code.proofs.Checked.{code_tree, items_whole}
 use Rattle.sre_engine.proofs.Looking.{once_charged, once_given_up}
 use Rattle.sre_engine.proofs.engine.state.State.match_from.Goals as goal
 
-pub returns-in-Some-clause-ok : goal.returns-in-Some-clause-ok
-returns-in-Some-clause-ok g c = λ t whole.
+pub returns-in-Some-clause-answer : goal.returns-in-Some-clause-answer
+returns-in-Some-clause-answer g c = λ t whole.
     let asked = c.args.req.now in
     let at : c.args.from.position ≡ start_of asked = search rules in
     let some = some_at (stands_in asked) (asked_of asked) t _ c.in_ok-end.field-0 c.attempt-told.new.self.board.marks
     (c.in_ok-end.ensures.decides.each t (items_whole (code_of asked) t whole)) c.in-Some.end c.in-Some.is in
-    rw c.count.ensures
-    (answers_yes (stands_in asked) _ (start_of asked) c.in-Some.end _ c.start.ensures.value refl some.0
-    (subst (λ q. at_start (asked_of asked) t q
-    ≡ Some (record { start = q; end = c.in-Some.end.position; marks = c.attempt-told.new.self.board.marks })) at some.1))
+    rw (c.count.ensures, c.start.ensures.value)
+    (sym (subst (λ q. at_start (asked_of asked) t q
+    ≡ Some (record { start = q; end = c.in-Some.end.position; marks = c.attempt-told.new.self.board.marks })) at
+    some.1))
+
+pub returns-in-Some-clause-cursor : goal.returns-in-Some-clause-cursor
+returns-in-Some-clause-cursor g c = λ _.
+    let asked = c.args.req.now in
+    let tree = code_tree (words_of (code_of asked)) (hints_of (code_of asked)) (code_of asked).checked in
+    (some_at (stands_in asked) (asked_of asked) tree.0 _ c.in_ok-end.field-0 c.attempt-told.new.self.board.marks
+    (c.in_ok-end.ensures.decides.each tree.0 (items_whole (code_of asked) tree.0 tree.1)) c.in-Some.end c.in-Some.is).0
 
 pub returns-in-Some-clause-span : goal.returns-in-Some-clause-span
 returns-in-Some-clause-span g c = λ _.
@@ -25,15 +32,15 @@ returns-in-Some-clause-span g c = λ _.
     let tree = code_tree (words_of (code_of asked)) (hints_of (code_of asked)) (code_of asked).checked in
     let from : c.args.from.position ≤ end_of asked = omega (arith, at, asked.in_window.0) in
     let s = span_at (stands_in asked) (asked_of asked) tree.0 _ c.in_ok-end.field-0 c.attempt-told.new.self.board.marks
-    (c.in_ok-end.ensures.decides.each tree.0 (items_whole (code_of asked) tree.0 tree.1)) from c.in-Some.end c.in-Some.is in
+    (c.in_ok-end.ensures.decides.each tree.0 (items_whole (code_of asked) tree.0 tree.1)) from c.in-Some.end
+    c.in-Some.is in
     record { starts = c.start.ensures.value; forward = omega (arith, at, s.0); inside = s.1 }
 
-pub returns-in-None-clause-ok : goal.returns-in-None-clause-ok
-returns-in-None-clause-ok g c = λ t whole.
+pub returns-in-None-clause-answer : goal.returns-in-None-clause-answer
+returns-in-None-clause-answer g c = λ t whole.
     let asked = c.args.req.now in
     let at : c.args.from.position ≡ start_of asked = search rules in
-    answers_no (stands_in asked) (at_start (asked_of asked) t (start_of asked)) _
-    (subst (λ q. at_start (asked_of asked) t q ≡ None) at
+    sym (subst (λ q. at_start (asked_of asked) t q ≡ None) at
     (none_at (stands_in asked) (asked_of asked) t _ c.in_ok-end.field-0 c.attempt-told.new.self.board.marks
     (c.in_ok-end.ensures.decides.each t (items_whole (code_of asked) t whole)) c.in-None.is))
 
@@ -42,14 +49,16 @@ returns-in-Some-clause-charged g c =
     let r = c.args.req.now in
     let at : c.args.from.position ≡ start_of r = search rules in
     once_charged r _ _ c.args.allowed.now _ 0 _ _ c.begin.ensures.started c.begin.ensures.restarted (omega (arith, at))
-    (omega (arith, at, r.in_window.0)) c.begin.ensures.begins c.attempt-told.ensures.began c.in_ok-end.ensures.costs true
+    (omega (arith, at, r.in_window.0)) c.begin.ensures.begins c.attempt-told.ensures.began c.in_ok-end.ensures.costs
+    true
 
 pub returns-in-None-clause-charged : goal.returns-in-None-clause-charged
 returns-in-None-clause-charged g c =
     let r = c.args.req.now in
     let at : c.args.from.position ≡ start_of r = search rules in
     once_charged r _ _ c.args.allowed.now _ 0 _ _ c.begin.ensures.started c.begin.ensures.restarted (omega (arith, at))
-    (omega (arith, at, r.in_window.0)) c.begin.ensures.begins c.attempt-told.ensures.began c.in_ok-end.ensures.costs false
+    (omega (arith, at, r.in_window.0)) c.begin.ensures.begins c.attempt-told.ensures.began c.in_ok-end.ensures.costs
+    false
 
 pub returns-in_err-end-clause-charged : goal.returns-in_err-end-clause-charged
 returns-in_err-end-clause-charged g c =

@@ -1,7 +1,7 @@
 use Rattle.std.proofs.Common.{◌≡◌, true, false, refl, sym, ◌∙◌, rules}
 use Rattle.sre_code.proofs.Checked.{items_whole}
 use Rattle.sre_request.specs.Requests.{code_of}
-use Rattle.sre_engine.proofs.MayStart.{never_literal}
+use Rattle.sre_engine.proofs.MayStart.{not_literal, on_error}
 use Rattle.sre_engine.proofs.Searching.{anchored_never}
 use Rattle.sre_engine.proofs.engine.state.State.search_from.Goals as goal
 
@@ -23,9 +23,13 @@ returns-clause-anchored g c = λ t whole is.
     let said = c.is_anchored.ensures t (items_whole c.args.req.now.pattern_codes t whole) in
     let never : true ≡ false = sym is ∙ sym said ∙ c.if-is_anchored.false in absurd (cc never)
 
+pub returns-then-hints-clause-literal : goal.returns-then-hints-clause-literal
+returns-then-hints-clause-literal g c =
+    on_error _ (not_literal (code_of c.args.req.now) (c.in_default.ensures.none refl))
+
 pub returns-then-is_anchored-clause-literal : goal.returns-then-is_anchored-clause-literal
-returns-then-is_anchored-clause-literal g c = λ all.
-    absurd (never_literal (code_of c.args.req.now) (c.in_default.ensures.none refl) all)
+returns-then-is_anchored-clause-literal g c =
+    on_error _ (not_literal (code_of c.args.req.now) (c.in_default.ensures.none refl))
 
 pub returns-clause-literal : goal.returns-clause-literal
-returns-clause-literal g c = λ all. absurd (never_literal (code_of c.args.req.now) (c.in_default.ensures.none refl) all)
+returns-clause-literal g c = on_error _ (not_literal (code_of c.args.req.now) (c.in_default.ensures.none refl))

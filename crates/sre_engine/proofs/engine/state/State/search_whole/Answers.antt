@@ -6,8 +6,7 @@ use Rattle.sre_turns.specs.Board.{BoardValue}
 use Rattle.sre_model.specs.Found.{at_start}
 use Rattle.sre_request.specs.Requests.{code_of, asked_of, stands_in}
 use Rattle.sre_engine.specs.Scans.{Stands}
-use Rattle.sre_engine.proofs.Answering.{answers_yes, found_first}
-use Rattle.sre_engine.proofs.Answering.{NoneBefore}
+use Rattle.sre_engine.proofs.Answering.{NoneBefore, found_first}
 use Rattle.sre_engine.proofs.Looking.{answered_no}
 use Rattle.sre_engine.proofs.Steps.{complete}
 use Rattle.sre_engine.proofs.MayStart.{ran_none, counts_ran, has_prefix}
@@ -54,7 +53,7 @@ returns-then-may_end-clause-answers g c =
     let marks : no_marks ≡ c.place.self-inside.runner.board.marks = sym (ap (λ (b : BoardValue). b.marks) inv.fresh) in
     let ran = ran_none a (code_of asked) _ 0 inv.idle in
     record {
-      ok = λ t whole.
+      answer = λ t whole.
           let before : NoneBefore a t c.prefix_start.result =
           subst (NoneBefore a t) at
           (none_unplaced a (code_of asked) vs _ _ is some t whole _ _ (inv.none t whole) there.1) in
@@ -72,8 +71,8 @@ returns-then-may_end-clause-answers g c =
             end = c.find.new.spot.cursor.position;
             marks = m;
           })) marks) in
-          answers_yes (stands_in asked) _ c.prefix_start.result c.find.new.spot.cursor _ refl refl c.find.ensures.stands
-          (found_first a t _ _ before found_ from (omega (arith, stands.within)) refl);
+          sym (found_first a t _ _ before found_ from (omega (arith, stands.within)) refl);
+      cursor = λ _. c.find.ensures.stands;
       span = λ _. (
         from,
         record { starts = refl; forward = omega (arith, ends); inside = omega (arith, ends, stands.within) },

@@ -40,7 +40,8 @@ returns-clause-some g c =
           let ws = items_of (code_of r) in
           let zero : 0 + 2 * prefix.literals ≡ 2 * prefix.literals = omega arith in
           subst (λ i. Reads ws i (length ws - 1) (behind_items prefix.literals t)) zero
-          (reads_behind ws prefix.literals t vs 0 (length ws - 1) (is.spelled t (whole_items r.pattern_codes t w)) is.few
+          (reads_behind ws prefix.literals t vs 0 (length ws - 1) (is.spelled t (whole_items r.pattern_codes t w))
+          is.few
           w.0);
       decides = λ t whole end m decided.
           decided_behind a (code_of r) vs _ _ is some c.prefix_start.result stands (run_of r) refl t whole
