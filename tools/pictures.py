@@ -77,8 +77,9 @@ HIGH, ROW, GAP, MARGIN, PORT = 30, 72, 22, 24, 18
 class Crates:
     """The crates of crates.txt, each on the level above those that it stands on, and the lines between them.
 
-    A line that leads over several levels has a bend on each of them, which takes room there as a box does. Tests, and
-    what tests alone stand on, have the right-hand side.
+    Those of a reader, who tries a page's example here, have other names and are left out. A line that leads over
+    several levels has a bend on each of them, which takes room there as a box does. Tests, and what tests alone stand
+    on, have the right-hand side.
     """
 
     def __init__(self):
@@ -98,7 +99,7 @@ class Crates:
 
     def direct(self):
         """What each crate lists of the others, without what another one that it lists stands on."""
-        crates = wrong_bodies.crates()
+        crates = {name: it for name, it in wrong_bodies.crates().items() if name.startswith("sre_")}
         below = {name: {it.name for it in crate.below()} for name, crate in crates.items()}
         return {name: [it.name for it in crate.own if not any(it.name in below[other.name] for other in crate.own)]
                 for name, crate in crates.items()}

@@ -26,15 +26,14 @@ its_words =
     (refl, ((19, loop, (21, (refl, (refl, refl)), refl)), refl))
 
 -- the number over n positions, where a run's characters make a difference up to c
-few : (n k e c : ℕ) → k ≤ n → n ≤ e + 1 → e ≤ 1000 → (c ≡ 0) ⊎ (c ≡ 1)
-    → 2 * (32 * k) + (n * (2 * 22 + 4) + 2 * (22 * (4 * n)) * (1 + max c 0) * (4 * (22 + 3))) * (1 + c / 8) < 35347313
-few n k e c l m short (inl none) = rw none (omega (arith, l, m, short))
-few n k e c l m short (inr one) = rw one (omega (arith, l, m, short))
+few : (n e c : ℕ) → n ≤ e + 1 → e ≤ 1000 → (c ≡ 0) ⊎ (c ≡ 1)
+    → n * (32 + (2 * 22 + 4 + 4 * 22 * (22 + 3) * 4 * (1 + max c 0)) * (1 + c / 8)) < 17697681
+few n e c m short (inl none) = rw none (omega (arith, m, short))
+few n e c m short (inr one) = rw one (omega (arith, m, short))
 
-pub turns_enough : (a : Asked) → a.start ≤ a.end → a.end ≤ 1000 → enough_turns 22 two_runs a < 35347313
+pub turns_enough : (a : Asked) → a.start ≤ a.end → a.end ≤ 1000 → enough_turns 22 two_runs a < 17697681
 turns_enough a order short =
-    few (a.end + 1 - a.start) (a.end - a.start + 1) a.end (min 1 a.end) (omega (arith, order)) (omega arith) short
-    (least a.end)
+    few (a.end + 1 - a.start) a.end (min 1 a.end) (omega arith) short (least a.end)
   where
     least : (e : ℕ) → (min 1 e ≡ 0) ⊎ (min 1 e ≡ 1)
     least zero = inl refl

@@ -182,7 +182,7 @@ fn two_runs_searched<S: StrDrive>(
     requires short { length (S.text text) ≤ 1000 }
     ensures { IfOk result (λ told. told ≡ None → Refused) }
 {
-    let mut turns = 35_347_313;
+    let mut turns = 17_697_681;
     state.search_within(Request::new(text, 0, usize::MAX, code, false), &mut turns)
 }
 

@@ -1,7 +1,7 @@
 //! Tests of the crates below the machine: what neither a clause of a contract nor a line of the program shows.
 //!
 //! That is the numbers of codes and the bits of flags, printed texts, std's table, each request for memory refused in
-//! turn, the memory of a board, what is kept of failures, worked examples over both types of text, the words of parts,
+//! turn, the memory of a board, what is kept of failures and of ends, worked examples over both types of text, the words of parts,
 //! and how tight patterns are. They are proved while the machine is, and not behind the engine. Answers to words stand
 //! in the files of `sre_cases` and `sre_probes`.
 #![tactic(auto)]
@@ -10,6 +10,8 @@
 mod boards;
 #[cfg(test)]
 mod characters;
+#[cfg(test)]
+mod ends;
 #[cfg(test)]
 mod failures;
 #[cfg(test)]

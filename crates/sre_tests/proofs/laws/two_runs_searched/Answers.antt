@@ -23,6 +23,6 @@ returns g c =
       remembered =
           subst (λ n. IsRemembered n two_runs (asked_of req)) places (two_runs_remembered (asked_of req) order short);
       more =
-          subst (λ n. enough_turns n two_runs (asked_of req) < 35347313) places
+          subst (λ n. enough_turns n two_runs (asked_of req) < 17697681) places
           (turns_enough (asked_of req) order short);
     })
