@@ -71,7 +71,8 @@ HoldsSpotMore k ws x c old new =
     (n : ℕ) (d : StringCursor) → HoldsEnd new n d → HoldsEnd old n d ⊎ ((d ≡ c) × NumberOf k ws true x n)
 
 -- an end is kept for a spot
-pub record TellsEnd (k : Kept) (t : EndsTable) (ws : List ℕ) (inside : Bool) (x : Spot) (c : StringCursor) : Type 0 where
+pub record TellsEnd (k : Kept) (t : EndsTable) (ws : List ℕ) (inside : Bool) (x : Spot) (c : StringCursor)
+    : Type 0 where
   pub number : ℕ
   pub is : NumberOf k ws inside x number
   pub held : HoldsEnd t number c

@@ -191,7 +191,8 @@ impl<A: Allocator> Board<A> {
         (&self.chains, self.frame)
     }
 
-    /// What was saved with the choice that stands so many below the newest one, and the chains, of which its own is one.
+    /// What was saved with the choice that stands so many below the newest one, and the chains, of which its own is
+    /// one.
     #[inline(always)]
     pub(crate) fn saved(&self, depth: usize) -> Option<(&Chains<A>, Saved)>
         ensures room { IfSome result (λ _. depth + 1 < 2 ^ 64) }

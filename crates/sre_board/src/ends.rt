@@ -3,8 +3,7 @@
 //! The table may forget: each number has one place in it, which another number may take. So to keep an end and to look
 //! it up are one step each, and an end that was forgotten is found anew.
 //!
-//! It waits for the machine, which is to keep here where the body of a region ended, for each spot that is tried
-//! inside.
+//! The machine keeps here where the body of a region ended, for each spot that was tried inside.
 
 ghost use Rattle.std.specs.Prelude.{◌<◌, ◌≤◌, [], length, slice_index_or, IfOk, IfSome};
 ghost use Rattle.sre_board.specs.Ends.{HoldsEnd, HoldsNoEnd, HoldsOneEndMore, HoldsOpenMore, HoldsSpotMore};
@@ -176,8 +175,8 @@ impl<A: Allocator> Ends<A> {
     ) -> Result<(), Refusal>
         requires { saved.frame < length chains.now }
         ensures { (m : Marks) → HoldsSpotMore failures.now words.now
-            (spot_at (Instruction place) (slice_index_or chains.now saved.frame []) saved.cursor.position m) end self.old
-            self.new }
+            (spot_at (Instruction place) (slice_index_or chains.now saved.frame []) saved.cursor.position m) end
+            self.old self.new }
     {
         let position = saved.cursor.position();
         match failures.number_under(words, chains, saved.frame, place, position) {

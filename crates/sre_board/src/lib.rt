@@ -5,7 +5,7 @@
 //! one size, and to go back takes no memory.
 //!
 //! Beside a board stand the spots of which nothing came, so that one that is alike is left at once. There is a table of
-//! where the bodies of regions end, too, so that the machine can go there at once; it does not yet.
+//! where the bodies of regions end, too, so that the machine goes there at once.
 #![tactic(auto)]
 
 mod board;

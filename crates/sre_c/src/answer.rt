@@ -7,7 +7,7 @@ ghost use Rattle.sre_model.specs.Grammar.{Whole};
 ghost use Rattle.sre_model.specs.Found.{found, matched};
 ghost use Rattle.sre_growth.specs.Refusal.{Refused};
 ghost use Rattle.sre_engine.specs.Codes.{words_of, uni_of};
-ghost use Rattle.sre_engine.specs.Requests.{asked_of, code_of, stands_in};
+ghost use Rattle.sre_engine.specs.Requests.{asked_of, code_of};
 ghost use Rattle.sre_engine.specs.Answers.{answer_of, match_shown};
 ghost use Rattle.sre_c.specs.Known.{table_in};
 ghost use Rattle.sre_c.specs.Given.{asked_in, IsEnough};

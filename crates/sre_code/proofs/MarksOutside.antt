@@ -194,4 +194,5 @@ pub scanned_all : (ws : List ℕ) (n farthest : ℕ) → length ws - 1 ≤ n →
     → WholeItems ws t → marks_in_regions t ≡ false
 scanned_all ws n farthest all s t w =
     let h : Hindrance ws = no_marked_regions ws in
-    tree_hindered ws h t 0 (length ws - 1) w.0 (h.fewer 0 0 (length ws - 1) (n + 2) (omega arith) (omega (arith, all)) s.outside)
+    tree_hindered ws h t 0 (length ws - 1) w.0
+    (h.fewer 0 0 (length ws - 1) (n + 2) (omega arith) (omega (arith, all)) s.outside)

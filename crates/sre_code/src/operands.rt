@@ -1,8 +1,8 @@
 //! Words read as operands, in words of which a proof knows what stands there.
 
-ghost use Rattle.std.specs.Prelude.{◌+◌, ◌<◌, ◌^◌, length};
+ghost use Rattle.std.specs.Prelude.{◌≡◌, ◌+◌, ◌<◌, ◌^◌, length};
 ghost use Rattle.sre_chars.specs.Numbers.{category_number};
-ghost use Rattle.sre_model.specs.Grammar.{Word};
+ghost use Rattle.sre_model.specs.Grammar.{Word, word};
 ghost use Rattle.sre_model.specs.Standing.{AreWords, HasCategory};
 
 use sre_chars::constants::SreCatCode;
@@ -17,6 +17,16 @@ pub fn word(words: &[u32], place: usize) -> u32
 {
     let _length = words.len(); // a slice has few items, so no place overflows
     words[place]
+}
+
+/// The word at a place, or 0 past the end.
+pub fn word_or_zero(words: &[u32], place: usize) -> u32
+    ensures { result ≡ word words.now place }
+{
+    match words.get(place) {
+        Some(word) => *word,
+        None => 0,
+    }
 }
 
 /// The word some places on.

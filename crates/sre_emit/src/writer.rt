@@ -7,7 +7,7 @@ ghost use Rattle.sre_model.specs.Written.{packed, set_item_words, set_words};
 ghost use Rattle.sre_emit.specs.Writing.{Wrote};
 
 use crate::error::EmitError;
-use crate::part::{Fold, OneChar, SetItem};
+use crate::part::SetItem;
 use sre_chars::constants::SreOpcode;
 use std::alloc::Allocator;
 use std::marker::Model;

@@ -23,8 +23,8 @@ use Rattle.sre_model.proofs.WalkLaws.{walk-next, walk-end, most_matches-falls}
 use Rattle.sre_code.specs.Codes.{words_of, items_of, uni_of}
 use Rattle.sre_code.specs.declared.code.Code.{Code}
 use Rattle.sre_request.specs.declared.request.Request.{Request}
-use Rattle.sre_request.specs.Requests.{string_of, start_of, end_of, code_of, match_all_of, must_advance_of}
-use Rattle.sre_request.specs.Requests.{empty_rule_of, asked_of, stands_in}
+use Rattle.sre_request.specs.Requests.{start_of, code_of, must_advance_of}
+use Rattle.sre_request.specs.Requests.{asked_of}
 use Rattle.sre_engine.specs.Answers.{Shown, match_shown, answer_of}
 use Rattle.sre_engine.specs.Walks.{StepsTo, GoesOn}
 use Rattle.sre_engine.specs.Searches.{WalksOn}

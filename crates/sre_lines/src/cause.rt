@@ -16,7 +16,7 @@ ghost use Rattle.sre_lines.specs.Causes.{IsWindowFault, IsFlagsField, IsFlag, Is
 ghost use Rattle.sre_lines.specs.declared.line.Finding.{Finding};
 ghost use Rattle.sre_lines.specs.declared.line.Subject.{Subject};
 
-use crate::line::{Verb, flags_of, form_of, split_once, verb_of, window_of};
+use crate::line::{Verb, flags_of, form_of, split_once, verb_of};
 use crate::number::{decimal_number, hex_digit};
 
 /// Why a line is no case.

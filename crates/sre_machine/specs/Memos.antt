@@ -26,8 +26,8 @@ Covers ws end = (g : ℕ) → Asks ws g → 2 * g + 1 < end
 
 -- the failures; those that are kept while marks are set which are asked for; where bodies of regions end, and whether
 -- such ends are kept; how many steps are left before the next look, and how many were taken up to that look; how many
--- turns a search within turns goes on without failures; whether failures are kept by now; and whether no more are, since
--- memory was refused for a place
+-- turns a search within turns goes on without failures; whether failures are kept by now; and whether no more are,
+-- since memory was refused for a place
 pub record MemoValue : Type 0 where
   pub kept : Kept
   pub marked : MarkedValue

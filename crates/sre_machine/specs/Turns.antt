@@ -167,8 +167,8 @@ pub record IsKeeping {S : Type 0} {text : Ghosts S} (r : Request S text) (keepin
   pub refers : keeping ≡ Marked → RefersToGroups r
   pub left : keeping ≡ Nothing → m.is_open ≡ true → RefersToGroups r
 
--- from the instruction at a place, inside a region, its body ends at a cursor: so it does from what is alike, as long as
--- no mark is set that the words ask for
+-- from the instruction at a place, inside a region, its body ends at a cursor: so it does from what is alike, as long
+-- as no mark is set that the words ask for
 pub record EndsThere {S : Type 0} {text : Ghosts S} (r : Request S text) (place : ℕ) (cursor : StringCursor)
     (b : BoardValue) (end : StringCursor) : Type 0 where
   pub inside : is_inside b.choices ≡ true

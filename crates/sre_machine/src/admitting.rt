@@ -6,13 +6,13 @@
 //!
 //! Where a region or a loop's body ends, any character is admitted: what follows is not known by the words alone.
 
-ghost use Rattle.std.specs.Prelude.{◌≡◌, ℕ, ◌+◌, ◌<◌, ◌≤◌, length, true, IfOk};
+ghost use Rattle.std.specs.Prelude.{◌≡◌, ◌+◌, ◌<◌, ◌≤◌, length, true, IfOk};
 ghost use Rattle.sre_model.specs.Tree.{Order};
 ghost use Rattle.sre_model.specs.Grammar.{Opcode, word, skip, until_opcode};
 ghost use Rattle.sre_code.specs.AsciiSet.{contains};
 ghost use Rattle.sre_turns.specs.declared.Point.TheVariants.{Instruction, Alternatives};
 ghost use Rattle.sre_turns.specs.Admitting.{AdmitsOnly, TestsOnly, HasAll, RepeatsOnly, RunsOnly};
-ghost use Rattle.sre_machine.specs.ByPlace.{AllTold, AllAdmitted, IsAdmitted};
+ghost use Rattle.sre_machine.specs.ByPlace.{AllTold, AllAdmitted};
 
 use crate::set_members::{filled, members_at, set_members, word_at};
 use sre_chars::constants::{SreCatCode, SreOpcode};
@@ -39,23 +39,13 @@ fn all() -> AsciiSet
     AsciiSet::new().complement()
 }
 
-// The word at a place, or 0 past the end.
-fn word_or_zero(words: &[u32], place: usize) -> u32
-    ensures { result ≡ word words.now place }
-{
-    match words.get(place) {
-        Some(word) => *word,
-        None => 0,
-    }
-}
-
 // Where the skip word at a place leads.
 fn leads(words: &[u32], place: usize) -> usize
     requires { place ≤ length words.now + 4 }
     ensures { result ≡ skip words.now place }
 {
     let _length = words.len(); // a slice has few items, so no place overflows
-    place + word_or_zero(words, place) as usize
+    place + operands::word_or_zero(words, place) as usize
 }
 
 /// What a list says that the instruction at a place admits.
@@ -137,7 +127,7 @@ fn run(words: &[u32], members: &[Option<AsciiSet>], list: &[Admitted], place: us
 {
     let _length = words.len(); // a slice has few items, so no place overflows
     let own = test(words, members, place + 4);
-    if word_or_zero(words, place + 2) > 0 {
+    if operands::word_or_zero(words, place + 2) > 0 {
         return own;
     }
     let tail = leads(words, place + 1);
@@ -152,7 +142,7 @@ fn repeat(words: &[u32], list: &[Admitted], place: usize) -> AsciiSet
 {
     let _length = words.len(); // a slice has few items, so no place overflows
     let body = instruction_at(words, list, place + 4);
-    if word_or_zero(words, place + 2) > 0 {
+    if operands::word_or_zero(words, place + 2) > 0 {
         return body;
     }
     let end = leads(words, place + 1);
@@ -178,7 +168,7 @@ fn condition(words: &[u32], list: &[Admitted], place: usize) -> AsciiSet
 {
     let _length = words.len(); // a slice has few items, so no place overflows
     let present = instruction_at(words, list, place + 3);
-    let skip = word_or_zero(words, place + 2) as usize;
+    let skip = operands::word_or_zero(words, place + 2) as usize;
     present.union(instruction_at(words, list, place + 1 + skip))
 }
 

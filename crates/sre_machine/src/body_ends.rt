@@ -1,5 +1,5 @@
-//! Where the bodies of regions end: kept for each instruction that was tried inside, and gone to at once from one that is
-//! alike.
+//! Where the bodies of regions end: kept for each instruction that was tried inside, and gone to at once from one that
+//! is alike.
 //!
 //! Of what comes of a spot inside a region the first outcome alone counts, and where no region sets a mark that is told
 //! by where it stops. So a body that has ended once is not run again from the same place and position.

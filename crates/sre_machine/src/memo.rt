@@ -6,7 +6,8 @@
 //! twice as many for each character. The run that is under way then goes on, and remembers what it tries from there on;
 //! within turns it begins again.
 
-ghost use Rattle.std.specs.Prelude.{[], ℕ, ◌≡◌, ◌⊎◌, ◌+◌, ◌-◌, ◌*◌, ◌<◌, ◌≤◌, None, IfSome, slice_index_or, true, false};
+ghost use Rattle.std.specs.Prelude.{[], ℕ, ◌≡◌, ◌⊎◌, ◌+◌, ◌-◌, ◌*◌, ◌<◌, ◌≤◌, None, IfSome, slice_index_or};
+ghost use Rattle.std.specs.Prelude.{true, false};
 ghost use Rattle.sre_model.specs.Marks.{mark_at};
 ghost use Rattle.sre_turns.specs.Fruit.{is_inside};
 ghost use Rattle.sre_turns.specs.MovesAtReferences.{Named};

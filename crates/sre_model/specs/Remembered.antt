@@ -35,10 +35,10 @@ counts_at_most t a = min (most_counts t) a.end
 abbrev pub ways_at_most : Tree → Asked → ℕ
 ways_at_most t a = max (counts_at_most t a) (most_alternatives t)
 
--- so many turns are enough for a search. Each position pays for those that come before failures are kept, for a run that
--- begins there, and for each way, and one more, of each place and slot, of which a few times as many turns come as there
--- are places. A turn counts for more where it passes a long stretch of characters: for one more for each eight of those
--- that make a difference
+-- so many turns are enough for a search. Each position pays for those that come before failures are kept, for a run
+-- that begins there, and for each way, and one more, of each place and slot, of which a few times as many turns come as
+-- there are places. A turn counts for more where it passes a long stretch of characters: for one more for each eight of
+-- those that make a difference
 abbrev pub enough_turns : ℕ → Tree → Asked → ℕ
 enough_turns places t a =
     window_positions a

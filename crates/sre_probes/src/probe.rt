@@ -8,7 +8,7 @@ use crate::lines::push_lines;
 use crate::recipes::{Recipe, push_recipe};
 use crate::shown::{push_list, push_shown, push_within};
 use crate::turns::push_fewest;
-use sre_engine::{Code, EmptyRule, Request, State, StrDrive, UniTable};
+use sre_engine::{Code, Request, State, StrDrive, UniTable};
 use sre_finder::{Encoding, Haystack};
 use sre_lines::line::{Case, Finding, Operands, Subject, TextForm, Window, read_case, split_once};
 use std::alloc::{AllocError, Allocator, Global};

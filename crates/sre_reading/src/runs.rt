@@ -8,7 +8,7 @@ ghost use Rattle.sre_chars.specs.Numbers.{category_number};
 ghost use Rattle.sre_chars.specs.Categories.{category};
 ghost use Rattle.sre_chars.specs.Tables.{Table, is_between};
 ghost use Rattle.sre_model.specs.Tree.{Test, SetItem, Charset};
-ghost use Rattle.sre_model.specs.Characters.{item_holds, is_member, holds};
+ghost use Rattle.sre_model.specs.Characters.{item_holds, is_member};
 ghost use Rattle.sre_code.specs.AsciiSet.{contains};
 ghost use Rattle.sre_model.specs.Subject.{passes};
 ghost use Rattle.sre_model.specs.Ways.{most_from, run_length, longest_run};

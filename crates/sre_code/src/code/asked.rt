@@ -1,14 +1,15 @@
 //! From which group on the items ask for groups: a scan from one instruction to the next, into each body, as that of
 //! the runs' counts.
 
-ghost use Rattle.std.specs.Prelude.{◌≡◌, Option, MatchOption};
+ghost use Rattle.std.specs.Prelude.{◌≡◌, Option};
 ghost use Rattle.sre_model.specs.Tree.{Tree};
 ghost use Rattle.sre_model.specs.Grammar.{WholeItems};
 ghost use Rattle.sre_model.specs.References.{asked_from};
 ghost use Rattle.sre_code.specs.Instructions.{AskingAt};
 
-use crate::code::run_counts::{next, word_or_zero};
+use crate::code::run_counts::next;
 use crate::code::words;
+use crate::operands::word_or_zero;
 use sre_chars::constants::SreOpcode;
 
 /// No group: no pattern has so many.

@@ -12,8 +12,8 @@ ghost use Rattle.sre_model.specs.Grammar.{Opcode, WholeItems};
 ghost use Rattle.sre_model.specs.MarksSet.{marks_in_regions};
 ghost use Rattle.sre_code.specs.RegionWords.{closing_place, RegionWord};
 
-use crate::code::run_counts::word_or_zero;
 use crate::code::words;
+use crate::operands::word_or_zero;
 use sre_chars::constants::SreOpcode;
 
 /// Where the SUCCESS stands that ends the body of a region with this opcode, whose skip leads to `tail`; none where the

@@ -14,6 +14,7 @@ ghost use Rattle.sre_model.specs.Slots.{counted_to};
 ghost use Rattle.sre_code.specs.Instructions.{own_words, count_at, NextAt};
 
 use crate::code::{character, words};
+use crate::operands::word_or_zero;
 use sre_chars::constants::SreOpcode;
 
 /// How many words an instruction with this opcode has before its body or what is behind it, with the length word behind
@@ -33,16 +34,6 @@ fn own_words(code: SreOpcode) -> Option<usize>
         | SreOpcode::MIN_REPEAT_ONE
         | SreOpcode::POSSESSIVE_REPEAT_ONE => Some(4),
         _ => None,
-    }
-}
-
-/// The word at a place, or 0 past the end.
-pub fn word_or_zero(words: &[u32], place: usize) -> u32
-    ensures { result ≡ word words.now place }
-{
-    match words.get(place) {
-        Some(word) => *word,
-        None => 0,
     }
 }
 

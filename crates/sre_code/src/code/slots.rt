@@ -10,8 +10,9 @@ ghost use Rattle.sre_model.specs.Roles.{role};
 ghost use Rattle.sre_model.specs.Slots.{loop_slots};
 ghost use Rattle.sre_code.specs.PlainItems.{kind_of, AreTold, AreCounted, LoopTold, OtherTold, ToldAt};
 
-use crate::code::run_counts::{counted_to, next, word_or_zero};
+use crate::code::run_counts::{counted_to, next};
 use crate::code::words;
+use crate::operands::word_or_zero;
 use sre_chars::constants::SreOpcode;
 
 /// What was passed: where the words behind it stand, how many slots its loops have at most within each other, and how

@@ -1,6 +1,6 @@
 //! The walk over all matches, one after the other.
 
-ghost use Rattle.std.specs.Prelude.{◌≡◌, ◌≤◌, ◌<◌, true, false, IfOk, IfSome, None};
+ghost use Rattle.std.specs.Prelude.{◌≡◌, ◌<◌, true, false, IfSome, None};
 ghost use Rattle.sre_model.specs.Marks.{no_marks};
 ghost use Rattle.sre_request.specs.Requests.{string_of, start_of, code_of, asked_of, stands_in};
 

@@ -1,7 +1,6 @@
 //! Candidates along the places of a confirmed prefix, each of which the machine tries behind the first literals.
 
 ghost use Rattle.std.specs.Prelude.{◌≡◌, false};
-ghost use Rattle.sre_request.specs.Requests.{code_of};
 
 use crate::engine::candidates::{Candidate, Candidates};
 use crate::engine::prefix::{Prefix, Spot, behind_literals, go_on, prefix_start};

@@ -1,7 +1,6 @@
 //! The search: from candidate to candidate, by what its code's hints confirm.
 
 ghost use Rattle.std.specs.Prelude.{◌≡◌, ◌≤◌, true, false, OnErr};
-ghost use Rattle.sre_code.specs.Codes.{words_of, hints_of};
 ghost use Rattle.sre_request.specs.Requests.{string_of, start_of, code_of, asked_of, stands_in};
 ghost use Rattle.sre_request.specs.Runs.{run_of};
 ghost use Rattle.sre_machine.specs.Allowances.{is_limited};
