@@ -4,7 +4,7 @@
 //! one table of chains, and a chain is forgotten as soon as no choice can come back to it.
 
 ghost use Rattle.std.specs.Prelude.{◌≡◌, ℕ, ◌<◌, ◌≤◌, [], ◌∷◌, drop, length, reverse, IfOk, MatchOption};
-ghost use Rattle.std.specs.Prelude.{true, false, slice_index_or, IfSome, ◌+◌, ◌^◌};
+ghost use Rattle.std.specs.Prelude.{true, false, slice_index_or, IfSome, OnErr, ◌+◌, ◌^◌};
 ghost use Rattle.sre_model.specs.Marks.{no_marks, set_mark, group};
 ghost use Rattle.sre_growth.specs.Refusal.{Refused};
 ghost use Rattle.sre_turns.specs.Board.{Keep, Trying, choice, from_region, Cuts, Dropped, bare};
@@ -237,6 +237,42 @@ impl<A: Allocator> Board<A> {
           choices = choice point self.old.frames cursor self.old.marks ∷ self.old.choices;
         }) }
     {
+        self.add(point, cursor)
+    }
+
+    // The same. Where memory is refused the board is as it was. Most lists of choices have room for one more, so that
+    // is looked at first, and the choice is written at once.
+    #[inline(always)]
+    fn add(&mut self, point: Point, cursor: StringCursor) -> Result<(), Refusal>
+        ensures saved { IfOk result (λ _. self.new ≡ record self.old {
+          choices = choice point self.old.frames cursor self.old.marks ∷ self.old.choices;
+        }) }
+        ensures left { OnErr result (self.new ≡ self.old) }
+        ensures refused { OnErr result Refused }
+    {
+        if self.choices.len() < self.choices.capacity() {
+            self.choices.push_reserved(Saved {
+                point,
+                cursor,
+                frame: self.frame,
+                chains: self.chains.count(),
+                changes: self.trail.length(),
+            });
+            self.regions += regions_of(point);
+            return Ok(());
+        }
+        self.add_grown(point, cursor)
+    }
+
+    // The same, where the list of choices has to grow.
+    #[inline(never)]
+    fn add_grown(&mut self, point: Point, cursor: StringCursor) -> Result<(), Refusal>
+        ensures saved { IfOk result (λ _. self.new ≡ record self.old {
+          choices = choice point self.old.frames cursor self.old.marks ∷ self.old.choices;
+        }) }
+        ensures left { OnErr result (self.new ≡ self.old) }
+        ensures refused { OnErr result Refused }
+    {
         let saved = Saved {
             point,
             cursor,
@@ -259,14 +295,7 @@ impl<A: Allocator> Board<A> {
         ensures left { result ≡ false → self.new ≡ self.old }
         ensures refused { result ≡ false → Refused }
     {
-        let saved = Saved {
-            point: Point::Tried(place),
-            cursor,
-            frame: self.frame,
-            chains: self.chains.count(),
-            changes: self.trail.length(),
-        };
-        match sre_growth::push(&mut self.choices, saved) {
+        match self.add(Point::Tried(place), cursor) {
             Ok(()) => true,
             Err(_refusal) => false,
         }

@@ -156,6 +156,14 @@ pub trait StrDrive: Copy {
         false
     }
 
+    /// How many characters are better looked at one by one before the rest is sought: to seek over fewer costs more.
+    /// That bears on time alone.
+    fn few(&self) -> usize
+        ensures { 0 < result }
+    {
+        16
+    }
+
     // A cursor that stands at a place has it as its position, and it is one of the text's.
     ghost stands_at: { (s : Self) (c : StringCursor) (p : ℕ) → stands s c p
         → (c.position ≡ p) × (p ≤ length (text s)) };

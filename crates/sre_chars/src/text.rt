@@ -332,6 +332,12 @@ impl<'a> StrDrive for &'a str {
         *cursor = StringCursor::new(cursor.position() - n, start);
     }
 
+    // Where a character was found those before it have to be counted, too.
+    #[inline(always)]
+    fn few(&self) -> usize {
+        64
+    }
+
     #[inline]
     fn seek(&self, cursor: &mut StringCursor, character: u32, end: usize) -> bool {
         if character < 0x80 {

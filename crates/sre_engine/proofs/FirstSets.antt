@@ -53,11 +53,24 @@ union_lacks s a b set p is lacks =
     by_place true false false false w x y z lacking =
         (record { none = rw (w, x, y) refl }, record { none = rw (w, x, z) refl })
 
-taken_bars : (ws : List ℕ) (place : ℕ) (set : AsciiSet) → TakesAscii ws place set → (s : Subject) (p : ℕ)
+pub taken_bars : (ws : List ℕ) (place : ℕ) (set : AsciiSet) → TakesAscii ws place set → (s : Subject) (p : ℕ)
     → NotAmong s set p → NotPassed ws s place p
 taken_bars ws place set is s p lacks = record {
   each = λ j t x. among_taken s set t p (is s.table j t x) lacks;
 }
+
+-- a character of ASCII that the set of a test does not have is not taken by it
+pub set_lacks : (ws : List ℕ) (place : ℕ) (set : AsciiSet) → TakesAscii ws place set → (s : Subject) (p : ℕ)
+    → char_at s p < 128 → contains set (char_at s p) ≡ false → NotPassed ws s place p
+set_lacks ws place set is s p low lacks =
+    taken_bars ws place set is s p (record { none = by_place (nat_lt p s.end) refl })
+  where
+    by_place : (b : Bool) → nat_lt p s.end ≡ b
+        → (nat_lt p s.end && (nat_le 128 (char_at s p) || contains set (char_at s p))) ≡ false
+    by_place false e = rw e refl
+    by_place true e =
+        let far : nat_le 128 (char_at s p) ≡ false = grind (arith, nat_tests) in
+        rw (e, far) lacks
 
 -- alternatives
 

@@ -12,9 +12,10 @@ use Rattle.sre_model.specs.Subject.{Subject, after, holds_at}
 use Rattle.sre_model.specs.Runs.{Run}
 use Rattle.sre_model.specs.Standing.{HasTest}
 use Rattle.sre_model.specs.FirstCharacters.{NoWay, NotPassed}
+use Rattle.sre_reading.specs.AsciiSets.{TakesAscii}
 use Rattle.sre_engine.specs.declared.engine.first_characters.First.{First}
 use Rattle.sre_engine.specs.declared.engine.first_characters.Wanted.{Wanted}
-use Rattle.sre_engine.specs.declared.engine.first_characters.Wanted.TheVariants.{Anything, Test, Characters}
+use Rattle.sre_engine.specs.declared.engine.first_characters.Wanted.TheVariants.{Anything, Test, Set, Characters}
 
 -- a position code, where there is one, does not hold at a position
 abbrev pub IsElsewhere : Subject → Option SreAtCode → ℕ → Type 0
@@ -29,6 +30,7 @@ pub record NotAmong (s : Subject) (set : AsciiSet) (p : ℕ) : Type 0 where
 abbrev pub IsLacking : List ℕ → Subject → Wanted → ℕ → Type 0
 IsLacking ws s Anything p = ⊥
 IsLacking ws s (Test place) p = NotPassed ws s place p
+IsLacking ws s (Set place set) p = NotPassed ws s place p
 IsLacking ws s (Characters set) p = NotAmong s set p
 
 -- at a start fewer characters are before it than is looked back, or its code does not hold, or what is wanted so far
@@ -40,10 +42,16 @@ Barred ws s first p = (p < first.back) ⊎ (IsElsewhere s first.at p ⊎ IsLacki
 pub record Bars (ws : List ℕ) (first : First) : Type 0 where
   pub none : (t : Tree) → WholeItems ws t → (s : Subject) (p : ℕ) → Barred ws s first p → NoWay s t p
 
+-- a test is at a place, and takes these ASCII characters
+pub record IsSetThere (ws : List ℕ) (place : ℕ) (set : AsciiSet) : Type 0 where
+  pub test : HasTest ws place
+  pub taken : TakesAscii ws place set
+
 -- where a test is wanted, one is at its place
 abbrev pub TestsThere : List ℕ → Wanted → Type 0
 TestsThere ws Anything = Unit {0}
 TestsThere ws (Test place) = HasTest ws place
+TestsThere ws (Set place set) = IsSetThere ws place set
 TestsThere ws (Characters set) = Unit {0}
 
 -- a cursor stands in the window, and up to it what is wanted is lacking from another one on

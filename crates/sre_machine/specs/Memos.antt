@@ -1,5 +1,6 @@
 -- What a memo has: the failures and the ends of bodies that are kept, and how long the search goes on without.
-use Rattle.std.specs.Prelude.{ℕ, ◌+◌, ◌-◌, ◌*◌, ◌<◌, ◌≤◌, ◌≡◌, Bool, true, false, List, Option, Some, None, negsuc}
+use Rattle.std.specs.Prelude.{ℕ, ◌+◌, ◌-◌, ◌*◌, ◌^◌, ◌<◌, ◌≤◌, ◌≡◌, Bool, true, false, List, []}
+use Rattle.std.specs.Prelude.{Option, Some, None, negsuc}
 use Rattle.sre_chars.specs.declared.string.StrDrive.{Ghosts}
 use Rattle.sre_growth.specs.declared.Refusal.{Refusal}
 use Rattle.sre_model.specs.Marks.{Marks, no_marks}
@@ -8,8 +9,9 @@ use Rattle.sre_turns.specs.MovesAtReferences.{Asks}
 use Rattle.sre_request.specs.declared.request.Request.{Request}
 use Rattle.sre_request.specs.Runs.{run_of}
 use Rattle.sre_turns.specs.Bodies.{MarklessRegions}
-use Rattle.sre_board.specs.Ends.{EndsTable, EndsRight}
+use Rattle.sre_board.specs.Ends.{EndsTable, EndsRight, HoldsNoEnd}
 use Rattle.sre_board.specs.Failures.{Kept, Remembers, Grows, Laid, HasSlots, Roomy, NewRow, Capacity, HasRow}
+use Rattle.sre_board.specs.Failures.{HoldsNone, kept_of}
 
 -- failures, the marks under which they were kept, and behind which mark none is asked for
 pub record MarkedValue : Type 0 where
@@ -85,9 +87,23 @@ pub record MakesRoom (ws : List ℕ) (first end place : ℕ) (js : List ℕ) (m 
   pub rows : NewRow ws first end place js m.kept m'.kept
   pub there : m'.stopped ≡ false → Capacity ws first end place js m.kept → HasRow m'.kept place
 
--- a memo that keeps failures has no step to wait for
-abbrev pub IsMemo : Bool → ℕ → Type 0
-IsMemo o p = o ≡ true → p ≡ 0
+-- nothing is kept, and it is not known which groups are asked for: so it is where a search begins
+pub record IsBlank (k : Kept) (m : MarkedValue) (e : EndsTable) (h : Bool) : Type 0 where
+  pub none : HoldsNone k
+  pub empty : k ≡ kept_of [] [] []
+  pub unmarked : HoldsNone m.kept
+  pub end : m.end ≡ 2 ^ 64 - 1
+  pub ends : HoldsNoEnd e
+  pub closed : h ≡ false
+
+abbrev pub IsBlankMemo : MemoValue → Type 0
+IsBlankMemo m = IsBlank m.kept m.marked m.ends m.keeps_ends
+
+-- a memo that keeps failures has no step to wait for, and one that was not used is blank
+pub record IsMemo (opened used : Bool) (patience : ℕ) (k : Kept) (m : MarkedValue) (e : EndsTable) (h : Bool)
+    : Type 0 where
+  pub patient : opened ≡ true → patience ≡ 0
+  pub blank : used ≡ false → IsBlank k m e h
 
 -- a memo at the begin of a search in a window: no failures are kept yet, and none are for some turns a character
 pub record Begins (start end : ℕ) (m : MemoValue) : Type 0 where

@@ -1,6 +1,7 @@
 -- What turns take off those that are left, and what a run of them costs.
 -- Words of the machine's contracts; what sre_engine makes public does not rest on it.
-use Rattle.std.specs.Prelude.{ℕ, ◌+◌, ◌*◌, ◌≡◌, ◌≢◌, ◌≤◌, true, false, Option, None, List, Result, IfOk, IfErr}
+use Rattle.std.specs.Prelude.{ℕ, ◌+◌, ◌*◌, ◌≡◌, ◌≢◌, ◌≤◌, Bool, true, false, Option, None, Some, List}
+use Rattle.std.specs.Prelude.{Result, Ok, Err, IfOk, IfErr}
 use Rattle.sre_chars.specs.declared.string.StrDrive.{Ghosts}
 use Rattle.sre_chars.specs.declared.string.StringCursor.{StringCursor}
 use Rattle.sre_model.specs.Tree.{Tree}
@@ -21,8 +22,31 @@ use Rattle.sre_machine.specs.Paying.{AnewGivenUp, AnewSettles, IfDecided}
 use Rattle.sre_machine.specs.declared.allowance.Allowance.{Allowance}
 use Rattle.sre_machine.specs.declared.turns.Decision.{Decision}
 use Rattle.sre_machine.specs.declared.turns.Decision.TheVariants.{Decided, Opened}
+use Rattle.sre_machine.specs.declared.turns.Ending.{Ending}
+use Rattle.sre_machine.specs.declared.turns.Ending.TheVariants.{Found, Failed}
+use Rattle.sre_machine.specs.declared.turns.Ending.TheVariants as ways
 use Rattle.sre_machine.specs.declared.turns.Halt.{Halt}
 use Rattle.sre_machine.specs.declared.turns.Halt.TheVariants as halt
+
+-- the end of an accepted outcome, where there is one
+abbrev pub end_if : Bool → StringCursor → Option StringCursor
+end_if true end = Some end
+end_if false end = None
+
+-- how a run ended, as a decision with the end that was found
+abbrev pub decision_of : Ending → StringCursor → Decision
+decision_of Found end = Decided (Some end)
+decision_of Failed end = Decided None
+decision_of ways.Opened end = Opened
+
+-- the same of what a run tells, and of whether there is an accepted way
+abbrev pub told_of : Result Ending Halt → StringCursor → Result Decision Halt
+told_of (Ok e) end = Ok (decision_of e end)
+told_of (Err why) end = Err why
+
+abbrev pub found_of : Result Bool Halt → StringCursor → Result (Option StringCursor) Halt
+found_of (Ok found) end = Ok (end_if found end)
+found_of (Err why) end = Err why
 
 -- turns are taken off those that are left, and are used up only where they are limited and none is left
 pub record Spends {T : Type 0} (told : Result T Halt) (a a' : Allowance) : Type 0 where

@@ -15,7 +15,7 @@ ghost use Rattle.sre_turns.specs.Moves.{spot_at};
 ghost use Rattle.sre_turns.specs.declared.Point.TheVariants.{Instruction};
 ghost use Rattle.sre_growth.specs.Refusal.{Refused};
 ghost use Rattle.sre_board.specs.Failures.{HoldsNone, HoldsNoMore, HoldsOneMore, Tells, Laid};
-ghost use Rattle.sre_machine.specs.Memos.{MakesRoom, RecallsOf, EndsStay};
+ghost use Rattle.sre_machine.specs.Memos.{MakesRoom, RecallsOf, EndsStay, IsBlankMemo};
 ghost use Rattle.sre_board.specs.Ends.{TellsEnd, HoldsOpenMore};
 ghost use Rattle.sre_turns.specs.Bodies.{MarklessRegions};
 ghost use Rattle.sre_request.specs.Runs.{run_of};
@@ -38,6 +38,18 @@ const STRIDE: usize = 32;
 // How many turns a search within turns takes for each character before it keeps failures.
 const TURNS_EACH: usize = 32;
 
+// How many turns a search goes on without failures, if it is limited.
+#[inline(always)]
+fn turns_waited<S: StrDrive>(req: &Request<'_, S>, limited: bool) -> usize
+    ensures { result ≤ 32 * (end_of req.now - start_of req.now + 1) }
+{
+    if !limited {
+        return 0;
+    }
+    let window = req.end().saturating_sub(req.start());
+    window.saturating_add(1).saturating_mul(TURNS_EACH)
+}
+
 /// The failures of a search, and how many steps it goes on without them.
 #[derive(Drop)]
 pub struct Memo<A: Allocator> {
@@ -58,6 +70,8 @@ pub struct Memo<A: Allocator> {
     is_open: bool,
     // why they are not any more: memory was refused
     refused: Option<Refusal>,
+    // whether anything may be kept: if not, all is as it is where a search begins
+    is_used: bool,
 }
 
 impl<A: Allocator> Model for Memo<A> {
@@ -68,7 +82,8 @@ impl<A: Allocator> Model for Memo<A> {
     ghost view = { λ m.
         memo_of m.failures m.marked m.ends m.keeps_ends m.patience m.waited m.waits m.is_open m.refused };
 
-    ghost invariant = { λ m. IsMemo m.is_open m.patience };
+    ghost invariant = { λ m.
+        IsMemo m.is_open m.is_used m.patience m.failures m.marked m.ends m.keeps_ends };
 }
 
 impl<A: Allocator + Copy> Memo<A> {
@@ -89,6 +104,7 @@ impl<A: Allocator + Copy> Memo<A> {
             waits: 0,
             is_open: false,
             refused: None,
+            is_used: true,
         }
     }
 }
@@ -97,7 +113,7 @@ impl<A: Allocator> Memo<A> {
     /// Begins a search: forgets the failures of an earlier one, and the stretches that it passed. What the lists hold
     /// of memory is kept.
     #[inline(always)]
-    pub fn begin<S: StrDrive>(&mut self, req: &Request<'_, S>, board: &mut Board<A>)
+    pub fn begin<S: StrDrive>(&mut self, req: &Request<'_, S>, board: &mut Board<A>, limited: bool)
         ensures remembers { RecallsOf req.now self.new }
         ensures none { HoldsNone self.new.kept }
         ensures empty { self.new.kept ≡ kept_of [] [] [] }
@@ -108,16 +124,34 @@ impl<A: Allocator> Memo<A> {
     {
         let _counted = (board.take_passed(), board.take_entered());
         know_words(req.pattern_codes().items());
+        self.forget_used();
+        self.patience = STRIDE;
+        self.waited = STRIDE;
+        self.waits = turns_waited(req, limited);
+        self.is_open = false;
+        self.refused = None;
+    }
+
+    // Forgets what is kept, if anything may be.
+    #[inline(always)]
+    fn forget_used(&mut self)
+        ensures { IsBlankMemo self.new }
+    {
+        if self.is_used {
+            self.forget_all();
+        }
+    }
+
+    // Forgets all that is kept. It is out of line, since few searches keep anything.
+    #[inline(never)]
+    fn forget_all(&mut self)
+        ensures { IsBlankMemo self.new }
+    {
         self.failures.forget();
         self.marked.begin();
         self.ends.forget();
         self.keeps_ends = false;
-        self.patience = STRIDE;
-        self.waited = STRIDE;
-        let window = req.end().saturating_sub(req.start());
-        self.waits = window.saturating_add(1).saturating_mul(TURNS_EACH);
-        self.is_open = false;
-        self.refused = None;
+        self.is_used = false;
     }
 
     /// Ends a run. That memory was refused is not kept beyond it.
@@ -152,6 +186,7 @@ impl<A: Allocator> Memo<A> {
         ensures same { self.new ≡ record self.old { is_open = true; keeps_ends = self.new.keeps_ends } }
         ensures markless { self.new.keeps_ends ≡ true → MarklessRegions (run_of req.now).words }
     {
+        self.is_used = true;
         self.is_open = true;
         self.keeps_ends = !req.pattern_codes().regions_set_marks();
     }
@@ -239,6 +274,7 @@ impl<A: Allocator> Memo<A> {
         ensures stopped { self.old.stopped ≡ true → self.new.stopped ≡ true }
         ensures refused { self.new.stopped ≡ true → Refused }
     {
+        self.is_used = true;
         if let Err(refusal) = self.failures.prepare(words, board, place, first, end) {
             self.close(refusal);
         }
@@ -281,6 +317,7 @@ impl<A: Allocator> Memo<A> {
             (spot_at (Instruction place) board.now.frames position board.now.marks) self.old.kept self.new.kept }
         ensures same { self.new ≡ record self.old { kept = self.new.kept } }
     {
+        self.is_used = true;
         self.failures.keep(words, board, place, position);
     }
 
@@ -317,6 +354,7 @@ impl<A: Allocator> Memo<A> {
         ensures more { HoldsOpenMore self.old.kept words.now board.now.choices end self.old.ends self.new.ends }
         ensures same { self.new ≡ record self.old { ends = self.new.ends } }
     {
+        self.is_used = true;
         self.ends.keep_open(&self.failures, words, board, end);
     }
 
@@ -339,6 +377,7 @@ impl<A: Allocator> Memo<A> {
         ensures ends { EndsStay self.old self.new }
         ensures still { self.old.is_open ≡ true → self.new.is_open ≡ true ⊎ Refused }
     {
+        self.is_used = true;
         if !self.marked.is_worn() {
             return;
         }
@@ -364,6 +403,7 @@ impl<A: Allocator> Memo<A> {
         ensures ends { EndsStay self.old self.new }
         ensures still { self.old.is_open ≡ true → self.new.is_open ≡ true ⊎ Refused }
     {
+        self.is_used = true;
         if let Err(refusal) = self.marked.prepare(words, board, place, first, end) {
             self.close(refusal);
         }
@@ -400,6 +440,7 @@ impl<A: Allocator> Memo<A> {
         ensures end { self.new.marked.end ≡ self.old.marked.end }
         ensures same { self.new ≡ record self.old { marked = self.new.marked } }
     {
+        self.is_used = true;
         self.marked.keep(words, board, place, position);
     }
 }

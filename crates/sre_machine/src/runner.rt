@@ -11,11 +11,11 @@ ghost use Rattle.sre_request.specs.Runs.{run_of, Standing};
 ghost use Rattle.sre_machine.specs.Allowances.{Halted, is_limited};
 ghost use Rattle.sre_machine.specs.Memos.{Recalls, Begins, RecallsOf};
 ghost use Rattle.sre_machine.specs.Runners.{IsReady, MayRun, Began, AttemptDecides, ClearsUnfound, AttemptCosts};
-ghost use Rattle.sre_machine.specs.Spending.{RunDecides, Spends, RunCosts, AnewCosts};
+ghost use Rattle.sre_machine.specs.Spending.{RunDecides, Spends, RunCosts, AnewCosts, found_of, told_of};
 
 use crate::allowance::Allowance;
 use crate::memo::Memo;
-use crate::turns::{Begun, Decision, Halt, turns_from};
+use crate::turns::{Begun, Ending, Halt, turns_from};
 use sre_board::{Board, Marks};
 use sre_chars::string::{StrDrive, StringCursor};
 use sre_code::operands::know_words;
@@ -102,14 +102,14 @@ impl<A: Allocator> Runner<A> {
 
     /// Begins a search: with no marks, no failures and no run begun.
     #[inline(always)]
-    pub fn begin<S: StrDrive>(&mut self, req: &Request<'_, S>)
+    pub fn begin<S: StrDrive>(&mut self, req: &Request<'_, S>, limited: bool)
         ensures ready { IsReady req.now self.new }
         ensures begins { Begins (start_of req.now) (end_of req.now) self.new.memo }
         ensures started { self.new.started ≡ 0 }
         ensures restarted { self.new.restarted ≡ 0 }
     {
         self.board.clear();
-        self.memo.begin(req, &mut self.board);
+        self.memo.begin(req, &mut self.board, limited);
         self.begun = Begun::none();
     }
 
@@ -139,9 +139,10 @@ impl<A: Allocator> Runner<A> {
         ensures costs { AttemptCosts req.now literals start result self.old self.new allowed.old allowed.new }
         ensures halted { IfErr result (Halted allowed.new) }
     {
-        match self.run_from(req, literals, start, allowed) {
-            Ok(Some(end)) => Ok(Some(end)),
-            Ok(None) => {
+        let mut ended = start;
+        match self.run_from(req, literals, start, allowed, &mut ended) {
+            Ok(true) => Ok(Some(ended)),
+            Ok(false) => {
                 self.board.clear();
                 Ok(None)
             }
@@ -153,7 +154,8 @@ impl<A: Allocator> Runner<A> {
     }
 
     // Where failures come to be kept in the course of a run, it goes on with what it saved, or, where it is limited,
-    // begins again. Then it takes the turns that were waited, and those of a run that keeps failures.
+    // begins again. Then it takes the turns that were waited, and those of a run that keeps failures. Whether there is
+    // an accepted way is told, and its end is written: nothing else is at hand where a start fails, as most do.
     #[inline(always)]
     fn run_from<S: StrDrive>(
         &mut self,
@@ -161,19 +163,22 @@ impl<A: Allocator> Runner<A> {
         literals: usize,
         start: StringCursor,
         allowed: &mut Allowance,
-    ) -> Result<Option<StringCursor>, Halt>
+        ended: &mut StringCursor,
+    ) -> Result<bool, Halt>
         requires may { MayRun req.now literals start }
         requires ready { IsReady req.now self.old }
         ensures began { Began (is_limited allowed.old) self.old self.new }
         ensures remembers { RecallsOf req.now self.new.memo }
-        ensures decides { AttemptDecides req.now literals start.position result self.new.board }
-        ensures costs { AttemptCosts req.now literals start result self.old self.new allowed.old allowed.new }
+        ensures decides { AttemptDecides req.now literals start.position (found_of result ended.new) self.new.board }
+        ensures costs { AttemptCosts req.now literals start (found_of result ended.new) self.old self.new
+            allowed.old allowed.new }
         ensures halted { IfErr result (Halted allowed.new) }
     {
         self.begun.started += 1;
-        match self.run_once(req, literals, start, allowed)? {
-            Decision::Decided(found) => Ok(found),
-            Decision::Opened => self.run_anew(req, literals, start, allowed),
+        match self.run_once(req, literals, start, allowed, ended)? {
+            Ending::Found => Ok(true),
+            Ending::Failed => Ok(false),
+            Ending::Opened => self.run_anew(req, literals, start, allowed, ended),
         }
     }
 
@@ -186,23 +191,26 @@ impl<A: Allocator> Runner<A> {
         literals: usize,
         start: StringCursor,
         allowed: &mut Allowance,
-    ) -> Result<Option<StringCursor>, Halt>
+        ended: &mut StringCursor,
+    ) -> Result<bool, Halt>
         requires may { MayRun req.now literals start }
         requires room { self.old.restarted + 1 < 2 ^ 64 }
         requires remembers { RecallsOf req.now self.old.memo }
         ensures started { self.new.started ≡ self.old.started }
         ensures restarted { self.new.restarted ≡ self.old.restarted + 1 }
         ensures remembers { RecallsOf req.now self.new.memo }
-        ensures decides { AttemptDecides req.now literals start.position result self.new.board }
+        ensures decides { AttemptDecides req.now literals start.position (found_of result ended.new) self.new.board }
         ensures spends { Spends result allowed.old allowed.new }
-        ensures costs { AnewCosts req.now literals start self.new.memo result allowed.old allowed.new }
+        ensures costs { AnewCosts req.now literals start self.new.memo (found_of result ended.new)
+            allowed.old allowed.new }
     {
         self.board.clear();
         self.memo.open(req);
         self.begun.restarted += 1;
-        match self.run_once(req, literals, start, allowed)? {
-            Decision::Decided(found) => Ok(found),
-            Decision::Opened => unreachable!(),
+        match self.run_once(req, literals, start, allowed, ended)? {
+            Ending::Found => Ok(true),
+            Ending::Failed => Ok(false),
+            Ending::Opened => unreachable!(),
         }
     }
 
@@ -214,21 +222,24 @@ impl<A: Allocator> Runner<A> {
         literals: usize,
         start: StringCursor,
         allowed: &mut Allowance,
-    ) -> Result<Decision, Halt>
+        ended: &mut StringCursor,
+    ) -> Result<Ending, Halt>
         requires may { MayRun req.now literals start }
         requires fresh { self.old.board ≡ bare no_marks }
         requires remembers { RecallsOf req.now self.old.memo }
         ensures same { self.new ≡ record self.old { board = self.new.board; memo = self.new.memo } }
         ensures remembers { RecallsOf req.now self.new.memo }
-        ensures decides { RunDecides req.now literals start.position result self.new.board self.old.memo allowed.old }
+        ensures decides { RunDecides req.now literals start.position (told_of result ended.new) self.new.board
+            self.old.memo allowed.old }
         ensures spends { Spends result allowed.old allowed.new }
-        ensures costs { RunCosts req.now literals start self.old.memo self.new.memo result allowed.old allowed.new }
+        ensures costs { RunCosts req.now literals start self.old.memo self.new.memo (told_of result ended.new)
+            allowed.old allowed.new }
     {
         know_words(req.pattern_codes().items());
         let (board, memo) = (&mut self.board, &mut self.memo);
         let blank = Blank::new(1);
         let told = turns_from::<Brand, Brand, S, A>(
-            req, board, memo, literals, start, blank, allowed,
+            req, board, memo, literals, start, blank, allowed, ended,
         );
         self.memo.rest();
         told

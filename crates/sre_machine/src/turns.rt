@@ -6,9 +6,9 @@ ghost use Rattle.sre_model.specs.TurnBounds.{most_each};
 ghost use Rattle.sre_turns.specs.Machine.{SaysAccepted, Decides};
 ghost use Rattle.sre_machine.specs.Allowances.{is_limited, left_of};
 ghost use Rattle.sre_machine.specs.Memos.{RecallsOf};
-ghost use Rattle.sre_machine.specs.Paying.{Remembering, each_of, IfDecided};
+ghost use Rattle.sre_machine.specs.Paying.{Remembering, each_of};
 ghost use Rattle.sre_machine.specs.Turns.{WithinTurns};
-ghost use Rattle.sre_machine.specs.Spending.{TurnsDecide, Spends, TurnsCost};
+ghost use Rattle.sre_machine.specs.Spending.{TurnsDecide, Spends, TurnsCost, end_if, decision_of, told_of};
 ghost use Rattle.sre_request.specs.Requests.{asked_of};
 ghost use Rattle.sre_request.specs.Runs.{run_of};
 
@@ -130,18 +130,17 @@ pub(crate) enum Decision {
 // went over. These count for no more than the window. While failures are kept they count for no more than the code's
 // runs count and its looks go back, which is all that a turn goes over then. Turns that are not limited count for none.
 #[inline(always)]
-fn turns_due<S: StrDrive, A: Allocator>(
+fn turns_due<S: StrDrive, A: Allocator, const LIMITED: bool>(
     req: &Request<'_, S>,
     board: &mut Board<A>,
     memo: &Memo<A>,
-    limited: bool,
 ) -> u64
     ensures board { board.new ≡ board.old }
-    ensures least { limited ≡ true → 1 ≤ result }
+    ensures least { LIMITED ≡ true → 1 ≤ result }
     ensures most { result ≤ most_each (asked_of req.now) }
     ensures each { memo.now.is_open ≡ true → (pl : Remembering req.now) → result ≤ each_of req.now pl }
 {
-    if !limited {
+    if !LIMITED {
         return 0;
     }
     let window = req.end().saturating_sub(req.start());
@@ -156,13 +155,17 @@ fn turns_due<S: StrDrive, A: Allocator>(
 // Takes so many turns off those that are left, and says whether there were as many. Where turns are not limited nothing
 // is taken.
 #[inline(always)]
-fn takes_turns(turns: u64, allowed: &mut Allowance) -> bool
+fn takes_turns<const LIMITED: bool>(turns: u64, allowed: &mut Allowance) -> bool
+    requires limits { LIMITED ≡ is_limited allowed.old }
     ensures limited { is_limited allowed.new ≡ is_limited allowed.old }
     ensures spent { left_of allowed.old ≤ left_of allowed.new + turns }
     ensures fewer { left_of allowed.new ≤ left_of allowed.old }
     ensures taken { result ≡ true → is_limited allowed.old ≡ true → left_of allowed.old ≡ left_of allowed.new + turns }
     ensures used { result ≡ false → (is_limited allowed.old ≡ true) × (left_of allowed.new ≡ 0) }
 {
+    if !LIMITED {
+        return true;
+    }
     let Allowance::Turns(left) = allowed else {
         return true;
     };
@@ -176,12 +179,12 @@ fn takes_turns(turns: u64, allowed: &mut Allowance) -> bool
 
 // Whether turns wait before failures are kept: they are limited, and none are kept yet.
 #[inline(always)]
-fn may_wait<A: Allocator>(memo: &Memo<A>, limited: bool) -> bool
-    ensures limited { result ≡ true → limited ≡ true }
+fn may_wait<A: Allocator, const LIMITED: bool>(memo: &Memo<A>) -> bool
+    ensures limited { result ≡ true → LIMITED ≡ true }
     ensures closed { result ≡ true → memo.now.is_open ≡ false }
-    ensures waits { limited ≡ true → memo.now.is_open ≡ false → result ≡ true }
+    ensures waits { LIMITED ≡ true → memo.now.is_open ≡ false → result ≡ true }
 {
-    limited && !memo.is_open()
+    LIMITED && !memo.is_open()
 }
 
 // Whether turns may be taken with no failure kept.
@@ -200,7 +203,7 @@ fn waits_on<A: Allocator>(memo: &mut Memo<A>, waits: bool, turns: u64) -> bool
 // Turns until the whole is decided, of which some may have been taken. What fails is kept if the memo is open at first.
 // If it is not, limited turns end where it is to open.
 #[inline(never)]
-fn remembering_turns<L: Ledger, K: Plan, S: StrDrive, A: Allocator>(
+fn remembering_turns<L: Ledger, K: Plan, S: StrDrive, A: Allocator, const LIMITED: bool>(
     req: &Request<'_, S>,
     board: &mut Board<A>,
     memo: &mut Memo<A>,
@@ -208,6 +211,7 @@ fn remembering_turns<L: Ledger, K: Plan, S: StrDrive, A: Allocator>(
     turned: &mut Turned<L>,
     allowed: &mut Allowance,
 ) -> Result<Decision, Halt>
+    requires limits { LIMITED ≡ is_limited allowed.old }
     requires within { turned.old ≤ K.limit }
     requires stands { WithinTurns req.now K.all (K.limit - turned.old) first board.old }
     requires remembers { RecallsOf req.now memo.old }
@@ -217,15 +221,14 @@ fn remembering_turns<L: Ledger, K: Plan, S: StrDrive, A: Allocator>(
     ensures costs { TurnsCost req.now K.all K.limit first board.old memo.old memo.new turned.old result allowed.old
         allowed.new }
 {
-    let limited = allowed.is_limited();
-    let waits = may_wait(memo, limited);
+    let waits = may_wait::<A, LIMITED>(memo);
     let mut next = first;
     'turn: loop {
-        let turns = turns_due(req, board, memo, limited);
+        let turns = turns_due::<S, A, LIMITED>(req, board, memo);
         if !waits_on(memo, waits, turns) {
             return Ok(Decision::Opened);
         }
-        if !takes_turns(turns, allowed) {
+        if !takes_turns::<LIMITED>(turns, allowed) {
             return Err(Halt::UsedUp);
         }
         turned.tick();
@@ -254,10 +257,40 @@ fn remembering_turns<L: Ledger, K: Plan, S: StrDrive, A: Allocator>(
     }
 }
 
+// The rest of turns that are not limited, once failures are kept: whether there is an accepted outcome, whose end is
+// then written.
+#[inline(never)]
+fn turns_on<L: Ledger, K: Plan, S: StrDrive, A: Allocator>(
+    req: &Request<'_, S>,
+    board: &mut Board<A>,
+    memo: &mut Memo<A>,
+    first: Next,
+    turned: &mut Turned<L>,
+    ended: &mut StringCursor,
+) -> Result<bool, Halt>
+    requires within { turned.old ≤ K.limit }
+    requires stands { WithinTurns req.now K.all (K.limit - turned.old) first board.old }
+    requires remembers { RecallsOf req.now memo.old }
+    ensures decides { IfOk result (λ found.
+        Decides (run_of req.now) K.all (end_if found ended.new) board.new.marks) }
+    ensures remembers { RecallsOf req.now memo.new }
+    ensures used { IfErr result (λ halt. halt ≡ Halt.UsedUp → ⊥) }
+{
+    let allowed = &mut Allowance::Unlimited;
+    match remembering_turns::<L, K, S, A, false>(req, board, memo, first, turned, allowed)? {
+        Decision::Decided(Some(cursor)) => {
+            *ended = cursor;
+            Ok(true)
+        }
+        Decision::Decided(None) => Ok(false),
+        Decision::Opened => unreachable!(),
+    }
+}
+
 // The same with no limit, and with no failure kept until the memo opens, which is asked on the way back and where a
 // region ends. Then the run goes on: what it saved before is resumed once at most, and what comes after is remembered.
 // It is one function out of line, whatever its size, so that `Runner::attempt` is inlined where a search tries its
-// starts.
+// starts. Most starts fail, so the end of an accepted outcome is written apart from what is told.
 #[inline(never)]
 fn turns<L: Ledger, K: Plan, S: StrDrive, A: Allocator>(
     req: &Request<'_, S>,
@@ -266,14 +299,14 @@ fn turns<L: Ledger, K: Plan, S: StrDrive, A: Allocator>(
     place: usize,
     start: StringCursor,
     turned: &mut Turned<L>,
-) -> Result<Decision, Halt>
+    ended: &mut StringCursor,
+) -> Result<bool, Halt>
     requires new { turned.old ≡ 0 }
     requires stands { WithinTurns req.now K.all K.limit (Next.At place start) board.old }
     requires remembers { RecallsOf req.now memo.old }
-    ensures decides { IfOk result
-        (λ told. IfDecided told (λ found. Decides (run_of req.now) K.all found board.new.marks)) }
+    ensures decides { IfOk result (λ found.
+        Decides (run_of req.now) K.all (end_if found ended.new) board.new.marks) }
     ensures remembers { RecallsOf req.now memo.new }
-    ensures decided { IfOk result (λ told. told ≢ Decision.Opened) }
     ensures used { IfErr result (λ halt. halt ≡ Halt.UsedUp → ⊥) }
 {
     let mut next = Next::At(place, start);
@@ -289,14 +322,12 @@ fn turns<L: Ledger, K: Plan, S: StrDrive, A: Allocator>(
             }
             Next::Back => {
                 if memo.opens(req, board) {
-                    let back = Next::Back;
-                    let allowed = &mut Allowance::Unlimited;
-                    return remembering_turns::<L, K, S, A>(req, board, memo, back, turned, allowed);
+                    return turns_on::<L, K, S, A>(req, board, memo, Next::Back, turned, ended);
                 }
                 turned.tick();
                 match back::<S, A, false>(req, board, memo)? {
                     Some(after) => next = after,
-                    None => return Ok(Decision::Decided(None)),
+                    None => return Ok(false),
                 }
             }
             Next::Done(cursor) => {
@@ -304,22 +335,46 @@ fn turns<L: Ledger, K: Plan, S: StrDrive, A: Allocator>(
                 match end(req, board, cursor) {
                     Some(after) => {
                         if memo.opens(req, board) {
-                            let allowed = &mut Allowance::Unlimited;
-                            return remembering_turns::<L, K, S, A>(
-                                req, board, memo, after, turned, allowed,
-                            );
+                            return turns_on::<L, K, S, A>(req, board, memo, after, turned, ended);
                         }
                         next = after;
                     }
                     None => {
                         if is_accepted(req, cursor.position()) {
-                            return Ok(Decision::Decided(Some(cursor)));
+                            *ended = cursor;
+                            return Ok(true);
                         }
                         next = Next::Back;
                     }
                 }
             }
         }
+    }
+}
+
+// How a run ended.
+#[derive(Clone, Copy, Debug)]
+pub(crate) enum Ending {
+    // There is an accepted outcome, whose end is written elsewhere.
+    Found,
+    // There is none.
+    Failed,
+    // Failures are to be kept from now on, so a run within turns is to begin again.
+    Opened,
+}
+
+// Takes a decision apart: how the run ended, and the end that was found, which is written.
+#[inline(always)]
+fn taken_apart(told: Decision, ended: &mut StringCursor) -> Ending
+    ensures { decision_of result ended.new ≡ told }
+{
+    match told {
+        Decision::Decided(Some(cursor)) => {
+            *ended = cursor;
+            Ending::Found
+        }
+        Decision::Decided(None) => Ending::Failed,
+        Decision::Opened => Ending::Opened,
     }
 }
 
@@ -333,25 +388,36 @@ pub(crate) fn turns_from<L: Ledger, K: Plan, S: StrDrive, A: Allocator>(
     start: StringCursor,
     blank: Blank,
     allowed: &mut Allowance,
-) -> Result<Decision, Halt>
+    ended: &mut StringCursor,
+) -> Result<Ending, Halt>
     requires name { blank.name ≡ L.name }
     requires parts { blank.parts ≡ L.parts }
     requires some { 0 < blank.parts }
     requires room { 2 * literals < 2 ^ 64 }
     requires stands { WithinTurns req.now K.all K.limit (Next.At (2 * literals) start) board.old }
     requires remembers { RecallsOf req.now memo.old }
-    ensures decides { TurnsDecide req.now K.all result board.new memo.old allowed.old }
+    ensures decides { TurnsDecide req.now K.all (told_of result ended.new) board.new memo.old allowed.old }
     ensures remembers { RecallsOf req.now memo.new }
     ensures spends { Spends result allowed.old allowed.new }
     ensures costs { TurnsCost req.now K.all K.limit (Next.At (2 * literals) start) board.old memo.old memo.new 0
-        result allowed.old allowed.new }
+        (told_of result ended.new) allowed.old allowed.new }
 {
     let (book, share) = blank.open::<L>();
     let mut turned = Turned { book, share };
-    if allowed.is_limited() || memo.is_open() {
-        let first = Next::At(2 * literals, start);
-        remembering_turns::<L, K, S, A>(req, board, memo, first, &mut turned, allowed)
-    } else {
-        turns::<L, K, S, A>(req, board, memo, 2 * literals, start, &mut turned)
+    let (turned, place) = (&mut turned, 2 * literals);
+    let first = Next::At(place, start);
+    if allowed.is_limited() {
+        let told = remembering_turns::<L, K, S, A, true>(req, board, memo, first, turned, allowed)?;
+        return Ok(taken_apart(told, ended));
     }
+    if memo.is_open() {
+        let told = remembering_turns::<L, K, S, A, false>(
+            req, board, memo, first, turned, allowed,
+        )?;
+        return Ok(taken_apart(told, ended));
+    }
+    if turns::<L, K, S, A>(req, board, memo, place, start, turned, ended)? {
+        return Ok(Ending::Found);
+    }
+    Ok(Ending::Failed)
 }

@@ -1,6 +1,6 @@
 -- A run whose end is sought: the test says otherwise of one character alone.
 use Rattle.std.proofs.Common.{ℕ, ◌+◌, ◌-◌, ◌≡◌, ◌<◌, ◌≤◌, Bool, true, false, not, cond, nat_eq, min, List}
-use Rattle.std.proofs.Common.{refl, sym, ap, ◌∙◌, inl, inr, arith}
+use Rattle.std.proofs.Common.{refl, sym, ap, ◌∙◌, subst, inl, inr, arith}
 use Rattle.std.proofs.lemmas.Bool.{cases_lt}
 use Rattle.std.proofs.lemmas.Bool.Decides.{nat_tests}
 use Rattle.sre_chars.specs.declared.constants.SreOpcode.TheVariants as opcode
@@ -20,7 +20,7 @@ use Rattle.sre_request.specs.declared.request.Request.{Request}
 use Rattle.sre_request.specs.Requests.{end_of}
 use Rattle.sre_request.specs.Runs.{run_of}
 use Rattle.sre_reading.specs.Reads.{TestStandsAt, character_at}
-use Rattle.sre_reading.specs.Stretches.{SaysOtherwiseOf, GoesUpTo}
+use Rattle.sre_reading.specs.Stretches.{SaysOtherwiseOf, GoesUpTo, GoesOnTo}
 use Rattle.sre_reading.specs.declared.runs.Stretch.{Stretch}
 
 -- of which character three tests say otherwise than of all others
@@ -105,3 +105,14 @@ module _ {S : Type 0} {text : Ghosts S} (r : Request S text) (place other most f
         (omega (arith, less, on.position, e.counted.position, e.counted.within))
         (ap (λ b. cond b (not wanted) wanted) is);
   }
+
+-- so has one that continues them
+pub on_ends : {S : Type 0} {text : Ghosts S} (r : Request S text) (place other most few : ℕ) (wanted : Bool)
+    (start : StringCursor) (near whole : Stretch)
+    → Ended (run_of r) place wanted (min most few) start near.end near.count → most ≤ end_of r - start.position
+    → SaysOtherwiseOf r place wanted other → GoesOnTo r other most near.count near.end whole
+    → Ended (run_of r) place wanted most start whole.end whole.count
+on_ends r place other most few wanted start near whole e room says on =
+    let all : near.count + (whole.count - near.count) ≡ whole.count = omega (arith, on.longer) in
+    subst (λ n. Ended (run_of r) place wanted most start whole.end n) all
+    (far_ends r place other most few wanted start near _ e room says on.far)

@@ -1,6 +1,6 @@
 -- Stretches of characters.
 -- Words of the request's contracts; what sre_engine makes public does not rest on it.
-use Rattle.std.specs.Prelude.{ℕ, ◌+◌, ◌≡◌, ◌≢◌, ◌<◌, ◌≤◌, Bool, not, cond, nat_eq}
+use Rattle.std.specs.Prelude.{ℕ, ◌+◌, ◌-◌, ◌≡◌, ◌≢◌, ◌<◌, ◌≤◌, Bool, not, cond, nat_eq}
 use Rattle.sre_chars.specs.declared.string.StrDrive.{Ghosts}
 use Rattle.sre_chars.specs.declared.string.StringCursor.{StringCursor}
 use Rattle.sre_model.specs.Tree.{Test}
@@ -31,3 +31,10 @@ pub record GoesUpTo {S : Type 0} {text : Ghosts S} (r : Request S text) (charact
   pub stands : Standing r stretch.end
   pub others : (q : ℕ) → start.position ≤ q → q < stretch.end.position → character_at r q ≢ character
   pub there : stretch.count < most → character_at r stretch.end.position ≡ character
+
+-- a stretch that continues one of so many characters up to a cursor goes up to the next such character, or has as many
+-- characters as it may, of which none behind that cursor is such
+pub record GoesOnTo {S : Type 0} {text : Ghosts S} (r : Request S text) (character most count : ℕ)
+    (near : StringCursor) (stretch : Stretch) : Type 0 where
+  pub longer : count ≤ stretch.count
+  pub far : GoesUpTo r character (most - count) near (record { count = stretch.count - count; end = stretch.end })

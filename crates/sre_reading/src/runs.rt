@@ -16,7 +16,7 @@ ghost use Rattle.sre_model.specs.Standing.{SetStands};
 ghost use Rattle.sre_request.specs.Requests.{end_of};
 ghost use Rattle.sre_request.specs.Runs.{run_of, OpcodeAt, Standing, TestAt};
 ghost use Rattle.sre_reading.specs.AsciiSets.{IsAsciiPart};
-ghost use Rattle.sre_reading.specs.Stretches.{IsLongest, SaysOtherwiseOf, GoesUpTo};
+ghost use Rattle.sre_reading.specs.Stretches.{IsLongest, SaysOtherwiseOf, GoesUpTo, GoesOnTo};
 ghost use Rattle.sre_reading.specs.Reads.{TestStandsAt, test_takes};
 
 use crate::one_character::{opcode, takes};
@@ -105,9 +105,6 @@ fn run_tested<S: StrDrive, const WANTED: bool>(
     Stretch { count, end: cursor }
 }
 
-// How many characters of a run are looked at one by one before its end is sought: to seek over fewer costs more.
-const FEW: usize = 16;
-
 // The one character of which the test whose opcode is at a place says otherwise than is wanted, where it says what is
 // wanted of all others.
 #[inline(always)]
@@ -130,7 +127,7 @@ fn only_other<S: StrDrive, const WANTED: bool>(
 }
 
 // A stretch up to the next such character, or of as many characters as it may have where none of them is.
-#[inline(never)]
+#[inline(always)]
 fn stretch_to<S: StrDrive>(
     req: &Request<'_, S>,
     character: u32,
@@ -153,6 +150,29 @@ fn stretch_to<S: StrDrive>(
     }
 }
 
+// A stretch of so many characters up to a cursor, continued up to the next such character, or to as many as it may
+// have. It is out of line, since most runs are short.
+#[inline(never)]
+fn stretch_on<S: StrDrive>(
+    req: &Request<'_, S>,
+    character: u32,
+    most: usize,
+    count: usize,
+    near: StringCursor,
+) -> Stretch
+    requires stands { Standing req.now near }
+    requires inside { near.position ≤ end_of req.now }
+    requires count { count ≤ most }
+    requires most { most - count ≤ end_of req.now - near.position }
+    ensures { GoesOnTo req.now character most count near result }
+{
+    let far = stretch_to(req, character, most - count, near);
+    Stretch {
+        count: count + far.count,
+        end: far.end,
+    }
+}
+
 // The longest run of characters of which the test whose opcode is at a place says what is wanted, where it says
 // otherwise of one character alone.
 #[inline(always)]
@@ -171,15 +191,12 @@ fn run_but<S: StrDrive, const WANTED: bool>(
     requires most { most ≤ end_of req.now - start.position }
     ensures { IsLongest req.now place WANTED most start result }
 {
-    let near = run_tested::<S, WANTED>(req, place, opcode, most.min(FEW), start);
-    if near.count < FEW {
+    let few = req.string().few();
+    let near = run_tested::<S, WANTED>(req, place, opcode, most.min(few), start);
+    if near.count < few {
         return near;
     }
-    let far = stretch_to(req, other, most - near.count, near.end);
-    Stretch {
-        count: near.count + far.count,
-        end: far.end,
-    }
+    stretch_on(req, other, most, near.count, near.end)
 }
 
 // The same, whatever the test says of others.

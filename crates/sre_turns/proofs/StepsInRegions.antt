@@ -175,8 +175,8 @@ module _ (r : Run) (c d : StringCursor) (b b' : BoardValue) where
   region_ends never Owed lies m us all limit j later em there placed (kept at _ f wt) l k =
       ends_go never limit Again c (λ none. goes_on (lies none)) there placed em f wt (omega arith) l k
   region_ends never (Further t) lies m us all limit j later em there placed (kept at _ f wt) l k =
-      ends_go never limit Again c (λ none. goes_on ((lies none).0.0, (lies none).1)) there placed em f wt (omega arith) l
-      k
+      ends_go never limit Again c (λ none. goes_on ((lies none).0.0, (lies none).1)) there placed em f wt
+      (omega arith) l k
 
   pub region_closes : (g : Region) → Cuts b g d b' → (all : List Way) (limit : Limit) → Ends r all limit c b
       → Later r all limit (after_outcome g c d) b'

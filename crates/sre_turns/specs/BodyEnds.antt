@@ -1,6 +1,7 @@
 -- Where the body of a region ends, as told of a spot inside: what comes of it begins with that end, and so it does of
 -- each spot that is alike.
--- Words of the machine's contracts: the memory keeps such ends beside failures, and the machine goes there at once. What sre_engine makes public does not rest on it.
+-- Words of the machine's contracts: the memory keeps such ends beside failures, and the machine goes there at once.
+-- What sre_engine makes public does not rest on it.
 use Rattle.std.specs.Prelude.{ℕ, ◌≡◌, List}
 use Rattle.std.specs.List.{AllByRecursion}
 use Rattle.sre_model.specs.Marks.{Marks}

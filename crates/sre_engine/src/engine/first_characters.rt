@@ -24,6 +24,8 @@ pub(crate) enum Wanted {
     Anything,
     /// The test whose opcode is at a place of the words takes it.
     Test(usize),
+    /// The set whose opcode is at a place of the words takes it, and of the ASCII characters it takes these.
+    Set(usize, AsciiSet),
     /// It is one of a set, or past ASCII.
     Characters(AsciiSet),
 }
@@ -40,8 +42,9 @@ pub(crate) struct First {
 }
 
 impl First {
-    /// What a code's items tell; what the alternatives of a branch begin with only where these are to be read.
-    pub(crate) fn of_items(words: &[u32], reads_alternatives: bool) -> First
+    /// What a code's items tell; which ASCII characters a set takes, and what the alternatives of a branch begin with,
+    /// only where sets are to be read.
+    pub(crate) fn of_items(words: &[u32], reads_sets: bool) -> First
         requires { AreItems words.now }
         ensures bars { Bars words.now result }
         ensures test { TestsThere words.now result.wanted }
@@ -50,7 +53,7 @@ impl First {
         First {
             back: reached.back,
             at: reached.at,
-            wanted: wanted_at(words, reached.place, reads_alternatives),
+            wanted: wanted_at(words, reached.place, reads_sets),
         }
     }
 }
@@ -149,18 +152,33 @@ fn wanted_test(words: &[u32], place: usize) -> Option<usize>
     }
 }
 
+// What is wanted where a test has to take a character, with the ASCII characters of a set, where they are to be read.
+fn wanted_by(words: &[u32], test: usize, reads_sets: bool) -> Wanted
+    requires { HasTest words.now test }
+    ensures bars { (s : Subject) (p : ℕ) → IsLacking words.now s result p → NotPassed words.now s test p }
+    ensures test { TestsThere words.now result }
+{
+    if !reads_sets || word(words, test) != SreOpcode::IN as u32 {
+        return Wanted::Test(test);
+    }
+    match ascii_taken(words, test) {
+        Some(characters) if characters != AsciiSet::new() => Wanted::Set(test, characters),
+        _ => Wanted::Test(test),
+    }
+}
+
 // What is wanted of the character at which a tree at a place begins: what a test asks for, or the alternatives of a
-// branch, where they are to be read.
-fn wanted_at(words: &[u32], place: usize, alternatives: bool) -> Wanted
+// branch, where sets are to be read.
+fn wanted_at(words: &[u32], place: usize, reads_sets: bool) -> Wanted
     requires { HasTree words.now place }
     ensures bars { (t : Tree) → TreeStands words.now place t → (s : Subject) (p : ℕ) → IsLacking words.now s result p
         → NoWay s t p }
     ensures test { TestsThere words.now result }
 {
     if let Some(test) = wanted_test(words, place) {
-        return Wanted::Test(test);
+        return wanted_by(words, test, reads_sets);
     }
-    if !alternatives || word(words, place) != SreOpcode::BRANCH as u32 {
+    if !reads_sets || word(words, place) != SreOpcode::BRANCH as u32 {
         return Wanted::Anything;
     }
     match first_characters(words, place + 1) {

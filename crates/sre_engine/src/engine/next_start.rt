@@ -54,6 +54,34 @@ fn first_among<S: StrDrive>(
     cursor
 }
 
+// The first cursor from one on whose character a set takes, of which the ASCII characters are told, or the one at the
+// window's end. From a character past ASCII on the set itself is asked.
+#[inline(always)]
+fn first_in_set<S: StrDrive>(
+    req: &Request<'_, S>,
+    place: usize,
+    characters: AsciiSet,
+    start: StringCursor,
+) -> StringCursor
+    requires test { TestsThere (run_of req.now).words (Wanted.Set place characters) }
+    requires stands { Standing req.now start }
+    requires inside { start.position ≤ end_of req.now }
+    ensures { WantedFrom (run_of req.now) (Wanted.Set place characters) start result }
+{
+    let mut cursor = start;
+    'character: while cursor.position() < req.end() {
+        let (character, after) = read(req, cursor);
+        if character >= 128 {
+            return first_taken(req, place, cursor);
+        }
+        if characters.contains(character) {
+            return cursor;
+        }
+        cursor = after;
+    }
+    cursor
+}
+
 // The first cursor from one on at which what is wanted is, or the one at the window's end.
 #[inline(always)]
 fn first_wanted<S: StrDrive>(
@@ -69,6 +97,7 @@ fn first_wanted<S: StrDrive>(
     match *wanted {
         Wanted::Anything => start,
         Wanted::Test(place) => first_taken(req, place, start),
+        Wanted::Set(place, characters) => first_in_set(req, place, characters, start),
         Wanted::Characters(characters) => first_among(req, characters, start),
     }
 }

@@ -283,7 +283,7 @@ impl<A: Allocator + Copy> State<A> {
         ensures counts { CountsStay self.old self.new }
     {
         let counted = self.runner.begun();
-        self.runner.begin(req);
+        self.runner.begin(req, allowed.is_limited());
         let told = self.runner.attempt(req, 0, from, allowed);
         self.runner.count(counted);
         match told? {

@@ -15,8 +15,8 @@ use sre_chars::string::{StrDrive, StringCursor};
 use sre_request::Request;
 
 /// The starts from a cursor on, and what was read of the code. Only behind the first one that failed it is worth to
-/// read in the words with what alternatives begin, and whether a run leads: most steps of a walk end at the first start
-/// that is tried.
+/// read in the words which characters a set takes and with what alternatives begin, and whether a run leads: most steps
+/// of a walk end at the first start that is tried.
 #[derive(Clone, Copy)]
 pub(crate) struct Openings {
     first: First,
@@ -34,9 +34,9 @@ impl Openings {
         ensures bars { Bars (run_of req.now).words result.first }
         ensures lead { result.lead ≡ None }
     {
-        let reads_alternatives = false;
+        let reads_sets = false;
         Openings {
-            first: First::of_items(req.pattern_codes().items(), reads_alternatives),
+            first: First::of_items(req.pattern_codes().items(), reads_sets),
             lead: None,
             is_read: false,
             start: from,
@@ -51,8 +51,8 @@ impl Openings {
         ensures lead { (t : Tree) → WholeItems (run_of req.now).words t
             → IfSome self.new.lead (λ run. RunStands (run_of req.now).words t run.first run.test) }
     {
-        let reads_alternatives = true;
-        self.first = First::of_items(req.pattern_codes().items(), reads_alternatives);
+        let reads_sets = true;
+        self.first = First::of_items(req.pattern_codes().items(), reads_sets);
         self.lead = leading_run(req);
         self.is_read = true;
     }

@@ -108,7 +108,7 @@ impl<A: Allocator + Copy> State<A> {
         ensures charged { Charged req.now result self.new.started (runs_of self.new) allowed.old allowed.new }
         ensures single { C.single ≡ true → self.new.started ≤ 1 }
     {
-        self.runner.begin(req);
+        self.runner.begin(req, allowed.is_limited());
         self.compared = 0;
         let last = last_start(req);
         'candidate: while let Some(candidate) = candidates.next(req, &mut self.compared, starts) {

@@ -315,7 +315,7 @@ returns-then-not-takes_turns-clause-costs g c = record {
     decided = tt;
     opened = tt;
     given_up = λ _.
-        let w = c.may_wait-waits.ensures.waits (c.is_limited-limited.ensures ∙ limited) closed in
+        let w = c.may_wait-waits.ensures.waits (c.requires.limits ∙ limited) closed in
         let x = c.turn.invariant.waited w in
         omega (arith, x.turns, c.takes_turns.ensures.spent, c.waits_on.ensures.waited c.if-not-waits_on.false w);
   };
@@ -339,7 +339,7 @@ returns-in-None-clause-costs g c = record {
       c.turns_due-turns.new.board c.in-Back.is c.turns_due-turns.ensures.board x)).1 in (y.0, y.1, y.2 refl, y.3));
   waited = λ limited closed pl. record {
     decided = λ _.
-        let w = c.may_wait-waits.ensures.waits (c.is_limited-limited.ensures ∙ limited) closed in
+        let w = c.may_wait-waits.ensures.waits (c.requires.limits ∙ limited) closed in
         waited_on c.args.memo.now c.turn.memo c.waits_on.new.memo c.back.new.memo (left_of c.args.allowed.now)
         (left_of c.turn.allowed) (left_of c.takes_turns.new.allowed) c.turns_due-turns.result
         (c.turn.invariant.waited w) c.waits_on.ensures.same

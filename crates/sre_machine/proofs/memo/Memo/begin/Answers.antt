@@ -1,4 +1,4 @@
-use Rattle.std.proofs.Common.{◌≡◌, false, ap, sym, ◌∙◌, subst, List, ℕ}
+use Rattle.std.proofs.Common.{◌≡◌, ap, sym, ◌∙◌, subst, List, ℕ}
 use Rattle.sre_code.specs.Codes.{items_of}
 use Rattle.sre_model.specs.Standing.{AreWords}
 use Rattle.sre_request.specs.Runs.{run_of}
@@ -11,8 +11,9 @@ pub returns-clause-remembers : goal.returns-clause-remembers
 returns-clause-remembers g c =
     let r = run_of c.args.req.now in
     let same : c.items.result.now ≡ r.words = c.items.ensures.same ∙ ap items_of c.pattern_codes.ensures in
-    recalls_none r c.forget.new.self c.begin.new.self c.forget-2.new.self false c.forget.ensures.none
-    c.begin.ensures.none
-    (subst (λ end. Covers r.words end) (sym c.begin.ensures.end)
+    let blank = rw (← c.self.view_is) at c.forget_used.ensures in
+    let m = c.self.inside in
+    recalls_none r m.failures m.marked m.ends m.keeps_ends blank.none blank.unmarked
+    (subst (λ end. Covers r.words end) (sym blank.end)
     (covers_all r.words (subst (λ (ws : List ℕ). AreWords ws) same c.know_words.ensures)))
-    c.forget-2.ensures.none (λ never. absurd (cc never))
+    blank.ends (λ never. absurd (cc (never, blank.closed)))

@@ -1,13 +1,15 @@
 use Rattle.std.proofs.Common.{◌≡◌, ◌+◌, ◌-◌, ◌∙◌, arith, ap}
 use Rattle.sre_machine.specs.Allowances.{left_of}
 use Rattle.sre_machine.specs.Runners.{RunnerValue}
+use Rattle.sre_machine.specs.Spending.{decision_of, found_of}
 use Rattle.sre_machine.proofs.Following.{again_given_up, again_settles, if_err, if_ok}
 use Rattle.sre_machine.proofs.runner.Runner.run_from.Goals as goal
 
 pub returns-in-Opened-clause-costs : goal.returns-in-Opened-clause-costs
 returns-in-Opened-clause-costs g c =
-    let first = c.in_ok-found.ensures in
-    let opened = first.decides.opened c.in-Opened.is in
+    let first = c.in_ok-run_once.ensures in
+    let is = ap (λ e. decision_of e c.run_once.new.ended) c.in-Opened.is in
+    let opened = first.decides.opened is in
     let anew = c.run_anew.ensures in
     let once : c.run_anew.new.self.restarted ≡ c.self.inside.begun.restarted + 1 =
     anew.restarted ∙ ap (λ (n : RunnerValue). n.restarted + 1) first.same in
@@ -16,14 +18,14 @@ returns-in-Opened-clause-costs g c =
       limited = anew.spends.limited ∙ first.spends.limited;
       fewer = omega (arith, anew.spends.fewer, first.spends.fewer);
       spent = λ t w. rw two (omega (arith, anew.costs.spent t w, first.costs.spent t w));
-      given_up = if_err c.run_anew.result
-          (λ halt is gives used. again_given_up c.args.req.now c.args.start c.self.inside.memo
+      given_up = if_err (found_of c.run_anew.result c.run_anew.new.ended)
+          (λ halt told gives used. again_given_up c.args.req.now c.args.start c.self.inside.memo
           (left_of c.args.allowed.now) (left_of c.run_once.new.allowed) (left_of c.run_anew.new.allowed) opened.1
-          (λ pl. first.costs.waited opened.0 opened.1 pl c.in-Opened.is) (gives used))
+          (λ pl. first.costs.waited opened.0 opened.1 pl is) (gives used))
           anew.costs.given_up;
-      settles = λ limited. if_ok c.run_anew.result
-          (λ found is gives none. again_settles c.args.req.now c.args.start c.self.inside.memo
+      settles = λ limited. if_ok (found_of c.run_anew.result c.run_anew.new.ended)
+          (λ found told gives none. again_settles c.args.req.now c.args.start c.self.inside.memo
           (left_of c.args.allowed.now) (left_of c.run_once.new.allowed) (left_of c.run_anew.new.allowed) opened.1
-          (λ pl. first.costs.waited opened.0 opened.1 pl c.in-Opened.is) c.run_anew.new.self.memo (gives none))
+          (λ pl. first.costs.waited opened.0 opened.1 pl is) c.run_anew.new.self.memo (gives none))
           (anew.costs.settles (first.spends.limited ∙ limited));
     })

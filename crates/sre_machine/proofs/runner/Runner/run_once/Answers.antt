@@ -10,6 +10,8 @@ use Rattle.sre_turns.proofs.Start.{first_limit}
 use Rattle.sre_request.specs.Runs.{run_of}
 use Rattle.sre_machine.proofs.Following.{begins_run, run_given_up, run_settles, if_err, if_ok, err_at, ok_at}
 use Rattle.sre_machine.proofs.Following.{not_opened, rested}
+use Rattle.sre_machine.specs.Spending.{told_of}
+use Rattle.sre_machine.proofs.Halting.{untold}
 use Rattle.sre_machine.proofs.runner.Runner.run_once.Goals as goal
 
 pub turns_from-told-requires-clause-stands : goal.turns_from-told-requires-clause-stands
@@ -39,7 +41,8 @@ returns-clause-costs g c =
     let begins = begins_run r c.args.literals c.args.start c.self.inside.board
     (subst (λ (ws : List ℕ). AreWords ws) same c.know_words.ensures) (whole_of c.args.req.now.pattern_codes)
     c.requires.may.behind c.requires.may.stands c.requires.may.inside fresh in
-    let told = c.turns_from-told.result in
+    let end = c.turns_from-told.new.ended in
+    let told = told_of c.turns_from-told.result end in
     let costs = c.turns_from-told.ensures.costs in
     rw (← c.self.view_is) (record {
       spent = λ t w. rw (← whole-read _ t w) costs.spent;
@@ -48,7 +51,8 @@ returns-clause-costs g c =
           (behind_items c.args.literals (tree_of r.words)) c.args.start c.self.inside.board c.self.inside.memo _ _
           begins (gives used)
           (λ pl closed. err_at _ told halt is
-          (costs.waited (err_at _ told halt is c.turns_from-told.ensures.spends.used used).0 closed pl).given_up used))
+          (costs.waited (err_at _ c.turns_from-told.result halt (untold c.turns_from-told.result end halt is)
+          c.turns_from-told.ensures.spends.used used).0 closed pl).given_up used))
           costs.given_up;
       settles = λ limited. if_ok told
           (λ d is settles none. rested c.args.req.now c.args.start c.self.inside.memo c.turns_from-told.new.memo

@@ -1,7 +1,7 @@
 use Rattle.std.proofs.Common.{reverse, arith}
 use Rattle.std.proofs.lemmas.List.{length-reverse}
 use Rattle.sre_board.proofs.InnermostRegion.{regions_fit, regions_few}
-use Rattle.sre_board.proofs.board.Board.save.Goals as goal
+use Rattle.sre_board.proofs.board.Board.add_grown.Goals as goal
 
 pub overflow_add-self : goal.overflow_add-self
 overflow_add-self g c = omega (

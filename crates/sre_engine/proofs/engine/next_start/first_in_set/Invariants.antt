@@ -1,0 +1,12 @@
+use Rattle.std.proofs.Common.{◌-◌}
+use Rattle.sre_request.specs.Requests.{end_of}
+use Rattle.sre_request.specs.Runs.{run_of}
+use Rattle.sre_engine.specs.Starts.{WantedFrom}
+use Rattle.sre_engine.specs.declared.engine.first_characters.Wanted.TheVariants.{Set}
+use Rattle.sre_engine.proofs.engine.next_start.first_in_set.Given as goal
+
+abbrev pub invariant-character : goal.invariant-character
+invariant-character g l = WantedFrom (run_of l.req) (Set l.place l.characters) l.fn.start l.cursor
+
+abbrev pub decreases-character : goal.decreases-character
+decreases-character g l = end_of l.req - l.cursor.position
