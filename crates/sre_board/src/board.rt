@@ -383,6 +383,14 @@ impl<A: Allocator> Board<A> {
         passed
     }
 
+    /// Notes that so many bodies of loops began that were not entered one by one.
+    #[inline(always)]
+    pub fn note_bodies(&mut self, bodies: usize)
+        ensures { self.new ≡ self.old }
+    {
+        self.entered = self.entered.wrapping_add(bodies);
+    }
+
     /// How many loops and bodies of loops began since this was last asked.
     #[inline(always)]
     pub fn take_entered(&mut self) -> usize

@@ -4,12 +4,13 @@
 //! passed over, and of one that begins with a test the rest alone is left. A choice is saved only where something may
 //! come of an alternative behind the first. At the window's end no character tells, and each alternative is tried.
 
-ghost use Rattle.std.specs.Prelude.{◌≡◌, ℕ, ◌+◌, ◌<◌, ◌^◌, true, false, IfOk, MatchOption};
+ghost use Rattle.std.specs.Prelude.{◌≡◌, ℕ, ◌+◌, ◌<◌, ◌^◌, true, false, IfOk, IfSome, MatchOption};
 ghost use Rattle.sre_model.specs.Tree.{Test};
 ghost use Rattle.sre_model.specs.Grammar.{word};
 ghost use Rattle.sre_turns.specs.declared.Point.TheVariants.{Instruction, Alternatives};
 ghost use Rattle.sre_turns.specs.declared.Point.{Point};
 ghost use Rattle.sre_turns.specs.Machine.{Chooses, Exhausted};
+ghost use Rattle.sre_turns.specs.Strides.{YieldsTo};
 ghost use Rattle.sre_model.specs.Roles.{begins_test};
 ghost use Rattle.sre_request.specs.Requests.{end_of};
 ghost use Rattle.sre_request.specs.Runs.{run_of, OpcodeAt, TestAt};
@@ -119,11 +120,11 @@ fn begins_otherwise<S: StrDrive>(
     by_opcode!(LITERAL LITERAL_IGNORE LITERAL_UNI_IGNORE IN IN_UNI_IGNORE)
 }
 
-// Where the machine goes on: at an instruction's place, with a cursor.
+/// Where the machine goes on: at an instruction's place, with a cursor.
 #[derive(Clone, Copy)]
-struct Onward {
-    place: usize,
-    cursor: StringCursor,
+pub(super) struct Onward {
+    pub(super) place: usize,
+    pub(super) cursor: StringCursor,
 }
 
 // Behind a test of one character, if it takes the one at the cursor.
@@ -272,6 +273,32 @@ fn first_alternative<S: StrDrive>(
             });
         }
         place += length;
+    }
+}
+
+/// Where the machine goes on in the only alternative from a length word on of which something may come, if there is one
+/// alone: behind the JUMP that ends it, if it has but one test.
+#[inline(always)]
+pub(super) fn only_alternative<S: StrDrive>(
+    req: &Request<'_, S>,
+    start: usize,
+    character: u32,
+    after: StringCursor,
+    cursor: StringCursor,
+) -> Option<Onward>
+    requires stands { AtPoint req.now (Alternatives start) cursor }
+    requires read { ReadAt req.now cursor character after }
+    ensures { IfSome result (λ x. YieldsTo (run_of req.now) (Alternatives start) cursor (Instruction x.place) x.cursor) }
+{
+    let first = first_alternative(req, start, character, after, cursor)?;
+    let length = word(req, first.length_word) as usize;
+    let following = first.length_word + length;
+    match first_alternative(req, following, character, after, cursor) {
+        Some(_) => None,
+        None => Some(Onward {
+            place: behind_jump(req, first.place, first.cursor),
+            cursor: first.cursor,
+        }),
     }
 }
 

@@ -27,5 +27,6 @@ mod regions;
 mod run_operands;
 pub mod runner;
 mod set_members;
+mod strides;
 mod trying;
 pub mod turns;

@@ -10,10 +10,12 @@ ghost use Rattle.sre_model.specs.Ways.{may_repeat};
 ghost use Rattle.sre_turns.specs.declared.Point.TheVariants.{Instruction};
 ghost use Rattle.sre_turns.specs.MovesInLoops.{next_frame};
 ghost use Rattle.sre_turns.specs.Machine.{with_loop};
-ghost use Rattle.sre_request.specs.Runs.{OpcodeAt};
+ghost use Rattle.sre_turns.specs.Strides.{MayRepeat};
+ghost use Rattle.sre_request.specs.Runs.{run_of, OpcodeAt};
 ghost use Rattle.sre_machine.specs.Turns.{Turn, AtOnBoard};
 
 use crate::machine::{opcode, refuses};
+use crate::strides::stride_on;
 use sre_board::Board;
 use sre_chars::constants::{MAXREPEAT, SreOpcode};
 use sre_chars::string::{StrDrive, StringCursor};
@@ -49,7 +51,7 @@ pub(super) fn next_frame(frame: Frame, last: Option<usize>) -> Frame
 
 /// `REPEAT skip least greatest body`: begins a loop, at its end, which tries a greedy loop's first body at once.
 #[inline(always)]
-pub(super) fn repeat<S: StrDrive, A: Allocator>(
+pub(super) fn repeat<S: StrDrive, A: Allocator, const STRIDES: bool>(
     req: &Request<'_, S>,
     board: &mut Board<A>,
     place: usize,
@@ -67,7 +69,7 @@ pub(super) fn repeat<S: StrDrive, A: Allocator>(
         last: None,
     };
     match opcode(req, end, cursor) {
-        SreOpcode::MAX_UNTIL => Ok(further(req, board, end, frame, cursor)?),
+        SreOpcode::MAX_UNTIL => Ok(further::<S, A, STRIDES>(req, board, end, frame, cursor)?),
         _ => {
             board.enter(frame)?;
             Ok(Next::At(end, cursor))
@@ -75,9 +77,40 @@ pub(super) fn repeat<S: StrDrive, A: Allocator>(
     }
 }
 
-// A further body of a greedy loop that was taken off the board, or its end.
+// A further body of a greedy loop that was taken off the board, where one may be tried, or its end.
 #[inline(always)]
-fn further<S: StrDrive, A: Allocator>(
+fn body_or_end<S: StrDrive, A: Allocator>(
+    req: &Request<'_, S>,
+    board: &mut Board<A>,
+    place: usize,
+    frame: Frame,
+    cursor: StringCursor,
+) -> Result<Next, Refusal>
+    requires opcode { OpcodeAt req.now place SreOpcode.MAX_UNTIL }
+    requires more { MayRepeat (run_of req.now).words frame cursor.position }
+    requires stands { AtOnBoard req.now (Instruction place) cursor (with_loop frame board.old) }
+    ensures { IfOk result
+        (λ next. Turn req.now place cursor (with_loop frame board.old) next board.new) }
+{
+    let _opcode = operand(req, place, 0);
+    let _greatest = operand(req, frame.repeat, 3);
+    let body = frame.repeat + 4;
+    if refuses(req, body, cursor) {
+        return Ok(Next::At(place + 1, cursor));
+    }
+    let next = next_frame(frame, Some(cursor.position()));
+    if refuses(req, place + 1, cursor) {
+        board.enter(next)?;
+        return Ok(Next::At(body, cursor));
+    }
+    board.save(Point::Instruction(place + 1), cursor)?;
+    board.enter(next)?;
+    Ok(Next::At(body, cursor))
+}
+
+// The same, or what is owed before one may be tried.
+#[inline(always)]
+fn further<S: StrDrive, A: Allocator, const STRIDES: bool>(
     req: &Request<'_, S>,
     board: &mut Board<A>,
     place: usize,
@@ -92,32 +125,22 @@ fn further<S: StrDrive, A: Allocator>(
     let _opcode = operand(req, place, 0);
     let least = operand(req, frame.repeat, 2);
     let greatest = operand(req, frame.repeat, 3);
-    let body = frame.repeat + 4;
     if frame.count < least {
         board.enter(next_frame(frame, frame.last))?;
-        return Ok(Next::At(body, cursor));
+        return Ok(Next::At(frame.repeat + 4, cursor));
     }
     if !may_repeat(greatest, frame, cursor) {
         let refers = req.pattern_codes().refers();
         board.drop_same(place + 1, cursor, refers);
         return Ok(Next::At(place + 1, cursor));
     }
-    if refuses(req, body, cursor) {
-        return Ok(Next::At(place + 1, cursor));
-    }
-    let next = next_frame(frame, Some(cursor.position()));
-    if refuses(req, place + 1, cursor) {
-        board.enter(next)?;
-        return Ok(Next::At(body, cursor));
-    }
-    board.save(Point::Instruction(place + 1), cursor)?;
-    board.enter(next)?;
-    Ok(Next::At(body, cursor))
+    let end = stride_on::<S, A, STRIDES>(req, board, place, greatest, frame, cursor);
+    Ok(body_or_end(req, board, place, end.frame, end.cursor)?)
 }
 
 /// MAX_UNTIL: a further body first, then the loop's end.
 #[inline(always)]
-pub(super) fn max_until<S: StrDrive, A: Allocator>(
+pub(super) fn max_until<S: StrDrive, A: Allocator, const STRIDES: bool>(
     req: &Request<'_, S>,
     board: &mut Board<A>,
     place: usize,
@@ -129,7 +152,7 @@ pub(super) fn max_until<S: StrDrive, A: Allocator>(
 {
     let frame = board.top();
     board.leave();
-    Ok(further(req, board, place, frame, cursor)?)
+    Ok(further::<S, A, STRIDES>(req, board, place, frame, cursor)?)
 }
 
 /// MIN_UNTIL: the loop's end first, then a further body.

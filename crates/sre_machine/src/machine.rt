@@ -290,7 +290,7 @@ pub(super) fn back<S: StrDrive, A: Allocator, const KEEPS: bool>(
 /// One instruction.
 #[tactic(auto, using(sre_turns::proofs::Moving::on_board))]
 #[inline(always)]
-pub(super) fn instruction<S: StrDrive, A: Allocator>(
+pub(super) fn instruction<S: StrDrive, A: Allocator, const STRIDES: bool, const LIMITED: bool>(
     req: &Request<'_, S>,
     board: &mut Board<A>,
     place: usize,
@@ -315,8 +315,8 @@ pub(super) fn instruction<S: StrDrive, A: Allocator>(
                 SreOpcode::POSSESSIVE_REPEAT_ONE => {
                     Ok(possessive_repeat_one(req, board, place, cursor))
                 },
-                SreOpcode::REPEAT => repeat(req, board, place, cursor),
-                SreOpcode::MAX_UNTIL => max_until(req, board, place, cursor),
+                SreOpcode::REPEAT => repeat::<S, A, STRIDES>(req, board, place, cursor),
+                SreOpcode::MAX_UNTIL => max_until::<S, A, STRIDES>(req, board, place, cursor),
                 SreOpcode::MIN_UNTIL => min_until(req, board, place, cursor),
                 SreOpcode::POSSESSIVE_REPEAT => possessive_repeat(req, board, place, cursor),
                 SreOpcode::ATOMIC_GROUP => atomic_group(req, board, place, cursor),

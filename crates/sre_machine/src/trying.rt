@@ -298,7 +298,7 @@ fn goes_on_endlessly<S: StrDrive>(
 /// One instruction, which is left at once where it is known to fail, or where the body that it is in is known to end.
 #[tactic(auto, using(sre_turns::proofs::Moving::on_board))]
 #[inline(always)]
-pub(super) fn instruction_or_back<S: StrDrive, A: Allocator>(
+pub(super) fn instruction_or_back<S: StrDrive, A: Allocator, const LIMITED: bool>(
     req: &Request<'_, S>,
     board: &mut Board<A>,
     memo: &mut Memo<A>,
@@ -322,5 +322,5 @@ pub(super) fn instruction_or_back<S: StrDrive, A: Allocator>(
     if goes_on_endlessly(req, keeping, place, cursor) {
         return endless_run(req, board, place, cursor);
     }
-    instruction(req, board, place, cursor)
+    instruction::<S, A, false, LIMITED>(req, board, place, cursor)
 }

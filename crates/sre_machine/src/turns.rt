@@ -234,7 +234,7 @@ fn remembering_turns<L: Ledger, K: Plan, S: StrDrive, A: Allocator, const LIMITE
         turned.tick();
         match next {
             Next::At(place, cursor) => {
-                next = instruction_or_back(req, board, memo, place, cursor)?;
+                next = instruction_or_back::<S, A, LIMITED>(req, board, memo, place, cursor)?;
             }
             Next::Again(cursor) => next = again(req, board, cursor)?,
             Next::Back => match back::<S, A, true>(req, board, memo)? {
@@ -314,7 +314,7 @@ fn turns<L: Ledger, K: Plan, S: StrDrive, A: Allocator>(
         match next {
             Next::At(place, cursor) => {
                 turned.tick();
-                next = instruction(req, board, place, cursor)?;
+                next = instruction::<S, A, true, false>(req, board, place, cursor)?;
             }
             Next::Again(cursor) => {
                 turned.tick();

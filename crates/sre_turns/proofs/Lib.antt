@@ -45,3 +45,4 @@ pub mod Bodies
 pub mod Confining
 pub mod BodyEnds
 pub mod Admitting
+pub mod Strides

@@ -27,7 +27,7 @@ positive zero no_ = absurd (no_ refl)
 positive (suc n) no_ = omega arith
 
 -- BRANCH
-branch_moves : (ws : List ℕ) (s : Subject) (i : ℕ) (x : Spot) → x.point ≡ Instruction i → Opcode ws i opcode.BRANCH
+pub branch_moves : (ws : List ℕ) (s : Subject) (i : ℕ) (x : Spot) → x.point ≡ Instruction i → Opcode ws i opcode.BRANCH
     → Moves ws s x (Go (to_point x (Alternatives (i + 1))))
 branch_moves ws s i x e w = rw e (at_instruction opcode.BRANCH ToBranch refl w refl)
 
@@ -46,7 +46,7 @@ branch_run r i c w x =
     (run_goes _ (branch_moves r.words r.subject i _ refl w) x.runs)
 
 -- alternatives
-alternatives_move : (ws : List ℕ) (s : Subject) (q v : ℕ) (x : Spot) → x.point ≡ Alternatives q → Word ws q v → 0 < v
+pub alternatives_move : (ws : List ℕ) (s : Subject) (q v : ℕ) (x : Spot) → x.point ≡ Alternatives q → Word ws q v → 0 < v
     → Moves ws s x (Split (to_point x (Instruction (q + 1))) (to_point x (Alternatives (q + v))))
 alternatives_move ws s q v x e w l =
     let more : nat_eq v 0 ≡ false = grind (arith, nat_tests) in

@@ -160,13 +160,13 @@ until_done r o u low high c b b' f h l no_ eb all limit g =
     g.stands g.placed refl all limit g)
 
 -- else there are two spots, in order
-abbrev body_spot : ℕ → StringCursor → BoardValue → Frame → Spot
+abbrev pub body_spot : ℕ → StringCursor → BoardValue → Frame → Spot
 body_spot u c b f = at_body f (Some c.position) (drop 1 b.frames) (spot (Instruction u) c b)
 
-abbrev end_spot : ℕ → StringCursor → BoardValue → Spot
+abbrev pub end_spot : ℕ → StringCursor → BoardValue → Spot
 end_spot u c b = behind u (drop 1 b.frames) (spot (Instruction u) c b)
 
-until_splits : (r : Run) (o : Order) (u low high : ℕ) (c : StringCursor) (b : BoardValue) (f : Frame)
+pub until_splits : (r : Run) (o : Order) (u low high : ℕ) (c : StringCursor) (b : BoardValue) (f : Frame)
     → InLoop r o u low high b f → low ≤ f.count → may_repeat high f.count f.last c.position ≡ true
     → Moves r.words r.subject (spot (Instruction u) c b) (in_order o (body_spot u c b f) (end_spot u c b))
 until_splits r o u low high c b f h l y =

@@ -22,3 +22,4 @@ pub mod RunEnds
 pub mod OpenMarks
 pub mod BodyEnds
 pub mod Admitting
+pub mod Strides

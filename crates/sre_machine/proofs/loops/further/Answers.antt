@@ -1,12 +1,13 @@
-use Rattle.std.proofs.Common.{ap, sym, refl, ◌∙◌, Some, arith}
+use Rattle.std.proofs.Common.{◌≡◌, ◌≤◌, sym, refl, arith}
 use Rattle.sre_model.specs.Tree.{Greedy}
-use Rattle.sre_turns.specs.MovesInLoops.{next_frame}
+use Rattle.sre_model.specs.Ways.{unlimited}
 use Rattle.sre_turns.specs.Machine.{with_loop}
+use Rattle.sre_turns.specs.Strides.{MayRepeat}
 use Rattle.sre_request.specs.Requests.{asked_of}
 use Rattle.sre_request.specs.Runs.{run_of}
 use Rattle.sre_turns.proofs.Hopeless.{asked_by_stop}
-use Rattle.sre_turns.proofs.StepsInLoops.{until_below, until_done, until_runs, until_refused, until_alone, until_greedy}
-use Rattle.sre_turns.proofs.StepsInLoops.{saved_on, entered_on, until_operands}
+use Rattle.sre_turns.proofs.StepsInLoops.{until_below, until_done, entered_on, until_operands}
+use Rattle.sre_turns.proofs.Strides.{strides_at, strides_goes}
 use Rattle.sre_turns.proofs.WaitingTwice.{later_dropped}
 use Rattle.sre_machine.proofs.Failing.{plain_words}
 use Rattle.sre_machine.proofs.loops.further.Goals as goal
@@ -38,63 +39,6 @@ returns-then-not-may_repeat g c = λ all limit st.
     })
     (omega arith) (sym c.if-not-may_repeat.ensures) refl all limit st)
 
-pub refuses-requires : goal.refuses-requires
-refuses-requires g c =
-    (until_runs (run_of c.args.req.now) Greedy c.args.place c.operand-least.result c.operand-greatest.result
-    c.args.cursor (with_loop c.args.frame c.args.board.now) c.args.frame (record {
-      code = c.requires.opcode;
-      inside = refl;
-      lowest = c.operand-least.ensures.word;
-      highest = c.operand-greatest.ensures.word;
-    }) (omega arith) (sym c.if-not-may_repeat.ensures) c.requires.stands).0
-
-pub returns-then-refuses : goal.returns-then-refuses
-returns-then-refuses g c =
-    until_refused (run_of c.args.req.now) Greedy c.args.place c.operand-least.result c.operand-greatest.result
-    c.args.cursor (with_loop c.args.frame c.args.board.now) c.args.board.now c.args.frame (record {
-      code = c.requires.opcode;
-      inside = refl;
-      lowest = c.operand-least.ensures.word;
-      highest = c.operand-greatest.ensures.word;
-    })
-    (omega arith) (sym c.if-not-may_repeat.ensures) (c.refuses.ensures c.if-refuses.true) refl
-
-pub refuses-requires-2 : goal.refuses-requires-2
-refuses-requires-2 g c =
-    (until_runs (run_of c.args.req.now) Greedy c.args.place c.operand-least.result c.operand-greatest.result
-    c.args.cursor (with_loop c.args.frame c.args.board.now) c.args.frame (record {
-      code = c.requires.opcode;
-      inside = refl;
-      lowest = c.operand-least.ensures.word;
-      highest = c.operand-greatest.ensures.word;
-    }) (omega arith) (sym c.if-not-may_repeat.ensures) c.requires.stands).1
-
-pub returns-then-refuses-2 : goal.returns-then-refuses-2
-returns-then-refuses-2 g c =
-    until_alone (run_of c.args.req.now) Greedy c.args.place c.operand-least.result c.operand-greatest.result
-    c.args.cursor (with_loop c.args.frame c.args.board.now) c.enter-then-refuses-2.new.self c.args.frame (record {
-      code = c.requires.opcode;
-      inside = refl;
-      lowest = c.operand-least.ensures.word;
-      highest = c.operand-greatest.ensures.word;
-    })
-    (omega arith) (sym c.if-not-may_repeat.ensures) (c.refuses-2.ensures c.if-refuses-2.true)
-    (entered_on c.args.board.now c.enter-then-refuses-2.new.self _ _ c.in_ok-enter-2.ensures
-    (c.next_frame-next.ensures ∙ ap (λ p. next_frame c.args.frame (Some p)) c.position.ensures))
-
-pub returns : goal.returns
-returns g c =
-    until_greedy (run_of c.args.req.now) c.args.place c.operand-least.result c.operand-greatest.result
-    c.args.cursor (with_loop c.args.frame c.args.board.now) c.enter-2.new.self c.args.frame (record {
-      code = c.requires.opcode;
-      inside = refl;
-      lowest = c.operand-least.ensures.word;
-      highest = c.operand-greatest.ensures.word;
-    })
-    (omega arith) (sym c.if-not-may_repeat.ensures) (saved_on c.args.board.now c.save.new.self c.enter-2.new.self
-    _ _ _ _ c.in_ok-save.ensures c.in_ok-enter-3.ensures
-    (c.next_frame-next.ensures ∙ ap (λ p. next_frame c.args.frame (Some p)) c.position.ensures))
-
 pub operand-least-requires : goal.operand-least-requires
 operand-least-requires g c =
     omega (
@@ -110,3 +54,30 @@ operand-greatest-requires g c =
       until_operands (run_of c.args.req.now) Greedy c.args.place c.args.cursor (with_loop c.args.frame c.args.board.now)
           c.args.frame c.requires.opcode c.requires.stands refl,
     )
+
+pub stride_on-end-requires-clause-more : goal.stride_on-end-requires-clause-more
+stride_on-end-requires-clause-more g c = record {
+  low = c.operand-least.result;
+  high = c.operand-greatest.result;
+  lowest = c.operand-least.ensures.word;
+  highest = c.operand-greatest.ensures.word;
+  small = omega arith;
+  enough = omega arith;
+  more = sym c.if-not-may_repeat.ensures;
+}
+
+pub stride_on-end-requires-clause-ends : goal.stride_on-end-requires-clause-ends
+stride_on-end-requires-clause-ends g c = record { board = c.args.board.now; at = c.requires.stands }
+
+pub body_or_end-requires-clause-stands : goal.body_or_end-requires-clause-stands
+body_or_end-requires-clause-stands g c =
+    rw c.stride_on-end.ensures.board (strides_at (run_of c.args.req.now) c.args.place c.args.cursor
+    c.stride_on-end.result.cursor c.args.frame c.stride_on-end.result.frame c.stride_on-end.ensures.strides
+    c.args.board.now c.requires.stands)
+
+pub returns : goal.returns
+returns g c = λ all limit st.
+    c.in_ok-body_or_end.ensures all limit
+    (rw c.stride_on-end.ensures.board (strides_goes (run_of c.args.req.now) c.args.place c.args.cursor
+    c.stride_on-end.result.cursor c.args.frame c.stride_on-end.result.frame c.stride_on-end.ensures.strides
+    c.args.board.now all limit st))

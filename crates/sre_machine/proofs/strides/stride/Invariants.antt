@@ -1,0 +1,15 @@
+use Rattle.std.proofs.Common.{◌≤◌, ◌-◌}
+use Rattle.sre_turns.specs.Strides.{MayRepeat, Strides}
+use Rattle.sre_request.specs.Requests.{end_of}
+use Rattle.sre_request.specs.Runs.{run_of}
+use Rattle.sre_machine.proofs.strides.stride.Given as goal
+
+abbrev pub invariant-body : goal.invariant-body
+invariant-body g l = record {
+  on : Strides (run_of l.req) l.place l.fn.first l.fn.start l.frame l.cursor;
+  more : MayRepeat (run_of l.req).words l.frame l.cursor.position;
+  behind : l.fn.start.position ≤ l.cursor.position;
+}
+
+abbrev pub decreases-body : goal.decreases-body
+decreases-body g l = end_of l.req - l.cursor.position

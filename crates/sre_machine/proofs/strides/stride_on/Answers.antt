@@ -1,0 +1,16 @@
+use Rattle.std.proofs.Common.{◌+◌, arith}
+use Rattle.sre_request.specs.Runs.{run_of}
+use Rattle.sre_turns.proofs.Moving.{reached_within}
+use Rattle.sre_turns.proofs.Strides.{body_reached}
+use Rattle.sre_machine.proofs.strides.stride_on.Goals as goal
+
+pub word-requires : goal.word-requires
+word-requires g c =
+    reached_within (run_of c.args.req.now) (c.args.frame.repeat + 4) c.args.cursor
+    (body_reached (run_of c.args.req.now) c.args.place c.args.cursor c.args.frame c.requires.opcode c.requires.more
+    c.requires.ends).0
+
+pub first_literal-requires : goal.first_literal-requires
+first_literal-requires g c =
+    (body_reached (run_of c.args.req.now) c.args.place c.args.cursor c.args.frame c.requires.opcode c.requires.more
+    c.requires.ends).1

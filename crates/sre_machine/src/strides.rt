@@ -1,0 +1,135 @@
+//! Strides: bodies of a loop that are gone over in one turn.
+//!
+//! A loop over alternatives, as in `"(?:[^"\\]|\\.)*"`, takes most of its bodies by the only alternative that takes the
+//! next character, which is a test and nothing more, while nothing can come of the loop's end. There nothing is to be
+//! saved, so its frame is written once behind all of them. Each counts as a body that began.
+
+ghost use Rattle.std.specs.Prelude.{◌≡◌, ◌+◌, ◌<◌, ◌≤◌, Some, IfSome};
+ghost use Rattle.sre_model.specs.Grammar.{Word};
+ghost use Rattle.sre_model.specs.Ways.{unlimited};
+ghost use Rattle.sre_turns.specs.MovesInLoops.{next_frame};
+ghost use Rattle.sre_turns.specs.Strides.{EndsBody, MayRepeat, Strides};
+ghost use Rattle.sre_request.specs.Requests.{end_of};
+ghost use Rattle.sre_request.specs.Runs.{run_of, OpcodeAt};
+ghost use Rattle.sre_machine.specs.Turns.{DemandedAt};
+
+use crate::branches::only_alternative;
+use crate::loops::next_frame;
+use crate::machine::first_literal;
+use sre_board::Board;
+use sre_chars::constants::{MAXREPEAT, SreOpcode};
+use sre_chars::string::{StrDrive, StringCursor};
+use sre_reading::text::read;
+use sre_reading::words::{operand, word};
+use sre_request::Request;
+use sre_turns::Frame;
+use std::alloc::Allocator;
+
+/// Where a loop's body ends: the loop's frame, and the cursor.
+#[derive(Clone, Copy)]
+pub(super) struct BodyEnd {
+    pub(super) frame: Frame,
+    pub(super) cursor: StringCursor,
+}
+
+// Where the next body ends, if it is of one character and there is no other way on.
+#[inline(always)]
+fn next_body<S: StrDrive>(
+    req: &Request<'_, S>,
+    place: usize,
+    alternatives: usize,
+    wanted: u32,
+    frame: Frame,
+    cursor: StringCursor,
+) -> Option<StringCursor>
+    requires opcode { OpcodeAt req.now place SreOpcode.MAX_UNTIL }
+    requires branch { OpcodeAt req.now (frame.repeat + 4) SreOpcode.BRANCH }
+    requires alternatives { alternatives ≡ frame.repeat + 4 + 1 }
+    requires wanted { DemandedAt req.now (place + 1) (Some wanted) }
+    requires more { MayRepeat (run_of req.now).words frame cursor.position }
+    requires ends { EndsBody (run_of req.now) place frame cursor }
+    ensures strides { IfSome result (λ end.
+        Strides (run_of req.now) place frame cursor (next_frame frame (Some cursor.position)) end) }
+    ensures moves { IfSome result (λ end. cursor.position < end.position) }
+    ensures inside { IfSome result (λ _. cursor.position < end_of req.now) }
+{
+    if cursor.position() >= req.end() {
+        return None;
+    }
+    let (character, after) = read(req, cursor);
+    if character == wanted {
+        return None;
+    }
+    let behind = only_alternative(req, alternatives, character, after, cursor)?;
+    if behind.place != place || behind.cursor.position() <= cursor.position() {
+        return None;
+    }
+    Some(behind.cursor)
+}
+
+// Bodies of one character from a cursor on, as long as there is no other way on.
+#[inline(never)]
+fn stride<S: StrDrive>(
+    req: &Request<'_, S>,
+    place: usize,
+    alternatives: usize,
+    wanted: u32,
+    first: Frame,
+    start: StringCursor,
+) -> BodyEnd
+    requires opcode { OpcodeAt req.now place SreOpcode.MAX_UNTIL }
+    requires branch { OpcodeAt req.now (first.repeat + 4) SreOpcode.BRANCH }
+    requires alternatives { alternatives ≡ first.repeat + 4 + 1 }
+    requires unlimited { Word (run_of req.now).words (first.repeat + 3) unlimited }
+    requires wanted { DemandedAt req.now (place + 1) (Some wanted) }
+    requires more { MayRepeat (run_of req.now).words first start.position }
+    requires ends { EndsBody (run_of req.now) place first start }
+    ensures strides { Strides (run_of req.now) place first start result.frame result.cursor }
+    ensures more { MayRepeat (run_of req.now).words result.frame result.cursor.position }
+    ensures on { start.position ≤ result.cursor.position }
+{
+    let mut frame = first;
+    let mut cursor = start;
+    'body: while let Some(end) = next_body(req, place, alternatives, wanted, frame, cursor) {
+        frame = next_frame(frame, Some(cursor.position()));
+        cursor = end;
+    }
+    BodyEnd { frame, cursor }
+}
+
+/// Goes over bodies of one character each where strides are wanted, a loop without a greatest count has alternatives,
+/// and a literal has to come behind it.
+#[inline(always)]
+pub(super) fn stride_on<S: StrDrive, A: Allocator, const STRIDES: bool>(
+    req: &Request<'_, S>,
+    board: &mut Board<A>,
+    place: usize,
+    greatest: u32,
+    frame: Frame,
+    cursor: StringCursor,
+) -> BodyEnd
+    requires opcode { OpcodeAt req.now place SreOpcode.MAX_UNTIL }
+    requires greatest { Word (run_of req.now).words (frame.repeat + 3) greatest }
+    requires more { MayRepeat (run_of req.now).words frame cursor.position }
+    requires ends { EndsBody (run_of req.now) place frame cursor }
+    ensures board { board.new ≡ board.old }
+    ensures strides { Strides (run_of req.now) place frame cursor result.frame result.cursor }
+    ensures more { MayRepeat (run_of req.now).words result.frame result.cursor.position }
+{
+    let here = BodyEnd { frame, cursor };
+    if !STRIDES || greatest as usize != MAXREPEAT {
+        return here;
+    }
+    let _opcode = operand(req, place, 0);
+    let _greatest = operand(req, frame.repeat, 3);
+    let body = frame.repeat + 4;
+    if word(req, body) != SreOpcode::BRANCH as u32 {
+        return here;
+    }
+    let Some(wanted) = first_literal(req, place + 1, cursor) else {
+        return here;
+    };
+    let there = stride(req, place, body + 1, wanted, frame, cursor);
+    board.note_bodies(there.cursor.position() - cursor.position());
+    there
+}
