@@ -13,3 +13,4 @@ pub mod Following
 pub mod ByPlace
 pub mod AdmittedHere
 pub mod SameSets
+pub mod ToldBodies

@@ -28,5 +28,6 @@ mod run_operands;
 pub mod runner;
 mod set_members;
 mod strides;
+mod told_bodies;
 mod trying;
 pub mod turns;

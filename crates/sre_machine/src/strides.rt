@@ -8,22 +8,29 @@ ghost use Rattle.std.specs.Prelude.{◌≡◌, ◌+◌, ◌<◌, ◌≤◌, Some
 ghost use Rattle.sre_model.specs.Grammar.{Word};
 ghost use Rattle.sre_model.specs.Ways.{unlimited};
 ghost use Rattle.sre_turns.specs.MovesInLoops.{next_frame};
-ghost use Rattle.sre_turns.specs.Strides.{EndsBody, MayRepeat, Strides};
+ghost use Rattle.sre_code.specs.AsciiSet.{contains};
+ghost use Rattle.sre_turns.specs.Strides.{EndsBody, MayRepeat, Strides, TellsBodies};
+ghost use Rattle.sre_turns.specs.declared.Point.TheVariants.{Alternatives};
 ghost use Rattle.sre_request.specs.Requests.{end_of};
 ghost use Rattle.sre_request.specs.Runs.{run_of, OpcodeAt};
-ghost use Rattle.sre_machine.specs.Turns.{DemandedAt};
+ghost use Rattle.sre_machine.specs.Turns.{AtPoint, DemandedAt};
 
 use crate::branches::only_alternative;
 use crate::loops::next_frame;
 use crate::machine::first_literal;
+use crate::told_bodies::told_bodies;
 use sre_board::Board;
 use sre_chars::constants::{MAXREPEAT, SreOpcode};
 use sre_chars::string::{StrDrive, StringCursor};
+use sre_code::ascii_set::AsciiSet;
 use sre_reading::text::read;
 use sre_reading::words::{operand, word};
 use sre_request::Request;
 use sre_turns::Frame;
 use std::alloc::Allocator;
+
+// Behind so many bodies it is worth to tell which characters are one.
+const FEW: u32 = 4;
 
 /// Where a loop's body ends: the loop's frame, and the cursor.
 #[derive(Clone, Copy)]
@@ -39,6 +46,7 @@ fn next_body<S: StrDrive>(
     place: usize,
     alternatives: usize,
     wanted: u32,
+    told: AsciiSet,
     frame: Frame,
     cursor: StringCursor,
 ) -> Option<StringCursor>
@@ -46,6 +54,7 @@ fn next_body<S: StrDrive>(
     requires branch { OpcodeAt req.now (frame.repeat + 4) SreOpcode.BRANCH }
     requires alternatives { alternatives ≡ frame.repeat + 4 + 1 }
     requires wanted { DemandedAt req.now (place + 1) (Some wanted) }
+    requires told { TellsBodies (run_of req.now) alternatives place (contains told) }
     requires more { MayRepeat (run_of req.now).words frame cursor.position }
     requires ends { EndsBody (run_of req.now) place frame cursor }
     ensures strides { IfSome result (λ end.
@@ -60,11 +69,34 @@ fn next_body<S: StrDrive>(
     if character == wanted {
         return None;
     }
+    if character < 128 && told.contains(character) {
+        return Some(after);
+    }
     let behind = only_alternative(req, alternatives, character, after, cursor)?;
     if behind.place != place || behind.cursor.position() <= cursor.position() {
         return None;
     }
     Some(behind.cursor)
+}
+
+// What is told of the next bodies behind so many of them.
+#[inline(always)]
+fn told_behind<S: StrDrive>(
+    req: &Request<'_, S>,
+    place: usize,
+    alternatives: usize,
+    told: AsciiSet,
+    bodies: u32,
+    cursor: StringCursor,
+) -> AsciiSet
+    requires stands { AtPoint req.now (Alternatives alternatives) cursor }
+    requires told { TellsBodies (run_of req.now) alternatives place (contains told) }
+    ensures { TellsBodies (run_of req.now) alternatives place (contains result) }
+{
+    if bodies != FEW {
+        return told;
+    }
+    told_bodies(req, place, alternatives, cursor)
 }
 
 // Bodies of one character from a cursor on, as long as there is no other way on.
@@ -90,7 +122,11 @@ fn stride<S: StrDrive>(
 {
     let mut frame = first;
     let mut cursor = start;
-    'body: while let Some(end) = next_body(req, place, alternatives, wanted, frame, cursor) {
+    let mut told = AsciiSet::new();
+    let mut bodies = 0u32;
+    'body: while let Some(end) = next_body(req, place, alternatives, wanted, told, frame, cursor) {
+        bodies = bodies.saturating_add(1);
+        told = told_behind(req, place, alternatives, told, bodies, cursor);
         frame = next_frame(frame, Some(cursor.position()));
         cursor = end;
     }

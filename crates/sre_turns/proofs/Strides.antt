@@ -1,19 +1,24 @@
 -- Bodies of a loop that are one character each, gone over in one turn.
-use Rattle.std.proofs.Common.{◌≡◌, ℕ, ◌+◌, ◌<◌, ◌≤◌, ◌⊎◌, inl, inr, Bool, true, ◌++◌, List, [], ◌∷◌, false, nat_eq, Some, refl, sym, ap}
+use Rattle.std.proofs.Common.{◌≡◌, ℕ, ◌+◌, ◌<◌, ◌≤◌, ◌⊎◌, inl, inr, Bool, true, ◌++◌, List, [], ◌∷◌, false, nat_eq, nat_lt, Some, refl, sym, ap}
 use Rattle.std.proofs.Common.{◌∙◌, subst, arith}
 use Rattle.std.proofs.lemmas.Bool.Decides.{nat_tests}
 use Rattle.std.proofs.lemmas.List.{append-nil}
+use Rattle.sre_chars.specs.declared.constants.SreOpcode.{SreOpcode}
 use Rattle.sre_chars.specs.declared.constants.SreOpcode.TheVariants as opcode
 use Rattle.sre_chars.specs.declared.string.StringCursor.{StringCursor}
 use Rattle.sre_model.specs.Grammar.{Word, Opcode}
 use Rattle.sre_model.specs.Marks.{Marks}
 use Rattle.sre_model.specs.Runs.{Run}
-use Rattle.sre_model.specs.Subject.{Subject}
-use Rattle.sre_model.specs.Tree.{Greedy}
+use Rattle.sre_model.specs.Subject.{Subject, passes, char_at}
+use Rattle.sre_model.specs.Tree.{Greedy, Test, Literal, Plain}
+use Rattle.sre_model.specs.Characters.{holds}
+use Rattle.sre_model.specs.Roles.{begins_test}
+use Rattle.sre_model.specs.Standing.{HasTest, TestStands}
 use Rattle.sre_model.specs.Ways.{Way, unlimited}
 use Rattle.sre_turns.specs.Board.{BoardValue}
 use Rattle.sre_turns.specs.Limits.{Limit}
 use Rattle.sre_turns.specs.Machine.{Moves, Runs, Comes, splits, Goes, HasRun, IsAt, Exhausted, Refuses, Continues}
+use Rattle.sre_turns.specs.Machine.{Demands}
 use Rattle.sre_turns.specs.Machine.{with_loop, spot}
 use Rattle.sre_turns.specs.Moves.{Spot, spot_at, Go, Split}
 use Rattle.sre_turns.specs.MovesInLoops.{next_frame}
@@ -25,6 +30,7 @@ use Rattle.sre_turns.specs.declared.Point.{Point}
 use Rattle.sre_turns.proofs.Confining.{confined_leads}
 use Rattle.sre_turns.proofs.Moving.{Barren, comes, run_on, sooner, continues_then, continues_exhausted}
 use Rattle.sre_turns.proofs.SettledMoves.{settled_moves}
+use Rattle.sre_turns.proofs.StepsAtItems.{test_misses, test_continues, jump_continues}
 use Rattle.sre_turns.proofs.StepsInBranches.{branch_moves, alternatives_move, alternatives_pass, alternatives_exhausted}
 use Rattle.sre_turns.proofs.StepsInLoops.{InLoop, body_spot, end_spot, until_splits, until_runs}
 
@@ -151,6 +157,20 @@ strides_body r u c c' f w branch may none on = record {
       (on.yields inner m));
 }
 
+-- where a character comes that does not begin what is behind the loop
+pub strides_before : (r : Run) (u q wanted ch : ℕ) (c c' : StringCursor) (f : Frame) → Opcode r.words u opcode.MAX_UNTIL
+    → Opcode r.words (f.repeat + 4) opcode.BRANCH → q ≡ f.repeat + 4 + 1 → Demands r (u + 1) wanted
+    → MayRepeat r.words f c.position → c.position < r.subject.end → ch ≡ char_at r.subject c.position
+    → (ch ≡ wanted → ⊥) → YieldsTo r (Alternatives q) c (Instruction u) c'
+    → Strides r u f c (next_frame f (Some c.position)) c'
+strides_before r u q wanted ch c c' f w branch at demands may l read unlike on =
+    let other : nat_eq wanted (char_at r.subject c.position) ≡ false =
+    grind (arith, nat_tests, read, unlike) in
+    let inside : nat_lt c.position r.subject.end ≡ true = grind (arith, nat_tests) in
+    let lacking : passes r.subject (Literal Plain wanted) c.position ≡ false = rw (inside, other) refl in
+    strides_body r u c c' f w branch may (demands c.position lacking)
+    (subst (λ i. YieldsTo r (Alternatives i) c (Instruction u) c') at on)
+
 -- one body after the other
 pub strides_on : (r : Run) (u : ℕ) (c c' c'' : StringCursor) (f f' f'' : Frame) → Strides r u f c f' c'
     → Strides r u f' c' f'' c'' → Strides r u f c f'' c''
@@ -205,6 +225,35 @@ module _ (r : Run) (u : ℕ) (c c' : StringCursor) (f f' : Frame) (s : Strides r
             let old = g.confined none in
             record { here = λ inside. y.confines (old.here inside); others = old.others };
       }
+
+-- a set tells the characters of a test, behind which a JUMP stands perhaps
+pub tells_test : (r : Run) (i end behind : ℕ) (o : SreOpcode) (set : ℕ → Bool) → Opcode r.words i o
+    → begins_test o ≡ true → HasTest r.words i
+    → ((ch : ℕ) → ch < 128 → (j : ℕ) (t : Test) → TestStands r.words i j t → set ch ≡ holds r.subject.table t ch)
+    → ((j : ℕ) (t : Test) → TestStands r.words i j t → end ≡ j)
+    → ((behind ≡ end) ⊎ ((v : ℕ) × (Opcode r.words end opcode.JUMP × (Word r.words (end + 1) v
+    × (behind ≡ end + 1 + v)))))
+    → TellsTest r i set behind
+tells_test r i end behind o set w f there says ends jump = record {
+  misses = λ c ch after read n.
+      test_misses r i ch o (set ch) c w f there read.read.inside read.read.character (says ch read.ascii) n;
+  passes = λ c ch after read y.
+      on c after read.read.stands jump
+      (test_continues r i ch o (set ch) c w f there read.read.inside read.read.character (says ch read.ascii) end after y
+      ends read.read.position read.read.stands);
+}
+  where
+    on : (c after : StringCursor) → r.stands after after.position
+        → ((behind ≡ end) ⊎ ((v : ℕ) × (Opcode r.words end opcode.JUMP × (Word r.words (end + 1) v
+        × (behind ≡ end + 1 + v)))))
+        → Continues r (Instruction i) c (Instruction end) after
+        → Continues r (Instruction i) c (Instruction behind) after
+    on c after stands (inl same) x =
+        subst (λ q. Continues r (Instruction i) c (Instruction q) after) (sym same) x
+    on c after stands (inr (v, (jumps, (wv, leads)))) x =
+        subst (λ q. Continues r (Instruction i) c (Instruction q) after) (sym leads)
+        (continues_then r (Instruction i) (Instruction end) c after x (Instruction (end + 1 + v)) after
+        (jump_continues r end v after jumps wv stands))
 
 -- before all alternatives
 pub tells_first : (r : Run) (start u : ℕ) (none only : ℕ → Bool) → ((ch : ℕ) → only ch ≡ false)

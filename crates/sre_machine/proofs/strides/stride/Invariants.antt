@@ -1,5 +1,6 @@
 use Rattle.std.proofs.Common.{◌≤◌, ◌-◌}
-use Rattle.sre_turns.specs.Strides.{MayRepeat, Strides}
+use Rattle.sre_code.specs.AsciiSet.{contains}
+use Rattle.sre_turns.specs.Strides.{MayRepeat, Strides, TellsBodies}
 use Rattle.sre_request.specs.Requests.{end_of}
 use Rattle.sre_request.specs.Runs.{run_of}
 use Rattle.sre_machine.proofs.strides.stride.Given as goal
@@ -8,6 +9,7 @@ abbrev pub invariant-body : goal.invariant-body
 invariant-body g l = record {
   on : Strides (run_of l.req) l.place l.fn.first l.fn.start l.frame l.cursor;
   more : MayRepeat (run_of l.req).words l.frame l.cursor.position;
+  told : TellsBodies (run_of l.req) l.alternatives l.place (contains l.told);
   behind : l.fn.start.position ≤ l.cursor.position;
 }
 

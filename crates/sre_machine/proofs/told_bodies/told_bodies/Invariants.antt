@@ -1,0 +1,16 @@
+use Rattle.std.proofs.Common.{length, ◌-◌}
+use Rattle.sre_code.specs.AsciiSet.{contains}
+use Rattle.sre_turns.specs.Machine.{HasRun}
+use Rattle.sre_turns.specs.Strides.{TellsAlternatives}
+use Rattle.sre_turns.specs.declared.Point.TheVariants.{Alternatives}
+use Rattle.sre_request.specs.Runs.{run_of}
+use Rattle.sre_machine.proofs.told_bodies.told_bodies.Given as goal
+
+abbrev pub invariant-alternative : goal.invariant-alternative
+invariant-alternative g l = record {
+  stands : HasRun (run_of l.req) (Alternatives l.at) l.cursor;
+  told : TellsAlternatives (run_of l.req) l.fn.start l.at l.place (contains l.none) (contains l.only);
+}
+
+abbrev pub decreases-alternative : goal.decreases-alternative
+decreases-alternative g l = length (run_of l.req).words - l.at

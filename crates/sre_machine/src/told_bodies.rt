@@ -1,0 +1,128 @@
+//! Which ASCII characters are a whole body of a loop over alternatives.
+//!
+//! Where a stride is long, a set in place of the alternatives tells its next characters: those with which one
+//! alternative alone begins, which is a test and nothing more.
+
+ghost use Rattle.std.specs.Prelude.{◌≡◌, ◌⊎◌, ◌+◌, ℕ, true, false, IfSome};
+ghost use Rattle.sre_model.specs.Grammar.{Word, Opcode};
+ghost use Rattle.sre_model.specs.Roles.{begins_test};
+ghost use Rattle.sre_code.specs.AsciiSet.{contains};
+ghost use Rattle.sre_turns.specs.Strides.{TellsBodies, TellsTest};
+ghost use Rattle.sre_turns.specs.declared.Point.TheVariants.{Alternatives};
+ghost use Rattle.sre_request.specs.Runs.{run_of, OpcodeAt};
+ghost use Rattle.sre_machine.specs.Turns.{At, AtPoint};
+
+use crate::machine::opcode;
+use crate::set_members::word_at;
+use sre_chars::constants::SreOpcode;
+use sre_chars::string::{StrDrive, StringCursor};
+use sre_code::ascii_set::AsciiSet;
+use sre_reading::ascii::ascii_taken;
+use sre_reading::one_character::test_end;
+use sre_reading::words::word;
+use sre_request::Request;
+
+// The ASCII characters that a test takes, and where the machine goes on behind it: behind the JUMP that ends its
+// alternative, if it is all of it.
+#[derive(Clone, Copy)]
+struct ToldTest {
+    taken: AsciiSet,
+    behind: usize,
+}
+
+// Where a JUMP at a place leads, if one stands there, and else the place.
+fn behind_jump_at(words: &[u32], place: usize) -> usize
+    ensures { (result ≡ place) ⊎ ((v : ℕ) × (Opcode words.now place SreOpcode.JUMP × (Word words.now (place + 1) v
+        × (result ≡ place + 1 + v)))) }
+{
+    let Some(word) = word_at(words, place) else {
+        return place;
+    };
+    if word != SreOpcode::JUMP as u32 {
+        return place;
+    }
+    let _length = words.len(); // a slice has few items, so no place overflows
+    match word_at(words, place + 1) {
+        Some(skip) => place + 1 + skip as usize,
+        None => place,
+    }
+}
+
+// What is told of the test at a place, whose opcode is at hand.
+fn told_by<S: StrDrive>(
+    req: &Request<'_, S>,
+    opcode: SreOpcode,
+    place: usize,
+    cursor: StringCursor,
+) -> Option<ToldTest>
+    requires opcode { OpcodeAt req.now place opcode }
+    requires tests { begins_test opcode ≡ true }
+    requires stands { At req.now place cursor }
+    ensures { IfSome result (λ told. TellsTest (run_of req.now) place (contains told.taken) told.behind) }
+{
+    let words = req.pattern_codes().items();
+    let taken = ascii_taken(words, place)?;
+    let end = test_end(req, place, opcode);
+    Some(ToldTest {
+        taken,
+        behind: behind_jump_at(words, end),
+    })
+}
+
+// What is told of an alternative that begins with a test.
+fn told_test<S: StrDrive>(req: &Request<'_, S>, place: usize, cursor: StringCursor) -> Option<ToldTest>
+    requires { At req.now place cursor }
+    ensures { IfSome result (λ told. TellsTest (run_of req.now) place (contains told.taken) told.behind) }
+{
+    match opcode(req, place, cursor) {
+        SreOpcode::LITERAL => told_by(req, SreOpcode::LITERAL, place, cursor),
+        SreOpcode::NOT_LITERAL => told_by(req, SreOpcode::NOT_LITERAL, place, cursor),
+        SreOpcode::IN => told_by(req, SreOpcode::IN, place, cursor),
+        SreOpcode::ANY => told_by(req, SreOpcode::ANY, place, cursor),
+        _ => None,
+    }
+}
+
+// The ASCII characters with which one alternative alone begins that comes to a place, with one alternative more, whose
+// test is told; none before it begins with a character of the first set, and one alone with one of the second.
+#[inline(always)]
+fn with_test(none: AsciiSet, only: AsciiSet, test: ToldTest, place: usize) -> AsciiSet
+    ensures { (ch : ℕ) → contains result ch ≡ true
+        → ((contains only ch ≡ true) × (contains test.taken ch ≡ false))
+        ⊎ ((contains none ch ≡ true) × ((contains test.taken ch ≡ true) × (test.behind ≡ place))) }
+{
+    let others = only.difference(test.taken);
+    if test.behind != place {
+        return others;
+    }
+    others.union(none.difference(none.difference(test.taken)))
+}
+
+/// The ASCII characters with which one alternative alone begins, of those from a length word on, and which are all of
+/// it, so that it comes to a place behind them; none where an alternative begins with no test that tells its own.
+#[inline(never)]
+pub(super) fn told_bodies<S: StrDrive>(
+    req: &Request<'_, S>,
+    place: usize,
+    start: usize,
+    cursor: StringCursor,
+) -> AsciiSet
+    requires { AtPoint req.now (Alternatives start) cursor }
+    ensures { TellsBodies (run_of req.now) start place (contains result) }
+{
+    let mut none = AsciiSet::new().complement();
+    let mut only = AsciiSet::new();
+    let mut at = start;
+    'alternative: loop {
+        let length = word(req, at) as usize;
+        if length == 0 {
+            return only;
+        }
+        let Some(test) = told_test(req, at + 1, cursor) else {
+            return AsciiSet::new();
+        };
+        only = with_test(none, only, test, place);
+        none = none.difference(test.taken);
+        at += length;
+    }
+}
