@@ -23,7 +23,6 @@ use Rattle.sre_board.specs.Failures.{kept_of}
 use Rattle.sre_board.proofs.AccountLaws.{account_few, account_none}
 use Rattle.sre_request.specs.declared.request.Request.{Request}
 use Rattle.sre_request.specs.Requests.{start_of, end_of, code_of}
-use Rattle.std.specs.Result.{IsErrAnd}
 use Rattle.sre_code.specs.Codes.{words_of}
 use Rattle.sre_code.specs.declared.code.Code.{Code}
 use Rattle.sre_code.proofs.Checked.{whole_items}
@@ -347,12 +346,6 @@ ok_at {T} {E} A x t is h = subst (λ (y : Result T E). IfOk y A) is h
 -- what is decided is not to begin again
 pub not_opened : {found : Option StringCursor} (told : Decision) → told ≡ Decided found → told ≢ Opened
 not_opened told e o = let both = sym e ∙ o in absurd (cc)
-
--- an error that is passed on
-pub passed_up : {T E : Type 0} (result : Result T E) (e : E) (P : E → Type 0) → IsErrAnd result (λ y. y ≡ e) → P e
-    → IfErr result P
-passed_up (Ok t) e P h p = absurd h
-passed_up (Err y) e P h p = subst P (sym h) p
 
 -- what a turn goes over while failures are kept counts for so much
 pub each_most : {S : Type 0} {text : Ghosts S} (r : Request S text) (code : Code) (most counted window passed : ℕ)

@@ -287,8 +287,9 @@ fn turns_on<L: Ledger, K: Plan, S: StrDrive, A: Allocator>(
     }
 }
 
-// The same with no limit, and with no failure kept until the memo opens, which is asked on the way back and where a
-// region ends. Then the run goes on: what it saved before is resumed once at most, and what comes after is remembered.
+// Turns from an instruction on, with no limit, and with no failure kept until the memo opens, which is asked on the way
+// back and where a region ends. Then `turns_on` goes on: what was saved before is resumed once at most, and what comes
+// after is remembered. Only here a loop goes over many bodies in one turn: failures of places between are not kept.
 // It is one function out of line, whatever its size, so that `Runner::attempt` is inlined where a search tries its
 // starts. Most starts fail, so the end of an accepted outcome is written apart from what is told.
 #[inline(never)]

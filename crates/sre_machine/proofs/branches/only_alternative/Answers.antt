@@ -1,5 +1,5 @@
 use Rattle.std.proofs.Common.{◌<◌, ◌+◌, subst}
-use Rattle.sre_turns.specs.declared.Point.TheVariants.{Instruction, Alternatives}
+use Rattle.sre_turns.specs.declared.Point.TheVariants.{Instruction}
 use Rattle.sre_model.proofs.Words.{word_of}
 use Rattle.sre_request.specs.Runs.{run_of}
 use Rattle.sre_turns.proofs.Moving.{continues_then, continues_run}

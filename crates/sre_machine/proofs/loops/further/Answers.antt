@@ -1,8 +1,6 @@
-use Rattle.std.proofs.Common.{◌≡◌, ◌≤◌, sym, refl, arith}
+use Rattle.std.proofs.Common.{sym, refl, arith}
 use Rattle.sre_model.specs.Tree.{Greedy}
-use Rattle.sre_model.specs.Ways.{unlimited}
 use Rattle.sre_turns.specs.Machine.{with_loop}
-use Rattle.sre_turns.specs.Strides.{MayRepeat}
 use Rattle.sre_request.specs.Requests.{asked_of}
 use Rattle.sre_request.specs.Runs.{run_of}
 use Rattle.sre_turns.proofs.Hopeless.{asked_by_stop}

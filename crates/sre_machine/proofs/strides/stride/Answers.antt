@@ -1,4 +1,4 @@
-use Rattle.std.proofs.Common.{◌≡◌, ◌+◌, Some, ℕ, ap, sym, ◌∙◌, subst, arith}
+use Rattle.std.proofs.Common.{◌≡◌, ◌+◌, Some, ap, sym, ◌∙◌, subst, arith}
 use Rattle.sre_model.specs.Grammar.{Word, Opcode}
 use Rattle.sre_chars.specs.declared.constants.SreOpcode.TheVariants as opcode
 use Rattle.sre_code.specs.AsciiSet.{contains}
@@ -8,7 +8,7 @@ use Rattle.sre_turns.specs.MovesInLoops.{next_frame}
 use Rattle.sre_turns.specs.Strides.{Strides, MayRepeat}
 use Rattle.sre_turns.specs.declared.Frame.{Frame}
 use Rattle.sre_turns.specs.declared.Point.TheVariants.{Alternatives}
-use Rattle.sre_request.specs.Runs.{run_of, OpcodeAt}
+use Rattle.sre_request.specs.Runs.{run_of}
 use Rattle.sre_turns.proofs.StepsInBranches.{branch_run}
 use Rattle.sre_turns.proofs.Strides.{strides_none, strides_on, strides_ends, repeats_on, body_reached, tells_nothing}
 use Rattle.sre_machine.proofs.strides.stride.Goals as goal

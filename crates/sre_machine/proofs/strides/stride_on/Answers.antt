@@ -1,4 +1,4 @@
-use Rattle.std.proofs.Common.{◌+◌, arith}
+use Rattle.std.proofs.Common.{◌+◌}
 use Rattle.sre_request.specs.Runs.{run_of}
 use Rattle.sre_turns.proofs.Moving.{reached_within}
 use Rattle.sre_turns.proofs.Strides.{body_reached}
