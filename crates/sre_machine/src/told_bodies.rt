@@ -70,7 +70,11 @@ fn told_by<S: StrDrive>(
 }
 
 // What is told of an alternative that begins with a test.
-fn told_test<S: StrDrive>(req: &Request<'_, S>, place: usize, cursor: StringCursor) -> Option<ToldTest>
+fn told_test<S: StrDrive>(
+    req: &Request<'_, S>,
+    place: usize,
+    cursor: StringCursor,
+) -> Option<ToldTest>
     requires { At req.now place cursor }
     ensures { IfSome result (λ told. TellsTest (run_of req.now) place (contains told.taken) told.behind) }
 {
