@@ -120,11 +120,11 @@ fn begins_otherwise<S: StrDrive>(
     by_opcode!(LITERAL LITERAL_IGNORE LITERAL_UNI_IGNORE IN IN_UNI_IGNORE)
 }
 
-/// Where the machine goes on: at an instruction's place, with a cursor.
+// Where the machine goes on: at an instruction's place, with a cursor.
 #[derive(Clone, Copy)]
-pub(super) struct Onward {
-    pub(super) place: usize,
-    pub(super) cursor: StringCursor,
+struct Onward {
+    place: usize,
+    cursor: StringCursor,
 }
 
 // Behind a test of one character, if it takes the one at the cursor.
@@ -276,29 +276,30 @@ fn first_alternative<S: StrDrive>(
     }
 }
 
-/// Where the machine goes on in the only alternative from a length word on of which something may come, if there is one
-/// alone: behind the JUMP that ends it, if it has but one test.
+/// The cursor behind the only alternative from a length word on of which something may come, if there is one alone, and
+/// it is a test, and perhaps a JUMP, that comes to a place.
 #[inline(always)]
 pub(super) fn only_alternative<S: StrDrive>(
     req: &Request<'_, S>,
     start: usize,
+    end: usize,
     character: u32,
     after: StringCursor,
     cursor: StringCursor,
-) -> Option<Onward>
+) -> Option<StringCursor>
     requires stands { AtPoint req.now (Alternatives start) cursor }
     requires read { ReadAt req.now cursor character after }
-    ensures { IfSome result (λ x. YieldsTo (run_of req.now) (Alternatives start) cursor (Instruction x.place) x.cursor) }
+    ensures { IfSome result (λ behind. YieldsTo (run_of req.now) (Alternatives start) cursor (Instruction end) behind) }
 {
     let first = first_alternative(req, start, character, after, cursor)?;
     let length = word(req, first.length_word) as usize;
+    if behind_jump(req, first.place, first.cursor) != end {
+        return None;
+    }
     let following = first.length_word + length;
     match first_alternative(req, following, character, after, cursor) {
         Some(_) => None,
-        None => Some(Onward {
-            place: behind_jump(req, first.place, first.cursor),
-            cursor: first.cursor,
-        }),
+        None => Some(first.cursor),
     }
 }
 

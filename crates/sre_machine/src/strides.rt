@@ -72,11 +72,11 @@ fn next_body<S: StrDrive>(
     if character < 128 && told.contains(character) {
         return Some(after);
     }
-    let behind = only_alternative(req, alternatives, character, after, cursor)?;
-    if behind.place != place || behind.cursor.position() <= cursor.position() {
+    let behind = only_alternative(req, alternatives, place, character, after, cursor)?;
+    if behind.position() <= cursor.position() {
         return None;
     }
-    Some(behind.cursor)
+    Some(behind)
 }
 
 // What is told of the next bodies behind so many of them.
@@ -133,8 +133,18 @@ fn stride<S: StrDrive>(
     BodyEnd { frame, cursor }
 }
 
+// Whether the body that ends at a cursor began one character before it.
+#[inline(always)]
+fn had_one_character(frame: Frame, cursor: StringCursor) -> bool {
+    match frame.last {
+        Some(last) => cursor.position().wrapping_sub(last) == 1,
+        None => false,
+    }
+}
+
 /// Goes over bodies of one character each where strides are wanted, a loop without a greatest count has alternatives,
-/// and a literal has to come behind it.
+/// and a literal has to come behind it. The first body, and the next one behind a longer one, is not tried so: most
+/// bodies are like the one before.
 #[inline(always)]
 pub(super) fn stride_on<S: StrDrive, A: Allocator, const STRIDES: bool>(
     req: &Request<'_, S>,
@@ -153,7 +163,7 @@ pub(super) fn stride_on<S: StrDrive, A: Allocator, const STRIDES: bool>(
     ensures more { MayRepeat (run_of req.now).words result.frame result.cursor.position }
 {
     let here = BodyEnd { frame, cursor };
-    if !STRIDES || greatest as usize != MAXREPEAT {
+    if !STRIDES || greatest as usize != MAXREPEAT || !had_one_character(frame, cursor) {
         return here;
     }
     let _opcode = operand(req, place, 0);

@@ -1,4 +1,5 @@
-use Rattle.std.proofs.Common.{◌<◌, ◌+◌, subst}
+use Rattle.std.proofs.Common.{◌≡◌, ◌<◌, ◌+◌, subst, arith}
+use Rattle.sre_turns.specs.Machine.{Continues}
 use Rattle.sre_turns.specs.declared.Point.TheVariants.{Instruction}
 use Rattle.sre_model.proofs.Words.{word_of}
 use Rattle.sre_request.specs.Runs.{run_of}
@@ -29,7 +30,9 @@ returns-in-None g c =
     let r = run_of c.args.req.now in
     let first = c.in_ok-first.first in
     let more = subst (λ n. 0 < n) (word_of r.words _ _ c.word-length.ensures.word) c.in_ok-first.ensures.1 in
-    only_yields r c.args.start first.length_word c.word-length.result (Instruction c.behind_jump.result) c.args.cursor
+    let on = continues_then r (Instruction (first.length_word + 1)) (Instruction first.place) c.args.cursor first.cursor
+    c.in_ok-first.ensures.3 (Instruction c.behind_jump.result) first.cursor c.behind_jump.ensures in
+    let same : c.behind_jump.result ≡ c.args.end = omega (arith, c.if-behind_jump-end.false) in
+    only_yields r c.args.start first.length_word c.word-length.result (Instruction c.args.end) c.args.cursor
     first.cursor c.in_ok-first.ensures.2 c.word-length.ensures.word more c.in-None.ensures
-    (continues_then r (Instruction (first.length_word + 1)) (Instruction first.place) c.args.cursor first.cursor
-    c.in_ok-first.ensures.3 (Instruction c.behind_jump.result) first.cursor c.behind_jump.ensures)
+    (subst (λ i. Continues r (Instruction (first.length_word + 1)) c.args.cursor (Instruction i) first.cursor) same on)

@@ -39,13 +39,8 @@ only_alternative-requires-clause-stands g c =
 
 pub returns-clause-strides : goal.returns-clause-strides
 returns-clause-strides g c =
-    let r = run_of c.args.req.now in
-    let behind = c.in_ok-behind.behind in
-    let place : behind.place ≡ c.args.place = omega (arith, c.if-behind-place.false) in
-    strides_before r c.args.place c.args.alternatives c.args.wanted c.read-character.result.0 c.args.cursor
-    behind.cursor c.args.frame c.requires.opcode c.requires.branch c.requires.alternatives c.requires.wanted
-    c.requires.more
+    strides_before (run_of c.args.req.now) c.args.place c.args.alternatives c.args.wanted c.read-character.result.0
+    c.args.cursor c.in_ok-behind.behind c.args.frame c.requires.opcode c.requires.branch c.requires.alternatives
+    c.requires.wanted c.requires.more
     (omega (arith, c.if-position-end.false, c.position.ensures, c.end.ensures.value))
-    c.read-character.ensures.character (λ same. c.if-character-wanted.false same)
-    (subst (λ i. YieldsTo r (Alternatives c.args.alternatives) c.args.cursor (Instruction i) behind.cursor) place
-    c.in_ok-behind.ensures)
+    c.read-character.ensures.character (λ same. c.if-character-wanted.false same) c.in_ok-behind.ensures
