@@ -70,7 +70,7 @@ DASHED = ' stroke-dasharray="5 3"'
 
 # The crates.
 
-USERS_NAME = ("sre_chars", "sre_engine", "sre_emit", "sre_cases")
+USERS_NAME = ("sre_chars", "sre_engine", "sre_recipes", "sre_emit", "sre_cases")
 HIGH, ROW, GAP, MARGIN, PORT = 30, 72, 22, 24, 18
 
 
