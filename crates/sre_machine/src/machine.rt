@@ -287,8 +287,9 @@ pub(super) fn back<S: StrDrive, A: Allocator, const KEEPS: bool>(
     }
 }
 
-/// One instruction, which may go over many bodies of a loop where strides are wanted. Each loop of turns has an instance
-/// of it for itself, by what it asks of strides and of limits: so it has one caller, and is compiled in its place.
+/// One instruction, which may go over many bodies of a loop where strides are wanted. Each loop of turns has an
+/// instance of it for itself, by what it asks of strides and of limits: so it has one caller, and is compiled in its
+/// place.
 #[tactic(auto, using(sre_turns::proofs::Moving::on_board))]
 #[inline(always)]
 pub(super) fn instruction<S: StrDrive, A: Allocator, const STRIDES: bool, const LIMITED: bool>(

@@ -46,8 +46,8 @@ branch_run r i c w x =
     (run_goes _ (branch_moves r.words r.subject i _ refl w) x.runs)
 
 -- alternatives
-pub alternatives_move : (ws : List ℕ) (s : Subject) (q v : ℕ) (x : Spot) → x.point ≡ Alternatives q → Word ws q v → 0 < v
-    → Moves ws s x (Split (to_point x (Instruction (q + 1))) (to_point x (Alternatives (q + v))))
+pub alternatives_move : (ws : List ℕ) (s : Subject) (q v : ℕ) (x : Spot) → x.point ≡ Alternatives q → Word ws q v
+    → 0 < v → Moves ws s x (Split (to_point x (Instruction (q + 1))) (to_point x (Alternatives (q + v))))
 alternatives_move ws s q v x e w l =
     let more : nat_eq v 0 ≡ false = grind (arith, nat_tests) in
     rw e (record { value = v; there = w; is = rw more refl })

@@ -1,5 +1,6 @@
 -- Bodies of a loop that are one character each, gone over in one turn.
-use Rattle.std.proofs.Common.{◌≡◌, ℕ, ◌+◌, ◌<◌, ◌≤◌, ◌⊎◌, inl, inr, Bool, true, ◌++◌, List, [], ◌∷◌, false, nat_eq, nat_lt, Some, refl, sym, ap}
+use Rattle.std.proofs.Common.{◌≡◌, ℕ, ◌+◌, ◌<◌, ◌≤◌, ◌⊎◌, inl, inr, Bool, true, false, nat_eq, nat_lt, ◌++◌, List, []}
+use Rattle.std.proofs.Common.{◌∷◌, Some, refl, sym, ap}
 use Rattle.std.proofs.Common.{◌∙◌, subst, arith}
 use Rattle.std.proofs.lemmas.Bool.Decides.{nat_tests}
 use Rattle.std.proofs.lemmas.List.{append-nil}
@@ -87,7 +88,8 @@ body_reached r u c f w may ends =
     may.more ends.at
 
 -- behind a body that moves on one more may be tried, if their count is not limited
-pub repeats_on : (ws : List ℕ) (f : Frame) (p q : ℕ) → Word ws (f.repeat + 3) unlimited → MayRepeat ws f p → p < q → MayRepeat ws (next_frame f (Some p)) q
+pub repeats_on : (ws : List ℕ) (f : Frame) (p q : ℕ) → Word ws (f.repeat + 3) unlimited → MayRepeat ws f p → p < q
+    → MayRepeat ws (next_frame f (Some p)) q
 repeats_on ws f p q w may moves = record {
   low = may.low;
   high = unlimited;
@@ -239,8 +241,8 @@ tells_test r i end behind o set w f there says ends jump = record {
       test_misses r i ch o (set ch) c w f there read.read.inside read.read.character (says ch read.ascii) n;
   passes = λ c ch after read y.
       on c after read.read.stands jump
-      (test_continues r i ch o (set ch) c w f there read.read.inside read.read.character (says ch read.ascii) end after y
-      ends read.read.position read.read.stands);
+      (test_continues r i ch o (set ch) c w f there read.read.inside read.read.character (says ch read.ascii) end after
+      y ends read.read.position read.read.stands);
 }
   where
     on : (c after : StringCursor) → r.stands after after.position

@@ -63,8 +63,8 @@ pub record TellsTest (r : Run) (i : ℕ) (set : ℕ → Bool) (behind : ℕ) : T
   pub passes : (c : StringCursor) (ch : ℕ) (after : StringCursor) → ReadsAscii r c ch after → set ch ≡ true
       → Continues r (Instruction i) c (Instruction behind) after
 
--- of the alternatives before q none begins with an ASCII character of one set; with one of another set begins one alone,
--- which comes to u behind it
+-- of the alternatives before q none begins with an ASCII character of one set; with one of another set one alone
+-- begins, which comes to u behind it
 pub record TellsAlternatives (r : Run) (start q u : ℕ) (none only : ℕ → Bool) : Type 0 where
   pub passed : (c : StringCursor) (ch : ℕ) (after : StringCursor) → ReadsAscii r c ch after → none ch ≡ true
       → Continues r (Alternatives start) c (Alternatives q) c
