@@ -30,7 +30,8 @@ struct ToldTest {
     behind: usize,
 }
 
-// Where a JUMP at a place leads, if one stands there, and else the place.
+// Where a JUMP at a place leads, if one stands there, and else the place. The machine need not come to it, so the words
+// may end there; where it does, `behind_jump` tells the same with no such question.
 fn behind_jump_at(words: &[u32], place: usize) -> usize
     ensures { (result ≡ place) ⊎ ((v : ℕ) × (Opcode words.now place SreOpcode.JUMP × (Word words.now (place + 1) v
         × (result ≡ place + 1 + v)))) }

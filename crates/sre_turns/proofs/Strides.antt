@@ -49,7 +49,7 @@ run_first {ws} {s} {x} y z h none d = go (comes (Split y z) h d)
     )
 
 module _ (r : Run) (x y : Spot) where
-  pub yields_goes : Moves r.words r.subject x (Go y) → Yields r x y
+  yields_goes : Moves r.words r.subject x (Go y) → Yields r x y
   yields_goes h = record {
     runs = λ os n d. run_on y h d;
     settles = λ pl start at.
@@ -57,7 +57,7 @@ module _ (r : Run) (x y : Spot) where
     confines = λ l. confined_leads r.words r.subject x (Go y) h l;
   }
 
-  pub yields_first : (z : Spot) → Moves r.words r.subject x (Split y z) → Barren r z → Yields r x y
+  yields_first : (z : Spot) → Moves r.words r.subject x (Split y z) → Barren r z → Yields r x y
   yields_first z h none = record {
     runs = λ os n d. run_first y z h none d;
     settles = λ pl start at.
@@ -65,7 +65,7 @@ module _ (r : Run) (x y : Spot) where
     confines = λ l. (confined_leads r.words r.subject x (Split y z) h l).0;
   }
 
-  pub yields_then : (z : Spot) → Yields r x y → Yields r y z → Yields r x z
+  yields_then : (z : Spot) → Yields r x y → Yields r y z → Yields r x z
   yields_then z a b = record {
     runs = λ os n d.
         let k = a.runs os n d in
@@ -101,7 +101,7 @@ repeats_on ws f p q w may moves = record {
 }
 
 -- what continues at a point yields it
-pub continues_yields : (r : Run) (pt pt' : Point) (c c' : StringCursor) → Continues r pt c pt' c' → (fs : List Frame)
+continues_yields : (r : Run) (pt pt' : Point) (c c' : StringCursor) → Continues r pt c pt' c' → (fs : List Frame)
     (m : Marks) → Yields r (spot_at pt fs c.position m) (spot_at pt' fs c'.position m)
 continues_yields r pt pt' c c' on fs m = record {
   runs = λ os n d. on.runs fs m os n d;
@@ -129,7 +129,7 @@ only_yields r start q v pt c c' to w more none on = record {
 }
 
 -- where nothing comes of a loop's end, what comes there comes of its further body
-pub body_yields : (r : Run) (u : ℕ) (c : StringCursor) (b : BoardValue) (f : Frame) → Opcode r.words u opcode.MAX_UNTIL
+body_yields : (r : Run) (u : ℕ) (c : StringCursor) (b : BoardValue) (f : Frame) → Opcode r.words u opcode.MAX_UNTIL
     → MayRepeat r.words f c.position → Refuses r (u + 1) c.position
     → Yields r (spot (Instruction u) c (with_loop f b)) (body_spot u c (with_loop f b) f)
 body_yields r u c b f w may none =
@@ -140,7 +140,7 @@ body_yields r u c b f w may none =
     (λ os n d. none _ _ os n d)
 
 -- a body that is one alternative alone, and comes to the loop's end
-pub strides_body : (r : Run) (u : ℕ) (c c' : StringCursor) (f : Frame) → Opcode r.words u opcode.MAX_UNTIL
+strides_body : (r : Run) (u : ℕ) (c c' : StringCursor) (f : Frame) → Opcode r.words u opcode.MAX_UNTIL
     → Opcode r.words (f.repeat + 4) opcode.BRANCH → MayRepeat r.words f c.position → Refuses r (u + 1) c.position
     → YieldsTo r (Alternatives (f.repeat + 4 + 1)) c (Instruction u) c'
     → Strides r u f c (next_frame f (Some c.position)) c'

@@ -1,7 +1,6 @@
-use Rattle.std.proofs.Common.{◌≡◌, ◌+◌, ◌<◌, sym, subst, arith}
+use Rattle.std.proofs.Common.{◌+◌, ◌<◌, sym, subst, arith}
 use Rattle.sre_turns.specs.Machine.{HasRun}
-use Rattle.sre_turns.specs.Strides.{YieldsTo}
-use Rattle.sre_turns.specs.declared.Point.TheVariants.{Instruction, Alternatives}
+use Rattle.sre_turns.specs.declared.Point.TheVariants.{Alternatives}
 use Rattle.sre_request.specs.Runs.{run_of}
 use Rattle.sre_turns.proofs.StepsInBranches.{branch_run}
 use Rattle.sre_turns.proofs.Strides.{body_reached, strides_before}

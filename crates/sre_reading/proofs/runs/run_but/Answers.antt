@@ -12,8 +12,8 @@ returns-then-near-few g c =
 pub returns : goal.returns
 returns g c =
     on_ends c.args.req.now c.args.place c.args.other c.args.most c.few-few.result (not (nat_eq g.row.WANTED 0))
-    c.args.start c.run_tested-near.result c.stretch_on.result (rw c.min.ensures at c.run_tested-near.ensures) c.requires.most
-    c.requires.other c.stretch_on.ensures
+    c.args.start c.run_tested-near.result c.stretch_on.result (rw c.min.ensures at c.run_tested-near.ensures)
+    c.requires.most c.requires.other c.stretch_on.ensures
 
 pub stretch_on-requires-clause-inside : goal.stretch_on-requires-clause-inside
 stretch_on-requires-clause-inside g c =
