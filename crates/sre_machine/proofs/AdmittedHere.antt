@@ -1,5 +1,5 @@
 -- What an instruction admits, by its opcode, where the words are as the telling reads them.
--- The machine is to leave choices of which nothing comes by this; nothing else here rests on it.
+-- The list that branches leave alternatives by is told by this; nothing else here rests on it.
 use Rattle.std.proofs.Common.{◌≡◌, ℕ, ◌+◌, ◌⊎◌, inl, inr, Bool, List, refl, sym, subst}
 use Rattle.sre_chars.specs.Numbers.{category_number}
 use Rattle.sre_chars.specs.declared.constants.SreCatCode.{SreCatCode}

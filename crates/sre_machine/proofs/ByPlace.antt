@@ -1,5 +1,5 @@
 -- Lists by place: what is told stays told where another place is told, and what a place tells of sets.
--- The machine is to leave choices of which nothing comes by this; nothing else here rests on it.
+-- The list that branches leave alternatives by is told by this; nothing else here rests on it.
 use Rattle.std.proofs.Common.{◌≡◌, ℕ, zero, suc, ◌+◌, ◌⊎◌, inl, inr, Bool, true, false, not, cond, ◌&&◌, ◌||◌}
 use Rattle.std.proofs.Common.{nat_lt, List, [], ◌∷◌, ◌++◌, Option, Some, None, slice_get, slice_set, refl, sym, ap}
 use Rattle.std.proofs.Common.{◌∙◌, subst, arith}
@@ -13,8 +13,9 @@ use Rattle.sre_model.proofs.Members.{negated, nothing_left}
 use Rattle.sre_code.specs.AsciiSet.{contains}
 use Rattle.sre_code.specs.declared.ascii_set.AsciiSet.{AsciiSet}
 use Rattle.sre_code.specs.AsciiSets.{HoldsFor, AreTold}
-use Rattle.sre_machine.specs.ByPlace.{AllTold, IsAdmitted, AllAdmitted}
-use Rattle.sre_machine.specs.declared.admitting.Admitted.{Admitted}
+use Rattle.sre_request.specs.Admitting.{IsAdmitted, AllAdmitted}
+use Rattle.sre_request.specs.declared.admitted.Admitted.{Admitted}
+use Rattle.sre_machine.specs.ByPlace.{AllTold}
 
 -- an item of a list in which one is set, or with one more
 got_set : {X : Type 0} (xs : List X) (i j : ℕ) (v x : X) → slice_get (slice_set xs i v) j ≡ Some x

@@ -10,7 +10,7 @@ pub mod Taken
 pub mod Opening
 pub mod Keeping
 pub mod Following
+pub mod NothingBefore
 pub mod ByPlace
 pub mod AdmittedHere
-pub mod SameSets
 pub mod ToldBodies

@@ -12,7 +12,8 @@ ghost use Rattle.sre_model.specs.Grammar.{Opcode, word, skip, until_opcode};
 ghost use Rattle.sre_code.specs.AsciiSet.{contains};
 ghost use Rattle.sre_turns.specs.declared.Point.TheVariants.{Instruction, Alternatives};
 ghost use Rattle.sre_turns.specs.Admitting.{AdmitsOnly, TestsOnly, HasAll, RepeatsOnly, RunsOnly};
-ghost use Rattle.sre_machine.specs.ByPlace.{AllTold, AllAdmitted};
+ghost use Rattle.sre_request.specs.Admitting.{AllAdmitted};
+ghost use Rattle.sre_machine.specs.ByPlace.{AllTold};
 
 use crate::set_members::{filled, members_at, set_members, word_at};
 use sre_chars::constants::{SreCatCode, SreOpcode};
@@ -20,16 +21,9 @@ use sre_code::ascii_set::AsciiSet;
 use sre_code::operands;
 use sre_growth::Refusal;
 use sre_reading::ascii::ascii_taken;
+use sre_request::Admitted;
 use std::alloc::Allocator;
 use std::convert::TryFrom;
-
-/// What a place of the words admits: the ASCII characters that may come next where an instruction stands there, and
-/// where alternatives begin there by a length word.
-#[derive(Clone, Copy)]
-pub struct Admitted {
-    pub instruction: AsciiSet,
-    pub alternatives: AsciiSet,
-}
 
 // Every ASCII character.
 #[inline(always)]
@@ -48,8 +42,8 @@ fn leads(words: &[u32], place: usize) -> usize
     place + operands::word_or_zero(words, place) as usize
 }
 
-/// What a list says that the instruction at a place admits.
-pub fn instruction_at(words: &[u32], list: &[Admitted], place: usize) -> AsciiSet
+// What a list says that the instruction at a place admits.
+fn instruction_at(words: &[u32], list: &[Admitted], place: usize) -> AsciiSet
     requires { AllAdmitted words.now list.now }
     ensures { AdmitsOnly words.now (Instruction place) (contains result) }
 {
@@ -59,8 +53,8 @@ pub fn instruction_at(words: &[u32], list: &[Admitted], place: usize) -> AsciiSe
     }
 }
 
-/// What a list says that the alternatives admit whose length words begin at a place.
-pub fn alternatives_at(words: &[u32], list: &[Admitted], place: usize) -> AsciiSet
+// What a list says that the alternatives admit whose length words begin at a place.
+fn alternatives_at(words: &[u32], list: &[Admitted], place: usize) -> AsciiSet
     requires { AllAdmitted words.now list.now }
     ensures { AdmitsOnly words.now (Alternatives place) (contains result) }
 {

@@ -3,6 +3,9 @@
 //! The character at the cursor is read once for all alternatives. One that has to begin with another character is
 //! passed over, and of one that begins with a test the rest alone is left. A choice is saved only where something may
 //! come of an alternative behind the first. At the window's end no character tells, and each alternative is tried.
+//!
+//! Where the request tells what each place admits, an ASCII character is looked up there: an alternative's own words
+//! are read only if something may come of it.
 
 ghost use Rattle.std.specs.Prelude.{◌≡◌, ℕ, ◌+◌, ◌<◌, ◌^◌, true, false, IfOk, IfSome, MatchOption};
 ghost use Rattle.sre_model.specs.Tree.{Test};
@@ -17,6 +20,7 @@ ghost use Rattle.sre_request.specs.Runs.{run_of, OpcodeAt, TestAt};
 ghost use Rattle.sre_machine.specs.Turns.{At, Turn, AtPoint, ContinuesTo, ReadAt, RefusesAt, TurnAt};
 ghost use Rattle.sre_reading.specs.Reads.{TestStandsAt, test_takes, character_at};
 
+use crate::barring::{bars, bars_alternatives};
 use crate::machine::{choose, opcode};
 use sre_board::Board;
 use sre_chars::constants::SreOpcode;
@@ -234,6 +238,53 @@ fn begin<S: StrDrive>(
     }
 }
 
+// The same, where the request tells what each place admits.
+#[inline(always)]
+fn begin_admitted<S: StrDrive>(
+    req: &Request<'_, S>,
+    place: usize,
+    character: u32,
+    after: StringCursor,
+    cursor: StringCursor,
+) -> Option<Onward>
+    requires stands { At req.now place cursor }
+    requires read { ReadAt req.now cursor character after }
+    ensures { MatchOption result (RefusesAt req.now place cursor.position)
+        (λ x. ContinuesTo req.now (Instruction place) cursor (Instruction x.place) x.cursor) }
+{
+    if bars(req, place, character, cursor) {
+        return None;
+    }
+    match opcode(req, place, cursor) {
+        SreOpcode::LITERAL => {
+            behind_test(req, SreOpcode::LITERAL, place, character, after, cursor)
+        }
+        SreOpcode::IN => behind_set(req, place, character, after, cursor),
+        _ => Some(Onward { place, cursor }),
+    }
+}
+
+// The same, by what is told of each place or by the words.
+#[inline(always)]
+fn begin_by<S: StrDrive, const ADMITTED: bool>(
+    req: &Request<'_, S>,
+    place: usize,
+    character: u32,
+    after: StringCursor,
+    cursor: StringCursor,
+) -> Option<Onward>
+    requires stands { At req.now place cursor }
+    requires read { ReadAt req.now cursor character after }
+    ensures { MatchOption result (RefusesAt req.now place cursor.position)
+        (λ x. ContinuesTo req.now (Instruction place) cursor (Instruction x.place) x.cursor) }
+{
+    if ADMITTED {
+        begin_admitted(req, place, character, after, cursor)
+    } else {
+        begin(req, place, character, after, cursor)
+    }
+}
+
 // An alternative of which something may come: its length word, and where the machine goes on in it.
 #[derive(Clone, Copy)]
 struct Alternative {
@@ -244,7 +295,7 @@ struct Alternative {
 
 // The first alternative from a length word on of which something may come, if there is one.
 #[inline(always)]
-fn first_alternative<S: StrDrive>(
+fn first_alternative<S: StrDrive, const ADMITTED: bool>(
     req: &Request<'_, S>,
     start: usize,
     character: u32,
@@ -265,7 +316,8 @@ fn first_alternative<S: StrDrive>(
         if length == 0 {
             return None;
         }
-        if let Some(begun) = begin(req, place + 1, character, after, cursor) {
+        let first = begin_by::<S, ADMITTED>(req, place + 1, character, after, cursor);
+        if let Some(begun) = first {
             return Some(Alternative {
                 length_word: place,
                 place: begun.place,
@@ -291,13 +343,13 @@ pub(super) fn only_alternative<S: StrDrive>(
     requires read { ReadAt req.now cursor character after }
     ensures { IfSome result (λ behind. YieldsTo (run_of req.now) (Alternatives start) cursor (Instruction end) behind) }
 {
-    let first = first_alternative(req, start, character, after, cursor)?;
+    let first = first_alternative::<S, false>(req, start, character, after, cursor)?;
     let length = word(req, first.length_word) as usize;
     if behind_jump(req, first.place, first.cursor) != end {
         return None;
     }
     let following = first.length_word + length;
-    match first_alternative(req, following, character, after, cursor) {
+    match first_alternative::<S, false>(req, following, character, after, cursor) {
         Some(_) => None,
         None => Some(first.cursor),
     }
@@ -346,6 +398,53 @@ fn choose_alternative<S: StrDrive, A: Allocator>(
     Ok(Next::At(first.place, first.cursor))
 }
 
+// The first alternative from a length word on of which something may come, by what is told of each place or by the
+// words.
+#[inline(always)]
+fn other_alternative<S: StrDrive, const ADMITTED: bool>(
+    req: &Request<'_, S>,
+    start: usize,
+    character: u32,
+    after: StringCursor,
+    cursor: StringCursor,
+) -> Option<Alternative>
+    requires stands { AtPoint req.now (Alternatives start) cursor }
+    requires read { ReadAt req.now cursor character after }
+    ensures { MatchOption result (Exhausted (run_of req.now) (Alternatives start) cursor.position)
+        (λ x. ContinuesTo req.now (Alternatives start) cursor (Alternatives x.length_word) cursor) }
+{
+    if ADMITTED && bars_alternatives(req, start, character, cursor) {
+        return None;
+    }
+    first_alternative::<S, ADMITTED>(req, start, character, after, cursor)
+}
+
+// The alternatives from a length word on, before a character.
+#[inline(always)]
+fn alternatives_before<S: StrDrive, A: Allocator, const ADMITTED: bool>(
+    req: &Request<'_, S>,
+    board: &mut Board<A>,
+    start: usize,
+    character: u32,
+    after: StringCursor,
+    cursor: StringCursor,
+) -> Result<Next, Refusal>
+    requires stands { AtPoint req.now (Alternatives start) cursor }
+    requires read { ReadAt req.now cursor character after }
+    ensures { IfOk result (λ next. TurnAt req.now (Alternatives start) cursor board.old next board.new) }
+{
+    let Some(first) = first_alternative::<S, ADMITTED>(req, start, character, after, cursor) else {
+        return Ok(Next::Back);
+    };
+    let length = word(req, first.length_word) as usize;
+    let following = first.length_word + length;
+    let others = other_alternative::<S, ADMITTED>(req, following, character, after, cursor);
+    let Some(other) = others else {
+        return Ok(Next::At(first.place, first.cursor));
+    };
+    Ok(choose_alternative(req, board, first, other.length_word, cursor)?)
+}
+
 /// The alternatives of a BRANCH from a length word on: `length body JUMP skip ... 0`.
 #[inline(always)]
 pub(super) fn alternatives<S: StrDrive, A: Allocator>(
@@ -361,15 +460,10 @@ pub(super) fn alternatives<S: StrDrive, A: Allocator>(
         return Ok(alternatives_at_end(req, board, start, cursor)?);
     }
     let (character, after) = read(req, cursor);
-    let Some(first) = first_alternative(req, start, character, after, cursor) else {
-        return Ok(Next::Back);
-    };
-    let length = word(req, first.length_word) as usize;
-    let following = first.length_word + length;
-    let Some(other) = first_alternative(req, following, character, after, cursor) else {
-        return Ok(Next::At(first.place, first.cursor));
-    };
-    Ok(choose_alternative(req, board, first, other.length_word, cursor)?)
+    if character < 128 && !req.admitted().is_empty() {
+        return alternatives_before::<S, A, true>(req, board, start, character, after, cursor);
+    }
+    alternatives_before::<S, A, false>(req, board, start, character, after, cursor)
 }
 
 /// `BRANCH length body JUMP skip ... 0`: the first alternative, then the others.

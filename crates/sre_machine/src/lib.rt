@@ -7,7 +7,6 @@
 //! ([`memo::Memo`]): it leaves at once what is alike. The answer is the same.
 #![tactic(auto)]
 
-mod admitted_runs;
 pub mod admitting;
 pub mod allowance;
 pub mod barring;

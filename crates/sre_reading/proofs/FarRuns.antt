@@ -82,7 +82,7 @@ module _ {S : Type 0} {text : Ghosts S} (r : Request S text) (place other most f
   verdict j q t b s l is =
       read_passes (run_of r).subject t q (character_at r q) b l refl (sym (says j (character_at r q) t s ∙ is))
 
-  pub far_ends : Ended (run_of r) place wanted most start far.end (near.count + far.count)
+  far_ends : Ended (run_of r) place wanted most start far.end (near.count + far.count)
   far_ends = record {
     counted = record {
       within = omega (arith, e.counted.within, on.within);

@@ -1,2 +1,3 @@
+pub mod Admitting
 pub mod Requests
 pub mod Runs

@@ -1,13 +1,16 @@
 -- What a request asks.
 -- Public clauses rest on it.
-use Rattle.std.specs.Prelude.{ℕ, Bool}
+use Rattle.std.specs.Prelude.{ℕ, Bool, List}
+use Rattle.std.specs.Borrow.{Bor}
 use Rattle.sre_chars.specs.declared.constants.EmptyRule.{EmptyRule}
 use Rattle.sre_chars.specs.declared.string.StrDrive.{Ghosts}
 use Rattle.sre_chars.specs.declared.string.StringCursor.{StringCursor}
 use Rattle.sre_model.specs.Found.{Asked}
-use Rattle.sre_code.specs.Codes.{uni_of}
+use Rattle.sre_code.specs.Codes.{items_of, uni_of}
 use Rattle.sre_code.specs.declared.code.Code.{Code}
+use Rattle.sre_request.specs.declared.admitted.Admitted.{Admitted}
 use Rattle.sre_request.specs.declared.request.Request.{Request}
+use Rattle.sre_request.specs.Admitting.{AllAdmitted}
 
 -- the parts of a request
 abbrev pub string_of : {S : Type 0} {text : Ghosts S} → Request S text → S
@@ -46,3 +49,19 @@ asked_of {S} {text} r = record {
 -- which cursors stand at which position of a request's text
 abbrev pub stands_in : {S : Type 0} {text : Ghosts S} → Request S text → StringCursor → ℕ → Type 0
 stands_in {S} {text} r = text.stands r.string
+
+-- the same request with another list of what its code's places admit; the model asks of no list
+abbrev pub carrying : {S : Type 0} {text : Ghosts S} (r : Request S text) (list : Bor (List Admitted))
+    → AllAdmitted (items_of r.pattern_codes) list.now → Request S text
+carrying r list all = record {
+  string = r.string;
+  start = r.start;
+  end = r.end;
+  pattern_codes = r.pattern_codes;
+  match_all = r.match_all;
+  must_advance = r.must_advance;
+  empty_rule = r.empty_rule;
+  admitted = list;
+  in_window = r.in_window;
+  all_admitted = all;
+}

@@ -1,6 +1,8 @@
 //! What is asked of a search: a text, a window of it, a code, two flags and a rule.
 #![tactic(auto)]
 
+mod admitted;
 mod request;
 
+pub use admitted::Admitted;
 pub use request::Request;

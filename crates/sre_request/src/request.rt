@@ -1,13 +1,19 @@
 //! [`Request`]: what is asked of a search, part by part.
 
 ghost use Rattle.std.specs.Prelude.{⊤, ◌≡◌, ◌+◌, ◌^◌, ◌≤◌, length};
+ghost use Rattle.sre_code.specs.Codes.{items_of};
+ghost use Rattle.sre_request.specs.Admitting.{AllAdmitted, one_all_admitted};
 
+use crate::admitted::Admitted;
 use sre_chars::constants::EmptyRule;
 use sre_chars::string::StrDrive;
 use sre_code::Code;
 use std::alloc::AllocError;
 
 /// A text, a window of it, a code, two flags and the rule for non-boundaries on nothing. Positions count characters.
+///
+/// It may carry a list of what the places of its code admit, which changes no answer: a search goes by it where it is
+/// there.
 pub struct Request<'a, S: StrDrive> {
     string: S,
     start: usize,
@@ -16,7 +22,9 @@ pub struct Request<'a, S: StrDrive> {
     match_all: bool,
     must_advance: bool,
     empty_rule: EmptyRule,
+    admitted: &'a [Admitted],
     ghost in_window: { ((start ≤ end) × (end ≤ length (S.text string))) × (end + 1 ≤ 2 ^ 63) },
+    ghost all_admitted: { AllAdmitted (items_of pattern_codes) admitted.now } by { one_all_admitted },
 }
 
 impl<'a, S: StrDrive> Clone for Request<'a, S> {
@@ -34,7 +42,7 @@ impl<'a, S: StrDrive> Copy for Request<'a, S> {}
 impl<'a, S: StrDrive> Request<'a, S> {
     ghost use Rattle.std.specs.Prelude.{◌≡◌, ◌^◌, ◌<◌, ◌≤◌, length, min, false};
     ghost use Rattle.sre_request.specs.Requests.{string_of, start_of, end_of, code_of, match_all_of, must_advance_of};
-    ghost use Rattle.sre_request.specs.Requests.{empty_rule_of, asked_of};
+    ghost use Rattle.sre_request.specs.Requests.{empty_rule_of, asked_of, carrying};
 
     /// A request over the window from `start` to `end` of a text: `end` is held at the number of characters, and
     /// `start` at `end`. `must_advance` is not set, and no
@@ -63,6 +71,7 @@ impl<'a, S: StrDrive> Request<'a, S> {
             match_all,
             must_advance: false,
             empty_rule: EmptyRule::Never,
+            admitted: &[],
         }
     }
 
@@ -93,6 +102,19 @@ impl<'a, S: StrDrive> Request<'a, S> {
     pub(crate) fn copied(&self) -> Request<'a, S>
         ensures { result ≡ self.now }
     {
+        self.with_admitted(self.admitted)
+    }
+
+    /// The same request, with a list of what the places of its code admit in place of the one that it carried:
+    /// `admitted_by_place` of `sre_machine` tells it. It asks the same, and its answer is the same.
+    #[inline(always)]
+    pub fn with_admitted<'b>(&self, admitted: &'b [Admitted]) -> Request<'b, S>
+    where
+        'a: 'b,
+        requires { AllAdmitted (items_of (code_of self.now)) admitted.now }
+        ensures { (all : AllAdmitted (items_of (code_of self.now)) admitted.now)
+            → result ≡ carrying self.now admitted.entry all }
+    {
         Request {
             string: self.string,
             start: self.start,
@@ -101,7 +123,16 @@ impl<'a, S: StrDrive> Request<'a, S> {
             match_all: self.match_all,
             must_advance: self.must_advance,
             empty_rule: self.empty_rule,
+            admitted,
         }
+    }
+
+    /// The list that it carries: what each place of its code admits. Of places behind its end nothing is told.
+    #[inline(always)]
+    pub fn admitted(&self) -> &'a [Admitted]
+        ensures { AllAdmitted (items_of (code_of self.now)) result.now }
+    {
+        self.admitted
     }
 
     /// The text.

@@ -16,8 +16,8 @@ returns-then-length-eq0 g c =
 pub overflow_add-place : goal.overflow_add-place
 overflow_add-place g c = omega (arith, c.word-length.ensures.room)
 
-pub begin-requires-clause-stands : goal.begin-requires-clause-stands
-begin-requires-clause-stands g c =
+pub begin_by-first-requires-clause-stands : goal.begin_by-first-requires-clause-stands
+begin_by-first-requires-clause-stands g c =
     (alternatives_run (run_of c.args.req.now) _ _ c.args.cursor c.word-length.ensures.word
     (positive _ c.if-length-eq0.false) c.alternative.invariant.at).0
 

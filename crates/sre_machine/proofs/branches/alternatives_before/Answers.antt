@@ -4,20 +4,20 @@ use Rattle.sre_request.specs.Runs.{run_of}
 use Rattle.sre_turns.proofs.Faring.{alternatives_free}
 use Rattle.sre_turns.proofs.Moving.{exhausted_back, continues_goes, later_continues, both_exhausted, both_continue}
 use Rattle.sre_turns.proofs.StepsInBranches.{alternatives_run, alternatives_both}
-use Rattle.sre_machine.proofs.branches.alternatives.Goals as goal
+use Rattle.sre_machine.proofs.branches.alternatives_before.Goals as goal
 
 pub returns-in_default : goal.returns-in_default
 returns-in_default g c = exhausted_back (run_of c.args.req.now) _ c.args.cursor c.args.board.now c.in_default.ensures
 
-pub first_alternative-requires-2-clause-stands : goal.first_alternative-requires-2-clause-stands
-first_alternative-requires-2-clause-stands g c =
+pub other_alternative-others-requires-clause-stands : goal.other_alternative-others-requires-clause-stands
+other_alternative-others-requires-clause-stands g c =
     (alternatives_run (run_of c.args.req.now) c.in-Some.first.length_word c.word-length.result c.args.cursor
     c.word-length.ensures.word
     (subst (λ n. 0 < n) (word_of (run_of c.args.req.now).words _ _ c.word-length.ensures.word) c.in-Some.ensures.1)
     c.in-Some.ensures.0).1
 
-pub returns-in_default-first_alternative : goal.returns-in_default-first_alternative
-returns-in_default-first_alternative g c = λ all limit x.
+pub returns-in_default-others : goal.returns-in_default-others
+returns-in_default-others g c = λ all limit x.
     let r = run_of c.args.req.now in
     let b = c.args.board.now in
     let here = c.args.cursor in
@@ -27,7 +27,7 @@ returns-in_default-first_alternative g c = λ all limit x.
     all limit (continues_goes r _ _ here here c.in-Some.ensures.2 alternatives_free
     alternatives_free b all limit x) in
     later_continues r (first.length_word + 1) first.place here first.cursor b c.in-Some.ensures.3 all limit
-    (both_exhausted r _ _ here b c.in_default-first_alternative.ensures all limit both)
+    (both_exhausted r _ _ here b c.in_default-others.ensures all limit both)
 
 pub returns : goal.returns
 returns g c = λ all limit x.
@@ -40,4 +40,4 @@ returns g c = λ all limit x.
     all limit (continues_goes r _ _ here here c.in-Some.ensures.2 alternatives_free
     alternatives_free b all limit x) in
     c.in_ok-choose_alternative.ensures all limit
-    (both_continue r _ _ _ here b c.in-Some-first_alternative.ensures.2 all limit both)
+    (both_continue r _ _ _ here b c.in-Some-others.ensures all limit both)
