@@ -6,11 +6,13 @@ pub mod FirstSets
 pub mod Anchored
 pub mod Steps
 pub mod Seeking
+pub mod OptionalRuns
 pub mod PrefixWays
 pub mod Searching
 pub mod CandidateLaws
 pub mod Looking
 pub mod Telling
+pub mod Carrying
 pub mod Claiming
 pub mod FirstMembers
 pub mod AmongMembers

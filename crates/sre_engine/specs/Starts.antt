@@ -11,7 +11,7 @@ use Rattle.sre_model.specs.Found.{Asked, at_start}
 use Rattle.sre_model.specs.Subject.{Subject, after, holds_at}
 use Rattle.sre_model.specs.Runs.{Run}
 use Rattle.sre_model.specs.Standing.{HasTest}
-use Rattle.sre_model.specs.FirstCharacters.{NoWay, NotPassed}
+use Rattle.sre_model.specs.FirstCharacters.{NoWay, NotPassed, TreeStands}
 use Rattle.sre_reading.specs.AsciiSets.{TakesAscii}
 use Rattle.sre_engine.specs.declared.engine.first_characters.First.{First}
 use Rattle.sre_engine.specs.declared.engine.first_characters.Wanted.{Wanted}
@@ -41,6 +41,12 @@ Barred ws s first p = (p < first.back) ⊎ (IsElsewhere s first.at p ⊎ IsLacki
 -- from a start that is barred no tree of the words has a way
 pub record Bars (ws : List ℕ) (first : First) : Type 0 where
   pub none : (t : Tree) → WholeItems ws t → (s : Subject) (p : ℕ) → Barred ws s first p → NoWay s t p
+
+-- behind what stands at a place another tree is; where a test does not pass and that one has no way, nor has the whole
+pub record PassesRun (ws : List ℕ) (whole : Tree) (test i : ℕ) : Type 0 where
+  pub tree : Tree
+  pub stands : TreeStands ws i tree
+  pub none : (s : Subject) (p : ℕ) → NotPassed ws s test p → NoWay s tree p → NoWay s whole p
 
 -- a test is at a place, and takes these ASCII characters
 pub record IsSetThere (ws : List ℕ) (place : ℕ) (set : AsciiSet) : Type 0 where

@@ -1,5 +1,6 @@
 //! What is asked of the machine: a match, a search, the walk over all matches.
 
+mod admitted_places;
 mod anchors;
 mod candidates;
 mod first_characters;
@@ -14,10 +15,11 @@ mod walk;
 mod whole_walk;
 mod widths;
 
+pub use admitted_places::AdmittedPlaces;
 pub use search_iter::SearchIter;
 pub use sre_board::Marks;
 pub use sre_request::Request;
 pub use state::{SreError, State};
 pub use told::{Nobody, Starts};
-pub use walk::step_by;
+pub use walk::{step_admitted, step_by};
 pub use whole_walk::{Found, all_matches, all_matches_by};

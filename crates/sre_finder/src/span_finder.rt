@@ -2,6 +2,8 @@
 
 ghost use Rattle.std.specs.Prelude.{◌≡◌, IfOk, IfSome, OnErr, None};
 ghost use Rattle.sre_growth.specs.Refusal.{Refused};
+ghost use Rattle.sre_code.specs.Codes.{items_of};
+ghost use Rattle.sre_request.specs.Admitting.{AllAdmitted};
 ghost use Rattle.sre_request.specs.Requests.{string_of, start_of, code_of, stands_in};
 ghost use Rattle.sre_engine.specs.Answers.{MayTakeMemory};
 ghost use Rattle.sre_finder.specs.Finders.{EndStands};
@@ -12,7 +14,7 @@ use crate::haystack::Haystack;
 use sre_automata::{FirstMatch, Seeker};
 use sre_chars::string::{StrDrive, StringCursor};
 use sre_code::Code;
-use sre_engine::engine::{SreError, State, step_by};
+use sre_engine::engine::{AdmittedPlaces, SreError, State, step_admitted};
 use sre_patterns::{Encoding, ways_of};
 use sre_request::Request;
 use std::alloc::{Allocator, Global};
@@ -154,11 +156,14 @@ impl<'c> SpanFinder<'c> {
         req: &mut Request<'_, S>,
         state: &mut State<A>,
         cursor: &mut StringCursor,
+        places: &mut AdmittedPlaces<A>,
     ) -> Result<Option<StringCursor>, SreError>
         requires own { self.old.code ≡ code_of req.old }
+        requires admitted { AllAdmitted (items_of (code_of req.old)) places.old }
         requires known { EndStands (S.stands (string_of req.old)) self.old.end }
         requires stands { stands_in req.old cursor.old (start_of req.old) }
         ensures own { self.new.code ≡ code_of req.new }
+        ensures admitted { AllAdmitted (items_of (code_of req.new)) places.new }
         ensures known { EndStands (S.stands (string_of req.new)) self.new.end }
         ensures some { IfOk result (λ o. IfSome o (λ start. StepsFrom req.old start req.new)) }
         ensures none { IfOk result (λ o. o ≡ None → (req.new ≡ req.old) × FindsNone req.old) }
@@ -168,7 +173,8 @@ impl<'c> SpanFinder<'c> {
         ensures literal { OnErr result (MayTakeMemory (code_of req.old)) }
     {
         let from = *cursor;
-        if !step_by(req, state, cursor, &mut self.finder)? {
+        places.note_step(req);
+        if !step_admitted(req, state, cursor, &mut self.finder, places.list())? {
             return Ok(None);
         }
         let mut start = from;
@@ -183,11 +189,14 @@ impl<'c> SpanFinder<'c> {
         req: &mut Request<'_, S>,
         state: &mut State<A>,
         cursor: &mut StringCursor,
+        places: &mut AdmittedPlaces<A>,
     ) -> Result<Option<StringCursor>, SreError>
         requires own { self.old.code ≡ code_of req.old }
+        requires admitted { AllAdmitted (items_of (code_of req.old)) places.old }
         requires known { EndStands (S.stands (string_of req.old)) self.old.end }
         requires stands { stands_in req.old cursor.old (start_of req.old) }
         ensures own { self.new.code ≡ code_of req.new }
+        ensures admitted { AllAdmitted (items_of (code_of req.new)) places.new }
         ensures known { EndStands (S.stands (string_of req.new)) self.new.end }
         ensures some { IfOk result (λ o. IfSome o (λ start. StepsFrom req.old start req.new)) }
         ensures none { IfOk result (λ o. o ≡ None → (req.new ≡ req.old) × FindsNone req.old) }
@@ -197,7 +206,7 @@ impl<'c> SpanFinder<'c> {
         ensures literal { OnErr result (MayTakeMemory (code_of req.old)) }
     {
         if self.exact.is_none() {
-            return self.run(req, state, cursor);
+            return self.run(req, state, cursor, places);
         }
         match self.known(req, *cursor) {
             Known::Nothing => Ok(None),
@@ -207,7 +216,7 @@ impl<'c> SpanFinder<'c> {
                 req.set_start(end.position());
                 Ok(Some(start))
             }
-            Known::Unknown => self.run(req, state, cursor),
+            Known::Unknown => self.run(req, state, cursor, places),
         }
     }
 }

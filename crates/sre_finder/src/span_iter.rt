@@ -6,7 +6,8 @@ ghost use Rattle.sre_model.specs.Tree.{Tree};
 ghost use Rattle.sre_model.specs.Grammar.{Whole};
 ghost use Rattle.sre_model.specs.Marks.{no_marks};
 ghost use Rattle.sre_model.specs.Found.{found};
-ghost use Rattle.sre_code.specs.Codes.{words_of};
+ghost use Rattle.sre_code.specs.Codes.{items_of, words_of};
+ghost use Rattle.sre_request.specs.Admitting.{AllAdmitted, one_all_admitted};
 ghost use Rattle.sre_request.specs.Requests.{string_of, start_of, end_of, code_of, stands_in};
 ghost use Rattle.sre_engine.specs.Answers.{answer_of};
 ghost use Rattle.sre_finder.specs.Finders.{EndStands};
@@ -14,7 +15,7 @@ ghost use Rattle.sre_finder.specs.Finders.{EndStands};
 use crate::haystack::Haystack;
 use crate::span_finder::SpanFinder;
 use sre_chars::string::{StrDrive, StringCursor};
-use sre_engine::engine::{Nobody, SreError, State, step_by};
+use sre_engine::engine::{AdmittedPlaces, Nobody, SreError, State, step_admitted};
 use sre_request::Request;
 use std::alloc::Allocator;
 
@@ -38,11 +39,13 @@ pub struct SpanIter<'c, 'a, S: StrDrive, A: Allocator + Copy> {
     at: StringCursor,
     advances: bool,
     ended: bool,
+    places: AdmittedPlaces<A>,
     ghost own: { finder.code ≡ code_of req },
     ghost known: { ∥ EndStands (S.stands (string_of req)) finder.end ∥₁ },
     ghost here: { ∥ (stands_in req cursor (start_of req)) ∥₁ },
     ghost last: { ∥ (stands_in req at at.position) ∥₁ },
     ghost inside: { at.position ≤ end_of req },
+    ghost admitted: { AllAdmitted (items_of (code_of req)) places } by { one_all_admitted },
 }
 
 impl<'c> SpanFinder<'c> {
@@ -64,6 +67,7 @@ impl<'c> SpanFinder<'c> {
         finder.reset();
         let cursor = req.string().create_cursor(req.start());
         let advances = req.must_advance();
+        let places = AdmittedPlaces::new(&state);
         SpanIter {
             finder,
             req,
@@ -72,6 +76,7 @@ impl<'c> SpanFinder<'c> {
             at: cursor,
             advances,
             ended: false,
+            places,
         }
     }
 }
@@ -117,7 +122,9 @@ impl<'c, 'a, S: StrDrive, A: Allocator + Copy> SpanIter<'c, 'a, S, A> {
         req.set_must_advance(self.advances);
         req.set_start(self.at.position());
         let mut cursor = self.at;
-        let shown = step_by(&mut req, &mut self.state, &mut cursor, &mut Nobody)?;
+        self.places.note_step(&self.req);
+        let (state, admitted) = (&mut self.state, self.places.list());
+        let shown = step_admitted(&mut req, state, &mut cursor, &mut Nobody, admitted)?;
         Ok(shown)
     }
 
@@ -125,8 +132,13 @@ impl<'c, 'a, S: StrDrive, A: Allocator + Copy> SpanIter<'c, 'a, S, A> {
     pub fn into_finder(self) -> SpanFinder<'c>
         ensures { result.code ≡ code_of (request_of self.entry) }
     {
-        let SpanIter { finder, state, .. } = self;
-        drop(state);
+        let SpanIter {
+            finder,
+            state,
+            places,
+            ..
+        } = self;
+        drop((state, places));
         finder
     }
 }
@@ -151,10 +163,12 @@ impl<'c, 'a, S: Haystack, A: Allocator + Copy> SpanIter<'c, 'a, S, A> {
         }
         let from = self.req.start();
         let must_advance = self.req.must_advance();
-        match self
-            .finder
-            .step(&mut self.req, &mut self.state, &mut self.cursor)
-        {
+        match self.finder.step(
+            &mut self.req,
+            &mut self.state,
+            &mut self.cursor,
+            &mut self.places,
+        ) {
             Ok(Some(at)) => {
                 self.at = at;
                 let start = at.position();

@@ -1,6 +1,6 @@
 //! What has to come first in each match, as a code's first words tell it.
 
-ghost use Rattle.std.specs.Prelude.{◌≡◌, ◌⊎◌, ◌+◌, ◌<◌, ℕ, length, true, IfSome};
+ghost use Rattle.std.specs.Prelude.{◌≡◌, ◌⊎◌, ◌+◌, ◌^◌, ◌<◌, ◌≤◌, ℕ, length, true, IfSome};
 ghost use Rattle.sre_chars.specs.Numbers.{at_number};
 ghost use Rattle.sre_model.specs.Tree.{Tree, Trees};
 ghost use Rattle.sre_model.specs.Subject.{Subject};
@@ -9,7 +9,7 @@ ghost use Rattle.sre_model.specs.Standing.{HasTest};
 ghost use Rattle.sre_model.specs.FirstCharacters.{NoWay, NoneOf, NotPassed, Leads};
 ghost use Rattle.sre_model.specs.FirstCharacters.{TreeStands, HasTree, HasAlternatives};
 ghost use Rattle.sre_model.specs.Roles.{begins_test};
-ghost use Rattle.sre_engine.specs.Starts.{IsElsewhere, NotAmong, IsLacking, Bars, TestsThere};
+ghost use Rattle.sre_engine.specs.Starts.{IsElsewhere, NotAmong, IsLacking, Bars, TestsThere, PassesRun};
 
 use sre_chars::constants::{SreAtCode, SreOpcode};
 use sre_code::ascii_set::AsciiSet;
@@ -73,6 +73,7 @@ struct Reached {
 fn follow(words: &[u32], start: usize) -> Reached
     requires { HasTree words.now start }
     ensures leads { (t : Tree) → TreeStands words.now start t → Leads words.now t result.place result.back }
+    ensures on { start ≤ result.place }
     ensures at { (t : Tree) → TreeStands words.now start t → (s : Subject) (p : ℕ) → IsElsewhere s result.at p
         → NoWay s t p }
 {
@@ -167,8 +168,22 @@ fn wanted_by(words: &[u32], test: usize, reads_sets: bool) -> Wanted
     }
 }
 
-// What is wanted of the character at which a tree at a place begins: what a test asks for, or the alternatives of a
-// branch, where sets are to be read.
+// The ASCII characters with which a tree at a place may begin, where its alternatives tell them, or runs that owe no
+// character and what is behind them.
+fn characters_at(words: &[u32], place: usize) -> Option<AsciiSet>
+    requires { HasTree words.now place }
+    ensures { (t : Tree) → TreeStands words.now place t
+        → IfSome result (λ set. (s : Subject) (p : ℕ) → NotAmong s set p → NoWay s t p) }
+{
+    if word(words, place) != SreOpcode::BRANCH as u32 {
+        return beyond_runs(words, place);
+    }
+    let characters = first_characters(words, place + 1)?;
+    Some(characters)
+}
+
+// What is wanted of the character at which a tree at a place begins: what a test asks for, or, where sets are to be
+// read, the characters with which it may begin.
 fn wanted_at(words: &[u32], place: usize, reads_sets: bool) -> Wanted
     requires { HasTree words.now place }
     ensures bars { (t : Tree) → TreeStands words.now place t → (s : Subject) (p : ℕ) → IsLacking words.now s result p
@@ -178,12 +193,58 @@ fn wanted_at(words: &[u32], place: usize, reads_sets: bool) -> Wanted
     if let Some(test) = wanted_test(words, place) {
         return wanted_by(words, test, reads_sets);
     }
-    if !reads_sets || word(words, place) != SreOpcode::BRANCH as u32 {
+    if !reads_sets {
         return Wanted::Anything;
     }
-    match first_characters(words, place + 1) {
+    match characters_at(words, place) {
         Some(characters) => Wanted::Characters(characters),
         None => Wanted::Anything,
+    }
+}
+
+// Behind a run at a place that owes no character, if one stands there.
+fn behind_run(words: &[u32], place: usize) -> Option<usize>
+    requires { HasTree words.now place }
+    ensures passes { (t : Tree) → TreeStands words.now place t
+        → IfSome result (λ behind. PassesRun words.now t (place + 4) behind) }
+    ensures test { IfSome result (λ _. HasTest words.now (place + 4)) }
+    ensures on { IfSome result (λ behind. (place < behind) × (place + 2 ^ 33 < 2 ^ 64)) }
+{
+    let opcode = SreOpcode::try_from(word(words, place)).ok()?;
+    match opcode {
+        SreOpcode::REPEAT_ONE | SreOpcode::MIN_REPEAT_ONE | SreOpcode::POSSESSIVE_REPEAT_ONE => {
+            if operand(words, place, 2) > 0 {
+                return None;
+            }
+            let skip = operand(words, place, 1) as usize;
+            Some(place + 1 + skip)
+        }
+        _ => None,
+    }
+}
+
+// The ASCII characters with which a tree at a place may begin, where runs stand there that owe no character: what the
+// runs take, and what the test behind them does.
+fn beyond_runs(words: &[u32], start: usize) -> Option<AsciiSet>
+    requires { HasTree words.now start }
+    ensures { (t : Tree) → TreeStands words.now start t
+        → IfSome result (λ set. (s : Subject) (p : ℕ) → NotAmong s set p → NoWay s t p) }
+{
+    let mut place = start;
+    let mut characters = AsciiSet::new();
+    'run: loop {
+        let reached = follow(words, place);
+        if reached.back > 0 {
+            return None;
+        }
+        if let Some(test) = wanted_test(words, reached.place) {
+            let own = ascii_taken(words, test)?;
+            return Some(characters.union(own));
+        }
+        let behind = behind_run(words, reached.place)?;
+        let own = ascii_taken(words, reached.place + 4)?;
+        characters = characters.union(own);
+        place = behind;
     }
 }
 

@@ -2,11 +2,14 @@
 
 ghost use Rattle.std.specs.Prelude.{◌≡◌, ◌<◌, true, false, IfSome, None};
 ghost use Rattle.sre_model.specs.Marks.{no_marks};
+ghost use Rattle.sre_code.specs.Codes.{items_of};
+ghost use Rattle.sre_request.specs.Admitting.{AllAdmitted, one_all_admitted};
 ghost use Rattle.sre_request.specs.Requests.{string_of, start_of, code_of, asked_of, stands_in};
 
+use crate::engine::admitted_places::AdmittedPlaces;
 use crate::engine::state::{SreError, State};
 use crate::engine::told::{Nobody, Starts};
-use crate::engine::walk::{step_by, step_within};
+use crate::engine::walk::{step_admitted, step_within};
 use sre_chars::string::{StrDrive, StringCursor};
 use sre_machine::allowance::Allowance;
 use sre_machine::turns::Halt;
@@ -20,6 +23,10 @@ use std::alloc::{Allocator, Global};
 /// as `Some(false)`, or with an error, which means that a growth of the state's memory was refused; from then on there
 /// is no item, there are no marks, and `req` is as it was. A window of n characters has at most 2n + 1 matches. No step
 /// counts characters from the start on.
+///
+/// Of a code with three alternatives or more, behind some steps, a list tells what may come next at each place, if much
+/// of the window is left: 32 bytes for each word of the code, of 4,096 words at most, from the state's allocator. A
+/// refusal of that memory is no error: the walk goes on without.
 ///
 /// ```
 /// // The words of `a`.
@@ -38,8 +45,10 @@ pub struct SearchIter<'a, S: StrDrive, A: Allocator + Copy = Global> {
     state: State<A>,
     cursor: StringCursor,
     ended: bool,
+    places: AdmittedPlaces<A>,
     ghost here: { ∥ (stands_in req cursor (start_of req)) ∥₁ },
     ghost over: { ended ≡ true → state.marks ≡ no_marks },
+    ghost admitted: { AllAdmitted (items_of (code_of req)) places } by { one_all_admitted },
 }
 
 impl<'a, S: StrDrive, A: Allocator + Copy> SearchIter<'a, S, A> {
@@ -54,11 +63,13 @@ impl<'a, S: StrDrive, A: Allocator + Copy> SearchIter<'a, S, A> {
         ensures open { has_ended result ≡ false }
     {
         let cursor = req.string().create_cursor(req.start());
+        let places = AdmittedPlaces::new(&state);
         SearchIter {
             req,
             state,
             cursor,
             ended: false,
+            places,
         }
     }
 
@@ -87,9 +98,11 @@ impl<'a, S: StrDrive, A: Allocator + Copy> SearchIter<'a, S, A> {
         if self.ended {
             return Ok(Some(false));
         }
+        self.places.note_step(&self.req);
         let mut allowed = Allowance::Turns(*turns);
         let (req, state, cursor) = (&mut self.req, &mut self.state, &mut self.cursor);
-        let told = step_within(req, state, cursor, &mut allowed, &mut Nobody);
+        let admitted = self.places.list();
+        let told = step_within(req, state, cursor, &mut allowed, &mut Nobody, admitted);
         *turns = allowed.left();
         match told {
             Ok(true) => Ok(Some(true)),
@@ -115,7 +128,9 @@ impl<'a, S: StrDrive, A: Allocator + Copy> SearchIter<'a, S, A> {
         if self.ended {
             return None;
         }
-        match step_by(&mut self.req, &mut self.state, &mut self.cursor, starts) {
+        self.places.note_step(&self.req);
+        let (req, state, cursor) = (&mut self.req, &mut self.state, &mut self.cursor);
+        match step_admitted(req, state, cursor, starts, self.places.list()) {
             Ok(true) => Some(Ok(())),
             Ok(false) => {
                 self.ended = true;

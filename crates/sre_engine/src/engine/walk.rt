@@ -1,12 +1,14 @@
 //! One step of a walk: the next match, and what is asked after it.
 
 ghost use Rattle.std.specs.Prelude.{◌≡◌, OnErr};
+ghost use Rattle.sre_code.specs.Codes.{items_of};
+ghost use Rattle.sre_request.specs.Admitting.{AllAdmitted};
 ghost use Rattle.sre_request.specs.Requests.{string_of, start_of, code_of, stands_in};
 ghost use Rattle.sre_machine.specs.Allowances.{is_limited};
 ghost use Rattle.sre_engine.specs.Answers.{MayTakeMemory};
 ghost use Rattle.sre_engine.specs.Costs.{Charged};
 ghost use Rattle.sre_engine.specs.Counts.{BeginsAgain, runs_of};
-ghost use Rattle.sre_engine.specs.Searches.{Stepped, RunsOnceAnchored};
+ghost use Rattle.sre_engine.specs.Searches.{Answered, Stepped, RunsOnceAnchored};
 ghost use Rattle.sre_growth.specs.Refusal.{Refused};
 
 use crate::engine::state::{SreError, State};
@@ -14,8 +16,35 @@ use crate::engine::told::Starts;
 use sre_chars::string::{StrDrive, StringCursor};
 use sre_machine::allowance::Allowance;
 use sre_machine::turns::Halt;
-use sre_request::Request;
+use sre_request::{Admitted, Request};
 use std::alloc::Allocator;
+
+// Searches as `State::search_from` does, by what the places of the code admit where that is told.
+#[inline(always)]
+fn search_admitted<S: StrDrive, A: Allocator + Copy, F: Starts<S>>(
+    req: &Request<'_, S>,
+    state: &mut State<A>,
+    from: StringCursor,
+    allowed: &mut Allowance,
+    starts: &mut F,
+    admitted: &[Admitted],
+) -> Result<bool, Halt>
+    requires stands { stands_in req.now from (start_of req.now) }
+    requires suits { F.suits starts.old (string_of req.now) (code_of req.now) }
+    requires admitted { AllAdmitted (items_of (code_of req.now)) admitted.now }
+    ensures suits { F.suits starts.new (string_of req.now) (code_of req.now) }
+    ensures answers { Answered req.now result state.new }
+    ensures again { BeginsAgain (is_limited allowed.old) state.new }
+    ensures charged { Charged req.now result state.new.started (runs_of state.new) allowed.old allowed.new }
+    ensures anchored { RunsOnceAnchored req.now state.new }
+    ensures literal { OnErr result (MayTakeMemory (code_of req.now)) }
+{
+    if admitted.is_empty() {
+        return state.search_from(req, from, allowed, starts);
+    }
+    let asked = req.with_admitted(admitted);
+    state.search_from(&asked, from, allowed, starts)
+}
 
 /// Searches from a cursor that stands at the window's start. After a match, which the state shows, the request starts
 /// at its end, where the cursor stands, and must advance where the match was empty. So no step counts characters from
@@ -29,9 +58,11 @@ pub(crate) fn step_within<S: StrDrive, A: Allocator + Copy, F: Starts<S>>(
     cursor: &mut StringCursor,
     allowed: &mut Allowance,
     starts: &mut F,
+    admitted: &[Admitted],
 ) -> Result<bool, Halt>
     requires stands { stands_in req.old cursor.old (start_of req.old) }
     requires suits { F.suits starts.old (string_of req.old) (code_of req.old) }
+    requires admitted { AllAdmitted (items_of (code_of req.old)) admitted.now }
     ensures suits { F.suits starts.new (string_of req.new) (code_of req.new) }
     ensures stepped { Stepped req.old result state.new req.new }
     ensures here { stands_in req.new cursor.new (start_of req.new) }
@@ -40,7 +71,7 @@ pub(crate) fn step_within<S: StrDrive, A: Allocator + Copy, F: Starts<S>>(
     ensures anchored { RunsOnceAnchored req.old state.new }
     ensures literal { OnErr result (MayTakeMemory (code_of req.old)) }
 {
-    if !state.search_from(req, *cursor, allowed, starts)? {
+    if !search_admitted(req, state, *cursor, allowed, starts, admitted)? {
         return Ok(false);
     }
     *cursor = state.cursor();
@@ -67,7 +98,36 @@ pub fn step_by<S: StrDrive, A: Allocator + Copy, F: Starts<S>>(
     ensures once { state.new.restarted ≡ 0 }
     ensures literal { OnErr result (MayTakeMemory (code_of req.old)) }
 {
-    match step_within(req, state, cursor, &mut Allowance::Unlimited, starts) {
+    step_admitted(req, state, cursor, starts, &[])
+}
+
+/// The same, by what the places of the code admit, if the list is not empty: it changes no answer.
+pub fn step_admitted<S: StrDrive, A: Allocator + Copy, F: Starts<S>>(
+    req: &mut Request<'_, S>,
+    state: &mut State<A>,
+    cursor: &mut StringCursor,
+    starts: &mut F,
+    admitted: &[Admitted],
+) -> Result<bool, SreError>
+    requires stands { stands_in req.old cursor.old (start_of req.old) }
+    requires suits { F.suits starts.old (string_of req.old) (code_of req.old) }
+    requires admitted { AllAdmitted (items_of (code_of req.old)) admitted.now }
+    ensures suits { F.suits starts.new (string_of req.new) (code_of req.new) }
+    ensures stepped { Stepped req.old result state.new req.new }
+    ensures here { stands_in req.new cursor.new (start_of req.new) }
+    ensures refused { OnErr result Refused }
+    ensures anchored { RunsOnceAnchored req.old state.new }
+    ensures once { state.new.restarted ≡ 0 }
+    ensures literal { OnErr result (MayTakeMemory (code_of req.old)) }
+{
+    match step_within(
+        req,
+        state,
+        cursor,
+        &mut Allowance::Unlimited,
+        starts,
+        admitted,
+    ) {
         Ok(found) => Ok(found),
         Err(Halt::Refused(refusal)) => Err(SreError::from(refusal)),
         Err(Halt::UsedUp) => unreachable!(),

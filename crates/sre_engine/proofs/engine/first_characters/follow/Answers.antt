@@ -19,6 +19,7 @@ use Rattle.sre_engine.proofs.engine.first_characters.follow.Goals as goal
 pub item-init : goal.item-init
 item-init c = record {
   within = tree_within c.args.words.now c.args.start c.requires;
+  on = omega arith;
   leads = λ t stands. leads_start c.args.words.now t c.args.start stands;
   at = λ t stands s p e. absurd e;
 }
@@ -31,6 +32,7 @@ item-preserved-in-MARK c =
     (λ u stands. mark_leads ws u _ stands (role_here _ _ opcode.MARK ToMark code refl)) (omega arith) in
     record {
       within = tree_within ws _ (leads_tree ws _ _ _ further c.requires);
+      on = omega (arith, c.item.invariant.on);
       leads = further;
       at = c.item.invariant.at;
     }
@@ -44,6 +46,7 @@ item-preserved-in-ATOMIC_GROUP c =
     atomic_leads ws u _ stands (role_here _ _ opcode.ATOMIC_GROUP ToGroupAtomically code refl)) (omega arith) in
     record {
       within = tree_within ws _ (leads_tree ws _ _ _ further c.requires);
+      on = omega (arith, c.item.invariant.on);
       leads = further;
       at = c.item.invariant.at;
     }
@@ -63,6 +66,7 @@ item-preserved-in-ASSERT c =
     (λ u stands. look_leads ws u _ stands _ code c.operand-far.ensures.word) (search rules) in
     record {
       within = tree_within ws _ (leads_tree ws _ _ _ further c.requires);
+      on = omega (arith, c.item.invariant.on);
       leads = further;
       at = c.item.invariant.at;
     }
@@ -95,6 +99,7 @@ item-preserved-in-AT c =
     (λ u stands. at_leads ws u _ stands here) (omega arith) in
     record {
       within = tree_within ws _ (leads_tree ws _ _ _ further c.requires);
+      on = omega (arith, c.item.invariant.on);
       leads = further;
       at =
           position_bars ws _ _ _ c.item.reached.at _ c.item.invariant.leads here c.item.invariant.at
@@ -122,6 +127,7 @@ item-preserved c =
     (omega arith) in
     record {
       within = tree_within ws _ (leads_tree ws _ _ _ further c.requires);
+      on = omega (arith, c.item.invariant.on);
       leads = further;
       at = c.item.invariant.at;
     }

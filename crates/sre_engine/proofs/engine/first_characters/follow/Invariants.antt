@@ -1,4 +1,4 @@
-use Rattle.std.proofs.Common.{◌-◌, ◌<◌, ℕ, length}
+use Rattle.std.proofs.Common.{◌-◌, ◌<◌, ◌≤◌, ℕ, length}
 use Rattle.sre_model.specs.Tree.{Tree}
 use Rattle.sre_model.specs.Subject.{Subject}
 use Rattle.sre_model.specs.FirstCharacters.{NoWay, TreeStands, Leads}
@@ -8,6 +8,7 @@ use Rattle.sre_engine.proofs.engine.first_characters.follow.Given as goal
 abbrev pub invariant-item : goal.invariant-item
 invariant-item l = record {
   within : l.reached.place < length l.words;
+  on : l.fn.start ≤ l.reached.place;
   leads : (t : Tree) → TreeStands l.words l.fn.start t → Leads l.words t l.reached.place l.reached.back;
   at : (t : Tree) → TreeStands l.words l.fn.start t → (s : Subject) (p : ℕ) → IsElsewhere s l.reached.at p
       → NoWay s t p;

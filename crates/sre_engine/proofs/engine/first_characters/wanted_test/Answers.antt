@@ -1,20 +1,9 @@
-use Rattle.std.proofs.Common.{◌≡◌, ◌⊎◌, ℕ, List, inl, inr, ap, rules}
-use Rattle.sre_chars.specs.declared.constants.SreOpcode.{SreOpcode}
-use Rattle.sre_chars.specs.declared.constants.SreOpcode.TheVariants as opcode
-use Rattle.sre_model.specs.Tree.{RunKind, GreedyRun, LazyRun, PossessiveRun}
+use Rattle.std.proofs.Common.{rules}
 use Rattle.sre_model.specs.Grammar.{Opcode}
-use Rattle.sre_model.specs.Roles.{ToRun, role}
-use Rattle.sre_model.proofs.Families.{HasRole, role_here}
 use Rattle.sre_model.proofs.FirstCharacters.{tree_within, test_there, test_bars, run_operand, run_there, run_bars}
 use Rattle.sre_model.proofs.FirstCharacters.{some_test_here}
+use Rattle.sre_engine.proofs.OptionalRuns.{run_here}
 use Rattle.sre_engine.proofs.engine.first_characters.wanted_test.Goals as goal
-
-run_here : (ws : List ℕ) (i : ℕ) (o : SreOpcode) → Opcode ws i o
-    → (o ≡ opcode.REPEAT_ONE) ⊎ ((o ≡ opcode.MIN_REPEAT_ONE) ⊎ (o ≡ opcode.POSSESSIVE_REPEAT_ONE))
-    → (kind : RunKind) × HasRole ws i (ToRun kind)
-run_here ws i o w (inl e) = (GreedyRun, role_here ws i o (ToRun GreedyRun) w (ap role e))
-run_here ws i o w (inr (inl e)) = (LazyRun, role_here ws i o (ToRun LazyRun) w (ap role e))
-run_here ws i o w (inr (inr e)) = (PossessiveRun, role_here ws i o (ToRun PossessiveRun) w (ap role e))
 
 pub word-requires : goal.word-requires
 word-requires c = tree_within c.args.words.now c.args.place c.requires

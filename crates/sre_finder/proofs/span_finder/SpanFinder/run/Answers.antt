@@ -6,16 +6,16 @@ use Rattle.sre_finder.proofs.span_finder.SpanFinder.run.Goals as goal
 pub returns-clause-some : goal.returns-clause-some
 returns-clause-some g c =
     let asked = c.args.req.now in
-    let ok = c.in_ok-step_by.ensures.stepped in
+    let ok = c.in_ok-step_admitted.ensures.stepped in
     let yes = c.if-not-branch.false in
     let goes = ok.yes yes in
     let start = c.skip.new.cursor in
     let there = g.met.S.StrDrive.stands_at c.string.result start _ c.skip.ensures in
     let here = g.met.S.StrDrive.stands_at (string_of asked) c.args.cursor.now (start_of asked) c.requires.stands in
-    let at : start.position ≡ c.step_by.new.state.start =
+    let at : start.position ≡ c.step_admitted.new.state.start =
     omega (arith, there.0, here.0, c.start.ensures, c.position.ensures, goes.from) in
     let steps =
-    steps_span asked c.in_ok-step_by.field-0 c.step_by.new.state c.step_by.new.req ok.ok yes goes start.position at in
+    steps_span asked c.in_ok-step_admitted.field-0 c.step_admitted.new.state c.step_admitted.new.req ok.ok yes goes start.position at in
     record {
       begins =
           subst (λ x. g.S.StrDrive.stands x start start.position) (c.string.ensures ∙ goes.string)

@@ -15,5 +15,6 @@ invariant_of-result g c =
       known = ∣ subst (EndStands stands) (sym c.reset.ensures.end) tt ∣₁;
       here = ∣ here ∣₁;
       last = ∣ subst (stands cursor) (sym at) here ∣₁;
+      admitted = c.new-places.ensures.admitted _;
       inside = omega (arith, at, c.start.ensures.value, c.start.ensures.in_window);
     }

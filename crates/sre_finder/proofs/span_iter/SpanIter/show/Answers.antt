@@ -8,8 +8,8 @@ use Rattle.sre_finder.specs.SpanIters.{last_asked}
 use Rattle.sre_finder.proofs.Spans.{step_answers}
 use Rattle.sre_finder.proofs.span_iter.SpanIter.show.Goals as goal
 
-pub step_by-requires-clause-stands : goal.step_by-requires-clause-stands
-step_by-requires-clause-stands g c =
+pub step_admitted-requires-clause-stands : goal.step_admitted-requires-clause-stands
+step_admitted-requires-clause-stands g c =
     let it = c.args.self.now in
     let own : c.in-Ok.req ≡ it.req = search rules in
     let last = c.set_start.ensures in
@@ -31,7 +31,7 @@ returns-clause-answer g c = λ t whole.
     ∙ ap₂ (λ (a : Asked) p. record a { start = p }) (first.asked
     ∙ ap (λ q. record (asked_of q) { must_advance = it.advances }) own) c.position.ensures in
     let code = last.pattern_codes ∙ first.pattern_codes ∙ ap code_of own in
-    step_answers r c.in_ok-shown.shown c.step_by.new.state c.step_by.new.req c.in_ok-shown.ensures.stepped.ok t
+    step_answers r c.in_ok-shown.shown c.step_admitted.new.state c.step_admitted.new.req c.in_ok-shown.ensures.stepped.ok t
     (subst (λ d. Whole (words_of d) t) (sym code) whole)
     ∙ ap (λ a. found a t) asked
 
@@ -40,6 +40,6 @@ returns-clause-cursor g c = λ yes.
     let it = c.args.self.now in
     let own : c.in-Ok.req ≡ it.req = search rules in
     let string = c.set_start.ensures.string ∙ c.set_must_advance.ensures.string ∙ ap string_of own in
-    let end = c.step_by.new.state.cursor in
+    let end = c.step_admitted.new.state.cursor in
     subst (λ x. g.S.StrDrive.stands x end end.position) string
     (c.in_ok-shown.ensures.stepped.yes yes).stands

@@ -4,7 +4,7 @@ use Rattle.sre_model.specs.Grammar.{Opcode}
 use Rattle.sre_model.specs.Roles.{ToBranch}
 use Rattle.sre_model.proofs.Families.{role_here}
 use Rattle.sre_model.proofs.FirstCharacters.{tree_within, branch_there, branch_bars}
-use Rattle.sre_engine.proofs.engine.first_characters.wanted_at.Goals as goal
+use Rattle.sre_engine.proofs.engine.first_characters.characters_at.Goals as goal
 
 pub word-requires : goal.word-requires
 word-requires c = tree_within c.args.words.now c.args.place c.requires
@@ -14,8 +14,8 @@ first_characters-requires c =
     let code : Opcode c.args.words.now c.args.place opcode.BRANCH = search rules in
     branch_there c.args.words.now _ _ c.requires.stands (role_here _ _ opcode.BRANCH ToBranch code refl)
 
-pub returns-in-Some-first_characters-clause-bars : goal.returns-in-Some-first_characters-clause-bars
-returns-in-Some-first_characters-clause-bars c = λ t stands s p lacking.
+pub returns : goal.returns
+returns c = λ t stands s p lacking.
     let code : Opcode c.args.words.now c.args.place opcode.BRANCH = search rules in
     branch_bars c.args.words.now t _ stands (role_here _ _ opcode.BRANCH ToBranch code refl) s p
-    (λ j ts reads. c.in-Some-first_characters.ensures j ts reads s p lacking)
+    (λ j ts reads. c.in_ok-characters.ensures j ts reads s p lacking)

@@ -1,0 +1,47 @@
+-- A request that carries a list of what its code's places admit asks what it asked without: what a search says of one
+-- holds of the other.
+use Rattle.std.proofs.Common.{◌≡◌, ℕ, Bool, List, Result, Ok, Err, IfErr, Bor}
+use Rattle.sre_chars.specs.declared.string.StrDrive.{Ghosts}
+use Rattle.sre_code.specs.Codes.{items_of}
+use Rattle.sre_request.specs.Admitting.{AllAdmitted}
+use Rattle.sre_request.specs.Requests.{carrying}
+use Rattle.sre_request.specs.declared.admitted.Admitted.{Admitted}
+use Rattle.sre_request.specs.declared.request.Request.{Request}
+use Rattle.sre_machine.specs.declared.allowance.Allowance.{Allowance}
+use Rattle.sre_machine.specs.declared.turns.Halt.{Halt}
+use Rattle.sre_machine.specs.declared.turns.Halt.TheVariants as halt
+use Rattle.sre_engine.specs.Answers.{Shown}
+use Rattle.sre_engine.specs.Costs.{SearchGivenUp, Charged}
+use Rattle.sre_engine.specs.Searches.{Answered}
+
+module _ {S : Type 0} {text : Ghosts S} (r : Request S text) (list : Bor (List Admitted))
+    (all : AllAdmitted (items_of r.pattern_codes) list.now) where
+  pub answered_alike : (told : Result Bool Halt) (s : Shown) → Answered (carrying r list all) told s
+      → Answered r told s
+  answered_alike told s x = record {
+    answer = x.answer;
+    cursor = x.cursor;
+    span = x.span;
+    no = x.no;
+    err = x.err;
+    counts = x.counts;
+    up_to_match = x.up_to_match;
+  }
+
+  given_up_alike : (told : Result Bool Halt) (given left runs : ℕ)
+      → IfErr told (λ why. why ≡ halt.UsedUp → SearchGivenUp (carrying r list all) given left runs)
+      → IfErr told (λ why. why ≡ halt.UsedUp → SearchGivenUp r given left runs)
+  given_up_alike (Ok b) given left runs x = tt
+  given_up_alike (Err why) given left runs x = λ used.
+      let gone = x used in
+      record { cost = λ pl. gone.cost (record { plain = pl.plain; room = pl.room; order = pl.order }) }
+
+  pub charged_alike : (told : Result Bool Halt) (started runs : ℕ) (a a' : Allowance)
+      → Charged (carrying r list all) told started runs a a' → Charged r told started runs a a'
+  charged_alike told started runs a a' x = record {
+    limited = x.limited;
+    fewer = x.fewer;
+    spent = x.spent;
+    halted = x.halted;
+    given_up = given_up_alike told _ _ started x.given_up;
+  }

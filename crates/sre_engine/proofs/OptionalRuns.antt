@@ -1,0 +1,107 @@
+-- Runs that owe no character, where a tree begins with them: it may begin with what is behind them, too.
+use Rattle.std.proofs.Common.{◌≡◌, ℕ, ◌+◌, ◌-◌, true, false, List, [], refl, sym, ap, ◌∙◌, subst, arith}
+use Rattle.std.proofs.Common.{true≢false, ◌⊎◌, inl, inr, ◌||◌}
+use Rattle.sre_chars.specs.declared.constants.SreOpcode.TheVariants as opcode
+use Rattle.sre_chars.specs.declared.constants.SreOpcode.{SreOpcode}
+use Rattle.sre_model.specs.Tree.{Tree, Empty, Then, Run, Test, RunKind, GreedyRun, LazyRun, PossessiveRun}
+use Rattle.sre_model.specs.Marks.{Marks}
+use Rattle.sre_model.specs.Subject.{Subject, passes}
+use Rattle.sre_model.specs.Grammar.{Word, Opcode, skip, Reads}
+use Rattle.sre_model.specs.Roles.{ToRun, role}
+use Rattle.sre_model.specs.Ways.{ways, most_from, longest_run}
+use Rattle.sre_model.specs.FirstCharacters.{NoWay, is_end, TreeStands, Leads}
+use Rattle.sre_model.proofs.Words.{same_word, same_opcode}
+use Rattle.sre_model.proofs.Longest.{run_has}
+use Rattle.sre_model.proofs.Families.{HasRole, is_run, role_here}
+use Rattle.sre_model.proofs.FirstCharacters.{stands_up_to}
+use Rattle.sre_code.specs.AsciiSet.{contains}
+use Rattle.sre_code.specs.declared.ascii_set.AsciiSet.{AsciiSet}
+use Rattle.sre_reading.specs.AsciiSets.{TakesAscii}
+use Rattle.sre_engine.specs.Starts.{PassesRun, NotAmong}
+use Rattle.sre_engine.proofs.FirstSets.{union_lacks, taken_bars}
+
+-- a run, by its opcode
+pub run_here : (ws : List ℕ) (i : ℕ) (o : SreOpcode) → Opcode ws i o
+    → (o ≡ opcode.REPEAT_ONE) ⊎ ((o ≡ opcode.MIN_REPEAT_ONE) ⊎ (o ≡ opcode.POSSESSIVE_REPEAT_ONE))
+    → (kind : RunKind) × HasRole ws i (ToRun kind)
+run_here ws i o w (inl e) = (GreedyRun, role_here ws i o (ToRun GreedyRun) w (ap role e))
+run_here ws i o w (inr (inl e)) = (LazyRun, role_here ws i o (ToRun LazyRun) w (ap role e))
+run_here ws i o w (inr (inr e)) = (PossessiveRun, role_here ws i o (ToRun PossessiveRun) w (ap role e))
+
+-- where the test of a run that owes none does not pass, and what is behind it has no way, there is none
+optional_none : (s : Subject) (kind : RunKind) (high : ℕ) (t : Test) (rest : Tree) (p : ℕ) → passes s t p ≡ false
+    → NoWay s rest p → NoWay s (Then (Run kind 0 high t) rest) p
+optional_none s kind high t rest p e w = record { none = λ m. by_kind kind m }
+  where
+    none : longest_run s t high p ≡ 0
+    none =
+        run_has s t (most_from s high p) p 0 (omega arith) (λ c k. absurd (omega (arith, k)))
+        (λ _. let here : p + 0 ≡ p = omega arith in rw here e)
+
+    here : p + 0 ≡ p
+    here = omega arith
+
+    by_kind : (k : RunKind) (m : Marks) → ways s (Then (Run k 0 high t) rest) p m ≡ []
+    by_kind GreedyRun m = rw (none, here, w.none m) refl
+    by_kind LazyRun m = rw (none, here, w.none m) refl
+    by_kind PossessiveRun m = rw (none, here, w.none m) refl
+
+-- so has a tree that begins with such a run
+module _ (ws : List ℕ) (i : ℕ) {kind : RunKind} (h : HasRole ws i (ToRun kind)) (w : Word ws (i + 2) 0) where
+  begins_so : (t : Tree) (end : ℕ) (code : SreOpcode) → Reads ws i end t → Opcode ws end code
+      → is_end (role code) ≡ true → PassesRun ws t (i + 4) (skip ws (i + 1))
+  begins_so Empty end code e there ends =
+      let here : Opcode ws i code = subst (λ j. Opcode ws j code) (sym e) there in
+      let same : h.code ≡ code = same_opcode ws i h.code code h.there here in
+      absurd (true≢false (sym ends ∙ ap is_end (sym (ap role same) ∙ h.begins)))
+  begins_so (Then item rest) end code r there ends =
+      let is = is_run ws i r.0 item h r.1 in
+      let operands = is.4.1 in
+      let low : is.0 ≡ 0 = same_word ws (i + 2) is.0 0 operands.1 w in
+      let item_is : item ≡ Run kind 0 is.1 is.2 = is.3 ∙ ap (λ n. Run kind n is.1 is.2) low in
+      record {
+        tree = rest;
+        stands =
+            subst (λ k. TreeStands ws k rest) operands.0 (stands_up_to ws r.0 end rest code r.2 there ends);
+        none = λ s p fails behind.
+            subst (λ x. NoWay s (Then x rest) p) (sym item_is)
+            (optional_none s kind is.1 is.2 rest p
+            (fails.each (r.0 - 1) is.2 (record { code = operands.4; operands = operands.5 })) behind);
+      }
+
+  pub passes_run : (t : Tree) → TreeStands ws i t → PassesRun ws t (i + 4) (skip ws (i + 1))
+  passes_run t x = begins_so t x.end x.code x.reads x.there x.ends
+
+-- a tree at a place; where no character of a set is, and that one has no way, nor has the whole
+pub record Beyond (ws : List ℕ) (whole : Tree) (i : ℕ) (set : AsciiSet) : Type 0 where
+  pub tree : Tree
+  pub stands : TreeStands ws i tree
+  pub none : (s : Subject) (p : ℕ) → NotAmong s set p → NoWay s tree p → NoWay s whole p
+
+pub beyond_start : (ws : List ℕ) (t : Tree) (i : ℕ) (set : AsciiSet) → TreeStands ws i t → Beyond ws t i set
+beyond_start ws t i set x = record { tree = t; stands = x; none = λ s p lacks w. w }
+
+-- one run more, and at last a test
+module _ (ws : List ℕ) (t : Tree) (i : ℕ) (set own union : AsciiSet) (b : Beyond ws t i set)
+    (is : (c : ℕ) → contains union c ≡ (contains set c || contains own c)) where
+  pub beyond_more : (at test next back : ℕ) → ((u : Tree) → TreeStands ws i u → Leads ws u at back) → back ≡ 0
+      → ((v : Tree) → TreeStands ws at v → PassesRun ws v test next) → TakesAscii ws test own → Beyond ws t next union
+  beyond_more at test next back leads zero_back passing takes =
+      let l = leads b.tree b.stands in
+      let x = passing l.tree l.stands in
+      record {
+        tree = x.tree;
+        stands = x.stands;
+        none = λ s p lacks w.
+            let each = union_lacks s set own union p is lacks in
+            let here : p - back ≡ p = omega (arith, zero_back) in
+            b.none s p each.0
+            (l.leads s p
+            (subst (λ q. NoWay s l.tree q) (sym here) (x.none s p (taken_bars ws test own takes s p each.1) w)));
+      }
+
+  pub beyond_done : ((u : Tree) → TreeStands ws i u → (s : Subject) (p : ℕ) → NotAmong s own p → NoWay s u p)
+      → (s : Subject) (p : ℕ) → NotAmong s union p → NoWay s t p
+  beyond_done bars s p lacks =
+      let each = union_lacks s set own union p is lacks in
+      b.none s p each.0 (bars b.tree b.stands s p each.1)

@@ -1,0 +1,43 @@
+use Rattle.std.proofs.Common.{◌+◌, arith}
+use Rattle.sre_model.specs.Tree.{Tree}
+use Rattle.sre_model.specs.FirstCharacters.{TreeStands}
+use Rattle.sre_model.proofs.FirstCharacters.{tree_within, leads_tree}
+use Rattle.sre_engine.proofs.FirstSets.{own_bars}
+use Rattle.sre_engine.proofs.OptionalRuns.{Beyond, beyond_more, beyond_done}
+use Rattle.sre_engine.proofs.engine.first_characters.beyond_runs.Goals as goal
+
+pub wanted_test-requires : goal.wanted_test-requires
+wanted_test-requires c =
+    leads_tree c.args.words.now _ _ _ c.follow-reached.ensures.leads c.run.invariant.there
+
+pub returns-in-Some : goal.returns-in-Some
+returns-in-Some c = λ t stands.
+    let ws = c.args.words.now in
+    beyond_done ws t c.run.place c.run.characters c.in_ok-own.own c.union.result (c.run.invariant.beyond t stands)
+    c.union.ensures
+    (own_bars ws c.run.place c.follow-reached.result.place c.follow-reached.result.back c.in-Some.test c.in_ok-own.own
+    c.follow-reached.ensures.leads (omega arith) c.in-Some.ensures.bars c.in_ok-own.ensures.taken)
+
+pub behind_run-requires : goal.behind_run-requires
+behind_run-requires c =
+    leads_tree c.args.words.now _ _ _ c.follow-reached.ensures.leads c.run.invariant.there
+
+pub run-smaller : goal.run-smaller
+run-smaller c =
+    let within = tree_within c.args.words.now c.run.place c.run.invariant.there in
+    omega (arith, within, c.follow-reached.ensures.on, c.in_ok-behind.ensures.on.0)
+
+pub run-preserved : goal.run-preserved
+run-preserved c =
+    let ws = c.args.words.now in
+    let more : (t : Tree) → TreeStands ws c.args.start t
+    → Beyond ws t c.in_ok-behind.behind c.union-characters.result =
+    λ t stands.
+    beyond_more ws t c.run.place c.run.characters c.in_ok-own-2.own c.union-characters.result
+    (c.run.invariant.beyond t stands) c.union-characters.ensures c.follow-reached.result.place
+    (c.follow-reached.result.place + 4) c.in_ok-behind.behind c.follow-reached.result.back
+    c.follow-reached.ensures.leads (omega arith) c.in_ok-behind.ensures.passes c.in_ok-own-2.ensures.taken in
+    record {
+      there = let b = more c.requires.tree c.requires.stands in record { tree = b.tree; stands = b.stands };
+      beyond = more;
+    }

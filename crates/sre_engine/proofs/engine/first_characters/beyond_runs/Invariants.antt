@@ -1,0 +1,14 @@
+use Rattle.std.proofs.Common.{◌-◌, length}
+use Rattle.sre_model.specs.Tree.{Tree}
+use Rattle.sre_model.specs.FirstCharacters.{TreeStands, HasTree}
+use Rattle.sre_engine.proofs.OptionalRuns.{Beyond}
+use Rattle.sre_engine.proofs.engine.first_characters.beyond_runs.Given as goal
+
+abbrev pub invariant-run : goal.invariant-run
+invariant-run l = record {
+  there : HasTree l.words l.place;
+  beyond : (t : Tree) → TreeStands l.words l.fn.start t → Beyond l.words t l.place l.characters;
+}
+
+abbrev pub decreases-run : goal.decreases-run
+decreases-run l = length l.words - l.place
