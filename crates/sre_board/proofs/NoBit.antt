@@ -12,7 +12,7 @@ use Rattle.sre_board.proofs.OneEntry.{one_row_of, one_slot}
 -- a bit of a row
 record InRow (k : Kept) (ws : List ℕ) (inside : Bool) (x : Spot) (r : Row) : Type 0 where
   slot : ℕ
-  few : slot < 4096
+  few : slot < 2 ^ 24
   read : AreRead ws x.frames
   loops : HasSlot ws x.position k.shapes r.end r.shape 0 x.frames slot
   from : r.first ≤ x.position
@@ -44,7 +44,7 @@ module _ (k : Kept) (ws : List ℕ) (inside : Bool) (x : Spot) (n : ℕ) (r : Ro
 
   -- the loops have no slot
   pub no_slot : (shapes : List ℕ) (frames : List Frame) → shapes ≡ k.shapes → frames ≡ x.frames
-      → ((s : ℕ) → s < 4096 → AreRead ws frames → HasSlot ws x.position shapes r.end r.shape 0 frames s → ⊥)
+      → ((s : ℕ) → s < 2 ^ 24 → AreRead ws frames → HasSlot ws x.position shapes r.end r.shape 0 frames s → ⊥)
       → HasBit k ws inside x → ⊥
   no_slot shapes frames es ef none b =
       let i = in_row b in

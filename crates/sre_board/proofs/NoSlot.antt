@@ -1,5 +1,5 @@
 -- Loops that have no slot of a shape, or none that is below a number.
-use Rattle.std.proofs.Common.{◌≡◌, ℕ, ◌+◌, ◌*◌, ◌<◌, ◌≤◌, List, [], ◌∷◌, length, Some, slice_get}
+use Rattle.std.proofs.Common.{◌≡◌, ℕ, ◌+◌, ◌*◌, ◌<◌, ◌≤◌, List, [], ◌∷◌, length, Some, slice_get, ◌^◌}
 use Rattle.std.proofs.Common.{sym, subst, ap, ◌∙◌, arith}
 use Rattle.sre_turns.specs.declared.Frame.{Frame}
 use Rattle.sre_board.specs.Failures.{HasSlot, AreRead, IsPassed, radix, digit}
@@ -18,8 +18,8 @@ module _ (ws : List ℕ) (p : ℕ) (shapes : List ℕ) (j i before : ℕ) (all :
   one : all ≡ g ∷ fs
   one = is ∙ ap (λ (h : Frame). h ∷ fs) (sym same)
 
-  pub no_slot_with : (g.repeat + 3 < length ws → IsPassed g.last p → 4096 ≤ before * radix ws g.repeat + digit ws p g)
-      → (s : ℕ) → s < 4096 → AreRead ws all → HasSlot ws p shapes j i before all s → ⊥
+  pub no_slot_with : (g.repeat + 3 < length ws → IsPassed g.last p → 2 ^ 24 ≤ before * radix ws g.repeat + digit ws p g)
+      → (s : ℕ) → s < 2 ^ 24 → AreRead ws all → HasSlot ws p shapes j i before all s → ⊥
   no_slot_with far s few read slot =
       let there = subst (λ (gs : List Frame). AreRead ws gs) one read in
       let has = subst (λ (gs : List Frame). HasSlot ws p shapes j i before gs s) one slot in

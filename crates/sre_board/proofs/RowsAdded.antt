@@ -90,20 +90,21 @@ there_if_ok (Err v) needs mid new row place er ep = tt
 pub made_for : (ws : List ℕ) (first end place : ℕ) (fs gs : List Frame) (old mid : Kept) (row : Row)
     (n taken shape : ℕ) → fs ≡ gs → row.first ≡ first → row.end ≡ length mid.shapes → row.shape ≡ shape
     → (1 ≤ n → HasShape mid.shapes (length mid.shapes) shape (repeats fs))
-    → (WordsThere ws (repeats fs) → slots ws (repeats fs) ≤ 4096 → n ≡ slots ws (repeats fs))
+    → (WordsThere ws (repeats fs) → slots ws (repeats fs) ≤ 2 ^ 24 → n ≡ slots ws (repeats fs))
     → taken ≡ length old.bits
-    → (1 ≤ n → first ≤ end → most_words n first end ≤ 2 ^ 30 → taken + most_words n first end ≤ 2 ^ 32
+    → (n ≤ 4096 → 1 ≤ n → first ≤ end → most_words n first end ≤ 2 ^ 30 → taken + most_words n first end ≤ 2 ^ 32
     → (row.positions ≡ end + 1 - first) × (n * 2 * row.positions ≤ 64 * row.length))
     → Capacity ws first end place (repeats gs) old → RowFor mid ws first end (repeats gs) row
 made_for ws first end place fs gs old mid row n taken shape same ef ee es shaped all et enough room =
     let js : repeats fs ≡ repeats gs = ap (λ (xs : List Frame). repeats xs) same in
     let number : n ≡ slots ws (repeats gs) =
-    subst (λ (qs : List ℕ). WordsThere ws qs → slots ws qs ≤ 4096 → n ≡ slots ws qs) js all room.words room.few_slots in
+    subst (λ (qs : List ℕ). WordsThere ws qs → slots ws qs ≤ 2 ^ 24 → n ≡ slots ws qs) js all room.words
+    (omega (arith, room.few_slots)) in
     let some : 1 ≤ n = omega (arith, number, some_slots ws (repeats gs)) in
     let few : most_words n first end ≡ most_words (slots ws (repeats gs)) first end =
     ap (λ m. most_words m first end) number in
     let parts =
-    enough some room.order (omega (arith, few, room.few_in_row)) (omega (arith, few, et, room.few_words)) in
+    enough (omega (arith, number, room.few_slots)) some room.order (omega (arith, few, room.few_in_row)) (omega (arith, few, et, room.few_words)) in
     record {
       first_is = ef;
       positions = parts.0;

@@ -1,5 +1,5 @@
 -- The places of the loops in progress as they are appended to the shapes, and the number of their slots.
-use Rattle.std.proofs.Common.{◌≡◌, ℕ, ◌+◌, ◌*◌, ◌<◌, ◌≤◌, List, [], ◌∷◌, ◌++◌, length, take, Some, slice_get}
+use Rattle.std.proofs.Common.{◌≡◌, ℕ, ◌+◌, ◌*◌, ◌<◌, ◌≤◌, List, [], ◌∷◌, ◌++◌, length, take, Some, slice_get, ◌^◌}
 use Rattle.std.proofs.Common.{refl, sym, ap, ◌∙◌, subst, arith, length-append, append_assoc}
 use Rattle.std.proofs.lemmas.List.{append-nil}
 use Rattle.std.proofs.Math.Seq.{take-append_seam}
@@ -26,11 +26,11 @@ some_slots ws (q ∷ qs) = one-le-mul (some_radix ws q) (some_slots ws qs)
 
 -- that the slots so far and those of the loops that are left are all of them, where these are few
 abbrev pub SlotsLeft : List ℕ → ℕ → List Frame → List Frame → Type 0
-SlotsLeft ws n left all = WordsThere ws (repeats all) → slots ws (repeats all) ≤ 4096
+SlotsLeft ws n left all = WordsThere ws (repeats all) → slots ws (repeats all) ≤ 2 ^ 24
     → WordsThere ws (repeats left) × (n * slots ws (repeats left) ≡ slots ws (repeats all))
 
 pub slots_more : (ws : List ℕ) (n m : ℕ) (f : Frame) (fs gs hs : List Frame) → SlotsLeft ws n gs hs → gs ≡ f ∷ fs
-    → (f.repeat + 3 < length ws → n * radix ws f.repeat ≤ 4096 → m ≡ n * radix ws f.repeat) → SlotsLeft ws m fs hs
+    → (f.repeat + 3 < length ws → n * radix ws f.repeat ≤ 2 ^ 24 → m ≡ n * radix ws f.repeat) → SlotsLeft ws m fs hs
 slots_more ws n m f fs gs hs was chain more words few =
     let now = subst (λ (xs : List Frame). WordsThere ws (repeats xs)
     × (n * slots ws (repeats xs) ≡ slots ws (repeats hs))) chain (was words few) in
@@ -43,8 +43,8 @@ slots_more ws n m f fs gs hs was chain more words few =
 
 -- so where there are none, there are not few
 pub none_few : (ws : List ℕ) (n m : ℕ) (f : Frame) (fs gs hs : List Frame) → SlotsLeft ws n gs hs → gs ≡ f ∷ fs
-    → (f.repeat + 3 < length ws → n * radix ws f.repeat ≤ 4096 → m ≡ n * radix ws f.repeat) → m ≡ 0
-    → WordsThere ws (repeats hs) → slots ws (repeats hs) ≤ 4096 → 0 ≡ slots ws (repeats hs)
+    → (f.repeat + 3 < length ws → n * radix ws f.repeat ≤ 2 ^ 24 → m ≡ n * radix ws f.repeat) → m ≡ 0
+    → WordsThere ws (repeats hs) → slots ws (repeats hs) ≤ 2 ^ 24 → 0 ≡ slots ws (repeats hs)
 none_few ws n m f fs gs hs was chain more none words few =
     let all = (slots_more ws n m f fs gs hs was chain more words few).1 in
     let nothing : 0 * slots ws (repeats fs) ≡ slots ws (repeats hs) = rw none at all in omega (arith, nothing)

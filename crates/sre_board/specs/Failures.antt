@@ -65,7 +65,7 @@ pub record Entry (k : Kept) (ws : List ℕ) (inside : Bool) (x : Spot) (at bit :
   pub point : x.point ≡ Instruction row.place
   pub read : AreRead ws x.frames
   pub loops : HasSlot ws x.position k.shapes row.end row.shape 0 x.frames slot
-  pub few : slot < 4096
+  pub few : slot < 2 ^ 24
   pub from : row.first ≤ x.position
   pub to : x.position - row.first < row.positions
   pub index_is : index ≡ (slot * 2 + cond inside 1 0) * row.positions + (x.position - row.first)

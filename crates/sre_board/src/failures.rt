@@ -78,6 +78,12 @@ struct Bit {
 // A row has fewer positions, so that their bits can be counted.
 const MOST_POSITIONS: usize = 34359738368;
 
+// A row with more slots has bits for some of them, if all take more words than a part may: those of the least counts.
+const FEW_SLOTS: usize = 4096;
+
+// How many words a part of a row has.
+const MOST_WORDS_IN_PART: usize = 16777216;
+
 // A row has at most so many words, which are 2^36 bits.
 const MOST_WORDS_IN_ROW: usize = 1073741824;
 
@@ -104,14 +110,26 @@ fn set_number<A: Allocator>(
     Ok(())
 }
 
+// How many words a row gets that would have so many: where its slots are many it has a part of them.
+#[inline(always)]
+fn in_part(slots: usize, length: usize) -> usize
+    ensures few { result ≤ length }
+    ensures whole { slots ≤ 4096 → result ≡ length }
+{
+    if slots > FEW_SLOTS {
+        return length.min(MOST_WORDS_IN_PART);
+    }
+    length
+}
+
 // How many positions there are from `first` to `end`, and how many words their bits take behind those that are taken:
 // none where they are too many.
 #[inline(always)]
 fn room(slots: usize, first: usize, end: usize, taken: usize) -> (usize, usize)
-    requires { (slots ≤ 4096) × (taken ≤ 2 ^ 32) }
+    requires { (slots ≤ 2 ^ 24) × (taken ≤ 2 ^ 32) }
     ensures all { taken + result.1 ≤ 2 ^ 32 }
     ensures few { result.1 ≤ most_words slots first end }
-    ensures enough { 1 ≤ slots → first ≤ end → most_words slots first end ≤ 2 ^ 30
+    ensures enough { slots ≤ 4096 → 1 ≤ slots → first ≤ end → most_words slots first end ≤ 2 ^ 30
         → taken + most_words slots first end ≤ 2 ^ 32
         → (result.0 ≡ end + 1 - first) × (slots * 2 * result.0 ≤ 64 * result.1) }
 {
@@ -119,7 +137,7 @@ fn room(slots: usize, first: usize, end: usize, taken: usize) -> (usize, usize)
         return (0, 0);
     }
     let positions = end - first + 1;
-    let length = (slots * 2).saturating_mul(positions) / 64 + 1;
+    let length = in_part(slots, (slots * 2).saturating_mul(positions) / 64 + 1);
     if length > MOST_WORDS_IN_ROW || length > MOST_WORDS - taken {
         return (0, 0);
     }

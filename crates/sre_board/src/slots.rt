@@ -15,7 +15,7 @@ use sre_turns::Frame;
 use std::alloc::Allocator;
 
 // A row has at most so many slots.
-const MOST_SLOTS: usize = 4096;
+const MOST_SLOTS: usize = 16777216;
 
 // Up to which number the bodies of the loop at a place are counted, if its words are there.
 #[inline(always)]
@@ -50,11 +50,11 @@ fn is_here(last: Option<usize>, position: usize) -> Option<bool>
 // The slot of the inner loops with one loop more, if there is one.
 #[inline(always)]
 fn with_loop(words: &[u32], frame: Frame, position: usize, slot: usize) -> Option<usize>
-    requires { slot < 4096 }
+    requires { slot < 2 ^ 24 }
     ensures { MatchOption result
         (frame.repeat + 3 < length words.now → IsPassed frame.last position
-        → 4096 ≤ slot * radix words.now frame.repeat + digit words.now position frame)
-        (λ n. (n < 4096) × IsPassed frame.last position × (frame.repeat + 3 < length words.now)
+        → 2 ^ 24 ≤ slot * radix words.now frame.repeat + digit words.now position frame)
+        (λ n. (n < 2 ^ 24) × IsPassed frame.last position × (frame.repeat + 3 < length words.now)
         × (n ≡ slot * radix words.now frame.repeat + digit words.now position frame)) }
 {
     let counted = counted_at(words, frame.repeat)?;
@@ -80,9 +80,9 @@ pub(crate) fn slot_of<A: Allocator>(
 ) -> Option<usize>
     requires { innermost < length chains.now }
     ensures { let frames = slice_index_or chains.now innermost [] in MatchOption result
-        ((slot : ℕ) → slot < 4096 → AreRead words.now frames
+        ((slot : ℕ) → slot < 2 ^ 24 → AreRead words.now frames
         → HasSlot words.now position shapes.now row.end row.shape 0 frames slot → ⊥)
-        (λ slot. (slot < 4096) × AreRead words.now frames
+        (λ slot. (slot < 2 ^ 24) × AreRead words.now frames
         × HasSlot words.now position shapes.now row.end row.shape 0 frames slot) }
 {
     let mut id = innermost;
@@ -106,8 +106,8 @@ pub(crate) fn slot_of<A: Allocator>(
 // How many slots there are with one loop more: none where they are too many, or its words are not there.
 #[inline(always)]
 fn more_slots(words: &[u32], repeat: usize, slots: usize) -> usize
-    ensures few { result ≤ 4096 }
-    ensures all { repeat + 3 < length words.now → slots * radix words.now repeat ≤ 4096
+    ensures few { result ≤ 2 ^ 24 }
+    ensures all { repeat + 3 < length words.now → slots * radix words.now repeat ≤ 2 ^ 24
         → result ≡ slots * radix words.now repeat }
 {
     let Some(counted) = counted_at(words, repeat) else {
@@ -128,12 +128,12 @@ pub(crate) fn add_shape<A: Allocator>(
 ) -> Result<usize, Refusal>
     requires { innermost < length chains.now }
     ensures more { (more : List ℕ) × (shapes.new.items ≡ shapes.old.items ++ more) }
-    ensures few { IfOk result (λ n. n ≤ 4096) }
+    ensures few { IfOk result (λ n. n ≤ 2 ^ 24) }
     ensures shape { IfOk result (λ n. 1 ≤ n
         → HasShape shapes.new.items (length shapes.new.items) (length shapes.old.items)
         (repeats (slice_index_or chains.now innermost []))) }
     ensures slots { IfOk result (λ n. WordsThere words.now (repeats (slice_index_or chains.now innermost []))
-        → slots words.now (repeats (slice_index_or chains.now innermost [])) ≤ 4096
+        → slots words.now (repeats (slice_index_or chains.now innermost [])) ≤ 2 ^ 24
         → n ≡ slots words.now (repeats (slice_index_or chains.now innermost []))) }
 {
     let held = shapes.len();

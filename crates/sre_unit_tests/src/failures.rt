@@ -12,10 +12,10 @@ use std::alloc::{Allocator, Global};
 
 const NO_LIMIT: u32 = u32::MAX;
 
-// (?:ab)*(?:ab)+(?:ab){2,5}(?:ab){1,3000}
+// (?:ab)*(?:ab)+(?:ab){2,5}(?:ab){1,9000000}
 const WORDS: &[u32] = &[
     23, 7, 0, NO_LIMIT, 16, 97, 16, 98, 18, 23, 7, 1, NO_LIMIT, 16, 97, 16, 98, 18, 23, 7, 2, 5,
-    16, 97, 16, 98, 18, 23, 7, 1, 3000, 16, 97, 16, 98, 18, 1,
+    16, 97, 16, 98, 18, 23, 7, 1, 9000000, 16, 97, 16, 98, 18, 1,
 ];
 
 // where its loops begin
@@ -120,16 +120,17 @@ fn is_kept_in<A: Allocator>(
     failures.known(words, board, place, position) == Known::Failed
 }
 
-// Whether a spot that is kept under some loops is told under others.
+// Whether a spot that is kept under some loops is told under others, in a row up to a position.
 fn tells(
     failures: &mut Failures<Global>,
     board: &mut Board<Global>,
     words: &[u32],
     kept: &[Loop],
     asked: &[Loop],
+    end: usize,
 ) -> Result<bool, Refusal> {
     enter_all(board, kept)?;
-    prepare_in(failures, words, board, PLACE, 10, 20)?;
+    prepare_in(failures, words, board, PLACE, 10, end)?;
     keep_in(failures, words, board, PLACE, 12);
     board.clear();
     enter_all(board, asked)?;
@@ -137,53 +138,60 @@ fn tells(
 }
 
 // The same of new failures.
-fn is_told(alloc: Global, words: &[u32], kept: &[Loop], asked: &[Loop]) -> Result<bool, Refusal> {
+fn is_told(
+    alloc: Global,
+    words: &[u32],
+    kept: &[Loop],
+    asked: &[Loop],
+    end: usize,
+) -> Result<bool, Refusal> {
     let mut failures = Failures::new(alloc);
     let mut board = Board::new(alloc);
-    tells(&mut failures, &mut board, words, kept, asked)
+    tells(&mut failures, &mut board, words, kept, asked, end)
 }
 
 #[test]
 fn a_spot_is_told_under_loops_that_are_alike(rt: HostRuntime) {
     for &(kind, kept) in &LOOPS {
         for &(other, asked) in &LOOPS {
-            let told = is_told(rt.alloc(), WORDS, kept, asked).ok();
+            let told = is_told(rt.alloc(), WORDS, kept, asked, 20).ok();
             assert!(rt; told == Some(kind == other), "{kept:?} {asked:?}");
         }
     }
 }
 
-// The greatest counts of two loops, whether both are in progress, and whether a spot under them is kept: they have
-// 2 (n + 1) slots each, and 4,096 at most in all.
-static COUNTS: [(u32, u32, bool, bool); 8] = [
-    (2047, 1, false, true),
-    (2048, 1, false, false),
-    (3000, 1, false, false),
-    (4294967294, 1, false, false),
-    (31, 31, true, true),
-    (31, 32, true, false),
-    (32, 31, true, false),
-    (4294967294, 4294967294, true, false),
+// The greatest counts of two loops, whether both are in progress, the row's last position, and whether a spot under the
+// last slot is kept: they have 2 (n + 1) slots each, and 2^24 at most in all. A row of many slots has 2^30 bits.
+static COUNTS: [(u32, u32, bool, usize, bool); 9] = [
+    (2047, 1, false, 20, true),
+    (3000, 1, false, 20, true),
+    (8388607, 1, false, 20, true),
+    (8388607, 1, false, 100, false),
+    (8388608, 1, false, 20, false),
+    (4294967294, 1, false, 20, false),
+    (2047, 2047, true, 20, true),
+    (2047, 2048, true, 20, false),
+    (4294967294, 4294967294, true, 20, false),
 ];
 
-// Whether the last slot of two loops, or of the first of them alone, has a bit.
-fn has_last_slot(alloc: Global, first: u32, second: u32, both: bool) -> Option<bool> {
+// Whether the last slot of two loops, or of the first of them alone, has a bit in a row up to a position.
+fn has_last_slot(alloc: Global, first: u32, second: u32, both: bool, end: usize) -> Option<bool> {
     let words = [
         23, 7, 0, first, 16, 97, 16, 98, 18, 23, 7, 0, second, 16, 97, 16, 98, 18, 1,
     ];
     let loops = [(0, first, Some(12)), (9, second, Some(12))];
     if both {
-        is_told(alloc, &words, &loops, &loops).ok()
+        is_told(alloc, &words, &loops, &loops, end).ok()
     } else {
-        is_told(alloc, &words, &loops[..1], &loops[..1]).ok()
+        is_told(alloc, &words, &loops[..1], &loops[..1], end).ok()
     }
 }
 
 #[test]
-fn a_row_has_4096_slots_at_most(rt: HostRuntime) {
-    for &(first, second, both, wanted) in &COUNTS {
-        let told = has_last_slot(rt.alloc(), first, second, both);
-        assert!(rt; told == Some(wanted), "{first} {second}");
+fn a_row_has_bits_for_as_many_slots_as_it_may(rt: HostRuntime) {
+    for &(first, second, both, end, wanted) in &COUNTS {
+        let told = has_last_slot(rt.alloc(), first, second, both, end);
+        assert!(rt; told == Some(wanted), "{first} {second} {end}");
     }
 }
 

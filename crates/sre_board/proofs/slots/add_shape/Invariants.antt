@@ -1,4 +1,4 @@
-use Rattle.std.proofs.Common.{◌≡◌, ℕ, ◌<◌, ◌≤◌, ◌*◌, List, [], ◌++◌, length, slice_index_or}
+use Rattle.std.proofs.Common.{◌≡◌, ℕ, ◌<◌, ◌≤◌, ◌*◌, List, [], ◌++◌, length, slice_index_or, ◌^◌}
 use Rattle.sre_turns.specs.Nested.{repeats, slots}
 use Rattle.sre_board.specs.Failures.{WordsThere}
 use Rattle.sre_board.proofs.slots.add_shape.Given as goal
@@ -6,12 +6,12 @@ use Rattle.sre_board.proofs.slots.add_shape.Given as goal
 abbrev pub invariant-walk : goal.invariant-walk
 invariant-walk g l = record {
   there : l.id < length l.chains;
-  few : l.slots ≤ 4096;
+  few : l.slots ≤ 2 ^ 24;
   more : (more : List ℕ) × (l.shapes.items ≡ l.initial.shapes.items ++ more);
   rest : l.shapes.items ++ repeats (slice_index_or l.chains l.id [])
       ≡ l.initial.shapes.items ++ repeats (slice_index_or l.chains l.innermost []);
   all : WordsThere l.words (repeats (slice_index_or l.chains l.innermost []))
-      → slots l.words (repeats (slice_index_or l.chains l.innermost [])) ≤ 4096
+      → slots l.words (repeats (slice_index_or l.chains l.innermost [])) ≤ 2 ^ 24
       → WordsThere l.words (repeats (slice_index_or l.chains l.id []))
       × (l.slots * slots l.words (repeats (slice_index_or l.chains l.id []))
       ≡ slots l.words (repeats (slice_index_or l.chains l.innermost [])));

@@ -1,11 +1,11 @@
-use Rattle.std.proofs.Common.{ℕ, ◌<◌, [], length, slice_index_or}
+use Rattle.std.proofs.Common.{ℕ, ◌<◌, [], length, slice_index_or, ◌^◌}
 use Rattle.sre_board.specs.Failures.{HasSlot, AreRead}
 use Rattle.sre_board.proofs.slots.slot_of.Given as goal
 
 abbrev pub invariant-walk : goal.invariant-walk
 invariant-walk g l = record {
   there : l.id < length l.chains;
-  few : l.slot < 4096;
+  few : l.slot < 2 ^ 24;
   slot : (s : ℕ)
       → HasSlot l.words l.position l.shapes l.row.end l.at l.slot (slice_index_or l.chains l.id []) s
       → HasSlot l.words l.position l.shapes l.row.end l.row.shape 0

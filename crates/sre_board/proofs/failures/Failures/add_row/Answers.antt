@@ -1,4 +1,4 @@
-use Rattle.std.proofs.Common.{◌≡◌, ◌<◌, ◌≤◌, ◌++◌, List, length, ◌∙◌, ap, sym, subst, refl, slice_get, arith}
+use Rattle.std.proofs.Common.{◌≡◌, ◌<◌, ◌≤◌, ◌++◌, List, length, ◌∙◌, ap, sym, subst, refl, slice_get, arith, ◌^◌}
 use Rattle.sre_turns.specs.declared.Frame.{Frame}
 use Rattle.sre_turns.specs.Nested.{repeats, slots}
 use Rattle.sre_board.proofs.RowsAdded.{no_row, new_row, made_for, there_if_ok, roomy_added}
@@ -75,9 +75,9 @@ returns-clause-roomy g c = λ n has h.
     subst (λ (k : Kept). Roomy ws n c.args.first c.args.end
     (kept_of k.rows c.add_shape.new.shapes.items k.bits)) (sym c.self.view_is) was in
     let number : c.in_ok-slots.slots ≡ slots ws (repeats c.args.board.now.frames) =
-    subst (λ (fs : List Frame). WordsThere ws (repeats fs) → slots ws (repeats fs) ≤ 4096
+    subst (λ (fs : List Frame). WordsThere ws (repeats fs) → slots ws (repeats fs) ≤ 2 ^ 24
     → c.in_ok-slots.slots ≡ slots ws (repeats fs)) c.loops-innermost.ensures.frames c.in_ok-slots.ensures.slots
-    has.words has.few in
+    has.words (omega (arith, has.few)) in
     let few : length mid.rows < length ws = omega (arith, c.len-number.ensures, c.self.inside.rows.ok.0) in
     roomy_added ws c.in_ok-slots.slots n c.room-positions.result.1 c.args.first c.args.end mid c.push_row.new.self
     c.push_row.ensures.size c.room-positions.ensures.few (omega (arith, number, has.most)) few there
