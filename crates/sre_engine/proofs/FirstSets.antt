@@ -34,8 +34,8 @@ among_taken s set t p is lacks =
         absurd (cc)
 
 -- what is not in a union is in neither of the two
-pub union_lacks : (s : Subject) (a b set : AsciiSet) (p : ℕ) → ((c : ℕ) → contains set c ≡ (contains a c || contains b c))
-    → NotAmong s set p → NotAmong s a p × NotAmong s b p
+pub union_lacks : (s : Subject) (a b set : AsciiSet) (p : ℕ)
+    → ((c : ℕ) → contains set c ≡ (contains a c || contains b c)) → NotAmong s set p → NotAmong s a p × NotAmong s b p
 union_lacks s a b set p is lacks =
     by_place (nat_lt p s.end) (nat_le 128 (char_at s p)) (contains a (char_at s p)) (contains b (char_at s p))
     refl refl refl refl lacks.none

@@ -1,6 +1,7 @@
 -- Starts from which there is no match: barred by what has to come first, or passed behind a start that has none.
 -- Words of the search's contracts. What is public rests on `NoneUntil` and `StartFrom`, by `Starts::beyond`.
-use Rattle.std.specs.Prelude.{ℕ, ◌≡◌, ◌<◌, ◌≤◌, ◌+◌, ◌-◌, ◌⊎◌, ◌||◌, nat_le, false, List, Option, Some, None}
+use Rattle.std.specs.Prelude.{ℕ, ◌≡◌, ◌<◌, ◌≤◌, ◌+◌, ◌-◌, ◌⊎◌, ◌||◌, cond, nat_le, Bool, true, false}
+use Rattle.std.specs.Prelude.{List, Option, Some, None}
 use Rattle.sre_chars.specs.declared.constants.SreAtCode.{SreAtCode}
 use Rattle.sre_code.specs.declared.ascii_set.AsciiSet.{AsciiSet}
 use Rattle.sre_code.specs.AsciiSet.{contains}
@@ -107,6 +108,14 @@ NoneBetween a t p q = (s : ℕ) → p ≤ s → s < q → at_start a t s ≡ Non
 abbrev pub NoneUntil : Asked → Tree → ℕ → Option StringCursor → Type 0
 NoneUntil a t p None = NoneBetween a t p (a.end + 1)
 NoneUntil a t p (Some next) = NoneBetween a t p next.position
+
+-- a start that has no match is passed to a cursor behind it, if there is one: no start before it has a match, or none in
+-- the window
+pub record PassesTo (r : Run) (a : Asked) (p : ℕ) (further : Bool) (cursor : StringCursor) : Type 0 where
+  pub next : further ≡ true → (p < cursor.position) × (cursor.position ≤ a.end)
+  pub stands : further ≡ true → r.stands cursor cursor.position
+  pub none : (t : Tree) → WholeItems r.words t → at_start a t p ≡ None
+      → NoneBetween a t p (cond further cursor.position (a.end + 1))
 
 -- a cursor stands in the window, from a position on
 pub record StartFrom (r : Run) (p : ℕ) (cursor : StringCursor) : Type 0 where

@@ -146,6 +146,7 @@ impl<A: Allocator + Copy> Marked<A> {
     /// No failures. It takes no memory.
     pub(crate) fn new(alloc: A) -> Marked<A>
         ensures none { HoldsNone result.kept }
+        ensures end { result.end ≡ 2 ^ 64 - 1 }
     {
         Marked {
             marks: Vec::new(alloc),

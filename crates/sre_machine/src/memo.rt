@@ -104,7 +104,7 @@ impl<A: Allocator + Copy> Memo<A> {
             waits: 0,
             is_open: false,
             refused: None,
-            is_used: true,
+            is_used: false,
         }
     }
 }

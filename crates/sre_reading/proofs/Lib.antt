@@ -1,4 +1,3 @@
 mod AsciiTests
-mod FarRuns
 pub mod Repeating
 mod TestOperands

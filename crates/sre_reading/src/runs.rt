@@ -173,6 +173,16 @@ fn stretch_on<S: StrDrive>(
     }
 }
 
+// How many characters of a run are looked at one by one before the rest is sought: all of them where they are less than
+// twice as many as are better not sought.
+#[inline(always)]
+fn most_near<S: StrDrive>(req: &Request<'_, S>, most: usize) -> usize
+    ensures { result ≤ most }
+{
+    let few = req.string().few();
+    if most / 2 < few { most } else { few }
+}
+
 // The longest run of characters of which the test whose opcode is at a place says what is wanted, where it says
 // otherwise of one character alone.
 #[inline(always)]
@@ -191,9 +201,9 @@ fn run_but<S: StrDrive, const WANTED: bool>(
     requires most { most ≤ end_of req.now - start.position }
     ensures { IsLongest req.now place WANTED most start result }
 {
-    let few = req.string().few();
-    let near = run_tested::<S, WANTED>(req, place, opcode, most.min(few), start);
-    if near.count < few {
+    let first = most_near(req, most);
+    let near = run_tested::<S, WANTED>(req, place, opcode, first, start);
+    if near.count < first || near.count == most {
         return near;
     }
     stretch_on(req, other, most, near.count, near.end)

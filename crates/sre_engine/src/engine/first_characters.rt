@@ -42,8 +42,8 @@ pub(crate) struct First {
 }
 
 impl First {
-    /// What a code's items tell; which ASCII characters a set takes, and what the alternatives of a branch begin with,
-    /// only where sets are to be read.
+    /// What a code's items tell; which ASCII characters a set takes, what the alternatives of a branch begin with and
+    /// what runs in front take, only where sets are to be read.
     pub(crate) fn of_items(words: &[u32], reads_sets: bool) -> First
         requires { AreItems words.now }
         ensures bars { Bars words.now result }

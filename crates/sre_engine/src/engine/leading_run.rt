@@ -3,14 +3,14 @@
 //! A start inside the run has its own run end at the same place, so that it leads to no end which the run's start has
 //! not tried. A search that goes on behind the run passes over each character once.
 
-ghost use Rattle.std.specs.Prelude.{◌≡◌, ◌+◌, ◌^◌, ◌<◌, ◌≤◌, length, cond, true, IfSome, MatchOption, None};
+ghost use Rattle.std.specs.Prelude.{◌≡◌, ◌+◌, ◌^◌, ◌<◌, ◌≤◌, length, true, IfSome, MatchOption, None};
 ghost use Rattle.sre_model.specs.Tree.{Tree};
 ghost use Rattle.sre_model.specs.Grammar.{WholeItems};
 ghost use Rattle.sre_model.specs.Found.{at_start};
 ghost use Rattle.sre_model.specs.LeadingRuns.{RunStands};
 ghost use Rattle.sre_request.specs.Requests.{end_of, asked_of};
 ghost use Rattle.sre_request.specs.Runs.{run_of, OpcodeAt, Standing};
-ghost use Rattle.sre_engine.specs.Starts.{NoneBetween, NoneUntil};
+ghost use Rattle.sre_engine.specs.Starts.{NoneUntil, PassesTo};
 
 use crate::engine::first_characters::is_test;
 use sre_chars::constants::{MAXREPEAT, SreOpcode};
@@ -133,12 +133,7 @@ pub(crate) fn pass_start<S: StrDrive>(
     requires inside { start.old.position ≤ end_of req.now }
     requires lead { (t : Tree) → WholeItems (run_of req.now).words t
         → IfSome lead.now (λ run. RunStands (run_of req.now).words t run.first run.test) }
-    ensures next { result ≡ true
-        → (start.old.position < start.new.position) × (start.new.position ≤ end_of req.now) }
-    ensures stands { result ≡ true → Standing req.now start.new }
-    ensures none { (t : Tree) → WholeItems (run_of req.now).words t
-        → at_start (asked_of req.now) t start.old.position ≡ None
-        → NoneBetween (asked_of req.now) t start.old.position (cond result start.new.position (end_of req.now + 1)) }
+    ensures { PassesTo (run_of req.now) (asked_of req.now) start.old.position result start.new }
 {
     let next = match lead {
         None => match one_on(req, *start) {

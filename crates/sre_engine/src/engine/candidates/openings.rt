@@ -1,11 +1,12 @@
 //! Candidates where neither a prefix nor a first set is confirmed: the starts that what has to come first leaves.
 
-ghost use Rattle.std.specs.Prelude.{◌≡◌, None, IfSome};
+ghost use Rattle.std.specs.Prelude.{◌≡◌, ◌≤◌, None, IfSome};
 ghost use Rattle.sre_model.specs.Tree.{Tree};
 ghost use Rattle.sre_model.specs.Grammar.{WholeItems};
 ghost use Rattle.sre_model.specs.LeadingRuns.{RunStands};
-ghost use Rattle.sre_request.specs.Runs.{run_of};
-ghost use Rattle.sre_engine.specs.Starts.{Bars, TestsThere};
+ghost use Rattle.sre_request.specs.Requests.{end_of, asked_of};
+ghost use Rattle.sre_request.specs.Runs.{run_of, Standing};
+ghost use Rattle.sre_engine.specs.Starts.{Bars, TestsThere, PassesTo};
 
 use crate::engine::candidates::{Candidate, Candidates};
 use crate::engine::first_characters::First;
@@ -14,9 +15,12 @@ use crate::engine::told::{Starts, next_start_told};
 use sre_chars::string::{StrDrive, StringCursor};
 use sre_request::Request;
 
+// Where fewer characters are left, to read the code's sets costs more than it spares.
+const FEW_LEFT: usize = 8;
+
 /// The starts from a cursor on, and what was read of the code. Only behind the first one that failed it is worth to
-/// read in the words which characters a set takes and with what alternatives begin, and whether a run leads: most steps
-/// of a walk end at the first start that is tried.
+/// read in the words which characters a set takes, what alternatives begin with and what runs in front take, and
+/// whether a run leads: most steps of a walk end at the first start that is tried.
 #[derive(Clone, Copy)]
 pub(crate) struct Openings {
     first: First,
@@ -43,18 +47,43 @@ impl Openings {
         }
     }
 
-    // Reads what is worth to be read once a start has failed. It is out of line, since most searches end before.
+    // Reads what sets take and what alternatives and runs begin with, where enough of the window is left.
+    fn read_sets<S: StrDrive>(&mut self, req: &Request<'_, S>)
+        requires test { TestsThere (run_of req.now).words self.old.first.wanted }
+        requires bars { Bars (run_of req.now).words self.old.first }
+        ensures same { self.new ≡ record self.old { first = self.new.first } }
+        ensures test { TestsThere (run_of req.now).words self.new.first.wanted }
+        ensures bars { Bars (run_of req.now).words self.new.first }
+    {
+        let left = req.end().saturating_sub(self.start.position());
+        if left >= FEW_LEFT {
+            let reads_sets = true;
+            self.first = First::of_items(req.pattern_codes().items(), reads_sets);
+        }
+    }
+
+    // Passes the first start that failed, and reads what is worth to be read then. It is out of line, since most
+    // searches end before.
     #[inline(never)]
-    fn read_on<S: StrDrive>(&mut self, req: &Request<'_, S>)
+    fn pass_first<S: StrDrive>(&mut self, req: &Request<'_, S>, start: StringCursor) -> bool
+        requires test { TestsThere (run_of req.now).words self.old.first.wanted }
+        requires bars { Bars (run_of req.now).words self.old.first }
+        requires stands { Standing req.now start }
+        requires inside { start.position ≤ end_of req.now }
+        ensures passes { PassesTo (run_of req.now) (asked_of req.now) start.position result self.new.start }
         ensures test { TestsThere (run_of req.now).words self.new.first.wanted }
         ensures bars { Bars (run_of req.now).words self.new.first }
         ensures lead { (t : Tree) → WholeItems (run_of req.now).words t
             → IfSome self.new.lead (λ run. RunStands (run_of req.now).words t run.first run.test) }
     {
-        let reads_sets = true;
-        self.first = First::of_items(req.pattern_codes().items(), reads_sets);
-        self.lead = leading_run(req);
         self.is_read = true;
+        self.lead = leading_run(req);
+        self.start = start;
+        let is_further = pass_start(req, &self.lead, &mut self.start);
+        if is_further {
+            self.read_sets(req);
+        }
+        is_further
     }
 }
 
@@ -84,7 +113,7 @@ impl<S: StrDrive> Candidates<S> for Openings {
     #[inline(always)]
     fn pass(&mut self, req: &Request<'_, S>, _compared: u64, candidate: Candidate) -> bool {
         if !self.is_read {
-            self.read_on(req);
+            return self.pass_first(req, candidate.cursor);
         }
         self.start = candidate.cursor;
         pass_start(req, &self.lead, &mut self.start)

@@ -40,8 +40,8 @@ returns-clause-stepped g c =
     let yes = c.if-not-branch.false in
     record {
       ok = λ t whole.
-          steps_on (asked_of asked) t c.in_ok-search_admitted.field-0 c.search_admitted.new.state (told.answer t whole) yes
-          (asked_of c.set_start.new.self) next;
+          steps_on (asked_of asked) t c.in_ok-search_admitted.field-0 c.search_admitted.new.state
+          (told.answer t whole) yes (asked_of c.set_start.new.self) next;
       yes = λ _. goes_on g c;
       falls = λ _.
           falls_on (asked_of asked) tree.0 c.in_ok-search_admitted.field-0 c.search_admitted.new.state
