@@ -1,18 +1,19 @@
 #!/usr/bin/env python3
-"""Whether finders find what the machine finds: each case is asked of `sre_probes` three times.
+"""Whether finders find what the machine finds, and lists change nothing: each case is asked of `sre_probes` four times.
 
     finders.py [--program PATH] FILE..      tries the cases of such files as `sre_cases` reads
 
-`shown CASE` asks the machine alone, `finder CASE` a finder, whose automata tell where the next match can begin, and
-`spans CASE` a finder of spans, and the machine for the marks of each match. The three answers have to be one. Lines
-of a file that are no match, search or walk are passed over.
+`shown CASE` asks the machine alone, `told CASE` the machine with a list of what each place of the words admits,
+`finder CASE` a finder, whose automata tell where the next match can begin, and `spans CASE` a finder of spans, and the
+machine for the marks of each match. The four answers have to be one. Lines of a file that are no match, search or walk
+are passed over.
 """
 import argparse
 import sys
 
 import programs
 
-PROBES = ("shown", "finder", "spans")
+PROBES = ("shown", "told", "finder", "spans")
 
 
 def asks(line):

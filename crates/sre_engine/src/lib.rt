@@ -29,4 +29,5 @@ pub use sre_chars::string::{LentTable, StrDrive, StringCursor, UniError, UniPair
 pub use sre_chars::{constants, string};
 pub use sre_code::code::{CodeError, Hints};
 pub use sre_code::{Code, OwnedCode, code};
-pub use sre_request::Request;
+pub use sre_machine::admitting::admitted_by_place;
+pub use sre_request::{Admitted, Request};

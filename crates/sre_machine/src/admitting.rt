@@ -227,7 +227,9 @@ fn alternatives(words: &[u32], list: &[Admitted], place: usize) -> AsciiSet
     first.union(alternatives_at(words, list, place + length))
 }
 
-/// What may come next at each place of the words.
+/// What may come next at each place of a code's words (`Code::items`), whichever text is asked: 32 bytes a word. Who
+/// asks many texts of one code tells it once, and hands it to each request (`Request::with_admitted`). A walk over much
+/// of a text tells it itself.
 ///
 /// # Errors
 ///

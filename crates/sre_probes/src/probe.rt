@@ -6,7 +6,7 @@ use crate::finders::{push_by_finder, push_by_spans};
 use crate::heaps::{push_on_heap, push_refused};
 use crate::lines::push_lines;
 use crate::recipes::{Recipe, push_recipe};
-use crate::shown::{push_list, push_shown, push_within};
+use crate::shown::{push_list, push_shown, push_told, push_within};
 use crate::turns::push_fewest;
 use sre_engine::{Code, Request, State, StrDrive, UniTable};
 use sre_finder::{Encoding, Haystack};
@@ -41,6 +41,8 @@ impl<A: Allocator + Copy> Desk<A> {
 pub(crate) enum Asked<'a> {
     /// What the state shows of the match, with the offset of its end; of a walk, of each match.
     Shown,
+    /// The same, where a list tells from the start on what the places of the words admit.
+    Told,
     /// All matches, as a list.
     Listed,
     /// What is shown where so many turns are enough.
@@ -205,8 +207,9 @@ fn seen(text: &str) -> Encoding {
 }
 
 // The words that stand alone before a case.
-static ALONE: [(&[u8], Asked<'static>); 9] = [
+static ALONE: [(&[u8], Asked<'static>); 10] = [
     (b"shown", Asked::Shown),
+    (b"told", Asked::Told),
     (b"list", Asked::Listed),
     (b"fewest", Asked::Fewest),
     (b"finder", Asked::Finder),
@@ -264,6 +267,7 @@ fn push_found<S: Haystack, A: Allocator + Copy>(
 ) -> Result<(), AllocError> {
     match asked {
         Asked::Shown => push_shown(heap, state, finding, req, answer),
+        Asked::Told => push_told(heap, state, finding, req, answer),
         Asked::Listed => push_list(state, req, answer),
         Asked::Within(turns) => push_within(state, finding, req, turns, answer),
         Asked::Fewest => push_fewest(heap, state, finding, req, answer),

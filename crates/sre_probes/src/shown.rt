@@ -1,6 +1,6 @@
 //! What a state shows of a match, of all matches of a walk, and of a list.
 
-use sre_engine::{Found, Request, SearchIter, State, StrDrive, all_matches};
+use sre_engine::{Found, Request, SearchIter, State, StrDrive, admitted_by_place, all_matches};
 use sre_lines::answer::push_match;
 use sre_lines::line::Finding;
 use std::alloc::{AllocError, Allocator};
@@ -90,6 +90,20 @@ fn push_walk<S: StrDrive, A: Allocator + Copy>(
         answer.push_str(if goes_on(walk) { "; " } else { "; elsewhere " })?;
     }
     answer.push_str(if stays_ended(walk) { "end" } else { "goes on" })
+}
+
+/// Appends what a call finds, or each match of a walk, by a list of what the places of the words admit.
+pub(crate) fn push_told<S: StrDrive, A: Allocator + Copy>(
+    heap: A,
+    state: &mut State<A>,
+    finding: Finding,
+    req: Request<'_, S>,
+    answer: &mut String,
+) -> Result<(), AllocError> {
+    let Ok(list) = admitted_by_place(heap, req.pattern_codes().items()) else {
+        return Err(AllocError);
+    };
+    push_shown(heap, state, finding, req.with_admitted(&list), answer)
 }
 
 // Appends each of some matches.

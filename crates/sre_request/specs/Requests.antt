@@ -50,6 +50,10 @@ asked_of {S} {text} r = record {
 abbrev pub stands_in : {S : Type 0} {text : Ghosts S} → Request S text → StringCursor → ℕ → Type 0
 stands_in {S} {text} r = text.stands r.string
 
+-- the list of what its code's places admit that a request carries
+abbrev pub admitted_of : {S : Type 0} {text : Ghosts S} → Request S text → List Admitted
+admitted_of r = r.admitted.now
+
 -- the same request with another list of what its code's places admit; the model asks of no list
 abbrev pub carrying : {S : Type 0} {text : Ghosts S} (r : Request S text) (list : Bor (List Admitted))
     → AllAdmitted (items_of r.pattern_codes) list.now → Request S text

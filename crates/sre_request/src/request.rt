@@ -42,7 +42,7 @@ impl<'a, S: StrDrive> Copy for Request<'a, S> {}
 impl<'a, S: StrDrive> Request<'a, S> {
     ghost use Rattle.std.specs.Prelude.{◌≡◌, ◌^◌, ◌<◌, ◌≤◌, length, min, false};
     ghost use Rattle.sre_request.specs.Requests.{string_of, start_of, end_of, code_of, match_all_of, must_advance_of};
-    ghost use Rattle.sre_request.specs.Requests.{empty_rule_of, asked_of, carrying};
+    ghost use Rattle.sre_request.specs.Requests.{empty_rule_of, asked_of, admitted_of, carrying};
 
     /// A request over the window from `start` to `end` of a text: `end` is held at the number of characters, and
     /// `start` at `end`. `must_advance` is not set, and no
@@ -106,7 +106,7 @@ impl<'a, S: StrDrive> Request<'a, S> {
     }
 
     /// The same request, with a list of what the places of its code admit in place of the one that it carried:
-    /// `admitted_by_place` of `sre_machine` tells it. It asks the same, and its answer is the same.
+    /// `admitted_by_place` of `sre_engine` tells it. It asks the same, and its answer is the same.
     #[inline(always)]
     pub fn with_admitted<'b>(&self, admitted: &'b [Admitted]) -> Request<'b, S>
     where
@@ -130,7 +130,8 @@ impl<'a, S: StrDrive> Request<'a, S> {
     /// The list that it carries: what each place of its code admits. Of places behind its end nothing is told.
     #[inline(always)]
     pub fn admitted(&self) -> &'a [Admitted]
-        ensures { AllAdmitted (items_of (code_of self.now)) result.now }
+        ensures same { result.now ≡ admitted_of self.now }
+        ensures admitted { AllAdmitted (items_of (code_of self.now)) result.now }
     {
         self.admitted
     }

@@ -24,9 +24,10 @@ use std::alloc::{Allocator, Global};
 /// is no item, there are no marks, and `req` is as it was. A window of n characters has at most 2n + 1 matches. No step
 /// counts characters from the start on.
 ///
-/// Of a code with three alternatives or more, behind some steps, a list tells what may come next at each place, if much
-/// of the window is left: 32 bytes for each word of the code, of 4,096 words at most, from the state's allocator. A
-/// refusal of that memory is no error: the walk goes on without.
+/// Of a code with a branch of three alternatives or more, behind some steps, a list tells what may come next at each
+/// place, if much of the window is left. It takes up to 64 bytes for each word of the code, since it grows by doubling,
+/// and up to 48 more while it is told, from the state's allocator; of more than 4,096 words nothing is told. A refusal
+/// of that memory is no error: the walk goes on without.
 ///
 /// ```
 /// // The words of `a`.

@@ -15,7 +15,8 @@ returns-clause-some g c =
     let at : start.position ≡ c.step_admitted.new.state.start =
     omega (arith, there.0, here.0, c.start.ensures, c.position.ensures, goes.from) in
     let steps =
-    steps_span asked c.in_ok-step_admitted.field-0 c.step_admitted.new.state c.step_admitted.new.req ok.ok yes goes start.position at in
+    steps_span asked c.in_ok-step_admitted.field-0 c.step_admitted.new.state c.step_admitted.new.req ok.ok yes goes
+    start.position at in
     record {
       begins =
           subst (λ x. g.S.StrDrive.stands x start start.position) (c.string.ensures ∙ goes.string)

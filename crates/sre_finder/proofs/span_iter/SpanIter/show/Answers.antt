@@ -31,8 +31,8 @@ returns-clause-answer g c = λ t whole.
     ∙ ap₂ (λ (a : Asked) p. record a { start = p }) (first.asked
     ∙ ap (λ q. record (asked_of q) { must_advance = it.advances }) own) c.position.ensures in
     let code = last.pattern_codes ∙ first.pattern_codes ∙ ap code_of own in
-    step_answers r c.in_ok-shown.shown c.step_admitted.new.state c.step_admitted.new.req c.in_ok-shown.ensures.stepped.ok t
-    (subst (λ d. Whole (words_of d) t) (sym code) whole)
+    step_answers r c.in_ok-shown.shown c.step_admitted.new.state c.step_admitted.new.req
+    c.in_ok-shown.ensures.stepped.ok t (subst (λ d. Whole (words_of d) t) (sym code) whole)
     ∙ ap (λ a. found a t) asked
 
 pub returns-clause-cursor : goal.returns-clause-cursor
