@@ -6,13 +6,13 @@
 
 Nothing else would notice that a test, a wrong body, a line of a case file or a pattern is gone: so .ci/counts has
 their numbers by crate, none of which may be less. Nor may a number of that file be less than it was in a commit, but
-where its row says why: 'WHAT NUMBER # was GREATEST: REASON'. What counts is what the tools read, and no two wrong
-bodies make the same text. HANDLES allows nothing. And every clause on memory rests on the seal: a crate that could
-say that a growth was refused could pass on any error. Only sre_growth stands on the crate that has the fact, one line
-of one spec hands on the fact without its lemma, and the lemma is cited by the answers of the three growths alone. And
-what tools draw goes stale without a sign: the pictures of docs/ (`pictures.py`), a table (`adding.py`) and the map of
-the code (`map.py`); and so does the kit's name on a page (`kit.py`), and the header of what C calls (`header.py`). The
-status is 1 where something does not stand.
+where its row says why: 'WHAT NUMBER # was GREATEST: REASON'. What counts is what the tools read. No two wrong bodies
+make the same text, and none changes another function than the one that it names. HANDLES allows nothing. And every
+clause on memory rests on the seal: a crate that could say that a growth was refused could pass on any error. Only
+sre_growth stands on the crate that has the fact, one line of one spec hands on the fact without its lemma, and the
+lemma is cited by the answers of the three growths alone. And what tools draw goes stale without a sign: the pictures
+of docs/ (`pictures.py`), a table (`adding.py`) and the map of the code (`map.py`); and so does the kit's name on a page
+(`kit.py`), and the header of what C calls (`header.py`). The status is 1 where something does not stand.
 """
 import os
 import re
@@ -21,6 +21,7 @@ import sys
 
 import adding
 import faults
+import functions
 import header
 import kit
 import map as code_map
@@ -170,6 +171,17 @@ def alike():
                 made[changed] = body.name
 
 
+def strayed():
+    """The wrong bodies that change another function than the one that has to be refused, as where a function was split.
+    What stands in no function may be changed, too."""
+    for crate in wrong_bodies.crates().values():
+        texts = wrong_bodies.sources(crate.folder)
+        for body in wrong_bodies.bodies_of(crate):
+            around = {functions.name_around(texts.get(file, ""), old) for file, old, _ in body.pairs}
+            if not body.is_inside(texts) and around - {None, body.function.rpartition("::")[2]}:
+                yield f"{body.label(crate)} changes another function than {body.function}"
+
+
 def widened():
     """HANDLES, where it allows more than nothing."""
     if not os.path.isfile(f"{ROOT}/HANDLES") or read(f"{ROOT}/HANDLES") != HANDLES:
@@ -208,7 +220,7 @@ def stale():
 
 def fallen():
     """All that does not stand."""
-    kept = [*missed(), *lowered(), *unread(), *alike(), *widened()]
+    kept = [*missed(), *lowered(), *unread(), *alike(), *strayed(), *widened()]
     return [*kept, *unsealed(), *header.unlike(), *adding.stale(), *code_map.stale(), *kit.unnamed(), *stale()]
 
 
