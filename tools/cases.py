@@ -17,8 +17,8 @@ lines or answers is TEXT N times.
                     of the two outputs
 
 Each text of a .jsonl file has a character for a byte. Beside the files come lines that are made: random and changed
-words (`hostile.py`), and large ones (`large.py`). The lines of `sre_cases` are asked of finders and with lists told, too
-(`finders.py`), and each request of a finder is refused in turn (`refused.py`).
+words (`hostile.py`), and large ones (`large.py`). The lines of `sre_cases` are asked of finders and with lists told,
+too (`finders.py`), and each request of a finder is refused in turn (`refused.py`).
 """
 import json
 import os

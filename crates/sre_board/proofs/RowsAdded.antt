@@ -104,7 +104,8 @@ made_for ws first end place fs gs old mid row n taken shape same ef ee es shaped
     let few : most_words n first end ≡ most_words (slots ws (repeats gs)) first end =
     ap (λ m. most_words m first end) number in
     let parts =
-    enough (omega (arith, number, room.few_slots)) some room.order (omega (arith, few, room.few_in_row)) (omega (arith, few, et, room.few_words)) in
+    enough (omega (arith, number, room.few_slots)) some room.order (omega (arith, few, room.few_in_row))
+    (omega (arith, few, et, room.few_words)) in
     record {
       first_is = ef;
       positions = parts.0;

@@ -4,8 +4,9 @@
 //! inside a region and outside, and for each slot, which is the loops in progress as one number. Of a loop a slot tells
 //! the count, held where a further body makes no difference any more, and whether the last body began at that position.
 //!
-//! A row is for the loops that were in progress when it was made, so a spot under others has no bit. Nothing is
-//! expected of the words: where one is missing there is no bit either.
+//! A row is for the loops that were in progress when it was made, so a spot under others has no bit. Where the slots
+//! are many it may be a part of one, and a spot behind its end has no bit. Nothing is expected of the words: where one
+//! is missing there is no bit either.
 
 ghost use Rattle.std.specs.Prelude.{◌≡◌, ◌≢◌, ℕ, ◌+◌, ◌-◌, ◌*◌, ◌^◌, ◌<◌, ◌≤◌, true, false, [], ◌∷◌, ◌++◌, length};
 ghost use Rattle.std.specs.Prelude.{if◌then◌else◌, is_ok, MatchOption, Some, IfOk, IfSome, slice_get, slice_index_or};

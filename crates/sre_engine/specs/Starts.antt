@@ -109,8 +109,8 @@ abbrev pub NoneUntil : Asked → Tree → ℕ → Option StringCursor → Type 0
 NoneUntil a t p None = NoneBetween a t p (a.end + 1)
 NoneUntil a t p (Some next) = NoneBetween a t p next.position
 
--- a start that has no match is passed to a cursor behind it, if there is one: no start before it has a match, or none in
--- the window
+-- a start that has no match is passed to a cursor behind it, if there is one: no start before the cursor has a match,
+-- or none in the window
 pub record PassesTo (r : Run) (a : Asked) (p : ℕ) (further : Bool) (cursor : StringCursor) : Type 0 where
   pub next : further ≡ true → (p < cursor.position) × (cursor.position ≤ a.end)
   pub stands : further ≡ true → r.stands cursor cursor.position
