@@ -96,6 +96,7 @@ module _ (r : Run) (pl : Regionless r) (first : ℕ) (old new : Kept) (x : Spot)
         few_in_row = omega (arith, own, more);
         order = omega (arith, begins, settled.inside);
         few_slots = has_slots.few;
+        whole = λ many. omega (arith, own, room.whole (omega (arith, many, has_slots.most)));
         words = has_slots.words;
       }
 

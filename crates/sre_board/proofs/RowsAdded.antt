@@ -92,7 +92,8 @@ pub made_for : (ws : List ℕ) (first end place : ℕ) (fs gs : List Frame) (old
     → (1 ≤ n → HasShape mid.shapes (length mid.shapes) shape (repeats fs))
     → (WordsThere ws (repeats fs) → slots ws (repeats fs) ≤ 2 ^ 24 → n ≡ slots ws (repeats fs))
     → taken ≡ length old.bits
-    → (n ≤ 4096 → 1 ≤ n → first ≤ end → most_words n first end ≤ 2 ^ 30 → taken + most_words n first end ≤ 2 ^ 32
+    → (1 ≤ n → first ≤ end → most_words n first end ≤ 2 ^ 30 → taken + most_words n first end ≤ 2 ^ 32
+    → (4096 < n → most_words n first end ≤ 2 ^ 24)
     → (row.positions ≡ end + 1 - first) × (n * 2 * row.positions ≤ 64 * row.length))
     → Capacity ws first end place (repeats gs) old → RowFor mid ws first end (repeats gs) row
 made_for ws first end place fs gs old mid row n taken shape same ef ee es shaped all et enough room =
@@ -104,8 +105,8 @@ made_for ws first end place fs gs old mid row n taken shape same ef ee es shaped
     let few : most_words n first end ≡ most_words (slots ws (repeats gs)) first end =
     ap (λ m. most_words m first end) number in
     let parts =
-    enough (omega (arith, number, room.few_slots)) some room.order (omega (arith, few, room.few_in_row))
-    (omega (arith, few, et, room.few_words)) in
+    enough some room.order (omega (arith, few, room.few_in_row)) (omega (arith, few, et, room.few_words))
+    (λ many. omega (arith, few, room.whole (omega (arith, number, many)))) in
     record {
       first_is = ef;
       positions = parts.0;

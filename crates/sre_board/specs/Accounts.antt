@@ -78,7 +78,8 @@ pub record Account (r : Run) (pl : Regionless r) (first : ℕ) (k : Kept) (xs : 
 -- all places of the words have room for their bits in a window from first on
 pub record Room (r : Run) (pl : Regionless r) (first : ℕ) : Type 0 where
   pub words : length r.words * most_words (most_slots pl.tree) first r.subject.end ≤ 2 ^ 30
-  pub slots : most_slots pl.tree ≤ 4096
+  pub slots : most_slots pl.tree ≤ 2 ^ 24
+  pub whole : 4096 < most_slots pl.tree → most_words (most_slots pl.tree) first r.subject.end ≤ 2 ^ 24
 
 -- so many bits are taken in at most: one for each slot and position at each place
 abbrev pub most_bits : (r : Run) → Regionless r → ℕ → ℕ

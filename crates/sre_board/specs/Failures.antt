@@ -161,7 +161,7 @@ pub record RowFor (k : Kept) (ws : List ℕ) (first end : ℕ) (js : List ℕ) (
   pub positions : row.positions ≡ end + 1 - first
   pub shape : HasShape k.shapes row.end row.shape js
   pub enough : slots ws js * 2 * row.positions ≤ 64 * row.length
-  pub few : slots ws js ≤ 4096
+  pub few : slots ws js ≤ 2 ^ 24
 
 -- so many words are enough for the bits of a place with n slots, for the positions from first to end
 abbrev pub most_words : ℕ → ℕ → ℕ → ℕ
@@ -175,7 +175,8 @@ pub record Capacity (ws : List ℕ) (first end place : ℕ) (js : List ℕ) (k :
   pub few_words : length k.bits + most_words (slots ws js) first end ≤ 2 ^ 32
   pub few_in_row : most_words (slots ws js) first end ≤ 2 ^ 30
   pub order : first ≤ end
-  pub few_slots : slots ws js ≤ 4096
+  pub few_slots : slots ws js ≤ 2 ^ 24
+  pub whole : 4096 < slots ws js → most_words (slots ws js) first end ≤ 2 ^ 24
   pub words : WordsThere ws js
 
 -- a place has a row
@@ -202,7 +203,7 @@ pub record NewRow (ws : List ℕ) (first end place : ℕ) (js : List ℕ) (old n
 -- the words of the loops at these places are there, and they have at most n slots
 pub record HasSlots (ws js : List ℕ) (n : ℕ) : Type 0 where
   pub words : WordsThere ws js
-  pub few : slots ws js ≤ 4096
+  pub few : slots ws js ≤ 2 ^ 24
   pub most : slots ws js ≤ n
 
 -- no more rows than a list has words, and no more bits than these need with n slots each

@@ -115,7 +115,7 @@ fn set_number<A: Allocator>(
 #[inline(always)]
 fn in_part(slots: usize, length: usize) -> usize
     ensures few { result ≤ length }
-    ensures whole { slots ≤ 4096 → result ≡ length }
+    ensures whole { (4096 < slots → length ≤ 2 ^ 24) → result ≡ length }
 {
     if slots > FEW_SLOTS {
         return length.min(MOST_WORDS_IN_PART);
@@ -130,8 +130,8 @@ fn room(slots: usize, first: usize, end: usize, taken: usize) -> (usize, usize)
     requires { (slots ≤ 2 ^ 24) × (taken ≤ 2 ^ 32) }
     ensures all { taken + result.1 ≤ 2 ^ 32 }
     ensures few { result.1 ≤ most_words slots first end }
-    ensures enough { slots ≤ 4096 → 1 ≤ slots → first ≤ end → most_words slots first end ≤ 2 ^ 30
-        → taken + most_words slots first end ≤ 2 ^ 32
+    ensures enough { 1 ≤ slots → first ≤ end → most_words slots first end ≤ 2 ^ 30
+        → taken + most_words slots first end ≤ 2 ^ 32 → (4096 < slots → most_words slots first end ≤ 2 ^ 24)
         → (result.0 ≡ end + 1 - first) × (slots * 2 * result.0 ≤ 64 * result.1) }
 {
     if slots == 0 || first > end || end - first >= MOST_POSITIONS {

@@ -13,7 +13,7 @@ use Rattle.sre_model.specs.Remembered.{window_positions, words_at_place, IsRemem
 use Rattle.sre_model.proofs.WiderWindows.{IsInside, remembered_inside, enough_inside}
 use Rattle.sre_code.specs.PlainItems.{IsPlain, AreTold}
 use Rattle.sre_code.specs.EnoughTurns.{IsWindow, IsWholeText, AreEnoughFor, HasNoNumber}
-use Rattle.sre_code.specs.TurnsTold.{NumberTold, NumberBy, turns_on, room_by}
+use Rattle.sre_code.specs.TurnsTold.{NumberTold, NumberBy, AreWhole, turns_on, room_by}
 use Rattle.sre_code.specs.declared.code.slots.Passed.{Passed}
 
 -- the number as it is written, of positions from start to end
@@ -53,9 +53,14 @@ module _ (places : ℕ) (t : Tree) (n : ℕ) where
   whole : (a : Asked) → IsWholeText n (around a)
   whole a = record { start = refl; end = refl }
 
-  enough_for : (turns : ℕ) → IsPlain 4096 t → room_by places (n + 1) (most_slots t) ≤ 2 ^ 30 → turns ≡ told + 1
-      → AreEnoughFor places t n turns
-  enough_for turns plain room is = record {
+  whole_on_whole : (a : Asked) → IsWholeText n a → words_at_place t a ≡ most_slots t * 2 * (n + 1) / 64 + 1
+  whole_on_whole a w =
+      let all : window_positions a ≡ n + 1 = omega (arith, w.start, w.end) in
+      ap (λ f. most_slots t * 2 * f / 64 + 1) all
+
+  enough_for : (turns : ℕ) → IsPlain (2 ^ 24) t → room_by places (n + 1) (most_slots t) ≤ 2 ^ 30
+      → AreWhole (n + 1) (most_slots t) → turns ≡ told + 1 → AreEnoughFor places t n turns
+  enough_for turns plain room fits is = record {
     remembered = λ a w. remembered_inside places t a (around a) (inside a w) (kept a);
     more = λ a w. omega (arith, enough_inside places t a (around a) (inside a w), on_whole (around a) (whole a), is);
     least = λ a w. omega (arith, on_whole a w, is);
@@ -66,24 +71,26 @@ module _ (places : ℕ) (t : Tree) (n : ℕ) where
         no_region = plain.no_region;
         no_reference = plain.no_reference;
         slots = plain.few;
+        whole = λ many. omega (arith, whole_on_whole (around a) (whole a), fits many);
         room = omega (arith, room_on_whole (around a) (whole a), room);
         order = omega arith;
       }
 
-  number_told : (r : Option ℕ) → IsPlain 4096 t
+  number_told : (r : Option ℕ) → IsPlain (2 ^ 24) t
       → NumberBy places (most_slots t) (most_alternatives t) (most_counts t) n r → NumberTold places t n r
-  number_told (Some turns) plain by = enough_for turns plain by.0 by.1
+  number_told (Some turns) plain by = enough_for turns plain by.0 by.1 by.2
   number_told None plain by = record {
     none = λ a w kept.
         omega (
           arith,
           on_whole a w,
-          by (omega (arith, room_on_whole a w, kept.room)),
+          by (omega (arith, room_on_whole a w, kept.room))
+              (λ many. omega (arith, whole_on_whole a w, kept.whole many)),
         );
   }
 
 pub turns_told : (ws : List ℕ) (e n counts : ℕ) (p : Passed) (r : Option ℕ)
-    → AreTold 4096 ws 0 e (Some p) → e ≡ length ws - 1 → NumberBy (length ws) p.slots p.alternatives counts n r
+    → AreTold (2 ^ 24) ws 0 e (Some p) → e ≡ length ws - 1 → NumberBy (length ws) p.slots p.alternatives counts n r
     → (t : Tree) → WholeItems ws t → (refers t ≡ false → counts ≡ most_counts t) → NumberTold (length ws) t n r
 turns_told ws e n counts p r told at by t w counted =
     let are = told.each t (subst (λ k. Reads ws 0 k t) (sym at) w.0) in
@@ -93,7 +100,7 @@ turns_told ws e n counts p r told at by t w counted =
     (subst (λ s. NumberBy (length ws) s p.alternatives counts n r) are.2 by)))
 
 -- where the items are not plain there is none
-pub no_turns : (ws : List ℕ) (e n : ℕ) → AreTold 4096 ws 0 e None → e ≡ length ws - 1 → (t : Tree) → WholeItems ws t
+pub no_turns : (ws : List ℕ) (e n : ℕ) → AreTold (2 ^ 24) ws 0 e None → e ≡ length ws - 1 → (t : Tree) → WholeItems ws t
     → HasNoNumber (length ws) t n
 no_turns ws e n told at t w = record {
   none = λ a whole kept.

@@ -24,6 +24,7 @@ pub mod ScanningLoops
 pub mod PassedParts
 pub mod CappedTurns
 pub mod CodeTurns
+pub mod CodeSlots
 pub mod AsciiMembers
 pub mod Bits
 pub mod Halves

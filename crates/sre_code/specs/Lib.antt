@@ -12,6 +12,7 @@ pub mod PlainItems
 pub mod RegionWords
 pub mod EnoughTurns
 pub mod TurnsTold
+pub mod MostSlots
 pub mod Steps
 pub mod Descent
 pub mod Codes

@@ -1,6 +1,6 @@
 -- The number of enough turns as it is computed: by what it is made of, and where it takes more than 64 bits.
 -- Words of the check's contracts; what sre_engine makes public does not rest on it.
-use Rattle.std.specs.Prelude.{ℕ, ◌+◌, ◌*◌, ◌/◌, ◌^◌, ◌≡◌, ◌≤◌, min, max, Option, Some, None}
+use Rattle.std.specs.Prelude.{ℕ, ◌+◌, ◌-◌, ◌*◌, ◌/◌, ◌^◌, ◌≡◌, ◌<◌, ◌≤◌, min, max, Option, Some, None}
 use Rattle.sre_model.specs.Tree.{Tree}
 use Rattle.sre_code.specs.EnoughTurns.{AreEnoughFor, HasNoNumber}
 
@@ -19,6 +19,14 @@ turns_by places positions slots ways counts =
 abbrev pub room_by : ℕ → ℕ → ℕ → ℕ
 room_by places positions slots = places * (slots * 2 * positions / 64 + 1)
 
+-- x, or the greatest number of 64 bits where x is above it
+pub record Held (x r : ℕ) : Type 0 where
+  pub is : r ≡ min x (2 ^ 64 - 1)
+
+-- all bits of a place are kept: it has few slots, or few words
+abbrev pub AreWhole : ℕ → ℕ → Type 0
+AreWhole positions slots = 4096 < slots → slots * 2 * positions / 64 + 1 ≤ 2 ^ 24
+
 -- the same number for a whole text of so many characters
 abbrev pub turns_on : ℕ → ℕ → ℕ → ℕ → ℕ → ℕ
 turns_on places slots alternatives counts characters =
@@ -27,8 +35,8 @@ turns_on places slots alternatives counts characters =
 -- one more, where there is room and it takes no more than 64 bits
 abbrev pub NumberBy : ℕ → ℕ → ℕ → ℕ → ℕ → Option ℕ → Type 0
 NumberBy places slots alternatives counts characters (Some turns) =
-    (room_by places (characters + 1) slots ≤ 2 ^ 30)
+    (room_by places (characters + 1) slots ≤ 2 ^ 30) × AreWhole (characters + 1) slots
     × (turns ≡ turns_on places slots alternatives counts characters + 1)
 NumberBy places slots alternatives counts characters None =
-    room_by places (characters + 1) slots ≤ 2 ^ 30
+    room_by places (characters + 1) slots ≤ 2 ^ 30 → AreWhole (characters + 1) slots
     → 2 ^ 64 ≤ turns_on places slots alternatives counts characters + 1

@@ -17,6 +17,7 @@ ghost use Rattle.sre_code.specs.Hinted.{Confirmed};
 ghost use Rattle.sre_model.specs.Grammar.{AreItems, IsCode, HasOneTree, behind_block};
 ghost use Rattle.sre_code.specs.Refusals.{place_of};
 ghost use Rattle.sre_code.specs.EnoughTurns.{AreEnoughFor, HasNoNumber};
+ghost use Rattle.sre_code.specs.MostSlots.{AreMostSlots, HasTooManySlots};
 ghost use Rattle.sre_growth.specs.Refusal.{Refused};
 
 mod asked;
@@ -257,13 +258,32 @@ impl<'a> Code<'a> {
         marked_regions::regions_set_marks(self.items())
     }
 
+    /// How many states of the loops in progress make a difference at a place of the code, at most: those of each loop
+    /// times those of the loops inside it. A loop has two for each count of bodies that makes a difference, as far as
+    /// its greatest count, or its least where it has no greatest. What failed is kept for up to 16,777,216 of them.
+    ///
+    /// `None` where there are more, and where the code has a reference, a condition, an atomic group, a look or a
+    /// possessive loop: of such codes it is not told. Each call goes over the words anew, so its time grows with them.
+    ///
+    /// ```
+    /// // The words of `(?:(?:ab)+c){1,5}`, whose loops have 4 and 12 slots.
+    /// assert_eq!(code.most_slots(), Some(48));
+    /// ```
+    pub fn most_slots(&self) -> Option<u32>
+        ensures some { IfSome result (λ n. (tree : Tree) → Whole (words_of self.now) tree → AreMostSlots n tree) }
+        ensures none { result ≡ None → (tree : Tree) → Whole (words_of self.now) tree → HasTooManySlots tree }
+    {
+        turns::most_slots(self.items())
+    }
+
     /// A number of turns within which a match, a search or a step of a walk is answered unless memory is refused, in
     /// any window of a text of at most so many characters: one more than `enough_turns` of the whole text. It grows
     /// with the text, and is told without one, in a time that grows with the words alone.
     ///
     /// `None` where no such number is known: where the code has a reference, a condition, an atomic group, a look or a
-    /// possessive loop; where what failed may not be kept, since its loops have more than 4,096 slots within each other
-    /// or there is no room for so many characters; and where the number takes more than 64 bits.
+    /// possessive loop; where not all that failed may be kept, since its loops have more than 16,777,216 slots within
+    /// each other (`most_slots`), or there is no room for so many characters, which with more than 4,096 slots is less;
+    /// and where the number takes more than 64 bits.
     pub fn enough_turns(&self, characters: usize) -> Option<u64>
         ensures enough { IfSome result (λ turns. (tree : Tree) → Whole (words_of self.now) tree
             → AreEnoughFor (length (items_of self.now)) tree characters turns) }

@@ -46,7 +46,11 @@ module _ {S : Type 0} {text : Ghosts S} (r : Request S text) (given : ℕ)
       no_region = enough.remembered.no_region;
       no_reference = enough.remembered.no_reference;
     };
-    room = record { words = enough.remembered.room; slots = enough.remembered.slots };
+    room = record {
+      words = enough.remembered.room;
+      slots = enough.remembered.slots;
+      whole = enough.remembered.whole;
+    };
     order = enough.remembered.order;
   }
 

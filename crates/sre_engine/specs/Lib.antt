@@ -26,6 +26,7 @@ pub use Rattle.sre_code.specs.Hinted
 pub use Rattle.sre_code.specs.Codes
 pub use Rattle.sre_code.specs.Owned
 pub use Rattle.sre_code.specs.EnoughTurns
+pub use Rattle.sre_code.specs.MostSlots
 pub use Rattle.sre_request.specs.Requests
 pub use Rattle.sre_code.specs.declared.code.Hints
 pub mod Answers

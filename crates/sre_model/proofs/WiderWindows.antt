@@ -34,6 +34,7 @@ module _ (places : ℕ) (t : Tree) (a b : Asked) (inside : IsInside a b) where
     no_region = r.no_region;
     no_reference = r.no_reference;
     slots = r.slots;
+    whole = λ many. omega (arith, words, r.whole many);
     room = omega (arith, r.room, mul-le-mul_left places words);
     order = inside.order;
   }

@@ -1,6 +1,6 @@
 -- Codes of which a search keeps all that failed, and a number of turns that is enough for them.
 -- Of the meaning: what sre_engine makes public rests on it.
-use Rattle.std.specs.Prelude.{ℕ, ◌+◌, ◌-◌, ◌*◌, ◌^◌, ◌/◌, ◌≡◌, ◌≤◌, false, min, max}
+use Rattle.std.specs.Prelude.{ℕ, ◌+◌, ◌-◌, ◌*◌, ◌^◌, ◌/◌, ◌≡◌, ◌<◌, ◌≤◌, false, min, max}
 use Rattle.sre_model.specs.Tree.{Tree}
 use Rattle.sre_model.specs.Found.{Asked}
 use Rattle.sre_model.specs.References.{refers}
@@ -17,12 +17,13 @@ window_positions a = a.end + 1 - a.start
 abbrev pub words_at_place : Tree → Asked → ℕ
 words_at_place t a = most_slots t * 2 * window_positions a / 64 + 1
 
--- the tree has neither regions nor references, its loops have few slots, and there is room for what failed at all of so
--- many places
+-- the tree has neither regions nor references, and there is room for what failed at all of so many places: its loops
+-- have no more slots than may be told apart, and where these are many, a place has not too many bits
 pub record IsRemembered (places : ℕ) (t : Tree) (a : Asked) : Type 0 where
   pub no_region : has_region t ≡ false
   pub no_reference : refers t ≡ false
-  pub slots : most_slots t ≤ 4096
+  pub slots : most_slots t ≤ 2 ^ 24
+  pub whole : 4096 < most_slots t → words_at_place t a ≤ 2 ^ 24
   pub room : places * words_at_place t a ≤ 2 ^ 30
   pub order : a.start ≤ a.end
 

@@ -44,6 +44,7 @@ two_runs_remembered a order short = record {
   no_region = refl;
   no_reference = refl;
   slots = omega arith;
+  whole = λ many. absurd (omega (arith, many));
   room = omega (arith, short);
   order = order;
 }

@@ -1,26 +1,50 @@
 //! How many turns are enough for a code on a text of so many characters, where that is known.
 
-ghost use Rattle.std.specs.Prelude.{◌≡◌, ◌+◌, ◌-◌, ◌^◌, length, min, max, nat_le, false};
+ghost use Rattle.std.specs.Prelude.{◌≡◌, ◌+◌, ◌-◌, ◌*◌, ◌^◌, length, min, max, nat_le, true, false};
 ghost use Rattle.sre_model.specs.Tree.{Tree};
 ghost use Rattle.sre_model.specs.Grammar.{WholeItems};
 ghost use Rattle.sre_model.specs.References.{refers};
 ghost use Rattle.sre_model.specs.RunCounts.{most_counts};
-ghost use Rattle.sre_code.specs.TurnsTold.{NumberTold, NumberBy, turns_by, room_by};
+ghost use Rattle.sre_code.specs.MostSlots.{SlotsTold};
+ghost use Rattle.sre_code.specs.TurnsTold.{NumberTold, NumberBy, Held, AreWhole, turns_by, room_by};
 
 use crate::code::slots::{Passed, scan};
 
 /// How many slots a place's loops have at most where what failed there is kept.
-const MOST_SLOTS: u64 = 4096;
+const MOST_SLOTS: u64 = 1 << 24;
+
+/// With more slots all of a place's bits are kept only where they take no more words than a part may have.
+const FEW_SLOTS: u64 = 4096;
+
+/// How many words a part of a place's bits has.
+const MOST_WORDS_IN_PART: u64 = 1 << 24;
 
 /// How many words of bits there may be for what failed.
 const MOST_WORDS: u64 = 1 << 30;
+
+/// How many bits a place has, by its slots and positions, or the greatest number of 64 bits where they are more.
+fn bits_by(positions: u64, slots: u64) -> u64
+    ensures { Held (slots * 2 * positions) result }
+{
+    slots.saturating_mul(2).saturating_mul(positions)
+}
+
+/// Whether all of a place's bits are kept, by its slots and positions.
+fn are_whole(positions: u64, slots: u64) -> bool
+    ensures yes { result ≡ true → AreWhole positions slots }
+    ensures no { result ≡ false → AreWhole positions slots → ⊥ }
+{
+    if slots <= FEW_SLOTS {
+        return true;
+    }
+    bits_by(positions, slots) / 64 < MOST_WORDS_IN_PART
+}
 
 /// Whether there is room for what failed at so many places, each with these slots and positions.
 fn has_room(places: u64, positions: u64, slots: u64) -> bool
     ensures { result ≡ nat_le (room_by places positions slots) (2 ^ 30) }
 {
-    let bits = slots.saturating_mul(2).saturating_mul(positions);
-    let words = places.saturating_mul(bits / 64 + 1);
+    let words = places.saturating_mul(bits_by(positions, slots) / 64 + 1);
     words <= MOST_WORDS
 }
 
@@ -42,17 +66,28 @@ fn turns_by(places: u64, positions: u64, slots: u64, ways: u64, counts: u64) -> 
 }
 
 /// One turn more than are enough on a text of so many characters, of items of which this was passed; none where there
-/// is no room for what failed, or where it takes more than 64 bits.
+/// is no room for all that failed, or where it takes more than 64 bits.
 fn number(places: u64, passed: Passed, counts: u64, characters: u64) -> Option<u64>
     ensures { NumberBy places passed.slots passed.alternatives counts characters result }
 {
     let positions = characters.checked_add(1)?;
-    if !has_room(places, positions, passed.slots) {
+    if !has_room(places, positions, passed.slots) || !are_whole(positions, passed.slots) {
         return None;
     }
     let counts = counts.min(characters);
     let ways = counts.max(passed.alternatives);
     turns_by(places, positions, passed.slots, ways, counts).checked_add(1)
+}
+
+/// How many slots the loops of these items have at most within each other; none where that is not known, or where they
+/// are more than may be told apart.
+pub fn most_slots(items: &[u32]) -> Option<u32>
+    ensures { (tree : Tree) → WholeItems items.now tree → SlotsTold tree result }
+{
+    match scan(items, 0, items.len().saturating_sub(1), MOST_SLOTS) {
+        Some(passed) => Some(passed.slots as u32),
+        None => None,
+    }
 }
 
 /// One turn more than are enough for these items, whose runs count up to `counts`, on a text of so many characters;

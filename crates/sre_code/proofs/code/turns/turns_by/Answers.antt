@@ -1,5 +1,6 @@
 use Rattle.std.proofs.Common.{arith, ◌*◌, ◌+◌, ◌/◌}
-use Rattle.sre_code.proofs.CappedTurns.{Held, held_same, held_times, held_plus}
+use Rattle.sre_code.specs.TurnsTold.{Held}
+use Rattle.sre_code.proofs.CappedTurns.{held_same, held_times, held_plus}
 use Rattle.sre_code.proofs.code.turns.turns_by.Goals as goal
 
 pub returns : goal.returns
