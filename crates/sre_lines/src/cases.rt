@@ -231,7 +231,7 @@ fn push_answer<A: Allocator + Copy>(
         × (string_bytes answer.new ≡ string_bytes answer.old ++ (said ++ 10 ∷ []))) }
 {
     push_verdict(alloc, detail, table, case, operands, state, answer)?;
-    answer.push_str("\n")
+    answer.push('\n')
 }
 
 // Appends the answer to a case.

@@ -29,9 +29,6 @@ use sre_request::Request;
 use sre_turns::Frame;
 use std::alloc::Allocator;
 
-// Behind so many bodies it is worth to tell which characters are one.
-const FEW: u32 = 4;
-
 /// Where a loop's body ends: the loop's frame, and the cursor.
 #[derive(Clone, Copy)]
 pub(super) struct BodyEnd {
@@ -79,22 +76,20 @@ fn next_body<S: StrDrive>(
     Some(behind)
 }
 
-// What is told of the next bodies behind so many of them.
+// What is told of the next bodies, unless none comes: at the window's end, and before the literal behind the loop.
 #[inline(always)]
-fn told_behind<S: StrDrive>(
+fn told_before<S: StrDrive>(
     req: &Request<'_, S>,
     place: usize,
     alternatives: usize,
-    told: AsciiSet,
-    bodies: u32,
+    wanted: u32,
     cursor: StringCursor,
 ) -> AsciiSet
-    requires stands { AtPoint req.now (Alternatives alternatives) cursor }
-    requires told { TellsBodies (run_of req.now) alternatives place (contains told) }
+    requires { AtPoint req.now (Alternatives alternatives) cursor }
     ensures { TellsBodies (run_of req.now) alternatives place (contains result) }
 {
-    if bodies != FEW {
-        return told;
+    if cursor.position() >= req.end() || read(req, cursor).0 == wanted {
+        return AsciiSet::new();
     }
     told_bodies(req, place, alternatives, cursor)
 }
@@ -122,29 +117,26 @@ fn stride<S: StrDrive>(
 {
     let mut frame = first;
     let mut cursor = start;
-    let mut told = AsciiSet::new();
-    let mut bodies = 0u32;
+    let told = told_before(req, place, alternatives, wanted, start);
     'body: while let Some(end) = next_body(req, place, alternatives, wanted, told, frame, cursor) {
-        bodies = bodies.saturating_add(1);
-        told = told_behind(req, place, alternatives, told, bodies, cursor);
         frame = next_frame(frame, Some(cursor.position()));
         cursor = end;
     }
     BodyEnd { frame, cursor }
 }
 
-// Whether the body that ends at a cursor began one character before it.
+// Whether the body that ends at a cursor, if one does, began one character before it.
 #[inline(always)]
 fn had_one_character(frame: Frame, cursor: StringCursor) -> bool {
     match frame.last {
         Some(last) => cursor.position().wrapping_sub(last) == 1,
-        None => false,
+        None => true,
     }
 }
 
 /// Goes over bodies of one character each where strides are wanted, a loop without a greatest count has alternatives,
-/// and a literal has to come behind it. The first body, and the next one behind a longer one, is not tried so: most
-/// bodies are like the one before.
+/// and a literal has to come behind it. The next body behind a longer one is not tried so: most bodies are like the one
+/// before.
 #[inline(always)]
 pub(super) fn stride_on<S: StrDrive, A: Allocator, const STRIDES: bool>(
     req: &Request<'_, S>,

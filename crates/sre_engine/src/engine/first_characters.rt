@@ -9,6 +9,7 @@ ghost use Rattle.sre_model.specs.Standing.{HasTest};
 ghost use Rattle.sre_model.specs.FirstCharacters.{NoWay, NoneOf, NotPassed, Leads};
 ghost use Rattle.sre_model.specs.FirstCharacters.{TreeStands, HasTree, HasAlternatives};
 ghost use Rattle.sre_model.specs.Roles.{begins_test};
+ghost use Rattle.sre_reading.specs.AsciiSets.{TakesAscii};
 ghost use Rattle.sre_engine.specs.Starts.{IsElsewhere, NotAmong, IsLacking, Bars, TestsThere, PassesRun};
 
 use sre_chars::constants::{SreAtCode, SreOpcode};
@@ -272,6 +273,19 @@ pub(crate) fn is_test(opcode: SreOpcode) -> bool
     }
 }
 
+// The ASCII characters that the test at a place takes, if it tells them. Most alternatives begin with a LITERAL, which
+// is told with no call.
+#[inline(always)]
+fn taken_at(words: &[u32], test: usize) -> Option<AsciiSet>
+    requires { HasTest words.now test }
+    ensures { IfSome result (λ taken. TakesAscii words.now test taken) }
+{
+    if word(words, test) == SreOpcode::LITERAL as u32 {
+        return Some(AsciiSet::of_character(operand(words, test, 1)));
+    }
+    ascii_taken(words, test)
+}
+
 // The ASCII characters with which the alternatives from a length word on may begin, if each begins with a test that
 // tells its own.
 fn first_characters(words: &[u32], start: usize) -> Option<AsciiSet>
@@ -288,7 +302,7 @@ fn first_characters(words: &[u32], start: usize) -> Option<AsciiSet>
             return None;
         }
         let test = wanted_test(words, reached.place)?;
-        let own = ascii_taken(words, test)?;
+        let own = taken_at(words, test)?;
         characters = characters.union(own);
         place += length;
         if word(words, place) == 0 {

@@ -127,5 +127,5 @@ fn push_gap<A: Allocator>(answer: &mut String<A>, first: bool) -> Result<(), All
     if first {
         return Ok(());
     }
-    answer.push_str(" ")
+    answer.push(' ')
 }

@@ -9,14 +9,17 @@ ghost use Rattle.sre_request.specs.Runs.{run_of, Standing};
 ghost use Rattle.sre_engine.specs.Starts.{Bars, TestsThere, PassesTo};
 
 use crate::engine::candidates::{Candidate, Candidates};
-use crate::engine::first_characters::First;
+use crate::engine::first_characters::{First, Wanted};
 use crate::engine::leading_run::{LeadingRun, leading_run, pass_start};
 use crate::engine::told::{Starts, next_start_told};
 use sre_chars::string::{StrDrive, StringCursor};
 use sre_request::Request;
 
-// Where fewer characters are left, to read the code's sets costs more than it spares.
-const FEW_LEFT: usize = 8;
+// Where fewer characters are left, to read with what alternatives and runs begin costs more than it spares.
+const FEW_FOR_ALTERNATIVES: usize = 8;
+
+// Where fewer are left, to read which characters a set takes does.
+const FEW_FOR_SETS: usize = 20;
 
 /// The starts from a cursor on, and what was read of the code. Only behind the first one that failed it is worth to
 /// read in the words which characters a set takes, what alternatives begin with and what runs in front take, and
@@ -55,8 +58,12 @@ impl Openings {
         ensures test { TestsThere (run_of req.now).words self.new.first.wanted }
         ensures bars { Bars (run_of req.now).words self.new.first }
     {
+        let few = match self.first.wanted {
+            Wanted::Anything => FEW_FOR_ALTERNATIVES,
+            _ => FEW_FOR_SETS,
+        };
         let left = req.end().saturating_sub(self.start.position());
-        if left >= FEW_LEFT {
+        if left >= few {
             let reads_sets = true;
             self.first = First::of_items(req.pattern_codes().items(), reads_sets);
         }

@@ -1,7 +1,5 @@
 use Rattle.std.proofs.Common.{◌≡◌, ◌+◌, Some, ap, sym, ◌∙◌, subst, arith}
-use Rattle.sre_model.specs.Grammar.{Word, Opcode}
-use Rattle.sre_chars.specs.declared.constants.SreOpcode.TheVariants as opcode
-use Rattle.sre_code.specs.AsciiSet.{contains}
+use Rattle.sre_model.specs.Grammar.{Word}
 use Rattle.sre_model.specs.Ways.{unlimited}
 use Rattle.sre_turns.specs.Machine.{HasRun}
 use Rattle.sre_turns.specs.MovesInLoops.{next_frame}
@@ -10,36 +8,28 @@ use Rattle.sre_turns.specs.declared.Frame.{Frame}
 use Rattle.sre_turns.specs.declared.Point.TheVariants.{Alternatives}
 use Rattle.sre_request.specs.Runs.{run_of}
 use Rattle.sre_turns.proofs.StepsInBranches.{branch_run}
-use Rattle.sre_turns.proofs.Strides.{strides_none, strides_on, strides_ends, repeats_on, body_reached, tells_nothing}
+use Rattle.sre_turns.proofs.Strides.{strides_none, strides_on, strides_ends, repeats_on, body_reached}
 use Rattle.sre_machine.proofs.strides.stride.Goals as goal
 
 pub body-init : goal.body-init
 body-init g c = record {
   on = strides_none (run_of c.args.req.now) c.args.place c.args.start c.args.first c.requires.ends.at.stands;
   more = c.requires.more;
-  told = tells_nothing (run_of c.args.req.now) c.args.alternatives c.args.place (contains c.new-told.result)
-      c.new-told.ensures;
+  told = c.told_before-told.ensures;
   behind = omega arith;
 }
+
+pub told_before-told-requires : goal.told_before-told-requires
+told_before-told-requires g c =
+    let r = run_of c.args.req.now in
+    subst (λ q. HasRun r (Alternatives q) c.args.start) (sym c.requires.alternatives)
+    (branch_run r (c.args.first.repeat + 4) c.args.start c.requires.branch
+    (body_reached r c.args.place c.args.start c.args.first c.requires.opcode c.requires.more c.requires.ends).0)
 
 pub next_body-requires-clause-ends : goal.next_body-requires-clause-ends
 next_body-requires-clause-ends g c =
     strides_ends (run_of c.args.req.now) c.args.place c.args.start c.body.cursor c.args.first c.body.frame
     c.body.invariant.on c.requires.ends
-
-pub told_behind-told-requires-clause-stands : goal.told_behind-told-requires-clause-stands
-told_behind-told-requires-clause-stands g c =
-    let r = run_of c.args.req.now in
-    let ends =
-    strides_ends r c.args.place c.args.start c.body.cursor c.args.first c.body.frame c.body.invariant.on
-    c.requires.ends in
-    let same = c.body.invariant.on.same in
-    let branch : Opcode r.words (c.body.frame.repeat + 4) opcode.BRANCH =
-    subst (λ i. Opcode r.words (i + 4) opcode.BRANCH) (sym same) c.requires.branch in
-    subst (λ q. HasRun r (Alternatives q) c.body.cursor)
-    (ap (λ i. i + 4 + 1) same ∙ sym c.requires.alternatives)
-    (branch_run r (c.body.frame.repeat + 4) c.body.cursor branch
-    (body_reached r c.args.place c.body.cursor c.body.frame c.requires.opcode c.body.invariant.more ends).0)
 
 pub body-preserved : goal.body-preserved
 body-preserved g c =
@@ -57,6 +47,6 @@ body-preserved g c =
       more = subst (λ (f : Frame). MayRepeat r.words f c.in-Some.end.position) (sym next)
           (repeats_on r.words c.body.frame here.position c.in-Some.end.position high
           c.body.invariant.more c.in-Some.ensures.moves);
-      told = c.told_behind-told.ensures;
+      told = c.body.invariant.told;
       behind = omega (arith, c.body.invariant.behind, c.in-Some.ensures.moves);
     }

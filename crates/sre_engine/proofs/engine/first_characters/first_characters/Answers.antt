@@ -29,7 +29,7 @@ returns-then-word-eq0 c = λ j ts reads.
     left_done ws j ts _ _ _ _ _ _ _ (c.alternative.invariant j ts reads) c.word-length.ensures.word refl
     c.word.ensures.word
     (own_bars ws _ _ _ _ _ c.follow-reached.ensures.leads (omega arith) c.in_ok-test.ensures.bars
-    c.in_ok-own.ensures.taken)
+    c.in_ok-own.ensures)
     c.union-characters.ensures
     (omega arith)
 
@@ -45,6 +45,6 @@ alternative-preserved c = λ j ts reads.
     left_more ws j ts _ _ _ _ _ _ _ (c.alternative.invariant j ts reads) c.word-length.ensures.word refl
     c.word.ensures.word
     (own_bars ws _ _ _ _ _ c.follow-reached.ensures.leads (omega arith) c.in_ok-test.ensures.bars
-    c.in_ok-own.ensures.taken)
+    c.in_ok-own.ensures)
     c.union-characters.ensures
     (λ e. absurd (omega arith))
