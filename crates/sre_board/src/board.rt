@@ -43,6 +43,8 @@ pub struct Board<A: Allocator> {
     passed: usize,
     // how many loops and bodies of loops began since this was last asked
     entered: usize,
+    // how many characters the last run went over of which nothing came
+    vain: usize,
 }
 
 impl<A: Allocator> Model for Board<A> {
@@ -144,6 +146,7 @@ impl<A: Allocator + Copy> Board<A> {
             regions: 0,
             passed: 0,
             entered: 0,
+            vain: 0,
         }
     }
 
@@ -399,6 +402,21 @@ impl<A: Allocator> Board<A> {
         let entered = self.entered;
         self.entered = 0;
         entered
+    }
+
+    /// Notes that a run went over so many characters, and that nothing came of any of its counts.
+    #[inline(always)]
+    pub fn note_vain(&mut self, characters: usize)
+        ensures { self.new ≡ self.old }
+    {
+        self.vain = characters;
+    }
+
+    /// Whether the last run in vain was so long that it is worth to look, in so many characters, for what has to come
+    /// behind the next one: to look goes over a character thirty times as fast as a run or more.
+    #[inline(always)]
+    pub fn is_look_worth(&self, characters: usize) -> bool {
+        self.vain >= 64 && self.vain > characters / 32
     }
 
     /// The innermost loop in progress.

@@ -9,6 +9,8 @@
 //! Those of a finder on demand are made only where some runs were in vain. Before that, behind fewer, it is asked once
 //! whether the bytes come that each match contains.
 
+ghost use Rattle.std.specs.Prelude.{◌<◌};
+
 /// How many starts may be told in vain, less those that had a match.
 const VAIN: u32 = 8;
 
@@ -19,6 +21,9 @@ const STEPS: u32 = 64;
 const READ: usize = 2;
 
 const MORE: usize = 8192;
+
+/// How many they may where they tell whole matches, of which each is read to its end, and back to its start.
+const READ_OF_MATCHES: usize = 8;
 
 /// For how many questions they are left alone at first, and where they have read too much.
 const PAUSE: u32 = 64;
@@ -127,17 +132,30 @@ impl Pace {
         if self.waits > 0 {
             return false;
         }
-        let (origin, before) = match self.begun {
-            Some(begun) => begun,
-            None => (place, read),
-        };
-        self.begun = Some((origin, before));
-        let passed = place.saturating_sub(origin);
-        let may_read = read.saturating_sub(before) / READ <= passed.saturating_add(MORE);
-        if !may_read {
+        let is_worth = self.is_worth(place, read, READ);
+        if !is_worth {
             self.rest = PAUSE;
         }
-        may_read
+        is_worth
+    }
+
+    /// Whether they may be asked for a whole match that begins at a place or behind it, where they have read so much.
+    #[inline(always)]
+    pub(crate) fn may_match(&mut self, place: usize, read: usize) -> bool {
+        self.is_worth(place, read, READ_OF_MATCHES)
+    }
+
+    // Whether they have read no more of this text than so many bytes for each that was passed, and some more.
+    #[inline(always)]
+    fn is_worth(&mut self, place: usize, read: usize, most: usize) -> bool
+        requires { 0 < most }
+    {
+        let Some((origin, before)) = self.begun else {
+            self.begun = Some((place, read));
+            return true;
+        };
+        let passed = place.wrapping_sub(origin);
+        read.wrapping_sub(before) / most <= passed.saturating_add(MORE)
     }
 
     /// Notes a run in vain.

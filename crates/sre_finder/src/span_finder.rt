@@ -11,6 +11,7 @@ ghost use Rattle.sre_finder.specs.Spans.{ExactlyAny, Knows, Between, StepsFrom, 
 
 use crate::finder::{Finder, SIZE_LIMIT};
 use crate::haystack::Haystack;
+use crate::pace::Pace;
 use sre_automata::{FirstMatch, Seeker};
 use sre_chars::string::{StrDrive, StringCursor};
 use sre_code::Code;
@@ -37,6 +38,7 @@ pub struct SpanFinder<'c> {
     encoding: Encoding,
     finder: Finder<'c>,
     exact: Option<Seeker>,
+    pace: Pace,
 }
 
 impl<'c> Model for SpanFinder<'c> {
@@ -68,12 +70,14 @@ impl<'c> SpanFinder<'c> {
                 encoding,
                 finder: Finder::without_automata(alloc, code, encoding),
                 exact: Some(exact),
+                pace: Pace::new(),
             },
             None => SpanFinder {
                 code,
                 encoding,
                 finder: Finder::on_demand(alloc, code, encoding),
                 exact: None,
+                pace: Pace::new(),
             },
         }
     }
@@ -90,6 +94,7 @@ impl<'c> SpanFinder<'c> {
         ensures end { self.new.end ≡ None }
     {
         self.finder.reset();
+        self.pace.begin_text();
         if let Some(exact) = &mut self.exact {
             exact.reset();
         }
@@ -140,7 +145,11 @@ impl<'c> SpanFinder<'c> {
         let Some(exact) = &mut self.exact else {
             return Known::Unknown;
         };
-        match exact.first_match(hay, text.place_of(from)) {
+        let place = text.place_of(from);
+        if !self.pace.may_match(place, exact.read()) {
+            return Known::Unknown; // they read far beyond each match
+        }
+        match exact.first_match(hay, place) {
             FirstMatch::Nothing => Known::Nothing,
             FirstMatch::Between(first, last) => {
                 let start = text.cursor_up_to(from, first, end);

@@ -11,6 +11,8 @@ pub mod Opening
 pub mod Keeping
 pub mod Following
 pub mod NothingBefore
+pub mod Elsewhere
+pub mod VainRuns
 pub mod ByPlace
 pub mod AdmittedHere
 pub mod ToldBodies

@@ -9,6 +9,7 @@ ghost use Rattle.sre_machine.specs.Turns.{At, Turn, AtPoint, DemandedAt, SkipsBo
 
 use crate::machine::{choose, first_literal, lacks};
 use crate::run_operands::run_operands;
+use crate::vain_runs::is_in_vain;
 use sre_board::Board;
 use sre_chars::constants::SreOpcode;
 use sre_chars::string::{StrDrive, StringCursor};
@@ -82,6 +83,7 @@ fn shorter<S: StrDrive, A: Allocator>(
     ensures { IfOk result (λ next. TurnAt req.now (Shorter tail count) start board.old next board.new) }
 {
     let Some(found) = first_shorter(req, tail, wanted, count, start) else {
+        board.note_vain(count);
         return Ok(Next::Back);
     };
     if found.left == 0 {
@@ -151,6 +153,9 @@ pub(super) fn repeat_one<S: StrDrive, A: Allocator>(
     ensures { IfOk result (λ next. Turn req.now place cursor board.old next board.new) }
 {
     let operands = run_operands(req, place);
+    if is_in_vain(req, board, place + 4, operands.tail, cursor) {
+        return Ok(Next::Back);
+    }
     let run = longest_run(req, place + 4, operands.greatest, cursor);
     board.pass(run.count);
     if run.count < operands.least {

@@ -30,3 +30,4 @@ mod strides;
 mod told_bodies;
 mod trying;
 pub mod turns;
+mod vain_runs;

@@ -14,7 +14,7 @@ ghost use Rattle.sre_turns.specs.Strides.{MayRepeat};
 ghost use Rattle.sre_request.specs.Runs.{run_of, OpcodeAt};
 ghost use Rattle.sre_machine.specs.Turns.{Turn, AtOnBoard};
 
-use crate::machine::{opcode, refuses};
+use crate::machine::{ends_in_vain, opcode, refuses};
 use crate::strides::stride_on;
 use sre_board::Board;
 use sre_chars::constants::{MAXREPEAT, SreOpcode};
@@ -99,7 +99,7 @@ fn body_or_end<S: StrDrive, A: Allocator>(
         return Ok(Next::At(place + 1, cursor));
     }
     let next = next_frame(frame, Some(cursor.position()));
-    if refuses(req, place + 1, cursor) {
+    if ends_in_vain(req, place + 1, cursor) {
         board.enter(next)?;
         return Ok(Next::At(body, cursor));
     }
@@ -184,7 +184,7 @@ pub(super) fn min_until<S: StrDrive, A: Allocator>(
         return Ok(Next::At(place + 1, cursor));
     }
     board.enter(next_frame(frame, Some(cursor.position())))?;
-    if refuses(req, place + 1, cursor) {
+    if ends_in_vain(req, place + 1, cursor) {
         return Ok(Next::At(body, cursor));
     }
     board.save(Point::Instruction(body), cursor)?;

@@ -209,6 +209,35 @@ pub(super) fn refuses<S: StrDrive>(req: &Request<'_, S>, place: usize, cursor: S
     lacks(req, wanted, cursor)
 }
 
+// Whether the position code of an AT does not hold.
+#[inline(never)]
+fn is_elsewhere<S: StrDrive>(req: &Request<'_, S>, place: usize, cursor: StringCursor) -> bool
+    requires opcode { OpcodeAt req.now place SreOpcode.AT }
+    requires stands { At req.now place cursor }
+    ensures { result ≡ true → RefusesAt req.now place cursor.position }
+{
+    let Ok(code) = SreAtCode::try_from(operand(req, place, 1)) else {
+        unreachable!()
+    };
+    !holds_at(req, code, cursor)
+}
+
+// Whether nothing can come of a loop's end, as the next character tells, or the position where a position code stands.
+#[inline(always)]
+pub(super) fn ends_in_vain<S: StrDrive>(
+    req: &Request<'_, S>,
+    place: usize,
+    cursor: StringCursor,
+) -> bool
+    requires { At req.now place cursor }
+    ensures { result ≡ true → RefusesAt req.now place cursor.position }
+{
+    match opcode(req, place, cursor) {
+        SreOpcode::AT => is_elsewhere(req, place, cursor),
+        _ => refuses(req, place, cursor),
+    }
+}
+
 // Goes on at an instruction, with another point to be tried after it.
 #[inline(always)]
 pub(super) fn choose<S: StrDrive, A: Allocator>(

@@ -1,6 +1,6 @@
 -- Turns at a run of one test, and at its shorter counts.
 use Rattle.std.proofs.Common.{◌≡◌, ◌⊎◌, inl, inr, ℕ, zero, suc, ◌+◌, ◌-◌, ◌<◌, ◌≤◌, Bool, true, false, ◌&&◌, ◌||◌}
-use Rattle.std.proofs.Common.{nat_eq, nat_lt, List, length, Option, refl, sym, subst, arith}
+use Rattle.std.proofs.Common.{nat_eq, nat_lt, List, [], length, Option, refl, sym, subst, arith}
 use Rattle.std.proofs.lemmas.Bool.Decides.{nat_tests}
 use Rattle.sre_chars.specs.declared.constants.SreOpcode.TheVariants as opcode
 use Rattle.sre_chars.specs.declared.string.StringCursor.{StringCursor}
@@ -218,6 +218,41 @@ module _ (r : Run) (i tail low high count : ℕ) (c after : StringCursor) (w : O
       let here : c.position + (q - c.position) ≡ q = omega (arith, least) in
       asks q (other_taken r.subject t.test x.character q (subst (λ p. passes r.subject t.test p ≡ true) here taken)
       unlike))
+
+-- where the tail refuses from the run's first character on, nothing comes of the run
+pub run_refuses : (r : Run) (i tail low high p : ℕ) → Opcode r.words i opcode.REPEAT_ONE
+    → OperandsOfRun r.words i tail low high → ((q : ℕ) → p ≤ q → Refuses r tail q) → Refuses r i p
+run_refuses r i tail low high p w o none fs m os n d =
+    by (longest_run r.subject o.test.test high p) refl (short_or_enough (longest_run r.subject o.test.test high p) low)
+  where
+    short_or_enough : (a b : ℕ) → (a < b) ⊎ (b ≤ a)
+    short_or_enough a b = grind arith
+
+    by : (count : ℕ) → longest_run r.subject o.test.test high p ≡ count → (count < low) ⊎ (low ≤ count) → os ≡ []
+    by count longest (inl l) =
+        let short : nat_lt count low ≡ true = grind (arith, nat_tests) in
+        run_nothing (at_instruction opcode.REPEAT_ONE (ToRun GreedyRun) refl w (record {
+          low = low;
+          high = high;
+          end = o.test.end;
+          test = o.test.test;
+          operands = stands_of r.words i tail low high o;
+          is = rw (longest, short) refl;
+        })) d
+    by count longest (inr l) =
+        let enough : nat_lt count low ≡ false = grind (arith, nat_tests) in
+        let rest =
+        run_second (spot_at (Instruction tail) fs (p + count) m) (spot_at (Shorter tail (count - low)) fs (p + count) m)
+        (at_instruction opcode.REPEAT_ONE (ToRun GreedyRun) refl w (record {
+          low = low;
+          high = high;
+          end = o.test.end;
+          test = o.test.test;
+          operands = stands_of r.words i tail low high o;
+          is = rw (longest, enough, o.leads) refl;
+        })) (λ os' n' e. none (p + count) (omega arith) fs m os' n' e) d in
+        shorter_exhausted r tail (count - low) (p + count) (λ q from to. none q (omega (arith, from, l))) fs m os rest.0
+        rest.2
 
 -- POSSESSIVE_REPEAT_ONE
 module _ (r : Run) (i tail low high count : ℕ) (c : StringCursor) (b : BoardValue)

@@ -1,7 +1,7 @@
 use Rattle.sre_model.specs.Tree.{GreedyRun}
 use Rattle.sre_request.specs.Runs.{run_of}
 use Rattle.sre_turns.proofs.Faring.{shorter_free}
-use Rattle.sre_turns.proofs.StepsInRuns.{run_there, run_short, run_both, run_runs, run_only}
+use Rattle.sre_turns.proofs.StepsInRuns.{run_there, run_short, run_both, run_runs, run_only, run_refuses}
 use Rattle.sre_turns.proofs.Moving.{both_pass, both_exhausted, exhausted_back}
 use Rattle.sre_machine.proofs.greedy_runs.repeat_one.Goals as goal
 
@@ -9,13 +9,24 @@ pub run_operands-operands-requires : goal.run_operands-operands-requires
 run_operands-operands-requires g c =
     run_there (run_of c.args.req.now) GreedyRun _ c.args.cursor c.requires.opcode c.requires.stands
 
+pub is_in_vain-requires-clause-test : goal.is_in_vain-requires-clause-test
+is_in_vain-requires-clause-test g c = c.run_operands-operands.ensures.operands.test
+
+pub returns-then-is_in_vain : goal.returns-then-is_in_vain
+returns-then-is_in_vain g c =
+    let r = run_of c.args.req.now in
+    exhausted_back r _ c.args.cursor c.args.board.now
+    (run_refuses r _ _ _ _ c.args.cursor.position c.requires.opcode c.run_operands-operands.ensures.operands
+    (c.is_in_vain.ensures c.if-is_in_vain.true))
+
 pub longest_run-run-requires-clause-test : goal.longest_run-run-requires-clause-test
 longest_run-run-requires-clause-test g c = c.run_operands-operands.ensures.operands.test
 
 pub returns-then-run-operands : goal.returns-then-run-operands
 returns-then-run-operands g c =
-    rw c.pass.ensures (run_short (run_of c.args.req.now) _ _ _ _ c.longest_run-run.result.count c.args.cursor
-    c.args.board.now c.requires.opcode c.run_operands-operands.ensures.operands c.longest_run-run.ensures.count
+    rw c.pass.ensures
+    (run_short (run_of c.args.req.now) _ _ _ _ c.longest_run-run.result.count c.args.cursor c.args.board.now
+    c.requires.opcode c.run_operands-operands.ensures.operands c.longest_run-run.ensures.count
     c.if-run-operands.true)
 
 pub first_literal-wanted-requires : goal.first_literal-wanted-requires
@@ -56,7 +67,8 @@ returns-then-is_only g c = λ all limit x.
     c.run_operands-operands.ensures.operands c.longest_run-run.ensures.count c.if-run-operands.false
     c.longest_run-run.ensures.position c.longest_run-run.ensures.stands _
     (c.is_only_count-is_only.ensures c.if-is_only.true) c.first_literal-wanted.ensures in
-    rw c.pass.ensures (exhausted_back r _ c.longest_run-run.result.end c.args.board.now none all limit
+    rw c.pass.ensures
+    (exhausted_back r _ c.longest_run-run.result.end c.args.board.now none all limit
     (both_pass r _ _ c.longest_run-run.result.end c.args.board.now
     shorter_free (c.lacks.ensures c.if-lacks.true _ c.first_literal-wanted.ensures) all limit both))
 
@@ -72,12 +84,14 @@ returns-then-is_only-2 g c = λ all limit x.
     c.run_operands-operands.ensures.operands c.longest_run-run.ensures.count c.if-run-operands.false
     c.longest_run-run.ensures.position c.longest_run-run.ensures.stands _
     (c.is_only_count-is_only.ensures c.if-is_only-2.true) c.first_literal-wanted.ensures in
-    rw c.pass.ensures (both_exhausted r _ _ c.longest_run-run.result.end c.args.board.now none all limit both)
+    rw c.pass.ensures
+    (both_exhausted r _ _ c.longest_run-run.result.end c.args.board.now none all limit both)
 
 pub returns : goal.returns
 returns g c = λ all limit x.
     c.in_ok-choose.ensures all limit
-    (rw c.pass.ensures (run_both (run_of c.args.req.now) _ _ _ _ c.longest_run-run.result.count c.args.cursor
+    (rw c.pass.ensures
+    (run_both (run_of c.args.req.now) _ _ _ _ c.longest_run-run.result.count c.args.cursor
     c.longest_run-run.result.end c.requires.opcode c.run_operands-operands.ensures.operands
     c.longest_run-run.ensures.count c.if-run-operands.false c.longest_run-run.ensures.position
     c.longest_run-run.ensures.stands c.args.board.now all limit x))

@@ -10,3 +10,6 @@ returns-then-found-eq0 g c = λ all limit x.
 
 pub returns : goal.returns
 returns g c = λ all limit x. c.in_ok-choose.ensures all limit (c.in-Some.ensures.skips c.args.board.now all limit x)
+
+pub returns-in_default : goal.returns-in_default
+returns-in_default g c = rw c.note_vain.ensures (c.in_default.ensures c.args.board.now)

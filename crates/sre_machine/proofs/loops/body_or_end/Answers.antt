@@ -29,18 +29,18 @@ returns-then-refuses g c =
     c.requires.more)
     c.requires.more.enough c.requires.more.more (c.refuses.ensures c.if-refuses.true) refl
 
-pub refuses-requires-2 : goal.refuses-requires-2
-refuses-requires-2 g c =
+pub ends_in_vain-requires : goal.ends_in_vain-requires
+ends_in_vain-requires g c =
     (body_reached (run_of c.args.req.now) c.args.place c.args.cursor c.args.frame c.requires.opcode c.requires.more
     (record { board = c.args.board.now; at = c.requires.stands })).1
 
-pub returns-then-refuses-2 : goal.returns-then-refuses-2
-returns-then-refuses-2 g c =
+pub returns-then-ends_in_vain : goal.returns-then-ends_in_vain
+returns-then-ends_in_vain g c =
     until_alone (run_of c.args.req.now) Greedy c.args.place c.requires.more.low c.requires.more.high
     c.args.cursor (with_loop c.args.frame c.args.board.now) c.enter.new.self c.args.frame
     (in_loop (run_of c.args.req.now) c.args.place c.args.cursor c.args.frame c.args.board.now c.requires.opcode
     c.requires.more)
-    c.requires.more.enough c.requires.more.more (c.refuses-2.ensures c.if-refuses-2.true)
+    c.requires.more.enough c.requires.more.more (c.ends_in_vain.ensures c.if-ends_in_vain.true)
     (entered_on c.args.board.now c.enter.new.self _ _ c.in_ok-enter.ensures
     (c.next_frame-next.ensures ∙ ap (λ p. next_frame c.args.frame (Some p)) c.position.ensures))
 

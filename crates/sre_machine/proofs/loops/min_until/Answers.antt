@@ -48,8 +48,8 @@ returns-then-refuses g c =
       highest = c.operand-greatest.ensures.word;
     }) (omega arith) (sym c.if-not-may_repeat.ensures) (c.refuses.ensures c.if-refuses.true) c.leave.ensures
 
-pub refuses-requires-2 : goal.refuses-requires-2
-refuses-requires-2 g c =
+pub ends_in_vain-requires : goal.ends_in_vain-requires
+ends_in_vain-requires g c =
     (until_runs (run_of c.args.req.now) Lazy c.args.place c.operand-least.result c.operand-greatest.result c.args.cursor
     c.args.board.now c.top-frame.result (record {
       code = c.requires.opcode;
@@ -58,15 +58,15 @@ refuses-requires-2 g c =
       highest = c.operand-greatest.ensures.word;
     }) (omega arith) (sym c.if-not-may_repeat.ensures) c.requires.stands).1
 
-pub returns-then-refuses-2 : goal.returns-then-refuses-2
-returns-then-refuses-2 g c =
+pub returns-then-ends_in_vain : goal.returns-then-ends_in_vain
+returns-then-ends_in_vain g c =
     until_alone (run_of c.args.req.now) Lazy c.args.place c.operand-least.result c.operand-greatest.result c.args.cursor
     c.args.board.now c.enter-2.new.self c.top-frame.result (record {
       code = c.requires.opcode;
       inside = c.top-frame.ensures;
       lowest = c.operand-least.ensures.word;
       highest = c.operand-greatest.ensures.word;
-    }) (omega arith) (sym c.if-not-may_repeat.ensures) (c.refuses-2.ensures c.if-refuses-2.true)
+    }) (omega arith) (sym c.if-not-may_repeat.ensures) (c.ends_in_vain.ensures c.if-ends_in_vain.true)
     (entered_board c.args.board.now c.leave.new.self c.enter-2.new.self _ _ c.leave.ensures c.in_ok-enter-2.ensures
     (c.next_frame-2.ensures ∙ ap (λ p. next_frame c.top-frame.result (Some p)) c.position.ensures))
 

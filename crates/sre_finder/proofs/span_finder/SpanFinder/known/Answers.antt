@@ -21,7 +21,7 @@ cursor_up_to-start-requires-clause-ordered g c =
 
 pub cursor_up_to-start-requires-clause-behind : goal.cursor_up_to-start-requires-clause-behind
 cursor_up_to-start-requires-clause-behind g c =
-    omega (arith, (c.in-Between.ensures.finds).after, c.place_of.ensures)
+    omega (arith, (c.in-Between.ensures.finds).after, c.place_of-place.ensures)
 
 pub cursor_up_to-start-requires-clause-within : goal.cursor_up_to-start-requires-clause-within
 cursor_up_to-start-requires-clause-within g c =
@@ -44,7 +44,7 @@ cursor_up_to-requires-clause-behind g c =
     let here = (g.met.S.StrDrive.stands_at (string_of asked) c.args.from (start_of asked) c.requires.stands).0 in
     let code : c.self.inside.code ≡ code_of asked = search rules in
     let all : a.match_all ≡ false = search rules in
-    let start : c.place_of.result ≡ place a.start = c.place_of.ensures ∙ ap place here in
+    let start : c.place_of-place.result ≡ place a.start = c.place_of-place.ensures ∙ ap place here in
     let is = subst (λ n. IsBetween hay pattern n c.in-Between.first c.in-Between.last) start
     (c.in-Between.ensures.finds) in
     let tree = tree_of (items_of (code_of asked)) in
@@ -78,7 +78,7 @@ returns-clause-knows g c =
     let here = (g.met.S.StrDrive.stands_at (string_of asked) c.args.from (start_of asked) c.requires.stands).0 in
     let code : c.self.inside.code ≡ code_of asked = search rules in
     let all : a.match_all ≡ false = search rules in
-    let start : c.place_of.result ≡ place a.start = c.place_of.ensures ∙ ap place here in
+    let start : c.place_of-place.result ≡ place a.start = c.place_of-place.ensures ∙ ap place here in
     let told = subst (λ n. FindsFirst hay pattern n c.first_match.result) start
     (c.first_match.ensures.finds) in
     let window : a.start ≤ a.end = asked.in_window.0.0 in

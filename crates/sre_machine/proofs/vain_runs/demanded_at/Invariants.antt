@@ -1,0 +1,10 @@
+use Rattle.std.proofs.Common.{ℕ, length, ◌-◌}
+use Rattle.sre_turns.specs.Machine.{Refuses}
+use Rattle.sre_request.specs.Runs.{run_of}
+use Rattle.sre_machine.proofs.vain_runs.demanded_at.Given as goal
+
+abbrev pub invariant-mark : goal.invariant-mark
+invariant-mark g l = (p : ℕ) → Refuses (run_of l.req) l.place p → Refuses (run_of l.req) l.fn.start p
+
+abbrev pub decreases-mark : goal.decreases-mark
+decreases-mark g l = length l.words - l.place
