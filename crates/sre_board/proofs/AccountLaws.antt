@@ -9,7 +9,7 @@ use Rattle.sre_model.specs.Runs.{Run}
 use Rattle.sre_turns.specs.Alike.{Alike}
 use Rattle.sre_turns.specs.Moves.{Spot}
 use Rattle.sre_turns.specs.Nested.{Lies}
-use Rattle.sre_turns.specs.Settled.{Regionless}
+use Rattle.sre_turns.specs.Settled.{Unforked}
 use Rattle.sre_board.specs.Accounts.{BitOf, IsSet, BitsOf, IsOwned, RowLies, IsRoomy, Account, most_bits}
 use Rattle.sre_board.specs.Apart.{IsIn, Apart}
 use Rattle.sre_board.specs.Failures.{BitsKept, Kept, kept_of, Entry, IsOpen, Sets, BitsStay, RowsStay, Laid}
@@ -140,7 +140,7 @@ set_still old new kept bs set =
     one_still : (b : ℕ) → IsSet old b → IsSet new b
     one_still b s = record { at = s.at; bit = s.bit; small = s.small; is = s.is; set = kept s.at s.bit s.set }
 
-module _ (r : Run) (pl : Regionless r) (first : ℕ) where
+module _ (r : Run) (pl : Unforked r) (first : ℕ) where
   rows_lie : (old new : Kept) → RowsStay old new → NoNewRow old new
       → ((i : ℕ) (row : Row) → slice_get old.rows i ≡ Some row → RowLies r pl first old row)
       → (i : ℕ) (row : Row) → slice_get new.rows i ≡ Some row → RowLies r pl first new row

@@ -8,7 +8,7 @@ use Rattle.sre_model.specs.Runs.{Run}
 use Rattle.sre_turns.specs.declared.Frame.{Frame}
 use Rattle.sre_turns.specs.Moves.{Spot}
 use Rattle.sre_turns.specs.Nested.{Lies, repeats, slots, most_slots}
-use Rattle.sre_turns.specs.Settled.{Regionless}
+use Rattle.sre_turns.specs.Settled.{Unforked}
 use Rattle.sre_turns.proofs.NestedSlots.{slots_within}
 use Rattle.sre_board.specs.Accounts.{BitOf, IsOwned, RowLies, positions_of}
 use Rattle.sre_board.specs.Apart.{IsIn, Apart}
@@ -28,7 +28,7 @@ slot_below ws shapes p j i before slot (f ∷ fs) h =
     placed_below before (radix ws f.repeat) (digit ws p f) (slots ws (repeats fs)) slot (digit_below ws p f)
     (slot_below ws shapes p j (i + 1) (before * radix ws f.repeat + digit ws p f) slot fs h.2)
 
-module _ (r : Run) (pl : Regionless r) (first : ℕ) where
+module _ (r : Run) (pl : Unforked r) (first : ℕ) where
   -- the bit of a spot that lies in the tree's words
   pub owned_bit : (k : Kept) (x : Spot) (b : ℕ) → Lies r.words pl.tree pl.whole x
       → ((i : ℕ) (row : Row) → slice_get k.rows i ≡ Some row → RowLies r pl first k row)

@@ -7,7 +7,7 @@ use Rattle.sre_model.specs.Runs.{Run}
 use Rattle.sre_turns.specs.Alike.{least_from}
 use Rattle.sre_turns.specs.Moves.{Spot}
 use Rattle.sre_turns.specs.Nested.{repeats, slots, most_slots}
-use Rattle.sre_turns.specs.Settled.{Regionless, SettledIn}
+use Rattle.sre_turns.specs.Settled.{Unforked, SettledIn}
 use Rattle.sre_turns.specs.declared.Point.{Point}
 use Rattle.sre_turns.specs.declared.Point.TheVariants.{Instruction}
 use Rattle.sre_turns.proofs.NestedPlaces.{same_loops}
@@ -57,7 +57,7 @@ room_for_one rows words most bits l few all =
     more : rows < words → rows + 1 ≤ words
     more l = omega arith
 
-module _ (r : Run) (pl : Regionless r) (first : ℕ) (old new : Kept) (x : Spot) (place : ℕ) (xs : List Spot) (n : ℕ)
+module _ (r : Run) (pl : Unforked r) (first : ℕ) (old new : Kept) (x : Spot) (place : ℕ) (xs : List Spot) (n : ℕ)
     (room : Room r pl first) (settled : SettledIn r pl first x) (point : x.point ≡ Instruction place)
     (is_place : place < length r.words)
     (rows : NewRow r.words first r.subject.end place (repeats x.frames) old new) (stay : BitsStay old new)

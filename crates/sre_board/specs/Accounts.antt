@@ -7,7 +7,7 @@ use Rattle.std.specs.List.{AllByRecursion}
 use Rattle.sre_model.specs.Runs.{Run}
 use Rattle.sre_turns.specs.Moves.{Spot}
 use Rattle.sre_turns.specs.Nested.{Lies, repeats, most_slots}
-use Rattle.sre_turns.specs.Settled.{Regionless}
+use Rattle.sre_turns.specs.Settled.{Unforked}
 use Rattle.sre_turns.specs.declared.Point.TheVariants.{Instruction}
 use Rattle.sre_board.specs.Apart.{Apart}
 use Rattle.sre_board.specs.Failures.{Kept, Entry, RowFor, Roomy, Laid, most_words}
@@ -40,7 +40,7 @@ abbrev pub positions_of : Run → ℕ → ℕ
 positions_of r first = r.subject.end + 1 - first
 
 -- a bit is that of a slot and a position at a place, outside all regions
-pub record IsOwned (r : Run) (pl : Regionless r) (first : ℕ) (k : Kept) (b : ℕ) : Type 0 where
+pub record IsOwned (r : Run) (pl : Unforked r) (first : ℕ) (k : Kept) (b : ℕ) : Type 0 where
   pub number : ℕ
   pub row : Row
   pub slot : ℕ
@@ -51,7 +51,7 @@ pub record IsOwned (r : Run) (pl : Regionless r) (first : ℕ) (k : Kept) (b : �
   pub is : b ≡ row.base * 64 + (slot * 2 * positions_of r first + behind)
 
 -- each row is for the loops of a place in the words, and for the positions from first to end
-pub record RowLies (r : Run) (pl : Regionless r) (first : ℕ) (k : Kept) (row : Row) : Type 0 where
+pub record RowLies (r : Run) (pl : Unforked r) (first : ℕ) (k : Kept) (row : Row) : Type 0 where
   pub spot : Spot
   pub point : spot.point ≡ Instruction row.place
   pub lies : Lies r.words pl.tree pl.whole spot
@@ -59,11 +59,11 @@ pub record RowLies (r : Run) (pl : Regionless r) (first : ℕ) (k : Kept) (row :
   pub is_for : RowFor k r.words first r.subject.end (repeats spot.frames) row
 
 -- its rows are no more than there are words, and no larger than the tree's loops need
-abbrev pub IsRoomy : (r : Run) → Regionless r → ℕ → Kept → Type 0
+abbrev pub IsRoomy : (r : Run) → Unforked r → ℕ → Kept → Type 0
 IsRoomy r pl first k = Roomy r.words (most_slots pl.tree) first r.subject.end k
 
 -- the memory has taken in n bits; of these some are those of the spots that are tried, the others are set
-pub record Account (r : Run) (pl : Regionless r) (first : ℕ) (k : Kept) (xs : List Spot) (n : ℕ) : Type 0 where
+pub record Account (r : Run) (pl : Unforked r) (first : ℕ) (k : Kept) (xs : List Spot) (n : ℕ) : Type 0 where
   pub trying : List ℕ
   pub failed : List ℕ
   pub bits : BitsOf k r.words xs trying
@@ -76,11 +76,11 @@ pub record Account (r : Run) (pl : Regionless r) (first : ℕ) (k : Kept) (xs : 
   pub laid : Laid k
 
 -- all places of the words have room for their bits in a window from first on
-pub record Room (r : Run) (pl : Regionless r) (first : ℕ) : Type 0 where
+pub record Room (r : Run) (pl : Unforked r) (first : ℕ) : Type 0 where
   pub words : length r.words * most_words (most_slots pl.tree) first r.subject.end ≤ 2 ^ 30
   pub slots : most_slots pl.tree ≤ 2 ^ 24
   pub whole : 4096 < most_slots pl.tree → most_words (most_slots pl.tree) first r.subject.end ≤ 2 ^ 24
 
 -- so many bits are taken in at most: one for each slot and position at each place
-abbrev pub most_bits : (r : Run) → Regionless r → ℕ → ℕ
+abbrev pub most_bits : (r : Run) → Unforked r → ℕ → ℕ
 most_bits r pl first = length r.words * (most_slots pl.tree * positions_of r first)

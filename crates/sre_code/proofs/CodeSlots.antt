@@ -13,7 +13,7 @@ pub slots_told : (ws : List ℕ) (e n : ℕ) (p : Passed) → AreTold (2 ^ 24) w
 slots_told ws e n p told at same t w =
     let are = told.each t (subst (λ k. Reads ws 0 k t) (sym at) w.0) in
     record {
-      no_region = are.0.no_region;
+      unforked = are.0.unforked;
       no_reference = are.0.no_reference;
       is = same ∙ are.2;
       few = omega (arith, same, are.2, are.0.few);
@@ -26,7 +26,7 @@ no_slots ws e told at t w = record {
       elim (few_or_many (most_slots t) (2 ^ 24)) [
         | inl few ↦ absurd
             (told.each t (subst (λ k. Reads ws 0 k t) (sym at) w.0)
-            (record { no_region = region; no_reference = reference; few = few }))
+            (record { unforked = region; no_reference = reference; few = few }))
         | inr many ↦ many
       ];
 }

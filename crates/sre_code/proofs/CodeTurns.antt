@@ -68,7 +68,7 @@ module _ (places : ℕ) (t : Tree) (n : ℕ) where
     where
       kept : (a : Asked) → IsRemembered places t (around a)
       kept a = record {
-        no_region = plain.no_region;
+        unforked = plain.unforked;
         no_reference = plain.no_reference;
         slots = plain.few;
         whole = λ many. omega (arith, whole_on_whole (around a) (whole a), fits many);
@@ -106,7 +106,7 @@ no_turns ws e n told at t w = record {
   none = λ a whole kept.
       absurd
       (told.each t (subst (λ k. Reads ws 0 k t) (sym at) w.0)
-      (record { no_region = kept.no_region; no_reference = kept.no_reference; few = kept.slots }));
+      (record { unforked = kept.unforked; no_reference = kept.no_reference; few = kept.slots }));
 }
 
 -- what is told of each tree, by whether a number is

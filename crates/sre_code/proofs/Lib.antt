@@ -20,6 +20,8 @@ pub mod Walking
 pub mod Scanning
 pub mod Asking
 pub mod MarksOutside
+pub mod Seeking
+pub mod UnmarkedRegions
 pub mod ScanningLoops
 pub mod PassedParts
 pub mod CappedTurns

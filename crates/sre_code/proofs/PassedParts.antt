@@ -7,7 +7,7 @@ use Rattle.sre_chars.specs.Numbers.{opcode_number}
 use Rattle.sre_chars.specs.declared.constants.SreOpcode.{SreOpcode}
 use Rattle.sre_model.specs.Tree.{Trees, Only, Or, Test}
 use Rattle.sre_model.specs.References.{refers}
-use Rattle.sre_model.specs.Regions.{has_region}
+use Rattle.sre_model.specs.Regions.{has_forked_region}
 use Rattle.sre_model.specs.Slots.{loop_slots, most_slots}
 use Rattle.sre_model.specs.Alternatives.{alternatives_of}
 use Rattle.sre_model.specs.Roles.{role}
@@ -28,7 +28,7 @@ loop_none : (most low high m : ℕ) (a b : Bool) → (ArePlain (most / loop_slot
     → ArePlain most a b (loop_slots low high * m) → ⊥
 loop_none most low high m a b not x =
     not (record {
-      no_region = x.no_region;
+      unforked = x.unforked;
       no_reference = x.no_reference;
       few = le-div m most (loop_slots low high) (omega arith) (omega (arith, x.few));
     })
@@ -36,7 +36,7 @@ loop_none most low high m a b not x =
 loop_some : (most low high m : ℕ) (a b : Bool) → ArePlain (most / loop_slots low high) a b m
     → ArePlain most a b (loop_slots low high * m)
 loop_some most low high m a b x = record {
-  no_region = x.no_region;
+  unforked = x.unforked;
   no_reference = x.no_reference;
   few =
       omega (arith, mul-le-mul_left (loop_slots low high) x.few, div-mul-le_self most (loop_slots low high));
@@ -67,7 +67,7 @@ module _ (ws : List ℕ) (most i by least greatest slots left : ℕ) (to : by �
         let same : left ≡ most / loop_slots low high = rest ∙ ap (λ n. most / n) (same_slots low high w.0 w.1) in
         let reads : Reads ws (i + 4) (i + 1 + by) body =
         subst (λ n. Reads ws (i + 4) n body) (sym same_end) w.3 in
-        loop_none most low high (most_slots body) (has_region body) (refers body)
+        loop_none most low high (most_slots body) (has_forked_region body) (refers body)
         (subst (λ n. IsPlain n body → ⊥) same (told.each body reads));
   }
 
@@ -81,7 +81,7 @@ module _ (ws : List ℕ) (most i by least greatest slots left : ℕ) (to : by �
         let reads : Reads ws (i + 4) (i + 1 + by) body =
         subst (λ n. Reads ws (i + 4) n body) (sym same_end) w.3 in
         let t = told.each body reads in (
-          loop_some most low high (most_slots body) (has_region body) (refers body)
+          loop_some most low high (most_slots body) (has_forked_region body) (refers body)
               (subst (λ n. IsPlain n body) same t.0),
           omega (arith, same_end, w.5, t.1),
           ap (λ n. n * p.slots) own ∙ ap (λ n. loop_slots low high * n) t.2,
@@ -105,7 +105,7 @@ module _ (ws : List ℕ) (i : ℕ) where
   branch_at n h = record { each = λ ts j w. ap (λ m. Some (flat (i + 2) m)) (h.each ts j w) }
 
   -- what is behind an instruction stands at one place
-  one_behind : (k c l d : ℕ) → Behind ws i k c → Behind ws i l d → k ≡ l
+  pub one_behind : (k c l d : ℕ) → Behind ws i k c → Behind ws i l d → k ≡ l
   one_behind k c l d x y = ⊎_elim
       (λ (z : (t : Test) × ReadsTest ws i k t × (c ≡ 0)). sym (behind_test ws i k l d z.0 z.1 y).0)
       (λ (z : (o : SreOpcode) × (n : ℕ) × Opcode ws i o × (own_words (role o) ≡ Some n) × (k ≡ i + n)

@@ -162,7 +162,7 @@ module _ (ws : List ℕ) where
 
   instructions : Instructions (scanner ws)
   instructions = record {
-    own = λ i n o h has some none other. silent i n o h has some none;
+    own = λ i n o h has some none other plain. silent i n o h has some none;
     test = λ i j t w.
         step (scanner ws) i j (false, 0) (test_past t ws i j w.1)
         (λ k c b. let is = behind_test ws i j k c t w b in (refl, is.0, is.1))
@@ -170,7 +170,7 @@ module _ (ws : List ℕ) where
     fail = refl;
     one = λ t. refl;
     at = λ a. refl;
-    mark = λ n. refl;
+    mark = λ i n h. silent i 2 _ h refl (omega arith) (λ m n. refl);
     branch = λ i j ts lt h w y. inside i 2 j _ _ h refl (omega arith) (λ m n. refl) y;
     run = λ i low high kind t h w v.
         let first : word ws (i + 2) ≡ low = word_of ws (i + 2) low w in
@@ -178,11 +178,11 @@ module _ (ws : List ℕ) where
         subst (λ c. Passes i (i + 4) (false, c)) (ap₂ (run_count kind) first second)
         (counting i 4 _ h refl (omega arith));
     loop = λ i j o low high body lt h w y. inside i 4 j _ _ h refl (omega arith) (λ m n. refl) y;
-    possessive = λ i j low high body lt h y. inside i 4 j _ _ h refl (omega arith) (λ m n. refl) y;
-    atomic = λ i j body lt h y. inside i 2 j _ _ h refl (omega arith) (λ m n. refl) y;
+    possessive = λ i j low high body lt h w y. inside i 4 j _ _ h refl (omega arith) (λ m n. refl) y;
+    atomic = λ i j body lt h w y. inside i 2 j _ _ h refl (omega arith) (λ m n. refl) y;
     look = λ i j sign back body lt h w y.
         join (scanner ws) i (i + 3) j (false, back) _
-        (subst (λ c. Passes i (i + 3) (false, c)) (word_of ws (i + 2) back w) (counting i 3 _ h refl (omega arith)))
+        (subst (λ c. Passes i (i + 3) (false, c)) (word_of ws (i + 2) back w.1) (counting i 3 _ h refl (omega arith)))
         y;
     reference = λ i j f g lt h w. referring i j 0 _ lt h refl to_refer;
     exists = λ i j g there lt h. referring i j _ _ lt h refl to_check;

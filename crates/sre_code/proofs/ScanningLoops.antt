@@ -1,14 +1,14 @@
--- A scan from one instruction to the next, into each alternative and past each loop, tells how many slots and
--- alternatives plain items have, or that they are not plain.
+-- A scan from one instruction to the next, into each alternative and past each loop and each region, tells how many
+-- slots and alternatives plain items have, or that they are not plain.
 use Rattle.std.proofs.Common.{ℕ, ◌+◌, ◌≡◌, ◌<◌, ◌≤◌, ◌⊎◌, inl, inr, Bool, true, false}
 use Rattle.std.proofs.Common.{◌||◌, List, Option, Some, None, max, refl, sym, ap, ap₂, ◌∙◌, subst, arith}
 use Rattle.std.proofs.lemmas.Bool.{true≢false}
 use Rattle.std.proofs.Math.Nat.{le-max_right, max-zero}
-use Rattle.sre_model.specs.Tree.{Tree, Empty, Then, Item, Loop, Trees, Only, Or}
+use Rattle.sre_model.specs.Tree.{Tree, Empty, Then, Item, Loop, Atomic, Look, Trees, Only, Or}
 use Rattle.sre_model.specs.References.{refers, by_references}
 use Rattle.sre_model.specs.Folding.{Folding, of_tree, of_item, of_branch}
 use Rattle.sre_model.proofs.Foldings.{paired, tree_paired, item_paired}
-use Rattle.sre_model.specs.Regions.{has_region, by_regions}
+use Rattle.sre_model.specs.Regions.{forks, has_forked_region, by_forked_regions}
 use Rattle.sre_model.specs.Slots.{most_slots, by_slots}
 use Rattle.sre_model.specs.Alternatives.{alternatives_of, most_alternatives, by_alternatives}
 use Rattle.sre_model.specs.Roles.{Role, ToTest, TestKind}
@@ -17,13 +17,14 @@ use Rattle.sre_model.proofs.Families.{HasRole, test_here}
 use Rattle.sre_model.proofs.Places.{test_past}
 use Rattle.sre_code.specs.Instructions.{own_words}
 use Rattle.sre_code.specs.PlainItems.{ArePlain, IsPlain, TreeTold, ItemTold, flat, AreTold}
-use Rattle.sre_code.specs.PlainItems.{kind_of, ToldBy, ToldAt}
+use Rattle.sre_code.specs.PlainItems.{passed_unless, kind_of, ToldBy, ToldAt}
 use Rattle.sre_code.specs.declared.code.slots.Kind.{Kind}
 use Rattle.sre_code.specs.declared.code.slots.Kind.TheVariants as kind
 use Rattle.sre_code.specs.declared.code.slots.Passed.{Passed}
 use Rattle.sre_code.proofs.Walking as passed
 use Rattle.sre_code.proofs.Walking.{Scanner, Scan, Instructions, goes_on, stops_at, ends_at, step, join, said_of}
 use Rattle.sre_code.proofs.Walking.{tree_walked}
+use Rattle.sre_code.proofs.Seeking.{none_right, none_of, bare_region}
 use Rattle.sre_code.proofs.Scanning.{role_behind, none_of_role, to_refer, to_check, max_assoc}
 
 -- what was passed where a scan comes to k
@@ -34,43 +35,43 @@ reached k s a = record { behind = k; slots = s; alternatives = a }
 pub both_plain : (most m n : ℕ) (a b c d : Bool) → ArePlain most a b m → ArePlain most c d n
     → ArePlain most (a || c) (b || d) (max m n)
 both_plain most m n false false false false x y =
-    record { no_region = refl; no_reference = refl; few = omega (arith, x.few, y.few) }
-both_plain most m n true b c d x y = absurd (true≢false x.no_region)
+    record { unforked = refl; no_reference = refl; few = omega (arith, x.few, y.few) }
+both_plain most m n true b c d x y = absurd (true≢false x.unforked)
 both_plain most m n a true c d x y = absurd (true≢false x.no_reference)
-both_plain most m n a b true d x y = absurd (true≢false y.no_region)
+both_plain most m n a b true d x y = absurd (true≢false y.unforked)
 both_plain most m n a b c true x y = absurd (true≢false y.no_reference)
 
 pub first_plain : (most m n : ℕ) (a b c d : Bool) → ArePlain most (a || c) (b || d) (max m n) → ArePlain most a b m
 first_plain most m n false false c d x =
-    record { no_region = refl; no_reference = refl; few = omega (arith, x.few) }
-first_plain most m n true b c d x = absurd (true≢false x.no_region)
+    record { unforked = refl; no_reference = refl; few = omega (arith, x.few) }
+first_plain most m n true b c d x = absurd (true≢false x.unforked)
 first_plain most m n a true c d x = absurd (true≢false x.no_reference)
 
 pub second_plain : (most m n : ℕ) (a b c d : Bool) → ArePlain most (a || c) (b || d) (max m n) → ArePlain most c d n
 second_plain most m n false false c d x =
-    record { no_region = x.no_region; no_reference = x.no_reference; few = omega (arith, x.few) }
-second_plain most m n true b c d x = absurd (true≢false x.no_region)
+    record { unforked = x.unforked; no_reference = x.no_reference; few = omega (arith, x.few) }
+second_plain most m n true b c d x = absurd (true≢false x.unforked)
 second_plain most m n a true c d x = absurd (true≢false x.no_reference)
 
 -- what has no loop is
 pub one_plain : (most : ℕ) → 1 ≤ most → ArePlain most false false 1
-one_plain most some = record { no_region = refl; no_reference = refl; few = some }
+one_plain most some = record { unforked = refl; no_reference = refl; few = some }
 
--- all that is told of a tree: whether it has regions and references, its slots and its alternatives
+-- all that is told of a tree: whether it has regions that fork and references, its slots and its alternatives
 abbrev by_all : Folding ((Bool × Bool) × (ℕ × ℕ))
-by_all = paired (paired by_regions by_references) (paired by_slots by_alternatives)
+by_all = paired (paired by_forked_regions by_references) (paired by_slots by_alternatives)
 
-all_of_tree : (t : Tree) → of_tree by_all t ≡ ((has_region t, refers t), (most_slots t, most_alternatives t))
+all_of_tree : (t : Tree) → of_tree by_all t ≡ ((has_forked_region t, refers t), (most_slots t, most_alternatives t))
 all_of_tree t =
-    tree_paired (paired by_regions by_references) (paired by_slots by_alternatives) t
-    ∙ ap₂ (λ a b. (a, b)) (tree_paired by_regions by_references t) (tree_paired by_slots by_alternatives t)
+    tree_paired (paired by_forked_regions by_references) (paired by_slots by_alternatives) t
+    ∙ ap₂ (λ a b. (a, b)) (tree_paired by_forked_regions by_references t) (tree_paired by_slots by_alternatives t)
 
 all_of_item : (x : Item)
     → of_item by_all x
-    ≡ ((of_item by_regions x, of_item by_references x), (of_item by_slots x, of_item by_alternatives x))
+    ≡ ((of_item by_forked_regions x, of_item by_references x), (of_item by_slots x, of_item by_alternatives x))
 all_of_item x =
-    item_paired (paired by_regions by_references) (paired by_slots by_alternatives) x
-    ∙ ap₂ (λ a b. (a, b)) (item_paired by_regions by_references x) (item_paired by_slots by_alternatives x)
+    item_paired (paired by_forked_regions by_references) (paired by_slots by_alternatives) x
+    ∙ ap₂ (λ a b. (a, b)) (item_paired by_forked_regions by_references x) (item_paired by_slots by_alternatives x)
 
 abbrev AllPlain : ℕ → (Bool × Bool) × (ℕ × ℕ) → Type 0
 AllPlain most a = ArePlain most a.0.0 a.0.1 a.1.0
@@ -87,6 +88,28 @@ some_of_branch (Or t ts) = omega (arith, some_of_tree t)
 
 pub some_slots : (t : Tree) → 1 ≤ most_slots t
 some_slots t = subst (λ (a : (Bool × Bool) × (ℕ × ℕ)). 1 ≤ a.1.0) (all_of_tree t) (some_of_tree t)
+
+-- an atomic group or a look is plain where its body neither forks nor refers, and only there
+region_told : (most : ℕ) → 1 ≤ most → (j : ℕ) (body : Tree) (r : Option Passed)
+    → r ≡ passed_unless (forks body || refers body) j → ItemTold most j (Atomic body) r
+region_told most some j body r is =
+    subst (ItemTold most j (Atomic body)) (sym is) (by (forks body || refers body) refl)
+  where
+    by : (b : Bool) → (forks body || refers body) ≡ b → ItemTold most j (Atomic body) (passed_unless b j)
+    by false none =
+        let bare = bare_region body none in (
+          record {
+            unforked = bare.unforked;
+            no_reference = none_right (forks body) (refers body) none;
+            few = omega (arith, bare.one, some);
+          },
+          refl,
+          sym bare.one,
+          sym bare.none,
+        )
+    by true fork = λ x.
+        true≢false
+        (sym fork ∙ none_of (forks body) (refers body) (has_forked_region body) x.unforked x.no_reference)
 
 module _ (ws : List ℕ) (most : ℕ) (some : 1 ≤ most) where
   -- what is told of an instruction, by its role
@@ -145,7 +168,7 @@ module _ (ws : List ℕ) (most : ℕ) (some : 1 ≤ most) where
         flat_passed i (i + n) 0 (omega (arith, lt))
         (λ r told. (by_role i o kind.Other r h is told).some (i + n) _ (role_behind ws i n o h has))
 
-    -- one that is not plain: a region, and a reference or a condition
+    -- one that is not plain: a possessive loop, and a reference or a condition
     barred : (i j : ℕ) (a : (Bool × Bool) × (ℕ × ℕ)) → i < j
         → ((r : Option Passed) → ToldAt most ws i r → r ≡ None) → (AllPlain most a → ⊥) → Passes i j a
     barred i j a lt told not =
@@ -153,29 +176,25 @@ module _ (ws : List ℕ) (most : ℕ) (some : 1 ≤ most) where
         (λ k c h. let no : Some (reached k c.0 c.1) ≡ None = told (Some (reached k c.0 c.1)) h in absurd (cc))
         (λ h. not)
 
-    region : (i j : ℕ) (o : Role) (a : (Bool × Bool) × (ℕ × ℕ)) → i < j → HasRole ws i o → kind_of o ≡ kind.Region
-        → (AllPlain most a → ⊥) → Passes i j a
-    region i j o a lt h is not = barred i j a lt (λ r told. by_role i o kind.Region r h is told) not
-
     referring : (i j : ℕ) (o : Role) (a : (Bool × Bool) × (ℕ × ℕ)) → i < j → HasRole ws i o → own_words o ≡ None
         → ((kind : TestKind) → o ≡ ToTest kind → ⊥) → kind_of o ≡ kind.Other → (AllPlain most a → ⊥) → Passes i j a
     referring i j o a lt h e other is not =
         barred i j a lt (λ r told. (by_role i o kind.Other r h is told).none (none_of_role ws i o h e other)) not
 
-    -- a loop, whose body is passed with it
-    loop_passed : (i j : ℕ) (x : Item) → i < j → ((r : Option Passed) → ToldAt most ws i r → ItemTold most j x r)
+    -- a loop, an atomic group or a look, whose body is passed with it
+    item_passed : (i j : ℕ) (x : Item) → i < j → ((r : Option Passed) → ToldAt most ws i r → ItemTold most j x r)
         → Passes i j (of_item by_all x)
-    loop_passed i j x lt told =
+    item_passed i j x lt told =
         subst (Passes i j) (sym (all_of_item x))
         (step scanner i j
-        ((of_item by_regions x, of_item by_references x), (of_item by_slots x, of_item by_alternatives x)) lt
+        ((of_item by_forked_regions x, of_item by_references x), (of_item by_slots x, of_item by_alternatives x)) lt
         (λ k c h.
         let is = told (Some (reached k c.0 c.1)) h in
         (is.0, is.1, ap₂ (λ s a. (s, a)) is.2 is.3)) (λ h. told None h))
 
     instructions : Instructions scanner
     instructions = record {
-      own = λ i n o h has some none other. own i n o h has some other;
+      own = λ i n o h has some none other plain. own i n o h has some other;
       test = λ i j t w.
           flat_passed i j 0 (test_past t ws i j w.1)
           (λ r told.
@@ -183,7 +202,7 @@ module _ (ws : List ℕ) (most : ℕ) (some : 1 ≤ most) where
       fail = refl;
       one = λ t. refl;
       at = λ a. refl;
-      mark = λ n. refl;
+      mark = λ i n h. own i 2 _ h refl (omega arith) refl;
       branch = λ i j ts lt h w y.
           let a : (Bool × Bool) × (ℕ × ℕ) = of_branch by_all ts in
           let some : 1 ≤ a.1.0 = some_of_branch ts in
@@ -194,11 +213,17 @@ module _ (ws : List ℕ) (most : ℕ) (some : 1 ≤ most) where
           (λ r told. (by_role i _ kind.Branch r h refl told).each ts j w)) y);
       run = λ i low high kind t h w v. own i 4 _ h refl (omega arith) refl;
       loop = λ i j o low high body lt h w y.
-          loop_passed i j (Loop o low high body) lt
+          item_passed i j (Loop o low high body) lt
           (λ r told. (by_role i _ kind.Loop r h refl told).each o low high body j w);
-      possessive = λ i j low high body lt h y. region i j _ _ lt h refl (λ x. true≢false x.no_region);
-      atomic = λ i j body lt h y. region i j _ _ lt h refl (λ x. true≢false x.no_region);
-      look = λ i j sign back body lt h w y. region i j _ _ lt h refl (λ x. true≢false x.no_region);
+      possessive = λ i j low high body lt h w y.
+          barred i j _ lt (λ r told. by_role i _ kind.PossessiveLoop r h refl told) (λ x. true≢false x.unforked);
+      atomic = λ i j body lt h w y.
+          item_passed i j (Atomic body) lt
+          (λ r told.
+          region_told most some j body r ((by_role i _ kind.AtomicGroup r h refl told).each body j w.0 w.1));
+      look = λ i j sign back body lt h w y.
+          item_passed i j (Look sign back body) lt
+          (λ r told. region_told most some j body r ((by_role i _ kind.Look r h refl told).each body j w.0 w.2));
       reference = λ i j f g lt h w. referring i j _ _ lt h refl to_refer refl (λ x. true≢false x.no_reference);
       exists = λ i j g there lt h. referring i j _ _ lt h refl to_check refl (λ x. true≢false x.no_reference);
       exists_else = λ i j g there absent lt h.

@@ -1,7 +1,7 @@
 -- Scans from instruction to instruction, and what such a scan tells of a tree: what it tells of each instruction, put
 -- together by a folding.
 use Rattle.std.proofs.Common.{ℕ, zero, suc, ◌+◌, ◌-◌, ◌≡◌, ◌<◌, ◌≤◌, ◌⊎◌, inl, inr, ⊎_elim, Some, List, refl, sym}
-use Rattle.std.proofs.Common.{subst, arith}
+use Rattle.std.proofs.Common.{subst, arith, false}
 use Rattle.sre_chars.specs.declared.constants.SreOpcode.TheVariants as opcode
 use Rattle.sre_chars.specs.declared.constants.SreAtCode.{SreAtCode}
 use Rattle.sre_model.specs.Tree.{Tree, Empty, Then, Item, Fail, One, At, Mark, Branch, Loop, Run, PossessiveLoop}
@@ -15,6 +15,9 @@ use Rattle.sre_model.specs.Grammar.{Word, skip, Opcode, until_opcode, Operands, 
 use Rattle.sre_model.proofs.Places.{test_past, reads_within, operands_past, alternative_long}
 use Rattle.sre_code.specs.Reading.{ReadsTest}
 use Rattle.sre_code.specs.Instructions.{own_words, count_by}
+use Rattle.sre_code.specs.Sought.{is_fork, is_mark, is_sought}
+use Rattle.sre_code.specs.declared.code.sought.Sought.{Sought}
+use Rattle.sre_code.specs.declared.code.sought.Sought.TheVariants as sought
 use Rattle.sre_code.specs.PlainItems.{kind_of}
 use Rattle.sre_code.specs.declared.code.slots.Kind.TheVariants as kind
 
@@ -152,6 +155,11 @@ module _ {C R V : Type 0} (x : Scanner C R V) where
       go zero z = z.1
       go (suc n) z = absurd (omega (arith, z.0))
 
+-- what is neither a fork nor a MARK is not sought
+neither : (o : Role) → is_fork o ≡ false → is_mark o ≡ false → (q : Sought) → is_sought q o ≡ false
+neither o fork mark sought.Fork = fork
+neither o fork mark sought.Mark = mark
+
 module _ {C R V : Type 0} (x : Scanner C R V) where
   abbrev ws : List ℕ
   ws = x.words
@@ -166,12 +174,14 @@ module _ {C R V : Type 0} (x : Scanner C R V) where
   pub record Instructions : Type 0 where
     pub own :
         (i n : ℕ) (o : Role) → HasRole ws i o → own_words o ≡ Some n → 0 < n
-        → ((low high : ℕ) → count_by o low high ≡ 0) → kind_of o ≡ kind.Other → P i (i + n) f.nothing
+        → ((low high : ℕ) → count_by o low high ≡ 0) → kind_of o ≡ kind.Other
+        → ((q : Sought) → is_sought q o ≡ false)
+        → P i (i + n) f.nothing
     pub test : (i j : ℕ) (t : Test) → ReadsTest ws i j t → P i j f.nothing
     pub fail : f.item Fail f.nothing ≡ f.nothing
     pub one : (t : Test) → f.item (One t) f.nothing ≡ f.nothing
     pub at : (a : SreAtCode) → f.item (At a) f.nothing ≡ f.nothing
-    pub mark : (n : ℕ) → f.item (Mark n) f.nothing ≡ f.nothing
+    pub mark : (i n : ℕ) → HasRole ws i ToMark → P i (i + 2) (f.item (Mark n) f.nothing)
     pub branch :
         (i j : ℕ) (ts : Trees) → i < j → HasRole ws i ToBranch → ReadsBranch ws (i + 1) j ts
         → P (i + 2) j (of_branch f ts) → P i j (of_item f (Branch ts))
@@ -183,14 +193,16 @@ module _ {C R V : Type 0} (x : Scanner C R V) where
         → Operands ws i j (Loop o low high body) → P (i + 4) j (of_tree f body)
         → P i j (of_item f (Loop o low high body))
     pub possessive :
-        (i j low high : ℕ) (body : Tree) → i < j → HasRole ws i ToRepeatPossessively → P (i + 4) j (of_tree f body)
+        (i j low high : ℕ) (body : Tree) → i < j → HasRole ws i ToRepeatPossessively
+        → Operands ws i j (PossessiveLoop low high body) → P (i + 4) j (of_tree f body)
         → P i j (of_item f (PossessiveLoop low high body))
     pub atomic :
-        (i j : ℕ) (body : Tree) → i < j → HasRole ws i ToGroupAtomically → P (i + 2) j (of_tree f body)
-        → P i j (of_item f (Atomic body))
+        (i j : ℕ) (body : Tree) → i < j → HasRole ws i ToGroupAtomically → Operands ws i j (Atomic body)
+        → P (i + 2) j (of_tree f body) → P i j (of_item f (Atomic body))
     pub look :
-        (i j : ℕ) (sign : Sign) (back : ℕ) (body : Tree) → i < j → HasRole ws i (ToLook sign) → Word ws (i + 2) back
-        → P (i + 3) j (of_tree f body) → P i j (of_item f (Look sign back body))
+        (i j : ℕ) (sign : Sign) (back : ℕ) (body : Tree) → i < j → HasRole ws i (ToLook sign)
+        → Operands ws i j (Look sign back body) → P (i + 3) j (of_tree f body)
+        → P i j (of_item f (Look sign back body))
     pub reference :
         (i j : ℕ) (fold : Fold) (g : ℕ) → i < j → HasRole ws i ToRefer → ReadsItem ws i j (Reference fold g)
         → P i j (of_item f (Reference fold g))
@@ -209,13 +221,15 @@ module _ {C R V : Type 0} (x : Scanner C R V) where
     success i k j a y o at =
         before x i k j a y
         (subst (λ m. P k m f.nothing) (sym at)
-        (h.own k 1 ToEnd (role_here ws k opcode.SUCCESS ToEnd o refl) refl (omega arith) (λ m n. refl) refl))
+        (h.own k 1 ToEnd (role_here ws k opcode.SUCCESS ToEnd o refl) refl (omega arith) (λ m n. refl) refl
+        (neither _ refl refl)))
 
     jump : (i k j : ℕ) (a : V) → P i k a → Opcode ws k opcode.JUMP → j ≡ k + 3 → P i j a
     jump i k j a y o at =
         before x i k j a y
         (subst (λ m. P k m f.nothing) (sym at)
-        (h.own k 3 ToJump (role_here ws k opcode.JUMP ToJump o refl) refl (omega arith) (λ m n. refl) refl))
+        (h.own k 3 ToJump (role_here ws k opcode.JUMP ToJump o refl) refl (omega arith) (λ m n. refl) refl
+        (neither _ refl refl)))
 
     mutual
       pub tree_walked : (u : Tree) (i j : ℕ) → Reads ws i j u → P i j (of_tree f u)
@@ -226,14 +240,14 @@ module _ {C R V : Type 0} (x : Scanner C R V) where
       item_walked : (y : Item) (i j : ℕ) → ReadsItem ws i j y → P i j (of_item f y)
       item_walked Fail i j w =
           rw (h.fail, w.1)
-          (h.own i 1 ToFail (item_here ws i j Fail w) refl (omega arith) (λ m n. refl) refl)
+          (h.own i 1 ToFail (item_here ws i j Fail w) refl (omega arith) (λ m n. refl) refl (neither _ refl refl))
       item_walked (One u) i j w = rw (h.one u) (h.test i j u w)
       item_walked (At p) i j w =
           rw (h.at p, w.1.1)
-          (h.own i 2 ToCheckPosition (item_here ws i j (At p) w) refl (omega arith) (λ m n. refl) refl)
+          (h.own i 2 ToCheckPosition (item_here ws i j (At p) w) refl (omega arith) (λ m n. refl) refl
+          (neither _ refl refl))
       item_walked (Mark n) i j w =
-          rw (h.mark n, w.1.1)
-          (h.own i 2 ToMark (item_here ws i j (Mark n) w) refl (omega arith) (λ m n. refl) refl)
+          rw w.1.1 (h.mark i n (item_here ws i j (Mark n) w))
       item_walked (Branch ts) i j w =
           h.branch i j ts (past (Branch ts) i j w) (item_here ws i j (Branch ts) w) w.1
           (subst (λ k. P k j (of_branch f ts)) (omega arith) (trees_walked ts (i + 1) j w.1))
@@ -244,7 +258,7 @@ module _ {C R V : Type 0} (x : Scanner C R V) where
           (before x (i + 4) end j (of_tree f body) (tree_walked body (i + 4) end w.1.3)
           (subst (λ k. P end k f.nothing) (sym w.1.5)
           (h.own end 1 (ToLoop o) (role_here ws end (until_opcode o) (ToLoop o) w.1.4 (until_role o)) refl
-          (omega arith) (λ m n. refl) refl)))
+          (omega arith) (λ m n. refl) refl (neither _ refl refl))))
       item_walked (Run kind low high u) i j w =
           let y : Item = Run kind low high u in
           let far : i + 4 < j - 1 = test_past u ws (i + 4) (j - 1) w.1.5 in
@@ -255,17 +269,17 @@ module _ {C R V : Type 0} (x : Scanner C R V) where
       item_walked (PossessiveLoop low high body) i j w =
           let y : Item = PossessiveLoop low high body in
           let end : ℕ = skip ws (i + 1) in
-          h.possessive i j low high body (past y i j w) (item_here ws i j y w)
+          h.possessive i j low high body (past y i j w) (item_here ws i j y w) w.1
           (success (i + 4) end j (of_tree f body) (tree_walked body (i + 4) end w.1.3) w.1.4 w.1.5)
       item_walked (Atomic body) i j w =
           let far : i + 2 ≤ j - 1 = reads_within body ws (i + 2) (j - 1) w.1.1 in
-          h.atomic i j body (past (Atomic body) i j w) (item_here ws i j (Atomic body) w)
+          h.atomic i j body (past (Atomic body) i j w) (item_here ws i j (Atomic body) w) w.1
           (success (i + 2) (j - 1) j (of_tree f body) (tree_walked body (i + 2) (j - 1) w.1.1) w.1.2
           (omega (arith, far)))
       item_walked (Look sign back body) i j w =
           let y : Item = Look sign back body in
           let far : i + 3 ≤ j - 1 = reads_within body ws (i + 3) (j - 1) w.1.2 in
-          h.look i j sign back body (past y i j w) (item_here ws i j y w) w.1.1
+          h.look i j sign back body (past y i j w) (item_here ws i j y w) w.1
           (success (i + 3) (j - 1) j (of_tree f body) (tree_walked body (i + 3) (j - 1) w.1.2) w.1.3
           (omega (arith, far)))
       item_walked (Reference fold g) i j w =

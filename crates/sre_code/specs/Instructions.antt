@@ -4,7 +4,6 @@ use Rattle.std.specs.Prelude.{ℕ, ◌+◌, ◌≡◌, ◌<◌, ◌⊎◌, List,
 use Rattle.sre_chars.specs.declared.constants.SreOpcode.{SreOpcode}
 use Rattle.sre_model.specs.Tree.{Test, Fold}
 use Rattle.sre_model.specs.Grammar.{Opcode, word, reference_opcode}
-use Rattle.sre_model.specs.References.{no_group}
 use Rattle.sre_model.specs.RunCounts.{run_count}
 use Rattle.sre_model.specs.Roles.{Role, ToFail, ToEnd, ToCheckPosition, ToMark, ToBranch, ToJump, ToRun, ToRepeat}
 use Rattle.sre_model.specs.Roles.{ToLoop}
@@ -55,17 +54,17 @@ abbrev pub NextAt : List ℕ → ℕ → Option (ℕ × ℕ) → Type 0
 NextAt ws i (Some p) = (i < p.0) × Behind ws i p.0 p.1
 NextAt ws i None = NoneBehind ws i
 
--- at i stands an instruction other than a condition, and the next one at k; it asks for group g, or for no group
-pub record Asking (ws : List ℕ) (i k g : ℕ) : Type 0 where
+-- at i stands an instruction other than a condition, and the next one at k; it asks for a group, or for none
+pub record Asking (ws : List ℕ) (i k : ℕ) (asked : Option ℕ) : Type 0 where
   pub one :
-      ((c : ℕ) × Behind ws i k c × (g ≡ no_group))
-      ⊎ ((f : Fold) × Opcode ws i (reference_opcode f) × (k ≡ i + 2) × (g ≡ word ws (i + 1)))
+      ((c : ℕ) × Behind ws i k c × (asked ≡ None))
+      ⊎ ((f : Fold) × Opcode ws i (reference_opcode f) × (k ≡ i + 2) × (asked ≡ Some (word ws (i + 1))))
 
 -- no such instruction stands at i
 pub record NoneAsking (ws : List ℕ) (i : ℕ) : Type 0 where
-  pub none : (k g : ℕ) → Asking ws i k g → ⊥
+  pub none : (k : ℕ) (asked : Option ℕ) → Asking ws i k asked → ⊥
 
 -- where the next instruction stands, and for which group the one at i asks, or that none such is at i
-abbrev pub AskingAt : List ℕ → ℕ → Option (ℕ × ℕ) → Type 0
+abbrev pub AskingAt : List ℕ → ℕ → Option (ℕ × Option ℕ) → Type 0
 AskingAt ws i (Some p) = (i < p.0) × Asking ws i p.0 p.1
 AskingAt ws i None = NoneAsking ws i

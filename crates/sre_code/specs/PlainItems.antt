@@ -1,13 +1,14 @@
--- Items without regions and references, whose loops have few slots within each other.
+-- Items without references, whose loops have few slots within each other, and whose regions do not fork: they are
+-- atomic groups and looks, and no branch, run or loop is in their bodies.
 -- Words of the check's contracts; what sre_engine makes public does not rest on it.
-use Rattle.std.specs.Prelude.{ℕ, ◌+◌, ◌≡◌, ◌≤◌, Bool, false, List, Option, Some, None}
+use Rattle.std.specs.Prelude.{ℕ, ◌+◌, ◌-◌, ◌≡◌, ◌≤◌, Bool, false, ◌||◌, cond, List, Option, Some, None}
 use Rattle.sre_chars.specs.declared.constants.SreOpcode.{SreOpcode}
 use Rattle.sre_model.specs.Tree.{Tree, Item, Loop, Trees, Order}
-use Rattle.sre_model.specs.Grammar.{Opcode, Operands, Reads, ReadsBranch}
+use Rattle.sre_model.specs.Grammar.{skip, Opcode, Operands, Reads, ReadsBranch}
 use Rattle.sre_model.specs.Roles.{Role, ToBranch, ToRepeat, ToRepeatPossessively, ToGroupAtomically, ToLook, role}
 use Rattle.sre_model.specs.References.{refers, by_references}
 use Rattle.sre_model.specs.Folding.{of_item}
-use Rattle.sre_model.specs.Regions.{has_region, by_regions}
+use Rattle.sre_model.specs.Regions.{forks, has_forked_region, by_forked_regions}
 use Rattle.sre_model.specs.Slots.{most_slots, by_slots}
 use Rattle.sre_model.specs.Alternatives.{alternatives_of, most_alternatives, by_alternatives}
 use Rattle.sre_code.specs.Instructions.{Behind, NoneBehind}
@@ -15,17 +16,17 @@ use Rattle.sre_code.specs.declared.code.slots.Kind.{Kind}
 use Rattle.sre_code.specs.declared.code.slots.Kind.TheVariants as kind
 use Rattle.sre_code.specs.declared.code.slots.Passed.{Passed}
 
--- neither a region nor a reference is there, and the slots are at most so many
+-- neither a region that forks nor a reference is there, and the slots are at most so many
 pub record ArePlain (most : ℕ) (region reference : Bool) (slots : ℕ) : Type 0 where
-  pub no_region : region ≡ false
+  pub unforked : region ≡ false
   pub no_reference : reference ≡ false
   pub few : slots ≤ most
 
 abbrev pub IsPlain : ℕ → Tree → Type 0
-IsPlain most t = ArePlain most (has_region t) (refers t) (most_slots t)
+IsPlain most t = ArePlain most (has_forked_region t) (refers t) (most_slots t)
 
 abbrev pub IsPlainItem : ℕ → Item → Type 0
-IsPlainItem most x = ArePlain most (of_item by_regions x) (of_item by_references x) (of_item by_slots x)
+IsPlainItem most x = ArePlain most (of_item by_forked_regions x) (of_item by_references x) (of_item by_slots x)
 
 -- what is told of items that end at j: their slots and alternatives, or that they are not plain
 abbrev pub TreeTold : ℕ → ℕ → Tree → Option Passed → Type 0
@@ -61,6 +62,16 @@ pub record LoopTold (most : ℕ) (ws : List ℕ) (i : ℕ) (r : Option Passed) :
 pub record BranchTold (ws : List ℕ) (i : ℕ) (r : Option Passed) : Type 0 where
   pub each : (ts : Trees) (j : ℕ) → ReadsBranch ws (i + 1) j ts → r ≡ Some (flat (i + 2) (alternatives_of ts))
 
+-- an atomic group or a look that ends at j, or none where its body forks or refers
+abbrev pub passed_unless : Bool → ℕ → Option Passed
+passed_unless forked j = cond forked None (Some (flat j 0))
+
+-- what is told of an atomic group or a look at i, whose body begins at b
+pub record RegionTold (ws : List ℕ) (i b : ℕ) (r : Option Passed) : Type 0 where
+  pub each :
+      (body : Tree) (j : ℕ) → j ≡ skip ws (i + 1) → Reads ws b (j - 1) body
+      → r ≡ passed_unless (forks body || refers body) j
+
 -- what is told of any other instruction
 pub record OtherTold (ws : List ℕ) (i : ℕ) (r : Option Passed) : Type 0 where
   pub some : (k c : ℕ) → Behind ws i k c → r ≡ Some (flat k 0)
@@ -69,15 +80,17 @@ pub record OtherTold (ws : List ℕ) (i : ℕ) (r : Option Passed) : Type 0 wher
 abbrev pub kind_of : Role → Kind
 kind_of ToRepeat = kind.Loop
 kind_of ToBranch = kind.Branch
-kind_of ToRepeatPossessively = kind.Region
-kind_of ToGroupAtomically = kind.Region
-kind_of (ToLook sign) = kind.Region
+kind_of ToRepeatPossessively = kind.PossessiveLoop
+kind_of ToGroupAtomically = kind.AtomicGroup
+kind_of (ToLook sign) = kind.Look
 kind_of _ = kind.Other
 
 abbrev pub ToldBy : Kind → ℕ → List ℕ → ℕ → Option Passed → Type 0
 ToldBy kind.Loop most ws i r = LoopTold most ws i r
 ToldBy kind.Branch most ws i r = BranchTold ws i r
-ToldBy kind.Region most ws i r = r ≡ None
+ToldBy kind.AtomicGroup most ws i r = RegionTold ws i (i + 2) r
+ToldBy kind.Look most ws i r = RegionTold ws i (i + 3) r
+ToldBy kind.PossessiveLoop most ws i r = r ≡ None
 ToldBy kind.Other most ws i r = OtherTold ws i r
 
 -- what is told of the instruction at i, by what it is

@@ -7,7 +7,7 @@
 //! of words that are a code then tells, with no stack, whether they ask for groups, and how far the characters of their
 //! runs count; and what the block claims is compared with the first items, which confirm it or not.
 
-ghost use Rattle.std.specs.Prelude.{◌≡◌, ◌≢◌, ◌≤◌, false, length, IfOk, IfErr, OnOk, IfSome, None};
+ghost use Rattle.std.specs.Prelude.{◌≡◌, ◌≢◌, ◌≤◌, false, length, IfOk, IfErr, OnOk, IfSome, None, min};
 ghost use Rattle.sre_model.specs.Tree.{Tree};
 ghost use Rattle.sre_model.specs.Grammar.{Whole};
 ghost use Rattle.sre_model.specs.References as references;
@@ -40,6 +40,7 @@ mod repeat;
 mod run_counts;
 mod set;
 mod slots;
+mod sought;
 mod step;
 mod turns;
 mod words;
@@ -228,6 +229,25 @@ impl<'a> Code<'a> {
         self.asked_from
     }
 
+    /// Up to which group the code asks for groups, counted from 0: no reference in it is to one behind. It is
+    /// 4294967295 where a condition is in the code, and 0 where it has neither.
+    ///
+    /// Each call goes over the words anew, so its time grows with them. The machine asks this once a search, where it
+    /// first keeps failures while marks are set that are asked for.
+    ///
+    /// ```
+    /// // The words of `(a)(b)\1`, which refers to the first of its two groups.
+    /// let words = [17, 0, 16, 97, 17, 1, 17, 2, 16, 98, 17, 3, 11, 0, 1];
+    /// let code = Code::check(alloc, &words, &uni)?;
+    /// assert!(code.asked_from() == 0 && code.asked_to() == 0);
+    /// ```
+    pub fn asked_to(&self) -> u32
+        ensures { (tree : Tree) → Whole (words_of self.now) tree
+            → result ≡ min references.no_group (references.asked_to tree) }
+    {
+        asked::asked(self.items()).to
+    }
+
     /// Up to which number the characters that one instruction goes over make a difference: the greatest count of the
     /// code's runs of one test, or the least one of a run without a greatest; 4294967295 where a possessive run has no
     /// greatest; and how far a look goes back, if that is more. It tells nothing where the code refers to groups.
@@ -239,9 +259,9 @@ impl<'a> Code<'a> {
         self.most_counts
     }
 
-    /// Whether a mark may be set inside a region, which is an atomic group, a look or a possessive loop. It is `false`
-    /// only where no region of the code sets one. It may be `true` where none does, too: operands that look like a
-    /// region, or like a mark, are taken for one.
+    /// Whether a mark is set inside a region, which is an atomic group, a look or a possessive loop. It is `false` only
+    /// where no region of the code sets one, and `true` only where one does, or where the code refers to groups: there
+    /// operands that look like a region, or like a mark, may be taken for one.
     ///
     /// Each call goes over the words anew, so its time grows with them. The machine asks this once a search, before it
     /// keeps where the bodies of regions end.
@@ -253,7 +273,9 @@ impl<'a> Code<'a> {
     /// assert!(inside.regions_set_marks() && !around.regions_set_marks());
     /// ```
     pub fn regions_set_marks(&self) -> bool
-        ensures { result ≡ false → (tree : Tree) → Whole (words_of self.now) tree → marks_in_regions tree ≡ false }
+        ensures none { result ≡ false → (tree : Tree) → Whole (words_of self.now) tree → marks_in_regions tree ≡ false }
+        ensures told { (tree : Tree) → Whole (words_of self.now) tree → references.refers tree ≡ false
+            → result ≡ marks_in_regions tree }
     {
         marked_regions::regions_set_marks(self.items())
     }
@@ -262,12 +284,16 @@ impl<'a> Code<'a> {
     /// times those of the loops inside it. A loop has two for each count of bodies that makes a difference, as far as
     /// its greatest count, or its least where it has no greatest. What failed is kept for up to 16,777,216 of them.
     ///
-    /// `None` where there are more, and where the code has a reference, a condition, an atomic group, a look or a
-    /// possessive loop: of such codes it is not told. Each call goes over the words anew, so its time grows with them.
+    /// `None` where there are more, and where the code has a reference, a condition, a possessive loop, or an atomic
+    /// group or a look whose body has a branch, a run or a loop: of such codes it is not told. Each call goes over the
+    /// words anew, so its time grows with them.
     ///
     /// ```
     /// // The words of `(?:(?:ab)+c){1,5}`, whose loops have 4 and 12 slots.
     /// assert_eq!(code.most_slots(), Some(48));
+    /// // The words of `(?:(?=a).)+`: the look has no branch, run or loop, and the loop has 4 slots.
+    /// let words = [23, 10, 1, 4294967295, 4, 5, 0, 16, 97, 1, 2, 18, 1];
+    /// assert_eq!(Code::check(alloc, &words, &uni)?.most_slots(), Some(4));
     /// ```
     pub fn most_slots(&self) -> Option<u32>
         ensures some { IfSome result (λ n. (tree : Tree) → Whole (words_of self.now) tree → AreMostSlots n tree) }
@@ -280,10 +306,10 @@ impl<'a> Code<'a> {
     /// any window of a text of at most so many characters: one more than `enough_turns` of the whole text. It grows
     /// with the text, and is told without one, in a time that grows with the words alone.
     ///
-    /// `None` where no such number is known: where the code has a reference, a condition, an atomic group, a look or a
-    /// possessive loop; where not all that failed may be kept, since its loops have more than 16,777,216 slots within
-    /// each other (`most_slots`), or there is no room for so many characters, which with more than 4,096 slots is less;
-    /// and where the number takes more than 64 bits.
+    /// `None` where no such number is known: where the code has a reference, a condition, a possessive loop, or an
+    /// atomic group or a look whose body has a branch, a run or a loop; where not all that failed may be kept, since
+    /// its loops have more than 16,777,216 slots within each other (`most_slots`), or there is no room for so many
+    /// characters, which with more than 4,096 slots is less; and where the number takes more than 64 bits.
     pub fn enough_turns(&self, characters: usize) -> Option<u64>
         ensures enough { IfSome result (λ turns. (tree : Tree) → Whole (words_of self.now) tree
             → AreEnoughFor (length (items_of self.now)) tree characters turns) }

@@ -43,7 +43,7 @@ module _ {S : Type 0} {text : Ghosts S} (r : Request S text) (given : ℕ)
     plain = record {
       tree = enough.tree;
       whole = items_whole (code_of r) enough.tree enough.whole;
-      no_region = enough.remembered.no_region;
+      unforked = enough.remembered.unforked;
       no_reference = enough.remembered.no_reference;
     };
     room = record {

@@ -8,7 +8,7 @@ use Rattle.sre_model.specs.Grammar.{word}
 use Rattle.sre_model.specs.Roles.{role}
 use Rattle.sre_model.specs.Standing.{AreWords}
 use Rattle.sre_model.proofs.Words.{same_number, word_of, word_within}
-use Rattle.sre_turns.specs.MovesAtReferences.{Named, asks}
+use Rattle.sre_turns.specs.MovesAtReferences.{Asks, Named, asks}
 use Rattle.sre_machine.specs.Memos.{Covers}
 
 -- the groups behind the words up to a place
@@ -42,13 +42,13 @@ asks_as o p n told is same none e =
 
 -- all groups are few
 pub covers_all : (ws : List ℕ) → AreWords ws → Covers ws 18446744073709551615
-covers_all ws are = λ g asked. let few = are.fits (asked.2.place + 1) g asked.2.there in omega (arith, few)
+covers_all ws are = λ g asked. let few = are.fits (asked.1.place + 1) g asked.1.there in omega (arith, few)
 
 -- those that were told are those that are asked for
-pub covers_named : (ws us : List ℕ) (old new : ℕ) → us ≡ ws
-    → (new ≡ old) ⊎ ((g : ℕ) → Named us g → 2 * g + 1 < new) → Covers ws old → Covers ws new
-covers_named ws us old new same (inl e) was = λ g asked. let l = was g asked in omega (arith, l, e)
-covers_named ws us old new same (inr told) was = λ g asked. told g (subst (λ vs. Named vs g) (sym same) asked.2)
+pub covers_told : (ws us : List ℕ) (old new : ℕ) → us ≡ ws
+    → (new ≡ old) ⊎ ((g : ℕ) → Asks us g → 2 * g + 1 < new) → Covers ws old → Covers ws new
+covers_told ws us old new same (inl e) was = λ g asked. let l = was g asked in omega (arith, l, e)
+covers_told ws us old new same (inr told) was = λ g asked. told g (subst (λ vs. Asks vs g) (sym same) asked)
 
 -- the group behind a word is told where that is the number of an opcode that asks for one
 pub told_here : (ws : List ℕ) (n end code group : ℕ) → code ≡ word ws (n - 1) → group ≡ word ws n

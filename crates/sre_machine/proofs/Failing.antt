@@ -1,6 +1,6 @@
 -- Instructions that are known to fail, and those that are tried.
 use Rattle.std.proofs.Common.{◌≡◌, ℕ, Bool, true, false, List, ◌∷◌, Result, Ok, Err, IfOk, ◌≢◌, refl, subst, sym}
-use Rattle.std.proofs.Common.{◌∙◌, ◌≤◌, arith}
+use Rattle.std.proofs.Common.{◌∙◌, ◌<◌, ◌≤◌, ◌+◌, ◌*◌, min, arith}
 use Rattle.std.proofs.lemmas.Bool.{true≢false}
 use Rattle.sre_chars.specs.declared.string.StrDrive.{Ghosts}
 use Rattle.sre_chars.specs.declared.string.StringCursor.{StringCursor}
@@ -15,7 +15,7 @@ use Rattle.sre_turns.specs.declared.Next.{Next}
 use Rattle.sre_turns.specs.declared.Point.TheVariants.{Instruction}
 use Rattle.sre_model.specs.Tree.{Tree}
 use Rattle.sre_model.specs.Grammar.{Whole}
-use Rattle.sre_model.specs.References.{refers, asked_from}
+use Rattle.sre_model.specs.References.{refers, asked_from, asked_to, no_group}
 use Rattle.sre_model.proofs.TreeOf.{tree_of}
 use Rattle.sre_turns.specs.MovesAtReferences.{HasReference, Asks}
 use Rattle.sre_code.specs.Codes.{words_of, items_of}
@@ -106,7 +106,7 @@ pub turn_ended : {S : Type 0} {text : Ghosts S} (r : Request S text) (place : �
 turn_ended r place cursor end b m e all limit x = (
   limit,
   grants_nothing limit,
-  end_taken (run_of r) place cursor end b no_marks e.inside e.unmarked e.stands e.ends all limit x,
+  end_taken (run_of r) place cursor end b no_marks e.inside e.forks e.unmarked e.stands e.ends all limit x,
   pays_nothing r m m limit limit refl (λ h. h) refl refl,
 )
 
@@ -118,7 +118,17 @@ asked_few r code least same tells g asks =
     let t = tree_of (items_of code) in
     let w = whole_of code in
     let is : least ≡ asked_from t = tells t (whole_items code t w) in
-    omega (arith, is, asked.1 t w)
+    omega (arith, is, (asked.0.1 t w).0)
+
+-- and up to the one that it tells, unless that is no group
+pub asked_last : (code : Code) (last : ℕ)
+    → ((t : Tree) → Whole (words_of code) t → last ≡ min no_group (asked_to t)) → last < no_group
+    → (g : ℕ) → Asks (items_of code) g → 2 * g + 1 < 2 * last + 2
+asked_last code last tells few g asked =
+    let t = tree_of (items_of code) in
+    let w = whole_of code in
+    let is : last ≡ min no_group (asked_to t) = tells t (whole_items code t w) in
+    omega (arith, is, few, (asked.0.1 t w).1)
 
 -- a code that says so has no reference
 pub none_refers : (code : Code) (told : Bool) → ((t : Tree) → Whole (words_of code) t → told ≡ refers t) → told ≡ false

@@ -13,7 +13,7 @@ use Rattle.sre_model.specs.Runs.{Run}
 use Rattle.sre_turns.specs.Board.{BoardValue, bare}
 use Rattle.sre_turns.specs.Limits.{Limit, Grants, earlier, grant}
 use Rattle.sre_turns.specs.Machine.{Stands, Later, spot, outcomes}
-use Rattle.sre_turns.specs.Settled.{Regionless}
+use Rattle.sre_turns.specs.Settled.{Unforked}
 use Rattle.sre_turns.specs.declared.Next.{Next}
 use Rattle.sre_turns.specs.declared.Next.TheVariants as next
 use Rattle.sre_turns.specs.declared.Point.TheVariants.{Instruction, Again}
@@ -46,7 +46,7 @@ use Rattle.sre_machine.specs.Turns.{Proceeds}
 use Rattle.sre_machine.proofs.Paying.{pays_nothing, pays_then, grants_nothing, held}
 
 -- wherever the machine stands, no more turns were taken than the potential allows
-pub stands_within : (r : Run) (all : List Way) (l : Limit) (n : Next) (b : BoardValue) → Regionless r
+pub stands_within : (r : Run) (all : List Way) (l : Limit) (n : Next) (b : BoardValue) → Unforked r
     → Stands r all l n b → Within r l
 stands_within r all l (next.At i c) b pl x =
     let code = run_code r (spot (Instruction i) c b) x.runs in
@@ -54,7 +54,7 @@ stands_within r all l (next.At i c) b pl x =
 stands_within r all l (next.Again c) b pl x =
     let code = run_code r (spot Again c b) x.runs in omega (arith, (x.fares pl code.0 code.1).fares.left)
 stands_within r all l next.Back b pl x = omega (arith, (x.fares pl).left)
-stands_within r all l (next.Done c) b pl x = omega (arith, (x.fares pl).left)
+stands_within r all l (next.Done c) b pl x = omega (arith, (x.fares pl).fares.left)
 
 -- the machine stands where it is known to stand, on a board that is the same
 pub stands_there : (r : Run) (all : List Way) (l : Limit) (n n' : Next) (b b' : BoardValue) → n ≡ n' → b' ≡ b
@@ -178,7 +178,7 @@ module _ {S : Type 0} {text : Ghosts S} (r : Request S text) (all : List Way) (f
     pub settles : (n : Next) (b' : BoardValue) (m₁ m'' : MemoValue) → Follows r all first n b b' m m' before turned
         → m₁ ≡ record m' { waits = m₁.waits }
         → ((l : Limit) → Stands (run_of r) all l n b' → (more : Limit) × Grants l more × Pays r m₁ l m'' more
-        × (Regionless (run_of r) → (more.trying ≡ []) × Within (run_of r) more))
+        × (Unforked (run_of r) → (more.trying ≡ []) × Within (run_of r) more))
         → Settles r all first b m m'' before given left'
     settles n b' m₁ m'' f waits last = record {
       cost = λ pl keeps limit x start none k h.

@@ -6,7 +6,7 @@ use Rattle.sre_chars.specs.declared.string.StrDrive.{Ghosts}
 use Rattle.sre_chars.specs.declared.string.StringCursor.{StringCursor}
 use Rattle.sre_model.specs.Ways.{Way}
 use Rattle.sre_turns.specs.Board.{BoardValue, Trying}
-use Rattle.sre_turns.specs.Limits.{Limit, EachChoice, tried_spots, without_tried}
+use Rattle.sre_turns.specs.Limits.{Limit, Settling, tried_spots, without_tried}
 use Rattle.sre_turns.specs.Machine.{Backs, spot}
 use Rattle.sre_turns.specs.Settled.{SettledIn}
 use Rattle.sre_turns.proofs.Faring.{never_inside, newest_tried}
@@ -67,9 +67,9 @@ pays_kept r place cursor b b' m m' marked same keeps all limit x = record {
   paid = λ pl keeps_them at n h.
       let f = x.fares pl.plain in
       let here : Spot = spot (Instruction place) cursor b' in
-      let trying = newest_tried (run_of r) pl.plain limit 0 here b.choices b'.choices f
+      let trying = newest_tried (run_of r) pl.plain limit _ here b.choices b'.choices f
       (ap (λ cs. tried_spots cs) marked) in
-      let settled = subst (λ cs. EachChoice (SettledIn (run_of r) pl.plain limit.start) cs) marked f.settled in
+      let settled = subst (λ cs. Settling (run_of r) pl.plain limit.start cs) marked f.settled in
       let outside = none_inside b'.choices
       (never_inside (SettledIn (run_of r) pl.plain limit.start) b'.choices settled.1) in
       let was = subst (λ xs. Account (run_of r) pl.plain (start_of r) m.kept xs n) trying h in

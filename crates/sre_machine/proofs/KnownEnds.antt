@@ -13,18 +13,18 @@ use Rattle.sre_board.proofs.EndsKept.{end_told}
 use Rattle.sre_request.specs.declared.request.Request.{Request}
 use Rattle.sre_request.specs.Runs.{run_of}
 use Rattle.sre_machine.specs.Memos.{MemoValue, Recalls}
-use Rattle.sre_machine.specs.Turns.{UnaskedMarks, EndsThere}
+use Rattle.sre_machine.specs.Turns.{UnaskedMarks, EndsThere, ForksThere}
 
 pub known_there : {S : Type 0} {text : Ghosts S} (r : Request S text) (place position : ℕ) (cursor : StringCursor)
     (b : BoardValue) (m : MemoValue) (ws : List ℕ) → ws ≡ (run_of r).words → position ≡ cursor.position
-    → is_inside b.choices ≡ true → UnaskedMarks r b.marks → Recalls (run_of r) m → Laid m.kept
+    → is_inside b.choices ≡ true → ForksThere r place → UnaskedMarks r b.marks → Recalls (run_of r) m → Laid m.kept
     → (told : Option StringCursor)
     → IfSome told (λ end. TellsEnd m.kept m.ends ws (is_inside b.choices)
     (spot_at (Instruction place) b.frames position b.marks) end)
     → IfSome told (λ end. EndsThere r place cursor b end)
-known_there r place position cursor b m ws same at inside unmarked recalls laid None tells = tt
-known_there r place position cursor b m ws same at inside unmarked recalls laid (Some end) tells =
+known_there r place position cursor b m ws same at inside forks unmarked recalls laid None tells = tt
+known_there r place position cursor b m ws same at inside forks unmarked recalls laid (Some end) tells =
     let there : TellsEnd m.kept m.ends (run_of r).words true (spot (Instruction place) cursor b) end =
     rw (same, at, inside) at tells in
     let is = end_told (run_of r) m.kept m.ends (spot (Instruction place) cursor b) end recalls.ends laid there in
-    record { inside = inside; unmarked = unmarked; stands = is.1; ends = is.0 }
+    record { inside = inside; forks = forks; unmarked = unmarked; stands = is.1; ends = is.0 }

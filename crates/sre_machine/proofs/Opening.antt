@@ -18,9 +18,12 @@ use Rattle.sre_turns.specs.Machine.{Arrives, Goes, Tries, spot}
 use Rattle.sre_turns.specs.Moves.{Spot}
 use Rattle.sre_turns.specs.Nested.{repeats}
 use Rattle.sre_turns.specs.Potential.{units, potential_of}
-use Rattle.sre_turns.specs.Settled.{SettledIn}
+use Rattle.sre_turns.specs.Settled.{SettledIn, Unforked}
 use Rattle.sre_turns.specs.declared.Point.TheVariants.{Instruction}
-use Rattle.sre_turns.proofs.Faring.{run_code, never_inside}
+use Rattle.sre_turns.proofs.Faring.{run_code, never_inside, forks_outside}
+use Rattle.sre_turns.proofs.HereMoves.{Outside}
+use Rattle.sre_turns.proofs.Straight.{forks_never}
+use Rattle.sre_machine.specs.Turns.{ForksThere}
 use Rattle.sre_turns.proofs.NestedCounts.{units_most, has_greatest}
 use Rattle.sre_turns.specs.RunEnds.{RunsOn}
 use Rattle.sre_turns.proofs.Hopeless.{no_reference}
@@ -66,7 +69,7 @@ prepared_at r place b m m' ws first end words start stop makes same refused =
     record { makes = rw (words, start, stop) at makes; same = same; refused = refused }
 
 module _ {S : Type 0} {text : Ghosts S} (r : Request S text) (place : ℕ) (cursor : StringCursor) (b : BoardValue)
-    (m m' : MemoValue) (p : PreparedAt r place b m m') (all : List Way) (limit : Limit)
+    (m m' : MemoValue) (p : PreparedAt r place b m m') (forks : ForksThere r place) (all : List Way) (limit : Limit)
     (x : Arrives (run_of r) all limit (Instruction place) cursor b) where
   abbrev here : Spot
   here = spot (Instruction place) cursor b
@@ -75,8 +78,13 @@ module _ {S : Type 0} {text : Ghosts S} (r : Request S text) (place : ℕ) (curs
       → FaresAt (run_of r) pl.plain limit (potential_of (run_of r).words (run_of r).subject.end here) here b.choices
   faring pl = let code = run_code (run_of r) here x.runs in x.fares pl.plain code.0 code.1
 
+  -- where an instruction forks no region is in progress
+  apart : (pl : Remembering r) → Outside (run_of r) pl.plain limit.start b.choices here
+  apart pl =
+      forks_outside (run_of r) pl.plain limit _ here b.choices (faring pl) (forks_never (run_of r).words place forks)
+
   settled : (pl : Remembering r) → limit.start ≡ start_of r → SettledIn (run_of r) pl.plain (start_of r) here
-  settled pl at = subst (λ n. SettledIn (run_of r) pl.plain n here) at (faring pl).here
+  settled pl at = subst (λ n. SettledIn (run_of r) pl.plain n here) at (apart pl).settled
 
   inside : place < length (run_of r).words
   inside = let code = run_code (run_of r) here x.runs in opcode_within (run_of r).words place code.0 code.1
@@ -112,13 +120,11 @@ module _ {S : Type 0} {text : Ghosts S} (r : Request S text) (place : ℕ) (curs
       let none = none_open (run_of r) (no_reference (run_of r).words pl.plain.tree pl.plain.whole pl.plain.no_reference)
       all limit (Instruction place) cursor b x in
       subst (λ xs. AllByRecursion (λ (y : Spot). Alike (run_of r).words y here → ⊥) xs) f.trying
-      (none_tried (run_of r).words (SettledIn (run_of r) pl.plain limit.start) here b.choices f.settled none)
+      (none_tried (run_of r).words (SettledIn (run_of r) pl.plain limit.start) here b.choices (apart pl).each none)
 
-  -- where failures are remembered no region is in progress
   outside : (pl : Remembering r) → is_inside b.choices ≡ false
   outside pl =
-      none_inside b.choices
-      (never_inside (SettledIn (run_of r) pl.plain limit.start) b.choices (faring pl).fares.settled)
+      none_inside b.choices (never_inside (SettledIn (run_of r) pl.plain limit.start) b.choices (apart pl).each)
 
   -- tolls are granted, and the spot's bit is taken in
   pays_tried : (k : ℕ) → ((pl : Remembering r) → k ≤ weight r pl)
@@ -190,7 +196,7 @@ module _ {S : Type 0} {text : Ghosts S} (r : Request S text) (place : ℕ) (curs
     -- so many are few, but for a run without a greatest count
     few_units : (RunsOn (run_of r).words place → ⊥) → (pl : Remembering r) → own ≤ weight r pl
     few_units counted pl =
-        units_most (run_of r) pl.plain limit.start here place code.0 (faring pl).here refl code.1
+        units_most (run_of r) pl.plain limit.start here place code.0 (apart pl).settled refl code.1
         (has_greatest (run_of r).words place code.0 code.1 counted x.runs)
 
     -- so the instruction is gone on with, where its mark was made; it was not where memory was refused
@@ -204,7 +210,8 @@ module _ {S : Type 0} {text : Ghosts S} (r : Request S text) (place : ℕ) (curs
         go true e = (
           with_tried here (raised own limit),
           record { turns = refl; taken = refl; granted = refl; start = refl },
-          trying_goes (run_of r) place cursor b c (marked e) all (raised own limit) (arrived_at code.0 code.1 x),
+          trying_goes (run_of r) place cursor b c (marked e) (λ pl. forks) all (raised own limit)
+              (arrived_at code.0 code.1 x),
           λ counted. pays_tried own (few_units counted) opened,
         )
         go false e = (
@@ -225,7 +232,7 @@ module _ {S : Type 0} {text : Ghosts S} (r : Request S text) (place : ℕ) (curs
         go true e = (
           with_tried here (raised 1 limit),
           record { turns = refl; taken = refl; granted = refl; start = refl },
-          trying_tries (run_of r) place cursor b c (marked e) all (raised 1 limit) (arrived_once x),
+          trying_tries (run_of r) place cursor b c (marked e) (λ pl. forks) all (raised 1 limit) (arrived_once x),
           pays_tried 1 (λ pl. omega arith) opened,
         )
         go false e = (
@@ -273,6 +280,9 @@ module _ {S : Type 0} {text : Ghosts S} (r : Request S text) (place : ℕ) (curs
     (x : Arrives (run_of r) all limit (Instruction place) cursor b) (c : BoardValue) (made : Bool)
     (marked : made ≡ true → c ≡ record b { choices = Trying place b.frames cursor b.marks ∷ b.choices })
     (left : made ≡ false → c ≡ b) where
+  never_forks : Unforked (run_of r) → ForksThere r place
+  never_forks pl = absurd (no_reference (run_of r).words pl.tree pl.whole pl.no_reference has)
+
   pub goes_marked : (more : Limit) × Grants limit more × Goes (run_of r) all more (Instruction place) cursor c
       × ((RunsOn (run_of r).words place → ⊥) → Pays r m limit m' more)
   goes_marked = go made refl
@@ -285,7 +295,8 @@ module _ {S : Type 0} {text : Ghosts S} (r : Request S text) (place : ℕ) (curs
           let k : ℕ = units (run_of r).words (run_of r).subject.end place (role code.0) in (
             with_tried (spot (Instruction place) cursor b) (raised k limit),
             record { turns = refl; taken = refl; granted = refl; start = refl },
-            trying_goes (run_of r) place cursor b c (marked e) all (raised k limit) (arrived_at code.0 code.1 x),
+            trying_goes (run_of r) place cursor b c (marked e) never_forks all (raised k limit)
+                (arrived_at code.0 code.1 x),
             λ counted.
                 pays_left r m m' limit (with_tried (spot (Instruction place) cursor b) (raised k limit)) (λ _. has),
           )
@@ -309,7 +320,7 @@ module _ {S : Type 0} {text : Ghosts S} (r : Request S text) (place : ℕ) (curs
       go true e = (
         with_tried (spot (Instruction place) cursor b) (raised 1 limit),
         record { turns = refl; taken = refl; granted = refl; start = refl },
-        trying_tries (run_of r) place cursor b c (marked e) all (raised 1 limit) (arrived_once x),
+        trying_tries (run_of r) place cursor b c (marked e) never_forks all (raised 1 limit) (arrived_once x),
         pays_left r m m' limit (with_tried (spot (Instruction place) cursor b) (raised 1 limit)) (λ _. has),
       )
       go false e = (

@@ -3,13 +3,13 @@ use Rattle.std.proofs.Common.{◌≡◌, ℕ, ◌+◌, ◌*◌, ◌<◌, ◌⊎�
 use Rattle.sre_model.specs.Marks.{no_marks}
 use Rattle.sre_model.specs.Runs.{Run}
 use Rattle.sre_turns.specs.Bodies.{MarklessRegions}
-use Rattle.sre_turns.specs.MovesAtReferences.{Named}
+use Rattle.sre_turns.specs.MovesAtReferences.{Asks}
 use Rattle.sre_board.specs.Ends.{EndsTable, EndsRight, HoldsNoEnd}
 use Rattle.sre_board.specs.Failures.{Kept, HoldsNone, HoldsNoMore, BitsStay, Grows, Remembers}
 use Rattle.sre_board.proofs.EndsKept.{right_none, right_stays}
 use Rattle.sre_board.proofs.Remembering.{remembers_none, remembers_still}
 use Rattle.sre_machine.specs.Memos.{MarkedValue, MemoValue, Covers, Recalled, Recalls, EndsStay}
-use Rattle.sre_machine.proofs.AskedGroups.{covers_named}
+use Rattle.sre_machine.proofs.AskedGroups.{covers_told}
 
 -- nothing is kept
 pub recalls_none : (r : Run) (k : Kept) (m : MarkedValue) (e : EndsTable) (h : Bool) → HoldsNone k → HoldsNone m.kept
@@ -39,14 +39,14 @@ bits_stay k k' same = subst (λ l. BitsStay k l) (sym same) (λ ws inside x at b
 -- what was kept under marks is kept still, or is forgotten
 pub recalls_met : (r : Run) (m m' : MemoValue) → m'.kept ≡ m.kept → EndsStay m m'
     → (m'.marked ≡ m.marked) ⊎ HoldsNone m'.marked.kept → (ws : List ℕ) → ws ≡ r.words
-    → (m'.marked.end ≡ m.marked.end) ⊎ ((g : ℕ) → Named ws g → 2 * g + 1 < m'.marked.end) → Recalls r m → Recalls r m'
+    → (m'.marked.end ≡ m.marked.end) ⊎ ((g : ℕ) → Asks ws g → 2 * g + 1 < m'.marked.end) → Recalls r m → Recalls r m'
 recalls_met r m m' same ends met ws words told recalls = record {
   plain = subst (λ k. Remembers r no_marks k) (sym same) recalls.plain;
   marked = elim met [
     | inl e ↦ subst (λ (x : MarkedValue). Remembers r x.marks x.kept) (sym e) recalls.marked
     | inr none ↦ remembers_none r m'.marked.marks m'.marked.kept none
   ];
-  covers = covers_named r.words ws m.marked.end m'.marked.end words told recalls.covers;
+  covers = covers_told r.words ws m.marked.end m'.marked.end words told recalls.covers;
   ends = ends_kept r m m' ends (bits_stay m.kept m'.kept same) recalls;
   markless = still_markless r m m' ends (bits_stay m.kept m'.kept same) recalls;
 }

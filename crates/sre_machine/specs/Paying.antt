@@ -9,7 +9,7 @@ use Rattle.sre_chars.specs.declared.string.StringCursor.{StringCursor}
 use Rattle.sre_growth.specs.Refusal.{Refused}
 use Rattle.sre_model.specs.Runs.{Run}
 use Rattle.sre_turns.specs.Limits.{Limit, grant}
-use Rattle.sre_turns.specs.Settled.{Regionless}
+use Rattle.sre_turns.specs.Settled.{Unforked}
 use Rattle.sre_model.specs.Ways.{Way}
 use Rattle.sre_model.specs.RunCounts.{most_counts}
 use Rattle.sre_model.specs.Alternatives.{most_alternatives}
@@ -30,9 +30,9 @@ use Rattle.sre_machine.specs.declared.turns.Decision.TheVariants.{Decided, Opene
 abbrev pub window_of : {S : Type 0} {text : Ghosts S} → Request S text → ℕ
 window_of r = end_of r - start_of r
 
--- the words have neither regions nor references, and there is room for the bits of all their places
+-- the words have no references, no body of a region forks, and there is room for the bits of all their places
 pub record Remembering {S : Type 0} {text : Ghosts S} (r : Request S text) : Type 0 where
-  pub plain : Regionless (run_of r)
+  pub plain : Unforked (run_of r)
   pub room : Room (run_of r) plain (start_of r)
   pub order : start_of r ≤ end_of r
 

@@ -12,7 +12,8 @@ use Rattle.sre_turns.specs.Fruit.{is_inside}
 use Rattle.sre_turns.specs.Hopeless.{Hopeless}
 use Rattle.sre_turns.specs.Moves.{spot_at}
 use Rattle.sre_turns.specs.MovesAtReferences.{HasReference}
-use Rattle.sre_turns.specs.Settled.{Regionless}
+use Rattle.sre_turns.specs.Settled.{Unforked}
+use Rattle.sre_turns.specs.Straight.{ForksAt}
 use Rattle.sre_model.specs.Ways.{Way}
 use Rattle.sre_turns.specs.Machine.{HasRun, IsAt, StandsWithin, Goes, Tries, Arrives, Backs, Advances, Later}
 use Rattle.sre_turns.specs.BodyEnds.{EndsAt}
@@ -113,7 +114,7 @@ abbrev pub Finishes : {S : Type 0} {text : Ghosts S} → Request S text → Bool
 Finishes r keeps b m m' =
     (all : List Way) (limit : Limit) → Backs (run_of r) all limit b
     → (all ≡ []) × ((more : Limit) × Grants limit more × (keeps ≡ true → Pays r m limit m' more)
-    × (Regionless (run_of r) → (more.trying ≡ []) × Within (run_of r) more))
+    × (Unforked (run_of r) → (more.trying ≡ []) × Within (run_of r) more))
 
 -- the instruction is left at once
 abbrev pub GivesUp : {S : Type 0} {text : Ghosts S} → Request S text → ℕ → StringCursor → BoardValue → MemoValue
@@ -150,6 +151,10 @@ abbrev pub StaysAt : {S : Type 0} {text : Ghosts S} → Request S text → ℕ �
     → Type 0
 StaysAt r place cursor b c = AtOnBoard r (Instruction place) cursor b → AtOnBoard r (Instruction place) cursor c
 
+-- the instruction at a place forks: the machine may have more than one way to go on there
+abbrev pub ForksThere : {S : Type 0} {text : Ghosts S} → Request S text → ℕ → Type 0
+ForksThere r place = ForksAt (run_of r).words place
+
 -- an instruction is left at once, or else the machine stands there still and goes on with it
 pub record LeavesOrStays {S : Type 0} {text : Ghosts S} (r : Request S text) (place : ℕ) (cursor : StringCursor)
     (leaves : Bool) (b : BoardValue) (m : MemoValue) (c : BoardValue) (m' : MemoValue) : Type 0 where
@@ -167,11 +172,12 @@ pub record IsKeeping {S : Type 0} {text : Ghosts S} (r : Request S text) (keepin
   pub refers : keeping ≡ Marked → RefersToGroups r
   pub left : keeping ≡ Nothing → m.is_open ≡ true → RefersToGroups r
 
--- from the instruction at a place, inside a region, its body ends at a cursor: so it does from what is alike, as long
--- as no mark is set that the words ask for
+-- from the instruction at a place, which forks, inside a region, its body ends at a cursor: so it does from what is
+-- alike, as long as no mark is set that the words ask for
 pub record EndsThere {S : Type 0} {text : Ghosts S} (r : Request S text) (place : ℕ) (cursor : StringCursor)
     (b : BoardValue) (end : StringCursor) : Type 0 where
   pub inside : is_inside b.choices ≡ true
+  pub forks : ForksThere r place
   pub unmarked : UnaskedMarks r b.marks
   pub stands : (run_of r).stands end end.position
   pub ends : EndsAt (run_of r) no_marks (spot (Instruction place) cursor b) end.position

@@ -2,21 +2,23 @@
 //!
 //! All of them were kept under marks that are alike to those of one time, of which there is a copy. They serve as long
 //! as the marks are alike to these. Where others are met often, these are taken over, and the failures go. Marks behind
-//! the last group that is asked for make no difference: which that is, a search looks up in the words once.
+//! the last group that is asked for make no difference: which that is, a search asks its code once.
 
 ghost use Rattle.std.specs.Prelude.{ℕ, ◌≡◌, ◌⊎◌, ◌+◌, ◌-◌, ◌*◌, ◌^◌, ◌<◌, ◌≤◌, IfOk, None, slice_index_or, true, false};
 ghost use Rattle.sre_model.specs.Marks.{mark_at};
 ghost use Rattle.sre_chars.specs.Numbers.{opcode_number};
 ghost use Rattle.sre_chars.specs.declared.constants.SreOpcode.{SreOpcode};
 ghost use Rattle.sre_model.specs.Roles.{role};
-ghost use Rattle.sre_turns.specs.MovesAtReferences.{Named, asks};
+ghost use Rattle.sre_turns.specs.MovesAtReferences.{Asks, Named, asks};
 ghost use Rattle.sre_turns.specs.Fruit.{is_inside};
 ghost use Rattle.sre_turns.specs.Moves.{spot_at};
 ghost use Rattle.sre_turns.specs.declared.Point.TheVariants.{Instruction};
 ghost use Rattle.sre_board.specs.Failures.{HoldsNone, HoldsNoMore, HoldsOneMore, Tells};
+ghost use Rattle.sre_code.specs.Codes.{items_of};
 
 use sre_board::{Board, Failures, Known};
 use sre_chars::constants::SreOpcode;
+use sre_code::Code;
 use sre_growth::Refusal;
 use std::alloc::Allocator;
 use std::convert::TryFrom;
@@ -105,8 +107,8 @@ fn end_with(end: usize, word: u32, group: u32) -> usize
     end
 }
 
-// Behind which mark none is asked for. It looks behind each word that may be such an opcode, so it may say too much.
-fn asked_end(words: &[u32]) -> usize
+// Behind which mark none is named. It looks behind each word that may be such an opcode, so it may say too much.
+fn named_end(words: &[u32]) -> usize
     ensures { (g : ℕ) → Named words.now g → 2 * g + 1 < result }
 {
     let mut end = 0;
@@ -118,12 +120,24 @@ fn asked_end(words: &[u32]) -> usize
     end
 }
 
+// Behind which mark none is asked for: the code tells it, or its words where it has a condition, which the code counts
+// as asking for each group.
+fn asked_end(code: &Code<'_>) -> usize
+    ensures { (g : ℕ) → Asks (items_of code.now) g → 2 * g + 1 < result }
+{
+    let last = code.asked_to();
+    if last == u32::MAX {
+        return named_end(code.items());
+    }
+    2 * last as usize + 2
+}
+
 // The same, if it is not known yet.
-fn known_end(end: usize, words: &[u32]) -> usize
-    ensures { (result ≡ end) ⊎ ((g : ℕ) → Named words.now g → 2 * g + 1 < result) }
+fn known_end(end: usize, code: &Code<'_>) -> usize
+    ensures { (result ≡ end) ⊎ ((g : ℕ) → Asks (items_of code.now) g → 2 * g + 1 < result) }
 {
     if end == usize::MAX {
-        return asked_end(words);
+        return asked_end(code);
     }
     end
 }
@@ -202,14 +216,15 @@ impl<A: Allocator> Marked<A> {
     /// # Errors
     ///
     /// [`Refusal`], where memory was refused. No failure is kept then, either.
-    pub(crate) fn adopt(&mut self, words: &[u32], raw: &[Option<usize>]) -> Result<(), Refusal>
+    pub(crate) fn adopt(&mut self, code: &Code<'_>, raw: &[Option<usize>]) -> Result<(), Refusal>
         ensures none { HoldsNone self.new.kept }
-        ensures end { (self.new.end ≡ self.old.end) ⊎ ((g : ℕ) → Named words.now g → 2 * g + 1 < self.new.end) }
+        ensures end { (self.new.end ≡ self.old.end)
+            ⊎ ((g : ℕ) → Asks (items_of code.now) g → 2 * g + 1 < self.new.end) }
         ensures marks { IfOk result (λ _. self.new.marks.raw ≡ raw.now) }
     {
         self.failures.forget();
         self.strange = 0;
-        self.end = known_end(self.end, words);
+        self.end = known_end(self.end, code);
         copy(&mut self.marks, raw)
     }
 

@@ -10,7 +10,8 @@ ghost use Rattle.std.specs.Prelude.{[], ℕ, ◌≡◌, ◌⊎◌, ◌+◌, ◌-
 ghost use Rattle.std.specs.Prelude.{true, false};
 ghost use Rattle.sre_model.specs.Marks.{mark_at};
 ghost use Rattle.sre_turns.specs.Fruit.{is_inside};
-ghost use Rattle.sre_turns.specs.MovesAtReferences.{Named};
+ghost use Rattle.sre_turns.specs.MovesAtReferences.{Asks};
+ghost use Rattle.sre_code.specs.Codes.{items_of};
 ghost use Rattle.sre_turns.specs.Moves.{spot_at};
 ghost use Rattle.sre_turns.specs.declared.Point.TheVariants.{Instruction};
 ghost use Rattle.sre_growth.specs.Refusal.{Refused};
@@ -26,6 +27,7 @@ ghost use Rattle.sre_request.specs.Requests.{start_of, end_of};
 use crate::marked::Marked;
 use sre_board::{Board, Ends, Failures, Known};
 use sre_chars::string::{StrDrive, StringCursor};
+use sre_code::Code;
 use sre_code::operands::know_words;
 use sre_growth::Refusal;
 use sre_request::Request;
@@ -369,10 +371,10 @@ impl<A: Allocator> Memo<A> {
 
     // Other marks were met, which are taken over where that was often enough.
     #[inline(never)]
-    pub(crate) fn meets(&mut self, words: &[u32], raw: &[Option<usize>])
+    pub(crate) fn meets(&mut self, code: &Code<'_>, raw: &[Option<usize>])
         ensures marked { (self.new.marked ≡ self.old.marked) ⊎ HoldsNone self.new.marked.kept }
         ensures end { (self.new.marked.end ≡ self.old.marked.end)
-            ⊎ ((g : ℕ) → Named words.now g → 2 * g + 1 < self.new.marked.end) }
+            ⊎ ((g : ℕ) → Asks (items_of code.now) g → 2 * g + 1 < self.new.marked.end) }
         ensures kept { self.new.kept ≡ self.old.kept }
         ensures ends { EndsStay self.old self.new }
         ensures still { self.old.is_open ≡ true → self.new.is_open ≡ true ⊎ Refused }
@@ -381,7 +383,7 @@ impl<A: Allocator> Memo<A> {
         if !self.marked.is_worn() {
             return;
         }
-        if let Err(refusal) = self.marked.adopt(words, raw) {
+        if let Err(refusal) = self.marked.adopt(code, raw) {
             self.close(refusal);
         }
     }

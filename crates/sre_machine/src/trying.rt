@@ -14,7 +14,7 @@ ghost use Rattle.sre_machine.specs.Memos.{RecallsOf};
 ghost use Rattle.sre_request.specs.Runs.{run_of, OpcodeAt};
 ghost use Rattle.sre_machine.specs.EndlessRuns.{IsEndlessRun};
 ghost use Rattle.sre_machine.specs.Turns.{At, AtOnBoard, Fails, Takes, TriesOn, IsKeeping, LeavesOrStays};
-ghost use Rattle.sre_machine.specs.Turns.{RefersToGroups, UnaskedMarks, AlikeMarks};
+ghost use Rattle.sre_machine.specs.Turns.{RefersToGroups, UnaskedMarks, AlikeMarks, ForksThere};
 ghost use Rattle.sre_growth.specs.Refusal.{Refused};
 
 use crate::body_ends::known_end;
@@ -38,8 +38,9 @@ pub(super) fn may_branch<S: StrDrive>(
     cursor: StringCursor,
 ) -> bool
     requires { At req.now place cursor }
-    ensures { result ≡ false → (o : SreOpcode) → OpcodeAt req.now place o
+    ensures free { result ≡ false → (o : SreOpcode) → OpcodeAt req.now place o
         → units (run_of req.now).words (run_of req.now).subject.end place (role o) ≡ 0 }
+    ensures forks { result ≡ true → ForksThere req.now place }
 {
     matches!(
         opcode(req, place, cursor),
@@ -175,6 +176,7 @@ fn has_failed<S: StrDrive, A: Allocator>(
     cursor: StringCursor,
 ) -> bool
     requires remembers { RecallsOf req.now memo.old }
+    requires forks { ForksThere req.now place }
     requires opened { memo.old.is_open ≡ true }
     requires unmarked { UnaskedMarks req.now board.old.marks }
     ensures remembers { RecallsOf req.now memo.new }
@@ -239,7 +241,7 @@ fn meet_marks<S: StrDrive, A: Allocator>(
     ensures still { memo.old.is_open ≡ true → memo.new.is_open ≡ true ⊎ Refused }
 {
     if memo.is_open() && may_branch(req, place, cursor) {
-        memo.meets(req.pattern_codes().items(), board.marks().raw());
+        memo.meets(&req.pattern_codes(), board.marks().raw());
     }
 }
 

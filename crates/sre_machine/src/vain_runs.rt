@@ -79,19 +79,25 @@ fn lacks_what_follows<S: StrDrive>(
 }
 
 /// Whether nothing can come of a run's tail from a cursor on, as far as it is worth to look: where the last run in vain
-/// was long, and this one is, too.
+/// was long, and this one is, too. The look counts as a stretch of twice the part that it runs over, since it goes over
+/// the rest a good deal faster.
 #[inline(always)]
 pub(super) fn is_in_vain<S: StrDrive, A: Allocator>(
     req: &Request<'_, S>,
-    board: &Board<A>,
+    board: &mut Board<A>,
     test: usize,
     tail: usize,
     cursor: StringCursor,
 ) -> bool
     requires test { TestAt req.now test }
     requires stands { Standing req.now cursor }
-    ensures { result ≡ true → (q : ℕ) → cursor.position ≤ q → RefusesAt req.now tail q }
+    ensures told { result ≡ true → (q : ℕ) → cursor.position ≤ q → RefusesAt req.now tail q }
+    ensures board { board.new ≡ board.old }
 {
-    board.is_look_worth(req.end().saturating_sub(cursor.position()))
-        && lacks_what_follows(req, test, tail, cursor)
+    let left = req.end().saturating_sub(cursor.position());
+    if !board.is_look_worth(left) {
+        return false;
+    }
+    board.pass(left / 16);
+    lacks_what_follows(req, test, tail, cursor)
 }

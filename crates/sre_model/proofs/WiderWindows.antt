@@ -31,7 +31,7 @@ module _ (places : ℕ) (t : Tree) (a b : Asked) (inside : IsInside a b) where
 
   pub remembered_inside : IsRemembered places t b → IsRemembered places t a
   remembered_inside r = record {
-    no_region = r.no_region;
+    unforked = r.unforked;
     no_reference = r.no_reference;
     slots = r.slots;
     whole = λ many. omega (arith, words, r.whole many);

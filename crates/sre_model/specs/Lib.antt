@@ -28,6 +28,7 @@ pub mod Shown
 pub mod Rows
 pub mod RowsOfWalks
 pub mod RowsOfTurns
+pub mod RowsOfGroups
 pub mod Standing
 pub mod Runs
 pub mod Cost

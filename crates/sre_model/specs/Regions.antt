@@ -1,19 +1,35 @@
--- Regions: whether a tree has an atomic group, a look or a possessive loop, whose bodies are matched apart.
+-- Regions: atomic groups, looks and possessive loops, whose bodies are matched apart; and whether a body may be matched
+-- in more than one way.
 -- Of the meaning: what sre_engine makes public rests on it.
 use Rattle.std.specs.Prelude.{Bool, true, false, ◌||◌}
-use Rattle.sre_model.specs.Tree.{Tree, Item, PossessiveLoop, Atomic, Look}
+use Rattle.sre_model.specs.Tree.{Tree, Item, Branch, Run, Loop, PossessiveLoop, Atomic, Look}
 use Rattle.sre_model.specs.Folding.{Folding, of_tree}
 
--- regions: what is inside of one makes no difference
-abbrev pub by_regions : Folding Bool
-by_regions = record { nothing = false; both = ◌||◌; item = region_here }
+-- branches, runs and loops: there a machine may have more than one way to go on
+abbrev pub by_forks : Folding Bool
+by_forks = record { nothing = false; both = ◌||◌; item = fork_here }
   where
-    region_here : Item → Bool → Bool
-    region_here (PossessiveLoop low high body) inside = true
-    region_here (Atomic body) inside = true
-    region_here (Look sign back body) inside = true
-    region_here x inside = inside
+    fork_here : Item → Bool → Bool
+    fork_here (Branch ts) inside = true
+    fork_here (Run kind low high t) inside = true
+    fork_here (Loop o low high body) inside = true
+    fork_here (PossessiveLoop low high body) inside = true
+    fork_here x inside = inside
 
--- whether a region stands anywhere in a tree
-abbrev pub has_region : Tree → Bool
-has_region = of_tree by_regions
+-- whether one stands anywhere in a tree
+abbrev pub forks : Tree → Bool
+forks = of_tree by_forks
+
+-- possessive loops, and atomic groups and looks whose body forks
+abbrev pub by_forked_regions : Folding Bool
+by_forked_regions = record { nothing = false; both = ◌||◌; item = forked_here }
+  where
+    forked_here : Item → Bool → Bool
+    forked_here (PossessiveLoop low high body) inside = true
+    forked_here (Atomic body) inside = forks body || inside
+    forked_here (Look sign back body) inside = forks body || inside
+    forked_here x inside = inside
+
+-- whether one stands anywhere in a tree
+abbrev pub has_forked_region : Tree → Bool
+has_forked_region = of_tree by_forked_regions

@@ -4,7 +4,7 @@ use Rattle.std.specs.Prelude.{ℕ, ◌+◌, ◌-◌, ◌*◌, ◌^◌, ◌/◌, 
 use Rattle.sre_model.specs.Tree.{Tree}
 use Rattle.sre_model.specs.Found.{Asked}
 use Rattle.sre_model.specs.References.{refers}
-use Rattle.sre_model.specs.Regions.{has_region}
+use Rattle.sre_model.specs.Regions.{has_forked_region}
 use Rattle.sre_model.specs.Slots.{most_slots}
 use Rattle.sre_model.specs.RunCounts.{most_counts}
 use Rattle.sre_model.specs.Alternatives.{most_alternatives}
@@ -17,10 +17,10 @@ window_positions a = a.end + 1 - a.start
 abbrev pub words_at_place : Tree → Asked → ℕ
 words_at_place t a = most_slots t * 2 * window_positions a / 64 + 1
 
--- the tree has neither regions nor references, and there is room for what failed at all of so many places: its loops
--- have no more slots than may be told apart, and where these are many, a place has not too many bits
+-- the tree has no references, no body of its regions forks, and there is room for what failed at all of so many places:
+-- its loops have no more slots than may be told apart, and where these are many, a place has not too many bits
 pub record IsRemembered (places : ℕ) (t : Tree) (a : Asked) : Type 0 where
-  pub no_region : has_region t ≡ false
+  pub unforked : has_forked_region t ≡ false
   pub no_reference : refers t ≡ false
   pub slots : most_slots t ≤ 2 ^ 24
   pub whole : 4096 < most_slots t → words_at_place t a ≤ 2 ^ 24

@@ -1,9 +1,11 @@
 -- Worked rows, by computation: how many turns are enough.
-use Rattle.std.specs.Prelude.{ℕ, refl, ◌≡◌, [], ◌∷◌, replicate}
+use Rattle.std.specs.Prelude.{ℕ, refl, ◌≡◌, [], ◌∷◌, replicate, true, false}
 use Rattle.sre_chars.specs.declared.constants.SreAtCode.TheVariants.{END}
-use Rattle.sre_model.specs.Tree.{Tree, Empty, At, Branch, Loop, Run, Only, Or, Greedy, GreedyRun}
+use Rattle.sre_model.specs.Tree.{Tree, Empty, At, Branch, Loop, Run, PossessiveLoop, Atomic, Look, Only, Or, Greedy}
+use Rattle.sre_model.specs.Tree.{GreedyRun, Positive, Negative}
 use Rattle.sre_model.specs.Ways.{unlimited}
 use Rattle.sre_model.specs.Found.{Asked}
+use Rattle.sre_model.specs.Regions.{has_forked_region}
 use Rattle.sre_model.specs.Remembered.{words_at_place, enough_turns}
 use Rattle.sre_model.specs.Shown.{items, is_a, a, b, whole}
 
@@ -40,3 +42,29 @@ turns_of_a_counted_run = refl
 -- or for one, where the window has ten characters
 turns_of_a_short_window : enough_turns 10 (items (Run GreedyRun 0 20 is_a ∷ b ∷ [])) (letters 10) ≡ 126720
 turns_of_a_short_window = refl
+
+-- (?:(?=a)a)+b, which has 16 words: no body of a region forks
+abbrev looks : Tree
+looks =
+    items (Loop Greedy 1 unlimited (items (Look Positive 0 (items (a ∷ [])) ∷ a ∷ [])) ∷ b ∷ [])
+
+look_is_straight : has_forked_region looks ≡ false
+look_is_straight = refl
+
+turns_of_looks : enough_turns 16 looks (letters 100) ≡ 498132
+turns_of_looks = refl
+
+-- (?!(?>a)b) has one inside the other; (?=a*) has a run in its body, (?>(?>a|b)) a branch, and a{0,}+ of a loop is one
+nested_are_straight : has_forked_region (items (Look Negative 0 (items (Atomic (items (a ∷ [])) ∷ b ∷ [])) ∷ []))
+    ≡ false
+nested_are_straight = refl
+
+run_forks : has_forked_region (items (Look Positive 0 (items (Run GreedyRun 0 unlimited is_a ∷ [])) ∷ [])) ≡ true
+run_forks = refl
+
+branch_forks : has_forked_region (items
+    (Atomic (items (Atomic (items (Branch (Or (items (a ∷ [])) (Only (items (b ∷ [])))) ∷ [])) ∷ [])) ∷ [])) ≡ true
+branch_forks = refl
+
+possessive_loop_forks : has_forked_region (items (PossessiveLoop 0 unlimited (items (a ∷ [])) ∷ [])) ≡ true
+possessive_loop_forks = refl

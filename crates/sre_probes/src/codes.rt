@@ -23,8 +23,9 @@ pub(crate) fn push_code(
             let (items, refers, counts) = (code.items().len(), code.refers(), code.most_counts());
             write!(
                 answer,
-                " items {items} refers {refers} counts {counts} asked {}",
-                code.asked_from()
+                " items {items} refers {refers} counts {counts} asked {} to {}",
+                code.asked_from(),
+                code.asked_to()
             )
         }
         Err(error) => write!(answer, "{error}, number {}", error.number()),

@@ -83,7 +83,7 @@ module _ (ws : List ℕ) where
 
   -- where the words have no reference all marks are alike
   pub apart_alike : (HasReference ws → ⊥) → (m n : Marks) → MarksAlike ws m n
-  apart_alike none m n = λ g asks. absurd (none asks.0)
+  apart_alike none m n = λ g asks. absurd (none asks.0.0)
 
   -- marks that end before those of the first group that is asked for
   pub few_unmarked : (m : Marks) (least : ℕ) → ((g : ℕ) → Asks ws g → least ≤ g) → length m.raw ≤ 2 * least

@@ -79,10 +79,10 @@ module _ (ws : List ℕ) where
     item = λ i j a r e. markless_role i (item_role a) (item_here ws i j a r) (item_markless a e);
     success = λ i h. markless_role i _ h refl;
     jump = λ i h. markless_role i _ h refl;
-    until = λ i o h. markless_role i _ h refl;
-    alternatives = λ q. tt;
-    shorter = λ t k. tt;
-    longer = λ i n. tt;
+    until = λ i o low high body g h. markless_role i _ h refl;
+    alternatives = λ ts g q. tt;
+    shorter = λ kind low high t g j k. tt;
+    longer = λ kind low high t g i n. tt;
     again = λ low high body e. tt;
   }
 

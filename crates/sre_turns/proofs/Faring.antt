@@ -1,5 +1,5 @@
--- What a turn leaves of the potential, in a search over words without regions.
-use Rattle.std.proofs.Common.{◌≡◌, ℕ, ◌+◌, ◌*◌, ◌≤◌, List, [], ◌∷◌, drop, true, refl, sym, ap, ◌∙◌}
+-- What a turn leaves of the potential, in a search over words whose regions do not fork.
+use Rattle.std.proofs.Common.{◌≡◌, ℕ, ◌+◌, ◌-◌, ◌*◌, ◌≤◌, length, List, [], ◌∷◌, drop, true, refl, sym, ap, ◌∙◌}
 use Rattle.std.proofs.Common.{subst, arith, add-mul, one-mul}
 use Rattle.sre_chars.specs.declared.constants.SreOpcode.{SreOpcode}
 use Rattle.sre_chars.specs.declared.constants.SreOpcode.TheVariants as opcode
@@ -15,15 +15,18 @@ use Rattle.sre_turns.specs.declared.Region.{Region}
 use Rattle.sre_turns.specs.declared.Point.TheVariants.{Instruction, Alternatives, Shorter, Longer, Inside, Again, Tried}
 use Rattle.sre_turns.specs.declared.Point.{Point}
 use Rattle.sre_turns.specs.Moves.{Spot, spot_at, Move, Stop, End, Go, Split, Enter}
-use Rattle.sre_turns.specs.Nested.{Onto}
 use Rattle.sre_turns.specs.Potential.{potential, potential_of, units, Spends}
-use Rattle.sre_turns.specs.Settled.{Regionless, SettledIn}
+use Rattle.sre_turns.specs.Settled.{Unforked, SettledIn}
 use Rattle.sre_turns.specs.Limits.{Limit, earlier, raised, grant, pool, CodeAt, EachChoice, tried_spots}
-use Rattle.sre_turns.specs.Limits.{Fares, FaresAt}
+use Rattle.sre_turns.specs.Limits.{Fares, FaresAt, FaresBack, FaresEnd, HereIn, Reopens, Settling, behind_share}
+use Rattle.sre_turns.specs.Straight.{InBody, tail_of}
 use Rattle.sre_turns.specs.Limits.{FaresBoth, Wider}
 use Rattle.sre_turns.specs.Turning.{MovesAt, Moves, Runs, turns}
-use Rattle.sre_turns.proofs.PotentialMoves.{NoEntry, instruction_spends, point_spends}
-use Rattle.sre_turns.proofs.SettledMoves.{never_again, no_entry, settled_moves}
+use Rattle.sre_turns.proofs.HereMoves.{OntoHere, Outside, here_moves, here_each, settling_each, stands_outside}
+use Rattle.sre_turns.proofs.HereMoves.{straight_here, inside_moves, body_potential}
+use Rattle.sre_turns.proofs.PotentialMoves.{instruction_spends, point_spends}
+use Rattle.sre_turns.proofs.SettledMoves.{never_again, settled_moves}
+use Rattle.sre_turns.proofs.Straight.{StraightPoint}
 
 -- an instruction has an opcode, and another point needs none
 pub code_at : (r : Run) (x : Spot) (mv : Move) → Moves r.words r.subject x mv
@@ -41,28 +44,30 @@ code_at r x mv h = go x.point h
 
 -- what a spot has that is gone on with is enough for its turn
 pub spends : (r : Run) (pt : Point) (fs : List Frame) (p : ℕ) (m : Marks) (mv : Move) (o : SreOpcode)
-    → (pt ≡ Again → ⊥) → NoEntry mv → Moves r.words r.subject (spot_at pt fs p m) mv → CodeAt r.words pt o
+    → (pt ≡ Again → ⊥) → Moves r.words r.subject (spot_at pt fs p m) mv → CodeAt r.words pt o
     → Spends r.words r.subject.end (pool r.words r.subject.end o pt p) mv
-spends r (Instruction i) fs p m mv o never apart h w = instruction_spends r.words r.subject i p fs m o mv apart w h
-spends r (Alternatives q) fs p m mv o never apart h w =
+spends r (Instruction i) fs p m mv o never h w = instruction_spends r.words r.subject i p fs m o mv w h
+spends r (Alternatives q) fs p m mv o never h w =
     point_spends r.words r.subject (Alternatives q) fs p m mv (λ i e. absurd (cc)) never h
-spends r (Shorter t k) fs p m mv o never apart h w =
+spends r (Shorter t k) fs p m mv o never h w =
     point_spends r.words r.subject (Shorter t k) fs p m mv (λ i e. absurd (cc)) never h
-spends r (Longer i n) fs p m mv o never apart h w =
+spends r (Longer i n) fs p m mv o never h w =
     point_spends r.words r.subject (Longer i n) fs p m mv (λ i e. absurd (cc)) never h
-spends r (Inside g) fs p m mv o never apart h w = absurd h
-spends r Again fs p m mv o never apart h w = absurd (never refl)
-spends r (Tried i) fs p m mv o never apart h w = absurd h
+spends r (Inside g) fs p m mv o never h w = absurd h
+spends r Again fs p m mv o never h w = absurd (never refl)
+spends r (Tried i) fs p m mv o never h w = absurd h
 
--- what is left where a turn leads
-abbrev pub Leaving : (r : Run) → Regionless r → Limit → List Choice → Move → Type 0
-Leaving r pl limit cs Stop = Fares r pl (earlier limit) 0 cs
-Leaving r pl limit cs End = Fares r pl (earlier limit) 2 cs
-Leaving r pl limit cs (Go y) = FaresAt r pl (earlier limit) (potential_of r.words r.subject.end y) y cs
-Leaving r pl limit cs (Split y z) = FaresBoth r pl limit y z cs
-Leaving r pl limit cs (Enter g y z) = ⊥
+-- what is left where a turn leads; of a region that is entered, whatever the cursor is
+abbrev pub Leaving : (r : Run) → Unforked r → Limit → Spot → List Choice → Move → Type 0
+Leaving r pl limit x cs Stop = FaresBack r pl (earlier limit) cs
+Leaving r pl limit x cs End = FaresEnd r pl (earlier limit) x.position cs
+Leaving r pl limit x cs (Go y) = FaresAt r pl (earlier limit) (potential_of r.words r.subject.end y) y cs
+Leaving r pl limit x cs (Split y z) = FaresBoth r pl limit y z cs
+Leaving r pl limit x cs (Enter g y z) =
+    (c : StringCursor) → c.position ≡ y.position
+    → FaresAt r pl (earlier limit) (potential_of r.words r.subject.end z) z (Keep g y.frames c y.marks ∷ cs)
 
-module _ (r : Run) (pl : Regionless r) (limit : Limit) (cs : List Choice) where
+module _ (r : Run) (pl : Unforked r) (limit : Limit) (cs : List Choice) where
   -- with less left
   pub fares_less : (n k : ℕ) → n ≤ k → Fares r pl limit k cs → Fares r pl limit n cs
   fares_less n k l f = record { settled = f.settled; trying = f.trying; left = omega (arith, l, f.left) }
@@ -71,27 +76,88 @@ module _ (r : Run) (pl : Regionless r) (limit : Limit) (cs : List Choice) where
   pub fares_earlier : (n k : ℕ) → n + 1 ≤ k → Fares r pl limit k cs → Fares r pl (earlier limit) n cs
   fares_earlier n k l f = record { settled = f.settled; trying = f.trying; left = omega (arith, l, f.left) }
 
-  leaving : (n : ℕ) (mv : Move) → Spends r.words r.subject.end n mv → Onto (SettledIn r pl limit.start) mv
-      → Fares r pl limit n cs → Leaving r pl limit cs mv
-  leaving n Stop l on f = fares_earlier 0 n (omega (arith, l)) f
-  leaving n End l on f = fares_earlier 2 n (omega (arith, l)) f
-  leaving n (Go y) l on f = record { here = on; fares = fares_earlier _ n l f }
-  leaving n (Split y z) l on f = record { first = on.0; second = on.1; fares = fares_less _ n l f }
-  leaving n (Enter g y z) l on f = absurd on
+-- where the machine stands it has enough for what is behind the innermost region, and for two turns more
+module _ (r : Run) (pl : Unforked r) (start : ℕ) where
+  enough_behind : (g : Region) (entered : ℕ) (pt : Point) (fs : List Frame) (p : ℕ) (m : Marks)
+      → InBody r g entered (spot_at pt fs p m) → StraightPoint r.words pt
+      → 2 * (length r.words - tail_of g) + 3 + 2 ≤ potential r.words r.subject.end pt p
+  enough_behind g entered (Instruction i) fs p m b q =
+      let l = body_potential r g entered (spot_at (Instruction i) fs p m) b i refl in omega (arith, l.0, l.1)
+  enough_behind g entered (Alternatives i) fs p m b q = absurd q
+  enough_behind g entered (Shorter t k) fs p m b q = absurd q
+  enough_behind g entered (Longer i n) fs p m b q = absurd q
+  enough_behind g entered (Inside h) fs p m b q = absurd q
+  enough_behind g entered Again fs p m b q = absurd q
+  enough_behind g entered (Tried i) fs p m b q = absurd q
 
-  pub turn_leaves : (x : Spot) (mv : Move) → Moves r.words r.subject x mv
-      → ((o : SreOpcode) → CodeAt r.words x.point o
-      → FaresAt r pl limit (pool r.words r.subject.end o x.point x.position) x cs)
-      → Leaving r pl limit cs mv
-  turn_leaves x mv h f =
-      let code = code_at r x mv h in
-      let at = f code.0 code.1 in
-      let on = settled_moves r.words r.subject pl.tree pl.whole limit.start pl.no_region x mv at.here h in
-      leaving (pool r.words r.subject.end code.0 x.point x.position) mv
-      (spends r x.point x.frames x.position x.marks mv code.0
-      (λ e. never_again r.words pl.tree pl.whole pl.no_region x e at.here.lies)
-      (no_entry r.words r.subject pl.tree pl.whole pl.no_region x mv at.here.lies h) h code.1)
-      on at.fares
+  pub share_spent : (cs : List Choice) (x : Spot) (k n : ℕ) → HereIn r pl start cs x → k + 1 ≤ n
+      → potential_of r.words r.subject.end x ≤ n → behind_share r.words k cs + 1 ≤ n
+  share_spent [] x k n h l m = l
+  share_spent (Else pt fs c j ∷ cs) x k n h l m = l
+  share_spent (Trying i fs c j ∷ cs) x k n h l m = l
+  share_spent (Keep g fs c j ∷ cs) x k n h l m =
+      let b = enough_behind g c.position x.point x.frames x.position x.marks h (straight_here r g c.position x h) in
+      omega (arith, b, m)
+
+  -- no possessive loop is anywhere
+  pub here_never : (cs : List Choice) (x : Spot) → HereIn r pl start cs x → x.point ≡ Again → ⊥
+  here_never [] x h e = never_again r.words pl.tree pl.whole pl.unforked x e h.lies
+  here_never (Else pt fs c j ∷ cs) x h e = never_again r.words pl.tree pl.whole pl.unforked x e h.lies
+  here_never (Trying i fs c j ∷ cs) x h e = never_again r.words pl.tree pl.whole pl.unforked x e h.lies
+  here_never (Keep g fs c j ∷ cs) x h e =
+      subst (λ pt. StraightPoint r.words pt) e (straight_here r g c.position x h)
+
+-- tolls are granted beside the potential
+pool_more : (ws : List ℕ) (e : ℕ) (o : SreOpcode) (pt : Point) (p : ℕ) → potential ws e pt p ≤ pool ws e o pt p
+pool_more ws e o (Instruction i) p = omega arith
+pool_more ws e o (Alternatives q) p = omega arith
+pool_more ws e o (Shorter t k) p = omega arith
+pool_more ws e o (Longer i n) p = omega arith
+pool_more ws e o (Inside g) p = omega arith
+pool_more ws e o Again p = omega arith
+pool_more ws e o (Tried i) p = omega arith
+
+module _ (r : Run) (pl : Unforked r) (limit : Limit) (cs : List Choice) (x : Spot) (o : SreOpcode) where
+  abbrev pooled : ℕ
+  pooled = pool r.words r.subject.end o x.point x.position
+
+  more : potential_of r.words r.subject.end x ≤ pooled
+  more = pool_more r.words r.subject.end o x.point x.position
+
+  leaving : (mv : Move) → Spends r.words r.subject.end pooled mv → OntoHere r pl limit.start cs x mv
+      → FaresAt r pl limit pooled x cs → Leaving r pl limit x cs mv
+  leaving Stop l on f =
+      fares_earlier r pl limit cs (behind_share r.words 0 cs) pooled
+      (share_spent r pl limit.start cs x 0 pooled f.here (omega (arith, l)) more) f.fares
+  leaving End l on f = record {
+    at = on;
+    fares =
+        fares_earlier r pl limit cs (behind_share r.words 2 cs) pooled
+        (share_spent r pl limit.start cs x 2 pooled f.here (omega (arith, l)) more) f.fares;
+  }
+  leaving (Go y) l on f = record { here = on; fares = fares_earlier r pl limit cs _ pooled l f.fares }
+  leaving (Split y z) l on f =
+      record { first = on.0; second = on.1; outside = on.2; fares = fares_less r pl limit cs _ pooled l f.fares }
+  leaving (Enter g y z) l on f = λ c same. record {
+    here = subst (λ p. InBody r g p z) (sym same) on.1;
+    fares = record {
+      settled = (subst (λ p. Reopens r pl limit.start g y.frames p cs) (sym same) on.0, f.fares.settled);
+      trying = f.fares.trying;
+      left = omega (arith, l, f.fares.left);
+    };
+  }
+
+pub turn_leaves : (r : Run) (pl : Unforked r) (limit : Limit) (cs : List Choice) (x : Spot) (mv : Move)
+    → Moves r.words r.subject x mv
+    → ((o : SreOpcode) → CodeAt r.words x.point o
+    → FaresAt r pl limit (pool r.words r.subject.end o x.point x.position) x cs)
+    → Leaving r pl limit x cs mv
+turn_leaves r pl limit cs x mv h f =
+    let code = code_at r x mv h in
+    let at = f code.0 code.1 in
+    leaving r pl limit cs x code.0 mv
+    (spends r x.point x.frames x.position x.marks mv code.0 (here_never r pl limit.start cs x at.here) h code.1)
+    (here_moves r pl limit.start cs x mv at.here at.fares.settled h) at
 
 -- what is come to is gone on with for nothing, but for an instruction
 pub record FreeOfToll (pt : Point) : Type 0 where
@@ -110,7 +176,7 @@ pub again_free : FreeOfToll Again
 again_free = record { same = λ ws e p o. refl }
 
 -- of two spots, what is left where the first is come to and the second waits, or where one of them is come to alone
-module _ (r : Run) (pl : Regionless r) (limit : Limit) (x y : Spot) (cs : List Choice)
+module _ (r : Run) (pl : Unforked r) (limit : Limit) (x y : Spot) (cs : List Choice)
     (f : FaresBoth r pl limit x y cs) where
   pub first_waits : (c : StringCursor) → y.position ≡ c.position
       → FaresAt r pl (earlier limit) (potential_of r.words r.subject.end x) x (Else y.point y.frames c y.marks ∷ cs)
@@ -119,7 +185,7 @@ module _ (r : Run) (pl : Regionless r) (limit : Limit) (x y : Spot) (cs : List C
     fares = record {
       settled = (
         subst (λ p. SettledIn r pl limit.start (spot_at y.point y.frames p y.marks)) same f.second,
-        f.fares.settled,
+        f.outside,
       );
       trying = f.fares.trying;
       left =
@@ -131,20 +197,20 @@ module _ (r : Run) (pl : Regionless r) (limit : Limit) (x y : Spot) (cs : List C
 
   pub first_alone : FaresAt r pl (earlier limit) (potential_of r.words r.subject.end x) x cs
   first_alone = record {
-    here = f.first;
+    here = here_each r pl limit.start cs x f.outside f.first;
     fares = fares_earlier r pl limit cs (potential_of r.words r.subject.end x) _ (omega arith) f.fares;
   }
 
   pub second_alone : FaresAt r pl (earlier limit) (potential_of r.words r.subject.end y) y cs
   second_alone = record {
-    here = f.second;
+    here = here_each r pl limit.start cs y f.outside f.second;
     fares = fares_earlier r pl limit cs (potential_of r.words r.subject.end y) _ (omega arith) f.fares;
   }
 
   pub second_goes : (o : SreOpcode) → FreeOfToll y.point
       → FaresAt r pl limit (pool r.words r.subject.end o y.point y.position) y cs
   second_goes o free = record {
-    here = f.second;
+    here = here_each r pl limit.start cs y f.outside f.second;
     fares =
         fares_less r pl limit cs (pool r.words r.subject.end o y.point y.position) _
         (omega (arith, free.same r.words r.subject.end y.position o)) f.fares;
@@ -156,62 +222,60 @@ pub run_code : (r : Run) (x : Spot) {os : List Way} {n : ℕ} → Runs r.words r
 run_code r x (turns mv h d) = code_at r x mv h
 
 -- nothing comes of a spot: what waits is left
-pub nothing_left : (r : Run) (pl : Regionless r) (limit : Limit) (cs : List Choice) (x : Spot) {os : List Way} {n : ℕ}
+pub nothing_left : (r : Run) (pl : Unforked r) (limit : Limit) (cs : List Choice) (x : Spot) {os : List Way} {n : ℕ}
     → Runs r.words r.subject x os n
     → ((o : SreOpcode) → CodeAt r.words x.point o
     → FaresAt r pl limit (pool r.words r.subject.end o x.point x.position) x cs)
-    → Fares r pl (earlier limit) 0 cs
-nothing_left r pl limit cs x (turns mv h d) f = go mv (turn_leaves r pl limit cs x mv h f)
+    → FaresBack r pl (earlier limit) cs
+nothing_left r pl limit cs x (turns mv h d) f =
+    let code = code_at r x mv h in
+    let at = f code.0 code.1 in
+    let never = here_never r pl limit.start cs x at.here in
+    let l = spends r x.point x.frames x.position x.marks mv code.0 never h code.1 in
+    fares_earlier r pl limit cs (behind_share r.words 0 cs) _
+    (share_spent r pl limit.start cs x 0 _ at.here (some_spent mv l)
+    (pool_more r.words r.subject.end code.0 x.point x.position)) at.fares
   where
-    go : (mv : Move) → Leaving r pl limit cs mv → Fares r pl (earlier limit) 0 cs
-    go Stop l = l
-    go End l = fares_less r pl (earlier limit) cs 0 2 (omega arith) l
-    go (Go y) l = fares_less r pl (earlier limit) cs 0 _ (omega arith) l.fares
-    go (Split y z) l = fares_earlier r pl limit cs 0 _ (omega arith) l.fares
-    go (Enter g y z) l = absurd l
-
--- no region waits
-pub region_waits : (r : Run) (pl : Regionless r) (limit : Limit) (n : ℕ) (cs : List Choice) {rest : List Choice}
-    {g : Region} {fs : List Frame} {c : StringCursor} {m : Marks} → from_region cs ≡ Keep g fs c m ∷ rest
-    → Fares r pl limit n cs → ⊥
-region_waits r pl limit n cs e f = go cs e f.settled
-  where
-    go : (cs : List Choice) {rest : List Choice} {g : Region} {fs : List Frame} {c : StringCursor} {m : Marks}
-        → from_region cs ≡ Keep g fs c m ∷ rest → EachChoice (SettledIn r pl limit.start) cs → ⊥
-    go [] e h = absurd (cc)
-    go (Else pt fs c m ∷ cs) e h = go cs e h.1
-    go (Keep g fs c m ∷ cs) e h = h
-    go (Trying i fs c m ∷ cs) e h = go cs e h.1
+    some_spent : {n : ℕ} (mv : Move) → Spends r.words r.subject.end n mv → 0 + 1 ≤ n
+    some_spent Stop l = omega (arith, l)
+    some_spent End l = omega (arith, l)
+    some_spent (Go y) l = omega (arith, l)
+    some_spent (Split y z) l = omega (arith, l)
+    some_spent (Enter g y z) l = omega (arith, l)
 
 -- what is left within a limit is left within a wider one
-pub fares_wider : (r : Run) (pl : Regionless r) (limit more : Limit) (n : ℕ) (cs : List Choice) → Wider limit more
+pub fares_wider : (r : Run) (pl : Unforked r) (limit more : Limit) (n : ℕ) (cs : List Choice) → Wider limit more
     → Fares r pl limit n cs → Fares r pl more n cs
 fares_wider r pl limit more n cs l f = record {
-  settled = subst (λ start. EachChoice (SettledIn r pl start) cs) l.start f.settled;
+  settled = subst (λ start. Settling r pl start cs) l.start f.settled;
   trying = f.trying ∙ l.trying;
   left =
       omega (arith, l.taken, l.granted, f.left, ap (λ k. k * grant r.words) l.tolls);
 }
 
-pub fares_at_wider : (r : Run) (pl : Regionless r) (limit more : Limit) (n : ℕ) (x : Spot) (cs : List Choice)
+pub fares_at_wider : (r : Run) (pl : Unforked r) (limit more : Limit) (n : ℕ) (x : Spot) (cs : List Choice)
     → Wider limit more → FaresAt r pl limit n x cs → FaresAt r pl more n x cs
 fares_at_wider r pl limit more n x cs l f = record {
-  here = subst (λ start. SettledIn r pl start x) l.start f.here;
+  here = subst (λ start. HereIn r pl start cs x) l.start f.here;
   fares = fares_wider r pl limit more n cs l f.fares;
 }
 
 -- the newest choice is taken
-pub choice_taken : (r : Run) (pl : Regionless r) (limit : Limit) (pt : Point) (fs : List Frame) (c : StringCursor)
+pub choice_taken : (r : Run) (pl : Unforked r) (limit : Limit) (pt : Point) (fs : List Frame) (c : StringCursor)
     (m : Marks) (cs : List Choice) → Fares r pl limit 0 (Else pt fs c m ∷ cs)
     → FaresAt r pl (earlier limit) (potential r.words r.subject.end pt c.position) (spot_at pt fs c.position m) cs
 choice_taken r pl limit pt fs c m cs f = record {
-  here = f.settled.0;
-  fares = record { settled = f.settled.1; trying = f.trying; left = omega (arith, f.left) };
+  here = here_each r pl limit.start cs (spot_at pt fs c.position m) f.settled.1 f.settled.0;
+  fares = record {
+    settled = settling_each r pl limit.start cs f.settled.1;
+    trying = f.trying;
+    left = omega (arith, f.left);
+  };
 }
 
 -- where a turn leads to two spots, the second has no more potential; nor has the one to which a turn goes from an
 -- instruction that brings no toll
-module _ (r : Run) (pl : Regionless r) (start : ℕ) (x : Spot) where
+module _ (r : Run) (pl : Unforked r) (start : ℕ) (x : Spot) where
   abbrev NoMore : Spot → Type 0
   NoMore y =
       SettledIn r pl start y × (potential_of r.words r.subject.end y ≤ potential_of r.words r.subject.end x)
@@ -220,21 +284,43 @@ module _ (r : Run) (pl : Regionless r) (start : ℕ) (x : Spot) where
       → NoMore z
   second_less y z free h at =
       let code = code_at r x (Split y z) h in
-      let on = settled_moves r.words r.subject pl.tree pl.whole start pl.no_region x (Split y z) at h in
+      let on = settled_moves r.words r.subject pl.tree pl.whole start x (Split y z) at h in
       let l = spends r x.point x.frames x.position x.marks (Split y z) code.0
-      (λ e. never_again r.words pl.tree pl.whole pl.no_region x e at.lies)
-      (no_entry r.words r.subject pl.tree pl.whole pl.no_region x (Split y z) at.lies h) h code.1 in
+      (λ e. never_again r.words pl.tree pl.whole pl.unforked x e at.lies) h code.1 in
       (on.1, omega (arith, l, free.same r.words r.subject.end x.position code.0))
 
   pub next_less : (y : Spot) (o : SreOpcode) → CodeAt r.words x.point o
       → pool r.words r.subject.end o x.point x.position ≤ potential_of r.words r.subject.end x
       → Moves r.words r.subject x (Go y) → SettledIn r pl start x → NoMore y
   next_less y o w less h at =
-      let on = settled_moves r.words r.subject pl.tree pl.whole start pl.no_region x (Go y) at h in
+      let on = settled_moves r.words r.subject pl.tree pl.whole start x (Go y) at h in
       let l = spends r x.point x.frames x.position x.marks (Go y) o
-      (λ e. never_again r.words pl.tree pl.whole pl.no_region x e at.lies)
-      (no_entry r.words r.subject pl.tree pl.whole pl.no_region x (Go y) at.lies h) h w in
+      (λ e. never_again r.words pl.tree pl.whole pl.unforked x e at.lies) h w in
       (on, omega (arith, l, less))
+
+-- the same in the body of a region
+pub next_inside : (r : Run) (g : Region) (entered : ℕ) (x y : Spot) (o : SreOpcode) → CodeAt r.words x.point o
+    → pool r.words r.subject.end o x.point x.position ≤ potential_of r.words r.subject.end x
+    → Moves r.words r.subject x (Go y) → InBody r g entered x
+    → InBody r g entered y × (potential_of r.words r.subject.end y ≤ potential_of r.words r.subject.end x)
+next_inside r g entered x y o w less h b =
+    let never : x.point ≡ Again → ⊥ =
+    λ e. subst (λ pt. StraightPoint r.words pt) e (straight_here r g entered x b) in
+    let l = spends r x.point x.frames x.position x.marks (Go y) o never h w in
+    (inside_moves r g entered x b (Go y) h, omega (arith, l, less))
+
+-- what is no more for one spot than for another is so wherever the machine stands
+pub here_less : (r : Run) (pl : Unforked r) (start : ℕ) (cs : List Choice) (x y : Spot)
+    → (SettledIn r pl start x
+    → SettledIn r pl start y × (potential_of r.words r.subject.end y ≤ potential_of r.words r.subject.end x))
+    → ((g : Region) (entered : ℕ) → InBody r g entered x
+    → InBody r g entered y × (potential_of r.words r.subject.end y ≤ potential_of r.words r.subject.end x))
+    → HereIn r pl start cs x
+    → HereIn r pl start cs y × (potential_of r.words r.subject.end y ≤ potential_of r.words r.subject.end x)
+here_less r pl start [] x y out within h = out h
+here_less r pl start (Else pt fs c m ∷ cs) x y out within h = out h
+here_less r pl start (Keep g fs c m ∷ cs) x y out within h = within g c.position h
+here_less r pl start (Trying i fs c m ∷ cs) x y out within h = out h
 
 -- a test brings no toll
 pub test_pool : (r : Run) (i p : ℕ) (o : SreOpcode) → begins_test o ≡ true
@@ -247,7 +333,7 @@ test_pool r i p o e =
     omega (arith, free)
 
 -- of an instruction at which the machine has come, with the tolls of its opcode
-pub with_tolls : (r : Run) (pl : Regionless r) (limit : Limit) (i : ℕ) (x : Spot) (cs : List Choice) (o : SreOpcode)
+pub with_tolls : (r : Run) (pl : Unforked r) (limit : Limit) (i : ℕ) (x : Spot) (cs : List Choice) (o : SreOpcode)
     → x.point ≡ Instruction i → FaresAt r pl limit (potential_of r.words r.subject.end x) x cs
     → FaresAt r pl (raised (units r.words r.subject.end i (role o)) limit)
     (pool r.words r.subject.end o x.point x.position) x cs
@@ -267,7 +353,7 @@ with_tolls r pl limit i x cs o e f =
     }
 
 -- or with one toll alone
-pub with_toll : (r : Run) (pl : Regionless r) (limit : Limit) (x : Spot) (cs : List Choice)
+pub with_toll : (r : Run) (pl : Unforked r) (limit : Limit) (x : Spot) (cs : List Choice)
     → FaresAt r pl limit (potential_of r.words r.subject.end x) x cs
     → FaresAt r pl (raised 1 limit) (potential_of r.words r.subject.end x + grant r.words) x cs
 with_toll r pl limit x cs f = record {
@@ -286,14 +372,29 @@ never_inside P (Else pt fs c m ∷ cs) h = never_inside P cs h.1
 never_inside P (Keep g fs c m ∷ cs) h = absurd h
 never_inside P (Trying i fs c m ∷ cs) h = never_inside P cs h.1
 
+-- an instruction is left at once
+pub instruction_left : (r : Run) (pl : Unforked r) (limit : Limit) (n i : ℕ) (x : Spot) (cs : List Choice)
+    → x.point ≡ Instruction i → potential_of r.words r.subject.end x ≤ n → FaresAt r pl limit n x cs
+    → FaresBack r pl (earlier limit) cs
+instruction_left r pl limit n i x cs at l f =
+    let some : 0 + 1 ≤ potential_of r.words r.subject.end x =
+    subst (λ pt. 0 + 1 ≤ potential r.words r.subject.end pt x.position) (sym at) (omega arith) in
+    fares_earlier r pl limit cs (behind_share r.words 0 cs) n
+    (share_spent r pl limit.start cs x 0 n f.here (omega (arith, some, l)) l) f.fares
+
+-- nor is it where it stands at a point that forks
+pub forks_outside : (r : Run) (pl : Unforked r) (limit : Limit) (n : ℕ) (x : Spot) (cs : List Choice)
+    → FaresAt r pl limit n x cs → (StraightPoint r.words x.point → ⊥) → Outside r pl limit.start cs x
+forks_outside r pl limit n x cs f forked = stands_outside r pl limit.start cs x f.here f.fares.settled forked
+
 -- nothing waits: nothing is tried, and no more turns were taken than the potential allows
-pub nothing_waits : (r : Run) (pl : Regionless r) (limit : Limit) (cs : List Choice) → cs ≡ [] → Fares r pl limit 0 cs
+pub nothing_waits : (r : Run) (pl : Unforked r) (limit : Limit) (cs : List Choice) → cs ≡ [] → FaresBack r pl limit cs
     → (limit.trying ≡ []) × (limit.taken ≤ limit.granted + limit.tolls * grant r.words)
 nothing_waits r pl limit cs none f =
     (sym f.trying ∙ ap (λ xs. tried_spots xs) none, omega (arith, f.left))
 
 -- the newest of the spots that are tried is that of the newest mark
-pub newest_tried : (r : Run) (pl : Regionless r) (limit : Limit) (n : ℕ) (x : Spot) (cs rest : List Choice)
+pub newest_tried : (r : Run) (pl : Unforked r) (limit : Limit) (n : ℕ) (x : Spot) (cs rest : List Choice)
     → Fares r pl limit n cs → tried_spots cs ≡ x ∷ tried_spots rest → limit.trying ≡ x ∷ drop 1 limit.trying
 newest_tried r pl limit n x cs rest f e =
     let all : limit.trying ≡ x ∷ tried_spots rest = sym f.trying ∙ e in

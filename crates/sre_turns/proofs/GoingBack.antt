@@ -2,11 +2,11 @@
 use Rattle.std.proofs.Common.{◌≡◌, ℕ, ◌+◌, ◌≤◌, List, [], ◌∷◌, refl, sym, ap, ◌∙◌, subst, arith}
 use Rattle.sre_chars.specs.declared.string.StringCursor.{StringCursor}
 use Rattle.sre_model.specs.Ways.{Way}
-use Rattle.sre_turns.specs.Board.{Else, Keep, choice, from_region, BoardValue}
+use Rattle.sre_turns.specs.Board.{Else, Keep, choice, BoardValue}
 use Rattle.sre_turns.specs.declared.Region.{Region}
 use Rattle.sre_turns.specs.declared.Point.TheVariants.{Instruction, Again, Inside}
 use Rattle.sre_turns.specs.declared.Point.{Point}
-use Rattle.sre_turns.specs.Limits.{Limit, earlier, Wider, Fares}
+use Rattle.sre_turns.specs.Limits.{Limit, earlier, Wider, FaresBack}
 use Rattle.sre_turns.specs.Machine.{spot, Waits, outermost, otherwise, Goes, Arrives, Backs, Stands, Later}
 use Rattle.sre_turns.specs.Machine.{without_outcome}
 use Rattle.sre_model.specs.Runs.{Run}
@@ -17,7 +17,7 @@ use Rattle.sre_turns.specs.declared.Next.TheVariants as next
 use Rattle.sre_turns.proofs.FirstOutcomes.{first_none}
 use Rattle.sre_turns.proofs.Moving.{sooner, arrived}
 use Rattle.sre_turns.proofs.StepsInRegions.{region_back}
-use Rattle.sre_turns.proofs.Faring.{FreeOfToll, choice_taken, region_waits, fares_wider, fares_at_wider}
+use Rattle.sre_turns.proofs.Faring.{FreeOfToll, choice_taken, fares_wider, fares_at_wider}
 
 -- a choice is resumed
 pub back_none : (r : Run) (b : BoardValue) → b.choices ≡ [] → (all : List Way) (limit : Limit)
@@ -46,7 +46,7 @@ back_goes r b b' pt c e all limit g = go (subst (λ x. Waits r x 0 [] all g.late
         waits = sooner (0 + n + 1) (n + 1) (omega arith) wt;
         within = omega arith;
         fares = λ pl o w. choice_taken r pl limit pt b'.frames c b'.marks b'.choices
-            (subst (λ x. Fares r pl limit 0 x) e (g.fares pl));
+            (subst (λ x. FaresBack r pl limit x) e (g.fares pl));
         confined = λ none.
             let f = subst (λ x. ChoicesConfined r.words x) e (g.confined none) in
             record { here = f.each.0; others = record { each = f.each.1 } };
@@ -94,8 +94,8 @@ back_region r b b' b'' pt g c n e same is left all limit k =
     let kept : Waits r (Keep g b'.frames c b'.marks ∷ b'.choices) 0 [] all k.later =
     subst (λ x. Waits r x 0 [] all k.later) found k.waits in
     let back : Later r all limit (without_outcome g c) (without_loop g b') =
-    region_back r c b' (λ pl. region_waits r pl limit 0 b.choices (ap (λ x. from_region x) found) (k.fares pl)) g
-    (λ none. (subst (λ x. ChoicesConfined r.words x) found (k.confined none)).each) all limit k.later kept k.within in
+    region_back r c b' g (λ none. (subst (λ x. ChoicesConfined r.words x) found (k.confined none)).each) all limit
+    k.later (λ pl. subst (λ x. FaresBack r pl limit x) found (k.fares pl)) kept k.within in
     subst (λ x. Later r all limit x b'') (sym is)
     (subst (λ y. Later r all limit (without_outcome g c) y) (sym left) back)
 
@@ -124,7 +124,7 @@ stands_wider r all limit more next.Back b l g = record {
   later = g.later;
   waits = g.waits;
   within = omega (arith, g.within, l.turns);
-  fares = λ pl. fares_wider r pl limit more 0 b.choices l (g.fares pl);
+  fares = λ pl. fares_wider r pl limit more _ b.choices l (g.fares pl);
   confined = g.confined;
 }
 stands_wider r all limit more (next.Done c) b l g = record {
@@ -133,7 +133,8 @@ stands_wider r all limit more (next.Done c) b l g = record {
   placed = g.placed;
   waits = g.waits;
   within = omega (arith, g.within, l.turns);
-  fares = λ pl. fares_wider r pl limit more 2 b.choices l (g.fares pl);
+  fares = λ pl.
+      let f = g.fares pl in record { at = f.at; fares = fares_wider r pl limit more _ b.choices l f.fares };
   confined = g.confined;
 }
 

@@ -24,7 +24,7 @@ use Rattle.sre_turns.specs.Bodies.{IsConfined}
 use Rattle.sre_turns.specs.Nested.{IsAt, LiesIn, LiesInItem, LiesInBranch, repeats}
 use Rattle.sre_turns.specs.Potential.{path, potential_of, more_ends}
 use Rattle.sre_turns.specs.RunEnds.{AllPass}
-use Rattle.sre_turns.specs.Settled.{Regionless, SettledIn}
+use Rattle.sre_turns.specs.Settled.{Unforked, SettledIn}
 use Rattle.sre_turns.specs.declared.Frame.{Frame}
 use Rattle.sre_turns.specs.declared.Point.TheVariants.{Instruction, Longer}
 use Rattle.sre_turns.proofs.Faring.{fares_less}
@@ -97,7 +97,7 @@ module _ (r : runs.Run) (i low v : ℕ) (fs : List Frame) (m : Marks) (w : Opcod
   near : p < r.subject.end
   near = passes-below r.subject there.test p taken
 
-  settled : (pl : Regionless r) (start : ℕ) → SettledIn r pl start counts → SettledIn r pl start anew
+  settled : (pl : Unforked r) (start : ℕ) → SettledIn r pl start counts → SettledIn r pl start anew
   settled pl start h = record {
     lies = lies r.words 0 (length r.words - 1) pl.tree pl.whole.0 [] i n (repeats fs) h.lies;
     passed = all_later p q fs later h.passed;
@@ -140,6 +140,7 @@ module _ (r : runs.Run) (i low v : ℕ) (fs : List Frame) (m : Marks) (w : Opcod
         record {
           first = f.first;
           second = settled pl limit.start f.second;
+          outside = f.outside;
           fares = fares_less r pl limit cs _ _ (omega (arith, enough)) f.fares;
         };
     confined = λ none.

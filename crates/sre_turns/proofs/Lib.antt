@@ -45,4 +45,7 @@ pub mod Bodies
 pub mod Confining
 pub mod BodyEnds
 pub mod Admitting
+pub mod Straight
+pub mod HereMoves
+pub mod FaringInRegions
 pub mod Strides

@@ -30,7 +30,7 @@ use Rattle.sre_turns.specs.declared.Frame.{Frame}
 use Rattle.sre_turns.proofs.Moving.{in_role}
 use Rattle.sre_turns.specs.Nested.{repeats, Lies}
 use Rattle.sre_turns.specs.Potential.{most_ends, alternatives_in, alternatives, units}
-use Rattle.sre_turns.specs.Settled.{Regionless, SettledIn}
+use Rattle.sre_turns.specs.Settled.{Unforked, SettledIn}
 use Rattle.sre_turns.proofs.NestedPoints.{HoldsInGood, tree_holds}
 
 -- no greatest count, or one that counts
@@ -130,10 +130,10 @@ module _ (ws : List ℕ) (n m : ℕ) where
     item = λ i j a r l. counted_item i j a r (subst Low (item_paired by_counts by_alternatives a) l);
     success = λ i h. counted_role i _ h (λ kind e. absurd (cc)) (λ e. absurd (cc));
     jump = λ i h. counted_role i _ h (λ kind e. absurd (cc)) (λ e. absurd (cc));
-    until = λ i o h. counted_role i _ h (λ kind e. absurd (cc)) (λ e. absurd (cc));
-    alternatives = λ q. tt;
-    shorter = λ t k. tt;
-    longer = λ i k. tt;
+    until = λ i o low high body g h. counted_role i _ h (λ kind e. absurd (cc)) (λ e. absurd (cc));
+    alternatives = λ ts g q. tt;
+    shorter = λ kind low high t g j k. tt;
+    longer = λ kind low high t g i k. tt;
     again = λ low high body l. tt;
   }
 
@@ -150,7 +150,7 @@ counted_within ws t w x y =
     (subst (Low ws n m) (sym (tree_paired by_counts by_alternatives t)) (omega arith, omega arith))
     ((counted_in ws n m).success e end) y
 
-module _ (r : runs.Run) (pl : Regionless r) (start : ℕ) (x : Spot) (i : ℕ) (o : SreOpcode)
+module _ (r : runs.Run) (pl : Unforked r) (start : ℕ) (x : Spot) (i : ℕ) (o : SreOpcode)
     (at : SettledIn r pl start x) (here : x.point ≡ Instruction i) (w : Opcode r.words i o) where
   there : Counted r.words (most_counts pl.tree) (most_alternatives pl.tree) (Instruction i)
   there =

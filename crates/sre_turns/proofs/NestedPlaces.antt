@@ -112,6 +112,11 @@ module _ (ws : List ℕ) (p : ℕ) where
         let long = alternative_long ws q j (Or t ts) r in
         (omega (arith, b.0), b.1)
 
+  -- a place in the words of a tree stands no further than their end
+  pub lies_within : (i j : ℕ) (t : Tree) (r : Reads ws i j t) (js ks : List ℕ) → LiesIn ws i j t r js (Instruction p) ks
+      → p ≤ j
+  lies_within i j t r js ks y = let b = edges i j t r js ks y in omega (arith, b.to)
+
   mutual
     same_in : (i j : ℕ) (t : Tree) (r : Reads ws i j t) (js ks ls : List ℕ)
         → LiesIn ws i j t r js (Instruction p) ks → LiesIn ws i j t r js (Instruction p) ls → ks ≡ ls

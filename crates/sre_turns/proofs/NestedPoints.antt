@@ -3,7 +3,7 @@
 use Rattle.std.proofs.Common.{◌≡◌, ℕ, ◌+◌, ◌-◌, inl, inr, List, [], ◌∷◌, refl, sym, subst}
 use Rattle.sre_chars.specs.declared.constants.SreOpcode.TheVariants as opcode
 use Rattle.sre_model.specs.Tree.{Tree, Empty, Then, Item, Fail, One, At, Mark, Branch, Loop, Run, PossessiveLoop}
-use Rattle.sre_model.specs.Tree.{Atomic, Look, Reference, Exists, ExistsElse, Trees, Only, Or, Order}
+use Rattle.sre_model.specs.Tree.{Atomic, Look, Reference, Exists, ExistsElse, Trees, Only, Or, Order, RunKind, Test}
 use Rattle.sre_model.specs.Folding.{Folding, of_tree, of_item, of_parts, of_branch}
 use Rattle.sre_model.specs.Grammar.{word, skip, Opcode, Reads, Operands, ReadsItem, ReadsBranch, until_opcode}
 use Rattle.sre_model.specs.Roles.{ToEnd, ToJump, ToLoop}
@@ -22,10 +22,16 @@ module _ (ws : List ℕ) {V : Type 0} (f : Folding V) (Good : V → Type 0) (P :
     pub item : (i j : ℕ) (x : Item) → ReadsItem ws i j x → Good (of_item f x) → P (Instruction i)
     pub success : (i : ℕ) → HasRole ws i ToEnd → P (Instruction i)
     pub jump : (i : ℕ) → HasRole ws i ToJump → P (Instruction i)
-    pub until : (i : ℕ) (o : Order) → HasRole ws i (ToLoop o) → P (Instruction i)
-    pub alternatives : (q : ℕ) → P (Alternatives q)
-    pub shorter : (t k : ℕ) → P (Shorter t k)
-    pub longer : (i n : ℕ) → P (Longer i n)
+    pub until :
+        (i : ℕ) (o : Order) (low high : ℕ) (body : Tree) → Good (of_item f (Loop o low high body))
+        → HasRole ws i (ToLoop o) → P (Instruction i)
+    pub alternatives : (ts : Trees) → Good (of_item f (Branch ts)) → (q : ℕ) → P (Alternatives q)
+    pub shorter :
+        (kind : RunKind) (low high : ℕ) (t : Test) → Good (of_item f (Run kind low high t)) → (j k : ℕ)
+        → P (Shorter j k)
+    pub longer :
+        (kind : RunKind) (low high : ℕ) (t : Test) → Good (of_item f (Run kind low high t)) → (i n : ℕ)
+        → P (Longer i n)
     pub again : (low high : ℕ) (body : Tree) → Good (of_item f (PossessiveLoop low high body)) → P Again
 
   module _ (h : HoldsInGood) where
@@ -59,15 +65,16 @@ module _ (ws : List ℕ) {V : Type 0} (f : Folding V) (Good : V → Type 0) (P :
       inside_holds i j (One t) r js pt ks g p y = absurd y
       inside_holds i j (At a) r js pt ks g p y = absurd y
       inside_holds i j (Mark k) r js pt ks g p y = absurd y
-      inside_holds i j (Branch ts) r js pt ks g p y = branch_holds (i + 1) j ts r js pt ks (h.parts (Branch ts) g) y
+      inside_holds i j (Branch ts) r js pt ks g p y =
+          branch_holds (i + 1) j ts r js pt ks (h.parts (Branch ts) g) (h.alternatives ts g) y
       inside_holds i j (Loop o low high body) r js pt ks g p y =
           let u : ℕ = skip ws (i + 1) in
           tree_holds (i + 4) u body r.3 (i ∷ js) pt ks (h.parts (Loop o low high body) g)
-          (h.until u o (role_here ws u (until_opcode o) (ToLoop o) r.4 (until_role o))) y
+          (h.until u o low high body g (role_here ws u (until_opcode o) (ToLoop o) r.4 (until_role o))) y
       inside_holds i j (Run kind low high t) r js pt ks g p (inl y) =
-          at_point (Shorter j y.0) pt y.1.0 (h.shorter j y.0)
+          at_point (Shorter j y.0) pt y.1.0 (h.shorter kind low high t g j y.0)
       inside_holds i j (Run kind low high t) r js pt ks g p (inr y) =
-          at_point (Longer i y.0) pt y.1.0 (h.longer i y.0)
+          at_point (Longer i y.0) pt y.1.0 (h.longer kind low high t g i y.0)
       inside_holds i j (PossessiveLoop low high body) r js pt ks g p (inl y) =
           at_point Again pt y.0 (h.again low high body g)
       inside_holds i j (PossessiveLoop low high body) r js pt ks g p (inr y) =
@@ -89,15 +96,15 @@ module _ (ws : List ℕ) {V : Type 0} (f : Folding V) (Good : V → Type 0) (P :
           (h.second (of_tree f a) (of_tree f b) (h.parts (ExistsElse n a b) g)) p y
 
       branch_holds : (q j : ℕ) (ts : Trees) (r : ReadsBranch ws q j ts) (js : List ℕ) (pt : Point) (ks : List ℕ)
-          → Good (of_branch f ts) → LiesInBranch ws q j ts r js pt ks → P pt
-      branch_holds q j (Only t) r js pt ks g (inl y) = at_point (Alternatives q) pt y.0 (h.alternatives q)
-      branch_holds q j (Only t) r js pt ks g (inr (inl y)) =
+          → Good (of_branch f ts) → ((q : ℕ) → P (Alternatives q)) → LiesInBranch ws q j ts r js pt ks → P pt
+      branch_holds q j (Only t) r js pt ks g all (inl y) = at_point (Alternatives q) pt y.0 (all q)
+      branch_holds q j (Only t) r js pt ks g all (inr (inl y)) =
           tree_holds (q + 1) (skip ws q - 2) t r.0 js pt ks g (jumped (skip ws q - 2) r.1.0) y
-      branch_holds q j (Only t) r js pt ks g (inr (inr y)) =
-          at_point (Alternatives (skip ws q)) pt y.0 (h.alternatives (skip ws q))
-      branch_holds q j (Or t ts) r js pt ks g (inl y) = at_point (Alternatives q) pt y.0 (h.alternatives q)
-      branch_holds q j (Or t ts) r js pt ks g (inr (inl y)) =
+      branch_holds q j (Only t) r js pt ks g all (inr (inr y)) =
+          at_point (Alternatives (skip ws q)) pt y.0 (all (skip ws q))
+      branch_holds q j (Or t ts) r js pt ks g all (inl y) = at_point (Alternatives q) pt y.0 (all q)
+      branch_holds q j (Or t ts) r js pt ks g all (inr (inl y)) =
           tree_holds (q + 1) (skip ws q - 2) t r.0 js pt ks (h.first (of_tree f t) (of_branch f ts) g)
           (jumped (skip ws q - 2) r.1.0) y
-      branch_holds q j (Or t ts) r js pt ks g (inr (inr y)) =
-          branch_holds (skip ws q) j ts r.2 js pt ks (h.second (of_tree f t) (of_branch f ts) g) y
+      branch_holds q j (Or t ts) r js pt ks g all (inr (inr y)) =
+          branch_holds (skip ws q) j ts r.2 js pt ks (h.second (of_tree f t) (of_branch f ts) g) all y

@@ -28,18 +28,11 @@ use Rattle.sre_turns.specs.MovesInRegions.{look}
 use Rattle.sre_turns.specs.MovesAtReferences.{reference_turn}
 use Rattle.sre_turns.specs.Machine.{InRole, MovesAt, Runs, turns, Comes, stops, ends, goes, splits, enters}
 use Rattle.sre_turns.specs.Alike.{least_from}
+use Rattle.sre_turns.specs.Straight.{goes_behind}
 use Rattle.sre_turns.specs.Nested.{BegunBy, AllBegunBy, Onto, Leads}
 use Rattle.sre_model.proofs.Each.{each-append, each-weaken}
 use Rattle.sre_model.proofs.Longest.{run_passes}
 use Rattle.sre_model.proofs.Bounds.{longest_run-fits, passes-below}
-
--- whether a region is gone on from where its body ends
-abbrev pub goes_behind : Region → Bool
-goes_behind (AtomicGroup t) = true
-goes_behind (Ahead t) = false
-goes_behind (NotAhead t) = false
-goes_behind Owed = true
-goes_behind (Further t) = true
 
 -- a turn comes back no further than to a position
 abbrev pub Onward : ℕ → Move → Type 0
@@ -327,7 +320,7 @@ onward-less p q (Go x) l h = omega (arith, l, h)
 onward-less p q (Split x y) l h = (omega (arith, l, h.0), omega (arith, l, h.1))
 onward-less p q (Enter g x y) l h = (omega (arith, l, h.0), λ stays. omega (arith, l, h.1 stays))
 
-least_position : (pt : Point) (p : ℕ) → least_from pt p ≤ p
+pub least_position : (pt : Point) (p : ℕ) → least_from pt p ≤ p
 least_position (Instruction i) p = omega arith
 least_position (Alternatives q) p = omega arith
 least_position (Shorter t k) p = omega arith

@@ -46,18 +46,14 @@ Spent E ws e n Stop = 1 ≤ n
 Spent E ws e n End = 3 ≤ n
 Spent E ws e n (Go y) = potential_of ws e y + 1 ≤ n
 Spent E ws e n (Split y z) = potential_of ws e y + potential_of ws e z + 2 ≤ n
-Spent E ws e n (Enter g y z) = E
+Spent E ws e n (Enter g y z) = E × (potential_of ws e z + 1 ≤ n)
 
--- no region is entered
-abbrev pub NoEntry : Move → Type 0
-NoEntry mv = (g : Region) (y z : Spot) → mv ≡ Enter g y z → ⊥
-
-spends : (E : Type 0) (ws : List ℕ) (e n : ℕ) (mv : Move) → NoEntry mv → Spent E ws e n mv → Spends ws e n mv
-spends E ws e n Stop no_ h = h
-spends E ws e n End no_ h = h
-spends E ws e n (Go y) no_ h = h
-spends E ws e n (Split y z) no_ h = h
-spends E ws e n (Enter g y z) no_ h = absurd (no_ g y z refl)
+spends : (E : Type 0) (ws : List ℕ) (e n : ℕ) (mv : Move) → Spent E ws e n mv → Spends ws e n mv
+spends E ws e n Stop h = h
+spends E ws e n End h = h
+spends E ws e n (Go y) h = h
+spends E ws e n (Split y z) h = h
+spends E ws e n (Enter g y z) h = h.1
 
 cond_spent : (E : Type 0) (ws : List ℕ) (e n : ℕ) (b : Bool) (x y : Move) → (b ≡ true → Spent E ws e n x)
     → (b ≡ false → Spent E ws e n y) → Spent E ws e n (cond b x y)
@@ -221,9 +217,11 @@ module _ (ws : List ℕ) (s : Subject) where
         → Pays (ToLook sign) (cond (nat_lt p back) (closing_move (look sign t) standing [])
         (Enter (look sign t) standing (into_region standing (i + 3) (p - back))))
     look_pays Positive t back l =
-        pays_cond (ToLook Positive) (nat_lt p back) _ _ (λ e. stopped (ToLook Positive)) (λ e. refl)
+        pays_cond (ToLook Positive) (nat_lt p back) _ _ (λ e. stopped (ToLook Positive))
+        (λ e. (refl, forward (ToLook Positive) (i + 3) (omega arith)))
     look_pays Negative t back l =
-        pays_cond (ToLook Negative) (nat_lt p back) _ _ (λ e. forward (ToLook Negative) t l) (λ e. refl)
+        pays_cond (ToLook Negative) (nat_lt p back) _ _ (λ e. forward (ToLook Negative) t l)
+        (λ e. (refl, forward (ToLook Negative) (i + 3) (omega arith)))
 
     order_pays : (o : Order) (f : Frame) (last : Option ℕ) (outer : List Frame)
         → Pays (ToLoop o) (in_order o (at_body f last outer standing) (behind i outer standing))
@@ -273,7 +271,9 @@ module _ (ws : List ℕ) (s : Subject) where
     role_pays (ToLoop o) a h =
         subst (λ move. Pays (ToLoop o) move) (sym h.is) (until_pays o h.low h.high h.frame h.outer)
     role_pays ToRepeatPossessively a h = subst (λ move. Pays ToRepeatPossessively move) (sym h) (omega arith)
-    role_pays ToGroupAtomically a h = subst (λ move. Pays ToGroupAtomically move) (sym h.is) refl
+    role_pays ToGroupAtomically a h =
+        subst (λ move. Pays ToGroupAtomically move) (sym h.is)
+        (refl, forward ToGroupAtomically (i + 2) (omega arith))
     role_pays (ToLook sign) a h =
         subst (λ move. Pays (ToLook sign) move) (sym h.is) (look_pays sign (skip ws (i + 1)) h.back (omega arith))
     role_pays ToRefer a h = subst (λ move. Pays ToRefer move) (sym h.is) (reference_pays h.fold h.number)
@@ -340,10 +340,10 @@ point_spent ws s (Tried i) fs p m a n k h = absurd h
 
 pub instruction_spends : (ws : List ℕ) (s : Subject) (i p : ℕ) (fs : List Frame) (m : Marks) (o : SreOpcode)
     (mv : Move)
-    → NoEntry mv → Opcode ws i o → MovesAt ws s (Instruction i) (spot_at (Instruction i) fs p m) mv
+    → Opcode ws i o → MovesAt ws s (Instruction i) (spot_at (Instruction i) fs p m) mv
     → Spends ws s.end (pool ws s.end o (Instruction i) p) mv
-instruction_spends ws s i p fs m o mv no_ w h =
-    spends (enters (role o) ≡ true) ws s.end (pool ws s.end o (Instruction i) p) mv no_
+instruction_spends ws s i p fs m o mv w h =
+    spends (enters (role o) ≡ true) ws s.end (pool ws s.end o (Instruction i) p) mv
     (instruction_spent ws s i p fs m o mv w h)
 
 -- which roles enter a region
@@ -351,18 +351,16 @@ pub entry_role : (ws : List ℕ) (s : Subject) (i p : ℕ) (fs : List Frame) (m 
     (y z : Spot)
     → Opcode ws i o → MovesAt ws s (Instruction i) (spot_at (Instruction i) fs p m) (Enter g y z)
     → enters (role o) ≡ true
-entry_role ws s i p fs m o g y z w h = instruction_spent ws s i p fs m o (Enter g y z) w h
+entry_role ws s i p fs m o g y z w h = (instruction_spent ws s i p fs m o (Enter g y z) w h).0
 
 -- and that no other point does, but for a possessive loop
 pub entry_point : (ws : List ℕ) (s : Subject) (pt : Point) (fs : List Frame) (p : ℕ) (m : Marks) (g : Region)
     (y z : Spot)
     → ((i : ℕ) → pt ≡ Instruction i → ⊥) → (pt ≡ Again → ⊥) → MovesAt ws s pt (spot_at pt fs p m) (Enter g y z) → ⊥
-entry_point ws s pt fs p m g y z n k h = point_spent ws s pt fs p m (Enter g y z) n k h
+entry_point ws s pt fs p m g y z n k h = (point_spent ws s pt fs p m (Enter g y z) n k h).0
 
 pub point_spends : (ws : List ℕ) (s : Subject) (pt : Point) (fs : List Frame) (p : ℕ) (m : Marks) (mv : Move)
     → ((i : ℕ) → pt ≡ Instruction i → ⊥) → (pt ≡ Again → ⊥) → MovesAt ws s pt (spot_at pt fs p m) mv
     → Spends ws s.end (potential ws s.end pt p) mv
 point_spends ws s pt fs p m mv n k h =
-    let no_ : NoEntry mv =
-    λ g y z e. entry_point ws s pt fs p m g y z n k (subst (λ a. MovesAt ws s pt (spot_at pt fs p m) a) e h) in
-    spends ⊥ ws s.end (potential ws s.end pt p) mv no_ (point_spent ws s pt fs p m mv n k h)
+    spends ⊥ ws s.end (potential ws s.end pt p) mv (point_spent ws s pt fs p m mv n k h)

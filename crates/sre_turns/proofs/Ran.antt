@@ -8,7 +8,7 @@ use Rattle.sre_model.specs.Tree.{Run, GreedyRun, Trees, Only, Or, Loop, LazyRun,
 use Rattle.sre_model.specs.Tree.{Reference, Exists, ExistsElse}
 use Rattle.sre_model.specs.References.{refers, by_references}
 use Rattle.sre_model.specs.Folding.{of_item, of_branch}
-use Rattle.sre_model.specs.References.{asked_from, by_groups}
+use Rattle.sre_model.specs.References.{asked_from, asked_to, by_groups, by_last_groups}
 use Rattle.sre_model.specs.Marks.{Marks, group}
 use Rattle.sre_model.specs.Subject.{Subject}
 use Rattle.sre_model.specs.Ways.{Way, Body, here, ways, item_ways, branch_ways}
@@ -41,16 +41,19 @@ use Rattle.sre_turns.proofs.RanAtReferences.{reference-ran, condition-ran, prese
 -- what a part of the words asks for, the words do, and where no region of the words sets a mark none of the part does
 abbrev pub PartOf : List ℕ → Tree → Type 0
 PartOf ws t =
-    ((g : ℕ) → refers t ≡ true → asked_from t ≤ g → MayAsk ws g) × (MarklessRegions ws → marks_in_regions t ≡ false)
+    ((g : ℕ) → refers t ≡ true → asked_from t ≤ g → g ≤ asked_to t → MayAsk ws g)
+    × (MarklessRegions ws → marks_in_regions t ≡ false)
 
 abbrev PartOfItem : List ℕ → Item → Type 0
 PartOfItem ws x =
-    ((g : ℕ) → of_item by_references x ≡ true → of_item by_groups x ≤ g → MayAsk ws g)
+    ((g : ℕ) → of_item by_references x ≡ true → of_item by_groups x ≤ g → g ≤ of_item by_last_groups x
+    → MayAsk ws g)
     × (MarklessRegions ws → of_item by_marked_regions x ≡ false)
 
 abbrev PartOfBranch : List ℕ → Trees → Type 0
 PartOfBranch ws ts =
-    ((g : ℕ) → of_branch by_references ts ≡ true → of_branch by_groups ts ≤ g → MayAsk ws g)
+    ((g : ℕ) → of_branch by_references ts ≡ true → of_branch by_groups ts ≤ g → g ≤ of_branch by_last_groups ts
+    → MayAsk ws g)
     × (MarklessRegions ws → of_branch by_marked_regions ts ≡ false)
 
 -- the body of a region sets no mark there, and begins at its first word
@@ -70,7 +73,8 @@ body_lies ws i j t r w none markless = (
 )
 
 -- and it is a part of the words
-body_part : (ws : List ℕ) (t : Tree) → ((g : ℕ) → refers t ≡ true → asked_from t ≤ g → MayAsk ws g)
+body_part : (ws : List ℕ) (t : Tree)
+    → ((g : ℕ) → refers t ≡ true → asked_from t ≤ g → g ≤ asked_to t → MayAsk ws g)
     → (MarklessRegions ws → (sets_mark t || marks_in_regions t) ≡ false) → PartOf ws t
 body_part ws t has none = (has, λ e. (or_parts (sets_mark t) (marks_in_regions t) (none e)).1)
 
@@ -83,12 +87,13 @@ mutual
       rw (flat_map-flat_map (λ (w : Way). K w.stop w.marks)
       (λ (w : Way). ways s rest w.stop w.marks) (item_ways s item p m))
       (item-ran ws s i h.0 item v (
-        λ g y l. has.0 g (or_left (of_item by_references item) (refers rest) y) (omega (arith, l)),
+        λ g y l k. has.0 g (or_left (of_item by_references item) (refers rest) y) (omega (arith, l)) (omega (arith, k)),
         λ e. (or_parts (of_item by_marked_regions item) (marks_in_regions rest) (has.1 e)).0,
       ) h.1 fs
       (λ q k. followed K (ways s rest q k)) (λ q k. cost s rest C q k) p m e
       (λ q k l g. ran ws s h.0 j rest v (
-        λ g y l. has.0 g (or_right (of_item by_references item) (refers rest) y) (omega (arith, l)),
+        λ g y l k. has.0 g (or_right (of_item by_references item) (refers rest) y) (omega (arith, l))
+            (omega (arith, k)),
         λ e. (or_parts (of_item by_marked_regions item) (marks_in_regions rest) (has.1 e)).1,
       ) h.2 fs K C q k g
       (λ q' k' l' g'. f q' k' (omega arith) g')))
@@ -140,29 +145,30 @@ mutual
       (ran ws s (i + 3) (j - 1) body v (body_part ws body has.0 has.1) b.2) b.3 b.0
       (body_lies ws (i + 3) (j - 1) body b.2 b.3 has.1) back b.1 refl h.0 fs K C p m e f
   item-ran ws s i j (Reference fold g) v has h fs K C p m e f =
-      reference-ran ws s i j g fold (has.0 g refl (omega arith)) h.0 h.1.0 h.1.1 fs K C p m e f
+      reference-ran ws s i j g fold (has.0 g refl (omega arith) (omega arith)) h.0 h.1.0 h.1.1 fs K C p m e f
   item-ran ws s i j (Exists g there) v has h fs K C p m e f =
       let inside = reads_within there ws (i + 3) j h.1.2 in
       rw (present-followed K (group m g) (ways s there p m) (here p m))
-      (condition-ran ws s i g (has.0 g refl (omega arith)) h.0 h.1.0
+      (condition-ran ws s i g (has.0 g refl (omega arith) (omega arith)) h.0 h.1.0
       (skip_there ws (i + 2) (omega (arith, inside, h.1.1))) fs p m _ _ _ _
-      (ran ws s (i + 3) j there v ((λ k _ _. has.0 k refl (omega arith)), has.1) h.1.2 fs K C p m e f)
+      (ran ws s (i + 3) j there v ((λ k _ _ l. has.0 k refl (omega arith) (omega (arith, l))), has.1) h.1.2 fs K C p m
+      e f)
       (moved h.1.1 (alone (f p m (omega arith) e))))
   item-ran ws s i j (ExistsElse g there absent) v has h fs K C p m e f =
       let yes = reads_within there ws (i + 3) (i + 1 + word ws (i + 2) - 2) h.1.1 in
       let no_ = reads_within absent ws (i + 1 + word ws (i + 2)) j h.1.3 in
       rw (present-followed K (group m g) (ways s there p m) (ways s absent p m))
-      (condition-ran ws s i g (has.0 g refl (omega arith)) h.0 h.1.0 (skip_there ws (i + 2) (omega (arith, yes))) fs p m
-      _ _ _ _
+      (condition-ran ws s i g (has.0 g refl (omega arith) (omega arith)) h.0 h.1.0
+      (skip_there ws (i + 2) (omega (arith, yes))) fs p m _ _ _ _
       (ran ws s (i + 3) (i + 1 + word ws (i + 2) - 2) there v (
-        (λ k _ _. has.0 k refl (omega arith)),
+        (λ k _ _ l. has.0 k refl (omega arith) (omega (arith, l))),
         λ e. (or_parts (marks_in_regions there) (marks_in_regions absent) (has.1 e)).0,
       ) h.1.1 fs K
       (λ a b. suc (C a b)) p m e
       (λ q' k' l' g'. jump-ran ws s (i + 1 + word ws (i + 2) - 2) j (omega (arith, yes, no_)) h.1.2 fs K C q' k'
       (f q' k' l' g')))
       (ran ws s (i + 1 + word ws (i + 2)) j absent v (
-        (λ k _ _. has.0 k refl (omega arith)),
+        (λ k _ _ l. has.0 k refl (omega arith) (omega (arith, l))),
         λ e. (or_parts (marks_in_regions there) (marks_in_regions absent) (has.1 e)).1,
       ) h.1.3 fs K C p m e f))
 
@@ -181,12 +187,12 @@ mutual
       rw (flat_map-append (λ (w : Way). K w.stop w.marks) (ways s t p m) (branch_ways s ts p m))
       (alternative-ran ws s q (word ws q) _ _ fs p m _ _ (word_there ws q (skip_there ws q (omega arith))) (omega arith)
       (ran ws s (q + 1) (skip ws q - 2) t v (
-        λ g y l. has.0 g (or_left (refers t) (of_branch by_references ts) y) (omega (arith, l)),
+        λ g y l k. has.0 g (or_left (refers t) (of_branch by_references ts) y) (omega (arith, l)) (omega (arith, k)),
         λ e. (or_parts (marks_in_regions t) (of_branch by_marked_regions ts) (has.1 e)).0,
       ) h.0 fs K
       (λ a b. suc (C a b)) p m e (λ q' k' l' g'. jump-ran ws s
       (skip ws q - 2) j (omega (arith, branch_past ts ws (skip ws q) j h.2)) h.1 fs K C q' k' (f q' k' l' g')))
       (branch-ran ws s (skip ws q) j ts v (
-        λ g y l. has.0 g (or_right (refers t) (of_branch by_references ts) y) (omega (arith, l)),
+        λ g y l k. has.0 g (or_right (refers t) (of_branch by_references ts) y) (omega (arith, l)) (omega (arith, k)),
         λ e. (or_parts (marks_in_regions t) (of_branch by_marked_regions ts) (has.1 e)).1,
       ) h.2 fs K C p m e f))

@@ -26,8 +26,7 @@ reference-ran ws s i j g f may w there l fs K C p m e after = from (group m g) r
   where
     asked : Asks ws g
     asked = (
-      may.0,
-      may.1,
+      may,
       record {
         place = i;
         opcode = reference_opcode f;
@@ -78,8 +77,7 @@ module _ (ws : List ℕ) (s : Subject) (i g : ℕ) (may : MayAsk ws g) (w : Opco
     (there : Word ws (i + 1) g) (skips : i + 2 < length ws) where
   asked : Asks ws g
   asked = (
-    may.0,
-    may.1,
+    may,
     record { place = i; opcode = opcode.GROUPREF_EXISTS; code = w; asks = refl; there = there },
   )
 

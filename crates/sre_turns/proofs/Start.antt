@@ -5,7 +5,7 @@ use Rattle.std.proofs.lemmas.Bool.{or_right, or_parts, true≢false}
 use Rattle.sre_chars.specs.declared.constants.SreOpcode.TheVariants as opcode
 use Rattle.sre_chars.specs.declared.string.StringCursor.{StringCursor}
 use Rattle.sre_model.specs.Tree.{Tree, Empty, Then}
-use Rattle.sre_model.specs.References.{refers, by_references, asked_from}
+use Rattle.sre_model.specs.References.{refers, by_references, asked_from, asked_to}
 use Rattle.sre_model.specs.Folding.{of_item}
 use Rattle.sre_model.specs.MarksSet.{marks_in_regions, by_marked_regions}
 use Rattle.sre_model.specs.Prefixes.{behind_items}
@@ -20,8 +20,8 @@ use Rattle.sre_turns.specs.Limits.{Limit}
 use Rattle.sre_turns.specs.Moves.{spot_at}
 use Rattle.sre_turns.specs.MovesAtReferences.{MayAsk}
 use Rattle.sre_turns.specs.Potential.{potential}
-use Rattle.sre_turns.specs.Settled.{Regionless, SettledIn}
-use Rattle.sre_turns.proofs.Faring.{fares_earlier}
+use Rattle.sre_turns.specs.Settled.{Unforked, SettledIn}
+use Rattle.sre_turns.proofs.FaringInRegions.{end_refused}
 use Rattle.sre_turns.specs.Machine.{Waits, outermost, otherwise, tried, Arrives, Ends, Stands, Later}
 use Rattle.sre_turns.specs.Machine.{SaysAccepted, outcomes}
 use Rattle.sre_model.specs.Runs.{Run}
@@ -45,14 +45,21 @@ behind_asked zero t = omega arith
 behind_asked (suc n) Empty = omega arith
 behind_asked (suc n) (Then x rest) = let l = behind_asked n rest in omega (arith, l)
 
+-- nor for one behind them
+behind_asked_to : (n : ℕ) (t : Tree) → asked_to (behind_items n t) ≤ asked_to t
+behind_asked_to zero t = omega arith
+behind_asked_to (suc n) Empty = omega arith
+behind_asked_to (suc n) (Then x rest) = let l = behind_asked_to n rest in omega (arith, l)
+
 -- so the words do
 behind_asks : (ws : List ℕ) (n : ℕ) (t : Tree) → WholeItems ws t → (g : ℕ) → refers (behind_items n t) ≡ true
-    → asked_from (behind_items n t) ≤ g → MayAsk ws g
-behind_asks ws n t w g e l = (
+    → asked_from (behind_items n t) ≤ g → g ≤ asked_to (behind_items n t) → MayAsk ws g
+behind_asks ws n t w g e l k = (
   λ u w'. subst (λ x. refers x ≡ true) (items_same ws t u w w') (behind_refers n t e),
   λ u w'.
       let from : asked_from t ≤ g = omega (arith, l, behind_asked n t) in
-      subst (λ x. asked_from x ≤ g) (items_same ws t u w w') from,
+      let to : g ≤ asked_to t = omega (arith, k, behind_asked_to n t) in
+      subst (λ x. (asked_from x ≤ g) × (g ≤ asked_to x)) (items_same ws t u w w') (from, to),
 )
 
 -- a region behind some items is one of the whole
@@ -63,7 +70,7 @@ behind_markless (suc n) (Then x rest) e =
     behind_markless n rest (or_parts (of_item by_marked_regions x) (marks_in_regions rest) e).1
 
 pub behind_has : (ws : List ℕ) (n : ℕ) (t : Tree) → WholeItems ws t → PartOf ws (behind_items n t)
-behind_has ws n t w = (λ g e l. behind_asks ws n t w g e l, λ markless. behind_markless n t (markless.none t w))
+behind_has ws n t w = (λ g e l k. behind_asks ws n t w g e l k, λ markless. behind_markless n t (markless.none t w))
 
 -- the limit of a run of a tree from a place and a cursor, in a window from a start on
 abbrev pub first_limit : Run → ℕ → Tree → StringCursor → ℕ → Limit
@@ -81,7 +88,7 @@ pub started : (r : Run) (i : ℕ) (t : Tree) (c : StringCursor) (b : BoardValue)
     → PartOf r.words t
     → Reads r.words i (length r.words - 1) t → Opcode r.words (length r.words - 1) opcode.SUCCESS
     → r.stands c c.position → c.position ≤ r.subject.end → b ≡ bare no_marks
-    → ((pl : Regionless r) → SettledIn r pl start (spot_at (Instruction i) [] c.position no_marks))
+    → ((pl : Unforked r) → SettledIn r pl start (spot_at (Instruction i) [] c.position no_marks))
     → Arrives r (outcomes r t c.position) (first_limit r i t c start) (Instruction i) c b
 started r i t c b start v has reads ends stands inside fresh settled =
     subst (λ x. Arrives r (outcomes r t c.position) (first_limit r i t c start) (Instruction i) c x)
@@ -171,7 +178,7 @@ module _ (r : Run) (all : List Way) (limit : Limit) (p : ℕ) (n : Next) (c : St
       later = ends.later;
       waits = refused_waits r b.choices _ [] none (sym said ∙ left) ends.waits;
       within = omega (arith, ends.within);
-      fares = λ pl. fares_earlier r pl limit b.choices 0 2 (omega arith) (ends.fares pl);
+      fares = λ pl. end_refused r pl limit c.position b.choices none (ends.fares pl);
       confined = ends.confined;
     },
   )

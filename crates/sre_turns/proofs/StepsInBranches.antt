@@ -16,6 +16,7 @@ use Rattle.sre_turns.specs.Machine.{Continues}
 use Rattle.sre_model.specs.Roles.{ToBranch}
 use Rattle.sre_turns.specs.declared.Next.TheVariants as next
 use Rattle.sre_model.proofs.Words.{word_within}
+use Rattle.sre_turns.proofs.HereMoves.{straight_here}
 use Rattle.sre_turns.proofs.Faring.{second_less, alternatives_free}
 use Rattle.sre_model.specs.Marks.{no_marks}
 use Rattle.sre_turns.proofs.Confining.{confined_leads}
@@ -102,6 +103,8 @@ alternatives_pass r q v c w l stands none = record {
       (spot_at (Instruction (q + 1)) fs c.position m) (spot_at (Alternatives (q + v)) fs c.position m)
       alternatives_free (alternatives_move r.words r.subject q v (spot_at (Alternatives q) fs c.position m) refl w l)
       h;
+  bodies = λ g entered fs m h.
+      absurd (straight_here r g entered (spot_at (Alternatives q) fs c.position m) h);
   confines = λ fs h.
       (confined_leads r.words r.subject (spot_at (Alternatives q) fs c.position no_marks) _
       (alternatives_move r.words r.subject q v (spot_at (Alternatives q) fs c.position no_marks) refl w l) h).1;

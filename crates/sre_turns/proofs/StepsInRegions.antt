@@ -20,10 +20,12 @@ use Rattle.sre_turns.specs.Bodies.{MarklessRegions}
 use Rattle.sre_turns.specs.Confining.{ConfinedInside, AllConfined, ChoicesConfined, StandsConfined}
 use Rattle.sre_turns.specs.Fruit.{is_inside}
 use Rattle.sre_turns.specs.Nested.{repeats, ClosesAt}
-use Rattle.sre_turns.specs.Settled.{Regionless}
+use Rattle.sre_turns.specs.Settled.{Unforked}
 use Rattle.sre_turns.proofs.Confining.{region_confined}
-use Rattle.sre_turns.proofs.Faring.{region_waits}
-use Rattle.sre_turns.specs.Limits.{Limit, earlier}
+use Rattle.sre_turns.proofs.FaringInRegions.{region_newest, region_on, region_off, region_never}
+use Rattle.sre_turns.specs.Limits.{Limit, earlier, FaresAt, FaresBack, FaresEnd}
+use Rattle.sre_turns.specs.Potential.{potential, potential_of}
+use Rattle.sre_turns.specs.Straight.{is_possessive}
 use Rattle.sre_turns.specs.Machine.{Moves, Runs, Comes, stops, goes, Waits, kept, Goes, Arrives, Placed, Ends}
 use Rattle.sre_model.specs.Runs.{Run}
 use Rattle.sre_turns.specs.Machine.{Later, spot, HasRun, after_outcome, without_outcome, without_loop}
@@ -119,30 +121,33 @@ module _ (r : Run) (c d : StringCursor) (b b' : BoardValue) where
   goes_on f = record { here = f.0; others = record { each = f.1 } }
 
   -- nothing comes of it
-  ends_stop : (Regionless r → ⊥) → (MarklessRegions r.words → ChoicesConfined r.words b'.choices)
-      → {x : Spot} {all os : List Way} (limit : Limit) {n k j later : ℕ}
-      → Comes r.words r.subject x Stop os n
+  ends_stop : {all : List Way} (limit : Limit) → ((pl : Unforked r) → FaresBack r pl (earlier limit) b'.choices)
+      → (MarklessRegions r.words → ChoicesConfined r.words b'.choices)
+      → {x : Spot} {os : List Way} {n k j later : ℕ} → Comes r.words r.subject x Stop os n
       → Waits r b'.choices (0 + n) os all k → n + k ≤ j → j ≤ later → later + 1 ≤ limit.turns
       → Later r all limit next.Back b'
-  ends_stop never lies limit stops wt e l m = (
+  ends_stop limit left lies stops wt e l m = (
     omega arith,
     record {
       later = _;
       waits = sooner (0 + 1) 0 (omega arith) wt;
       within = omega arith;
-      fares = λ pl. absurd (never pl);
+      fares = left;
       confined = lies;
     },
   )
 
   -- it goes on at a cursor
-  ends_go : (Regionless r → ⊥) → {x : Spot} {all os : List Way} (limit : Limit) {n k j later : ℕ} (pt : Point)
-      (at : StringCursor) → (MarklessRegions r.words → StandsConfined r.words (spot pt at b') b'.choices)
+  ends_go : {all : List Way} (limit : Limit) (pt : Point) (at : StringCursor)
+      → ((pl : Unforked r) → FaresAt r pl (earlier limit) (potential_of r.words r.subject.end (spot pt at b'))
+      (spot pt at b') b'.choices)
+      → (MarklessRegions r.words → StandsConfined r.words (spot pt at b') b'.choices)
       → r.stands at at.position → Placed r.subject b.marks → b'.marks ≡ b.marks
+      → {x : Spot} {os : List Way} {n k j later : ℕ}
       → Comes r.words r.subject x (Go (spot_at pt b'.frames at.position b.marks)) os n
       → Waits r b'.choices (0 + n) os all k → n + k ≤ j → j ≤ later → later + 1 ≤ limit.turns
       → (1 ≤ limit.turns) × Arrives r all (earlier limit) pt at b'
-  ends_go never {x} {all} {os} limit {n} {k} pt at lies there placed em (goes {n = n'} e) wt same l m =
+  ends_go limit pt at left lies there placed em {os = os} {k = k} (goes {n = n'} e) wt same l m =
       let moved : Runs r.words r.subject (spot pt at b') os n' =
       subst (λ ms. Runs r.words r.subject (spot_at pt b'.frames at.position ms) os n') (sym em) e in (
         omega arith,
@@ -155,64 +160,83 @@ module _ (r : Run) (c d : StringCursor) (b b' : BoardValue) where
           runs = moved;
           waits = sooner (0 + suc n') (n' + 1) (omega arith) wt;
           within = omega arith;
-          fares = λ pl o w. absurd (never pl);
+          fares = λ pl o w. left pl;
           confined = lies;
         },
       )
 
-  region_ends : (Regionless r → ⊥) → (g : Region) → Closing g
-      → (m : Marks) (us all : List Way) (limit : Limit) (j later : ℕ)
-      → b'.marks ≡ b.marks
-      → r.stands c c.position → Placed r.subject b.marks
+  -- what is left where the region is in progress, and where its body ends
+  abbrev Ending : Limit → Region → Marks → Type 0
+  Ending limit g m = (pl : Unforked r) → FaresEnd r pl limit c.position (Keep g b'.frames d m ∷ b'.choices)
+
+  ends_never : (limit : Limit) (g : Region) (m : Marks) → Ending limit g m → is_possessive g ≡ true → Unforked r → ⊥
+  ends_never limit g m left e pl =
+      region_never r pl limit g b'.frames d m b'.choices (left pl).fares e
+
+  region_ends : (g : Region) → Closing g → (m : Marks) (us all : List Way) (limit : Limit) (j later : ℕ)
+      → Ending limit g m → b'.marks ≡ b.marks → r.stands c c.position → Placed r.subject b.marks
       → Waits r (Keep g b'.frames d m ∷ b'.choices) 0 (record { stop = c.position; marks = b.marks } ∷ us) all j
       → j ≤ later → later + 1 ≤ limit.turns → Later r all limit (after_outcome g c d) b'
-  region_ends never (AtomicGroup t) lies m us all limit j later em there placed (kept at _ f wt) l k =
-      ends_go never limit (Instruction t) c (λ none. goes_on (lies none)) there placed em f wt (omega arith) l k
-  region_ends never (Ahead t) lies m us all limit j later em there placed (kept at _ f wt) l k =
-      ends_go never limit (Instruction t) d (λ none. goes_on (lies none)) at placed em f wt (omega arith) l k
-  region_ends never (NotAhead t) lies m us all limit j later em there placed (kept at _ f wt) l k =
-      ends_stop never (λ none. record { each = (lies none).1 }) limit f wt (omega arith) l k
-  region_ends never Owed lies m us all limit j later em there placed (kept at _ f wt) l k =
-      ends_go never limit Again c (λ none. goes_on (lies none)) there placed em f wt (omega arith) l k
-  region_ends never (Further t) lies m us all limit j later em there placed (kept at _ f wt) l k =
-      ends_go never limit Again c (λ none. goes_on ((lies none).0.0, (lies none).1)) there placed em f wt
-      (omega arith) l k
+  region_ends (AtomicGroup t) lies m us all limit j later left em there placed (kept at _ f wt) l k =
+      ends_go limit (Instruction t) c
+      (λ pl. region_on r pl limit (AtomicGroup t) b'.frames d m b'.choices (left pl).fares c.position b'.marks
+      ((left pl).at.0 refl) (left pl).at.1)
+      (λ none. goes_on (lies none)) there placed em f wt (omega arith) l k
+  region_ends (Ahead t) lies m us all limit j later left em there placed (kept at _ f wt) l k =
+      ends_go limit (Instruction t) d
+      (λ pl. region_on r pl limit (Ahead t) b'.frames d m b'.choices (left pl).fares d.position b'.marks
+      (omega arith) (left pl).fares.settled.0.inside)
+      (λ none. goes_on (lies none)) at placed em f wt (omega arith) l k
+  region_ends (NotAhead t) lies m us all limit j later left em there placed (kept at _ f wt) l k =
+      ends_stop limit (λ pl. region_off r pl limit (NotAhead t) b'.frames d m b'.choices (left pl).fares)
+      (λ none. record { each = (lies none).1 }) f wt (omega arith) l k
+  region_ends Owed lies m us all limit j later left em there placed (kept at _ f wt) l k =
+      ends_go limit Again c (λ pl. absurd (ends_never limit Owed m left refl pl))
+      (λ none. goes_on (lies none)) there placed em f wt (omega arith) l k
+  region_ends (Further t) lies m us all limit j later left em there placed (kept at _ f wt) l k =
+      ends_go limit Again c (λ pl. absurd (ends_never limit (Further t) m left refl pl))
+      (λ none. goes_on ((lies none).0.0, (lies none).1)) there placed em f wt (omega arith) l k
 
   pub region_closes : (g : Region) → Cuts b g d b' → (all : List Way) (limit : Limit) → Ends r all limit c b
       → Later r all limit (after_outcome g c d) b'
   region_closes g cut all limit e =
       let u = cut_waits r b.choices b'.choices g b'.frames d cut.entered
       (record { stop = c.position; marks = b.marks }) [] all e.later cut.region e.waits in
-      region_ends (λ pl. region_waits r pl limit 2 b.choices cut.region (e.fares pl)) g
+      region_ends g
       (λ none. subst (λ x. AllConfined r.words x) cut.region (region_confined r.words b.choices (e.confined none).each))
-      cut.entered u.0 all limit u.1 e.later cut.marks e.stands e.placed u.3 u.2 e.within
+      cut.entered u.0 all limit u.1 e.later
+      (λ pl. subst (λ x. FaresEnd r pl limit c.position x)
+      (region_newest r pl limit.start b.choices b'.choices (e.fares pl).fares.settled cut.region) (e.fares pl))
+      cut.marks e.stands e.placed u.3 u.2 e.within
 
 -- a body has no outcome
 module _ (r : Run) (c : StringCursor) (b' : BoardValue) where
-  back_stop : (Regionless r → ⊥) → (MarklessRegions r.words → ChoicesConfined r.words b'.choices)
-      → {x : Spot} {all os : List Way} (limit : Limit) {n k : ℕ}
-      → Comes r.words r.subject x Stop os n
+  back_stop : {all : List Way} (limit : Limit) → ((pl : Unforked r) → FaresBack r pl (earlier limit) b'.choices)
+      → (MarklessRegions r.words → ChoicesConfined r.words b'.choices)
+      → {x : Spot} {os : List Way} {n k : ℕ} → Comes r.words r.subject x Stop os n
       → Waits r b'.choices (0 + n) os all k → n + k ≤ limit.turns → Later r all limit next.Back b'
-  back_stop never lies limit stops wt l = (
+  back_stop limit left lies stops wt l = (
     omega arith,
     record {
       later = _;
       waits = sooner (0 + 1) 0 (omega arith) wt;
       within = omega arith;
-      fares = λ pl. absurd (never pl);
+      fares = left;
       confined = lies;
     },
   )
 
-  back_go : (Regionless r → ⊥) → {x : Spot} {all os : List Way} (limit : Limit) {n k : ℕ} (t : ℕ) (fs : List Frame)
+  back_go : {all : List Way} (limit : Limit) (t : ℕ) (fs : List Frame)
+      → ((pl : Unforked r) → FaresAt r pl (earlier limit) (potential r.words r.subject.end (Instruction t) c.position)
+      (spot_at (Instruction t) fs c.position b'.marks) b'.choices)
       → (MarklessRegions r.words
       → ConfinedInside r.words (is_inside b'.choices) (Instruction t) (repeats fs) × AllConfined r.words b'.choices)
-      → r.stands c c.position
-      → Placed r.subject b'.marks
+      → r.stands c c.position → Placed r.subject b'.marks
+      → {x : Spot} {os : List Way} {n k : ℕ}
       → Comes r.words r.subject x (Go (spot_at (Instruction t) fs c.position b'.marks)) os n
       → Waits r b'.choices (0 + n) os all k → n + k ≤ limit.turns → Later r all limit (next.At t c)
       (record b' { frames = fs })
-  back_go never limit t fs lies there placed (goes {n = n'} e) wt l = (
+  back_go limit t fs left lies there placed (goes {n = n'} e) wt l = (
     omega arith,
     record {
       now = _;
@@ -223,23 +247,36 @@ module _ (r : Run) (c : StringCursor) (b' : BoardValue) where
       runs = e;
       waits = sooner (0 + suc n') (n' + 1) (omega arith) wt;
       within = omega arith;
-      fares = λ pl o w. absurd (never pl);
+      fares = λ pl o w. left pl;
       confined = λ none. let f = lies none in record { here = f.0; others = record { each = f.1 } };
     },
   )
 
-  pub region_back : (Regionless r → ⊥) → (g : Region)
+  -- what is left where the region is in progress
+  abbrev Going : Limit → Region → Type 0
+  Going limit g = (pl : Unforked r) → FaresBack r pl limit (Keep g b'.frames c b'.marks ∷ b'.choices)
+
+  back_off : (limit : Limit) (g : Region) → Going limit g → (pl : Unforked r)
+      → FaresBack r pl (earlier limit) b'.choices
+  back_off limit g left pl = region_off r pl limit g b'.frames c b'.marks b'.choices (left pl)
+
+  pub region_back : (g : Region)
       → (MarklessRegions r.words → AllConfined r.words (Keep g b'.frames c b'.marks ∷ b'.choices))
-      → (all : List Way) (limit : Limit) (k : ℕ)
+      → (all : List Way) (limit : Limit) (k : ℕ) → Going limit g
       → Waits r (Keep g b'.frames c b'.marks ∷ b'.choices) 0 [] all k → k ≤ limit.turns
       → Later r all limit (without_outcome g c) (without_loop g b')
-  region_back never (AtomicGroup t) lies all limit k (kept at _ f wt) l =
-      back_stop never (λ none. record { each = (lies none).1 }) limit f wt l
-  region_back never (Ahead t) lies all limit k (kept at _ f wt) l =
-      back_stop never (λ none. record { each = (lies none).1 }) limit f wt l
-  region_back never (NotAhead t) lies all limit k (kept at placed f wt) l =
-      back_go never limit t b'.frames lies at placed f wt l
-  region_back never Owed lies all limit k (kept at _ f wt) l =
-      back_stop never (λ none. record { each = (lies none).1 }) limit f wt l
-  region_back never (Further t) lies all limit k (kept at placed f wt) l =
-      back_go never limit t (drop 1 b'.frames) (λ none. ((lies none).0.1, (lies none).1)) at placed f wt l
+  region_back (AtomicGroup t) lies all limit k left (kept at _ f wt) l =
+      back_stop limit (back_off limit (AtomicGroup t) left) (λ none. record { each = (lies none).1 }) f wt l
+  region_back (Ahead t) lies all limit k left (kept at _ f wt) l =
+      back_stop limit (back_off limit (Ahead t) left) (λ none. record { each = (lies none).1 }) f wt l
+  region_back (NotAhead t) lies all limit k left (kept at placed f wt) l =
+      back_go limit t b'.frames
+      (λ pl. region_on r pl limit (NotAhead t) b'.frames c b'.marks b'.choices (left pl) c.position b'.marks
+      (omega arith) (left pl).settled.0.inside)
+      lies at placed f wt l
+  region_back Owed lies all limit k left (kept at _ f wt) l =
+      back_stop limit (back_off limit Owed left) (λ none. record { each = (lies none).1 }) f wt l
+  region_back (Further t) lies all limit k left (kept at placed f wt) l =
+      back_go limit t (drop 1 b'.frames)
+      (λ pl. absurd (region_never r pl limit (Further t) b'.frames c b'.marks b'.choices (left pl) refl))
+      (λ none. ((lies none).0.1, (lies none).1)) at placed f wt l

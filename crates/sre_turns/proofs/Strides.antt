@@ -30,6 +30,7 @@ use Rattle.sre_turns.specs.declared.Point.TheVariants.{Instruction, Alternatives
 use Rattle.sre_turns.specs.declared.Point.{Point}
 use Rattle.sre_turns.proofs.Confining.{confined_leads}
 use Rattle.sre_turns.proofs.Moving.{Barren, comes, run_on, sooner, continues_then, continues_exhausted}
+use Rattle.sre_turns.proofs.HereMoves.{inside_moves, here_map}
 use Rattle.sre_turns.proofs.SettledMoves.{settled_moves}
 use Rattle.sre_turns.proofs.StepsAtItems.{test_misses, test_continues, jump_continues}
 use Rattle.sre_turns.proofs.StepsInBranches.{branch_moves, alternatives_move, alternatives_pass, alternatives_exhausted}
@@ -53,7 +54,8 @@ module _ (r : Run) (x y : Spot) where
   yields_goes h = record {
     runs = λ os n d. run_on y h d;
     settles = λ pl start at.
-        settled_moves r.words r.subject pl.tree pl.whole start pl.no_region x (Go y) at h;
+        settled_moves r.words r.subject pl.tree pl.whole start x (Go y) at h;
+    bodies = λ g entered b. inside_moves r g entered x b (Go y) h;
     confines = λ l. confined_leads r.words r.subject x (Go y) h l;
   }
 
@@ -61,7 +63,8 @@ module _ (r : Run) (x y : Spot) where
   yields_first z h none = record {
     runs = λ os n d. run_first y z h none d;
     settles = λ pl start at.
-        (settled_moves r.words r.subject pl.tree pl.whole start pl.no_region x (Split y z) at h).0;
+        (settled_moves r.words r.subject pl.tree pl.whole start x (Split y z) at h).0;
+    bodies = λ g entered b. absurd (inside_moves r g entered x b (Split y z) h);
     confines = λ l. (confined_leads r.words r.subject x (Split y z) h l).0;
   }
 
@@ -71,6 +74,7 @@ module _ (r : Run) (x y : Spot) where
         let k = a.runs os n d in
         let l = b.runs os k.0 k.2 in (l.0, omega (arith, k.1, l.1), l.2);
     settles = λ pl start at. b.settles pl start (a.settles pl start at);
+    bodies = λ g entered d. b.bodies g entered (a.bodies g entered d);
     confines = λ l. b.confines (a.confines l);
   }
 
@@ -106,6 +110,7 @@ continues_yields : (r : Run) (pt pt' : Point) (c c' : StringCursor) → Continue
 continues_yields r pt pt' c c' on fs m = record {
   runs = λ os n d. on.runs fs m os n d;
   settles = λ pl start at. (on.fares pl start fs m at).0;
+  bodies = λ g entered at. (on.bodies g entered fs m at).0;
   confines = λ l. on.confines fs l;
 }
 
@@ -191,6 +196,7 @@ strides_none r u c f there = record {
   yields = λ fs m. record {
     runs = λ os n d. (n, omega arith, d);
     settles = λ pl start at. at;
+    bodies = λ g entered at. at;
     confines = λ l. l;
   };
 }
@@ -222,7 +228,11 @@ module _ (r : Run) (u : ℕ) (c c' : StringCursor) (f f' : Frame) (s : Strides r
         within = omega (arith, g.within, d.1);
         fares = λ pl o w.
             let old = g.fares pl o w in
-            record { here = y.settles pl limit.start old.here; fares = old.fares };
+            record {
+              here = here_map r pl limit.start b.choices (spot (Instruction u) c (with_loop f b))
+                  (spot (Instruction u) c' (with_loop f' b)) (y.settles pl limit.start) y.bodies old.here;
+              fares = old.fares;
+            };
         confined = λ none.
             let old = g.confined none in
             record { here = λ inside. y.confines (old.here inside); others = old.others };
@@ -265,6 +275,7 @@ tells_first r start u none only no_ = record {
     stands = read.stands;
     runs = λ fs m os k d. (k, omega arith, d);
     fares = λ pl begin fs m h. (h, omega arith);
+    bodies = λ g entered fs m h. (h, omega arith);
     confines = λ fs l. l;
   };
   alone = λ c ch after read y. absurd (cc (y, no_ ch));

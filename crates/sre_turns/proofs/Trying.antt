@@ -11,8 +11,8 @@ use Rattle.sre_turns.specs.Asked.{MarksAlike}
 use Rattle.sre_turns.specs.declared.Frame.{Frame}
 use Rattle.sre_turns.specs.declared.Point.TheVariants.{Instruction}
 use Rattle.sre_turns.specs.declared.Next.TheVariants as next
-use Rattle.sre_turns.specs.Limits.{Limit, with_tried, without_tried, Stage, Going, Splitting, spare, Fares}
-use Rattle.sre_turns.specs.Settled.{Regionless}
+use Rattle.sre_turns.specs.Limits.{Limit, with_tried, without_tried, Stage, Going, Splitting, spare, FaresBack}
+use Rattle.sre_turns.specs.Settled.{Unforked}
 use Rattle.sre_turns.specs.Machine.{Runs, Waits, tried, GoesWith, Goes, Arrives, Tries, Backs, Later, spot}
 use Rattle.sre_turns.specs.Confining.{ChoicesConfined}
 use Rattle.sre_turns.specs.Fruit.{Fruitless, is_inside}
@@ -22,14 +22,17 @@ use Rattle.sre_turns.proofs.FirstOutcomes.{first_none}
 use Rattle.sre_turns.proofs.Hopeless.{hopeless_again, fruitless_waits, fruitless_none}
 use Rattle.sre_turns.specs.Potential.{potential_of}
 use Rattle.sre_turns.proofs.Moving.{sooner, some_turns}
-use Rattle.sre_turns.proofs.Faring.{fares_earlier, run_code}
+use Rattle.sre_turns.proofs.Faring.{run_code, forks_outside, instruction_left}
+use Rattle.sre_turns.proofs.HereMoves.{settling_each, share_each}
+use Rattle.sre_turns.proofs.Straight.{forks_never}
+use Rattle.sre_turns.specs.Straight.{ForksAt}
 
 -- an instruction is tried: its mark waits
 tried_with : (stage : Stage) → spare stage ≡ 0 → (r : Run) (i : ℕ) (c : StringCursor) (b b' : BoardValue)
-    → b' ≡ record b { choices = Trying i b.frames c b.marks ∷ b.choices } → (all : List Way) (limit : Limit)
-    → GoesWith stage r all limit (Instruction i) c b
+    → b' ≡ record b { choices = Trying i b.frames c b.marks ∷ b.choices } → (Unforked r → ForksAt r.words i)
+    → (all : List Way) (limit : Limit) → GoesWith stage r all limit (Instruction i) c b
     → GoesWith stage r all (with_tried (spot (Instruction i) c b) limit) (Instruction i) c b'
-tried_with stage none r i c b b' e all limit g =
+tried_with stage none r i c b b' e forked all limit g =
     subst (λ x. GoesWith stage r all (with_tried (spot (Instruction i) c b) limit) (Instruction i) c x) (sym e)
     (record {
       now = g.now;
@@ -42,10 +45,12 @@ tried_with stage none r i c b b' e all limit g =
       within = g.within;
       fares = λ pl o w.
           let f = g.fares pl o w in
+          let out = forks_outside r pl limit _ (spot (Instruction i) c b) b.choices f
+          (forks_never r.words i (forked pl)) in
           record {
-            here = f.here;
+            here = out.settled;
             fares = record {
-              settled = (f.here, f.fares.settled);
+              settled = (out.settled, out.each);
               trying = ap (λ xs. spot (Instruction i) c b ∷ xs) f.fares.trying;
               left = omega (arith, f.fares.left);
             };
@@ -56,17 +61,17 @@ tried_with stage none r i c b b' e all limit g =
 
 -- so it is where its turn is under way
 pub trying_goes : (r : Run) (i : ℕ) (c : StringCursor) (b b' : BoardValue)
-    → b' ≡ record b { choices = Trying i b.frames c b.marks ∷ b.choices } → (all : List Way) (limit : Limit)
-    → Goes r all limit (Instruction i) c b
+    → b' ≡ record b { choices = Trying i b.frames c b.marks ∷ b.choices } → (Unforked r → ForksAt r.words i)
+    → (all : List Way) (limit : Limit) → Goes r all limit (Instruction i) c b
     → Goes r all (with_tried (spot (Instruction i) c b) limit) (Instruction i) c b'
-trying_goes r i c b b' e all limit g = tried_with Going refl r i c b b' e all limit g
+trying_goes r i c b b' e forked all limit g = tried_with Going refl r i c b b' e forked all limit g
 
 -- and where one toll alone was granted
 pub trying_tries : (r : Run) (i : ℕ) (c : StringCursor) (b b' : BoardValue)
-    → b' ≡ record b { choices = Trying i b.frames c b.marks ∷ b.choices } → (all : List Way) (limit : Limit)
-    → Tries r all limit (Instruction i) c b
+    → b' ≡ record b { choices = Trying i b.frames c b.marks ∷ b.choices } → (Unforked r → ForksAt r.words i)
+    → (all : List Way) (limit : Limit) → Tries r all limit (Instruction i) c b
     → Tries r all (with_tried (spot (Instruction i) c b) limit) (Instruction i) c b'
-trying_tries r i c b b' e all limit g = tried_with Splitting refl r i c b b' e all limit g
+trying_tries r i c b b' e forked all limit g = tried_with Splitting refl r i c b b' e forked all limit g
 
 -- the mark is come to: what waited below it still waits
 pub tried_waits : (r : Run) (i : ℕ) (c : StringCursor) (b b' : BoardValue)
@@ -74,13 +79,14 @@ pub tried_waits : (r : Run) (i : ℕ) (c : StringCursor) (b b' : BoardValue)
     → Backs r all (without_tried limit) b'
 tried_waits r i c b b' e all limit g = go (subst (λ x. Waits r x 0 [] all g.later) e g.waits) g.within
   where
-    left : (pl : Regionless r) → Fares r pl (without_tried limit) 0 b'.choices
+    left : (pl : Unforked r) → FaresBack r pl (without_tried limit) b'.choices
     left pl =
-        let f = subst (λ x. Fares r pl limit 0 x) e (g.fares pl) in
+        let f = subst (λ x. FaresBack r pl limit x) e (g.fares pl) in
+        let each = f.settled.1 in
         record {
-          settled = f.settled.1;
+          settled = settling_each r pl limit.start b'.choices each;
           trying = ap (λ xs. drop 1 xs) f.trying;
-          left = omega (arith, f.left);
+          left = omega (arith, f.left, share_each r pl limit.start b'.choices 0 each);
         }
 
     go : {k : ℕ} → Waits r (Trying i b'.frames c b'.marks ∷ b'.choices) 0 [] all k → k ≤ limit.turns
@@ -158,8 +164,8 @@ hopeless_left r i c b m alike hopeless all limit g =
         within = omega (arith, some_turns g.runs, g.within);
         fares = λ pl.
             let code = run_code r x g.runs in
-            fares_earlier r pl limit b.choices 0 (potential_of r.words r.subject.end x) (omega arith)
-            (g.fares pl code.0 code.1).fares;
+            instruction_left r pl limit (potential_of r.words r.subject.end x) i x b.choices refl (omega arith)
+            (g.fares pl code.0 code.1);
         confined = λ none. (g.confined none).others;
       },
     )

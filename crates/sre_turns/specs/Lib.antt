@@ -12,6 +12,7 @@ pub mod Turning
 pub mod Alike
 pub mod Nested
 pub mod Potential
+pub mod Straight
 pub mod Settled
 pub mod Limits
 pub mod Machine

@@ -1,7 +1,7 @@
--- What a run may still take: turns, and in a search over words without regions a potential, which goes down with each
--- turn, and up by tolls where an instruction that may branch is gone on with.
+-- What a run may still take: turns, and in a search over words whose regions do not fork a potential, which goes down
+-- with each turn, and up by tolls where an instruction that may branch is gone on with.
 -- Words of the machine's contracts; what sre_engine makes public does not rest on it.
-use Rattle.std.specs.Prelude.{⊤, ℕ, ◌+◌, ◌-◌, ◌*◌, ◌≤◌, ◌≡◌, List, [], ◌∷◌, drop}
+use Rattle.std.specs.Prelude.{⊤, ℕ, ◌+◌, ◌-◌, ◌*◌, ◌≤◌, ◌≡◌, List, [], ◌∷◌, drop, length, true, false}
 use Rattle.sre_chars.specs.declared.constants.SreOpcode.{SreOpcode}
 use Rattle.sre_model.specs.Grammar.{Opcode}
 use Rattle.sre_model.specs.Roles.{role}
@@ -11,7 +11,11 @@ use Rattle.sre_turns.specs.declared.Point.TheVariants.{Instruction, Alternatives
 use Rattle.sre_turns.specs.declared.Point.{Point}
 use Rattle.sre_turns.specs.Moves.{Spot, spot_at}
 use Rattle.sre_turns.specs.Potential.{path, potential, potential_of, units}
-use Rattle.sre_turns.specs.Settled.{Regionless, SettledIn}
+use Rattle.sre_turns.specs.Settled.{Unforked, SettledIn}
+use Rattle.sre_turns.specs.Straight.{InBody, tail_of, is_possessive, goes_behind}
+use Rattle.sre_turns.specs.declared.Frame.{Frame}
+use Rattle.sre_turns.specs.declared.Region.{Region}
+use Rattle.sre_model.specs.Marks.{Marks}
 
 -- how many turns are left; how many were taken, with how much potential at first, and how often a toll was granted;
 -- the instructions that are tried, newest first; and where the window begins
@@ -80,23 +84,71 @@ EachChoice P (Else pt fs c m ∷ cs) = P (spot_at pt fs c.position m) × EachCho
 EachChoice P (Keep g fs c m ∷ cs) = ⊥
 EachChoice P (Trying i fs c m ∷ cs) = P (spot_at (Instruction i) fs c.position m) × EachChoice P cs
 
+-- where the machine stands: in the body of the innermost region, if one is in progress, else where it is settled
+abbrev pub HereIn : (r : Run) → Unforked r → ℕ → List Choice → Spot → Type 0
+HereIn r pl start [] x = SettledIn r pl start x
+HereIn r pl start (Else pt fs c m ∷ cs) x = SettledIn r pl start x
+HereIn r pl start (Keep g fs c m ∷ cs) x = InBody r g c.position x
+HereIn r pl start (Trying i fs c m ∷ cs) x = SettledIn r pl start x
+
+-- where it goes on behind a region that was entered at a cursor, no earlier than there
+pub record Reopens (r : Run) (pl : Unforked r) (start : ℕ) (g : Region) (fs : List Frame) (p : ℕ) (cs : List Choice)
+    : Type 0 where
+  pub alone : is_possessive g ≡ false
+  pub inside : p ≤ r.subject.end
+  pub tail :
+      (q : ℕ) (m : Marks) → p ≤ q → q ≤ r.subject.end → HereIn r pl start cs (spot_at (Instruction (tail_of g)) fs q m)
+
+-- what waits: the regions that are in progress, each in the body of the one before, and below them choices that are
+-- settled
+abbrev pub Settling : (r : Run) → Unforked r → ℕ → List Choice → Type 0
+Settling r pl start [] = ⊤
+Settling r pl start (Else pt fs c m ∷ cs) =
+    SettledIn r pl start (spot_at pt fs c.position m) × EachChoice (SettledIn r pl start) cs
+Settling r pl start (Keep g fs c m ∷ cs) = Reopens r pl start g fs c.position cs × Settling r pl start cs
+Settling r pl start (Trying i fs c m ∷ cs) =
+    SettledIn r pl start (spot_at (Instruction i) fs c.position m) × EachChoice (SettledIn r pl start) cs
+
 -- so much potential is left beside that of what waits
-pub record Fares (r : Run) (pl : Regionless r) (limit : Limit) (n : ℕ) (cs : List Choice) : Type 0 where
-  pub settled : EachChoice (SettledIn r pl limit.start) cs
+pub record Fares (r : Run) (pl : Unforked r) (limit : Limit) (n : ℕ) (cs : List Choice) : Type 0 where
+  pub settled : Settling r pl limit.start cs
   pub trying : tried_spots cs ≡ limit.trying
   pub left : n + waiting r.words r.subject.end cs + limit.taken
       ≤ limit.granted + limit.tolls * grant r.words
 
 -- and the machine stands at a spot
-pub record FaresAt (r : Run) (pl : Regionless r) (limit : Limit) (n : ℕ) (x : Spot) (cs : List Choice) : Type 0 where
-  pub here : SettledIn r pl limit.start x
+pub record FaresAt (r : Run) (pl : Unforked r) (limit : Limit) (n : ℕ) (x : Spot) (cs : List Choice) : Type 0 where
+  pub here : HereIn r pl limit.start cs x
   pub fares : Fares r pl limit n cs
 
--- or at one of two, of which the second waits
-pub record FaresBoth (r : Run) (pl : Regionless r) (limit : Limit) (x y : Spot) (cs : List Choice) : Type 0 where
+-- or at one of two, of which the second waits; no region is in progress
+pub record FaresBoth (r : Run) (pl : Unforked r) (limit : Limit) (x y : Spot) (cs : List Choice) : Type 0 where
   pub first : SettledIn r pl limit.start x
   pub second : SettledIn r pl limit.start y
+  pub outside : EachChoice (SettledIn r pl limit.start) cs
   pub fares : Fares r pl limit (potential_of r.words r.subject.end x + potential_of r.words r.subject.end y + 2) cs
+
+-- what the place behind the innermost region needs, and a turn to come there
+abbrev pub behind_share : List ℕ → ℕ → List Choice → ℕ
+behind_share ws n [] = n
+behind_share ws n (Else pt fs c m ∷ cs) = n
+behind_share ws n (Keep g fs c m ∷ cs) = 2 * (length ws - tail_of g) + 3 + 1
+behind_share ws n (Trying i fs c m ∷ cs) = n
+
+-- the innermost region ends at a position
+abbrev pub EndsIn : Run → List Choice → ℕ → Type 0
+EndsIn r [] p = ⊤
+EndsIn r (Else pt fs c m ∷ cs) p = ⊤
+EndsIn r (Keep g fs c m ∷ cs) p = (goes_behind g ≡ true → c.position ≤ p) × (p ≤ r.subject.end)
+EndsIn r (Trying i fs c m ∷ cs) p = ⊤
+
+-- what is left where the machine goes back, and where the innermost region, or the whole, ends
+abbrev pub FaresBack : (r : Run) → Unforked r → Limit → List Choice → Type 0
+FaresBack r pl limit cs = Fares r pl limit (behind_share r.words 0 cs) cs
+
+pub record FaresEnd (r : Run) (pl : Unforked r) (limit : Limit) (p : ℕ) (cs : List Choice) : Type 0 where
+  pub at : EndsIn r cs p
+  pub fares : Fares r pl limit (behind_share r.words 2 cs) cs
 
 -- the opcode of an instruction
 abbrev pub CodeAt : List ℕ → Point → SreOpcode → Type 0

@@ -26,9 +26,10 @@ use Rattle.sre_turns.specs.declared.Point.{Point}
 use Rattle.sre_turns.specs.Moves.{Spot, spot_at, closing_move}
 pub use Rattle.sre_turns.specs.Turning.{InRole, MovesAt, Moves, Runs, turns, Comes, stops, ends, goes, splits, enters}
 use Rattle.sre_turns.specs.Potential.{potential_of}
-use Rattle.sre_turns.specs.Settled.{Regionless, SettledIn}
-use Rattle.sre_turns.specs.Limits.{Limit, earlier, Stage, Coming, Going, Splitting, spare, share, CodeAt, Fares}
-use Rattle.sre_turns.specs.Limits.{FaresAt, FaresBoth}
+use Rattle.sre_turns.specs.Settled.{Unforked, SettledIn}
+use Rattle.sre_turns.specs.Straight.{InBody}
+use Rattle.sre_turns.specs.Limits.{Limit, earlier, Stage, Coming, Going, Splitting, spare, share, CodeAt}
+use Rattle.sre_turns.specs.Limits.{FaresAt, FaresBoth, FaresBack, FaresEnd}
 use Rattle.sre_turns.specs.declared.Next.{Next}
 use Rattle.sre_turns.specs.declared.Next.TheVariants as next
 
@@ -76,7 +77,7 @@ pub record GoesWith (stage : Stage) (r : Run) (all : List Way) (limit : Limit) (
   pub runs : Runs r.words r.subject (spot pt c b) now turns
   pub waits : Waits r b.choices (turns + spare stage) now all later
   pub within : turns + later ≤ limit.turns
-  pub fares : (pl : Regionless r) (o : SreOpcode) → CodeAt r.words pt o
+  pub fares : (pl : Unforked r) (o : SreOpcode) → CodeAt r.words pt o
       → FaresAt r pl limit (share stage r.words r.subject.end o (spot pt c b)) (spot pt c b) b.choices
   pub confined : MarklessRegions r.words → StandsConfined r.words (spot pt c b) b.choices
 
@@ -107,7 +108,7 @@ pub record GoesBoth (r : Run) (all : List Way) (limit : Limit) (first second : S
   pub others : Runs r.words r.subject second next further
   pub waits : Waits r cs (turns + further + 2) (now ++ next) all later
   pub within : turns + further + later + 2 ≤ limit.turns
-  pub fares : (pl : Regionless r) → FaresBoth r pl limit first second cs
+  pub fares : (pl : Unforked r) → FaresBoth r pl limit first second cs
   pub confined : MarklessRegions r.words → BothConfined r.words first second cs
 
 -- the innermost region has no more outcomes
@@ -115,7 +116,7 @@ pub record Backs (r : Run) (all : List Way) (limit : Limit) (b : BoardValue) : T
   pub later : ℕ
   pub waits : Waits r b.choices 0 [] all later
   pub within : later ≤ limit.turns
-  pub fares : (pl : Regionless r) → Fares r pl limit 0 b.choices
+  pub fares : (pl : Unforked r) → FaresBack r pl limit b.choices
   pub confined : MarklessRegions r.words → ChoicesConfined r.words b.choices
 
 -- the innermost region ends at a cursor
@@ -125,7 +126,7 @@ pub record Ends (r : Run) (all : List Way) (limit : Limit) (c : StringCursor) (b
   pub placed : Placed r.subject b.marks
   pub waits : Waits r b.choices 0 (here c.position b.marks) all later
   pub within : later + 1 ≤ limit.turns
-  pub fares : (pl : Regionless r) → Fares r pl limit 2 b.choices
+  pub fares : (pl : Unforked r) → FaresEnd r pl limit c.position b.choices
   pub confined : MarklessRegions r.words → ChoicesConfined r.words b.choices
 
 abbrev pub Stands : Run → List Way → Limit → Next → BoardValue → Type 0
@@ -264,9 +265,14 @@ pub record Continues (r : Run) (pt : Point) (c : StringCursor) (pt' : Point) (c'
   pub runs : (fs : List Frame) (m : Marks) (os : List Way) (n : ℕ)
       → Runs r.words r.subject (spot_at pt fs c.position m) os n
       → (k : ℕ) × (k ≤ n) × Runs r.words r.subject (spot_at pt' fs c'.position m) os k
-  pub fares : (pl : Regionless r) (start : ℕ) (fs : List Frame) (m : Marks)
+  pub fares : (pl : Unforked r) (start : ℕ) (fs : List Frame) (m : Marks)
       → SettledIn r pl start (spot_at pt fs c.position m)
       → SettledIn r pl start (spot_at pt' fs c'.position m)
+      × (potential_of r.words r.subject.end (spot_at pt' fs c'.position m)
+      ≤ potential_of r.words r.subject.end (spot_at pt fs c.position m))
+  pub bodies : (g : Region) (entered : ℕ) (fs : List Frame) (m : Marks)
+      → InBody r g entered (spot_at pt fs c.position m)
+      → InBody r g entered (spot_at pt' fs c'.position m)
       × (potential_of r.words r.subject.end (spot_at pt' fs c'.position m)
       ≤ potential_of r.words r.subject.end (spot_at pt fs c.position m))
   pub confines : (fs : List Frame) → IsConfined r.words pt (repeats fs) → IsConfined r.words pt' (repeats fs)

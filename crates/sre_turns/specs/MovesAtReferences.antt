@@ -5,7 +5,7 @@ use Rattle.std.specs.Prelude.{ℕ, ◌+◌, ◌-◌, ◌≡◌, ◌<◌, ◌≤�
 use Rattle.std.specs.Prelude.{None}
 use Rattle.sre_chars.specs.declared.constants.SreOpcode.{SreOpcode}
 use Rattle.sre_model.specs.Tree.{Tree, Fold}
-use Rattle.sre_model.specs.References.{refers, asked_from}
+use Rattle.sre_model.specs.References.{refers, asked_from, asked_to}
 use Rattle.sre_model.specs.Roles.{Role, ToRefer, ToCheckGroup, role}
 use Rattle.sre_model.specs.Marks.{Marks, group}
 use Rattle.sre_model.specs.Subject.{Subject, same_folded}
@@ -17,9 +17,9 @@ use Rattle.sre_turns.specs.Moves.{Spot, to_point, to_place, Move, Stop, Go}
 abbrev pub HasReference : List ℕ → Type 0
 HasReference ws = (t : Tree) → WholeItems ws t → refers t ≡ true
 
--- there is a reference or a condition, and no reference is to a group before this one
+-- there is a reference or a condition, and this group is one of those from the first that is asked for up to the last
 abbrev pub MayAsk : List ℕ → ℕ → Type 0
-MayAsk ws g = HasReference ws × ((t : Tree) → WholeItems ws t → asked_from t ≤ g)
+MayAsk ws g = HasReference ws × ((t : Tree) → WholeItems ws t → (asked_from t ≤ g) × (g ≤ asked_to t))
 
 -- whether an opcode of this role asks for a group
 abbrev pub asks : Role → Bool
@@ -35,9 +35,9 @@ pub record Named (ws : List ℕ) (g : ℕ) : Type 0 where
   pub asks : asks (role opcode) ≡ true
   pub there : Word ws (place + 1) g
 
--- the words may ask for a group: one that stands behind such an opcode, from the least one on that a reference is to
+-- the words may ask for a group, which stands behind such an opcode
 abbrev pub Asks : List ℕ → ℕ → Type 0
-Asks ws g = HasReference ws × ((t : Tree) → WholeItems ws t → asked_from t ≤ g) × Named ws g
+Asks ws g = MayAsk ws g × Named ws g
 
 -- what comes of a reference whose tail is at t: nothing of a group that is missing
 abbrev pub reference_turn : Subject → Fold → ℕ → ℕ → Spot → Move

@@ -2,7 +2,7 @@
 -- instruction that may branch is gone on with. Such an instruction brings tolls of its own, which pay for the rest.
 -- Of the law that a search takes few turns (an amortised count). What sre_engine makes
 -- public does not rest on it.
-use Rattle.std.specs.Prelude.{⊤, ℕ, zero, suc, ◌+◌, ◌-◌, ◌*◌, ◌≤◌, List, length, cond, min, nat_eq}
+use Rattle.std.specs.Prelude.{ℕ, zero, suc, ◌+◌, ◌-◌, ◌*◌, ◌≤◌, List, length, cond, min, nat_eq}
 use Rattle.sre_model.specs.Tree.{GreedyRun, LazyRun}
 use Rattle.sre_model.specs.Ways.{unlimited}
 use Rattle.sre_model.specs.Grammar.{word}
@@ -60,4 +60,4 @@ Spends ws e n Stop = 1 ≤ n
 Spends ws e n End = 3 ≤ n
 Spends ws e n (Go y) = potential_of ws e y + 1 ≤ n
 Spends ws e n (Split y z) = potential_of ws e y + potential_of ws e z + 2 ≤ n
-Spends ws e n (Enter g y z) = ⊤
+Spends ws e n (Enter g y z) = potential_of ws e z + 1 ≤ n

@@ -1,10 +1,10 @@
-//! From which group on the items ask for groups: a scan from one instruction to the next, into each body, as that of
-//! the runs' counts.
+//! From which group on the items ask for groups, and up to which: a scan from one instruction to the next, into each
+//! body, as that of the runs' counts.
 
-ghost use Rattle.std.specs.Prelude.{◌≡◌, Option};
+ghost use Rattle.std.specs.Prelude.{◌≡◌, Option, min};
 ghost use Rattle.sre_model.specs.Tree.{Tree};
 ghost use Rattle.sre_model.specs.Grammar.{WholeItems};
-ghost use Rattle.sre_model.specs.References.{asked_from};
+ghost use Rattle.sre_model.specs.References.{asked_from, asked_to, no_group};
 ghost use Rattle.sre_code.specs.Instructions.{AskingAt};
 
 use crate::code::run_counts::next;
@@ -15,13 +15,20 @@ use sre_chars::constants::SreOpcode;
 /// No group: no pattern has so many.
 pub const NO_GROUP: u32 = u32::MAX;
 
-/// Where the instruction behind the one at this place stands, and to which group the reference at this place is; none
-/// where a condition is there.
-fn next_asking(words: &[u32], place: usize) -> Option<(usize, u32)>
+/// The first and the last of the groups that are asked for.
+#[derive(Clone, Copy)]
+pub struct AskedGroups {
+    pub from: u32,
+    pub to: u32,
+}
+
+/// Where the instruction behind the one at this place stands, and to which group the reference at this place is, if it
+/// is one; none where a condition is there.
+fn next_asking(words: &[u32], place: usize) -> Option<(usize, Option<u32>)>
     ensures { AskingAt words.now place result }
 {
     if let Some((behind, _)) = next(words, place) {
-        return Some((behind, NO_GROUP));
+        return Some((behind, None));
     }
     let Ok(code) = words::opcode(words, place) else {
         return None;
@@ -30,26 +37,34 @@ fn next_asking(words: &[u32], place: usize) -> Option<(usize, u32)>
         SreOpcode::GROUPREF
         | SreOpcode::GROUPREF_IGNORE
         | SreOpcode::GROUPREF_LOC_IGNORE
-        | SreOpcode::GROUPREF_UNI_IGNORE => Some((place + 2, word_or_zero(words, place + 1))),
+        | SreOpcode::GROUPREF_UNI_IGNORE => {
+            Some((place + 2, Some(word_or_zero(words, place + 1))))
+        }
         _ => None,
     }
 }
 
-/// From which group on the items ask for groups, which have SUCCESS as the last word: no reference among them is to one
-/// before. It is 0 where a condition is among them, and no group where they have neither.
-#[tactic(auto, using(crate::proofs::Asking::asking_laws))]
-pub fn asked_from(words: &[u32]) -> u32
-    ensures { (tree : Tree) → WholeItems words.now tree → result ≡ asked_from tree }
+/// Which groups the items ask for, which have SUCCESS as the last word. No reference among them is to a group before
+/// the first one, or to one behind the last. Where a condition is among them they are the group 0 and no group, and
+/// where they have neither, no group and the group 0.
+pub fn asked(words: &[u32]) -> AskedGroups
+    ensures from { (tree : Tree) → WholeItems words.now tree → result.from ≡ asked_from tree }
+    ensures to { (tree : Tree) → WholeItems words.now tree → result.to ≡ min no_group (asked_to tree) }
 {
-    let last = words.len().saturating_sub(1);
+    let end = words.len().saturating_sub(1);
     let mut place = 0;
-    let mut least = NO_GROUP;
-    'instruction: while place < last {
+    let mut from = NO_GROUP;
+    let mut to = 0;
+    'instruction: while place < end {
         let Some((behind, group)) = next_asking(words, place) else {
-            return 0;
+            return AskedGroups {
+                from: 0,
+                to: NO_GROUP,
+            };
         };
-        least = least.min(group);
+        from = from.min(group.unwrap_or(NO_GROUP));
+        to = to.max(group.unwrap_or(0));
         place = behind;
     }
-    least
+    AskedGroups { from, to }
 }

@@ -7,7 +7,7 @@ ghost use Rattle.sre_code.specs.Refusals.{place_of};
 ghost use Rattle.sre_code.specs.Codes.{words_of, uni_of};
 ghost use Rattle.sre_growth.specs.Refusal.{Refused};
 
-use crate::code::asked::asked_from;
+use crate::code::asked::asked;
 use crate::code::descent::descend;
 use crate::code::{Code, CodeError, block, claims, run_counts};
 use sre_chars::string::LentTable;
@@ -40,7 +40,7 @@ pub fn check_in<'a, A: Allocator + Copy>(
         uni,
         hints: claims::confirmed(words, length, uni, items, least),
         refers: counts.is_none(),
-        asked_from: asked_from(items),
+        asked_from: asked(items).from,
         most_counts: counts.unwrap_or(u32::MAX),
     })
 }

@@ -1,17 +1,23 @@
-//! Whether a region's body sets a mark: a scan of single words, whatever they are.
+//! Whether a region's body sets a mark.
 //!
 //! A region is an atomic group, a look or a possessive loop. Behind its opcode stands a skip, which tells where the
-//! SUCCESS stands that ends its body. The scan has no stack, and does not know where an instruction begins. So where
-//! operands have such numbers it may see a region or a mark that is none; but it sees each that is there.
+//! SUCCESS stands that ends its body. A first scan goes from one instruction to the next, and past each region whose
+//! body has no mark. It has no stack, so it can't go past a condition, and says yes where the items refer to groups.
+//! There a second one goes by single words. It does not know where an instruction begins, so where operands have such
+//! numbers it may see a region or a mark that is none; but it sees each that is there.
 
-ghost use Rattle.std.specs.Prelude.{◌≡◌, ◌<◌, ◌≤◌, ◌+◌, ℕ, false, length};
+ghost use Rattle.std.specs.Prelude.{◌≡◌, ◌<◌, ◌≤◌, ◌+◌, ℕ, false, length, IfSome};
 ghost use Rattle.sre_chars.specs.declared.constants.SreOpcode.TheVariants as opcode;
 ghost use Rattle.sre_model.specs.Tree.{Tree};
 ghost use Rattle.sre_model.specs.Roles.{role};
 ghost use Rattle.sre_model.specs.Grammar.{Opcode, WholeItems};
 ghost use Rattle.sre_model.specs.MarksSet.{marks_in_regions};
+ghost use Rattle.sre_model.specs.References.{refers};
 ghost use Rattle.sre_code.specs.RegionWords.{closing_place, RegionWord};
+ghost use Rattle.sre_code.specs.UnmarkedRegions.{body_offset, UnmarkedAt, MarkedOrRefers};
 
+use crate::code::run_counts::next;
+use crate::code::sought::{Sought, has_or_refers};
 use crate::code::words;
 use crate::operands::word_or_zero;
 use sre_chars::constants::SreOpcode;
@@ -57,8 +63,8 @@ fn is_mark_before(words: &[u32], place: usize, end: usize) -> bool
     place < end && word_or_zero(words, place) == SreOpcode::MARK as u32
 }
 
-/// Whether a region of the items sets a mark, which have SUCCESS as the last word. It may say yes where none does.
-pub fn regions_set_marks(items: &[u32]) -> bool
+/// Whether a region of the items may set a mark, which have SUCCESS as the last word, by single words.
+fn may_set_marks(items: &[u32]) -> bool
     ensures { result ≡ false → (tree : Tree) → WholeItems items.now tree → marks_in_regions tree ≡ false }
 {
     let last = items.len().saturating_sub(1);
@@ -73,4 +79,63 @@ pub fn regions_set_marks(items: &[u32]) -> bool
         place += 1;
     }
     false
+}
+
+/// How far behind the opcode of a region its body begins.
+fn body_offset(code: SreOpcode) -> usize
+    ensures { result ≡ body_offset (role code) }
+{
+    match code {
+        SreOpcode::POSSESSIVE_REPEAT => 4,
+        SreOpcode::ATOMIC_GROUP => 2,
+        SreOpcode::ASSERT | SreOpcode::ASSERT_NOT => 3,
+        _ => 0,
+    }
+}
+
+/// Where the instruction behind the one at this place stands, or what is behind the region that begins here; none where
+/// that sets a mark or refers, or where a reference or a condition is here.
+fn next_unmarked(words: &[u32], place: usize) -> Option<usize>
+    ensures told { UnmarkedAt words.now place result }
+    ensures forward { IfSome result (λ k. place < k) }
+{
+    let Ok(code) = words::opcode(words, place) else {
+        return None;
+    };
+    let tail = place + 1 + word_or_zero(words, place + 1) as usize;
+    let Some(end) = closing_place(code, tail) else {
+        return match next(words, place) {
+            Some((behind, _)) => Some(behind),
+            None => None,
+        };
+    };
+    if has_or_refers(words, place + body_offset(code), end, Sought::Mark) {
+        return None;
+    }
+    Some(end + 1)
+}
+
+/// Whether a region of the items sets a mark, which have SUCCESS as the last word, or the items refer to groups.
+fn set_marks_or_refer(items: &[u32]) -> bool
+    ensures { MarkedOrRefers items.now result }
+{
+    let last = items.len().saturating_sub(1);
+    let mut place = 0;
+    'instruction: while place < last {
+        let Some(behind) = next_unmarked(items, place) else {
+            return true;
+        };
+        place = behind;
+    }
+    false
+}
+
+/// Whether a region of the items sets a mark, which have SUCCESS as the last word. It may say yes where none does, if
+/// the items refer to groups.
+pub fn regions_set_marks(items: &[u32]) -> bool
+    ensures none { result ≡ false → (tree : Tree) → WholeItems items.now tree → marks_in_regions tree ≡ false }
+    ensures told { (tree : Tree) → WholeItems items.now tree → refers tree ≡ false
+        → result ≡ marks_in_regions tree }
+{
+    set_marks_or_refer(items) && may_set_marks(items)
 }

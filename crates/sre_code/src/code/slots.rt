@@ -3,14 +3,18 @@
 //!
 //! A call goes over what is not in a loop, and calls itself for each loop's body. The slots of loops within each other
 //! are multiplied, each has at least two, and no more are counted than a number that is asked for: so there are few
-//! calls within each other. A region, a reference or a condition ends the scan.
+//! calls within each other.
+//!
+//! An atomic group or a look is passed whole where its body does not fork: then it has neither loops nor branches. One
+//! whose body does ends the scan, and so do a possessive loop, a reference and a condition.
 
 ghost use Rattle.std.specs.Prelude.{◌≡◌, ◌<◌, ◌≤◌, length, IfSome};
 ghost use Rattle.sre_model.specs.Roles.{role};
 ghost use Rattle.sre_model.specs.Slots.{loop_slots};
-ghost use Rattle.sre_code.specs.PlainItems.{kind_of, AreTold, AreCounted, LoopTold, OtherTold, ToldAt};
+ghost use Rattle.sre_code.specs.PlainItems.{kind_of, AreTold, AreCounted, LoopTold, RegionTold, OtherTold, ToldAt};
 
 use crate::code::run_counts::{counted_to, next};
+use crate::code::sought::{Sought, has_or_refers};
 use crate::code::words;
 use crate::operands::word_or_zero;
 use sre_chars::constants::SreOpcode;
@@ -29,8 +33,10 @@ pub struct Passed {
 enum Kind {
     Loop,
     Branch,
-    /// What is matched apart: an atomic group, a look or a possessive loop.
-    Region,
+    AtomicGroup,
+    /// A look ahead or behind.
+    Look,
+    PossessiveLoop,
     Other,
 }
 
@@ -40,10 +46,9 @@ fn kind_of(code: SreOpcode) -> Kind
     match code {
         SreOpcode::REPEAT => Kind::Loop,
         SreOpcode::BRANCH => Kind::Branch,
-        SreOpcode::POSSESSIVE_REPEAT
-        | SreOpcode::ATOMIC_GROUP
-        | SreOpcode::ASSERT
-        | SreOpcode::ASSERT_NOT => Kind::Region,
+        SreOpcode::ATOMIC_GROUP => Kind::AtomicGroup,
+        SreOpcode::ASSERT | SreOpcode::ASSERT_NOT => Kind::Look,
+        SreOpcode::POSSESSIVE_REPEAT => Kind::PossessiveLoop,
         _ => Kind::Other,
     }
 }
@@ -72,7 +77,8 @@ fn alternatives(words: &[u32], first: usize) -> u64
     count
 }
 
-/// What is passed by an instruction that is neither a loop nor a branch; none where a reference or a condition is here.
+/// What is passed by an instruction that is neither a loop nor a branch nor a region; none where a reference or a
+/// condition is here.
 fn other(words: &[u32], place: usize) -> Option<Passed>
     ensures told { OtherTold words.now place result }
     ensures forward { IfSome result (λ p. place < p.behind) }
@@ -86,6 +92,25 @@ fn other(words: &[u32], place: usize) -> Option<Passed>
         }),
         None => None,
     }
+}
+
+/// What is passed by the atomic group or the look at this place, whose body begins at `body`; none where the body forks
+/// or refers to groups.
+fn region(words: &[u32], place: usize, body: usize) -> Option<Passed>
+    requires here { place < length words.now }
+    ensures told { RegionTold words.now place body result }
+    ensures forward { IfSome result (λ p. place < p.behind) }
+    ensures one { IfSome result (λ p. p.slots ≡ 1) }
+{
+    let end = place + word_or_zero(words, place + 1) as usize;
+    if has_or_refers(words, body, end, Sought::Fork) {
+        return None;
+    }
+    Some(Passed {
+        behind: end + 1,
+        slots: 1,
+        alternatives: 0,
+    })
 }
 
 /// What is passed by the loop at this place, its body and what ends it; none where that is not plain.
@@ -116,8 +141,9 @@ fn looped(words: &[u32], place: usize, most: u64) -> Option<Passed>
     }
 }
 
-/// What is passed by the instruction at this place, which is a whole loop where one begins here; none where a region, a
-/// reference or a condition does, or where a loop is not plain.
+/// What is passed by the instruction at this place, which is a whole loop, atomic group or look where one begins here;
+/// none where a possessive loop, a reference or a condition does, a region whose body forks, or a loop that is not
+/// plain.
 #[cycle(plain)]
 fn part(words: &[u32], place: usize, most: u64) -> Option<Passed>
     requires some { 1 ≤ most }
@@ -135,13 +161,15 @@ fn part(words: &[u32], place: usize, most: u64) -> Option<Passed>
             slots: 1,
             alternatives: alternatives(words, place + 1),
         }),
-        Kind::Region => None,
+        Kind::AtomicGroup => region(words, place, place + 2),
+        Kind::Look => region(words, place, place + 3),
+        Kind::PossessiveLoop => None,
         Kind::Other => other(words, place),
     }
 }
 
-/// The slots and the alternatives of the items from `start` up to `end`; none where a region, a reference or a
-/// condition is among them, or where they have more slots than `most`.
+/// The slots and the alternatives of the items from `start` up to `end`; none where a possessive loop, an atomic group
+/// or a look whose body forks, a reference or a condition is among them, or where they have more slots than `most`.
 #[cycle(plain)]
 pub fn scan(words: &[u32], start: usize, end: usize, most: u64) -> Option<Passed>
     requires some { 1 ≤ most }

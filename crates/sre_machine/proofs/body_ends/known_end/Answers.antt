@@ -12,4 +12,5 @@ returns g c =
     let plain : c.args.keeping ≡ Unmarked = search rules in
     known_there c.args.req.now c.args.place c.position.result c.args.cursor b c.args.memo.now c.items.result.now
     (c.items.ensures.same ∙ ap items_of c.pattern_codes.ensures) c.position.ensures inside
+    (c.may_branch.ensures.forks (search rules))
     (c.requires.keeping.unmarked plain) c.requires.remembers c.end.ensures.laid c.end.result c.end.ensures.told

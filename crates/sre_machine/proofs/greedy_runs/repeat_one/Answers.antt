@@ -15,16 +15,17 @@ is_in_vain-requires-clause-test g c = c.run_operands-operands.ensures.operands.t
 pub returns-then-is_in_vain : goal.returns-then-is_in_vain
 returns-then-is_in_vain g c =
     let r = run_of c.args.req.now in
-    exhausted_back r _ c.args.cursor c.args.board.now
+    rw c.is_in_vain.ensures.board
+    (exhausted_back r _ c.args.cursor c.args.board.now
     (run_refuses r _ _ _ _ c.args.cursor.position c.requires.opcode c.run_operands-operands.ensures.operands
-    (c.is_in_vain.ensures c.if-is_in_vain.true))
+    (c.is_in_vain.ensures.told c.if-is_in_vain.true)))
 
 pub longest_run-run-requires-clause-test : goal.longest_run-run-requires-clause-test
 longest_run-run-requires-clause-test g c = c.run_operands-operands.ensures.operands.test
 
 pub returns-then-run-operands : goal.returns-then-run-operands
 returns-then-run-operands g c =
-    rw c.pass.ensures
+    rw (c.pass.ensures, c.is_in_vain.ensures.board)
     (run_short (run_of c.args.req.now) _ _ _ _ c.longest_run-run.result.count c.args.cursor c.args.board.now
     c.requires.opcode c.run_operands-operands.ensures.operands c.longest_run-run.ensures.count
     c.if-run-operands.true)
@@ -52,7 +53,7 @@ returns-then-lacks g c = λ all limit x.
     c.run_operands-operands.ensures.operands c.longest_run-run.ensures.count c.if-run-operands.false
     c.longest_run-run.ensures.position c.longest_run-run.ensures.stands c.args.board.now all limit x in
     c.in_ok-shorter.ensures all limit
-    (rw c.pass.ensures (both_pass r _ _ c.longest_run-run.result.end c.args.board.now
+    (rw (c.pass.ensures, c.is_in_vain.ensures.board) (both_pass r _ _ c.longest_run-run.result.end c.args.board.now
     shorter_free (c.lacks.ensures c.if-lacks.true _ c.first_literal-wanted.ensures) all limit both))
 
 pub returns-then-is_only : goal.returns-then-is_only
@@ -67,7 +68,7 @@ returns-then-is_only g c = λ all limit x.
     c.run_operands-operands.ensures.operands c.longest_run-run.ensures.count c.if-run-operands.false
     c.longest_run-run.ensures.position c.longest_run-run.ensures.stands _
     (c.is_only_count-is_only.ensures c.if-is_only.true) c.first_literal-wanted.ensures in
-    rw c.pass.ensures
+    rw (c.pass.ensures, c.is_in_vain.ensures.board)
     (exhausted_back r _ c.longest_run-run.result.end c.args.board.now none all limit
     (both_pass r _ _ c.longest_run-run.result.end c.args.board.now
     shorter_free (c.lacks.ensures c.if-lacks.true _ c.first_literal-wanted.ensures) all limit both))
@@ -84,13 +85,13 @@ returns-then-is_only-2 g c = λ all limit x.
     c.run_operands-operands.ensures.operands c.longest_run-run.ensures.count c.if-run-operands.false
     c.longest_run-run.ensures.position c.longest_run-run.ensures.stands _
     (c.is_only_count-is_only.ensures c.if-is_only-2.true) c.first_literal-wanted.ensures in
-    rw c.pass.ensures
+    rw (c.pass.ensures, c.is_in_vain.ensures.board)
     (both_exhausted r _ _ c.longest_run-run.result.end c.args.board.now none all limit both)
 
 pub returns : goal.returns
 returns g c = λ all limit x.
     c.in_ok-choose.ensures all limit
-    (rw c.pass.ensures
+    (rw (c.pass.ensures, c.is_in_vain.ensures.board)
     (run_both (run_of c.args.req.now) _ _ _ _ c.longest_run-run.result.count c.args.cursor
     c.longest_run-run.result.end c.requires.opcode c.run_operands-operands.ensures.operands
     c.longest_run-run.ensures.count c.if-run-operands.false c.longest_run-run.ensures.position

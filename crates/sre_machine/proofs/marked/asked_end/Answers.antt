@@ -1,15 +1,11 @@
-use Rattle.std.proofs.Common.{refl, arith}
-use Rattle.sre_machine.proofs.AskedGroups.{covers_next, covers_end, told_here}
+use Rattle.std.proofs.Common.{subst, sym, arith}
+use Rattle.sre_turns.specs.MovesAtReferences.{Named}
+use Rattle.sre_machine.proofs.Failing.{asked_last}
 use Rattle.sre_machine.proofs.marked.asked_end.Goals as goal
 
-pub word-preserved : goal.word-preserved
-word-preserved c = record {
-  some = omega arith;
-  covers = covers_next c.args.words.now c.word.place c.word.end c.end_with-end.result c.word.invariant.some
-      c.word.invariant.covers c.end_with-end.ensures.grows
-      (told_here c.args.words.now c.word.place c.end_with-end.result _ _ refl refl c.end_with-end.ensures.told);
-}
+pub returns-then-last : goal.returns-then-last
+returns-then-last c = λ g asked.
+    c.named_end.ensures g (subst (λ ws. Named ws g) (sym c.items.ensures.same) asked.1)
 
 pub returns : goal.returns
-returns c =
-    covers_end c.args.words.now c.word.place c.word.end (omega (arith, c.word-test.false)) c.word.invariant.covers
+returns c = asked_last c.args.code.now c.asked_to-last.result c.asked_to-last.ensures (omega arith)

@@ -33,7 +33,7 @@ returns-in-Failed-clause-leaves g c =
       hopeless_left r c.args.place c.args.cursor b no_marks c.requires.unmarked
           (remembers_still r no_marks _ _ c.prepare.ensures.makes.grows.no_more c.requires.remembers.plain inside x
           held) all limit arrives,
-      pays_prepared c.args.req.now c.args.place c.args.cursor b c.args.memo.now m p all limit arrives,
+      pays_prepared c.args.req.now c.args.place c.args.cursor b c.args.memo.now m p c.requires.forks all limit arrives,
     ))
 
 pub returns-in-Failed-clause-remembers : goal.returns-in-Failed-clause-remembers
@@ -84,7 +84,7 @@ returns-in-Open-clause-leaves g c =
     let opened = subst (λ p. IsOpen m.kept r.words inside (record x { position = p })) c.position.ensures
     (subst (λ (ws : List ℕ). IsOpen m.kept ws inside (record x { position = c.position.result })) same
     c.in-Open.ensures) in
-    goes_tried c.args.req.now c.args.place c.args.cursor b c.args.memo.now m p all limit arrives
+    goes_tried c.args.req.now c.args.place c.args.cursor b c.args.memo.now m p c.requires.forks all limit arrives
     c.begin_trying-made.new.self c.begin_trying-made.result c.begin_trying-made.ensures.marked
     c.begin_trying-made.ensures.left c.begin_trying-made.ensures.refused opened)
 
@@ -102,7 +102,7 @@ returns-in-Open-clause-tries g c = λ _ all limit arrives.
     let opened = subst (λ p. IsOpen m.kept r.words inside (record x { position = p })) c.position.ensures
     (subst (λ (ws : List ℕ). IsOpen m.kept ws inside (record x { position = c.position.result })) same
     c.in-Open.ensures) in
-    tries_tried c.args.req.now c.args.place c.args.cursor b c.args.memo.now m p all limit arrives
+    tries_tried c.args.req.now c.args.place c.args.cursor b c.args.memo.now m p c.requires.forks all limit arrives
     c.begin_trying-made.new.self c.begin_trying-made.result c.begin_trying-made.ensures.marked
     c.begin_trying-made.ensures.left c.begin_trying-made.ensures.refused opened
 
@@ -122,7 +122,8 @@ returns-in-NoBit-clause-leaves g c =
     let none = subst (λ p. HasBit m.kept r.words inside (record x { position = p }) → ⊥) c.position.ensures
     (subst (λ (ws : List ℕ). HasBit m.kept ws inside (record x { position = c.position.result }) → ⊥) same
     c.in-NoBit.ensures) in
-    goes_untried c.args.req.now c.args.place c.args.cursor b c.args.memo.now m p all limit arrives none)
+    goes_untried c.args.req.now c.args.place c.args.cursor b c.args.memo.now m p c.requires.forks all limit arrives
+    none)
 
 pub returns-in-NoBit-clause-tries : goal.returns-in-NoBit-clause-tries
 returns-in-NoBit-clause-tries g c = λ _ all limit arrives.
@@ -138,4 +139,5 @@ returns-in-NoBit-clause-tries g c = λ _ all limit arrives.
     let none = subst (λ p. HasBit m.kept r.words inside (record x { position = p }) → ⊥) c.position.ensures
     (subst (λ (ws : List ℕ). HasBit m.kept ws inside (record x { position = c.position.result }) → ⊥) same
     c.in-NoBit.ensures) in
-    tries_untried c.args.req.now c.args.place c.args.cursor b c.args.memo.now m p all limit arrives none
+    tries_untried c.args.req.now c.args.place c.args.cursor b c.args.memo.now m p c.requires.forks all limit arrives
+    none

@@ -14,11 +14,11 @@ returns-then-not-may_branch-clause-leaves g c =
     stays_on c.args.req.now c.args.place c.args.cursor c.args.board.now c.args.board.now c.args.memo.now
     c.args.memo.now (λ x. x) (λ all limit x.
     goes_freely c.args.req.now c.args.place c.args.cursor c.args.board.now c.args.memo.now c.args.memo.now all limit x
-    (c.may_branch.ensures c.if-not-may_branch.true))
+    (c.may_branch.ensures.free c.if-not-may_branch.true))
 
 pub returns-then-not-may_branch-clause-tries : goal.returns-then-not-may_branch-clause-tries
 returns-then-not-may_branch-clause-tries g c = λ _ _ on.
-    absurd (branches_not c.args.req.now c.args.place on (c.may_branch.ensures c.if-not-may_branch.true))
+    absurd (branches_not c.args.req.now c.args.place on (c.may_branch.ensures.free c.if-not-may_branch.true))
 
 pub returns-else-not-may_branch-clause-tries : goal.returns-else-not-may_branch-clause-tries
 returns-else-not-may_branch-clause-tries g c = λ told _ _. c.has_failed.ensures.tries told

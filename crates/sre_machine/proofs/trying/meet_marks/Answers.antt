@@ -1,4 +1,4 @@
-use Rattle.std.proofs.Common.{ap, ◌∙◌}
+use Rattle.std.proofs.Common.{ap}
 use Rattle.sre_code.specs.Codes.{items_of}
 use Rattle.sre_request.specs.Runs.{run_of}
 use Rattle.sre_machine.proofs.Recalling.{recalls_met}
@@ -8,5 +8,5 @@ pub returns-then-may_branch-clause-remembers : goal.returns-then-may_branch-clau
 returns-then-may_branch-clause-remembers g c =
     recalls_met (run_of c.args.req.now) c.args.memo.now c.meets.new.self c.meets.ensures.kept c.meets.ensures.ends
     c.meets.ensures.marked
-    c.items.result.now (c.items.ensures.same ∙ ap items_of c.pattern_codes.ensures) c.meets.ensures.end
+    (items_of c.pattern_codes.result) (ap items_of c.pattern_codes.ensures) c.meets.ensures.end
     c.requires.remembers

@@ -18,7 +18,7 @@ returns-clause-markless g c = λ keeps.
     let w = whole_of code in
     let none : marks_in_regions t ≡ false =
     subst (λ (d : Code). (u : Tree) → Whole (words_of d) u → marks_in_regions u ≡ false) c.pattern_codes.ensures
-    (c.regions_set_marks.ensures (turned c.regions_set_marks.result keeps)) t (whole_items code t w) in
+    (c.regions_set_marks.ensures.none (turned c.regions_set_marks.result keeps)) t (whole_items code t w) in
     markless_regions (run_of c.args.req.now).words t w none
   where
     turned : (b : Bool) → not b ≡ true → b ≡ false

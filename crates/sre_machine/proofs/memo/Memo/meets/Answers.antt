@@ -1,5 +1,6 @@
 use Rattle.std.proofs.Common.{◌≡◌, ℕ, ◌+◌, ◌*◌, ◌<◌, ◌⊎◌, inr, sym, ap, ◌∙◌, subst}
-use Rattle.sre_turns.specs.MovesAtReferences.{Named}
+use Rattle.sre_turns.specs.MovesAtReferences.{Asks}
+use Rattle.sre_code.specs.Codes.{items_of}
 use Rattle.sre_board.specs.Failures.{HoldsNone}
 use Rattle.sre_machine.specs.Memos.{MarkedValue, MemoValue}
 use Rattle.sre_machine.proofs.memo.Memo.meets.Goals as goal
@@ -12,8 +13,8 @@ pub returns-in-Err-clause-end : goal.returns-in-Err-clause-end
 returns-in-Err-clause-end g c =
     subst (λ (m : MarkedValue).
     (c.close.new.self.marked.end ≡ m.end)
-    ⊎ ((u : ℕ) → Named c.args.words.now u → 2 * u + 1 < c.close.new.self.marked.end))
+    ⊎ ((u : ℕ) → Asks (items_of c.args.code.now) u → 2 * u + 1 < c.close.new.self.marked.end))
     (c.is_worn.ensures ∙ ap (λ (m : MemoValue). m.marked) c.self.view_is)
     (subst (λ (m : MarkedValue).
-    (m.end ≡ c.is_worn.new.self.end) ⊎ ((u : ℕ) → Named c.args.words.now u → 2 * u + 1 < m.end))
+    (m.end ≡ c.is_worn.new.self.end) ⊎ ((u : ℕ) → Asks (items_of c.args.code.now) u → 2 * u + 1 < m.end))
     (sym c.close.ensures.marked) c.adopt.ensures.end)

@@ -1,6 +1,6 @@
 use Rattle.std.proofs.Common.{◌-◌, ◌≤◌, length}
 use Rattle.sre_machine.proofs.AskedGroups.{CoversTo}
-use Rattle.sre_machine.proofs.marked.asked_end.Given as goal
+use Rattle.sre_machine.proofs.marked.named_end.Given as goal
 
 abbrev pub invariant-word : goal.invariant-word
 invariant-word l = record {

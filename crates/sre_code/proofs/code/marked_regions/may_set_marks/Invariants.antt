@@ -1,6 +1,6 @@
 use Rattle.std.proofs.Common.{◌-◌, length}
 use Rattle.sre_code.proofs.MarksOutside.{ScannedTo}
-use Rattle.sre_code.proofs.code.marked_regions.regions_set_marks.Given as goal
+use Rattle.sre_code.proofs.code.marked_regions.may_set_marks.Given as goal
 
 abbrev pub invariant-word : goal.invariant-word
 invariant-word l = ScannedTo l.items l.place l.farthest

@@ -1,0 +1,70 @@
+-- Bodies of regions that do not fork, where the machine has one way to go on at most, and where it stands in one.
+-- Words of the machine's contracts; what sre_engine makes public does not rest on it.
+use Rattle.std.specs.Prelude.{ℕ, ◌+◌, ◌≡◌, ◌≤◌, Bool, true, false, List, []}
+use Rattle.sre_chars.specs.declared.constants.SreOpcode.{SreOpcode}
+use Rattle.sre_chars.specs.declared.constants.SreOpcode.TheVariants as opcode
+use Rattle.sre_model.specs.Tree.{Tree}
+use Rattle.sre_model.specs.Grammar.{Opcode, Reads}
+use Rattle.sre_model.specs.Regions.{forks}
+use Rattle.sre_model.specs.Roles.{Role, ToBranch, ToRun, ToRepeat, ToLoop, ToRepeatPossessively, role}
+use Rattle.sre_model.specs.Runs.{Run}
+use Rattle.sre_turns.specs.declared.Region.TheVariants.{AtomicGroup, Ahead, NotAhead, Owed, Further}
+use Rattle.sre_turns.specs.declared.Region.{Region}
+use Rattle.sre_turns.specs.Lying.{repeats, LiesIn}
+use Rattle.sre_turns.specs.Moves.{Spot}
+
+-- whether the machine may have more than one way to go on at an instruction of this role, or go on more than once
+abbrev pub forking : Role → Bool
+forking ToBranch = true
+forking (ToRun kind) = true
+forking ToRepeat = true
+forking (ToLoop o) = true
+forking ToRepeatPossessively = true
+forking _ = false
+
+-- such an instruction is at a place
+pub record ForksAt (ws : List ℕ) (i : ℕ) : Type 0 where
+  pub code : SreOpcode
+  pub there : Opcode ws i code
+  pub forks : forking (role code) ≡ true
+
+-- where one goes on behind a region; a body of a possessive loop that is owed has no place behind it
+abbrev pub tail_of : Region → ℕ
+tail_of (AtomicGroup t) = t
+tail_of (Ahead t) = t
+tail_of (NotAhead t) = t
+tail_of Owed = 0
+tail_of (Further t) = t
+
+-- whether a region is a body of a possessive loop
+abbrev pub is_possessive : Region → Bool
+is_possessive (AtomicGroup t) = false
+is_possessive (Ahead t) = false
+is_possessive (NotAhead t) = false
+is_possessive Owed = true
+is_possessive (Further t) = true
+
+-- whether a region is gone on from where its body ends
+abbrev pub goes_behind : Region → Bool
+goes_behind (AtomicGroup t) = true
+goes_behind (Ahead t) = false
+goes_behind (NotAhead t) = false
+goes_behind Owed = true
+goes_behind (Further t) = true
+
+-- the body of a region that does not fork: its words, the SUCCESS behind them, and where one goes on behind that
+pub record StraightBody (ws : List ℕ) (t : ℕ) : Type 0 where
+  pub start : ℕ
+  pub end : ℕ
+  pub tree : Tree
+  pub reads : Reads ws start end tree
+  pub ends : Opcode ws end opcode.SUCCESS
+  pub straight : forks tree ≡ false
+  pub behind : t ≡ end + 1
+
+-- a spot stands in such a body of a region that was entered at a position
+pub record InBody (r : Run) (g : Region) (entered : ℕ) (x : Spot) : Type 0 where
+  pub body : StraightBody r.words (tail_of g)
+  pub lies : LiesIn r.words body.start body.end body.tree body.reads [] x.point (repeats x.frames)
+  pub inside : x.position ≤ r.subject.end
+  pub from : goes_behind g ≡ true → entered ≤ x.position
