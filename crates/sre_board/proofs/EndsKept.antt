@@ -1,8 +1,8 @@
 -- The ends that are kept by the numbers of spots: what one end more keeps, that spots with one number are alike, and
 -- that ends which are right stay so.
 -- The machine's memory of where bodies end rests on it.
-use Rattle.std.proofs.Common.{◌≡◌, ℕ, zero, suc, ◌<◌, inl, inr, Bool, true, List, [], ◌∷◌, ◌++◌, length}
-use Rattle.std.proofs.Common.{Some, None, slice_get, slice_set, refl, sym, ap, ◌∙◌, subst, arith}
+use Rattle.std.proofs.Common.{◌≡◌, ℕ, inl, inr, Bool, true, List, [], ◌∷◌, ◌++◌}
+use Rattle.std.proofs.Common.{Option, Some, None, IfNone, sym, ap, ◌∙◌, subst, arith}
 use Rattle.std.specs.List.{AllByRecursion}
 use Rattle.sre_chars.specs.declared.string.StringCursor.{StringCursor}
 use Rattle.sre_model.specs.Marks.{Marks, no_marks}
@@ -12,54 +12,31 @@ use Rattle.sre_turns.specs.BodyEnds.{EndsAt}
 use Rattle.sre_turns.specs.Board.{Choice}
 use Rattle.sre_turns.specs.Moves.{Spot}
 use Rattle.sre_turns.specs.OpenMarks.{EachOpen}
-use Rattle.sre_board.specs.Failures.{Kept, Entry, Laid, BitsStay}
-use Rattle.sre_board.specs.Ends.{HoldsEnd, HoldsNoEnd, HoldsOneEndMore, NumberOf, EndRight, EndsRight}
-use Rattle.sre_board.specs.Ends.{EndsTable, HoldsOpenMore, TellsEnd}
-use Rattle.sre_board.specs.declared.ends.KnownEnd.{KnownEnd}
+use Rattle.sre_board.specs.Failures.{Kept, Entry, Laid, BitsStay, HasBit}
+use Rattle.sre_board.specs.Ends.{EndsTable, end_at, HoldsEnd, HoldsNoEnd, HoldsOneEndMore}
+use Rattle.sre_board.specs.Ends.{HoldsOpenMore, HasEnd, TellsEnd}
+use Rattle.sre_board.specs.Ends.{NumberOf, EndRight, EndsRight}
+use Rattle.sre_board.proofs.OneEntry.{one_entry}
 use Rattle.sre_board.proofs.KeptSpots.{one_bit}
 use Rattle.sre_board.proofs.Remembering.{alike_onward}
 
--- what is found in a list with an empty place more was found before
-found_before : (t : EndsTable) (at : ℕ) (e : KnownEnd) → slice_get (t ++ None ∷ []) at ≡ Some (Some e)
-    → slice_get t at ≡ Some (Some e)
-found_before [] zero e f = absurd (cc)
-found_before [] (suc at) e f = absurd (cc)
-found_before (x ∷ t) zero e f = f
-found_before (x ∷ t) (suc at) e f = found_before t at e f
+-- a spot has one number
+pub same_number : (k : Kept) (ws : List ℕ) (inside : Bool) (x : Spot) (m n : ℕ) → Laid k → NumberOf k ws inside x m
+    → NumberOf k ws inside x n → m ≡ n
+same_number k ws inside x m n laid a b =
+    let e = one_entry k ws inside x a.at a.bit b.at b.bit laid a.entry b.entry in
+    omega (arith, a.number, b.number, e.0, e.1)
 
--- an empty place more holds no end
-pub none_lengthened : (t u : EndsTable) → u ≡ t ++ None ∷ [] → HoldsNoEnd t → HoldsNoEnd u
-none_lengthened t u is none = λ n c h.
-    none n c (record {
-      at = h.at;
-      known = h.known;
-      there = found_before t h.at h.known (ap (λ v. slice_get v h.at) (sym is) ∙ h.there);
-      number = h.number;
-      end = h.end;
-    })
+-- what is kept for a number is kept for its spot
+pub has_end : (k : Kept) (ws : List ℕ) (x : Spot) (n : ℕ) (c : StringCursor) (t : EndsTable) → NumberOf k ws true x n
+    → Laid k → HoldsEnd t n c → HasEnd k ws c t x
+has_end k ws x n c t number laid held = λ m other.
+    ap (λ i. end_at t i) (same_number k ws true x m n laid other number) ∙ held
 
--- a place that is set holds that end
-pub end_held : (t u : EndsTable) (i n : ℕ) (c : StringCursor) (e : KnownEnd) → i < length t
-    → u ≡ slice_set t i (Some e) → e.number ≡ n → e.end ≡ c → HoldsEnd u n c
-end_held t u i n c e there is number end = record {
-  at = i;
-  known = e;
-  there = ap (λ v. slice_get v i) is ∙ got_set t i e there;
-  number = number;
-  end = end;
-}
-  where
-    got_set : (t : EndsTable) (i : ℕ) (e : KnownEnd) → i < length t
-        → slice_get (slice_set t i (Some e)) i ≡ Some (Some e)
-    got_set [] i e h = absurd (omega arith)
-    got_set (x ∷ t) zero e h = refl
-    got_set (x ∷ t) (suc i) e h = got_set t i e (omega arith)
-
--- what is kept behind a table that holds none is the one end
-pub one_behind_none : (old t u : EndsTable) (n : ℕ) (c : StringCursor) → HoldsNoEnd t
-    → HoldsOneEndMore n c t u → HoldsOneEndMore n c old u
-one_behind_none old t u n c none more = λ m d h.
-    elim (more m d h) [ inl before ↦ absurd (none m d before) | inr one ↦ inr one ]
+-- a spot without a bit has no number
+pub no_number : (k : Kept) (ws : List ℕ) (inside : Bool) (x : Spot) (n : ℕ) → (HasBit k ws inside x → ⊥)
+    → NumberOf k ws inside x n → ⊥
+no_number k ws inside x n none number = none (record { at = number.at; bit = number.bit; entry = number.entry })
 
 -- spots with one number are alike
 pub one_number : (k : Kept) (ws : List ℕ) (inside other : Bool) (x y : Spot) (n : ℕ) → Laid k
@@ -130,8 +107,17 @@ pub end_told : (r : Run) (k : Kept) (t : EndsTable) (x : Spot) (c : StringCursor
     → TellsEnd k t r.words true x c → EndsAt r no_marks x c.position × r.stands c c.position
 end_told r k t x c right laid told = right_end r k t x told.number c right laid told.is told.held
 
+-- where none is told of its number a spot has no end
+pub none_told : (k : Kept) (t : EndsTable) (ws : List ℕ) (inside : Bool) (x : Spot) (n : ℕ) → Laid k
+    → NumberOf k ws inside x n → (told : Option StringCursor) → told ≡ end_at t n
+    → IfNone told ((c : StringCursor) → TellsEnd k t ws inside x c → ⊥)
+none_told k t ws inside x n laid number (Some c) e = tt
+none_told k t ws inside x n laid number None e = λ c told.
+    let same = same_number k ws inside x told.number n laid told.is number in
+    let there : end_at t n ≡ Some c = ap (λ i. end_at t i) (sym same) ∙ told.held in cc
+
 -- what holds of all of some spots holds of each
-each_among : (P : Spot → Type 0) (newer older : List Spot) (x : Spot) → AllByRecursion P (newer ++ x ∷ older) → P x
+pub each_among : (P : Spot → Type 0) (newer older : List Spot) (x : Spot) → AllByRecursion P (newer ++ x ∷ older) → P x
 each_among P [] older x h = h.0
 each_among P (y ∷ newer) older x h = each_among P newer older x h.1
 

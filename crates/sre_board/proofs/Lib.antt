@@ -22,4 +22,6 @@ pub mod LoopsRead
 pub mod OwnedBits
 pub mod AccountLaws
 pub mod Prepared
+mod Pages
 pub mod EndsKept
+pub mod EndsTold

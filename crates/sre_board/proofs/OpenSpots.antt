@@ -1,11 +1,12 @@
 -- The spots that are tried in the innermost region, gone over from choice to choice.
-use Rattle.std.proofs.Common.{◌≡◌, ℕ, zero, suc, ◌+◌, ◌-◌, ◌<◌, inl, inr, List, [], ◌∷◌, ◌++◌, drop, length}
+use Rattle.std.specs.List.{AllByRecursion}
+use Rattle.std.proofs.Common.{◌≡◌, ℕ, zero, suc, ◌+◌, ◌-◌, ◌<◌, ◌≤◌, inl, inr, List, [], ◌∷◌, ◌++◌, drop, length}
 use Rattle.std.proofs.Common.{map, reverse, get_or, option_map, Some, slice_get, refl, sym, ap, ◌∙◌, subst, arith}
-use Rattle.std.proofs.lemmas.List.{append_assoc, get_or-reverse, length-reverse}
+use Rattle.std.proofs.lemmas.List.{append_assoc, drop_all, get_or-reverse, length-reverse}
 use Rattle.std.proofs.lemmas.Option.{slice_get-map, slice_get-get_or}
 use Rattle.sre_chars.specs.declared.string.StringCursor.{StringCursor}
 use Rattle.sre_model.specs.Marks.{Marks}
-use Rattle.sre_turns.specs.Board.{Choice, Trying, choice}
+use Rattle.sre_turns.specs.Board.{Choice, Keep, Trying, choice}
 use Rattle.sre_turns.specs.Moves.{Spot, spot_at}
 use Rattle.sre_turns.specs.OpenMarks.{open_spots}
 use Rattle.sre_turns.specs.declared.Frame.{Frame}
@@ -15,7 +16,9 @@ use Rattle.sre_turns.specs.declared.Point.TheVariants.{Instruction, Alternatives
 use Rattle.sre_board.specs.Failures.{Kept}
 use Rattle.sre_board.specs.Choices.{Fits}
 use Rattle.sre_board.specs.declared.board.Saved.{Saved}
-use Rattle.sre_board.specs.Ends.{EndsTable, HoldsSpotMore, HoldsOpenMore}
+use Rattle.sre_board.specs.Ends.{EndsTable, HoldsEnd, HoldsSpotMore, HoldsOpenMore, IsOpenSpot, HasEnd}
+use Rattle.sre_board.specs.Ends.{KeepsSpotEnds, KeepsOpenEnds, HoldsOpenEnds}
+use Rattle.sre_board.proofs.EndsKept.{each_among}
 
 -- a choice by how many are newer, as the board has it and as its value has it
 module _ (items : List Saved) (depth : ℕ) (s : Saved) (l : depth < length items)
@@ -59,23 +62,62 @@ passed_over (Shorter j n) fs c m cs region tried = refl
 passed_over (Longer i n) fs c m cs region tried = refl
 passed_over Again fs c m cs region tried = refl
 
--- the spots from a depth on, where those above it were gone over
-pub record GoneOver (cs : List Choice) (depth : ℕ) : Type 0 where
+-- the spots from a depth on, where an end is kept for each of those above it that has a number
+pub record GoneOver (k : Kept) (ws : List ℕ) (d : StringCursor) (t : EndsTable) (cs : List Choice) (depth : ℕ)
+    : Type 0 where
   pub newer : List Spot
   pub all : open_spots cs ≡ newer ++ open_spots (drop depth cs)
+  pub held : AllByRecursion (HasEnd k ws d t) newer
 
-pub gone_none : (cs : List Choice) → GoneOver cs 0
-gone_none cs = record { newer = []; all = refl }
+pub gone_none : (k : Kept) (ws : List ℕ) (d : StringCursor) (t : EndsTable) (cs : List Choice)
+    → GoneOver k ws d t cs 0
+gone_none k ws d t cs = record { newer = []; all = refl; held = tt }
 
-module _ (cs : List Choice) (depth : ℕ) (gone : GoneOver cs depth) where
+-- an end that is kept for a spot is so where this one may be kept in its place
+has_still : (k : Kept) (ws : List ℕ) (d : StringCursor) (t u : EndsTable) (x : Spot)
+    → ((n : ℕ) → HoldsEnd t n d → HoldsEnd u n d) → HasEnd k ws d t x → HasEnd k ws d u x
+has_still k ws d t u x still has = λ n number. still n (has n number)
+
+-- and for one spot more
+one_more : (k : Kept) (ws : List ℕ) (d : StringCursor) (t u : EndsTable) (xs : List Spot) (y : Spot)
+    → ((n : ℕ) → HoldsEnd t n d → HoldsEnd u n d) → HasEnd k ws d u y → AllByRecursion (HasEnd k ws d t) xs
+    → AllByRecursion (HasEnd k ws d u) (xs ++ y ∷ [])
+one_more k ws d t u [] y still has each = (has, tt)
+one_more k ws d t u (x ∷ xs) y still has each =
+    (has_still k ws d t u x still each.0, one_more k ws d t u xs y still has each.1)
+
+-- none is left
+none_left : (P : Spot → Type 0) (xs ys : List Spot) → ys ≡ [] → AllByRecursion P xs → AllByRecursion P (xs ++ ys)
+none_left P [] ys none each = subst (AllByRecursion P) (sym none) tt
+none_left P (x ∷ xs) ys none each = (each.0, none_left P xs ys none each.1)
+
+module _ (k : Kept) (ws : List ℕ) (d : StringCursor) (t : EndsTable) (cs : List Choice) (depth : ℕ)
+    (gone : GoneOver k ws d t cs depth) where
   -- past a choice that is another point
   pub gone_else : (x : Choice) → slice_get cs depth ≡ Some x
-      → open_spots (x ∷ drop (depth + 1) cs) ≡ open_spots (drop (depth + 1) cs) → GoneOver cs (depth + 1)
+      → open_spots (x ∷ drop (depth + 1) cs) ≡ open_spots (drop (depth + 1) cs) → GoneOver k ws d t cs (depth + 1)
   gone_else x e same = record {
     newer = gone.newer;
     all = gone.all ∙ ap (λ ds. gone.newer ++ open_spots ds) (from_item cs depth x e)
         ∙ ap (λ xs. gone.newer ++ xs) same;
+    held = gone.held;
   }
+
+  -- all were gone over
+  gone_all : open_spots (drop depth cs) ≡ [] → HoldsOpenEnds k ws cs d t
+  gone_all none = λ x among.
+      each_among (HasEnd k ws d t) among.newer among.older x
+      (subst (AllByRecursion (HasEnd k ws d t)) (sym gone.all ∙ among.there)
+      (none_left (HasEnd k ws d t) gone.newer (open_spots (drop depth cs)) none gone.held))
+
+  -- so they were behind the last choice
+  pub gone_to_end : length cs ≤ depth → HoldsOpenEnds k ws cs d t
+  gone_to_end far = gone_all (ap open_spots (drop_all depth cs far))
+
+  -- and at the region
+  pub gone_to_region : (g : Region) (fs : List Frame) (c : StringCursor) (m : Marks)
+      → slice_get cs depth ≡ Some (Keep g fs c m) → HoldsOpenEnds k ws cs d t
+  gone_to_region g fs c m e = gone_all (ap open_spots (from_item cs depth (Keep g fs c m) e))
 
   module _ (i : ℕ) (fs : List Frame) (c : StringCursor) (m : Marks)
       (e : slice_get cs depth ≡ Some (Trying i fs c m)) where
@@ -85,32 +127,41 @@ module _ (cs : List Choice) (depth : ℕ) (gone : GoneOver cs depth) where
     rest : open_spots cs ≡ gone.newer ++ here ∷ open_spots (drop (depth + 1) cs)
     rest = gone.all ∙ ap (λ ds. gone.newer ++ open_spots ds) (from_item cs depth (Trying i fs c m) e)
 
+    is_open : IsOpenSpot cs here
+    is_open = record {
+      newer = gone.newer;
+      older = open_spots (drop (depth + 1) cs);
+      there = rest;
+    }
+
     -- past an instruction that is tried
-    pub gone_tried : GoneOver cs (depth + 1)
-    gone_tried = record {
+    pub gone_tried : (u : EndsTable) → KeepsSpotEnds k ws here d t u → HasEnd k ws d u here
+        → GoneOver k ws d u cs (depth + 1)
+    gone_tried u kept has = record {
       newer = gone.newer ++ here ∷ [];
       all = rest ∙ sym (append_assoc gone.newer (here ∷ []) (open_spots (drop (depth + 1) cs)));
+      held = one_more k ws d t u gone.newer here
+          (λ n h. elim (kept n d h) [ inl same ↦ same | inr it ↦ it.0 ]) has gone.held;
     }
 
     -- for which an end may have been kept
-    pub more_tried : (k : Kept) (ws : List ℕ) (d : StringCursor) (old mid new : EndsTable)
-        → HoldsOpenMore k ws cs d old mid → HoldsSpotMore k ws here d mid new → HoldsOpenMore k ws cs d old new
-    more_tried k ws d old mid new before one = λ n b h.
-        elim (one n b h) [
-          | inl held ↦ before n b held
+    pub more_tried : (old new : EndsTable) → HoldsOpenMore k ws cs d old t → HoldsSpotMore k ws here d t new
+        → HoldsOpenMore k ws cs d old new
+    more_tried old new before one = λ n b h.
+        elim (one n b h) [ inl held ↦ before n b held | inr it ↦ inr (it.0, (here, is_open, it.1)) ]
+
+    -- in place of one that was kept
+    pub kept_tried : (old new : EndsTable) → KeepsOpenEnds k ws cs d old t → KeepsSpotEnds k ws here d t new
+        → KeepsOpenEnds k ws cs d old new
+    kept_tried old new before kept = λ n b h.
+        elim (before n b h) [
+          | inl held ↦
+              elim (kept n b held) [ inl same ↦ inl same | inr it ↦ inr (it.0, (here, is_open, it.1)) ]
           | inr it ↦
-              inr (
-                it.0,
-                (
-                  here,
-                  record {
-                    newer = gone.newer;
-                    older = open_spots (drop (depth + 1) cs);
-                    there = rest;
-                  },
-                  it.1,
-                ),
-              )
+              elim (kept n d it.0) [
+                | inl same ↦ inr (same, it.1)
+                | inr one ↦ inr (one.0, (here, is_open, one.1))
+              ]
         ]
 
 -- nothing more is kept at first

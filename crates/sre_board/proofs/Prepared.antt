@@ -1,18 +1,21 @@
--- What the memory of failures has taken in stays so when a row is prepared for a spot, and the spot has a bit then.
-use Rattle.std.proofs.Common.{◌≡◌, ℕ, zero, suc, ◌+◌, ◌*◌, ◌^◌, ◌<◌, ◌≤◌, ◌⊎◌, inl, inr, false, List, [], ◌∷◌}
+-- What the memory of failures has taken in stays so when a row is prepared for a spot, and the spot has a bit then,
+-- inside a region and outside.
+use Rattle.std.proofs.Common.{◌≡◌, ℕ, zero, suc, ◌+◌, ◌*◌, ◌^◌, ◌<◌, ◌≤◌, ◌⊎◌, inl, inr, Bool, List, [], ◌∷◌}
 use Rattle.std.proofs.Common.{length, Some, slice_get, refl, sym, ap, ◌∙◌, subst, arith}
 use Rattle.std.proofs.lemmas.Bool.{cases_eq}
 use Rattle.std.proofs.Math.Nat.{mul-le-mul_left, mul-le-mul_right}
 use Rattle.sre_model.specs.Runs.{Run}
 use Rattle.sre_turns.specs.Alike.{least_from}
+use Rattle.sre_turns.specs.Attempts.{Attempt}
 use Rattle.sre_turns.specs.Moves.{Spot}
 use Rattle.sre_turns.specs.Nested.{repeats, slots, most_slots}
-use Rattle.sre_turns.specs.Settled.{Unforked, SettledIn}
+use Rattle.sre_turns.specs.Settled.{Counted, SettledIn}
 use Rattle.sre_turns.specs.declared.Point.{Point}
 use Rattle.sre_turns.specs.declared.Point.TheVariants.{Instruction}
 use Rattle.sre_turns.proofs.NestedPlaces.{same_loops}
 use Rattle.sre_turns.proofs.NestedSlots.{slots_within}
 use Rattle.sre_board.specs.Accounts.{Account, RowLies, Room}
+use Rattle.sre_board.specs.Ends.{EndsTable}
 use Rattle.sre_board.specs.Failures.{Kept, HasRow, HasNoRow, NewRow, Capacity, BitsStay, BitsKept, Laid, Roomy, HasBit}
 use Rattle.sre_board.specs.Failures.{HasSlots, most_words}
 use Rattle.sre_board.specs.declared.failures.Row.{Row}
@@ -57,14 +60,14 @@ room_for_one rows words most bits l few all =
     more : rows < words → rows + 1 ≤ words
     more l = omega arith
 
-module _ (r : Run) (pl : Unforked r) (first : ℕ) (old new : Kept) (x : Spot) (place : ℕ) (xs : List Spot) (n : ℕ)
-    (room : Room r pl first) (settled : SettledIn r pl first x) (point : x.point ≡ Instruction place)
-    (is_place : place < length r.words)
+module _ (r : Run) (pl : Counted r) (first : ℕ) (old new : Kept) (es : EndsTable) (x : Spot) (place : ℕ)
+    (xs : List Attempt) (n : ℕ) (room : Room r pl first) (settled : SettledIn r pl first x)
+    (point : x.point ≡ Instruction place) (is_place : place < length r.words)
     (rows : NewRow r.words first r.subject.end place (repeats x.frames) old new) (stay : BitsStay old new)
     (kept : BitsKept old new) (laid : Laid new)
     (roomy : (m : ℕ) → HasSlots r.words (repeats x.frames) m → Roomy r.words m first r.subject.end old
     → Roomy r.words m first r.subject.end new)
-    (account : Account r pl first old xs n) where
+    (account : Account r pl first old es xs n) where
   begins : first ≤ x.position
   begins = subst (λ (pt : Point). first ≤ least_from pt x.position) point settled.from
 
@@ -131,9 +134,9 @@ module _ (r : Run) (pl : Unforked r) (first : ℕ) (old new : Kept) (x : Spot) (
     }
   ]
 
-  pub account_prepared : Account r pl first new xs n
+  pub account_prepared : Account r pl first new es xs n
   account_prepared =
-      account_grows r pl first old new xs n stay kept rows.stay row_lies laid
+      account_grows r pl first old new es xs n stay kept rows.stay row_lies laid
       (roomy (most_slots pl.tree) has_slots account.roomy) account
 
   has_it : (Capacity r.words first r.subject.end place (repeats x.frames) old → HasRow new place) → HasRow new place
@@ -147,13 +150,14 @@ module _ (r : Run) (pl : Unforked r) (first : ℕ) (old new : Kept) (x : Spot) (
     | inr none ↦ there (capacity none)
   ]
 
-  pub bit_prepared : (Capacity r.words first r.subject.end place (repeats x.frames) old → HasRow new place)
-      → HasBit new r.words false x
-  bit_prepared there =
+  pub bit_prepared : (inside : Bool)
+      → (Capacity r.words first r.subject.end place (repeats x.frames) old → HasRow new place)
+      → HasBit new r.words inside x
+  bit_prepared inside there =
       let h = has_it there in
       let l = row_lies h.number h.row h.there in
       let at : x.point ≡ Instruction h.row.place = point ∙ ap (λ i. Instruction i) (sym h.place_is) in
       let loops : repeats x.frames ≡ repeats l.spot.frames =
       same_loops r.words pl.tree pl.whole h.row.place x l.spot at l.point settled.lies l.lies in
-      bit_there new r.words first r.subject.end (repeats l.spot.frames) false x h.number h.row at loops settled.passed
+      bit_there new r.words first r.subject.end (repeats l.spot.frames) inside x h.number h.row at loops settled.passed
       begins settled.inside (lies_words r.words pl.tree pl.whole l.spot l.lies) h.there l.is_for

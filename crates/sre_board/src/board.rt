@@ -21,6 +21,9 @@ use sre_turns::{Frame, Point, Region};
 use std::alloc::Allocator;
 use std::marker::Model;
 
+/// How many characters a look for one goes over in the time that a run takes for one: about so many, or more.
+pub const LOOK_SPEED: usize = 32;
+
 /// A choice: where to go on, with which loops, and how many changes and chains there were when it was made.
 #[derive(Clone, Copy)]
 pub struct Saved {
@@ -43,7 +46,7 @@ pub struct Board<A: Allocator> {
     passed: usize,
     // how many loops and bodies of loops began since this was last asked
     entered: usize,
-    // how many characters the last run went over of which nothing came
+    // how many shorter counts the last run had of which nothing came
     vain: usize,
 }
 
@@ -209,7 +212,8 @@ impl<A: Allocator> Board<A> {
         Some((&self.chains, self.choices[self.choices.len() - 1 - depth]))
     }
 
-    /// Takes all away but what was counted, which is of a whole search; the memory is kept.
+    /// Takes all away but what was counted, which is of a whole search, and the last run in vain, which is noted from
+    /// one search to the next; the memory is kept.
     #[inline(always)]
     pub fn clear(&mut self)
         ensures { self.new ≡ bare no_marks }
@@ -404,19 +408,19 @@ impl<A: Allocator> Board<A> {
         entered
     }
 
-    /// Notes that a run went over so many characters, and that nothing came of any of its counts.
+    /// Notes that a run had so many shorter counts, and that nothing came of any of them.
     #[inline(always)]
-    pub fn note_vain(&mut self, characters: usize)
+    pub fn note_vain(&mut self, counts: usize)
         ensures { self.new ≡ self.old }
     {
-        self.vain = characters;
+        self.vain = counts;
     }
 
     /// Whether the last run in vain was so long that it is worth to look, in so many characters, for what has to come
-    /// behind the next one: to look goes over a character thirty times as fast as a run or more.
+    /// behind the next one: by `LOOK_SPEED` that takes less time than the run did.
     #[inline(always)]
     pub fn is_look_worth(&self, characters: usize) -> bool {
-        self.vain >= 64 && self.vain > characters / 32
+        self.vain >= 64 && self.vain > characters / LOOK_SPEED
     }
 
     /// The innermost loop in progress.

@@ -1,12 +1,15 @@
 //! Where the bodies of regions end, by the number of a spot inside.
 //!
-//! The table may forget: each number has one place in it, which another number may take. So to keep an end and to look
-//! it up are one step each, and an end that was forgotten is found anew.
+//! The numbers stand in pages of 64, one for each word of bits. A page has a place for each of its numbers. It is added
+//! the first time that an end of it is kept. Nothing is moved, and nothing is forgotten until all is. So an end is
+//! found by two reads.
 //!
 //! The machine keeps here where the body of a region ended, for each spot that was tried inside.
 
-ghost use Rattle.std.specs.Prelude.{◌<◌, ◌≤◌, [], length, slice_index_or, IfOk, IfSome};
+ghost use Rattle.std.specs.Prelude.{◌≡◌, ◌+◌, ◌/◌, ◌^◌, ◌<◌, ◌≤◌, [], ℕ, length, slice_index_or, IfOk, IfErr};
 ghost use Rattle.sre_board.specs.Ends.{HoldsEnd, HoldsNoEnd, HoldsOneEndMore, HoldsOpenMore, HoldsSpotMore};
+ghost use Rattle.sre_board.specs.Ends.{KeepsEnds, KeepsOpenEnds, HoldsOpenEnds, KeepsSpotEnds, HasEnd};
+ghost use Rattle.sre_board.specs.Ends.{end_at, page_at, SameEnds, PutsEnd};
 ghost use Rattle.sre_model.specs.Marks.{Marks};
 ghost use Rattle.sre_turns.specs.Moves.{spot_at};
 ghost use Rattle.sre_turns.specs.declared.Point.TheVariants.{Instruction};
@@ -20,58 +23,42 @@ use sre_turns::Point;
 use std::alloc::Allocator;
 use std::marker::Model;
 
-/// The number of a spot, and a cursor where the body of its region ends.
-#[derive(Clone, Copy)]
-pub(crate) struct KnownEnd {
-    pub number: usize,
-    pub end: StringCursor,
-}
-
-/// Ends of bodies by numbers, one for each place of a table.
+/// Ends of bodies by numbers.
 #[derive(Drop)]
 pub struct Ends<A: Allocator> {
-    table: Vec<Option<KnownEnd>, A>,
-    // how many places hold an end
-    filled: usize,
+    // by word of bits: one more than where the word's places begin, or 0 where it has none
+    pages: Vec<usize, A>,
+    // the places of all pages
+    ends: Vec<Option<StringCursor>, A>,
 }
 
 impl<A: Allocator> Model for Ends<A> {
-    ghost use Rattle.std.specs.Prelude.{List, Option};
-    ghost use Rattle.sre_board.specs.declared.ends.KnownEnd.{KnownEnd};
+    ghost use Rattle.std.specs.Prelude.{length};
+    ghost use Rattle.sre_board.specs.Ends.{EndsTable, table_of, IsPaged};
 
-    ghost Value = { List (Option KnownEnd) };
+    ghost Value = { EndsTable };
 
-    ghost view = { λ e. e.table.items };
+    ghost view = { λ e. table_of e.pages.items e.ends.items };
+
+    ghost invariant = { λ e. IsPaged e.pages.items (length e.ends.items) };
 }
 
-// A table has at least so many places.
-const LEAST_PLACES: usize = 64;
+// A page has so many places, one for each bit of a word.
+const PLACES: usize = 64;
 
-// An odd number near 2^64 divided by the golden ratio: its multiples lie far apart, and so do their high halves.
-const SPREAD: usize = 11400714819323198485;
-
-// The place of a number among so many. Those of neighbours lie far apart, so that rows of numbers seldom meet.
+// Lengthens a list to so many items, one by one: an item may be larger than those that `resize` takes.
 #[inline(always)]
-fn place_of(number: usize, places: usize) -> usize
-    requires { 0 < places }
-    ensures { result < places }
-{
-    (number.wrapping_mul(SPREAD) >> 32) % places
-}
-
-// Lengthens a table that holds no end to so many empty places, one by one: an item is larger than those that `resize`
-// takes.
-#[inline(always)]
-fn lengthen<A: Allocator>(
-    table: &mut Vec<Option<KnownEnd>, A>,
-    places: usize,
+fn lengthen<T: Copy, A: Allocator>(
+    list: &mut Vec<T, A>,
+    least: usize,
+    item: T,
 ) -> Result<(), Refusal>
-    requires { HoldsNoEnd table.old.items }
-    ensures none { HoldsNoEnd table.new.items }
-    ensures length { IfOk result (λ _. places ≤ length table.new.items) }
+    ensures same { (i : ℕ) → slice_index_or list.new.items i item ≡ slice_index_or list.old.items i item }
+    ensures still { length list.old.items ≤ length list.new.items }
+    ensures length { IfOk result (λ _. least ≤ length list.new.items) }
 {
-    'more: while table.len() < places {
-        sre_growth::push(table, None)?;
+    'more: while list.len() < least {
+        sre_growth::push(list, item)?;
     }
     Ok(())
 }
@@ -83,8 +70,8 @@ impl<A: Allocator + Copy> Ends<A> {
         ensures none { HoldsNoEnd result }
     {
         Ends {
-            table: Vec::new(alloc),
-            filled: 0,
+            pages: Vec::new(alloc),
+            ends: Vec::new(alloc),
         }
     }
 }
@@ -95,46 +82,49 @@ impl<A: Allocator> Ends<A> {
     pub fn forget(&mut self)
         ensures none { HoldsNoEnd self.new }
     {
-        self.table.clear();
-        self.filled = 0;
+        self.pages.clear();
+        self.ends.clear();
     }
 
-    /// The end that is kept for a number, if it was not forgotten.
+    /// The end that is kept for a number, if one is.
     #[inline(always)]
     pub fn end(&self, number: usize) -> Option<StringCursor>
-        ensures { IfSome result (λ c. HoldsEnd self.now number c) }
+        ensures { result ≡ end_at self.now number }
     {
-        let places = self.table.len();
-        if places == 0 {
+        let _places = self.ends.len(); // within which the pages are
+        let word = number / PLACES;
+        if word >= self.pages.len() {
             return None;
         }
-        let known = self.table[place_of(number, places)]?;
-        if known.number != number {
+        let page = self.pages[word];
+        if page == 0 {
             return None;
         }
-        Some(known.end)
+        self.ends[page - 1 + number % PLACES]
     }
 
-    /// Keeps an end for a number. Where the table is half full, a larger one takes its place, and what was kept is
-    /// forgotten.
+    /// Keeps an end for a number, in place of one that is kept for it.
     ///
     /// # Errors
     ///
-    /// [`Refusal`], where memory was refused. No end is kept then.
+    /// [`Refusal`], where memory was refused. This end is not kept then, and each other is kept still.
     #[inline(always)]
     pub fn keep(&mut self, number: usize, end: StringCursor) -> Result<(), Refusal>
         ensures more { HoldsOneEndMore number end self.old self.new }
+        ensures kept { KeepsEnds number end self.old self.new }
         ensures held { IfOk result (λ _. HoldsEnd self.new number end) }
+        ensures refused { IfErr result (λ _. SameEnds self.old self.new) }
     {
-        if self.filled >= self.table.len() / 2 {
-            self.grow()?;
-        }
-        self.put(number, end);
+        let page = self.page(number / PLACES)?;
+        self.put(page, number, end);
         Ok(())
     }
 
-    /// Keeps one end for each spot that is tried in the innermost region of a board, if it has a number there. Where
-    /// memory is refused it goes on without.
+    /// Keeps one end for each spot that is tried in the innermost region of a board, if it has a number there.
+    ///
+    /// # Errors
+    ///
+    /// [`Refusal`], where memory was refused. The end is kept for some of the spots then.
     #[inline(never)]
     pub fn keep_open(
         &mut self,
@@ -142,24 +132,23 @@ impl<A: Allocator> Ends<A> {
         words: &[u32],
         board: &Board<A>,
         end: StringCursor,
-    )
-        ensures { HoldsOpenMore failures.now words.now board.now.choices end self.old self.new }
+    ) -> Result<(), Refusal>
+        ensures more { HoldsOpenMore failures.now words.now board.now.choices end self.old self.new }
+        ensures kept { KeepsOpenEnds failures.now words.now board.now.choices end self.old self.new }
+        ensures held { IfOk result (λ _. HoldsOpenEnds failures.now words.now board.now.choices end self.new) }
     {
         let mut depth = 0;
         'choice: while let Some((chains, saved)) = board.saved(depth) {
             match saved.point {
                 Point::Tried(place) => {
-                    if let Err(_refused) = self.keep_spot(
-                        failures, words, chains, saved, place, end,
-                    ) {
-                        return;
-                    }
+                    self.keep_spot(failures, words, chains, saved, place, end)?;
                 }
-                Point::Inside(_) => return,
+                Point::Inside(_) => return Ok(()),
                 _ => {}
             }
             depth += 1;
         }
+        Ok(())
     }
 
     // Keeps an end for the spot of an instruction that is tried inside a region, by what was saved with it.
@@ -174,9 +163,14 @@ impl<A: Allocator> Ends<A> {
         end: StringCursor,
     ) -> Result<(), Refusal>
         requires { saved.frame < length chains.now }
-        ensures { (m : Marks) → HoldsSpotMore failures.now words.now
+        ensures more { (m : Marks) → HoldsSpotMore failures.now words.now
             (spot_at (Instruction place) (slice_index_or chains.now saved.frame []) saved.cursor.position m) end
             self.old self.new }
+        ensures kept { (m : Marks) → KeepsSpotEnds failures.now words.now
+            (spot_at (Instruction place) (slice_index_or chains.now saved.frame []) saved.cursor.position m) end
+            self.old self.new }
+        ensures held { IfOk result (λ _. (m : Marks) → HasEnd failures.now words.now end self.new
+            (spot_at (Instruction place) (slice_index_or chains.now saved.frame []) saved.cursor.position m)) }
     {
         let position = saved.cursor.position();
         match failures.number_under(words, chains, saved.frame, place, position) {
@@ -185,28 +179,42 @@ impl<A: Allocator> Ends<A> {
         }
     }
 
-    // Forgets all, in a table that is twice as large.
-    #[inline(never)]
-    fn grow(&mut self) -> Result<(), Refusal>
-        ensures none { HoldsNoEnd self.new }
-        ensures some { IfOk result (λ _. 0 < length self.new) }
+    // The page of a word, which is added where there is none.
+    #[inline(always)]
+    fn page(&mut self, word: usize) -> Result<usize, Refusal>
+        requires { word + 1 < 2 ^ 64 }
+        ensures same { SameEnds self.old self.new }
+        ensures page { IfOk result (λ page. (0 < page) × (page_at self.new.pages word ≡ page)) }
     {
-        let places = self.table.len().saturating_mul(2).max(LEAST_PLACES);
-        self.forget();
-        lengthen(&mut self.table, places)
+        lengthen(&mut self.pages, word + 1, 0)?;
+        let page = self.pages[word];
+        if page > 0 {
+            return Ok(page);
+        }
+        self.add_page(word)
     }
 
-    // Keeps an end at the place of its number.
-    #[inline(always)]
-    fn put(&mut self, number: usize, end: StringCursor)
-        requires { 0 < length self.old }
-        ensures more { HoldsOneEndMore number end self.old self.new }
-        ensures held { HoldsEnd self.new number end }
+    // Adds the page of a word, which has none.
+    #[inline(never)]
+    fn add_page(&mut self, word: usize) -> Result<usize, Refusal>
+        requires there { word < length self.old.pages }
+        requires none { page_at self.old.pages word ≡ 0 }
+        ensures same { SameEnds self.old self.new }
+        ensures page { IfOk result (λ page. (0 < page) × (page_at self.new.pages word ≡ page)) }
     {
-        let place = place_of(number, self.table.len());
-        if self.table[place].is_none() {
-            self.filled = self.filled.saturating_add(1);
-        }
-        self.table[place] = Some(KnownEnd { number, end });
+        let page = self.ends.len() + 1;
+        lengthen(&mut self.ends, page - 1 + PLACES, None)?;
+        self.pages[word] = page;
+        Ok(page)
+    }
+
+    // Keeps an end at the place of its number in its page.
+    #[inline(always)]
+    fn put(&mut self, page: usize, number: usize, end: StringCursor)
+        requires some { 0 < page }
+        requires page { page_at self.old.pages (number / 64) ≡ page }
+        ensures { PutsEnd number end self.old self.new }
+    {
+        self.ends[page - 1 + number % PLACES] = Some(end);
     }
 }

@@ -9,7 +9,7 @@
 //! is missing there is no bit either.
 
 ghost use Rattle.std.specs.Prelude.{◌≡◌, ◌≢◌, ℕ, ◌+◌, ◌-◌, ◌*◌, ◌^◌, ◌<◌, ◌≤◌, true, false, [], ◌∷◌, ◌++◌, length};
-ghost use Rattle.std.specs.Prelude.{if◌then◌else◌, is_ok, MatchOption, Some, IfOk, IfSome, slice_get, slice_index_or};
+ghost use Rattle.std.specs.Prelude.{if◌then◌else◌, is_ok, MatchOption, Some, IfOk, slice_get, slice_index_or};
 ghost use Rattle.sre_model.specs.Marks.{Marks};
 ghost use Rattle.sre_turns.specs.Fruit.{is_inside};
 ghost use Rattle.sre_turns.specs.Moves.{spot_at};
@@ -362,10 +362,13 @@ impl<A: Allocator> Failures<A> {
         position: usize,
     ) -> Option<usize>
         requires { innermost < length chains.now }
-        ensures { (m : Marks)
+        ensures number { (m : Marks)
             → let spot = spot_at (Instruction place) (slice_index_or chains.now innermost []) position m in
-            IfSome result (λ n. NumberOf self.now words.now true spot n) }
+            MatchOption result (HasBit self.now words.now true spot → ⊥)
+            (λ n. NumberOf self.now words.now true spot n) }
+        ensures laid { Laid self.now }
     {
+        let _words = self.bits.len(); // in which the rows are laid
         let bit = self.bit_under(words, chains, innermost, true, place, position)?;
         Some(bit.word * 64 + bit.number as usize)
     }

@@ -16,7 +16,7 @@ mod marks;
 mod slots;
 mod trail;
 
-pub use board::{Board, Saved};
+pub use board::{Board, LOOK_SPEED, Saved};
 pub use ends::Ends;
 pub use failures::{Failures, Known};
 pub use marks::{Change, Marks};

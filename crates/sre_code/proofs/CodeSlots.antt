@@ -1,32 +1,101 @@
 -- The slots that are told of a code are those of its tree.
-use Rattle.std.proofs.Common.{ℕ, ◌-◌, ◌^◌, ◌≡◌, ◌<◌, ◌≤◌, ◌⊎◌, inl, inr, List, length, Option, Some, None, IfSome}
-use Rattle.std.proofs.Common.{sym, ◌∙◌, subst, arith}
+use Rattle.std.proofs.Common.{ℕ, ◌-◌, ◌^◌, ◌≡◌, ◌<◌, ◌≤◌, ◌⊎◌, ◌*◌, inl, inr, Bool, true, false, List, length, cond}
+use Rattle.std.proofs.Common.{Option, Some, None, IfSome, refl, sym, ap, ◌∙◌, subst, arith}
+use Rattle.std.proofs.lemmas.Bool.{true≢false}
 use Rattle.sre_model.specs.Tree.{Tree}
 use Rattle.sre_model.specs.Grammar.{Reads, WholeItems, Whole, behind_block}
+use Rattle.sre_model.specs.References.{refers}
+use Rattle.sre_model.specs.Regions.{has_forked_region}
+use Rattle.sre_model.specs.MarksSet.{marks_in_regions}
 use Rattle.sre_model.specs.Slots.{most_slots}
+use Rattle.sre_model.proofs.CountedRegions.{unforked_counted}
 use Rattle.sre_code.specs.PlainItems.{AreTold}
 use Rattle.sre_code.specs.MostSlots.{AreMostSlots, HasTooManySlots, SlotsTold}
+use Rattle.sre_code.specs.TurnsTold.{CountedTold}
 use Rattle.sre_code.specs.declared.code.slots.Passed.{Passed}
+use Rattle.sre_code.specs.declared.code.slots.Regions.TheVariants as regions
+use Rattle.sre_code.specs.declared.code.turns.Counted.{Counted}
+use Rattle.sre_code.proofs.BarredRegions.{barred_forked, barred_uncounted}
 
-pub slots_told : (ws : List ℕ) (e n : ℕ) (p : Passed) → AreTold (2 ^ 24) ws 0 e (Some p) → e ≡ length ws - 1
-    → n ≡ p.slots → (t : Tree) → WholeItems ws t → AreMostSlots n t
-slots_told ws e n p told at same t w =
-    let are = told.each t (subst (λ k. Reads ws 0 k t) (sym at) w.0) in
-    record {
-      unforked = are.0.unforked;
-      no_reference = are.0.no_reference;
-      is = same ∙ are.2;
-      few = omega (arith, same, are.2, are.0.few);
-    }
+-- true, where it is not false
+true_or : (b : Bool) → (b ≡ false → ⊥) → b ≡ true
+true_or true h = refl
+true_or false h = absurd (h refl)
 
-pub no_slots : (ws : List ℕ) (e : ℕ) → AreTold (2 ^ 24) ws 0 e None → e ≡ length ws - 1 → (t : Tree)
-    → WholeItems ws t → HasTooManySlots t
-no_slots ws e told at t w = record {
-  more = λ region reference.
+module _ (ws : List ℕ) (e : ℕ) (at : e ≡ length ws - 1) (t : Tree) (w : WholeItems ws t) where
+  reads : Reads ws 0 e t
+  reads = subst (λ k. Reads ws 0 k t) (sym at) w.0
+
+  -- what is counted of a tree none of whose regions forks
+  pub straight_counted : (p : Passed) → AreTold regions.Straight (2 ^ 24) ws 0 e (Some p)
+      → CountedTold t (Some (record { slots = p.slots; spots = p.slots; alternatives = p.alternatives }))
+  straight_counted p told =
+      let are = told.each t reads in
+      let none : has_forked_region t ≡ false = sym (barred_forked t) ∙ are.0.unbarred in (
+        record {
+          counted = unforked_counted t none;
+          unmarked = λ some. absurd (true≢false (sym some ∙ none));
+          no_reference = are.0.no_reference;
+          few = are.0.few;
+        },
+        are.2,
+        are.2 ∙ ap (λ b. cond b (most_slots t * 2) (most_slots t)) (sym none),
+        are.3,
+      )
+
+  -- where the first scan tells none of a tree that is counted, a region forks
+  module _ (not : AreTold regions.Straight (2 ^ 24) ws 0 e None) where
+    forked : refers t ≡ false → most_slots t ≤ 2 ^ 24 → has_forked_region t ≡ true
+    forked plain few =
+        true_or (has_forked_region t)
+        (λ none.
+        not.each t reads (record { unbarred = barred_forked t ∙ none; no_reference = plain; few = few }))
+
+    -- so none sets a mark
+    pub marked_uncounted : (marked : Bool) → (refers t ≡ false → marked ≡ marks_in_regions t) → marked ≡ true
+        → CountedTold t None
+    marked_uncounted marked told some = λ is.
+        true≢false
+        (sym some ∙ told is.no_reference ∙ is.unmarked (forked is.no_reference is.few))
+
+    pub forked_counted : (p : Passed) (marked : Bool) → AreTold regions.Counted (2 ^ 24) ws 0 e (Some p)
+        → (marked ≡ false → marks_in_regions t ≡ false) → marked ≡ false
+        → CountedTold t (Some (record { slots = p.slots; spots = p.slots * 2; alternatives = p.alternatives }))
+    forked_counted p marked told unmarked none =
+        let are = told.each t reads in
+        let some : has_forked_region t ≡ true = forked are.0.no_reference are.0.few in (
+          record {
+            counted = sym (barred_uncounted t) ∙ are.0.unbarred;
+            unmarked = λ f. unmarked none;
+            no_reference = are.0.no_reference;
+            few = are.0.few;
+          },
+          are.2,
+          ap (λ n. n * 2) are.2 ∙ ap (λ b. cond b (most_slots t * 2) (most_slots t)) (sym some),
+          are.3,
+        )
+
+  -- where the second tells none the tree is not counted
+  pub uncounted : AreTold regions.Counted (2 ^ 24) ws 0 e None → CountedTold t None
+  uncounted told = λ is.
+      told.each t reads
+      (record { unbarred = barred_uncounted t ∙ is.counted; no_reference = is.no_reference; few = is.few })
+
+pub slots_told : (n : ℕ) (c : Counted) (t : Tree) → CountedTold t (Some c) → n ≡ c.slots → AreMostSlots n t
+slots_told n c t told same = record {
+  counted = told.0.counted;
+  unmarked = told.0.unmarked;
+  no_reference = told.0.no_reference;
+  is = same ∙ told.1;
+  few = omega (arith, same, told.1, told.0.few);
+}
+
+pub no_slots : (t : Tree) → CountedTold t None → HasTooManySlots t
+no_slots t told = record {
+  more = λ counted unmarked reference.
       elim (few_or_many (most_slots t) (2 ^ 24)) [
         | inl few ↦ absurd
-            (told.each t (subst (λ k. Reads ws 0 k t) (sym at) w.0)
-            (record { unforked = region; no_reference = reference; few = few }))
+            (told (record { counted = counted; unmarked = unmarked; no_reference = reference; few = few }))
         | inr many ↦ many
       ];
 }

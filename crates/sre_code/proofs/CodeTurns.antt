@@ -8,13 +8,13 @@ use Rattle.sre_model.specs.Slots.{most_slots}
 use Rattle.sre_model.specs.RunCounts.{most_counts}
 use Rattle.sre_model.specs.Alternatives.{most_alternatives}
 use Rattle.sre_model.specs.References.{refers}
-use Rattle.sre_model.specs.Grammar.{Reads, WholeItems, Whole, behind_block}
-use Rattle.sre_model.specs.Remembered.{window_positions, words_at_place, IsRemembered, enough_turns}
+use Rattle.sre_model.specs.Grammar.{WholeItems, Whole, behind_block}
+use Rattle.sre_model.specs.Remembered.{window_positions, words_at_place, IsRemembered, spots_at_most}
+use Rattle.sre_model.specs.Remembered.{enough_turns}
 use Rattle.sre_model.proofs.WiderWindows.{IsInside, remembered_inside, enough_inside}
-use Rattle.sre_code.specs.PlainItems.{IsPlain, AreTold}
 use Rattle.sre_code.specs.EnoughTurns.{IsWindow, IsWholeText, AreEnoughFor, HasNoNumber}
-use Rattle.sre_code.specs.TurnsTold.{NumberTold, NumberBy, AreWhole, turns_on, room_by}
-use Rattle.sre_code.specs.declared.code.slots.Passed.{Passed}
+use Rattle.sre_code.specs.TurnsTold.{IsCounted, CountedTold, NumberTold, NumberBy, AreWhole, turns_on, room_by}
+use Rattle.sre_code.specs.declared.code.turns.Counted.{Counted}
 
 -- the number as it is written, of positions from start to end
 abbrev written : ℕ → ℕ → ℕ → ℕ → ℕ → ℕ → ℕ
@@ -29,13 +29,13 @@ from_start p s d m n =
 
 module _ (places : ℕ) (t : Tree) (n : ℕ) where
   abbrev told : ℕ
-  told = turns_on places (most_slots t) (most_alternatives t) (most_counts t) n
+  told = turns_on places (spots_at_most t) (most_alternatives t) (most_counts t) n
 
   on_whole : (a : Asked) → IsWholeText n a → enough_turns places t a ≡ told
   on_whole a w =
-      ap (λ i. written places (most_slots t) (most_alternatives t) (most_counts t) i a.end) w.start
-      ∙ ap (λ j. written places (most_slots t) (most_alternatives t) (most_counts t) 0 j) w.end
-      ∙ from_start places (most_slots t) (most_alternatives t) (most_counts t) n
+      ap (λ i. written places (spots_at_most t) (most_alternatives t) (most_counts t) i a.end) w.start
+      ∙ ap (λ j. written places (spots_at_most t) (most_alternatives t) (most_counts t) 0 j) w.end
+      ∙ from_start places (spots_at_most t) (most_alternatives t) (most_counts t) n
 
   room_on_whole : (a : Asked) → IsWholeText n a
       → places * words_at_place t a ≡ room_by places (n + 1) (most_slots t)
@@ -58,9 +58,9 @@ module _ (places : ℕ) (t : Tree) (n : ℕ) where
       let all : window_positions a ≡ n + 1 = omega (arith, w.start, w.end) in
       ap (λ f. most_slots t * 2 * f / 64 + 1) all
 
-  enough_for : (turns : ℕ) → IsPlain (2 ^ 24) t → room_by places (n + 1) (most_slots t) ≤ 2 ^ 30
+  enough_for : (turns : ℕ) → IsCounted t → room_by places (n + 1) (most_slots t) ≤ 2 ^ 30
       → AreWhole (n + 1) (most_slots t) → turns ≡ told + 1 → AreEnoughFor places t n turns
-  enough_for turns plain room fits is = record {
+  enough_for turns counted room fits is = record {
     remembered = λ a w. remembered_inside places t a (around a) (inside a w) (kept a);
     more = λ a w. omega (arith, enough_inside places t a (around a) (inside a w), on_whole (around a) (whole a), is);
     least = λ a w. omega (arith, on_whole a w, is);
@@ -68,18 +68,20 @@ module _ (places : ℕ) (t : Tree) (n : ℕ) where
     where
       kept : (a : Asked) → IsRemembered places t (around a)
       kept a = record {
-        unforked = plain.unforked;
-        no_reference = plain.no_reference;
-        slots = plain.few;
+        counted = counted.counted;
+        unmarked = counted.unmarked;
+        no_reference = counted.no_reference;
+        slots = counted.few;
         whole = λ many. omega (arith, whole_on_whole (around a) (whole a), fits many);
         room = omega (arith, room_on_whole (around a) (whole a), room);
         order = omega arith;
       }
 
-  number_told : (r : Option ℕ) → IsPlain (2 ^ 24) t
-      → NumberBy places (most_slots t) (most_alternatives t) (most_counts t) n r → NumberTold places t n r
-  number_told (Some turns) plain by = enough_for turns plain by.0 by.1 by.2
-  number_told None plain by = record {
+  number_told : (r : Option ℕ) → IsCounted t
+      → NumberBy places (most_slots t) (spots_at_most t) (most_alternatives t) (most_counts t) n r
+      → NumberTold places t n r
+  number_told (Some turns) counted by = enough_for turns counted by.0 by.1 by.2
+  number_told None counted by = record {
     none = λ a w kept.
         omega (
           arith,
@@ -89,24 +91,28 @@ module _ (places : ℕ) (t : Tree) (n : ℕ) where
         );
   }
 
-pub turns_told : (ws : List ℕ) (e n counts : ℕ) (p : Passed) (r : Option ℕ)
-    → AreTold (2 ^ 24) ws 0 e (Some p) → e ≡ length ws - 1 → NumberBy (length ws) p.slots p.alternatives counts n r
-    → (t : Tree) → WholeItems ws t → (refers t ≡ false → counts ≡ most_counts t) → NumberTold (length ws) t n r
-turns_told ws e n counts p r told at by t w counted =
-    let are = told.each t (subst (λ k. Reads ws 0 k t) (sym at) w.0) in
-    number_told (length ws) t n r are.0
-    (subst (λ c. NumberBy (length ws) (most_slots t) (most_alternatives t) c n r) (counted are.0.no_reference)
-    (subst (λ d. NumberBy (length ws) (most_slots t) d counts n r) are.3
-    (subst (λ s. NumberBy (length ws) s p.alternatives counts n r) are.2 by)))
+pub turns_told : (ws : List ℕ) (n counts : ℕ) (c : Counted) (r : Option ℕ) (t : Tree) → CountedTold t (Some c)
+    → NumberBy (length ws) c.slots c.spots c.alternatives counts n r → (refers t ≡ false → counts ≡ most_counts t)
+    → NumberTold (length ws) t n r
+turns_told ws n counts c r t told by counted =
+    number_told (length ws) t n r told.0
+    (subst (λ k. NumberBy (length ws) (most_slots t) (spots_at_most t) (most_alternatives t) k n r)
+    (counted told.0.no_reference)
+    (subst (λ d. NumberBy (length ws) (most_slots t) (spots_at_most t) d counts n r) told.3
+    (subst (λ m. NumberBy (length ws) (most_slots t) m c.alternatives counts n r) told.2
+    (subst (λ s. NumberBy (length ws) s c.spots c.alternatives counts n r) told.1 by))))
 
--- where the items are not plain there is none
-pub no_turns : (ws : List ℕ) (e n : ℕ) → AreTold (2 ^ 24) ws 0 e None → e ≡ length ws - 1 → (t : Tree) → WholeItems ws t
-    → HasNoNumber (length ws) t n
-no_turns ws e n told at t w = record {
+-- where the tree is not counted there is none
+pub no_turns : (ws : List ℕ) (n : ℕ) (t : Tree) → CountedTold t None → HasNoNumber (length ws) t n
+no_turns ws n t told = record {
   none = λ a whole kept.
       absurd
-      (told.each t (subst (λ k. Reads ws 0 k t) (sym at) w.0)
-      (record { unforked = kept.unforked; no_reference = kept.no_reference; few = kept.slots }));
+      (told (record {
+        counted = kept.counted;
+        unmarked = kept.unmarked;
+        no_reference = kept.no_reference;
+        few = kept.slots;
+      }));
 }
 
 -- what is told of each tree, by whether a number is

@@ -22,6 +22,7 @@ pub mod Asking
 pub mod MarksOutside
 pub mod Seeking
 pub mod UnmarkedRegions
+pub mod BarredRegions
 pub mod ScanningLoops
 pub mod PassedParts
 pub mod CappedTurns

@@ -7,7 +7,6 @@ use Rattle.sre_chars.specs.Numbers.{opcode_number}
 use Rattle.sre_chars.specs.declared.constants.SreOpcode.{SreOpcode}
 use Rattle.sre_model.specs.Tree.{Trees, Only, Or, Test}
 use Rattle.sre_model.specs.References.{refers}
-use Rattle.sre_model.specs.Regions.{has_forked_region}
 use Rattle.sre_model.specs.Slots.{loop_slots, most_slots}
 use Rattle.sre_model.specs.Alternatives.{alternatives_of}
 use Rattle.sre_model.specs.Roles.{role}
@@ -15,9 +14,10 @@ use Rattle.sre_model.specs.Grammar.{Word, word, skip, Opcode, Reads, ReadsBranch
 use Rattle.sre_model.proofs.Words.{same_opcode, word_of}
 use Rattle.sre_model.proofs.Places.{alternative_long}
 use Rattle.sre_code.specs.Reading.{ReadsTest, NoCode}
-use Rattle.sre_code.specs.Instructions.{own_words, count_at, Behind, NoneBehind}
-use Rattle.sre_code.specs.PlainItems.{ArePlain, IsPlain, flat, AreTold, AreCounted, LoopTold, BranchTold}
-use Rattle.sre_code.specs.PlainItems.{OtherTold, kind_of, ToldBy, ToldAt}
+use Rattle.sre_code.specs.Instructions.{own_words, count_at, Behind, NoneBehind, StandsBehind}
+use Rattle.sre_code.specs.PlainItems.{has_barred_region, ArePlain, IsPlain, flat, AreTold, AreCounted, LoopTold}
+use Rattle.sre_code.specs.PlainItems.{BranchTold, OtherTold, kind_of, ToldBy, ToldAt}
+use Rattle.sre_code.specs.declared.code.slots.Regions.{Regions}
 use Rattle.sre_code.specs.declared.code.slots.Kind.{Kind}
 use Rattle.sre_code.specs.declared.code.slots.Passed.{Passed}
 use Rattle.sre_code.proofs.Scanning.{behind_test, behind_own}
@@ -28,7 +28,7 @@ loop_none : (most low high m : ℕ) (a b : Bool) → (ArePlain (most / loop_slot
     → ArePlain most a b (loop_slots low high * m) → ⊥
 loop_none most low high m a b not x =
     not (record {
-      unforked = x.unforked;
+      unbarred = x.unbarred;
       no_reference = x.no_reference;
       few = le-div m most (loop_slots low high) (omega arith) (omega (arith, x.few));
     })
@@ -36,21 +36,21 @@ loop_none most low high m a b not x =
 loop_some : (most low high m : ℕ) (a b : Bool) → ArePlain (most / loop_slots low high) a b m
     → ArePlain most a b (loop_slots low high * m)
 loop_some most low high m a b x = record {
-  unforked = x.unforked;
+  unbarred = x.unbarred;
   no_reference = x.no_reference;
   few =
       omega (arith, mul-le-mul_left (loop_slots low high) x.few, div-mul-le_self most (loop_slots low high));
 }
 
 -- where nothing is left the body has more
-pub nothing_left : (ws : List ℕ) (i end : ℕ) → AreTold 0 ws i end None
-nothing_left ws i end = record { each = λ t w x. omega (arith, x.few, some_slots t) }
+pub nothing_left : (q : Regions) (ws : List ℕ) (i end : ℕ) → AreTold q 0 ws i end None
+nothing_left q ws i end = record { each = λ t w x. omega (arith, x.few, some_slots q t) }
 
 -- a product of slots is no more than there may be
 pub within : (most slots m : ℕ) → m ≤ most / slots → slots * m ≤ most
 within most slots m le = omega (arith, mul-le-mul_left slots le, div-mul-le_self most slots)
 
-module _ (ws : List ℕ) (most i by least greatest slots left : ℕ) (to : by ≡ word ws (i + 1))
+module _ (q : Regions) (ws : List ℕ) (most i by least greatest slots left : ℕ) (to : by ≡ word ws (i + 1))
     (first : least ≡ word ws (i + 2)) (second : greatest ≡ word ws (i + 3)) (is : slots ≡ loop_slots least greatest)
     (rest : left ≡ most / slots) where
   same_slots : (low high : ℕ) → Word ws (i + 2) low → Word ws (i + 3) high → slots ≡ loop_slots low high
@@ -61,18 +61,18 @@ module _ (ws : List ℕ) (most i by least greatest slots left : ℕ) (to : by �
   same_end : i + 1 + by ≡ skip ws (i + 1)
   same_end = ap (λ n. i + 1 + n) to
 
-  pub loop_stops : AreTold left ws (i + 4) (i + 1 + by) None → LoopTold most ws i None
+  pub loop_stops : AreTold q left ws (i + 4) (i + 1 + by) None → LoopTold q most ws i None
   loop_stops told = record {
     each = λ o low high body j w.
         let same : left ≡ most / loop_slots low high = rest ∙ ap (λ n. most / n) (same_slots low high w.0 w.1) in
         let reads : Reads ws (i + 4) (i + 1 + by) body =
         subst (λ n. Reads ws (i + 4) n body) (sym same_end) w.3 in
-        loop_none most low high (most_slots body) (has_forked_region body) (refers body)
-        (subst (λ n. IsPlain n body → ⊥) same (told.each body reads));
+        loop_none most low high (most_slots body) (has_barred_region q body) (refers body)
+        (subst (λ n. IsPlain q n body → ⊥) same (told.each body reads));
   }
 
-  pub loop_passed : (p : Passed) → AreTold left ws (i + 4) (i + 1 + by) (Some p)
-      → LoopTold most ws i
+  pub loop_passed : (p : Passed) → AreTold q left ws (i + 4) (i + 1 + by) (Some p)
+      → LoopTold q most ws i
       (Some (record { behind = i + 1 + by + 1; slots = slots * p.slots; alternatives = p.alternatives }))
   loop_passed p told = record {
     each = λ o low high body j w.
@@ -81,8 +81,8 @@ module _ (ws : List ℕ) (most i by least greatest slots left : ℕ) (to : by �
         let reads : Reads ws (i + 4) (i + 1 + by) body =
         subst (λ n. Reads ws (i + 4) n body) (sym same_end) w.3 in
         let t = told.each body reads in (
-          loop_some most low high (most_slots body) (has_forked_region body) (refers body)
-              (subst (λ n. IsPlain n body) same t.0),
+          loop_some most low high (most_slots body) (has_barred_region q body) (refers body)
+              (subst (λ n. IsPlain q n body) same t.0),
           omega (arith, same_end, w.5, t.1),
           ap (λ n. n * p.slots) own ∙ ap (λ n. loop_slots low high * n) t.2,
           t.3,
@@ -91,15 +91,15 @@ module _ (ws : List ℕ) (most i by least greatest slots left : ℕ) (to : by �
 
 module _ (ws : List ℕ) (i : ℕ) where
   -- only one opcode is there
-  pub told_at : (most : ℕ) (code : SreOpcode) (k : Kind) (r : Option Passed) → Opcode ws i code
-      → kind_of (role code) ≡ k → ToldBy k most ws i r → ToldAt most ws i r
-  told_at most code k r there is h = record {
+  pub told_at : (q : Regions) (most : ℕ) (code : SreOpcode) (k : Kind) (r : Option Passed) → Opcode ws i code
+      → kind_of (role code) ≡ k → ToldBy k q most ws i r → ToldAt q most ws i r
+  told_at q most code k r there is h = record {
     by = λ o w.
-        subst (λ z. ToldBy z most ws i r) (sym is ∙ ap (λ p. kind_of (role p)) (same_opcode ws i code o there w)) h;
+        subst (λ z. ToldBy z q most ws i r) (sym is ∙ ap (λ p. kind_of (role p)) (same_opcode ws i code o there w)) h;
   }
 
-  pub none_at : (most : ℕ) → NoCode opcode_number ws i → ToldAt most ws i None
-  none_at most none = record { by = λ o w. absurd (none.none o w) }
+  pub none_at : (q : Regions) (most : ℕ) → NoCode opcode_number ws i → ToldAt q most ws i None
+  none_at q most none = record { by = λ o w. absurd (none.none o w) }
 
   pub branch_at : (n : ℕ) → AreCounted ws (i + 1) n → BranchTold ws i (Some (flat (i + 2) n))
   branch_at n h = record { each = λ ts j w. ap (λ m. Some (flat (i + 2) m)) (h.each ts j w) }
@@ -113,10 +113,10 @@ module _ (ws : List ℕ) (i : ℕ) where
       z.4 ∙ sym (behind_own ws i l d z.1 z.0 z.2 z.3 y).0)
       x.one
 
-  pub other_some : (k c : ℕ) → Behind ws i k c → OtherTold ws i (Some (flat k 0))
-  other_some k c h = record {
-    some = λ l d y. ap (λ n. Some (flat n 0)) (one_behind k c l d h y);
-    none = λ not. absurd (not.none k c h);
+  pub other_some : (k : ℕ) → StandsBehind ws i k → OtherTold ws i (Some (flat k 0))
+  other_some k h = record {
+    some = λ l d y. ap (λ n. Some (flat n 0)) (one_behind k h.count l d h.behind y);
+    none = λ not. absurd (not.none k h.count h.behind);
   }
 
   pub other_none : NoneBehind ws i → OtherTold ws i None

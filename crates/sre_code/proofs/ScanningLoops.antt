@@ -1,30 +1,34 @@
--- A scan from one instruction to the next, into each alternative and past each loop and each region, tells how many
--- slots and alternatives plain items have, or that they are not plain.
-use Rattle.std.proofs.Common.{ℕ, ◌+◌, ◌≡◌, ◌<◌, ◌≤◌, ◌⊎◌, inl, inr, Bool, true, false}
+-- A scan from one instruction to the next, into each alternative, past each loop, and past each region or into it,
+-- tells how many slots and alternatives plain items have, or that they are not plain.
+use Rattle.std.proofs.Common.{ℕ, ◌+◌, ◌≡◌, ◌<◌, ◌≤◌, ◌⊎◌, inl, inr, Bool, true, false, ◌&&◌}
 use Rattle.std.proofs.Common.{◌||◌, List, Option, Some, None, max, refl, sym, ap, ap₂, ◌∙◌, subst, arith}
 use Rattle.std.proofs.lemmas.Bool.{true≢false}
 use Rattle.std.proofs.Math.Nat.{le-max_right, max-zero}
-use Rattle.sre_model.specs.Tree.{Tree, Empty, Then, Item, Loop, Atomic, Look, Trees, Only, Or}
+use Rattle.sre_model.specs.Tree.{Tree, Empty, Then, Item, Loop, Trees, Only, Or}
 use Rattle.sre_model.specs.References.{refers, by_references}
 use Rattle.sre_model.specs.Folding.{Folding, of_tree, of_item, of_branch}
 use Rattle.sre_model.proofs.Foldings.{paired, tree_paired, item_paired}
-use Rattle.sre_model.specs.Regions.{forks, has_forked_region, by_forked_regions}
+use Rattle.sre_model.specs.Regions.{forks}
 use Rattle.sre_model.specs.Slots.{most_slots, by_slots}
 use Rattle.sre_model.specs.Alternatives.{alternatives_of, most_alternatives, by_alternatives}
 use Rattle.sre_model.specs.Roles.{Role, ToTest, TestKind}
 use Rattle.sre_model.specs.Grammar.{Reads}
 use Rattle.sre_model.proofs.Families.{HasRole, test_here}
 use Rattle.sre_model.proofs.Places.{test_past}
+use Rattle.sre_model.proofs.Words.{word_of}
 use Rattle.sre_code.specs.Instructions.{own_words}
-use Rattle.sre_code.specs.PlainItems.{ArePlain, IsPlain, TreeTold, ItemTold, flat, AreTold}
-use Rattle.sre_code.specs.PlainItems.{passed_unless, kind_of, ToldBy, ToldAt}
+use Rattle.sre_code.specs.PlainItems.{stops_at_forks, by_barred_regions, has_barred_region, ArePlain, IsPlain}
+use Rattle.sre_code.specs.PlainItems.{TreeTold, ItemTold, flat, AreTold, flat_unless, region_passed, kind_of, ToldBy}
+use Rattle.sre_code.specs.PlainItems.{ToldAt}
+use Rattle.sre_code.specs.declared.code.slots.Regions.{Regions}
 use Rattle.sre_code.specs.declared.code.slots.Kind.{Kind}
 use Rattle.sre_code.specs.declared.code.slots.Kind.TheVariants as kind
 use Rattle.sre_code.specs.declared.code.slots.Passed.{Passed}
 use Rattle.sre_code.proofs.Walking as passed
-use Rattle.sre_code.proofs.Walking.{Scanner, Scan, Instructions, goes_on, stops_at, ends_at, step, join, said_of}
-use Rattle.sre_code.proofs.Walking.{tree_walked}
-use Rattle.sre_code.proofs.Seeking.{none_right, none_of, bare_region}
+use Rattle.sre_code.proofs.Walking.{Scanner, Scan, Instructions, goes_on, stops_at, ends_at, step, join, behind}
+use Rattle.sre_code.proofs.Walking.{said_of, tree_walked}
+use Rattle.sre_code.proofs.Seeking.{none_right, none_of}
+use Rattle.sre_code.proofs.BarredRegions.{bare_region}
 use Rattle.sre_code.proofs.Scanning.{role_behind, none_of_role, to_refer, to_check, max_assoc}
 
 -- what was passed where a scan comes to k
@@ -35,71 +39,93 @@ reached k s a = record { behind = k; slots = s; alternatives = a }
 pub both_plain : (most m n : ℕ) (a b c d : Bool) → ArePlain most a b m → ArePlain most c d n
     → ArePlain most (a || c) (b || d) (max m n)
 both_plain most m n false false false false x y =
-    record { unforked = refl; no_reference = refl; few = omega (arith, x.few, y.few) }
-both_plain most m n true b c d x y = absurd (true≢false x.unforked)
+    record { unbarred = refl; no_reference = refl; few = omega (arith, x.few, y.few) }
+both_plain most m n true b c d x y = absurd (true≢false x.unbarred)
 both_plain most m n a true c d x y = absurd (true≢false x.no_reference)
-both_plain most m n a b true d x y = absurd (true≢false y.unforked)
+both_plain most m n a b true d x y = absurd (true≢false y.unbarred)
 both_plain most m n a b c true x y = absurd (true≢false y.no_reference)
 
 pub first_plain : (most m n : ℕ) (a b c d : Bool) → ArePlain most (a || c) (b || d) (max m n) → ArePlain most a b m
 first_plain most m n false false c d x =
-    record { unforked = refl; no_reference = refl; few = omega (arith, x.few) }
-first_plain most m n true b c d x = absurd (true≢false x.unforked)
+    record { unbarred = refl; no_reference = refl; few = omega (arith, x.few) }
+first_plain most m n true b c d x = absurd (true≢false x.unbarred)
 first_plain most m n a true c d x = absurd (true≢false x.no_reference)
 
 pub second_plain : (most m n : ℕ) (a b c d : Bool) → ArePlain most (a || c) (b || d) (max m n) → ArePlain most c d n
 second_plain most m n false false c d x =
-    record { unforked = x.unforked; no_reference = x.no_reference; few = omega (arith, x.few) }
-second_plain most m n true b c d x = absurd (true≢false x.unforked)
+    record { unbarred = x.unbarred; no_reference = x.no_reference; few = omega (arith, x.few) }
+second_plain most m n true b c d x = absurd (true≢false x.unbarred)
 second_plain most m n a true c d x = absurd (true≢false x.no_reference)
 
 -- what has no loop is
 pub one_plain : (most : ℕ) → 1 ≤ most → ArePlain most false false 1
-one_plain most some = record { unforked = refl; no_reference = refl; few = some }
+one_plain most some = record { unbarred = refl; no_reference = refl; few = some }
 
--- all that is told of a tree: whether it has regions that fork and references, its slots and its alternatives
-abbrev by_all : Folding ((Bool × Bool) × (ℕ × ℕ))
-by_all = paired (paired by_forked_regions by_references) (paired by_slots by_alternatives)
+-- all that is told of a tree: whether it has regions that end a scan and references, its slots and its alternatives
+abbrev by_all : Regions → Folding ((Bool × Bool) × (ℕ × ℕ))
+by_all q = paired (paired (by_barred_regions q) by_references) (paired by_slots by_alternatives)
 
-all_of_tree : (t : Tree) → of_tree by_all t ≡ ((has_forked_region t, refers t), (most_slots t, most_alternatives t))
-all_of_tree t =
-    tree_paired (paired by_forked_regions by_references) (paired by_slots by_alternatives) t
-    ∙ ap₂ (λ a b. (a, b)) (tree_paired by_forked_regions by_references t) (tree_paired by_slots by_alternatives t)
+-- the same of a tree, and of an item
+abbrev tree_values : Regions → Tree → (Bool × Bool) × (ℕ × ℕ)
+tree_values q t = ((has_barred_region q t, refers t), (most_slots t, most_alternatives t))
 
-all_of_item : (x : Item)
-    → of_item by_all x
-    ≡ ((of_item by_forked_regions x, of_item by_references x), (of_item by_slots x, of_item by_alternatives x))
-all_of_item x =
-    item_paired (paired by_forked_regions by_references) (paired by_slots by_alternatives) x
-    ∙ ap₂ (λ a b. (a, b)) (item_paired by_forked_regions by_references x) (item_paired by_slots by_alternatives x)
+abbrev item_values : Regions → Item → (Bool × Bool) × (ℕ × ℕ)
+item_values q x =
+    ((of_item (by_barred_regions q) x, of_item by_references x), (of_item by_slots x, of_item by_alternatives x))
+
+all_of_tree : (q : Regions) (t : Tree) → of_tree (by_all q) t ≡ tree_values q t
+all_of_tree q t =
+    tree_paired (paired (by_barred_regions q) by_references) (paired by_slots by_alternatives) t
+    ∙ ap₂ (λ a b. (a, b)) (tree_paired (by_barred_regions q) by_references t) (tree_paired by_slots by_alternatives t)
+
+all_of_item : (q : Regions) (x : Item) → of_item (by_all q) x ≡ item_values q x
+all_of_item q x =
+    item_paired (paired (by_barred_regions q) by_references) (paired by_slots by_alternatives) x
+    ∙ ap₂ (λ a b. (a, b)) (item_paired (by_barred_regions q) by_references x) (item_paired by_slots by_alternatives x)
 
 abbrev AllPlain : ℕ → (Bool × Bool) × (ℕ × ℕ) → Type 0
 AllPlain most a = ArePlain most a.0.0 a.0.1 a.1.0
 
+-- what is told of what has these values and ends at j
+abbrev ValuesTold : ℕ → ℕ → (Bool × Bool) × (ℕ × ℕ) → Option Passed → Type 0
+ValuesTold most j a (Some p) = AllPlain most a × (p.behind ≡ j) × (p.slots ≡ a.1.0) × (p.alternatives ≡ a.1.1)
+ValuesTold most j a None = AllPlain most a → ⊥
+
+told_values : (q : Regions) (most j : ℕ) (x : Item) (r : Option Passed) → ItemTold q most j x r
+    → ValuesTold most j (item_values q x) r
+told_values q most j x (Some p) h = h
+told_values q most j x None h = h
+
 -- one slot is there at least
-some_of_tree : (t : Tree) → 1 ≤ (of_tree by_all t).1.0
-some_of_tree Empty = omega arith
-some_of_tree (Then x t) =
-    omega (arith, some_of_tree t, le-max_right (of_item by_all x).1.0 (of_tree by_all t).1.0)
+some_of_tree : (q : Regions) (t : Tree) → 1 ≤ (of_tree (by_all q) t).1.0
+some_of_tree q Empty = omega arith
+some_of_tree q (Then x t) =
+    omega (arith, some_of_tree q t, le-max_right (of_item (by_all q) x).1.0 (of_tree (by_all q) t).1.0)
 
-some_of_branch : (ts : Trees) → 1 ≤ (of_branch by_all ts).1.0
-some_of_branch (Only t) = some_of_tree t
-some_of_branch (Or t ts) = omega (arith, some_of_tree t)
+some_of_branch : (q : Regions) (ts : Trees) → 1 ≤ (of_branch (by_all q) ts).1.0
+some_of_branch q (Only t) = some_of_tree q t
+some_of_branch q (Or t ts) = omega (arith, some_of_tree q t)
 
-pub some_slots : (t : Tree) → 1 ≤ most_slots t
-some_slots t = subst (λ (a : (Bool × Bool) × (ℕ × ℕ)). 1 ≤ a.1.0) (all_of_tree t) (some_of_tree t)
+pub some_slots : (q : Regions) (t : Tree) → 1 ≤ most_slots t
+some_slots q t = subst (λ (a : (Bool × Bool) × (ℕ × ℕ)). 1 ≤ a.1.0) (all_of_tree q t) (some_of_tree q t)
 
--- an atomic group or a look is plain where its body neither forks nor refers, and only there
-region_told : (most : ℕ) → 1 ≤ most → (j : ℕ) (body : Tree) (r : Option Passed)
-    → r ≡ passed_unless (forks body || refers body) j → ItemTold most j (Atomic body) r
-region_told most some j body r is =
-    subst (ItemTold most j (Atomic body)) (sym is) (by (forks body || refers body) refl)
+-- what an atomic group or a look has by its body, where a fork in it ends the scan, or where it does not
+abbrev around_body : Bool → Tree → (Bool × Bool) × (ℕ × ℕ) → (Bool × Bool) × (ℕ × ℕ)
+around_body stops body a = (((stops && forks body) || a.0.0, a.0.1), (a.1.0, a.1.1))
+
+-- where one does, it is plain where its body neither forks nor refers, and only there
+region_told : (q : Regions) (most : ℕ) → 1 ≤ most → (j : ℕ) (body : Tree) (r : Option Passed)
+    → r ≡ flat_unless (forks body || refers body) j → ValuesTold most j (around_body true body (tree_values q body)) r
+region_told q most some j body r is =
+    subst (ValuesTold most j (around_body true body (tree_values q body))) (sym is)
+    (by (forks body || refers body) refl)
   where
-    by : (b : Bool) → (forks body || refers body) ≡ b → ItemTold most j (Atomic body) (passed_unless b j)
+    by : (b : Bool) → (forks body || refers body) ≡ b
+        → ValuesTold most j (around_body true body (tree_values q body)) (flat_unless b j)
     by false none =
-        let bare = bare_region body none in (
+        let bare = bare_region q true body none in (
           record {
-            unforked = bare.unforked;
+            unbarred = bare.unforked;
             no_reference = none_right (forks body) (refers body) none;
             few = omega (arith, bare.one, some);
           },
@@ -109,13 +135,13 @@ region_told most some j body r is =
         )
     by true fork = λ x.
         true≢false
-        (sym fork ∙ none_of (forks body) (refers body) (has_forked_region body) x.unforked x.no_reference)
+        (sym fork ∙ none_of (forks body) (refers body) (has_barred_region q body) x.unbarred x.no_reference)
 
-module _ (ws : List ℕ) (most : ℕ) (some : 1 ≤ most) where
+module _ (q : Regions) (ws : List ℕ) (most : ℕ) (some : 1 ≤ most) where
   -- what is told of an instruction, by its role
-  by_role : (i : ℕ) (o : Role) (k : Kind) (r : Option Passed) → HasRole ws i o → kind_of o ≡ k → ToldAt most ws i r
-      → ToldBy k most ws i r
-  by_role i o k r h is told = subst (λ z. ToldBy z most ws i r) (ap kind_of h.begins ∙ is) (told.by h.code h.there)
+  by_role : (i : ℕ) (o : Role) (k : Kind) (r : Option Passed) → HasRole ws i o → kind_of o ≡ k → ToldAt q most ws i r
+      → ToldBy k q most ws i r
+  by_role i o k r h is told = subst (λ z. ToldBy z q most ws i r) (ap kind_of h.begins ∙ is) (told.by h.code h.there)
 
   module _ (end : ℕ) where
     -- a scan says what it has passed, or stops where what it comes to is not plain
@@ -123,12 +149,12 @@ module _ (ws : List ℕ) (most : ℕ) (some : 1 ≤ most) where
     scanner = record {
       words = ws;
       end = end;
-      Next = λ i k c. ToldAt most ws i (Some (reached k c.0 c.1));
-      Stops = λ i. ToldAt most ws i None;
+      Next = λ i k c. ToldAt q most ws i (Some (reached k c.0 c.1));
+      Stops = λ i. ToldAt q most ws i None;
       add = λ m c. (max m.0 c.0, max m.1 c.1);
       ended = λ i m. Some (reached i m.0 m.1);
       stopped = None;
-      folding = by_all;
+      folding = by_all q;
       worth = λ a. a.1;
       Bad = λ a. AllPlain most a → ⊥;
       Good = AllPlain most;
@@ -149,7 +175,7 @@ module _ (ws : List ℕ) (most : ℕ) (some : 1 ≤ most) where
     Passes = passed.Passed scanner
 
     -- an instruction that has no loop, and so many alternatives
-    flat_passed : (i j n : ℕ) → i < j → ((r : Option Passed) → ToldAt most ws i r → r ≡ Some (flat j n))
+    flat_passed : (i j n : ℕ) → i < j → ((r : Option Passed) → ToldAt q most ws i r → r ≡ Some (flat j n))
         → Passes i j ((false, false), (1, n))
     flat_passed i j n lt told =
         step scanner i j ((false, false), (1, n)) lt
@@ -170,7 +196,7 @@ module _ (ws : List ℕ) (most : ℕ) (some : 1 ≤ most) where
 
     -- one that is not plain: a possessive loop, and a reference or a condition
     barred : (i j : ℕ) (a : (Bool × Bool) × (ℕ × ℕ)) → i < j
-        → ((r : Option Passed) → ToldAt most ws i r → r ≡ None) → (AllPlain most a → ⊥) → Passes i j a
+        → ((r : Option Passed) → ToldAt q most ws i r → r ≡ None) → (AllPlain most a → ⊥) → Passes i j a
     barred i j a lt told not =
         step scanner i j a lt
         (λ k c h. let no : Some (reached k c.0 c.1) ≡ None = told (Some (reached k c.0 c.1)) h in absurd (cc))
@@ -181,16 +207,32 @@ module _ (ws : List ℕ) (most : ℕ) (some : 1 ≤ most) where
     referring i j o a lt h e other is not =
         barred i j a lt (λ r told. (by_role i o kind.Other r h is told).none (none_of_role ws i o h e other)) not
 
-    -- a loop, an atomic group or a look, whose body is passed with it
-    item_passed : (i j : ℕ) (x : Item) → i < j → ((r : Option Passed) → ToldAt most ws i r → ItemTold most j x r)
-        → Passes i j (of_item by_all x)
-    item_passed i j x lt told =
-        subst (Passes i j) (sym (all_of_item x))
-        (step scanner i j
-        ((of_item by_forked_regions x, of_item by_references x), (of_item by_slots x, of_item by_alternatives x)) lt
+    -- an item whose body is passed with it
+    values_passed : (i j : ℕ) (a : (Bool × Bool) × (ℕ × ℕ)) → i < j
+        → ((r : Option Passed) → ToldAt q most ws i r → ValuesTold most j a r) → Passes i j a
+    values_passed i j a lt told =
+        step scanner i j a lt
         (λ k c h.
         let is = told (Some (reached k c.0 c.1)) h in
-        (is.0, is.1, ap₂ (λ s a. (s, a)) is.2 is.3)) (λ h. told None h))
+        (is.0, is.1, ap₂ (λ s a. (s, a)) is.2 is.3)) (λ h. told None h)
+
+    -- a loop
+    item_passed : (i j : ℕ) (x : Item) → i < j → ((r : Option Passed) → ToldAt q most ws i r → ItemTold q most j x r)
+        → Passes i j (of_item (by_all q) x)
+    item_passed i j x lt told =
+        subst (Passes i j) (sym (all_of_item q x))
+        (values_passed i j (item_values q x) lt (λ r h. told_values q most j x r (told r h)))
+
+    -- an atomic group or a look, which is passed whole or stepped into
+    region_scanned : (i b j : ℕ) (body : Tree) (stops : Bool) → i < b → i < j
+        → ((r : Option Passed) → ToldAt q most ws i r → r ≡ region_passed stops (forks body || refers body) b j)
+        → Passes b j (of_tree (by_all q) body) → Passes i j (around_body stops body (of_tree (by_all q) body))
+    region_scanned i b j body true before lt told y =
+        subst (λ (a : (Bool × Bool) × (ℕ × ℕ)). Passes i j (around_body true body a)) (sym (all_of_tree q body))
+        (values_passed i j (around_body true body (tree_values q body)) lt
+        (λ r h. region_told q most some j body r (told r h)))
+    region_scanned i b j body false before lt told y =
+        behind scanner i b j (of_tree (by_all q) body) (flat_passed i b 0 before told) y
 
     instructions : Instructions scanner
     instructions = record {
@@ -204,8 +246,8 @@ module _ (ws : List ℕ) (most : ℕ) (some : 1 ≤ most) where
       at = λ a. refl;
       mark = λ i n h. own i 2 _ h refl (omega arith) refl;
       branch = λ i j ts lt h w y.
-          let a : (Bool × Bool) × (ℕ × ℕ) = of_branch by_all ts in
-          let some : 1 ≤ a.1.0 = some_of_branch ts in
+          let a : (Bool × Bool) × (ℕ × ℕ) = of_branch (by_all q) ts in
+          let some : 1 ≤ a.1.0 = some_of_branch q ts in
           let one : max 1 a.1.0 ≡ a.1.0 = omega (arith, some) in
           subst (λ s. Passes i j (a.0, (s, max (alternatives_of ts) a.1.1))) one
           (join scanner i (i + 2) j ((false, false), (1, alternatives_of ts)) a
@@ -216,62 +258,63 @@ module _ (ws : List ℕ) (most : ℕ) (some : 1 ≤ most) where
           item_passed i j (Loop o low high body) lt
           (λ r told. (by_role i _ kind.Loop r h refl told).each o low high body j w);
       possessive = λ i j low high body lt h w y.
-          barred i j _ lt (λ r told. by_role i _ kind.PossessiveLoop r h refl told) (λ x. true≢false x.unforked);
+          barred i j _ lt (λ r told. by_role i _ kind.PossessiveLoop r h refl told) (λ x. true≢false x.unbarred);
       atomic = λ i j body lt h w y.
-          item_passed i j (Atomic body) lt
-          (λ r told.
-          region_told most some j body r ((by_role i _ kind.AtomicGroup r h refl told).each body j w.0 w.1));
+          region_scanned i (i + 2) j body (stops_at_forks q 0) (omega arith) lt
+          (λ r told. (by_role i _ kind.AtomicGroup r h refl told).each body j w.0 w.1) y;
       look = λ i j sign back body lt h w y.
-          item_passed i j (Look sign back body) lt
-          (λ r told. region_told most some j body r ((by_role i _ kind.Look r h refl told).each body j w.0 w.2));
+          region_scanned i (i + 3) j body (stops_at_forks q back) (omega arith) lt
+          (λ r told.
+          subst (λ n. r ≡ region_passed (stops_at_forks q n) (forks body || refers body) (i + 3) j)
+          (word_of ws (i + 2) back w.1) ((by_role i _ kind.Look r h refl told).each body j w.0 w.2)) y;
       reference = λ i j f g lt h w. referring i j _ _ lt h refl to_refer refl (λ x. true≢false x.no_reference);
       exists = λ i j g there lt h. referring i j _ _ lt h refl to_check refl (λ x. true≢false x.no_reference);
       exists_else = λ i j g there absent lt h.
           referring i j _ _ lt h refl to_check refl (λ x. true≢false x.no_reference);
     }
 
-module _ (ws : List ℕ) (most start e : ℕ) (some : 1 ≤ most) where
+module _ (q : Regions) (ws : List ℕ) (most start e : ℕ) (some : 1 ≤ most) where
   -- what a scan from i on tells, one from the start tells too
   pub record Onto (i s a : ℕ) : Type 0 where
     pub to :
-        (res : Option Passed) → Scan (scanner ws most some e) res i (s, a)
-        → Scan (scanner ws most some e) res start (1, 0)
+        (res : Option Passed) → Scan (scanner q ws most some e) res i (s, a)
+        → Scan (scanner q ws most some e) res start (1, 0)
 
   pub onto_start : Onto start 1 0
   onto_start = record { to = λ res x. x }
 
-  pub onto_next : (i s a m d : ℕ) (p : Passed) → Onto i s a → i < e → ToldAt most ws i (Some p) → m ≡ max p.slots s
+  pub onto_next : (i s a m d : ℕ) (p : Passed) → Onto i s a → i < e → ToldAt q most ws i (Some p) → m ≡ max p.slots s
       → d ≡ max p.alternatives a → Onto p.behind m d
   onto_next i s a m d p o lt told slots alternatives = record {
     to = λ res x.
         let ms : max s p.slots ≡ m = omega (arith, slots) in
         let ds : max a p.alternatives ≡ d = omega (arith, alternatives) in
         o.to res
-        (goes_on (scanner ws most some e) res i p.behind (s, a) (p.slots, p.alternatives) (m, d) lt told
+        (goes_on (scanner q ws most some e) res i p.behind (s, a) (p.slots, p.alternatives) (m, d) lt told
         (ap₂ (λ u v. (u, v)) ms ds) x);
   }
 
   -- what a scan of a whole tree says
   abbrev Said : Tree → Option Passed → Type 0
   Said t res =
-      ((IsPlain most t → ⊥) × (res ≡ None))
-      ⊎ (IsPlain most t × (res ≡ Some (reached e (max 1 (most_slots t)) (max 0 (most_alternatives t)))))
+      ((IsPlain q most t → ⊥) × (res ≡ None))
+      ⊎ (IsPlain q most t × (res ≡ Some (reached e (max 1 (most_slots t)) (max 0 (most_alternatives t)))))
 
-  said : (t : Tree) (res : Option Passed) → Reads ws start e t → Scan (scanner ws most some e) res start (1, 0)
+  said : (t : Tree) (res : Option Passed) → Reads ws start e t → Scan (scanner q ws most some e) res start (1, 0)
       → Said t res
   said t res w x =
       subst (λ (a : (Bool × Bool) × (ℕ × ℕ)). ((AllPlain most a → ⊥) × (res ≡ None))
-      ⊎ (AllPlain most a × (res ≡ Some (reached e (max 1 a.1.0) (max 0 a.1.1))))) (all_of_tree t)
-      (said_of (scanner ws most some e) start (1, 0) (of_tree by_all t) res
-      (tree_walked (scanner ws most some e) (instructions ws most some e) t start e w) (omega arith) x)
+      ⊎ (AllPlain most a × (res ≡ Some (reached e (max 1 a.1.0) (max 0 a.1.1))))) (all_of_tree q t)
+      (said_of (scanner q ws most some e) start (1, 0) (of_tree (by_all q) t) res
+      (tree_walked (scanner q ws most some e) (instructions q ws most some e) t start e w) (omega arith) x)
 
   -- where it stops the items are not plain
-  pub scan_stops : (i s a : ℕ) → Onto i s a → i < e → ToldAt most ws i None → AreTold most ws start e None
+  pub scan_stops : (i s a : ℕ) → Onto i s a → i < e → ToldAt q most ws i None → AreTold q most ws start e None
   scan_stops i s a o lt none = record {
-    each = λ t w. by_end t (said t None w (o.to None (stops_at (scanner ws most some e) i (s, a) lt none)));
+    each = λ t w. by_end t (said t None w (o.to None (stops_at (scanner q ws most some e) i (s, a) lt none)));
   }
     where
-      by_end : (t : Tree) → Said t None → IsPlain most t → ⊥
+      by_end : (t : Tree) → Said t None → IsPlain q most t → ⊥
       by_end t (inl x) = x.0
       by_end t (inr x) =
           let is : None ≡ Some (reached e (max 1 (most_slots t)) (max 0 (most_alternatives t))) = x.1 in
@@ -279,15 +322,15 @@ module _ (ws : List ℕ) (most start e : ℕ) (some : 1 ≤ most) where
 
   -- where it comes to the end they have what it has counted
   pub scan_ends : (i s a : ℕ) → Onto i s a → e ≤ i
-      → AreTold most ws start e (Some (reached i s a))
+      → AreTold q most ws start e (Some (reached i s a))
   scan_ends i s a o le = record {
-    each = λ t w. by_end t (said t (Some all) w (o.to (Some all) (ends_at (scanner ws most some e) i (s, a) le)));
+    each = λ t w. by_end t (said t (Some all) w (o.to (Some all) (ends_at (scanner q ws most some e) i (s, a) le)));
   }
     where
       all : Passed
       all = reached i s a
 
-      by_end : (t : Tree) → Said t (Some all) → TreeTold most e t (Some all)
+      by_end : (t : Tree) → Said t (Some all) → TreeTold q most e t (Some all)
       by_end t (inl x) = let no : Some all ≡ None = x.1 in absurd (cc)
       by_end t (inr x) =
           let is : Some all ≡ Some (reached e (max 1 (most_slots t)) (max 0 (most_alternatives t))) = x.1 in
@@ -296,6 +339,6 @@ module _ (ws : List ℕ) (most start e : ℕ) (some : 1 ≤ most) where
           let alternatives : a ≡ max 0 (most_alternatives t) = ap (λ (p : Passed). p.alternatives) same in (
             x.0,
             ap (λ (p : Passed). p.behind) same,
-            omega (arith, slots, some_slots t),
+            omega (arith, slots, some_slots q t),
             omega (arith, alternatives),
           )

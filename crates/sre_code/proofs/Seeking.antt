@@ -1,7 +1,7 @@
 -- A scan from one instruction to the next tells whether a body has what is sought, or refers; one that neither forks
 -- nor refers has no slots of loops, and no alternatives.
-use Rattle.std.proofs.Common.{ℕ, ◌+◌, ◌≡◌, ◌<◌, ◌≤◌, ◌⊎◌, inl, inr, Bool, true, false, ◌||◌, List, Some, None}
-use Rattle.std.proofs.Common.{max, refl, sym, ap, ◌∙◌, subst, arith}
+use Rattle.std.proofs.Common.{ℕ, ◌+◌, ◌≡◌, ◌<◌, ◌≤◌, ◌⊎◌, inl, inr, Bool, true, false, ◌||◌, List, Option}
+use Rattle.std.proofs.Common.{Some, None, max, refl, sym, ap, ◌∙◌, subst, arith}
 use Rattle.std.proofs.lemmas.Bool.{true≢false, or_right}
 use Rattle.sre_chars.specs.declared.constants.SreOpcode.{SreOpcode}
 use Rattle.sre_model.specs.Tree.{Tree, Empty, Then, Item, Fail, One, At, Mark, Branch, Loop, Run, PossessiveLoop}
@@ -18,8 +18,8 @@ use Rattle.sre_model.proofs.Families.{HasRole, test_role, test_kind}
 use Rattle.sre_model.specs.Tree.{Test}
 use Rattle.sre_model.proofs.Words.{same_opcode}
 use Rattle.sre_model.proofs.Places.{test_past}
-use Rattle.sre_code.specs.Instructions.{own_words, Behind, NoneBehind}
-use Rattle.sre_code.specs.Sought.{is_sought, folding_of, has, Without, NoneWithout, HasOrRefers}
+use Rattle.sre_code.specs.Instructions.{own_words, Behind, NoneBehind, NextPlaceAt}
+use Rattle.sre_code.specs.Sought.{is_sought, folding_of, has, Without, NoneWithout, WithoutAt, HasOrRefers}
 use Rattle.sre_code.specs.declared.code.sought.Sought.{Sought}
 use Rattle.sre_code.specs.declared.code.sought.Sought.TheVariants as sought
 use Rattle.sre_code.specs.Reading.{ReadsTest}
@@ -35,12 +35,22 @@ module _ (q : Sought) (ws : List ℕ) (i : ℕ) where
         true≢false (sym yes_ ∙ ap (λ p. is_sought q (role p)) (same_opcode ws i o s.code w s.there) ∙ s.other);
   }
 
-  pub none_behind_there : NoneBehind ws i → NoneWithout q ws i
-  none_behind_there not = record { none = λ k s. not.none k s.count s.behind }
+  none_behind_there : NoneBehind ws i → NoneWithout q ws i
+  none_behind_there not = record { none = λ k s. not.none k s.next.count s.next.behind }
 
   without_there : (o : SreOpcode) (k c : ℕ) → Opcode ws i o → is_sought q (role o) ≡ false → Behind ws i k c
       → Without q ws i k
-  without_there o k c w other b = record { code = o; there = w; other = other; count = c; behind = b }
+  without_there o k c w other b = record {
+    code = o;
+    there = w;
+    other = other;
+    next = record { count = c; behind = b };
+  }
+
+  pub next_without : (o : SreOpcode) (r : Option ℕ) → Opcode ws i o → is_sought q (role o) ≡ false
+      → NextPlaceAt ws i r → WithoutAt q ws i r
+  next_without o (Some k) w other h = (h.0, without_there o k h.1.count w other h.1.behind)
+  next_without o None w other h = none_behind_there h
 
 -- neither is in two parts where it is in none of them
 pub both_straight : (a b c d : Bool) → (a || b) ≡ false → (c || d) ≡ false → ((a || c) || (b || d)) ≡ false
@@ -123,7 +133,7 @@ module _ (q : Sought) where
         step scanner i (i + n) (nothing_of q) (omega (arith, some))
         (λ k c s. (
           nothing_good q,
-          (behind_own ws i k s.0.count n h.code h.there (ap own_words h.begins ∙ has) s.0.behind).0,
+          (behind_own ws i k s.0.next.count n h.code h.there (ap own_words h.begins ∙ has) s.0.next.behind).0,
           s.1,
         ))
         (λ none. absurd (none.none (i + n)
@@ -138,7 +148,7 @@ module _ (q : Sought) where
         → Passes i j (nothing_of q)
     tested i j t w other =
         step scanner i j (nothing_of q) (test_past t ws i j w.1)
-        (λ k c s. (nothing_good q, (behind_test ws i j k s.0.count t w s.0.behind).0, s.1))
+        (λ k c s. (nothing_good q, (behind_test ws i j k s.0.next.count t w s.0.next.behind).0, s.1))
         (λ none. absurd (none.none j
         (without_there q ws i (test_opcode t) j 0 w.0
         (ap (is_sought q) (test_role t) ∙ other (test_kind t)) (record { one = inl (t, w, refl) }))))
@@ -154,7 +164,7 @@ module _ (q : Sought) where
         → ((kind : TestKind) → o ≡ ToTest kind → ⊥) → Passes i j (a, true)
     referring i j o a lt h e other =
         step scanner i j (a, true) lt
-        (λ k c s. absurd ((none_of_role ws i o h e other).none k s.0.count s.0.behind))
+        (λ k c s. absurd ((none_of_role ws i o h e other).none k s.0.next.count s.0.next.behind))
         (λ none. or_right a true refl)
 
 -- for forks, and for marks
@@ -311,9 +321,3 @@ mutual
   bare_item (Reference f g) x = absurd (true≢false x)
   bare_item (Exists g there) x = absurd (true≢false (sym (or_right _ true refl) ∙ x))
   bare_item (ExistsElse g there absent) x = absurd (true≢false (sym (or_right _ true refl) ∙ x))
-
-pub bare_region : (body : Tree) → (forks body || refers body) ≡ false
-    → IsBare (forks body || has_forked_region body) (most_slots body) (most_alternatives body)
-bare_region body x =
-    region_bare (forks body) (refers body) (has_forked_region body) (most_slots body) (most_alternatives body) x
-    (bare_tree body x)

@@ -15,10 +15,10 @@ use Rattle.sre_model.proofs.Families.{HasRole, role_here, test_role, test_kind}
 use Rattle.sre_model.proofs.Foldings.{paired, tree_paired}
 use Rattle.sre_model.proofs.Places.{test_past, reads_within}
 use Rattle.sre_model.proofs.Words.{same_opcode}
-use Rattle.sre_code.specs.Instructions.{own_words, Behind, NoneBehind}
+use Rattle.sre_code.specs.Instructions.{own_words, NextPlaceAt}
 use Rattle.sre_code.specs.PlainItems.{kind_of}
-use Rattle.sre_code.specs.RegionWords.{closing_place}
-use Rattle.sre_code.specs.UnmarkedRegions.{body_offset, passed_unless, PassedBy, OtherPassed, UnmarkedAt}
+use Rattle.sre_code.specs.RegionWords.{body_offset, closing_place}
+use Rattle.sre_code.specs.UnmarkedRegions.{behind_unless, PassedBy, OtherPassed, UnmarkedAt}
 use Rattle.sre_code.specs.UnmarkedRegions.{MarkedOrRefers}
 use Rattle.sre_code.specs.declared.code.slots.Kind.TheVariants as kind
 use Rattle.sre_code.proofs.PassedParts.{one_behind}
@@ -157,12 +157,12 @@ module _ (ws : List ℕ) (end : ℕ) where
       one_inside (sets_mark body) (marks_in_regions body) (refers body)
       (stopping (sets_mark body || refers body) told))
     where
-      going : (b : Bool) (k c : ℕ) → (sets_mark body || refers body) ≡ b → Some k ≡ passed_unless b (e + 1) → c ≡ 0
+      going : (b : Bool) (k c : ℕ) → (sets_mark body || refers body) ≡ b → Some k ≡ behind_unless b (e + 1) → c ≡ 0
           → (((sets_mark body || marks_in_regions body) || refers body) ≡ false) × (k ≡ j) × (c ≡ 0)
       going true k c is told none = absurd (cc)
       going false k c is told none = (neither_inside body is, (let same : k ≡ e + 1 = cc in same ∙ sym at), none)
 
-      stopping : (b : Bool) → None ≡ passed_unless b (e + 1) → b ≡ true
+      stopping : (b : Bool) → None ≡ behind_unless b (e + 1) → b ≡ true
       stopping true told = refl
       stopping false told = absurd (cc)
 
@@ -255,11 +255,13 @@ module _ (ws : List ℕ) (i tail : ℕ) (code : SreOpcode) (w : Opcode ws i code
           (subst (λ e. PassedBy ws i (i + body_offset (role code)) e r)
           (sym (ap (closing_place (role code)) (sym at) ∙ none)) passed)
 
-  pub next_told : (k c : ℕ) → Behind ws i k c → UnmarkedAt ws i (Some k)
-  next_told k c b =
+  pub next_told : (r : Option ℕ) → NextPlaceAt ws i r → UnmarkedAt ws i r
+  next_told (Some k) h =
+      let next = h.1 in
       other_told (Some k)
-      (record { some = λ l d x. ap Some (one_behind ws i k c l d b x); none = λ no_. absurd (no_.none k c b) })
-
-  pub none_told : NoneBehind ws i → UnmarkedAt ws i None
-  none_told no_ =
-      other_told None (record { some = λ k c b. absurd (no_.none k c b); none = λ _. refl })
+      (record {
+        some = λ l d x. ap Some (one_behind ws i k next.count l d next.behind x);
+        none = λ no_. absurd (no_.none k next.count next.behind);
+      })
+  next_told None h =
+      other_told None (record { some = λ k c b. absurd (h.none k c b); none = λ _. refl })

@@ -49,6 +49,16 @@ pub record Behind (ws : List ℕ) (i k c : ℕ) : Type 0 where
 pub record NoneBehind (ws : List ℕ) (i : ℕ) : Type 0 where
   pub none : (k c : ℕ) → Behind ws i k c → ⊥
 
+-- the same, whatever it counts
+pub record StandsBehind (ws : List ℕ) (i k : ℕ) : Type 0 where
+  pub count : ℕ
+  pub behind : Behind ws i k count
+
+-- where the next instruction stands, or that no such one is at i
+abbrev pub NextPlaceAt : List ℕ → ℕ → Option ℕ → Type 0
+NextPlaceAt ws i (Some k) = (i < k) × StandsBehind ws i k
+NextPlaceAt ws i None = NoneBehind ws i
+
 -- where the next instruction stands, and what the one at i counts, or that none such is at i
 abbrev pub NextAt : List ℕ → ℕ → Option (ℕ × ℕ) → Type 0
 NextAt ws i (Some p) = (i < p.0) × Behind ws i p.0 p.1

@@ -10,7 +10,7 @@ use Rattle.sre_model.specs.MarksSet.{by_marks}
 use Rattle.sre_model.specs.References.{refers}
 use Rattle.sre_model.specs.Regions.{by_forks}
 use Rattle.sre_model.specs.Roles.{Role, ToMark, ToBranch, ToRun, ToRepeat, ToRepeatPossessively, role}
-use Rattle.sre_code.specs.Instructions.{Behind}
+use Rattle.sre_code.specs.Instructions.{StandsBehind}
 use Rattle.sre_code.specs.declared.code.sought.Sought.{Sought}
 use Rattle.sre_code.specs.declared.code.sought.Sought.TheVariants as sought
 
@@ -45,8 +45,7 @@ pub record Without (q : Sought) (ws : List ℕ) (i k : ℕ) : Type 0 where
   pub code : SreOpcode
   pub there : Opcode ws i code
   pub other : is_sought q (role code) ≡ false
-  pub count : ℕ
-  pub behind : Behind ws i k count
+  pub next : StandsBehind ws i k
 
 -- no such instruction stands at i
 pub record NoneWithout (q : Sought) (ws : List ℕ) (i : ℕ) : Type 0 where

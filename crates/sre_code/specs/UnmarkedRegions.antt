@@ -6,24 +6,17 @@ use Rattle.sre_model.specs.Tree.{Tree}
 use Rattle.sre_model.specs.Grammar.{Opcode, Reads, WholeItems, skip}
 use Rattle.sre_model.specs.MarksSet.{sets_mark, marks_in_regions}
 use Rattle.sre_model.specs.References.{refers}
-use Rattle.sre_model.specs.Roles.{Role, ToRepeatPossessively, ToGroupAtomically, ToLook, role}
+use Rattle.sre_model.specs.Roles.{role}
 use Rattle.sre_code.specs.Instructions.{Behind, NoneBehind}
-use Rattle.sre_code.specs.RegionWords.{closing_place}
-
--- how far behind the opcode of a region its body begins
-abbrev pub body_offset : Role → ℕ
-body_offset ToRepeatPossessively = 4
-body_offset ToGroupAtomically = 2
-body_offset (ToLook sign) = 3
-body_offset _ = 0
+use Rattle.sre_code.specs.RegionWords.{body_offset, closing_place}
 
 -- none where it is marked, else the place behind
-abbrev pub passed_unless : Bool → ℕ → Option ℕ
-passed_unless marked k = cond marked None (Some k)
+abbrev pub behind_unless : Bool → ℕ → Option ℕ
+behind_unless marked k = cond marked None (Some k)
 
 -- what is told of a region whose body stands from one place to another
 pub record BodyTold (ws : List ℕ) (start end : ℕ) (r : Option ℕ) : Type 0 where
-  pub each : (body : Tree) → Reads ws start end body → r ≡ passed_unless (sets_mark body || refers body) (end + 1)
+  pub each : (body : Tree) → Reads ws start end body → r ≡ behind_unless (sets_mark body || refers body) (end + 1)
 
 -- and of any other instruction at i
 pub record OtherPassed (ws : List ℕ) (i : ℕ) (r : Option ℕ) : Type 0 where

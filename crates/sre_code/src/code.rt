@@ -3,9 +3,10 @@
 //! A [`Code`] is a view of words that the grammar (`specs/Grammar.antt`) relates to a tree, of which there is then
 //! exactly one, together with a table of characters. An information block at the front is passed over: the grammar asks
 //! nothing of it but its skip. [`Code::check`] reads the words behind it once from left to right, with a stack of its
-//! own for the parts that are open, and on the way adds up the least number of characters that a match passes. A scan
-//! of words that are a code then tells, with no stack, whether they ask for groups, and how far the characters of their
-//! runs count; and what the block claims is compared with the first items, which confirm it or not.
+//! own for the parts that are open, and on the way adds up the least number of characters that a match passes. Scans
+//! of words that are a code then tell, with no stack, whether they ask for groups, and from which one on, and how far
+//! the characters of their runs count; and what the block claims is compared with the first items, which confirm it or
+//! not.
 
 ghost use Rattle.std.specs.Prelude.{◌≡◌, ◌≢◌, ◌≤◌, false, length, IfOk, IfErr, OnOk, IfSome, None, min};
 ghost use Rattle.sre_model.specs.Tree.{Tree};
@@ -284,9 +285,10 @@ impl<'a> Code<'a> {
     /// times those of the loops inside it. A loop has two for each count of bodies that makes a difference, as far as
     /// its greatest count, or its least where it has no greatest. What failed is kept for up to 16,777,216 of them.
     ///
-    /// `None` where there are more, and where the code has a reference, a condition, a possessive loop, or an atomic
-    /// group or a look whose body has a branch, a run or a loop: of such codes it is not told. Each call goes over the
-    /// words anew, so its time grows with them.
+    /// `None` where there are more, and where the code has a reference, a condition, a possessive loop, or a look
+    /// behind whose body has a branch, a run or a loop; and where the body of an atomic group or of another look has
+    /// one, and a mark is set inside a region (`regions_set_marks`). Of such codes it is not told. Each call goes over
+    /// the words anew, so its time grows with them.
     ///
     /// ```
     /// // The words of `(?:(?:ab)+c){1,5}`, whose loops have 4 and 12 slots.
@@ -294,6 +296,11 @@ impl<'a> Code<'a> {
     /// // The words of `(?:(?=a).)+`: the look has no branch, run or loop, and the loop has 4 slots.
     /// let words = [23, 10, 1, 4294967295, 4, 5, 0, 16, 97, 1, 2, 18, 1];
     /// assert_eq!(Code::check(alloc, &words, &uni)?.most_slots(), Some(4));
+    /// // The words of `(?>(?:ab)+)`, and of `(?>(a)b+)`, where a mark is inside.
+    /// let words = [27, 11, 23, 7, 1, 4294967295, 16, 97, 16, 98, 18, 1, 1];
+    /// assert_eq!(Code::check(alloc, &words, &uni)?.most_slots(), Some(4));
+    /// let words = [27, 15, 17, 0, 16, 97, 17, 1, 24, 6, 1, 4294967295, 16, 98, 1, 1, 1];
+    /// assert_eq!(Code::check(alloc, &words, &uni)?.most_slots(), None);
     /// ```
     pub fn most_slots(&self) -> Option<u32>
         ensures some { IfSome result (λ n. (tree : Tree) → Whole (words_of self.now) tree → AreMostSlots n tree) }
@@ -306,10 +313,11 @@ impl<'a> Code<'a> {
     /// any window of a text of at most so many characters: one more than `enough_turns` of the whole text. It grows
     /// with the text, and is told without one, in a time that grows with the words alone.
     ///
-    /// `None` where no such number is known: where the code has a reference, a condition, a possessive loop, or an
-    /// atomic group or a look whose body has a branch, a run or a loop; where not all that failed may be kept, since
-    /// its loops have more than 16,777,216 slots within each other (`most_slots`), or there is no room for so many
-    /// characters, which with more than 4,096 slots is less; and where the number takes more than 64 bits.
+    /// `None` where no such number is known: where the code has a reference, a condition, a possessive loop, or a look
+    /// behind whose body has a branch, a run or a loop; where the body of an atomic group or of another look has one,
+    /// and a mark is set inside a region (`regions_set_marks`); where not all that failed may be kept, since its loops
+    /// have more than 16,777,216 slots within each other (`most_slots`), or there is no room for so many characters,
+    /// which with more than 4,096 slots is less; and where the number takes more than 64 bits.
     pub fn enough_turns(&self, characters: usize) -> Option<u64>
         ensures enough { IfSome result (λ turns. (tree : Tree) → Whole (words_of self.now) tree
             → AreEnoughFor (length (items_of self.now)) tree characters turns) }

@@ -34,7 +34,10 @@ module _ {S : Type 0} {text : Ghosts S} (r : Request S text) (list : Bor (List A
   given_up_alike (Ok b) given left runs x = tt
   given_up_alike (Err why) given left runs x = λ used.
       let gone = x used in
-      record { cost = λ pl. gone.cost (record { plain = pl.plain; room = pl.room; order = pl.order }) }
+      record {
+        cost = λ pl.
+            gone.cost (record { plain = pl.plain; unmarked = pl.unmarked; room = pl.room; order = pl.order });
+      }
 
   pub charged_alike : (told : Result Bool Halt) (started runs : ℕ) (a a' : Allowance)
       → Charged (carrying r list all) told started runs a a' → Charged r told started runs a a'

@@ -1,11 +1,13 @@
 -- Turns that are enough for a search, where all that failed is remembered, are not used up unless memory was refused.
-use Rattle.std.proofs.Common.{◌≡◌, ℕ, ◌+◌, ◌-◌, ◌*◌, ◌≤◌, inl, inr, Bool, None, Result, Ok, Err, refl, ap}
+use Rattle.std.proofs.Common.{◌≡◌, ℕ, ◌+◌, ◌-◌, ◌*◌, ◌≤◌, inl, inr, Bool, true, false, cond, None, Result, Ok}
+use Rattle.std.proofs.Common.{Err, refl, ap}
 use Rattle.std.proofs.Common.{◌∙◌, subst, length, arith}
 use Rattle.std.proofs.Math.Nat.{mul-le-mul_right}
 use Rattle.sre_chars.specs.declared.string.StrDrive.{Ghosts}
 use Rattle.sre_growth.specs.Refusal.{Refused}
+use Rattle.sre_model.specs.Regions.{has_forked_region}
 use Rattle.sre_model.specs.Slots.{most_slots}
-use Rattle.sre_model.specs.Remembered.{window_positions, ways_at_most, enough_turns}
+use Rattle.sre_model.specs.Remembered.{window_positions, spots_at_most, ways_at_most, enough_turns}
 use Rattle.sre_request.specs.declared.request.Request.{Request}
 use Rattle.sre_request.specs.Requests.{start_of, end_of, asked_of, code_of}
 use Rattle.sre_request.specs.Runs.{run_of}
@@ -19,6 +21,12 @@ use Rattle.sre_machine.specs.declared.turns.Halt.{Halt}
 use Rattle.sre_machine.specs.declared.turns.Halt.TheVariants as halt
 use Rattle.sre_machine.specs.Paying.{Remembering, each_of}
 
+-- a bit for each slot and side is one for each spot
+by_spots : (forked : Bool) (w n f g : ℕ)
+    → w * (cond forked 2 1 * (n * f)) * g ≡ w * (cond forked (n * 2) n * f) * g
+by_spots true w n f g = omega arith
+by_spots false w n f g = omega arith
+
 -- runs from as many starts as there are, from where a memo begins, cost no more
 few : {S : Type 0} {text : Ghosts S} (r : Request S text) (pl : Remembering r) (runs : ℕ)
     → runs ≤ window_positions (asked_of r)
@@ -27,10 +35,12 @@ few : {S : Type 0} {text : Ghosts S} (r : Request S text) (pl : Remembering r) (
 few r pl runs l =
     let w : ℕ = length (run_of r).words in
     let f : ℕ = window_positions (asked_of r) in
-    let s : ℕ = most_slots pl.plain.tree in
+    let t = pl.plain.tree in
+    let s : ℕ = spots_at_most t in
     let ways : ℕ = 1 + ways_at_most pl.plain.tree (asked_of r) in
     let own : runs * (2 * w + 4) ≤ f * (2 * w + 4) = mul-le-mul_right (2 * w + 4) l in
-    let tolls : most_tolls r pl * grant (run_of r).words ≤ f * (4 * w * (w + 3) * s * ways) = omega arith in
+    let bits : most_tolls r pl ≡ w * (s * f) * ways = by_spots (has_forked_region t) w (most_slots t) f ways in
+    let tolls : most_tolls r pl * grant (run_of r).words ≤ f * (4 * w * (w + 3) * s * ways) = rw bits (omega arith) in
     let all : runs * (2 * w + 4) + most_tolls r pl * grant (run_of r).words
     ≤ f * (2 * w + 4 + 4 * w * (w + 3) * s * ways) = omega (arith, own, tolls) in
     omega (arith, mul-le-mul_right (each_of r pl) all)
@@ -43,9 +53,10 @@ module _ {S : Type 0} {text : Ghosts S} (r : Request S text) (given : ℕ)
     plain = record {
       tree = enough.tree;
       whole = items_whole (code_of r) enough.tree enough.whole;
-      unforked = enough.remembered.unforked;
+      counted = enough.remembered.counted;
       no_reference = enough.remembered.no_reference;
     };
+    unmarked = enough.remembered.unmarked;
     room = record {
       words = enough.remembered.room;
       slots = enough.remembered.slots;

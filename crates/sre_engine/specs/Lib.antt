@@ -9,6 +9,7 @@ pub use Rattle.sre_model.specs.Grammar
 pub use Rattle.sre_model.specs.Folding
 pub use Rattle.sre_model.specs.References
 pub use Rattle.sre_model.specs.Regions
+pub use Rattle.sre_model.specs.MarksSet
 pub use Rattle.sre_model.specs.Slots
 pub use Rattle.sre_model.specs.RunCounts
 pub use Rattle.sre_model.specs.Alternatives

@@ -106,8 +106,8 @@ pub turn_ended : {S : Type 0} {text : Ghosts S} (r : Request S text) (place : �
 turn_ended r place cursor end b m e all limit x = (
   limit,
   grants_nothing limit,
-  end_taken (run_of r) place cursor end b no_marks e.inside e.forks e.unmarked e.stands e.ends all limit x,
-  pays_nothing r m m limit limit refl (λ h. h) refl refl,
+  end_taken (run_of r) place cursor end b no_marks e.inside e.unmarked e.stands e.ends all limit x,
+  pays_nothing r m m limit limit refl (refl, refl) (λ h. h) refl refl,
 )
 
 -- the groups that the words ask for are those from the one on that their code tells

@@ -13,7 +13,7 @@ use Rattle.sre_model.specs.Runs.{Run}
 use Rattle.sre_turns.specs.Board.{BoardValue, bare}
 use Rattle.sre_turns.specs.Limits.{Limit, Grants, earlier, grant}
 use Rattle.sre_turns.specs.Machine.{Stands, Later, spot, outcomes}
-use Rattle.sre_turns.specs.Settled.{Unforked}
+use Rattle.sre_turns.specs.Settled.{Counted}
 use Rattle.sre_turns.specs.declared.Next.{Next}
 use Rattle.sre_turns.specs.declared.Next.TheVariants as next
 use Rattle.sre_turns.specs.declared.Point.TheVariants.{Instruction, Again}
@@ -32,9 +32,9 @@ use Rattle.sre_model.specs.RunCounts.{most_counts}
 use Rattle.sre_machine.specs.declared.turns.Decision.{Decision}
 use Rattle.sre_machine.specs.declared.turns.Decision.TheVariants.{Decided, Opened}
 use Rattle.sre_request.specs.Runs.{run_of}
-use Rattle.sre_machine.specs.Memos.{MemoValue}
+use Rattle.sre_machine.specs.Memos.{MemoValue, KeepsEndsOf}
 use Rattle.sre_machine.specs.Paying.{Pays, Remembering, Within, Follows, Counts, GivenUp, Settles, Waited}
-use Rattle.sre_machine.specs.Paying.{run_cost, weight, each_of, RunGivenUp, RunSettles, AnewGivenUp, AnewSettles}
+use Rattle.sre_machine.specs.Paying.{HoldsBits, run_cost, weight, each_of, RunGivenUp, RunSettles, AnewGivenUp, AnewSettles}
 use Rattle.sre_turns.proofs.Start.{first_limit, started, behind_has}
 use Rattle.sre_turns.proofs.SettledMoves.{settled_behind}
 use Rattle.sre_model.specs.Marks.{no_marks}
@@ -46,7 +46,7 @@ use Rattle.sre_machine.specs.Turns.{Proceeds}
 use Rattle.sre_machine.proofs.Paying.{pays_nothing, pays_then, grants_nothing, held}
 
 -- wherever the machine stands, no more turns were taken than the potential allows
-pub stands_within : (r : Run) (all : List Way) (l : Limit) (n : Next) (b : BoardValue) → Unforked r
+pub stands_within : (r : Run) (all : List Way) (l : Limit) (n : Next) (b : BoardValue) → Counted r
     → Stands r all l n b → Within r l
 stands_within r all l (next.At i c) b pl x =
     let code = run_code r (spot (Instruction i) c b) x.runs in
@@ -68,6 +68,7 @@ module _ {S : Type 0} {text : Ghosts S} (r : Request S text) (all : List Way) (f
   pays_waited : (m' m₁ : MemoValue) (l : Limit) → m₁ ≡ record m' { waits = m₁.waits } → Pays r m' l m₁ l
   pays_waited m' m₁ l same =
       pays_nothing r m' m₁ l l (ap (λ (k : MemoValue). k.kept) same)
+      (ap (λ (k : MemoValue). k.ends) same, ap (λ (k : MemoValue). k.keeps_ends) same)
       (λ h. ap (λ (k : MemoValue). k.is_open) same ∙ h) refl refl
 
   -- a turn more
@@ -94,19 +95,7 @@ module _ {S : Type 0} {text : Ghosts S} (r : Request S text) (all : List Way) (f
   pub nothing_granted : (n' : Next) (b'' : BoardValue) (m' : MemoValue) (l : Limit) → Later (run_of r) all l n' b''
       → Proceeds (run_of r) all l n' b'' (λ more. Pays r m' l m' more)
   nothing_granted n' b'' m' l x =
-      (l, grants_nothing l, x, pays_nothing r m' m' l l refl (λ h. h) refl refl)
-
-  -- and in which ends of bodies may have been kept
-  pub ends_kept_then : (n' : Next) (b'' : BoardValue) (m' m'' : MemoValue) (l : Limit)
-      → m'' ≡ record m' { ends = m''.ends } → Later (run_of r) all l n' b''
-      → Proceeds (run_of r) all l n' b'' (λ more. Pays r m' l m'' more)
-  ends_kept_then n' b'' m' m'' l same x = (
-    l,
-    grants_nothing l,
-    x,
-    pays_nothing r m' m'' l l (ap (λ (k : MemoValue). k.kept) same)
-        (λ h. ap (λ (k : MemoValue). k.is_open) same ∙ h) refl refl,
-  )
+      (l, grants_nothing l, x, pays_nothing r m' m' l l refl (refl, refl) (λ h. h) refl refl)
 
   -- so many turns cost no more than the potential and the tolls
   cost_of : (pl : Remembering r) (limit more : Limit) (turned left left' : ℕ) → limit.granted ≡ more.granted
@@ -163,7 +152,8 @@ module _ {S : Type 0} {text : Ghosts S} (r : Request S text) (all : List Way) (f
               | inl refused ↦ inl refused
               | inr more ↦
                   let few_bits : z.0 * weight r pl ≤ most_bits (run_of r) pl.plain (start_of r) * weight r pl =
-                  mul-le-mul (account_few (run_of r) pl.plain (start_of r) m'.kept y.0.trying z.0 z.1) (omega arith) in
+                  mul-le-mul (account_few (run_of r) pl.plain (start_of r) m'.kept m'.ends y.0.trying z.0 z.1.account)
+                  (omega arith) in
                   inr (
                     y.0.tolls,
                     omega (arith, z.3, few_bits),
@@ -178,7 +168,7 @@ module _ {S : Type 0} {text : Ghosts S} (r : Request S text) (all : List Way) (f
     pub settles : (n : Next) (b' : BoardValue) (m₁ m'' : MemoValue) → Follows r all first n b b' m m' before turned
         → m₁ ≡ record m' { waits = m₁.waits }
         → ((l : Limit) → Stands (run_of r) all l n b' → (more : Limit) × Grants l more × Pays r m₁ l m'' more
-        × (Unforked (run_of r) → (more.trying ≡ []) × Within (run_of r) more))
+        × (Counted (run_of r) → (more.trying ≡ []) × Within (run_of r) more))
         → Settles r all first b m m'' before given left'
     settles n b' m₁ m'' f waits last = record {
       cost = λ pl keeps limit x start none k h.
@@ -195,7 +185,7 @@ module _ {S : Type 0} {text : Ghosts S} (r : Request S text) (all : List Way) (f
                 w.0.tolls,
                 z.0,
                 z.3,
-                held r pl m''.kept m''.kept w.0.trying [] z.0 refl (sym ends.0) z.1,
+                held r pl m'' m'' w.0.trying [] z.0 refl (refl, refl) (sym ends.0) z.1,
                 z.2,
                 cost_of pl limit w.0 turned given left' (y.2 ∙ w.1.granted) none
                     (omega (arith, y.4, w.1.taken)) ends.1 more,
@@ -216,10 +206,6 @@ waited_on m m' m₁ m'' given left left' due x same fewer spent still =
 -- a memo that is the same, or keeps more, waits as long
 pub same_memo : (m m' : MemoValue) → m' ≡ m → (m'.is_open ≡ m.is_open) × (m'.waits ≡ m.waits)
 same_memo m m' e = (ap (λ (k : MemoValue). k.is_open) e, ap (λ (k : MemoValue). k.waits) e)
-
-pub ended_memo : (m m' : MemoValue) → m' ≡ record m { ends = m'.ends }
-    → (m'.is_open ≡ m.is_open) × (m'.waits ≡ m.waits)
-ended_memo m m' e = (ap (λ (k : MemoValue). k.is_open) e, ap (λ (k : MemoValue). k.waits) e)
 
 pub kept_memo : (m m' : MemoValue) → m' ≡ record m { kept = m'.kept; marked = m'.marked }
     → (m'.is_open ≡ m.is_open) × (m'.waits ≡ m.waits)
@@ -268,14 +254,34 @@ pub rested : {S : Type 0} {text : Ghosts S} (r : Request S text) (start : String
     → RunSettles r start m m'' left left'
 rested r start m m' m'' left left' same run =
     subst (λ (k : MemoValue). RunSettles r start m k left left') (sym same)
-    (record { keeping = run.keeping; closed = run.closed })
+    (record {
+      keeping = λ pl from keeps n h. elim (run.keeping pl from keeps n h) [
+        | inl refused ↦ inl refused
+        | inr z ↦ inr (z.0, z.1, z.2, still pl z.1 z.3, z.4, z.5)
+      ];
+      closed = λ pl from closed. elim (run.closed pl from closed) [
+        | inl refused ↦ inl refused
+        | inr z ↦ inr (elim z [ inl w ↦ inl w | inr w ↦ inr (w.0, w.1, w.2, still pl w.1 w.3, w.4, w.5) ])
+      ];
+    })
+  where
+    still : (pl : Remembering r) (n : ℕ) → HoldsBits r pl m' n → HoldsBits r pl (record m' { stopped = false }) n
+    still pl n h = record { account = h.account; ends = h.ends; forked = h.forked }
 
 -- a run that begins again with failures kept, of which there are none yet
 module _ {S : Type 0} {text : Ghosts S} (r : Request S text) (start : StringCursor) (m : MemoValue) (left : ℕ)
-    (keeps : m.is_open ≡ true) (empty : m.kept ≡ kept_of [] [] []) where
+    (keeps : m.is_open ≡ true) (empty : m.kept ≡ kept_of [] [] []) (ends : KeepsEndsOf r m) where
+  -- nothing is taken in
+  none_held : (pl : Remembering r) → HoldsBits r pl m 0
+  none_held pl = record {
+    account = account_none (run_of r) pl.plain (start_of r) m.kept m.ends empty;
+    ends = λ forked. ends pl.plain.tree pl.plain.whole pl.plain.no_reference (pl.unmarked forked);
+    forked = tt;
+  }
+
   pub anew_given_up : (left' : ℕ) → RunGivenUp r start m left left' → AnewGivenUp r start left left'
   anew_given_up left' g = record {
-    cost = λ pl from. elim (g.keeping pl from keeps 0 (account_none (run_of r) pl.plain (start_of r) m.kept empty)) [
+    cost = λ pl from. elim (g.keeping pl from keeps 0 (none_held pl)) [
       | inl refused ↦ inl refused
       | inr z ↦ inr (z.0, omega (arith, z.1), z.2)
     ];
@@ -285,7 +291,7 @@ module _ {S : Type 0} {text : Ghosts S} (r : Request S text) (start : StringCurs
       → AnewSettles r start m' left left'
   anew_settles m' left' g = record {
     cost = λ pl from.
-        elim (g.keeping pl from keeps 0 (account_none (run_of r) pl.plain (start_of r) m.kept empty)) [
+        elim (g.keeping pl from keeps 0 (none_held pl)) [
           | inl refused ↦ inl refused
           | inr z ↦ inr (z.0, z.1, omega (arith, z.2), z.3, z.4, z.5)
         ];

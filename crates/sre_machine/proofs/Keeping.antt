@@ -6,13 +6,12 @@ use Rattle.sre_chars.specs.declared.string.StrDrive.{Ghosts}
 use Rattle.sre_chars.specs.declared.string.StringCursor.{StringCursor}
 use Rattle.sre_model.specs.Ways.{Way}
 use Rattle.sre_turns.specs.Board.{BoardValue, Trying}
-use Rattle.sre_turns.specs.Limits.{Limit, Settling, tried_spots, without_tried}
+use Rattle.sre_turns.specs.Attempts.{Attempt}
+use Rattle.sre_turns.specs.Limits.{Limit, attempt, tried_spots, without_tried}
 use Rattle.sre_turns.specs.Machine.{Backs, spot}
-use Rattle.sre_turns.specs.Settled.{SettledIn}
-use Rattle.sre_turns.proofs.Faring.{never_inside, newest_tried}
-use Rattle.sre_turns.proofs.Start.{none_inside}
+use Rattle.sre_turns.proofs.Faring.{newest_tried}
 use Rattle.sre_turns.specs.Fruit.{is_inside}
-use Rattle.sre_turns.specs.Moves.{Spot, spot_at}
+use Rattle.sre_turns.specs.Moves.{spot_at}
 use Rattle.sre_turns.specs.Nested.{most_slots}
 use Rattle.sre_turns.specs.declared.Point.TheVariants.{Instruction}
 use Rattle.sre_board.specs.Accounts.{Account, BitsOf}
@@ -24,11 +23,11 @@ use Rattle.sre_request.specs.declared.request.Request.{Request}
 use Rattle.sre_request.specs.Requests.{start_of, end_of}
 use Rattle.sre_request.specs.Runs.{run_of}
 use Rattle.sre_machine.specs.Memos.{MemoValue}
-use Rattle.sre_machine.specs.Paying.{HoldsTried, Pays}
+use Rattle.sre_machine.specs.Paying.{Holds, HoldsTried, Pays}
 
--- the first of some spots has a bit
-first_bit : (k : Kept) (ws : List ℕ) (x : Spot) (xs : List Spot) (bs : List ℕ) → BitsOf k ws (x ∷ xs) bs
-    → HasBit k ws false x
+-- the first that is tried has a bit
+first_bit : (k : Kept) (ws : List ℕ) (x : Attempt) (xs : List Attempt) (bs : List ℕ) → BitsOf k ws (x ∷ xs) bs
+    → HasBit k ws x.inside x.spot
 first_bit k ws x xs [] h = absurd h
 first_bit k ws x xs (b ∷ bs) h = record { at = h.0.at; bit = h.0.bit; entry = h.0.entry }
 
@@ -46,12 +45,12 @@ stay_roomy ws n first end old new rows words h =
 module _ {S : Type 0} {text : Ghosts S} (r : Request S text) (place : ℕ) (p q : ℕ) (b : BoardValue) (k k' : Kept)
     (ws : List ℕ) (same : ws ≡ (run_of r).words) (there : p ≡ q)
     (keeps : KeepsSpot ws (is_inside b.choices) (spot_at (Instruction place) b.frames p b.marks) k k') where
-  -- what was tried outside all regions is tried no more
-  pub holds_tried : is_inside b.choices ≡ false → HoldsTried r (spot_at (Instruction place) b.frames q b.marks) k k'
-  holds_tried outside pl xs n a =
-      let x = spot_at (Instruction place) b.frames q b.marks in
-      let here : KeepsSpot (run_of r).words false x k k' = rw (same, outside, there) at keeps in
-      account_closes (run_of r) pl.plain (start_of r) k k' x xs n
+  -- what was tried is tried no more
+  pub holds_tried : HoldsTried r (attempt b.choices (spot_at (Instruction place) b.frames q b.marks)) k k'
+  holds_tried pl es xs n a =
+      let x = attempt b.choices (spot_at (Instruction place) b.frames q b.marks) in
+      let here : KeepsSpot (run_of r).words x.inside x.spot k k' = rw (same, there) at keeps in
+      account_closes (run_of r) pl.plain (start_of r) k k' es x xs n
       (here.set (first_bit k (run_of r).words x xs a.trying a.bits)) keeps.stay keeps.bits
       (stay_rows k k' keeps.rows keeps.shapes) (no_new_row k k' keeps.rows) keeps.laid
       (stay_roomy (run_of r).words (most_slots pl.plain.tree) (start_of r) (end_of r) k k' keeps.rows keeps.words
@@ -61,21 +60,23 @@ module _ {S : Type 0} {text : Ghosts S} (r : Request S text) (place : ℕ) (p q 
 pub pays_kept : {S : Type 0} {text : Ghosts S} (r : Request S text) (place : ℕ) (cursor : StringCursor)
     (b b' : BoardValue) (m m' : MemoValue) → b.choices ≡ Trying place b'.frames cursor b'.marks ∷ b'.choices
     → m' ≡ record m { kept = m'.kept; marked = m'.marked }
-    → (is_inside b'.choices ≡ false → HoldsTried r (spot (Instruction place) cursor b') m.kept m'.kept)
+    → HoldsTried r (attempt b'.choices (spot (Instruction place) cursor b')) m.kept m'.kept
     → (all : List Way) (limit : Limit) → Backs (run_of r) all limit b → Pays r m limit m' (without_tried limit)
 pays_kept r place cursor b b' m m' marked same keeps all limit x = record {
   paid = λ pl keeps_them at n h.
       let f = x.fares pl.plain in
-      let here : Spot = spot (Instruction place) cursor b' in
+      let here = attempt b'.choices (spot (Instruction place) cursor b') in
       let trying = newest_tried (run_of r) pl.plain limit _ here b.choices b'.choices f
       (ap (λ cs. tried_spots cs) marked) in
-      let settled = subst (λ cs. Settling (run_of r) pl.plain limit.start cs) marked f.settled in
-      let outside = none_inside b'.choices
-      (never_inside (SettledIn (run_of r) pl.plain limit.start) b'.choices settled.1) in
-      let was = subst (λ xs. Account (run_of r) pl.plain (start_of r) m.kept xs n) trying h in
+      let was = subst (λ xs. Holds r pl m xs n) trying h in
       inr (
         n,
-        keeps outside pl (drop 1 limit.trying) n was,
+        record {
+          account = subst (λ es. Account (run_of r) pl.plain (start_of r) m'.kept es (drop 1 limit.trying) n)
+              (sym (ap (λ (k : MemoValue). k.ends) same)) (keeps pl m.ends (drop 1 limit.trying) n was.account);
+          ends = λ forked. ap (λ (k : MemoValue). k.keeps_ends) same ∙ h.ends forked;
+          forked = was.forked.1;
+        },
         ap (λ (k : MemoValue). k.is_open) same ∙ keeps_them,
         omega arith,
       );

@@ -13,7 +13,7 @@ use Rattle.sre_board.proofs.EndsKept.{end_told}
 use Rattle.sre_request.specs.declared.request.Request.{Request}
 use Rattle.sre_request.specs.Runs.{run_of}
 use Rattle.sre_machine.specs.Memos.{MemoValue, Recalls}
-use Rattle.sre_machine.specs.Turns.{UnaskedMarks, EndsThere, ForksThere}
+use Rattle.sre_machine.specs.Turns.{UnaskedMarks, EndsThere, ForksThere, NoEndTold}
 
 pub known_there : {S : Type 0} {text : Ghosts S} (r : Request S text) (place position : ℕ) (cursor : StringCursor)
     (b : BoardValue) (m : MemoValue) (ws : List ℕ) → ws ≡ (run_of r).words → position ≡ cursor.position
@@ -28,3 +28,12 @@ known_there r place position cursor b m ws same at inside forks unmarked recalls
     rw (same, at, inside) at tells in
     let is = end_told (run_of r) m.kept m.ends (spot (Instruction place) cursor b) end recalls.ends laid there in
     record { inside = inside; forks = forks; unmarked = unmarked; stands = is.1; ends = is.0 }
+
+-- and where it tells none, none is told
+pub none_there : {S : Type 0} {text : Ghosts S} (r : Request S text) (place position : ℕ) (cursor : StringCursor)
+    (b : BoardValue) (m : MemoValue) (ws : List ℕ) → ws ≡ (run_of r).words → position ≡ cursor.position
+    → ((end : StringCursor) → TellsEnd m.kept m.ends ws (is_inside b.choices)
+    (spot_at (Instruction place) b.frames position b.marks) end → ⊥)
+    → NoEndTold r place cursor b m
+none_there r place position cursor b m ws same at none inside keeps end tells =
+    none end (rw (same, at, inside) tells)

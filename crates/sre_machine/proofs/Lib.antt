@@ -10,6 +10,7 @@ pub mod Taken
 pub mod Opening
 pub mod Keeping
 pub mod Following
+pub mod Ending
 pub mod NothingBefore
 pub mod Elsewhere
 pub mod VainRuns

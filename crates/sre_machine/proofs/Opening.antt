@@ -8,38 +8,43 @@ use Rattle.sre_chars.specs.declared.constants.SreOpcode.TheVariants as opcode
 use Rattle.sre_chars.specs.declared.string.StrDrive.{Ghosts}
 use Rattle.sre_chars.specs.declared.string.StringCursor.{StringCursor}
 use Rattle.sre_growth.specs.Refusal.{Refused}
+use Rattle.sre_model.specs.Regions.{has_forked_region}
 use Rattle.sre_model.specs.Roles.{role}
 use Rattle.sre_model.specs.Ways.{Way}
 use Rattle.sre_turns.specs.Alike.{Alike}
 use Rattle.sre_turns.specs.Board.{BoardValue, Trying}
 use Rattle.sre_turns.specs.Fruit.{is_inside}
-use Rattle.sre_turns.specs.Limits.{Limit, Grants, CodeAt, raised, with_tried, FaresAt}
+use Rattle.sre_turns.specs.Attempts.{Attempt}
+use Rattle.sre_turns.specs.Limits.{Limit, Grants, CodeAt, attempt, raised, with_tried, FaresAt}
 use Rattle.sre_turns.specs.Machine.{Arrives, Goes, Tries, spot}
 use Rattle.sre_turns.specs.Moves.{Spot}
 use Rattle.sre_turns.specs.Nested.{repeats}
 use Rattle.sre_turns.specs.Potential.{units, potential_of}
-use Rattle.sre_turns.specs.Settled.{SettledIn, Unforked}
+use Rattle.sre_turns.specs.Settled.{SettledIn}
 use Rattle.sre_turns.specs.declared.Point.TheVariants.{Instruction}
-use Rattle.sre_turns.proofs.Faring.{run_code, never_inside, forks_outside}
-use Rattle.sre_turns.proofs.HereMoves.{Outside}
-use Rattle.sre_turns.proofs.Straight.{forks_never}
-use Rattle.sre_machine.specs.Turns.{ForksThere}
+use Rattle.sre_turns.proofs.Faring.{run_code}
+use Rattle.sre_turns.proofs.HereMoves.{here_settled, here_forked}
+use Rattle.sre_turns.proofs.Straight.{StraightPoint, forks_never}
+use Rattle.sre_machine.specs.Turns.{ForksThere, NoEndTold}
 use Rattle.sre_turns.proofs.NestedCounts.{units_most, has_greatest}
 use Rattle.sre_turns.specs.RunEnds.{RunsOn}
 use Rattle.sre_turns.proofs.Hopeless.{no_reference}
 use Rattle.sre_turns.proofs.Moving.{arrived_at, arrived_once}
-use Rattle.sre_turns.proofs.OpenMarks.{none_open, none_tried}
-use Rattle.sre_turns.proofs.Start.{none_inside}
+use Rattle.sre_turns.proofs.OpenMarks.{none_tried}
 use Rattle.sre_turns.specs.MovesAtReferences.{HasReference}
 use Rattle.sre_turns.proofs.Trying.{trying_goes, trying_tries}
 use Rattle.sre_model.proofs.Words.{opcode_within}
-use Rattle.sre_board.specs.Failures.{HasBit, IsOpen}
+use Rattle.sre_board.specs.Accounts.{Account}
+use Rattle.sre_board.specs.Ends.{HoldsEnd}
+use Rattle.sre_board.specs.Failures.{Entry, HasBit, IsOpen}
 use Rattle.sre_board.proofs.AccountLaws.{account_opens}
+use Rattle.sre_board.proofs.EndsKept.{right_stays}
+use Rattle.sre_board.proofs.EndsTold.{end_told_before, no_end_outside}
 use Rattle.sre_board.proofs.Prepared.{account_prepared, bit_prepared}
 use Rattle.sre_request.specs.declared.request.Request.{Request}
 use Rattle.sre_request.specs.Requests.{start_of, end_of}
 use Rattle.sre_request.specs.Runs.{run_of}
-use Rattle.sre_machine.specs.Memos.{MemoValue, MakesRoom}
+use Rattle.sre_machine.specs.Memos.{MemoValue, MakesRoom, RecallsOf}
 use Rattle.sre_model.specs.Grammar.{Opcode}
 use Rattle.sre_machine.specs.Paying.{Pays, Remembering, Holding, weight}
 use Rattle.sre_machine.proofs.Paying.{pays_refused, pays_nothing, pays_left}
@@ -74,31 +79,53 @@ module _ {S : Type 0} {text : Ghosts S} (r : Request S text) (place : ℕ) (curs
   abbrev here : Spot
   here = spot (Instruction place) cursor b
 
+  -- what is tried there
+  abbrev there : Attempt
+  there = attempt b.choices here
+
   faring : (pl : Remembering r)
       → FaresAt (run_of r) pl.plain limit (potential_of (run_of r).words (run_of r).subject.end here) here b.choices
   faring pl = let code = run_code (run_of r) here x.runs in x.fares pl.plain code.0 code.1
 
-  -- where an instruction forks no region is in progress
-  apart : (pl : Remembering r) → Outside (run_of r) pl.plain limit.start b.choices here
-  apart pl =
-      forks_outside (run_of r) pl.plain limit _ here b.choices (faring pl) (forks_never (run_of r).words place forks)
+  forked : StraightPoint (run_of r).words (Instruction place) → ⊥
+  forked = forks_never (run_of r).words place forks
 
-  settled : (pl : Remembering r) → limit.start ≡ start_of r → SettledIn (run_of r) pl.plain (start_of r) here
-  settled pl at = subst (λ n. SettledIn (run_of r) pl.plain n here) at (apart pl).settled
+  -- where an instruction forks it is settled, in a region, too
+  settled : (pl : Remembering r) → SettledIn (run_of r) pl.plain limit.start here
+  settled pl = here_settled (run_of r) pl.plain limit.start b.choices here (faring pl).here forked
+
+  settled_at : (pl : Remembering r) → limit.start ≡ start_of r → SettledIn (run_of r) pl.plain (start_of r) here
+  settled_at pl at = subst (λ n. SettledIn (run_of r) pl.plain n here) at (settled pl)
+
+  in_forked : (pl : Remembering r) → is_inside b.choices ≡ true → has_forked_region pl.plain.tree ≡ true
+  in_forked pl inside =
+      here_forked (run_of r) pl.plain limit.start b.choices here (faring pl).here forked inside
 
   inside : place < length (run_of r).words
   inside = let code = run_code (run_of r) here x.runs in opcode_within (run_of r).words place code.0 code.1
 
-  holds : (pl : Remembering r) → limit.start ≡ start_of r → (n : ℕ) → Holding r pl m limit n → Holding r pl m' limit n
-  holds pl at n h =
-      account_prepared (run_of r) pl.plain (start_of r) m.kept m'.kept here place limit.trying n pl.room (settled pl at)
-      refl inside p.makes.rows p.makes.grows.stay p.makes.grows.bits p.makes.laid p.makes.roomy h
+  -- what was taken in is held still, unless memory was refused
+  holds : (pl : Remembering r) → limit.start ≡ start_of r → (n : ℕ) → Holding r pl m limit n → m'.stopped ≡ false
+      → Holding r pl m' limit n
+  holds pl at n h going =
+      let same = p.same going in
+      record {
+        account =
+            subst (λ e. Account (run_of r) pl.plain (start_of r) m'.kept e limit.trying n)
+            (sym (ap (λ (k : MemoValue). k.ends) same))
+            (account_prepared (run_of r) pl.plain (start_of r) m.kept m'.kept m.ends here place limit.trying n pl.room
+            (settled_at pl at) refl inside p.makes.rows p.makes.grows.stay p.makes.grows.bits p.makes.laid p.makes.roomy
+            h.account);
+        ends = λ forked. ap (λ (k : MemoValue). k.keeps_ends) same ∙ h.ends forked;
+        forked = h.forked;
+      }
 
   has_bit : (pl : Remembering r) → limit.start ≡ start_of r → (n : ℕ) → Holding r pl m limit n → m'.stopped ≡ false
-      → HasBit m'.kept (run_of r).words false here
-  has_bit pl at n h going =
-      bit_prepared (run_of r) pl.plain (start_of r) m.kept m'.kept here place limit.trying n pl.room (settled pl at)
-      refl inside p.makes.rows p.makes.grows.stay p.makes.grows.bits p.makes.laid p.makes.roomy h (p.makes.there going)
+      → (inside : Bool) → HasBit m'.kept (run_of r).words inside here
+  has_bit pl at n h going side =
+      bit_prepared (run_of r) pl.plain (start_of r) m.kept m'.kept m.ends here place limit.trying n pl.room
+      (settled_at pl at) refl inside p.makes.rows p.makes.grows.stay p.makes.grows.bits p.makes.laid p.makes.roomy
+      h.account side (p.makes.there going)
 
   -- failures are kept still
   stays_open : m.is_open ≡ true → m'.stopped ≡ false → m'.is_open ≡ true
@@ -112,42 +139,60 @@ module _ {S : Type 0} {text : Ghosts S} (r : Request S text) (place : ℕ) (curs
           → (stopped : Bool) → m'.stopped ≡ stopped → Refused ⊎ ((n' : ℕ) × Holding r pl m' limit n'
           × (m'.is_open ≡ true) × (limit.tolls + n * weight r pl ≤ limit.tolls + n' * weight r pl))
       go pl keeps at n h true e = inl (p.refused e)
-      go pl keeps at n h false e = inr (n, holds pl at n h, stays_open keeps e, omega arith)
+      go pl keeps at n h false e = inr (n, holds pl at n h e, stays_open keeps e, omega arith)
 
-  others : (pl : Remembering r) → AllByRecursion (λ (y : Spot). Alike (run_of r).words y here → ⊥) limit.trying
+  others : (pl : Remembering r)
+      → AllByRecursion (λ (y : Attempt). Alike (run_of r).words y.spot here → ⊥) limit.trying
   others pl =
-      let f = (faring pl).fares in
-      let none = none_open (run_of r) (no_reference (run_of r).words pl.plain.tree pl.plain.whole pl.plain.no_reference)
-      all limit (Instruction place) cursor b x in
-      subst (λ xs. AllByRecursion (λ (y : Spot). Alike (run_of r).words y here → ⊥) xs) f.trying
-      (none_tried (run_of r).words (SettledIn (run_of r) pl.plain limit.start) here b.choices (apart pl).each none)
+      subst (λ ys. AllByRecursion (λ (y : Attempt). Alike (run_of r).words y.spot here → ⊥) ys) (faring pl).fares.trying
+      (none_tried (run_of r)
+      (no_reference (run_of r).words pl.plain.tree pl.plain.whole pl.plain.no_reference) all limit (Instruction place)
+      cursor b x)
 
-  outside : (pl : Remembering r) → is_inside b.choices ≡ false
-  outside pl =
-      none_inside b.choices (never_inside (SettledIn (run_of r) pl.plain limit.start) b.choices (apart pl).each)
+  -- no end is kept for its bit: outside of regions none ever is, and inside it would have been told
+  module _ (recalls : RecallsOf r m) (untold : NoEndTold r place cursor b m) where
+    no_end : (pl : Remembering r) (n : ℕ) → Holding r pl m limit n → (inside : Bool) → is_inside b.choices ≡ inside
+        → (at bit : ℕ) → Entry m'.kept (run_of r).words inside here at bit → (c : StringCursor)
+        → HoldsEnd m.ends (at * 64 + bit) c → ⊥
+    no_end pl n h true told at bit entry c held =
+        untold told (h.ends (in_forked pl told)) c
+        (end_told_before (run_of r) m.kept m.ends recalls.ends m'.kept here at bit c p.makes.grows.stay p.makes.rows.stay
+        p.makes.laid entry held)
+    no_end pl n h false told at bit entry c held =
+        no_end_outside (run_of r) m'.kept m.ends
+        (right_stays (run_of r) m.kept m'.kept m.ends p.makes.grows.stay recalls.ends) here at bit c p.makes.laid entry
+        held
 
-  -- tolls are granted, and the spot's bit is taken in
-  pays_tried : (k : ℕ) → ((pl : Remembering r) → k ≤ weight r pl)
-      → IsOpen m'.kept (run_of r).words (is_inside b.choices) here
-      → Pays r m limit m' (with_tried here (raised k limit))
-  pays_tried k few opened = record { paid = λ pl keeps at n h. go pl keeps at n h m'.stopped refl }
-    where
-      go : (pl : Remembering r) → m.is_open ≡ true → limit.start ≡ start_of r → (n : ℕ) → Holding r pl m limit n
-          → (stopped : Bool) → m'.stopped ≡ stopped
-          → Refused ⊎ ((n' : ℕ) × Holding r pl m' (with_tried here (raised k limit)) n' × (m'.is_open ≡ true)
-          × (limit.tolls + k + n * weight r pl ≤ limit.tolls + n' * weight r pl))
-      go pl keeps at n h true e = inl (p.refused e)
-      go pl keeps at n h false e =
-          let clear = subst (λ i. IsOpen m'.kept (run_of r).words i here) (outside pl) opened in
-          let one : (n + 1) * weight r pl ≡ n * weight r pl + weight r pl =
-          add-mul n 1 (weight r pl) ∙ ap (λ w. n * weight r pl + w) (one-mul (weight r pl)) in
-          inr (
-            n + 1,
-            account_opens (run_of r) pl.plain (start_of r) m'.kept here limit.trying n clear (settled pl at).lies
-                (others pl) (holds pl at n h),
-            stays_open keeps e,
-            omega (arith, few pl, one),
-          )
+    -- tolls are granted, and the spot's bit is taken in
+    pays_tried : (k : ℕ) → ((pl : Remembering r) → k ≤ weight r pl)
+        → IsOpen m'.kept (run_of r).words (is_inside b.choices) here
+        → Pays r m limit m' (with_tried there (raised k limit))
+    pays_tried k few opened = record { paid = λ pl keeps at n h. go pl keeps at n h m'.stopped refl }
+      where
+        go : (pl : Remembering r) → m.is_open ≡ true → limit.start ≡ start_of r → (n : ℕ) → Holding r pl m limit n
+            → (stopped : Bool) → m'.stopped ≡ stopped
+            → Refused ⊎ ((n' : ℕ) × Holding r pl m' (with_tried there (raised k limit)) n' × (m'.is_open ≡ true)
+            × (limit.tolls + k + n * weight r pl ≤ limit.tolls + n' * weight r pl))
+        go pl keeps at n h true e = inl (p.refused e)
+        go pl keeps at n h false e =
+            let held = holds pl at n h e in
+            let same : m'.ends ≡ m.ends = ap (λ (k : MemoValue). k.ends) (p.same e) in
+            let one : (n + 1) * weight r pl ≡ n * weight r pl + weight r pl =
+            add-mul n 1 (weight r pl) ∙ ap (λ w. n * weight r pl + w) (one-mul (weight r pl)) in
+            inr (
+              n + 1,
+              record {
+                account = account_opens (run_of r) pl.plain (start_of r) m'.kept m'.ends there limit.trying n opened
+                    (λ c held.
+                    no_end pl n h (is_inside b.choices) refl opened.at opened.bit opened.entry c
+                    (subst (λ es. HoldsEnd es (opened.at * 64 + opened.bit) c) same held))
+                    (in_forked pl) (settled_at pl at).lies (others pl) held.account;
+                ends = held.ends;
+                forked = (in_forked pl, held.forked);
+              },
+              stays_open keeps e,
+              omega (arith, few pl, one),
+            )
 
   -- a spot has a bit, so of one that has none no toll is left to be paid
   pays_untried : (k : ℕ) → (HasBit m'.kept (run_of r).words (is_inside b.choices) here → ⊥)
@@ -160,7 +205,7 @@ module _ {S : Type 0} {text : Ghosts S} (r : Request S text) (place : ℕ) (curs
           × (limit.tolls + k + n * weight r pl ≤ limit.tolls + n' * weight r pl))
       go pl at n h true e = inl (p.refused e)
       go pl at n h false e =
-          absurd (none (subst (λ i. HasBit m'.kept (run_of r).words i here) (sym (outside pl)) (has_bit pl at n h e)))
+          absurd (none (has_bit pl at n h e (is_inside b.choices)))
 
   abbrev code : (o : SreOpcode) × CodeAt (run_of r).words (Instruction place) o
   code = run_code (run_of r) here x.runs
@@ -189,14 +234,14 @@ module _ {S : Type 0} {text : Ghosts S} (r : Request S text) (place : ℕ) (curs
       pays_untried 1 none,
     )
 
-  module _ (c : BoardValue) (made : Bool)
+  module _ (recalls : RecallsOf r m) (untold : NoEndTold r place cursor b m) (c : BoardValue) (made : Bool)
       (marked : made ≡ true → c ≡ record b { choices = Trying place b.frames cursor b.marks ∷ b.choices })
       (left : made ≡ false → c ≡ b) (none : made ≡ false → Refused)
       (opened : IsOpen m'.kept (run_of r).words (is_inside b.choices) here) where
     -- so many are few, but for a run without a greatest count
     few_units : (RunsOn (run_of r).words place → ⊥) → (pl : Remembering r) → own ≤ weight r pl
     few_units counted pl =
-        units_most (run_of r) pl.plain limit.start here place code.0 (apart pl).settled refl code.1
+        units_most (run_of r) pl.plain limit.start here place code.0 (settled pl) refl code.1
         (has_greatest (run_of r).words place code.0 code.1 counted x.runs)
 
     -- so the instruction is gone on with, where its mark was made; it was not where memory was refused
@@ -208,11 +253,11 @@ module _ {S : Type 0} {text : Ghosts S} (r : Request S text) (place : ℕ) (curs
             × Goes (run_of r) all more (Instruction place) cursor c
             × ((RunsOn (run_of r).words place → ⊥) → Pays r m limit m' more)
         go true e = (
-          with_tried here (raised own limit),
+          with_tried there (raised own limit),
           record { turns = refl; taken = refl; granted = refl; start = refl },
-          trying_goes (run_of r) place cursor b c (marked e) (λ pl. forks) all (raised own limit)
+          trying_goes (run_of r) place cursor b c (marked e) all (raised own limit)
               (arrived_at code.0 code.1 x),
-          λ counted. pays_tried own (few_units counted) opened,
+          λ counted. pays_tried recalls untold own (few_units counted) opened,
         )
         go false e = (
           raised own limit,
@@ -230,10 +275,10 @@ module _ {S : Type 0} {text : Ghosts S} (r : Request S text) (place : ℕ) (curs
         go : (told : Bool) → made ≡ told → (more : Limit) × Grants limit more
             × Tries (run_of r) all more (Instruction place) cursor c × Pays r m limit m' more
         go true e = (
-          with_tried here (raised 1 limit),
+          with_tried there (raised 1 limit),
           record { turns = refl; taken = refl; granted = refl; start = refl },
-          trying_tries (run_of r) place cursor b c (marked e) (λ pl. forks) all (raised 1 limit) (arrived_once x),
-          pays_tried 1 (λ pl. omega arith) opened,
+          trying_tries (run_of r) place cursor b c (marked e) all (raised 1 limit) (arrived_once x),
+          pays_tried recalls untold 1 (λ pl. omega arith) opened,
         )
         go false e = (
           raised 1 limit,
@@ -258,7 +303,7 @@ module _ {S : Type 0} {text : Ghosts S} (r : Request S text) (place : ℕ) (curs
         raised k limit,
         record { turns = refl; taken = refl; granted = refl; start = refl },
         arrived_at code.0 code.1 x,
-        λ counted. pays_nothing r m m limit (raised k limit) refl (λ h. h) refl (omega (arith, none)),
+        λ counted. pays_nothing r m m limit (raised k limit) refl (refl, refl) (λ h. h) refl (omega (arith, none)),
       )
 
   -- and where failures are not kept
@@ -280,9 +325,6 @@ module _ {S : Type 0} {text : Ghosts S} (r : Request S text) (place : ℕ) (curs
     (x : Arrives (run_of r) all limit (Instruction place) cursor b) (c : BoardValue) (made : Bool)
     (marked : made ≡ true → c ≡ record b { choices = Trying place b.frames cursor b.marks ∷ b.choices })
     (left : made ≡ false → c ≡ b) where
-  never_forks : Unforked (run_of r) → ForksThere r place
-  never_forks pl = absurd (no_reference (run_of r).words pl.tree pl.whole pl.no_reference has)
-
   pub goes_marked : (more : Limit) × Grants limit more × Goes (run_of r) all more (Instruction place) cursor c
       × ((RunsOn (run_of r).words place → ⊥) → Pays r m limit m' more)
   goes_marked = go made refl
@@ -293,12 +335,12 @@ module _ {S : Type 0} {text : Ghosts S} (r : Request S text) (place : ℕ) (curs
       go true e =
           let code = run_code (run_of r) (spot (Instruction place) cursor b) x.runs in
           let k : ℕ = units (run_of r).words (run_of r).subject.end place (role code.0) in (
-            with_tried (spot (Instruction place) cursor b) (raised k limit),
+            with_tried (attempt b.choices (spot (Instruction place) cursor b)) (raised k limit),
             record { turns = refl; taken = refl; granted = refl; start = refl },
-            trying_goes (run_of r) place cursor b c (marked e) never_forks all (raised k limit)
+            trying_goes (run_of r) place cursor b c (marked e) all (raised k limit)
                 (arrived_at code.0 code.1 x),
             λ counted.
-                pays_left r m m' limit (with_tried (spot (Instruction place) cursor b) (raised k limit)) (λ _. has),
+                pays_left r m m' limit (with_tried (attempt b.choices (spot (Instruction place) cursor b)) (raised k limit)) (λ _. has),
           )
       go false e =
           let code = run_code (run_of r) (spot (Instruction place) cursor b) x.runs in
@@ -318,10 +360,10 @@ module _ {S : Type 0} {text : Ghosts S} (r : Request S text) (place : ℕ) (curs
       go : (told : Bool) → made ≡ told → (more : Limit) × Grants limit more
           × Tries (run_of r) all more (Instruction place) cursor c × Pays r m limit m' more
       go true e = (
-        with_tried (spot (Instruction place) cursor b) (raised 1 limit),
+        with_tried (attempt b.choices (spot (Instruction place) cursor b)) (raised 1 limit),
         record { turns = refl; taken = refl; granted = refl; start = refl },
-        trying_tries (run_of r) place cursor b c (marked e) never_forks all (raised 1 limit) (arrived_once x),
-        pays_left r m m' limit (with_tried (spot (Instruction place) cursor b) (raised 1 limit)) (λ _. has),
+        trying_tries (run_of r) place cursor b c (marked e) all (raised 1 limit) (arrived_once x),
+        pays_left r m m' limit (with_tried (attempt b.choices (spot (Instruction place) cursor b)) (raised 1 limit)) (λ _. has),
       )
       go false e = (
         raised 1 limit,

@@ -1,34 +1,42 @@
 -- Tolls that are paid one after the other.
 use Rattle.std.proofs.Common.{◌≡◌, ℕ, inl, inr, true, List, refl, sym, ◌∙◌, subst, arith}
+use Rattle.std.specs.List.{AllByRecursion}
 use Rattle.sre_chars.specs.declared.string.StrDrive.{Ghosts}
 use Rattle.sre_growth.specs.Refusal.{Refused}
+use Rattle.sre_model.specs.Regions.{has_forked_region}
 use Rattle.sre_turns.specs.Limits.{Limit, Grants}
-use Rattle.sre_turns.specs.Moves.{Spot}
+use Rattle.sre_turns.specs.Attempts.{Attempt}
 use Rattle.sre_turns.specs.MovesAtReferences.{HasReference}
 use Rattle.sre_turns.proofs.Hopeless.{no_reference}
 use Rattle.sre_board.specs.Accounts.{Account}
-use Rattle.sre_board.specs.Failures.{Kept}
 use Rattle.sre_request.specs.declared.request.Request.{Request}
 use Rattle.sre_request.specs.Requests.{start_of}
 use Rattle.sre_request.specs.Runs.{run_of}
-use Rattle.sre_machine.specs.Memos.{MemoValue}
-use Rattle.sre_machine.specs.Paying.{Pays, Remembering}
+use Rattle.sre_machine.specs.Memos.{MemoValue, EndsStay}
+use Rattle.sre_machine.specs.Paying.{Holds, Pays, Remembering}
 
 module _ {S : Type 0} {text : Ghosts S} (r : Request S text) where
   -- what was taken in is held by the same memory still
-  pub held : (pl : Remembering r) (k k' : Kept) (xs xs' : List Spot) (n : ℕ) → k' ≡ k → xs' ≡ xs
-      → Account (run_of r) pl.plain (start_of r) k xs n → Account (run_of r) pl.plain (start_of r) k' xs' n
-  held pl k k' xs xs' n same trying h =
-      subst (λ ys. Account (run_of r) pl.plain (start_of r) k' ys n) (sym trying)
-      (subst (λ m. Account (run_of r) pl.plain (start_of r) m xs n) (sym same) h)
+  pub held : (pl : Remembering r) (m m' : MemoValue) (xs xs' : List Attempt) (n : ℕ) → m'.kept ≡ m.kept
+      → EndsStay m m' → xs' ≡ xs → Holds r pl m xs n → Holds r pl m' xs' n
+  held pl m m' xs xs' n same ends trying h = record {
+    account =
+        subst (λ ys. Account (run_of r) pl.plain (start_of r) m'.kept m'.ends ys n) (sym trying)
+        (subst (λ e. Account (run_of r) pl.plain (start_of r) m'.kept e xs n) (sym ends.0)
+        (subst (λ k. Account (run_of r) pl.plain (start_of r) k m.ends xs n) (sym same) h.account));
+    ends = λ forked. ends.1 ∙ h.ends forked;
+    forked =
+        subst (λ ys. AllByRecursion (λ (a : Attempt). a.inside ≡ true → has_forked_region pl.plain.tree ≡ true) ys)
+        (sym trying) h.forked;
+  }
 
   -- none is granted
-  pub pays_nothing : (m m' : MemoValue) (l l' : Limit) → m'.kept ≡ m.kept → (m.is_open ≡ true → m'.is_open ≡ true)
-      → l'.trying ≡ l.trying → l'.tolls ≡ l.tolls → Pays r m l m' l'
-  pays_nothing m m' l l' same stays trying tolls = record {
+  pub pays_nothing : (m m' : MemoValue) (l l' : Limit) → m'.kept ≡ m.kept → EndsStay m m'
+      → (m.is_open ≡ true → m'.is_open ≡ true) → l'.trying ≡ l.trying → l'.tolls ≡ l.tolls → Pays r m l m' l'
+  pays_nothing m m' l l' same ends stays trying tolls = record {
     paid = λ pl keeps start n h. inr (
       n,
-      held pl m.kept m'.kept l.trying l'.trying n same trying h,
+      held pl m m' l.trying l'.trying n same ends trying h,
       stays keeps,
       omega (arith, tolls),
     );

@@ -89,16 +89,15 @@ recalls_kept r m m' same stay plain recalls =
     }
 
 -- other ends are kept, which are right
-pub recalls_ended : (r : Run) (m m' : MemoValue) → m' ≡ record m { ends = m'.ends } → EndsRight r m.kept m'.ends
-    → Recalls r m → Recalls r m'
-recalls_ended r m m' same ends recalls =
-    subst (λ (x : MemoValue). Recalls r x) (sym same) (record {
-      plain = recalls.plain;
-      marked = recalls.marked;
-      covers = recalls.covers;
-      ends = ends;
-      markless = recalls.markless;
-    })
+pub recalls_ended : (r : Run) (m m' : MemoValue) → m'.kept ≡ m.kept → m'.marked ≡ m.marked
+    → m'.keeps_ends ≡ m.keeps_ends → EndsRight r m.kept m'.ends → Recalls r m → Recalls r m'
+recalls_ended r m m' kept marked keeps ends recalls = record {
+  plain = subst (λ k. Remembers r no_marks k) (sym kept) recalls.plain;
+  marked = subst (λ (x : MarkedValue). Remembers r x.marks x.kept) (sym marked) recalls.marked;
+  covers = subst (λ (x : MarkedValue). Covers r.words x.end) (sym marked) recalls.covers;
+  ends = subst (λ k. EndsRight r k m'.ends) (sym kept) ends;
+  markless = λ h. recalls.markless (sym keeps ∙ h);
+}
 
 -- from now on failures are kept
 pub recalls_begun : (r : Run) (m' : MemoValue) (k : Kept) (m : MarkedValue) (e : EndsTable) (h : Bool) → m'.kept ≡ k

@@ -5,7 +5,7 @@ use Rattle.sre_model.specs.Roles.{role}
 use Rattle.sre_model.specs.Runs.{Run}
 use Rattle.sre_model.specs.Ways.{Way}
 use Rattle.sre_turns.specs.Board.{BoardValue}
-use Rattle.sre_turns.specs.Limits.{Limit, raised}
+use Rattle.sre_turns.specs.Limits.{Limit, raised, without_open}
 use Rattle.sre_turns.specs.Machine.{spot, Stands, Later, StandsWithin, Advances, Closes}
 use Rattle.sre_turns.specs.Potential.{units}
 use Rattle.sre_turns.specs.declared.Next.{Next}
@@ -23,16 +23,16 @@ stands_at r all turns n m b e x = subst (λ z. StandsWithin r all turns z b) e x
 module _ (r : Run) (all : List Way) (limit turned counted : ℕ) (old new : BoardValue) (n : Next)
     (one : counted ≡ turned + 1) where
   -- so many are left after it
-  abbrev pub Counted : Type 0
-  Counted = (1 ≤ limit - turned) × StandsWithin r all (limit - counted) n new
+  abbrev pub TurnCounted : Type 0
+  TurnCounted = (1 ≤ limit - turned) × StandsWithin r all (limit - counted) n new
 
-  counts : (l : Limit) → l.turns ≡ limit - turned → Later r all l n new → Counted
+  counts : (l : Limit) → l.turns ≡ limit - turned → Later r all l n new → TurnCounted
   counts l e x =
       (omega (arith, e, x.0), record { limit = _; turns_left = omega (arith, e, one); stands = x.1 })
 
   -- at an instruction that was come to
   pub instruction_taken : (i : ℕ) (c : StringCursor) → Advances r (Instruction i) c old n new
-      → StandsWithin r all (limit - turned) (next.At i c) old → Counted
+      → StandsWithin r all (limit - turned) (next.At i c) old → TurnCounted
   instruction_taken i c turn x =
       let code = run_code r (spot (Instruction i) c old) x.stands.runs in
       let more : Limit = raised (units r.words r.subject.end i (role code.0)) x.limit in
@@ -40,24 +40,24 @@ module _ (r : Run) (all : List Way) (limit turned counted : ℕ) (old new : Boar
 
   -- at a possessive loop
   pub again_taken : (c : StringCursor) → Advances r Again c old n new
-      → StandsWithin r all (limit - turned) (next.Again c) old → Counted
+      → StandsWithin r all (limit - turned) (next.Again c) old → TurnCounted
   again_taken c turn x =
       counts x.limit x.turns_left (turn all x.limit (arrived again_free x.stands))
 
   -- where a region ends
   pub end_taken : (c : StringCursor) → Closes r c old n new → StandsWithin r all (limit - turned) (next.Done c) old
-      → Counted
-  end_taken c turn x = counts x.limit x.turns_left (turn all x.limit x.stands)
+      → TurnCounted
+  end_taken c turn x = counts (without_open old.choices x.limit) x.turns_left (turn all x.limit x.stands)
 
   -- where more may be granted before it, and is paid in some way
   pub proceeds_taken : (m : Next) (P : Limit → Limit → Type 0)
       → ((l : Limit) → Stands r all l m old → Proceeds r all l n new (λ more. P l more))
-      → StandsWithin r all (limit - turned) m old → Counted
+      → StandsWithin r all (limit - turned) m old → TurnCounted
   proceeds_taken m P turn x =
       let y = turn x.limit x.stands in
       counts y.0 (omega (arith, y.1.turns, x.turns_left)) y.2
 
   -- where nothing is granted
   pub later_taken : (m : Next) → ((l : Limit) → Stands r all l m old → Later r all l n new)
-      → StandsWithin r all (limit - turned) m old → Counted
+      → StandsWithin r all (limit - turned) m old → TurnCounted
   later_taken m turn x = counts x.limit x.turns_left (turn x.limit x.stands)

@@ -3,7 +3,11 @@ use Rattle.std.specs.Prelude.{ℕ, ◌+◌, ◌-◌, ◌*◌, ◌^◌, ◌<◌, 
 use Rattle.std.specs.Prelude.{Option, Some, None, negsuc}
 use Rattle.sre_chars.specs.declared.string.StrDrive.{Ghosts}
 use Rattle.sre_growth.specs.declared.Refusal.{Refusal}
+use Rattle.sre_model.specs.Tree.{Tree}
+use Rattle.sre_model.specs.Grammar.{WholeItems}
+use Rattle.sre_model.specs.References.{refers}
 use Rattle.sre_model.specs.Marks.{Marks, no_marks}
+use Rattle.sre_model.specs.MarksSet.{marks_in_regions}
 use Rattle.sre_model.specs.Runs.{Run}
 use Rattle.sre_turns.specs.MovesAtReferences.{Asks}
 use Rattle.sre_request.specs.declared.request.Request.{Request}
@@ -109,3 +113,8 @@ pub record IsMemo (opened used : Bool) (patience : ℕ) (k : Kept) (m : MarkedVa
 pub record Begins (start end : ℕ) (m : MemoValue) : Type 0 where
   pub closed : m.is_open ≡ false
   pub waits : m.waits ≤ 32 * (end - start + 1)
+
+-- ends of bodies are kept of words that do not refer to groups, and whose regions set no mark
+abbrev pub KeepsEndsOf : {S : Type 0} {text : Ghosts S} → Request S text → MemoValue → Type 0
+KeepsEndsOf r m =
+    (t : Tree) → WholeItems (run_of r).words t → refers t ≡ false → marks_in_regions t ≡ false → m.keeps_ends ≡ true

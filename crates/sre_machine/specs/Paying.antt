@@ -4,20 +4,24 @@
 -- Words of the machine's contracts; what sre_engine makes public does not rest on it.
 use Rattle.std.specs.Prelude.{ℕ, ◌+◌, ◌-◌, ◌*◌, ◌/◌, ◌≤◌, ◌≡◌, ◌⊎◌, ⊤, List, [], ◌∷◌, length, min, max, true, false}
 use Rattle.std.specs.Prelude.{Option}
+use Rattle.std.specs.List.{AllByRecursion}
 use Rattle.sre_chars.specs.declared.string.StrDrive.{Ghosts}
 use Rattle.sre_chars.specs.declared.string.StringCursor.{StringCursor}
 use Rattle.sre_growth.specs.Refusal.{Refused}
 use Rattle.sre_model.specs.Runs.{Run}
 use Rattle.sre_turns.specs.Limits.{Limit, grant}
-use Rattle.sre_turns.specs.Settled.{Unforked}
+use Rattle.sre_turns.specs.Settled.{Counted}
 use Rattle.sre_model.specs.Ways.{Way}
 use Rattle.sre_model.specs.RunCounts.{most_counts}
 use Rattle.sre_model.specs.Alternatives.{most_alternatives}
+use Rattle.sre_model.specs.MarksSet.{marks_in_regions}
+use Rattle.sre_model.specs.Regions.{has_forked_region}
 use Rattle.sre_turns.specs.Board.{BoardValue}
 use Rattle.sre_turns.specs.Machine.{Stands}
-use Rattle.sre_turns.specs.Moves.{Spot}
+use Rattle.sre_turns.specs.Attempts.{Attempt}
 use Rattle.sre_turns.specs.declared.Next.{Next}
 use Rattle.sre_board.specs.Accounts.{Account, Room, most_bits}
+use Rattle.sre_board.specs.Ends.{EndsTable}
 use Rattle.sre_board.specs.Failures.{Kept}
 use Rattle.sre_request.specs.declared.request.Request.{Request}
 use Rattle.sre_request.specs.Requests.{start_of, end_of}
@@ -30,16 +34,26 @@ use Rattle.sre_machine.specs.declared.turns.Decision.TheVariants.{Decided, Opene
 abbrev pub window_of : {S : Type 0} {text : Ghosts S} → Request S text → ℕ
 window_of r = end_of r - start_of r
 
--- the words have no references, no body of a region forks, and there is room for the bits of all their places
+-- the turns of the words are counted, where a region forks none sets a mark, and there is room for the bits of all their
+-- places
 pub record Remembering {S : Type 0} {text : Ghosts S} (r : Request S text) : Type 0 where
-  pub plain : Unforked (run_of r)
+  pub plain : Counted (run_of r)
+  pub unmarked : has_forked_region plain.tree ≡ true → marks_in_regions plain.tree ≡ false
   pub room : Room (run_of r) plain (start_of r)
   pub order : start_of r ≤ end_of r
 
--- what the memory has taken in, under a limit
+-- the memory has taken in so many bits, of which some are those of what is tried; where a region forks it keeps ends of
+-- bodies, and else nothing is tried inside a region
+pub record Holds {S : Type 0} {text : Ghosts S} (r : Request S text) (pl : Remembering r) (m : MemoValue)
+    (xs : List Attempt) (n : ℕ) : Type 0 where
+  pub account : Account (run_of r) pl.plain (start_of r) m.kept m.ends xs n
+  pub ends : has_forked_region pl.plain.tree ≡ true → m.keeps_ends ≡ true
+  pub forked : AllByRecursion (λ (a : Attempt). a.inside ≡ true → has_forked_region pl.plain.tree ≡ true) xs
+
+-- the same of what is tried under a limit
 abbrev pub Holding : {S : Type 0} {text : Ghosts S} (r : Request S text) → Remembering r → MemoValue → Limit → ℕ
     → Type 0
-Holding r pl m l n = Account (run_of r) pl.plain (start_of r) m.kept l.trying n
+Holding r pl m l n = Holds r pl m l.trying n
 
 -- how many tolls an instruction that may branch brings at most while failures are kept: one, and one more for each end
 -- of a run or each alternative
@@ -61,11 +75,11 @@ pub record Pays {S : Type 0} {text : Ghosts S} (r : Request S text) (m : MemoVal
 abbrev pub Within : Run → Limit → Type 0
 Within r l = l.taken ≤ l.granted + l.tolls * grant r.words
 
--- what was taken in is held still, and the newest spot that was tried is tried no more
-abbrev pub HoldsTried : {S : Type 0} {text : Ghosts S} → Request S text → Spot → Kept → Kept → Type 0
+-- what was taken in is held still, and the newest that was tried is tried no more
+abbrev pub HoldsTried : {S : Type 0} {text : Ghosts S} → Request S text → Attempt → Kept → Kept → Type 0
 HoldsTried r x k k' =
-    (pl : Remembering r) (xs : List Spot) (n : ℕ) → Account (run_of r) pl.plain (start_of r) k (x ∷ xs) n
-    → Account (run_of r) pl.plain (start_of r) k' xs n
+    (pl : Remembering r) (es : EndsTable) (xs : List Attempt) (n : ℕ)
+    → Account (run_of r) pl.plain (start_of r) k es (x ∷ xs) n → Account (run_of r) pl.plain (start_of r) k' es xs n
 
 -- from where some turns began the machine has come here, by so many more of them, and each toll is paid
 pub record Follows {S : Type 0} {text : Ghosts S} (r : Request S text) (all : List Way) (first next : Next)
@@ -96,7 +110,7 @@ pub record Settles {S : Type 0} {text : Ghosts S} (r : Request S text) (all : Li
       → limit.start ≡ start_of r → limit.taken ≡ before → (n : ℕ) → Holding r pl m limit n
       → Refused ⊎ ((tolls n' : ℕ)
       × (tolls + n * weight r pl ≤ limit.tolls + n' * weight r pl)
-      × Account (run_of r) pl.plain (start_of r) m'.kept [] n' × (m'.is_open ≡ true)
+      × Holds r pl m' [] n' × (m'.is_open ≡ true)
       × (left ≤ left' + (limit.granted + tolls * grant (run_of r).words + 1) * each_of r pl))
 
 -- failures were not kept, and each turn that was taken was waited for
@@ -110,7 +124,7 @@ run_cost r pl tolls = (2 * length (run_of r).words + 4 + tolls * grant (run_of r
 
 -- the memory has taken in so many bits, and nothing is tried
 abbrev pub HoldsBits : {S : Type 0} {text : Ghosts S} (r : Request S text) → Remembering r → MemoValue → ℕ → Type 0
-HoldsBits r pl m n = Account (run_of r) pl.plain (start_of r) m.kept [] n
+HoldsBits r pl m n = Holds r pl m [] n
 
 -- a run from a cursor that was given up: how many turns it took at most, where no memory was refused
 pub record RunGivenUp {S : Type 0} {text : Ghosts S} (r : Request S text) (start : StringCursor) (m : MemoValue)

@@ -1,9 +1,12 @@
 -- Where the machine stands, and what an instruction's turn keeps, in the words of its functions' contracts.
 -- Words of the machine's contracts; what sre_engine makes public does not rest on it.
-use Rattle.std.specs.Prelude.{ℕ, ◌≡◌, ◌≢◌, Bool, true, false, List, [], Option}
+use Rattle.std.specs.Prelude.{ℕ, ◌≡◌, ◌≢◌, ◌≤◌, Bool, true, false, List, [], Option}
+use Rattle.sre_chars.specs.declared.constants.SreOpcode.{SreOpcode}
 use Rattle.sre_chars.specs.declared.string.StrDrive.{Ghosts}
 use Rattle.sre_chars.specs.declared.string.StringCursor.{StringCursor}
 use Rattle.sre_model.specs.Marks.{Marks, no_marks}
+use Rattle.sre_growth.specs.Refusal.{Refused}
+use Rattle.sre_model.specs.Roles.{role}
 use Rattle.sre_model.specs.Runs.{Run}
 use Rattle.sre_turns.specs.Board.{BoardValue}
 use Rattle.sre_turns.specs.Asked as marks
@@ -12,7 +15,7 @@ use Rattle.sre_turns.specs.Fruit.{is_inside}
 use Rattle.sre_turns.specs.Hopeless.{Hopeless}
 use Rattle.sre_turns.specs.Moves.{spot_at}
 use Rattle.sre_turns.specs.MovesAtReferences.{HasReference}
-use Rattle.sre_turns.specs.Settled.{Unforked}
+use Rattle.sre_turns.specs.Settled.{Counted}
 use Rattle.sre_turns.specs.Straight.{ForksAt}
 use Rattle.sre_model.specs.Ways.{Way}
 use Rattle.sre_turns.specs.Machine.{HasRun, IsAt, StandsWithin, Goes, Tries, Arrives, Backs, Advances, Later}
@@ -21,16 +24,18 @@ use Rattle.sre_turns.specs.Machine.{Ends, spot}
 use Rattle.sre_turns.specs.Machine.{Refuses, DemandsAny, Continues, SkipsBoth, IsRead}
 use Rattle.sre_turns.specs.RunEnds.{RunsOn}
 use Rattle.sre_turns.specs.Limits.{Limit, Grants}
+use Rattle.sre_turns.specs.Potential.{units}
 use Rattle.sre_turns.specs.declared.Next.TheVariants as next
 use Rattle.sre_turns.specs.declared.Next.{Next}
 use Rattle.sre_turns.specs.declared.Point.{Point}
 use Rattle.sre_turns.specs.declared.Point.TheVariants.{Instruction}
+use Rattle.sre_board.specs.Ends.{TellsEnd, KeepsOpenEnds, HoldsOpenEnds}
 use Rattle.sre_request.specs.declared.request.Request.{Request}
 use Rattle.sre_machine.specs.Memos.{MemoValue}
 use Rattle.sre_machine.specs.Paying.{Pays, Within}
 use Rattle.sre_machine.specs.declared.trying.Keeping.{Keeping}
 use Rattle.sre_machine.specs.declared.trying.Keeping.TheVariants.{Nothing, Unmarked, Marked}
-use Rattle.sre_request.specs.Runs.{run_of}
+use Rattle.sre_request.specs.Runs.{run_of, OpcodeAt}
 
 -- the machine is at a point, with a cursor at its position; at an instruction
 abbrev pub AtPoint : {S : Type 0} {text : Ghosts S} → Request S text → Point → StringCursor → Type 0
@@ -114,7 +119,7 @@ abbrev pub Finishes : {S : Type 0} {text : Ghosts S} → Request S text → Bool
 Finishes r keeps b m m' =
     (all : List Way) (limit : Limit) → Backs (run_of r) all limit b
     → (all ≡ []) × ((more : Limit) × Grants limit more × (keeps ≡ true → Pays r m limit m' more)
-    × (Unforked (run_of r) → (more.trying ≡ []) × Within (run_of r) more))
+    × (Counted (run_of r) → (more.trying ≡ []) × Within (run_of r) more))
 
 -- the instruction is left at once
 abbrev pub GivesUp : {S : Type 0} {text : Ghosts S} → Request S text → ℕ → StringCursor → BoardValue → MemoValue
@@ -182,9 +187,40 @@ pub record EndsThere {S : Type 0} {text : Ghosts S} (r : Request S text) (place 
   pub stands : (run_of r).stands end end.position
   pub ends : EndsAt (run_of r) no_marks (spot (Instruction place) cursor b) end.position
 
+-- where a body ends that is kept: failures are kept, and ends of bodies, the machine is inside a region, and the words
+-- refer to no group
+pub record KeepsEndsHere {S : Type 0} {text : Ghosts S} (r : Request S text) (b : BoardValue) (m : MemoValue) :
+    Type 0 where
+  pub opened : m.is_open ≡ true
+  pub keeps : m.keeps_ends ≡ true
+  pub inside : is_inside b.choices ≡ true
+  pub plain : RefersToGroups r → ⊥
+
 -- the machine stands where the body of the innermost region, or the whole, ends at a cursor
 pub record BodyEnds {S : Type 0} {text : Ghosts S} (r : Request S text) (cursor : StringCursor) (b : BoardValue) :
     Type 0 where
   pub all : List Way
   pub limit : Limit
   pub ends : Ends (run_of r) all limit cursor b
+
+-- the instruction at a place brings tolls: the machine may have more than one way to go on
+pub record BringsTolls {S : Type 0} {text : Ghosts S} (r : Request S text) (place : ℕ) : Type 0 where
+  pub code : SreOpcode
+  pub there : OpcodeAt r place code
+  pub some : 1 ≤ units (run_of r).words (run_of r).subject.end place (role code)
+
+-- no end is told of the instruction at a place and a cursor, where ends of bodies are kept
+abbrev pub NoEndTold : {S : Type 0} {text : Ghosts S} → Request S text → ℕ → StringCursor → BoardValue → MemoValue
+    → Type 0
+NoEndTold r place cursor b m =
+    is_inside b.choices ≡ true → m.keeps_ends ≡ true → (end : StringCursor)
+    → TellsEnd m.kept m.ends (run_of r).words true (spot (Instruction place) cursor b) end → ⊥
+
+-- where a body ends is kept, or memory was refused
+pub record KeepsBodyEnd {S : Type 0} {text : Ghosts S} (r : Request S text) (cursor : StringCursor) (b : BoardValue)
+    (m m' : MemoValue) : Type 0 where
+  pub same : m'.stopped ≡ false → m' ≡ record m { ends = m'.ends }
+  pub kept : KeepsOpenEnds m.kept (run_of r).words b.choices cursor m.ends m'.ends
+  pub held : KeepsEndsHere r b m → m'.stopped ≡ false
+      → HoldsOpenEnds m.kept (run_of r).words b.choices cursor m'.ends
+  pub refused : m'.stopped ≡ true → Refused

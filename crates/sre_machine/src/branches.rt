@@ -195,8 +195,8 @@ fn behind_set<S: StrDrive>(
     })
 }
 
-// Where the machine goes on from an instruction, if something may come of it: behind a literal or a set that takes the
-// character, and else at the instruction itself.
+// Where the machine goes on from an instruction, if something may come of it: behind a LITERAL, an IN, a NOT_LITERAL or
+// a LITERAL_UNI_IGNORE that takes the character, and else at the instruction itself.
 #[inline(always)]
 fn begin<S: StrDrive>(
     req: &Request<'_, S>,

@@ -1,6 +1,7 @@
 //! Lazy runs of one test: `MIN_REPEAT_ONE skip least greatest test SUCCESS`.
 //!
-//! Behind the least count each try of a longer one takes one test, and never looks ahead.
+//! Behind the least count each longer one takes one test more. Those behind which the tail's first character is not
+//! there, if the words tell it, are passed over in one turn.
 
 ghost use Rattle.std.specs.Prelude.{⊤, ◌≡◌, ◌+◌, ◌<◌, ◌||◌, nat_eq, nat_lt, IfOk, MatchOption};
 ghost use Rattle.sre_model.specs.Ways.{unlimited};

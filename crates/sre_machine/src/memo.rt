@@ -6,8 +6,8 @@
 //! twice as many for each character. The run that is under way then goes on, and remembers what it tries from there on;
 //! within turns it begins again.
 
-ghost use Rattle.std.specs.Prelude.{[], ℕ, ◌≡◌, ◌⊎◌, ◌+◌, ◌-◌, ◌*◌, ◌<◌, ◌≤◌, None, IfSome, slice_index_or};
-ghost use Rattle.std.specs.Prelude.{true, false};
+ghost use Rattle.std.specs.Prelude.{[], ℕ, ◌≡◌, ◌⊎◌, ◌+◌, ◌-◌, ◌*◌, ◌<◌, ◌≤◌, None, IfSome, IfNone};
+ghost use Rattle.std.specs.Prelude.{slice_index_or, true, false};
 ghost use Rattle.sre_model.specs.Marks.{mark_at};
 ghost use Rattle.sre_turns.specs.Fruit.{is_inside};
 ghost use Rattle.sre_turns.specs.MovesAtReferences.{Asks};
@@ -16,8 +16,9 @@ ghost use Rattle.sre_turns.specs.Moves.{spot_at};
 ghost use Rattle.sre_turns.specs.declared.Point.TheVariants.{Instruction};
 ghost use Rattle.sre_growth.specs.Refusal.{Refused};
 ghost use Rattle.sre_board.specs.Failures.{HoldsNone, HoldsNoMore, HoldsOneMore, Tells, Laid};
-ghost use Rattle.sre_machine.specs.Memos.{MakesRoom, RecallsOf, EndsStay, IsBlankMemo};
-ghost use Rattle.sre_board.specs.Ends.{TellsEnd, HoldsOpenMore};
+ghost use Rattle.sre_machine.specs.Memos.{MakesRoom, RecallsOf, EndsStay, IsBlankMemo, KeepsEndsOf};
+ghost use Rattle.sre_board.specs.Ends.{TellsEnd, HoldsOpenMore, KeepsOpenEnds, HoldsOpenEnds};
+ghost use Rattle.sre_chars.specs.declared.string.StringCursor.{StringCursor};
 ghost use Rattle.sre_turns.specs.Bodies.{MarklessRegions};
 ghost use Rattle.sre_request.specs.Runs.{run_of};
 ghost use Rattle.sre_board.specs.Failures.{KeepsSpot, kept_of};
@@ -171,6 +172,7 @@ impl<A: Allocator> Memo<A> {
     pub(crate) fn open<S: StrDrive>(&mut self, req: &Request<'_, S>)
         ensures opened { self.new.is_open ≡ true }
         ensures empty { self.new.kept ≡ kept_of [] [] [] }
+        ensures ends { KeepsEndsOf req.now self.new }
         ensures recalls { RecallsOf req.now self.old → RecallsOf req.now self.new }
         ensures stopped { self.new.stopped ≡ self.old.stopped }
     {
@@ -187,6 +189,7 @@ impl<A: Allocator> Memo<A> {
         requires { self.old.patience ≡ 0 }
         ensures same { self.new ≡ record self.old { is_open = true; keeps_ends = self.new.keeps_ends } }
         ensures markless { self.new.keeps_ends ≡ true → MarklessRegions (run_of req.now).words }
+        ensures ends { KeepsEndsOf req.now self.new }
     {
         self.is_used = true;
         self.is_open = true;
@@ -344,20 +347,35 @@ impl<A: Allocator> Memo<A> {
         ensures told { IfSome result (λ end. TellsEnd self.now.kept self.now.ends words.now
             (is_inside board.now.choices)
             (spot_at (Instruction place) board.now.frames position board.now.marks) end) }
+        ensures none { IfNone result ((end : StringCursor) → TellsEnd self.now.kept self.now.ends words.now
+            (is_inside board.now.choices)
+            (spot_at (Instruction place) board.now.frames position board.now.marks) end → ⊥) }
         ensures laid { Laid self.now.kept }
     {
         let number = self.failures.number(words, board, place, position)?;
         self.ends.end(number)
     }
 
-    // Keeps that the body of the innermost region ends at a cursor, for each instruction that is tried inside.
+    // Keeps that the body of the innermost region ends at a cursor, for each instruction that is tried inside. Where
+    // memory is refused the search goes on without.
     #[inline(never)]
     pub(crate) fn keep_ends(&mut self, words: &[u32], board: &Board<A>, end: StringCursor)
         ensures more { HoldsOpenMore self.old.kept words.now board.now.choices end self.old.ends self.new.ends }
-        ensures same { self.new ≡ record self.old { ends = self.new.ends } }
+        ensures kept { KeepsOpenEnds self.old.kept words.now board.now.choices end self.old.ends self.new.ends }
+        ensures held { self.new.stopped ≡ false
+            → HoldsOpenEnds self.old.kept words.now board.now.choices end self.new.ends }
+        ensures failures { self.new.kept ≡ self.old.kept }
+        ensures marked { self.new.marked ≡ self.old.marked }
+        ensures keeps { self.new.keeps_ends ≡ self.old.keeps_ends }
+        ensures same { self.new.stopped ≡ false → self.new ≡ record self.old { ends = self.new.ends } }
+        ensures stopped { self.old.stopped ≡ true → self.new.stopped ≡ true }
+        ensures refused { self.new.stopped ≡ true → Refused }
+        ensures still { self.old.is_open ≡ true → self.new.is_open ≡ true ⊎ Refused }
     {
         self.is_used = true;
-        self.ends.keep_open(&self.failures, words, board, end);
+        if let Err(refusal) = self.ends.keep_open(&self.failures, words, board, end) {
+            self.close(refusal);
+        }
     }
 
     // Whether failures are kept under marks that are the same as these from an entry on.

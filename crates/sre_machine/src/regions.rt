@@ -3,8 +3,9 @@
 //! A region waits on the board while its body is in progress, and the loops around it are put aside so long. Its body
 //! has at most one outcome that counts, the first: so the choices inside it go as soon as the body ends.
 
-ghost use Rattle.std.specs.Prelude.{◌≡◌, ◌-◌, [], IfOk, MatchOption};
+ghost use Rattle.std.specs.Prelude.{◌≡◌, ◌-◌, [], true, IfOk, MatchOption};
 ghost use Rattle.sre_turns.specs.Board.{from_region};
+ghost use Rattle.sre_turns.specs.Fruit.{is_inside};
 ghost use Rattle.sre_turns.specs.Machine.{Closes, after_outcome, without_outcome, without_loop};
 ghost use Rattle.sre_request.specs.Runs.{run_of, OpcodeAt};
 ghost use Rattle.sre_machine.specs.Turns.{At, Turn};
@@ -90,7 +91,7 @@ pub(super) fn end<S: StrDrive, A: Allocator>(
 ) -> Option<Next>
     ensures { MatchOption result
         ((from_region board.old.choices ≡ []) × (board.new ≡ board.old))
-        (λ next. Closes (run_of req.now) cursor board.old next board.new) }
+        (λ next. (is_inside board.old.choices ≡ true) × Closes (run_of req.now) cursor board.old next board.new) }
 {
     let (region, entered) = board.cut()?;
     Some(after_outcome(region, cursor, entered))

@@ -15,6 +15,8 @@ ghost use Rattle.sre_request.specs.Runs.{run_of, OpcodeAt};
 ghost use Rattle.sre_machine.specs.EndlessRuns.{IsEndlessRun};
 ghost use Rattle.sre_machine.specs.Turns.{At, AtOnBoard, Fails, Takes, TriesOn, IsKeeping, LeavesOrStays};
 ghost use Rattle.sre_machine.specs.Turns.{RefersToGroups, UnaskedMarks, AlikeMarks, ForksThere};
+ghost use Rattle.sre_machine.specs.Turns.{BringsTolls, NoEndTold};
+ghost use Rattle.sre_turns.specs.Limits.{attempt};
 ghost use Rattle.sre_growth.specs.Refusal.{Refused};
 
 use crate::body_ends::known_end;
@@ -41,6 +43,7 @@ pub(super) fn may_branch<S: StrDrive>(
     ensures free { result ≡ false → (o : SreOpcode) → OpcodeAt req.now place o
         → units (run_of req.now).words (run_of req.now).subject.end place (role o) ≡ 0 }
     ensures forks { result ≡ true → ForksThere req.now place }
+    ensures tolls { result ≡ true → BringsTolls req.now place }
 {
     matches!(
         opcode(req, place, cursor),
@@ -153,8 +156,8 @@ pub(super) fn keep<S: StrDrive, A: Allocator>(
     requires remembers { RecallsOf req.now memo.old }
     ensures remembers { RecallsOf req.now memo.new }
     ensures same { memo.new ≡ record memo.old { kept = memo.new.kept; marked = memo.new.marked } }
-    ensures account { is_inside board.now.choices ≡ false
-        → HoldsTried req.now (spot (Instruction place) cursor board.now) memo.old.kept memo.new.kept }
+    ensures account { HoldsTried req.now (attempt board.now.choices (spot (Instruction place) cursor board.now))
+        memo.old.kept memo.new.kept }
 {
     if is_unmarked(req, board) {
         let words = req.pattern_codes().items();
@@ -179,6 +182,7 @@ fn has_failed<S: StrDrive, A: Allocator>(
     requires forks { ForksThere req.now place }
     requires opened { memo.old.is_open ≡ true }
     requires unmarked { UnaskedMarks req.now board.old.marks }
+    requires no_end { NoEndTold req.now place cursor board.old memo.old }
     ensures remembers { RecallsOf req.now memo.new }
     ensures leaves { LeavesOrStays req.now place cursor result board.old memo.old board.new memo.new }
     ensures tries { result ≡ false → TriesOn req.now place cursor board.old memo.old board.new memo.new }
@@ -259,6 +263,8 @@ fn is_hopeless<S: StrDrive, A: Allocator>(
     requires stands { At req.now place cursor }
     requires remembers { RecallsOf req.now memo.old }
     requires keeping { IsKeeping req.now keeping board.old memo.old }
+    requires no_end { keeping ≡ Keeping.Unmarked → BringsTolls req.now place
+        → NoEndTold req.now place cursor board.old memo.old }
     ensures remembers { RecallsOf req.now memo.new }
     ensures leaves { LeavesOrStays req.now place cursor result board.old memo.old board.new memo.new }
     ensures tries { result ≡ false → keeping ≢ Keeping.Nothing → IsEndlessRun req.now place

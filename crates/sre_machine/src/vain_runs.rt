@@ -9,7 +9,7 @@ ghost use Rattle.sre_request.specs.Runs.{Standing, TestAt};
 ghost use Rattle.sre_machine.specs.Turns.{RefusesAt, DemandedAt};
 
 use crate::set_members::word_at;
-use sre_board::Board;
+use sre_board::{Board, LOOK_SPEED};
 use sre_chars::constants::SreOpcode;
 use sre_chars::string::{StrDrive, StringCursor};
 use sre_reading::runs::longest_run;
@@ -74,7 +74,7 @@ fn lacks_what_follows<S: StrDrive>(
     ensures { result ≡ true → (q : ℕ) → cursor.position ≤ q → RefusesAt req.now tail q }
 {
     let left = req.end().saturating_sub(cursor.position());
-    let part = u32::try_from(left / 32).unwrap_or(u32::MAX);
+    let part = u32::try_from(left / LOOK_SPEED).unwrap_or(u32::MAX);
     longest_run(req, test, part, cursor).count >= part as usize && is_nowhere(req, tail, cursor)
 }
 
@@ -98,6 +98,6 @@ pub(super) fn is_in_vain<S: StrDrive, A: Allocator>(
     if !board.is_look_worth(left) {
         return false;
     }
-    board.pass(left / 16);
+    board.pass(left / (LOOK_SPEED / 2));
     lacks_what_follows(req, test, tail, cursor)
 }

@@ -5,7 +5,7 @@ use Rattle.sre_model.specs.Tree.{Tree}
 use Rattle.sre_model.specs.Found.{Asked}
 use Rattle.sre_model.specs.Slots.{most_slots}
 use Rattle.sre_model.specs.Remembered.{window_positions, words_at_place, IsRemembered, counts_at_most, ways_at_most}
-use Rattle.sre_model.specs.Remembered.{enough_turns}
+use Rattle.sre_model.specs.Remembered.{spots_at_most, enough_turns}
 
 -- one window lies inside another
 pub record IsInside (a b : Asked) : Type 0 where
@@ -31,7 +31,8 @@ module _ (places : ℕ) (t : Tree) (a b : Asked) (inside : IsInside a b) where
 
   pub remembered_inside : IsRemembered places t b → IsRemembered places t a
   remembered_inside r = record {
-    unforked = r.unforked;
+    counted = r.counted;
+    unmarked = r.unmarked;
     no_reference = r.no_reference;
     slots = r.slots;
     whole = λ many. omega (arith, words, r.whole many);
@@ -41,12 +42,12 @@ module _ (places : ℕ) (t : Tree) (a b : Asked) (inside : IsInside a b) where
 
   -- what the ways of one position take
   abbrev of_ways : Asked → ℕ
-  of_ways c = 4 * places * (places + 3) * most_slots t * (1 + ways_at_most t c)
+  of_ways c = 4 * places * (places + 3) * spots_at_most t * (1 + ways_at_most t c)
 
   pub enough_inside : enough_turns places t a ≤ enough_turns places t b
   enough_inside =
       let more : 1 + ways_at_most t a ≤ 1 + ways_at_most t b = omega (arith, ways) in
-      let each : of_ways a ≤ of_ways b = mul-le-mul_left (4 * places * (places + 3) * most_slots t) more in
+      let each : of_ways a ≤ of_ways b = mul-le-mul_left (4 * places * (places + 3) * spots_at_most t) more in
       let long : counts_at_most t a / 8 ≤ counts_at_most t b / 8 = omega (arith, counts) in
       let long_ones : (2 * places + 4 + of_ways a) * (1 + counts_at_most t a / 8)
       ≤ (2 * places + 4 + of_ways b) * (1 + counts_at_most t b / 8) =

@@ -1,5 +1,5 @@
 -- Marks that are set: whether a tree sets one, and whether it sets one inside a region.
--- Of the meaning: what sre_code makes public rests on it. Where a body of a region ends is remembered of codes whose
+-- Of the meaning: what sre_engine makes public rests on it. Where a body of a region ends is remembered of codes whose
 -- regions set no mark.
 use Rattle.std.specs.Prelude.{Bool, true, false, ◌||◌}
 use Rattle.sre_model.specs.Tree.{Tree, Item, Mark, PossessiveLoop, Atomic, Look}

@@ -5,9 +5,9 @@ use Rattle.sre_model.specs.Tree.{Tree, Empty, At, Branch, Loop, Run, PossessiveL
 use Rattle.sre_model.specs.Tree.{GreedyRun, Positive, Negative}
 use Rattle.sre_model.specs.Ways.{unlimited}
 use Rattle.sre_model.specs.Found.{Asked}
-use Rattle.sre_model.specs.Regions.{has_forked_region}
-use Rattle.sre_model.specs.Remembered.{words_at_place, enough_turns}
-use Rattle.sre_model.specs.Shown.{items, is_a, a, b, whole}
+use Rattle.sre_model.specs.Regions.{has_forked_region, has_uncounted_region}
+use Rattle.sre_model.specs.Remembered.{words_at_place, spots_at_most, enough_turns}
+use Rattle.sre_model.specs.Shown.{items, is_a, a, b, c, whole}
 
 -- so many letters
 abbrev letters : ℕ → Asked
@@ -68,3 +68,44 @@ branch_forks = refl
 
 possessive_loop_forks : has_forked_region (items (PossessiveLoop 0 unlimited (items (a ∷ [])) ∷ [])) ≡ true
 possessive_loop_forks = refl
+
+-- (?:(?=a+)a+a+)+b, which has 33 words: the body of a look forks, so each slot has two spots
+abbrev forked_look : Tree
+forked_look =
+    items (Loop Greedy 1 unlimited (items (Look Positive 0 (items (Run GreedyRun 1 unlimited is_a ∷ [])) ∷
+    Run GreedyRun 1 unlimited is_a ∷ Run GreedyRun 1 unlimited is_a ∷ [])) ∷ b ∷ [])
+
+forked_look_is_counted : has_uncounted_region forked_look ≡ false
+forked_look_is_counted = refl
+
+spots_of_forked_look : spots_at_most forked_look ≡ 8
+spots_of_forked_look = refl
+
+turns_of_forked_look : enough_turns 33 forked_look (letters 100) ≡ 7689534
+turns_of_forked_look = refl
+
+-- without the look they are as many as the slots
+spots_of_two_runs : spots_at_most two_runs ≡ 4
+spots_of_two_runs = refl
+
+-- (?>a|bc)*c, which has 25 words
+turns_of_a_forked_group : enough_turns 25 (items (Loop Greedy 0 unlimited
+    (items (Atomic (items (Branch (Or (items (a ∷ [])) (Only (items (b ∷ c ∷ [])))) ∷ [])) ∷ [])) ∷ c ∷ []))
+    (letters 100) ≡ 3402286
+turns_of_a_forked_group = refl
+
+-- (?<=ab) is counted, and (?<=ab|bc) is not; nor is a possessive loop, whatever its body
+look_behind_is_counted : has_uncounted_region (items (Look Positive 2 (items (a ∷ b ∷ [])) ∷ [])) ≡ false
+look_behind_is_counted = refl
+
+forked_look_behind_is_uncounted : has_uncounted_region (items (Look Positive 2
+    (items (Branch (Or (items (a ∷ b ∷ [])) (Only (items (b ∷ c ∷ [])))) ∷ [])) ∷ [])) ≡ true
+forked_look_behind_is_uncounted = refl
+
+possessive_loop_is_uncounted : has_uncounted_region (items (PossessiveLoop 0 unlimited (items (a ∷ [])) ∷ [])) ≡ true
+possessive_loop_is_uncounted = refl
+
+-- one that is not counted may stand inside another region: (?=(?<=ab|bc)b)
+nested_is_uncounted : has_uncounted_region (items (Look Positive 0 (items (Look Positive 2
+    (items (Branch (Or (items (a ∷ b ∷ [])) (Only (items (b ∷ c ∷ [])))) ∷ [])) ∷ b ∷ [])) ∷ [])) ≡ true
+nested_is_uncounted = refl

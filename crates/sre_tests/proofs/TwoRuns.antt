@@ -41,7 +41,8 @@ turns_enough a order short =
 
 pub two_runs_remembered : (a : Asked) → a.start ≤ a.end → a.end ≤ 1000 → IsRemembered 22 two_runs a
 two_runs_remembered a order short = record {
-  unforked = refl;
+  counted = refl;
+  unmarked = λ forked. refl;
   no_reference = refl;
   slots = omega arith;
   whole = λ many. absurd (omega (arith, many));

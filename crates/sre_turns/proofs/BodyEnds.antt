@@ -12,10 +12,8 @@ use Rattle.sre_model.specs.Ways.{Way, first, here}
 use Rattle.sre_model.specs.Runs.{Run}
 use Rattle.sre_turns.specs.Board.{Choice, Else, Keep, Trying, BoardValue}
 use Rattle.sre_turns.specs.declared.Point.TheVariants.{Instruction}
-use Rattle.sre_turns.specs.declared.Point.{Point}
 use Rattle.sre_turns.specs.declared.Next.TheVariants as next
 use Rattle.sre_turns.specs.Limits.{Limit}
-use Rattle.sre_turns.specs.Settled.{Unforked, SettledIn}
 use Rattle.sre_turns.specs.Moves.{Spot, Move}
 use Rattle.sre_turns.specs.Machine.{Runs, turns, Comes, stops, ends, goes, splits, enters, Waits, otherwise}
 use Rattle.sre_turns.specs.Machine.{kept, tried, Arrives, Ends, Later, spot}
@@ -28,10 +26,8 @@ use Rattle.sre_turns.specs.OpenMarks.{open_spots, EachOpen}
 use Rattle.sre_turns.proofs.Bodies.{confined_stay}
 use Rattle.sre_turns.proofs.FirstOutcomes.{first_append, closes_same}
 use Rattle.sre_turns.proofs.SameComes.{marked_come}
-use Rattle.sre_turns.proofs.Faring.{never_inside, forks_outside, run_code}
-use Rattle.sre_turns.proofs.Straight.{StraightPoint, forks_never}
-use Rattle.sre_turns.specs.Straight.{ForksAt}
-use Rattle.sre_turns.proofs.Start.{none_inside}
+use Rattle.sre_turns.proofs.BodyStops.{first_ends}
+use Rattle.sre_turns.proofs.Faring.{instruction_ended, run_code}
 use Rattle.sre_turns.proofs.Moving.{sooner, some_turns}
 use Rattle.sre_turns.proofs.Trying.{alike_itself}
 use Rattle.sre_model.proofs.MarksApart.{SameStops}
@@ -146,21 +142,12 @@ ended_turns {os = os} {n = n} q m h d = go (two_turns d)
     go (inl e) = let none : [] ≡ here q m = rw e at h in absurd (cc)
     go (inr l) = l
 
--- where no region forks, no point inside one does, so nothing is to be paid there
-pub inside_never : (r : Run) (pt : Point) (c : StringCursor) (b : BoardValue) → is_inside b.choices ≡ true
-    → (StraightPoint r.words pt → ⊥) → (all : List Way) (limit : Limit) → Arrives r all limit pt c b → Unforked r → ⊥
-inside_never r pt c b inside forked all limit g pl =
-    let code = run_code r (spot pt c b) g.runs in
-    let out = forks_outside r pl limit _ (spot pt c b) b.choices (g.fares pl code.0 code.1) forked in
-    let outside = never_inside (SettledIn r pl limit.start) b.choices out.each in
-    true≢false (sym inside ∙ none_inside b.choices outside)
-
--- an instruction inside a region that is known to end at a cursor is left for that end at once, if it forks
+-- an instruction inside a region that is known to end at a cursor is left for that end at once
 pub end_taken : (r : Run) (i : ℕ) (c c' : StringCursor) (b : BoardValue) (m : Marks) → is_inside b.choices ≡ true
-    → ForksAt r.words i → MarksAlike r.words m b.marks → r.stands c' c'.position
+    → MarksAlike r.words m b.marks → r.stands c' c'.position
     → EndsAt r m (spot (Instruction i) c b) c'.position
     → (all : List Way) (limit : Limit) → Arrives r all limit (Instruction i) c b → Later r all limit (next.Done c') b
-end_taken r i c c' b m inside forked alike there known all limit g =
+end_taken r i c c' b m inside alike there known all limit g =
     let x : Spot = spot (Instruction i) c b in
     let begins : first g.now ≡ here c'.position b.marks =
     known.begins x g.now g.turns (alike_itself r.words x) alike g.runs in
@@ -173,7 +160,13 @@ end_taken r i c c' b m inside forked alike there known all limit g =
         waits = sooner (g.turns + 1) 0 (omega arith)
             (inside_waits r b.choices g.now (here c'.position b.marks) inside begins g.waits);
         within = omega (arith, two, g.within);
-        fares = λ pl. absurd (inside_never r (Instruction i) c b inside (forks_never r.words i forked) all limit g pl);
+        fares = λ pl.
+            let code = run_code r x g.runs in
+            let f = g.fares pl code.0 code.1 in
+            record {
+              at = first_ends r pl limit.start b.choices x c'.position b.marks g.now f.here g.runs begins;
+              fares = instruction_ended r pl limit _ i x b.choices refl (omega arith) f;
+            };
         confined = λ none. (g.confined none).others;
       },
     )

@@ -1,6 +1,7 @@
--- What a turn leaves of the potential, in a search over words whose regions do not fork.
+-- What a turn leaves of the potential, in a search over words whose turns are counted.
 use Rattle.std.proofs.Common.{◌≡◌, ℕ, ◌+◌, ◌-◌, ◌*◌, ◌≤◌, length, List, [], ◌∷◌, drop, true, refl, sym, ap, ◌∙◌}
 use Rattle.std.proofs.Common.{subst, arith, add-mul, one-mul}
+use Rattle.std.specs.Bool.{⊤}
 use Rattle.sre_chars.specs.declared.constants.SreOpcode.{SreOpcode}
 use Rattle.sre_chars.specs.declared.constants.SreOpcode.TheVariants as opcode
 use Rattle.sre_chars.specs.declared.string.StringCursor.{StringCursor}
@@ -9,24 +10,23 @@ use Rattle.sre_model.specs.Ways.{Way}
 use Rattle.sre_model.specs.Runs.{Run}
 use Rattle.sre_model.specs.Roles.{role, begins_test}
 use Rattle.sre_model.proofs.Families.{some_test}
-use Rattle.sre_turns.specs.Board.{Choice, Else, Keep, Trying, from_region}
+use Rattle.sre_turns.specs.Board.{Choice, Else, Keep, Trying}
 use Rattle.sre_turns.specs.declared.Frame.{Frame}
 use Rattle.sre_turns.specs.declared.Region.{Region}
 use Rattle.sre_turns.specs.declared.Point.TheVariants.{Instruction, Alternatives, Shorter, Longer, Inside, Again, Tried}
 use Rattle.sre_turns.specs.declared.Point.{Point}
 use Rattle.sre_turns.specs.Moves.{Spot, spot_at, Move, Stop, End, Go, Split, Enter}
 use Rattle.sre_turns.specs.Potential.{potential, potential_of, units, Spends}
-use Rattle.sre_turns.specs.Settled.{Unforked, SettledIn}
-use Rattle.sre_turns.specs.Limits.{Limit, earlier, raised, grant, pool, CodeAt, EachChoice, tried_spots}
+use Rattle.sre_turns.specs.Settled.{Counted}
+use Rattle.sre_turns.specs.Attempts.{Attempt}
+use Rattle.sre_turns.specs.Limits.{Limit, earlier, raised, grant, pool, CodeAt, tried_spots}
 use Rattle.sre_turns.specs.Limits.{Fares, FaresAt, FaresBack, FaresEnd, HereIn, Reopens, Settling, behind_share}
 use Rattle.sre_turns.specs.Straight.{InBody, tail_of}
 use Rattle.sre_turns.specs.Limits.{FaresBoth, Wider}
 use Rattle.sre_turns.specs.Turning.{MovesAt, Moves, Runs, turns}
-use Rattle.sre_turns.proofs.HereMoves.{OntoHere, Outside, here_moves, here_each, settling_each, stands_outside}
-use Rattle.sre_turns.proofs.HereMoves.{straight_here, inside_moves, body_potential}
+use Rattle.sre_turns.proofs.HereMoves.{OntoHere, here_moves, here_lies, body_potential}
 use Rattle.sre_turns.proofs.PotentialMoves.{instruction_spends, point_spends}
-use Rattle.sre_turns.proofs.SettledMoves.{never_again, settled_moves}
-use Rattle.sre_turns.proofs.Straight.{StraightPoint}
+use Rattle.sre_turns.proofs.SettledMoves.{never_again}
 
 -- an instruction has an opcode, and another point needs none
 pub code_at : (r : Run) (x : Spot) (mv : Move) → Moves r.words r.subject x mv
@@ -57,8 +57,30 @@ spends r (Inside g) fs p m mv o never h w = absurd h
 spends r Again fs p m mv o never h w = absurd (never refl)
 spends r (Tried i) fs p m mv o never h w = absurd h
 
+-- a point at which a turn is made
+abbrev pub IsPlace : Point → Type 0
+IsPlace (Instruction i) = ⊤
+IsPlace (Alternatives q) = ⊤
+IsPlace (Shorter t k) = ⊤
+IsPlace (Longer i n) = ⊤
+IsPlace (Inside g) = ⊥
+IsPlace Again = ⊤
+IsPlace (Tried i) = ⊥
+
+pub moves_place : (r : Run) (x : Spot) (mv : Move) → Moves r.words r.subject x mv → IsPlace x.point
+moves_place r x mv h = go x.point h
+  where
+    go : (pt : Point) → MovesAt r.words r.subject pt x mv → IsPlace pt
+    go (Instruction i) h = tt
+    go (Alternatives q) h = tt
+    go (Shorter t k) h = tt
+    go (Longer i n) h = tt
+    go (Inside g) h = absurd h
+    go Again h = tt
+    go (Tried i) h = absurd h
+
 -- what is left where a turn leads; of a region that is entered, whatever the cursor is
-abbrev pub Leaving : (r : Run) → Unforked r → Limit → Spot → List Choice → Move → Type 0
+abbrev pub Leaving : (r : Run) → Counted r → Limit → Spot → List Choice → Move → Type 0
 Leaving r pl limit x cs Stop = FaresBack r pl (earlier limit) cs
 Leaving r pl limit x cs End = FaresEnd r pl (earlier limit) x.position cs
 Leaving r pl limit x cs (Go y) = FaresAt r pl (earlier limit) (potential_of r.words r.subject.end y) y cs
@@ -67,7 +89,7 @@ Leaving r pl limit x cs (Enter g y z) =
     (c : StringCursor) → c.position ≡ y.position
     → FaresAt r pl (earlier limit) (potential_of r.words r.subject.end z) z (Keep g y.frames c y.marks ∷ cs)
 
-module _ (r : Run) (pl : Unforked r) (limit : Limit) (cs : List Choice) where
+module _ (r : Run) (pl : Counted r) (limit : Limit) (cs : List Choice) where
   -- with less left
   pub fares_less : (n k : ℕ) → n ≤ k → Fares r pl limit k cs → Fares r pl limit n cs
   fares_less n k l f = record { settled = f.settled; trying = f.trying; left = omega (arith, l, f.left) }
@@ -77,35 +99,33 @@ module _ (r : Run) (pl : Unforked r) (limit : Limit) (cs : List Choice) where
   fares_earlier n k l f = record { settled = f.settled; trying = f.trying; left = omega (arith, l, f.left) }
 
 -- where the machine stands it has enough for what is behind the innermost region, and for two turns more
-module _ (r : Run) (pl : Unforked r) (start : ℕ) where
+module _ (r : Run) (pl : Counted r) (start : ℕ) where
   enough_behind : (g : Region) (entered : ℕ) (pt : Point) (fs : List Frame) (p : ℕ) (m : Marks)
-      → InBody r g entered (spot_at pt fs p m) → StraightPoint r.words pt
+      → InBody r pl start g entered (spot_at pt fs p m) → (pt ≡ Again → ⊥) → IsPlace pt
       → 2 * (length r.words - tail_of g) + 3 + 2 ≤ potential r.words r.subject.end pt p
-  enough_behind g entered (Instruction i) fs p m b q =
-      let l = body_potential r g entered (spot_at (Instruction i) fs p m) b i refl in omega (arith, l.0, l.1)
-  enough_behind g entered (Alternatives i) fs p m b q = absurd q
-  enough_behind g entered (Shorter t k) fs p m b q = absurd q
-  enough_behind g entered (Longer i n) fs p m b q = absurd q
-  enough_behind g entered (Inside h) fs p m b q = absurd q
-  enough_behind g entered Again fs p m b q = absurd q
-  enough_behind g entered (Tried i) fs p m b q = absurd q
-
-  pub share_spent : (cs : List Choice) (x : Spot) (k n : ℕ) → HereIn r pl start cs x → k + 1 ≤ n
-      → potential_of r.words r.subject.end x ≤ n → behind_share r.words k cs + 1 ≤ n
-  share_spent [] x k n h l m = l
-  share_spent (Else pt fs c j ∷ cs) x k n h l m = l
-  share_spent (Trying i fs c j ∷ cs) x k n h l m = l
-  share_spent (Keep g fs c j ∷ cs) x k n h l m =
-      let b = enough_behind g c.position x.point x.frames x.position x.marks h (straight_here r g c.position x h) in
-      omega (arith, b, m)
+  enough_behind g entered (Instruction i) fs p m b never at =
+      let l = body_potential r pl start g entered (spot_at (Instruction i) fs p m) b i refl in omega (arith, l.0, l.1)
+  enough_behind g entered (Alternatives i) fs p m b never at = omega arith
+  enough_behind g entered (Shorter t k) fs p m b never at = omega arith
+  enough_behind g entered (Longer i n) fs p m b never at = omega arith
+  enough_behind g entered (Inside h) fs p m b never at = absurd at
+  enough_behind g entered Again fs p m b never at = absurd (never refl)
+  enough_behind g entered (Tried i) fs p m b never at = absurd at
 
   -- no possessive loop is anywhere
   pub here_never : (cs : List Choice) (x : Spot) → HereIn r pl start cs x → x.point ≡ Again → ⊥
-  here_never [] x h e = never_again r.words pl.tree pl.whole pl.unforked x e h.lies
-  here_never (Else pt fs c j ∷ cs) x h e = never_again r.words pl.tree pl.whole pl.unforked x e h.lies
-  here_never (Trying i fs c j ∷ cs) x h e = never_again r.words pl.tree pl.whole pl.unforked x e h.lies
-  here_never (Keep g fs c j ∷ cs) x h e =
-      subst (λ pt. StraightPoint r.words pt) e (straight_here r g c.position x h)
+  here_never cs x h e =
+      never_again r.words pl.tree pl.whole pl.counted x e (here_lies r pl start cs x h)
+
+  pub share_spent : (cs : List Choice) (x : Spot) (k n : ℕ) → HereIn r pl start cs x → IsPlace x.point → k + 1 ≤ n
+      → potential_of r.words r.subject.end x ≤ n → behind_share r.words k cs + 1 ≤ n
+  share_spent [] x k n h at l m = l
+  share_spent (Else pt fs c j ∷ cs) x k n h at l m = share_spent cs x k n h at l m
+  share_spent (Trying i fs c j ∷ cs) x k n h at l m = share_spent cs x k n h at l m
+  share_spent (Keep g fs c j ∷ cs) x k n h at l m =
+      let b = enough_behind g c.position x.point x.frames x.position x.marks h
+      (here_never (Keep g fs c j ∷ cs) x h) at in
+      omega (arith, b, m)
 
 -- tolls are granted beside the potential
 pool_more : (ws : List ℕ) (e : ℕ) (o : SreOpcode) (pt : Point) (p : ℕ) → potential ws e pt p ≤ pool ws e o pt p
@@ -117,7 +137,8 @@ pool_more ws e o (Inside g) p = omega arith
 pool_more ws e o Again p = omega arith
 pool_more ws e o (Tried i) p = omega arith
 
-module _ (r : Run) (pl : Unforked r) (limit : Limit) (cs : List Choice) (x : Spot) (o : SreOpcode) where
+module _ (r : Run) (pl : Counted r) (limit : Limit) (cs : List Choice) (x : Spot) (o : SreOpcode)
+    (at : IsPlace x.point) where
   abbrev pooled : ℕ
   pooled = pool r.words r.subject.end o x.point x.position
 
@@ -128,18 +149,18 @@ module _ (r : Run) (pl : Unforked r) (limit : Limit) (cs : List Choice) (x : Spo
       → FaresAt r pl limit pooled x cs → Leaving r pl limit x cs mv
   leaving Stop l on f =
       fares_earlier r pl limit cs (behind_share r.words 0 cs) pooled
-      (share_spent r pl limit.start cs x 0 pooled f.here (omega (arith, l)) more) f.fares
+      (share_spent r pl limit.start cs x 0 pooled f.here at (omega (arith, l)) more) f.fares
   leaving End l on f = record {
     at = on;
     fares =
         fares_earlier r pl limit cs (behind_share r.words 2 cs) pooled
-        (share_spent r pl limit.start cs x 2 pooled f.here (omega (arith, l)) more) f.fares;
+        (share_spent r pl limit.start cs x 2 pooled f.here at (omega (arith, l)) more) f.fares;
   }
   leaving (Go y) l on f = record { here = on; fares = fares_earlier r pl limit cs _ pooled l f.fares }
   leaving (Split y z) l on f =
-      record { first = on.0; second = on.1; outside = on.2; fares = fares_less r pl limit cs _ pooled l f.fares }
+      record { first = on.0; second = on.1; fares = fares_less r pl limit cs _ pooled l f.fares }
   leaving (Enter g y z) l on f = λ c same. record {
-    here = subst (λ p. InBody r g p z) (sym same) on.1;
+    here = subst (λ p. InBody r pl limit.start g p z) (sym same) on.1;
     fares = record {
       settled = (subst (λ p. Reopens r pl limit.start g y.frames p cs) (sym same) on.0, f.fares.settled);
       trying = f.fares.trying;
@@ -147,7 +168,7 @@ module _ (r : Run) (pl : Unforked r) (limit : Limit) (cs : List Choice) (x : Spo
     };
   }
 
-pub turn_leaves : (r : Run) (pl : Unforked r) (limit : Limit) (cs : List Choice) (x : Spot) (mv : Move)
+pub turn_leaves : (r : Run) (pl : Counted r) (limit : Limit) (cs : List Choice) (x : Spot) (mv : Move)
     → Moves r.words r.subject x mv
     → ((o : SreOpcode) → CodeAt r.words x.point o
     → FaresAt r pl limit (pool r.words r.subject.end o x.point x.position) x cs)
@@ -155,9 +176,9 @@ pub turn_leaves : (r : Run) (pl : Unforked r) (limit : Limit) (cs : List Choice)
 turn_leaves r pl limit cs x mv h f =
     let code = code_at r x mv h in
     let at = f code.0 code.1 in
-    leaving r pl limit cs x code.0 mv
+    leaving r pl limit cs x code.0 (moves_place r x mv h) mv
     (spends r x.point x.frames x.position x.marks mv code.0 (here_never r pl limit.start cs x at.here) h code.1)
-    (here_moves r pl limit.start cs x mv at.here at.fares.settled h) at
+    (here_moves r pl limit.start cs x mv at.here h) at
 
 -- what is come to is gone on with for nothing, but for an instruction
 pub record FreeOfToll (pt : Point) : Type 0 where
@@ -176,7 +197,7 @@ pub again_free : FreeOfToll Again
 again_free = record { same = λ ws e p o. refl }
 
 -- of two spots, what is left where the first is come to and the second waits, or where one of them is come to alone
-module _ (r : Run) (pl : Unforked r) (limit : Limit) (x y : Spot) (cs : List Choice)
+module _ (r : Run) (pl : Counted r) (limit : Limit) (x y : Spot) (cs : List Choice)
     (f : FaresBoth r pl limit x y cs) where
   pub first_waits : (c : StringCursor) → y.position ≡ c.position
       → FaresAt r pl (earlier limit) (potential_of r.words r.subject.end x) x (Else y.point y.frames c y.marks ∷ cs)
@@ -184,8 +205,8 @@ module _ (r : Run) (pl : Unforked r) (limit : Limit) (x y : Spot) (cs : List Cho
     here = f.first;
     fares = record {
       settled = (
-        subst (λ p. SettledIn r pl limit.start (spot_at y.point y.frames p y.marks)) same f.second,
-        f.outside,
+        subst (λ p. HereIn r pl limit.start cs (spot_at y.point y.frames p y.marks)) same f.second,
+        f.fares.settled,
       );
       trying = f.fares.trying;
       left =
@@ -197,20 +218,20 @@ module _ (r : Run) (pl : Unforked r) (limit : Limit) (x y : Spot) (cs : List Cho
 
   pub first_alone : FaresAt r pl (earlier limit) (potential_of r.words r.subject.end x) x cs
   first_alone = record {
-    here = here_each r pl limit.start cs x f.outside f.first;
+    here = f.first;
     fares = fares_earlier r pl limit cs (potential_of r.words r.subject.end x) _ (omega arith) f.fares;
   }
 
   pub second_alone : FaresAt r pl (earlier limit) (potential_of r.words r.subject.end y) y cs
   second_alone = record {
-    here = here_each r pl limit.start cs y f.outside f.second;
+    here = f.second;
     fares = fares_earlier r pl limit cs (potential_of r.words r.subject.end y) _ (omega arith) f.fares;
   }
 
   pub second_goes : (o : SreOpcode) → FreeOfToll y.point
       → FaresAt r pl limit (pool r.words r.subject.end o y.point y.position) y cs
   second_goes o free = record {
-    here = here_each r pl limit.start cs y f.outside f.second;
+    here = f.second;
     fares =
         fares_less r pl limit cs (pool r.words r.subject.end o y.point y.position) _
         (omega (arith, free.same r.words r.subject.end y.position o)) f.fares;
@@ -222,7 +243,7 @@ pub run_code : (r : Run) (x : Spot) {os : List Way} {n : ℕ} → Runs r.words r
 run_code r x (turns mv h d) = code_at r x mv h
 
 -- nothing comes of a spot: what waits is left
-pub nothing_left : (r : Run) (pl : Unforked r) (limit : Limit) (cs : List Choice) (x : Spot) {os : List Way} {n : ℕ}
+pub nothing_left : (r : Run) (pl : Counted r) (limit : Limit) (cs : List Choice) (x : Spot) {os : List Way} {n : ℕ}
     → Runs r.words r.subject x os n
     → ((o : SreOpcode) → CodeAt r.words x.point o
     → FaresAt r pl limit (pool r.words r.subject.end o x.point x.position) x cs)
@@ -233,7 +254,7 @@ nothing_left r pl limit cs x (turns mv h d) f =
     let never = here_never r pl limit.start cs x at.here in
     let l = spends r x.point x.frames x.position x.marks mv code.0 never h code.1 in
     fares_earlier r pl limit cs (behind_share r.words 0 cs) _
-    (share_spent r pl limit.start cs x 0 _ at.here (some_spent mv l)
+    (share_spent r pl limit.start cs x 0 _ at.here (moves_place r x mv h) (some_spent mv l)
     (pool_more r.words r.subject.end code.0 x.point x.position)) at.fares
   where
     some_spent : {n : ℕ} (mv : Move) → Spends r.words r.subject.end n mv → 0 + 1 ≤ n
@@ -244,7 +265,7 @@ nothing_left r pl limit cs x (turns mv h d) f =
     some_spent (Enter g y z) l = omega (arith, l)
 
 -- what is left within a limit is left within a wider one
-pub fares_wider : (r : Run) (pl : Unforked r) (limit more : Limit) (n : ℕ) (cs : List Choice) → Wider limit more
+pub fares_wider : (r : Run) (pl : Counted r) (limit more : Limit) (n : ℕ) (cs : List Choice) → Wider limit more
     → Fares r pl limit n cs → Fares r pl more n cs
 fares_wider r pl limit more n cs l f = record {
   settled = subst (λ start. Settling r pl start cs) l.start f.settled;
@@ -253,7 +274,7 @@ fares_wider r pl limit more n cs l f = record {
       omega (arith, l.taken, l.granted, f.left, ap (λ k. k * grant r.words) l.tolls);
 }
 
-pub fares_at_wider : (r : Run) (pl : Unforked r) (limit more : Limit) (n : ℕ) (x : Spot) (cs : List Choice)
+pub fares_at_wider : (r : Run) (pl : Counted r) (limit more : Limit) (n : ℕ) (x : Spot) (cs : List Choice)
     → Wider limit more → FaresAt r pl limit n x cs → FaresAt r pl more n x cs
 fares_at_wider r pl limit more n x cs l f = record {
   here = subst (λ start. HereIn r pl start cs x) l.start f.here;
@@ -261,13 +282,13 @@ fares_at_wider r pl limit more n x cs l f = record {
 }
 
 -- the newest choice is taken
-pub choice_taken : (r : Run) (pl : Unforked r) (limit : Limit) (pt : Point) (fs : List Frame) (c : StringCursor)
-    (m : Marks) (cs : List Choice) → Fares r pl limit 0 (Else pt fs c m ∷ cs)
+pub choice_taken : (r : Run) (pl : Counted r) (limit : Limit) (pt : Point) (fs : List Frame) (c : StringCursor)
+    (m : Marks) (cs : List Choice) → FaresBack r pl limit (Else pt fs c m ∷ cs)
     → FaresAt r pl (earlier limit) (potential r.words r.subject.end pt c.position) (spot_at pt fs c.position m) cs
 choice_taken r pl limit pt fs c m cs f = record {
-  here = here_each r pl limit.start cs (spot_at pt fs c.position m) f.settled.1 f.settled.0;
+  here = f.settled.0;
   fares = record {
-    settled = settling_each r pl limit.start cs f.settled.1;
+    settled = f.settled.1;
     trying = f.trying;
     left = omega (arith, f.left);
   };
@@ -275,52 +296,25 @@ choice_taken r pl limit pt fs c m cs f = record {
 
 -- where a turn leads to two spots, the second has no more potential; nor has the one to which a turn goes from an
 -- instruction that brings no toll
-module _ (r : Run) (pl : Unforked r) (start : ℕ) (x : Spot) where
+module _ (r : Run) (pl : Counted r) (start : ℕ) (cs : List Choice) (x : Spot) where
   abbrev NoMore : Spot → Type 0
-  NoMore y =
-      SettledIn r pl start y × (potential_of r.words r.subject.end y ≤ potential_of r.words r.subject.end x)
+  NoMore y = HereIn r pl start cs y × (potential_of r.words r.subject.end y ≤ potential_of r.words r.subject.end x)
 
-  pub second_less : (y z : Spot) → FreeOfToll x.point → Moves r.words r.subject x (Split y z) → SettledIn r pl start x
+  pub second_less : (y z : Spot) → FreeOfToll x.point → Moves r.words r.subject x (Split y z) → HereIn r pl start cs x
       → NoMore z
   second_less y z free h at =
       let code = code_at r x (Split y z) h in
-      let on = settled_moves r.words r.subject pl.tree pl.whole start x (Split y z) at h in
-      let l = spends r x.point x.frames x.position x.marks (Split y z) code.0
-      (λ e. never_again r.words pl.tree pl.whole pl.unforked x e at.lies) h code.1 in
+      let on = here_moves r pl start cs x (Split y z) at h in
+      let l = spends r x.point x.frames x.position x.marks (Split y z) code.0 (here_never r pl start cs x at) h code.1 in
       (on.1, omega (arith, l, free.same r.words r.subject.end x.position code.0))
 
   pub next_less : (y : Spot) (o : SreOpcode) → CodeAt r.words x.point o
       → pool r.words r.subject.end o x.point x.position ≤ potential_of r.words r.subject.end x
-      → Moves r.words r.subject x (Go y) → SettledIn r pl start x → NoMore y
+      → Moves r.words r.subject x (Go y) → HereIn r pl start cs x → NoMore y
   next_less y o w less h at =
-      let on = settled_moves r.words r.subject pl.tree pl.whole start x (Go y) at h in
-      let l = spends r x.point x.frames x.position x.marks (Go y) o
-      (λ e. never_again r.words pl.tree pl.whole pl.unforked x e at.lies) h w in
+      let on = here_moves r pl start cs x (Go y) at h in
+      let l = spends r x.point x.frames x.position x.marks (Go y) o (here_never r pl start cs x at) h w in
       (on, omega (arith, l, less))
-
--- the same in the body of a region
-pub next_inside : (r : Run) (g : Region) (entered : ℕ) (x y : Spot) (o : SreOpcode) → CodeAt r.words x.point o
-    → pool r.words r.subject.end o x.point x.position ≤ potential_of r.words r.subject.end x
-    → Moves r.words r.subject x (Go y) → InBody r g entered x
-    → InBody r g entered y × (potential_of r.words r.subject.end y ≤ potential_of r.words r.subject.end x)
-next_inside r g entered x y o w less h b =
-    let never : x.point ≡ Again → ⊥ =
-    λ e. subst (λ pt. StraightPoint r.words pt) e (straight_here r g entered x b) in
-    let l = spends r x.point x.frames x.position x.marks (Go y) o never h w in
-    (inside_moves r g entered x b (Go y) h, omega (arith, l, less))
-
--- what is no more for one spot than for another is so wherever the machine stands
-pub here_less : (r : Run) (pl : Unforked r) (start : ℕ) (cs : List Choice) (x y : Spot)
-    → (SettledIn r pl start x
-    → SettledIn r pl start y × (potential_of r.words r.subject.end y ≤ potential_of r.words r.subject.end x))
-    → ((g : Region) (entered : ℕ) → InBody r g entered x
-    → InBody r g entered y × (potential_of r.words r.subject.end y ≤ potential_of r.words r.subject.end x))
-    → HereIn r pl start cs x
-    → HereIn r pl start cs y × (potential_of r.words r.subject.end y ≤ potential_of r.words r.subject.end x)
-here_less r pl start [] x y out within h = out h
-here_less r pl start (Else pt fs c m ∷ cs) x y out within h = out h
-here_less r pl start (Keep g fs c m ∷ cs) x y out within h = within g c.position h
-here_less r pl start (Trying i fs c m ∷ cs) x y out within h = out h
 
 -- a test brings no toll
 pub test_pool : (r : Run) (i p : ℕ) (o : SreOpcode) → begins_test o ≡ true
@@ -333,7 +327,7 @@ test_pool r i p o e =
     omega (arith, free)
 
 -- of an instruction at which the machine has come, with the tolls of its opcode
-pub with_tolls : (r : Run) (pl : Unforked r) (limit : Limit) (i : ℕ) (x : Spot) (cs : List Choice) (o : SreOpcode)
+pub with_tolls : (r : Run) (pl : Counted r) (limit : Limit) (i : ℕ) (x : Spot) (cs : List Choice) (o : SreOpcode)
     → x.point ≡ Instruction i → FaresAt r pl limit (potential_of r.words r.subject.end x) x cs
     → FaresAt r pl (raised (units r.words r.subject.end i (role o)) limit)
     (pool r.words r.subject.end o x.point x.position) x cs
@@ -353,7 +347,7 @@ with_tolls r pl limit i x cs o e f =
     }
 
 -- or with one toll alone
-pub with_toll : (r : Run) (pl : Unforked r) (limit : Limit) (x : Spot) (cs : List Choice)
+pub with_toll : (r : Run) (pl : Counted r) (limit : Limit) (x : Spot) (cs : List Choice)
     → FaresAt r pl limit (potential_of r.words r.subject.end x) x cs
     → FaresAt r pl (raised 1 limit) (potential_of r.words r.subject.end x + grant r.words) x cs
 with_toll r pl limit x cs f = record {
@@ -365,36 +359,31 @@ with_toll r pl limit x cs f = record {
   };
 }
 
--- where no region waits, the machine is inside none
-pub never_inside : (P : Spot → Type 0) (cs : List Choice) → EachChoice P cs → from_region cs ≡ []
-never_inside P [] h = refl
-never_inside P (Else pt fs c m ∷ cs) h = never_inside P cs h.1
-never_inside P (Keep g fs c m ∷ cs) h = absurd h
-never_inside P (Trying i fs c m ∷ cs) h = never_inside P cs h.1
+-- an instruction is left at once, for what waits or where the innermost region ends
+module _ (r : Run) (pl : Counted r) (limit : Limit) (n i : ℕ) (x : Spot) (cs : List Choice)
+    (at : x.point ≡ Instruction i) (l : potential_of r.words r.subject.end x ≤ n) (f : FaresAt r pl limit n x cs) where
+  left_for : (k : ℕ) → k ≤ 2 → Fares r pl (earlier limit) (behind_share r.words k cs) cs
+  left_for k few =
+      let some : 3 ≤ potential_of r.words r.subject.end x =
+      subst (λ pt. 3 ≤ potential r.words r.subject.end pt x.position) (sym at) (omega arith) in
+      let place : IsPlace x.point = subst (λ pt. IsPlace pt) (sym at) tt in
+      fares_earlier r pl limit cs (behind_share r.words k cs) n
+      (share_spent r pl limit.start cs x k n f.here place (omega (arith, some, l, few)) l) f.fares
 
--- an instruction is left at once
-pub instruction_left : (r : Run) (pl : Unforked r) (limit : Limit) (n i : ℕ) (x : Spot) (cs : List Choice)
-    → x.point ≡ Instruction i → potential_of r.words r.subject.end x ≤ n → FaresAt r pl limit n x cs
-    → FaresBack r pl (earlier limit) cs
-instruction_left r pl limit n i x cs at l f =
-    let some : 0 + 1 ≤ potential_of r.words r.subject.end x =
-    subst (λ pt. 0 + 1 ≤ potential r.words r.subject.end pt x.position) (sym at) (omega arith) in
-    fares_earlier r pl limit cs (behind_share r.words 0 cs) n
-    (share_spent r pl limit.start cs x 0 n f.here (omega (arith, some, l)) l) f.fares
+  pub instruction_left : FaresBack r pl (earlier limit) cs
+  instruction_left = left_for 0 (omega arith)
 
--- nor is it where it stands at a point that forks
-pub forks_outside : (r : Run) (pl : Unforked r) (limit : Limit) (n : ℕ) (x : Spot) (cs : List Choice)
-    → FaresAt r pl limit n x cs → (StraightPoint r.words x.point → ⊥) → Outside r pl limit.start cs x
-forks_outside r pl limit n x cs f forked = stands_outside r pl limit.start cs x f.here f.fares.settled forked
+  pub instruction_ended : Fares r pl (earlier limit) (behind_share r.words 2 cs) cs
+  instruction_ended = left_for 2 (omega arith)
 
 -- nothing waits: nothing is tried, and no more turns were taken than the potential allows
-pub nothing_waits : (r : Run) (pl : Unforked r) (limit : Limit) (cs : List Choice) → cs ≡ [] → FaresBack r pl limit cs
+pub nothing_waits : (r : Run) (pl : Counted r) (limit : Limit) (cs : List Choice) → cs ≡ [] → FaresBack r pl limit cs
     → (limit.trying ≡ []) × (limit.taken ≤ limit.granted + limit.tolls * grant r.words)
 nothing_waits r pl limit cs none f =
     (sym f.trying ∙ ap (λ xs. tried_spots xs) none, omega (arith, f.left))
 
--- the newest of the spots that are tried is that of the newest mark
-pub newest_tried : (r : Run) (pl : Unforked r) (limit : Limit) (n : ℕ) (x : Spot) (cs rest : List Choice)
+-- the newest that is tried is that of the newest mark
+pub newest_tried : (r : Run) (pl : Counted r) (limit : Limit) (n : ℕ) (x : Attempt) (cs rest : List Choice)
     → Fares r pl limit n cs → tried_spots cs ≡ x ∷ tried_spots rest → limit.trying ≡ x ∷ drop 1 limit.trying
 newest_tried r pl limit n x cs rest f e =
     let all : limit.trying ≡ x ∷ tried_spots rest = sym f.trying ∙ e in

@@ -1,6 +1,6 @@
 -- The ends that are left of a lazy run without a greatest count are those of the same run from later on. So what was
 -- saved of it before failures were kept goes on as that run, which is looked up and tried like any other instruction.
-use Rattle.std.proofs.Common.{◌≡◌, ℕ, ◌+◌, ◌-◌, ◌<◌, ◌≤◌, ◌⊎◌, inl, inr, true, List, [], ◌∷◌, length, refl}
+use Rattle.std.proofs.Common.{◌≡◌, ℕ, ◌+◌, ◌-◌, ◌<◌, ◌≤◌, ◌⊎◌, inl, inr, true, List, [], ◌∷◌, refl}
 use Rattle.std.proofs.Common.{arith, ap, nat_eq}
 use Rattle.std.proofs.Math.Nat.{mul-le-mul_right}
 use Rattle.std.proofs.lemmas.Bool.Decides.{nat_tests}
@@ -17,17 +17,18 @@ use Rattle.sre_model.specs.Standing.{HasTest}
 use Rattle.sre_model.proofs.Bounds.{passes-below}
 use Rattle.sre_model.proofs.Words.{word_of}
 use Rattle.sre_turns.specs.Board.{Choice}
-use Rattle.sre_turns.specs.Limits.{Limit, FaresBoth}
+use Rattle.sre_turns.specs.Limits.{Limit, HereIn, FaresBoth}
 use Rattle.sre_turns.specs.Machine.{GoesBoth}
 use Rattle.sre_turns.specs.Moves.{Spot, spot_at}
 use Rattle.sre_turns.specs.Bodies.{IsConfined}
 use Rattle.sre_turns.specs.Nested.{IsAt, LiesIn, LiesInItem, LiesInBranch, repeats}
 use Rattle.sre_turns.specs.Potential.{path, potential_of, more_ends}
 use Rattle.sre_turns.specs.RunEnds.{AllPass}
-use Rattle.sre_turns.specs.Settled.{Unforked, SettledIn}
+use Rattle.sre_turns.specs.Settled.{Counted}
 use Rattle.sre_turns.specs.declared.Frame.{Frame}
 use Rattle.sre_turns.specs.declared.Point.TheVariants.{Instruction, Longer}
 use Rattle.sre_turns.proofs.Faring.{fares_less}
+use Rattle.sre_turns.proofs.HereMoves.{here_reached}
 use Rattle.sre_turns.proofs.LazyRunEnds.{longer_run}
 use Rattle.sre_turns.proofs.Onward.{all_later}
 
@@ -97,13 +98,15 @@ module _ (r : runs.Run) (i low v : ℕ) (fs : List Frame) (m : Marks) (w : Opcod
   near : p < r.subject.end
   near = passes-below r.subject there.test p taken
 
-  settled : (pl : Unforked r) (start : ℕ) → SettledIn r pl start counts → SettledIn r pl start anew
-  settled pl start h = record {
-    lies = lies r.words 0 (length r.words - 1) pl.tree pl.whole.0 [] i n (repeats fs) h.lies;
-    passed = all_later p q fs later h.passed;
-    inside = omega (arith, near, e);
-    from = omega (arith, h.from, later);
-  }
+  here : (pl : Counted r) (start : ℕ) (cs : List Choice) → HereIn r pl start cs counts → HereIn r pl start cs anew
+  here pl start cs h =
+      here_reached r pl start cs counts anew (λ a b t reads y. lies r.words a b t reads [] i n (repeats fs) y)
+      (record {
+        onward = later;
+        inside = λ _. omega (arith, near, e);
+        begun = λ past. all_later p q fs later past;
+      })
+      h
 
   later_confined : (ks : List ℕ) → IsConfined r.words (Longer i n) ks → IsConfined r.words (Instruction i) ks
   later_confined ks l = let b = l.0 in (b, lies r.words b.start b.end b.tree b.reads [] i n ks l.1)
@@ -139,8 +142,7 @@ module _ (r : runs.Run) (i low v : ℕ) (fs : List Frame) (m : Marks) (w : Opcod
         let f : FaresBoth r pl limit first counts cs = g.fares pl in
         record {
           first = f.first;
-          second = settled pl limit.start f.second;
-          outside = f.outside;
+          second = here pl limit.start cs f.second;
           fares = fares_less r pl limit cs _ _ (omega (arith, enough)) f.fares;
         };
     confined = λ none.

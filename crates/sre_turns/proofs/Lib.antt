@@ -47,5 +47,6 @@ pub mod BodyEnds
 pub mod Admitting
 pub mod Straight
 pub mod HereMoves
+pub mod BodyStops
 pub mod FaringInRegions
 pub mod Strides

@@ -22,12 +22,12 @@ use Rattle.sre_turns.specs.MovesInRegions.{LookMove}
 use Rattle.sre_turns.specs.MovesAtReferences.{ReferenceMove, ConditionMove}
 use Rattle.sre_turns.specs.Limits.{Limit, earlier, raised, pool, FaresAt}
 use Rattle.sre_turns.specs.Potential.{potential_of, units}
-use Rattle.sre_turns.specs.Settled.{Unforked}
+use Rattle.sre_turns.specs.Settled.{Counted}
 use Rattle.sre_turns.specs.Confining.{StandsConfined}
 use Rattle.sre_turns.proofs.Confining.{turn_confined, goes_confined, splits_confined, first_confined, first_left}
 use Rattle.sre_turns.proofs.Confining.{second_left}
 use Rattle.sre_turns.proofs.Faring.{FreeOfToll, turn_leaves, fares_less, first_waits, first_alone, second_alone}
-use Rattle.sre_turns.proofs.Faring.{second_goes, nothing_left, run_code, with_tolls, with_toll, here_less}
+use Rattle.sre_turns.proofs.Faring.{second_goes, nothing_left, run_code, with_tolls, with_toll}
 use Rattle.sre_turns.specs.Machine.{Placed, InRole, Moves, MovesAt, Runs, turns, Comes, stops, ends, goes, splits}
 use Rattle.sre_turns.specs.Machine.{enters, Waits, outermost, otherwise, kept, tried, Goes, Arrives, Tries}
 use Rattle.sre_turns.specs.Machine.{GoesBoth}
@@ -619,13 +619,11 @@ exhausted_back r pt c b none all limit g = (
 )
 
 module _ (r : Run) (pt pt' : Point) (c c' : StringCursor) (on : Continues r pt c pt' c') where
-  continues_fares : (pl : Unforked r) (limit : Limit) (b : BoardValue) (n k : ℕ)
+  continues_fares : (pl : Counted r) (limit : Limit) (b : BoardValue) (n k : ℕ)
       → potential_of r.words r.subject.end (spot pt c b) ≤ n → k ≤ potential_of r.words r.subject.end (spot pt' c' b)
       → FaresAt r pl limit n (spot pt c b) b.choices → FaresAt r pl limit k (spot pt' c' b) b.choices
   continues_fares pl limit b n k l m f =
-      let x = here_less r pl limit.start b.choices (spot pt c b) (spot pt' c' b)
-      (λ h. on.fares pl limit.start b.frames b.marks h) (λ g entered h. on.bodies g entered b.frames b.marks h)
-      f.here in
+      let x = on.fares pl limit.start b.choices b.frames b.marks f.here in
       record { here = x.0; fares = fares_less r pl limit b.choices k n (omega (arith, l, m, x.1)) f.fares }
 
   continues_confined : (b : BoardValue) → StandsConfined r.words (spot pt c b) b.choices
@@ -686,12 +684,9 @@ module _ (r : Run) (pt pt' : Point) (c c' : StringCursor) (on : Continues r pt c
         runs = λ fs m os n d.
             let x = on.runs fs m os n d in
             let y = then.runs fs m os x.0 x.2 in (y.0, omega (arith, x.1, y.1), y.2);
-        fares = λ pl start fs m h.
-            let x = on.fares pl start fs m h in
-            let y = then.fares pl start fs m x.0 in (y.0, omega (arith, x.1, y.1));
-        bodies = λ g entered fs m h.
-            let x = on.bodies g entered fs m h in
-            let y = then.bodies g entered fs m x.0 in (y.0, omega (arith, x.1, y.1));
+        fares = λ pl start cs fs m h.
+            let x = on.fares pl start cs fs m h in
+            let y = then.fares pl start cs fs m x.0 in (y.0, omega (arith, x.1, y.1));
         confines = λ fs l. then.confines fs (on.confines fs l);
       }
 
@@ -723,11 +718,10 @@ both_continue r y pt pt' c b on all limit g =
       within = omega (arith, g.within, x.1);
       fares = λ pl.
           let f = g.fares pl in
-          let z = on.fares pl limit.start b.frames b.marks f.second in
+          let z = on.fares pl limit.start b.choices b.frames b.marks f.second in
           record {
             first = f.first;
             second = z.0;
-            outside = f.outside;
             fares = fares_less r pl limit b.choices _ _ (omega (arith, z.1)) f.fares;
           };
       confined = λ none.

@@ -30,7 +30,7 @@ use Rattle.sre_turns.specs.declared.Frame.{Frame}
 use Rattle.sre_turns.proofs.Moving.{in_role}
 use Rattle.sre_turns.specs.Nested.{repeats, Lies}
 use Rattle.sre_turns.specs.Potential.{most_ends, alternatives_in, alternatives, units}
-use Rattle.sre_turns.specs.Settled.{Unforked, SettledIn}
+use Rattle.sre_turns.specs.Settled.{Counted, SettledIn}
 use Rattle.sre_turns.proofs.NestedPoints.{HoldsInGood, tree_holds}
 
 -- no greatest count, or one that counts
@@ -70,20 +70,20 @@ module _ (ws : List ℕ) (n m : ℕ) where
   Low a = (a.0 ≤ n) × (a.1 ≤ m)
 
   -- a run has no greatest count, or one of at most n, and a branch at most m alternatives
-  abbrev Counted : Point → Type 0
-  Counted (Instruction i) =
+  abbrev FewAt : Point → Type 0
+  FewAt (Instruction i) =
       ((kind : RunKind) → HasRole ws i (ToRun kind) → (word ws (i + 3) ≡ unlimited) ⊎ (word ws (i + 3) ≤ n))
       × (HasRole ws i ToBranch → alternatives ws (i + 1) ≤ m)
-  Counted (Alternatives q) = ⊤
-  Counted (Shorter t k) = ⊤
-  Counted (Longer i k) = ⊤
-  Counted (Inside g) = ⊤
-  Counted Again = ⊤
-  Counted (Tried i) = ⊤
+  FewAt (Alternatives q) = ⊤
+  FewAt (Shorter t k) = ⊤
+  FewAt (Longer i k) = ⊤
+  FewAt (Inside g) = ⊤
+  FewAt Again = ⊤
+  FewAt (Tried i) = ⊤
 
   -- by the role that is known to be there
   counted_role : (i : ℕ) (o : Role) → HasRole ws i o → ((kind : RunKind) → o ≡ ToRun kind → ⊥)
-      → (o ≡ ToBranch → ⊥) → Counted (Instruction i)
+      → (o ≡ ToBranch → ⊥) → FewAt (Instruction i)
   counted_role i o g no_run no_branch = (
     λ kind h. absurd (no_run kind (sym g.begins ∙ ap role (same_opcode ws i g.code h.code g.there h.there) ∙ h.begins)),
     λ h. absurd (no_branch (sym g.begins ∙ ap role (same_opcode ws i g.code h.code g.there h.there) ∙ h.begins)),
@@ -91,7 +91,7 @@ module _ (ws : List ℕ) (n m : ℕ) where
 
   -- by the item that begins there
   counted_item : (i j : ℕ) (a : Item) → ReadsItem ws i j a → Low (of_item by_counts a, of_item by_alternatives a)
-      → Counted (Instruction i)
+      → FewAt (Instruction i)
   counted_item i j a r l = (counted_run, counted_branch)
     where
       counted_run : (kind : RunKind) → HasRole ws i (ToRun kind)
@@ -122,7 +122,7 @@ module _ (ws : List ℕ) (n m : ℕ) where
   parts_low a l = l
 
   -- so are all points of a tree of such counts
-  counted_in : HoldsInGood ws (paired by_counts by_alternatives) Low Counted
+  counted_in : HoldsInGood ws (paired by_counts by_alternatives) Low FewAt
   counted_in = record {
     first = λ a b l. (omega (arith, l.0), omega (arith, l.1));
     second = λ a b l. (omega (arith, l.0), omega (arith, l.1));
@@ -139,22 +139,22 @@ module _ (ws : List ℕ) (n m : ℕ) where
 
 -- so wherever a spot lies
 counted_within : (ws : List ℕ) (t : Tree) (w : WholeItems ws t) (x : Spot) → Lies ws t w x
-    → Counted ws (most_counts t) (most_alternatives t) x.point
+    → FewAt ws (most_counts t) (most_alternatives t) x.point
 counted_within ws t w x y =
     let n : ℕ = most_counts t in
     let m : ℕ = most_alternatives t in
     let e : ℕ = length ws - 1 in
     let end : HasRole ws e ToEnd = role_here ws e opcode.SUCCESS ToEnd w.1 refl in
-    tree_holds ws (paired by_counts by_alternatives) (Low ws n m) (Counted ws n m) (counted_in ws n m) 0 e t w.0 []
+    tree_holds ws (paired by_counts by_alternatives) (Low ws n m) (FewAt ws n m) (counted_in ws n m) 0 e t w.0 []
     x.point (repeats x.frames)
     (subst (Low ws n m) (sym (tree_paired by_counts by_alternatives t)) (omega arith, omega arith))
     ((counted_in ws n m).success e end) y
 
-module _ (r : runs.Run) (pl : Unforked r) (start : ℕ) (x : Spot) (i : ℕ) (o : SreOpcode)
+module _ (r : runs.Run) (pl : Counted r) (start : ℕ) (x : Spot) (i : ℕ) (o : SreOpcode)
     (at : SettledIn r pl start x) (here : x.point ≡ Instruction i) (w : Opcode r.words i o) where
-  there : Counted r.words (most_counts pl.tree) (most_alternatives pl.tree) (Instruction i)
+  there : FewAt r.words (most_counts pl.tree) (most_alternatives pl.tree) (Instruction i)
   there =
-      subst (λ pt. Counted r.words (most_counts pl.tree) (most_alternatives pl.tree) pt) here
+      subst (λ pt. FewAt r.words (most_counts pl.tree) (most_alternatives pl.tree) pt) here
       (counted_within r.words pl.tree pl.whole x at.lies)
 
   -- the greatest count of a run, where it has one

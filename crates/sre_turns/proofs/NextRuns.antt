@@ -5,55 +5,35 @@ use Rattle.std.proofs.Common.{◌≡◌, ℕ, suc, ◌+◌, ◌-◌, ◌<◌, �
 use Rattle.std.proofs.Common.{subst, arith, append-nil}
 use Rattle.sre_chars.specs.declared.constants.SreOpcode.TheVariants as opcode
 use Rattle.sre_chars.specs.declared.string.StringCursor.{StringCursor}
-use Rattle.sre_model.specs.Marks.{Marks}
-use Rattle.sre_model.specs.Subject.{passes}
+use Rattle.sre_model.specs.Subject.{Subject, passes}
 use Rattle.sre_model.specs.Ways.{Way, unlimited, run_length, longest_run}
 use Rattle.sre_model.specs.Grammar.{Word, Opcode}
 use Rattle.sre_model.specs.Runs.{Run}
 use Rattle.sre_model.specs.Standing.{HasTest}
 use Rattle.sre_model.proofs.Bounds.{passes-below}
 use Rattle.sre_turns.specs.Board.{Choice, Else, BoardValue}
-use Rattle.sre_turns.specs.Limits.{Limit, earlier, grant, Fares, FaresAt, FaresBoth, EachChoice}
+use Rattle.sre_turns.specs.Limits.{Limit, earlier, grant, HereIn, Fares, FaresAt, FaresBoth}
 use Rattle.sre_turns.specs.Machine.{Moves, Runs, Comes, splits, Tries, GoesBoth, Later, Waits, otherwise, spot}
 use Rattle.sre_turns.specs.Moves.{Spot, spot_at, Stop, Split}
-use Rattle.sre_turns.specs.Nested.{Lies}
 use Rattle.sre_turns.specs.Potential.{potential_of}
 use Rattle.sre_turns.specs.RunEnds.{AllPass}
-use Rattle.sre_turns.specs.Settled.{Unforked, SettledIn}
+use Rattle.sre_turns.specs.Settled.{Counted}
 use Rattle.sre_turns.specs.declared.Frame.{Frame}
 use Rattle.sre_turns.specs.declared.Next.TheVariants as next
 use Rattle.sre_turns.specs.declared.Point.TheVariants.{Instruction, Shorter, Longer}
 use Rattle.sre_turns.specs.Confining.{StandsConfined}
 use Rattle.sre_turns.proofs.Confining.{splits_confined, first_confined, first_left}
-use Rattle.std.proofs.lemmas.Bool.{true≢false}
-use Rattle.sre_turns.proofs.Faring.{fares_less, fares_earlier, first_waits, run_code, forks_outside, instruction_left}
-use Rattle.sre_turns.proofs.HereMoves.{here_moves, here_each}
-use Rattle.sre_turns.proofs.Straight.{StraightPoint}
+use Rattle.sre_turns.proofs.Faring.{fares_less, fares_earlier, first_waits, run_code, instruction_left}
+use Rattle.sre_turns.proofs.HereMoves.{here_moves, here_reached, here_first}
 use Rattle.sre_turns.proofs.Moving.{comes, run_nothing, some_turns, sooner}
-use Rattle.sre_turns.proofs.Onward.{all_later}
-use Rattle.sre_turns.proofs.SettledMoves.{settled_moves}
+use Rattle.sre_turns.proofs.Onward.{Reaches, all_later}
 use Rattle.sre_turns.proofs.StepsInRuns.{shorter_stop}
 use Rattle.sre_turns.proofs.RunEnds.{longest_reaches, run_moves, run_next, run_only_moves, run_short_moves}
 use Rattle.sre_turns.proofs.LazyRunEnds.{lazy_next, lazy_moves, lazy_stops, longer_stops}
 
--- an instruction further on in the text is settled, where it lies in the words under the same loops
-settled_on : (r : Run) (pl : Unforked r) (start i j p q z : ℕ) (fs : List Frame) (m : Marks)
-    → SettledIn r pl start (spot_at (Instruction i) fs p m)
-    → Lies r.words pl.tree pl.whole (spot_at (Instruction j) fs z m) → p ≤ q → q ≤ r.subject.end
-    → SettledIn r pl start (spot_at (Instruction j) fs q m)
-settled_on r pl start i j p q z fs m h lies l e = record {
-  lies = lies;
-  passed = all_later p q fs l h.passed;
-  inside = e;
-  from = omega (arith, h.from, l);
-}
-
--- a run forks
-greedy_forks : (r : Run) (i : ℕ) → Opcode r.words i opcode.REPEAT_ONE → StraightPoint r.words (Instruction i) → ⊥
-greedy_forks r i w q = true≢false (q opcode.REPEAT_ONE w)
-
-lazy_forks : (r : Run) (i : ℕ) → Opcode r.words i opcode.MIN_REPEAT_ONE → StraightPoint r.words (Instruction i) → ⊥
-lazy_forks r i w q = true≢false (q opcode.MIN_REPEAT_ONE w)
+-- an instruction further on in the text is within reach
+further_on : (s : Subject) (p q : ℕ) (fs : List Frame) → p ≤ q → q ≤ s.end → Reaches s p p fs q q fs
+further_on s p q fs l e = record { onward = l; inside = λ _. e; begun = λ past. all_later p q fs l past }
 
 -- an instruction is tried that can make no turn but the last
 tries_nothing : (r : Run) (i : ℕ) (c : StringCursor) (b : BoardValue)
@@ -87,14 +67,14 @@ tries_first r i j z c d b mv none stands all limit g = go (comes (Split y z) mv 
     y : Spot
     y = spot (Instruction j) d b
 
-    first_fares : (pl : Unforked r)
+    first_fares : (pl : Counted r)
         → FaresAt r pl (earlier limit) (potential_of r.words r.subject.end y) y b.choices
     first_fares pl =
         let code = run_code r x g.runs in
         let f = g.fares pl code.0 code.1 in
-        let on = here_moves r pl limit.start b.choices x (Split y z) f.here f.fares.settled mv in
+        let on = here_moves r pl limit.start b.choices x (Split y z) f.here mv in
         record {
-          here = here_each r pl limit.start b.choices y on.2 on.0;
+          here = on.0;
           fares =
               fares_earlier r pl limit b.choices _ _ (omega arith) f.fares;
         }
@@ -123,14 +103,13 @@ tries_first r i j z c d b mv none stands all limit g = go (comes (Split y z) mv 
         )
 
 -- two spots that are come to by a turn of which so much is left
-pub both_fare : (r : Run) (pl : Unforked r) (limit : Limit) (n : ℕ) (x y : Spot) (cs : List Choice)
-    → SettledIn r pl limit.start x → SettledIn r pl limit.start y → EachChoice (SettledIn r pl limit.start) cs
+pub both_fare : (r : Run) (pl : Counted r) (limit : Limit) (n : ℕ) (x y : Spot) (cs : List Choice)
+    → HereIn r pl limit.start cs x → HereIn r pl limit.start cs y
     → potential_of r.words r.subject.end x + potential_of r.words r.subject.end y + 2 ≤ n
     → Fares r pl limit n cs → FaresBoth r pl limit x y cs
-both_fare r pl limit n x y cs first second outside l f = record {
+both_fare r pl limit n x y cs first second l f = record {
   first = first;
   second = second;
-  outside = outside;
   fares = fares_less r pl limit cs _ n l f;
 }
 
@@ -158,26 +137,22 @@ module _ (r : Run) (i low v : ℕ) (w : Opcode r.words i opcode.REPEAT_ONE) (the
       (longest_run r.subject there.test unlimited c.position) refl (omega (arith, reaches))
 
   -- one toll pays for the run from the next character on, and for its own first end
-  greedy_fare : (pl : Unforked r) (limit : Limit) → AllPass r.subject there.test c.position (c.position + low + 1)
+  greedy_fare : (pl : Counted r) (limit : Limit) → AllPass r.subject there.test c.position (c.position + low + 1)
       → FaresAt r pl limit (potential_of r.words r.subject.end (run_at c.position) + grant r.words)
       (run_at c.position) b.choices
       → FaresBoth r pl limit (run_at (c.position + 1)) (tail_at (c.position + low)) b.choices
   greedy_fare pl limit all_pass f =
       let inside : c.position + low < r.subject.end =
       passes-below r.subject there.test (c.position + low) (all_pass (c.position + low) (omega arith) (omega arith)) in
-      let out = forks_outside r pl limit _ (run_at c.position) b.choices f (greedy_forks r i w) in
-      let on = settled_moves r.words r.subject pl.tree pl.whole limit.start (run_at c.position)
-      (Split (tail_at (c.position + longest_run r.subject there.test unlimited c.position))
-      (spot_at (Shorter (i + 1 + v) (longest_run r.subject there.test unlimited c.position - low)) b.frames
-      (c.position + longest_run r.subject there.test unlimited c.position) b.marks)) out.settled
-      (greedy_moves all_pass) in
+      let far : ℕ = c.position + longest_run r.subject there.test unlimited c.position in
+      let rest : Spot = spot_at (Shorter (i + 1 + v) (longest_run r.subject there.test unlimited c.position - low))
+      b.frames far b.marks in
       both_fare r pl limit _ (run_at (c.position + 1)) (tail_at (c.position + low)) b.choices
-      (settled_on r pl limit.start i i c.position (c.position + 1) c.position b.frames b.marks out.settled
-      out.settled.lies (omega arith) (omega (arith, inside)))
-      (settled_on r pl limit.start i (i + 1 + v) c.position (c.position + low)
-      (c.position + longest_run r.subject there.test unlimited c.position) b.frames b.marks out.settled on.0.lies
-      (omega arith) (omega (arith, inside)))
-      out.each
+      (here_reached r pl limit.start b.choices (run_at c.position) (run_at (c.position + 1)) (λ a z t reads y. y)
+      (further_on r.subject c.position (c.position + 1) b.frames (omega arith) (omega (arith, inside))) f.here)
+      (here_first r pl limit.start (run_at c.position) rest (i + 1 + v) far (c.position + low) b.frames b.marks
+      (greedy_moves all_pass) b.choices
+      (further_on r.subject c.position (c.position + low) b.frames (omega arith) (omega (arith, inside))) f.here)
       (omega arith)
       f.fares
 
@@ -240,23 +215,22 @@ module _ (r : Run) (i low v : ℕ) (w : Opcode r.words i opcode.MIN_REPEAT_ONE) 
   lazy_at q = spot_at (Instruction i) b.frames q b.marks
 
   -- one toll pays for its own first end, and for the run from the next character on
-  lazy_fare : (pl : Unforked r) (limit : Limit) → AllPass r.subject there.test c.position (c.position + low + 1)
+  lazy_fare : (pl : Counted r) (limit : Limit) → AllPass r.subject there.test c.position (c.position + low + 1)
       → FaresAt r pl limit (potential_of r.words r.subject.end (lazy_at c.position) + grant r.words)
       (lazy_at c.position) b.choices
       → FaresBoth r pl limit (tail_of (c.position + low)) (lazy_at (c.position + 1)) b.choices
   lazy_fare pl limit all_pass f =
       let inside : c.position + low < r.subject.end =
       passes-below r.subject there.test (c.position + low) (all_pass (c.position + low) (omega arith) (omega arith)) in
-      let out = forks_outside r pl limit _ (lazy_at c.position) b.choices f (lazy_forks r i w) in
-      let on = settled_moves r.words r.subject pl.tree pl.whole limit.start (lazy_at c.position)
-      (Split (tail_of (c.position + low)) (spot_at (Longer i low) b.frames (c.position + low) b.marks)) out.settled
-      (lazy_moves r i low v b.frames b.marks w there wv wl wh c.position
-      (λ d from to. all_pass d from (omega (arith, to)))) in
+      let rest : Spot = spot_at (Longer i low) b.frames (c.position + low) b.marks in
       both_fare r pl limit _ (tail_of (c.position + low)) (lazy_at (c.position + 1)) b.choices
-      on.0
-      (settled_on r pl limit.start i i c.position (c.position + 1) c.position b.frames b.marks out.settled
-      out.settled.lies (omega arith) (omega (arith, inside)))
-      out.each
+      (here_first r pl limit.start (lazy_at c.position) rest (i + 1 + v) (c.position + low) (c.position + low) b.frames
+      b.marks
+      (lazy_moves r i low v b.frames b.marks w there wv wl wh c.position
+      (λ d from to. all_pass d from (omega (arith, to)))) b.choices
+      (further_on r.subject c.position (c.position + low) b.frames (omega arith) (omega (arith, inside))) f.here)
+      (here_reached r pl limit.start b.choices (lazy_at c.position) (lazy_at (c.position + 1)) (λ a z t reads y. y)
+      (further_on r.subject c.position (c.position + 1) b.frames (omega arith) (omega (arith, inside))) f.here)
       (omega arith)
       f.fares
 

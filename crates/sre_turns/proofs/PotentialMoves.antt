@@ -176,7 +176,7 @@ module _ (ws : List ℕ) (s : Subject) where
 
     -- and that of a run for an instruction, and each of its ends
     ends_by_toll : (j k : ℕ) → k ≤ most_ends ws s.end i
-        → 2 * (length ws - j) + 3 + (k * path ws + 2) + 2
+        → 2 * (length ws - j) + 3 + (k * path ws + path ws) + 2
         ≤ 2 * (length ws - i) + 3 + (1 + most_ends ws s.end i) * grant ws
     ends_by_toll j k l = omega (arith, units_pay ws k (most_ends ws s.end i) l)
 
@@ -303,8 +303,8 @@ point_spent ws s (Alternatives q) fs p m a n k h =
     there = word_within ws q h.value h.there
 
     more : nat_eq h.value 0 ≡ false
-        → 2 * (length ws - (q + 1)) + 3 + (alternatives ws (q + h.value) * path ws + 2) + 2
-        ≤ alternatives ws q * path ws + 2
+        → 2 * (length ws - (q + 1)) + 3 + (alternatives ws (q + h.value) * path ws + path ws) + 2
+        ≤ alternatives ws q * path ws + path ws
     more e =
         let fewer = one_alternative_less ws q h.value there (word_of ws q h.value h.there) e in
         let each : (alternatives ws (q + h.value) + 1) * path ws ≤ alternatives ws q * path ws =
@@ -315,7 +315,7 @@ point_spent ws s (Shorter t k) fs p m a n j h =
     (cond_spent ⊥ ws s.end (potential ws s.end (Shorter t k) p) (nat_eq k 0) _ _ (λ e. omega arith) more)
   where
     more : nat_eq k 0 ≡ false
-        → 2 * (length ws - t) + 3 + ((k - 1) * path ws + 2) + 2 ≤ k * path ws + 2
+        → 2 * (length ws - t) + 3 + ((k - 1) * path ws + path ws) + 2 ≤ k * path ws + path ws
     more e =
         let some : 1 ≤ k = grind (arith, nat_tests) in
         omega (arith, one_less (path ws) k some)
@@ -325,8 +325,8 @@ point_spent ws s (Longer i c) fs p m a n k h =
     ((nat_eq h.high unlimited || nat_lt c h.high) && passes s h.test p) _ _ more (λ e. omega arith))
   where
     more : ((nat_eq h.high unlimited || nat_lt c h.high) && passes s h.test p) ≡ true
-        → 2 * (length ws - skip ws (i + 1)) + 3 + (more_ends ws s.end i (c + 1) (p + 1) * path ws + 2) + 2
-        ≤ more_ends ws s.end i c p * path ws + 2
+        → 2 * (length ws - skip ws (i + 1)) + 3 + (more_ends ws s.end i (c + 1) (p + 1) * path ws + path ws) + 2
+        ≤ more_ends ws s.end i c p * path ws + path ws
     more e =
         let parts = and_parts (nat_eq h.high unlimited || nat_lt c h.high) (passes s h.test p) e in
         let goes_on = subst (λ n. (nat_eq n unlimited || nat_lt c n) ≡ true)

@@ -20,7 +20,7 @@ use Rattle.sre_turns.specs.Limits.{Limit}
 use Rattle.sre_turns.specs.Moves.{spot_at}
 use Rattle.sre_turns.specs.MovesAtReferences.{MayAsk}
 use Rattle.sre_turns.specs.Potential.{potential}
-use Rattle.sre_turns.specs.Settled.{Unforked, SettledIn}
+use Rattle.sre_turns.specs.Settled.{Counted, SettledIn}
 use Rattle.sre_turns.proofs.FaringInRegions.{end_refused}
 use Rattle.sre_turns.specs.Machine.{Waits, outermost, otherwise, tried, Arrives, Ends, Stands, Later}
 use Rattle.sre_turns.specs.Machine.{SaysAccepted, outcomes}
@@ -88,7 +88,7 @@ pub started : (r : Run) (i : ℕ) (t : Tree) (c : StringCursor) (b : BoardValue)
     → PartOf r.words t
     → Reads r.words i (length r.words - 1) t → Opcode r.words (length r.words - 1) opcode.SUCCESS
     → r.stands c c.position → c.position ≤ r.subject.end → b ≡ bare no_marks
-    → ((pl : Unforked r) → SettledIn r pl start (spot_at (Instruction i) [] c.position no_marks))
+    → ((pl : Counted r) → SettledIn r pl start (spot_at (Instruction i) [] c.position no_marks))
     → Arrives r (outcomes r t c.position) (first_limit r i t c start) (Instruction i) c b
 started r i t c b start v has reads ends stands inside fresh settled =
     subst (λ x. Arrives r (outcomes r t c.position) (first_limit r i t c start) (Instruction i) c x)

@@ -24,7 +24,7 @@ use Rattle.sre_model.specs.Standing.{TestStands, HasTest}
 use Rattle.sre_model.specs.Roles.{ToFail, ToEnd, ToCheckPosition, ToMark, ToJump, begins_test}
 use Rattle.sre_turns.specs.declared.Next.TheVariants as next
 use Rattle.sre_model.proofs.Words.{same_word, at_low, word_of, word_within}
-use Rattle.sre_turns.proofs.Faring.{next_less, next_inside, test_pool}
+use Rattle.sre_turns.proofs.Faring.{next_less, test_pool}
 use Rattle.sre_turns.proofs.Moving.{in_role, in_test, at_instruction, at_test, run_nothing, run_goes, run_on}
 use Rattle.sre_turns.proofs.Moving.{nothing_after, has_run}
 use Rattle.sre_turns.proofs.Confining.{turn_confines}
@@ -160,11 +160,7 @@ jump_continues r i v c w wv stands = record {
   runs = λ fs m os n d. run_on (spot_at (Instruction (i + 1 + v)) fs c.position m)
       (at_instruction opcode.JUMP ToJump refl w
       (record { there = word_within r.words (i + 1) v wv; is = rw (word_of r.words (i + 1) v wv) refl })) d;
-  fares = λ pl start fs m h. next_less r pl start (spot_at (Instruction i) fs c.position m)
-      (spot_at (Instruction (i + 1 + v)) fs c.position m) opcode.JUMP w (omega arith)
-      (at_instruction opcode.JUMP ToJump refl w
-      (record { there = word_within r.words (i + 1) v wv; is = rw (word_of r.words (i + 1) v wv) refl })) h;
-  bodies = λ g entered fs m h. next_inside r g entered (spot_at (Instruction i) fs c.position m)
+  fares = λ pl start cs fs m h. next_less r pl start cs (spot_at (Instruction i) fs c.position m)
       (spot_at (Instruction (i + 1 + v)) fs c.position m) opcode.JUMP w (omega arith)
       (at_instruction opcode.JUMP ToJump refl w
       (record { there = word_within r.words (i + 1) v wv; is = rw (word_of r.words (i + 1) v wv) refl })) h;
@@ -215,15 +211,7 @@ module _ (r : Run) (i ch : ℕ) (o : SreOpcode) (takes : Bool) (c : StringCursor
           stands = there.stands;
           is = rw (passes_as_read ∙ y, moved_on, ends there.end there.test there.stands) refl;
         })) d;
-    fares = λ pl start fs m h. next_less r pl start (spot_at (Instruction i) fs c.position m)
-        (spot_at (Instruction end) fs after.position m) o w (test_pool r i c.position o f)
-        (at_test o f w (record {
-          end = there.end;
-          test = there.test;
-          stands = there.stands;
-          is = rw (passes_as_read ∙ y, moved_on, ends there.end there.test there.stands) refl;
-        })) h;
-    bodies = λ g entered fs m h. next_inside r g entered (spot_at (Instruction i) fs c.position m)
+    fares = λ pl start cs fs m h. next_less r pl start cs (spot_at (Instruction i) fs c.position m)
         (spot_at (Instruction end) fs after.position m) o w (test_pool r i c.position o f)
         (at_test o f w (record {
           end = there.end;

@@ -16,7 +16,6 @@ use Rattle.sre_turns.specs.Machine.{Continues}
 use Rattle.sre_model.specs.Roles.{ToBranch}
 use Rattle.sre_turns.specs.declared.Next.TheVariants as next
 use Rattle.sre_model.proofs.Words.{word_within}
-use Rattle.sre_turns.proofs.HereMoves.{straight_here}
 use Rattle.sre_turns.proofs.Faring.{second_less, alternatives_free}
 use Rattle.sre_model.specs.Marks.{no_marks}
 use Rattle.sre_turns.proofs.Confining.{confined_leads}
@@ -98,13 +97,11 @@ alternatives_pass r q v c w l stands none = record {
       run_second (spot_at (Instruction (q + 1)) fs c.position m) (spot_at (Alternatives (q + v)) fs c.position m)
       (alternatives_move r.words r.subject q v (spot_at (Alternatives q) fs c.position m) refl w l)
       (λ os' n' e. none fs m os' n' e) d;
-  fares = λ pl start fs m h.
-      second_less r pl start (spot_at (Alternatives q) fs c.position m)
+  fares = λ pl start cs fs m h.
+      second_less r pl start cs (spot_at (Alternatives q) fs c.position m)
       (spot_at (Instruction (q + 1)) fs c.position m) (spot_at (Alternatives (q + v)) fs c.position m)
       alternatives_free (alternatives_move r.words r.subject q v (spot_at (Alternatives q) fs c.position m) refl w l)
       h;
-  bodies = λ g entered fs m h.
-      absurd (straight_here r g entered (spot_at (Alternatives q) fs c.position m) h);
   confines = λ fs h.
       (confined_leads r.words r.subject (spot_at (Alternatives q) fs c.position no_marks) _
       (alternatives_move r.words r.subject q v (spot_at (Alternatives q) fs c.position no_marks) refl w l) h).1;

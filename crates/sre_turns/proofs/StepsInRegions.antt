@@ -20,10 +20,10 @@ use Rattle.sre_turns.specs.Bodies.{MarklessRegions}
 use Rattle.sre_turns.specs.Confining.{ConfinedInside, AllConfined, ChoicesConfined, StandsConfined}
 use Rattle.sre_turns.specs.Fruit.{is_inside}
 use Rattle.sre_turns.specs.Nested.{repeats, ClosesAt}
-use Rattle.sre_turns.specs.Settled.{Unforked}
+use Rattle.sre_turns.specs.Settled.{Counted}
 use Rattle.sre_turns.proofs.Confining.{region_confined}
-use Rattle.sre_turns.proofs.FaringInRegions.{region_newest, region_on, region_off, region_never}
-use Rattle.sre_turns.specs.Limits.{Limit, earlier, FaresAt, FaresBack, FaresEnd}
+use Rattle.sre_turns.proofs.FaringInRegions.{cut_fares, region_on, region_off, region_never}
+use Rattle.sre_turns.specs.Limits.{Limit, earlier, without_open, FaresAt, FaresBack, FaresEnd}
 use Rattle.sre_turns.specs.Potential.{potential, potential_of}
 use Rattle.sre_turns.specs.Straight.{is_possessive}
 use Rattle.sre_turns.specs.Machine.{Moves, Runs, Comes, stops, goes, Waits, kept, Goes, Arrives, Placed, Ends}
@@ -121,7 +121,7 @@ module _ (r : Run) (c d : StringCursor) (b b' : BoardValue) where
   goes_on f = record { here = f.0; others = record { each = f.1 } }
 
   -- nothing comes of it
-  ends_stop : {all : List Way} (limit : Limit) → ((pl : Unforked r) → FaresBack r pl (earlier limit) b'.choices)
+  ends_stop : {all : List Way} (limit : Limit) → ((pl : Counted r) → FaresBack r pl (earlier limit) b'.choices)
       → (MarklessRegions r.words → ChoicesConfined r.words b'.choices)
       → {x : Spot} {os : List Way} {n k j later : ℕ} → Comes r.words r.subject x Stop os n
       → Waits r b'.choices (0 + n) os all k → n + k ≤ j → j ≤ later → later + 1 ≤ limit.turns
@@ -139,7 +139,7 @@ module _ (r : Run) (c d : StringCursor) (b b' : BoardValue) where
 
   -- it goes on at a cursor
   ends_go : {all : List Way} (limit : Limit) (pt : Point) (at : StringCursor)
-      → ((pl : Unforked r) → FaresAt r pl (earlier limit) (potential_of r.words r.subject.end (spot pt at b'))
+      → ((pl : Counted r) → FaresAt r pl (earlier limit) (potential_of r.words r.subject.end (spot pt at b'))
       (spot pt at b') b'.choices)
       → (MarklessRegions r.words → StandsConfined r.words (spot pt at b') b'.choices)
       → r.stands at at.position → Placed r.subject b.marks → b'.marks ≡ b.marks
@@ -167,9 +167,9 @@ module _ (r : Run) (c d : StringCursor) (b b' : BoardValue) where
 
   -- what is left where the region is in progress, and where its body ends
   abbrev Ending : Limit → Region → Marks → Type 0
-  Ending limit g m = (pl : Unforked r) → FaresEnd r pl limit c.position (Keep g b'.frames d m ∷ b'.choices)
+  Ending limit g m = (pl : Counted r) → FaresEnd r pl limit c.position (Keep g b'.frames d m ∷ b'.choices)
 
-  ends_never : (limit : Limit) (g : Region) (m : Marks) → Ending limit g m → is_possessive g ≡ true → Unforked r → ⊥
+  ends_never : (limit : Limit) (g : Region) (m : Marks) → Ending limit g m → is_possessive g ≡ true → Counted r → ⊥
   ends_never limit g m left e pl =
       region_never r pl limit g b'.frames d m b'.choices (left pl).fares e
 
@@ -198,20 +198,19 @@ module _ (r : Run) (c d : StringCursor) (b b' : BoardValue) where
       (λ none. goes_on ((lies none).0.0, (lies none).1)) there placed em f wt (omega arith) l k
 
   pub region_closes : (g : Region) → Cuts b g d b' → (all : List Way) (limit : Limit) → Ends r all limit c b
-      → Later r all limit (after_outcome g c d) b'
+      → Later r all (without_open b.choices limit) (after_outcome g c d) b'
   region_closes g cut all limit e =
       let u = cut_waits r b.choices b'.choices g b'.frames d cut.entered
       (record { stop = c.position; marks = b.marks }) [] all e.later cut.region e.waits in
       region_ends g
       (λ none. subst (λ x. AllConfined r.words x) cut.region (region_confined r.words b.choices (e.confined none).each))
-      cut.entered u.0 all limit u.1 e.later
-      (λ pl. subst (λ x. FaresEnd r pl limit c.position x)
-      (region_newest r pl limit.start b.choices b'.choices (e.fares pl).fares.settled cut.region) (e.fares pl))
+      cut.entered u.0 all (without_open b.choices limit) u.1 e.later
+      (λ pl. cut_fares r pl limit c.position b.choices b'.choices cut.region (e.fares pl))
       cut.marks e.stands e.placed u.3 u.2 e.within
 
 -- a body has no outcome
 module _ (r : Run) (c : StringCursor) (b' : BoardValue) where
-  back_stop : {all : List Way} (limit : Limit) → ((pl : Unforked r) → FaresBack r pl (earlier limit) b'.choices)
+  back_stop : {all : List Way} (limit : Limit) → ((pl : Counted r) → FaresBack r pl (earlier limit) b'.choices)
       → (MarklessRegions r.words → ChoicesConfined r.words b'.choices)
       → {x : Spot} {os : List Way} {n k : ℕ} → Comes r.words r.subject x Stop os n
       → Waits r b'.choices (0 + n) os all k → n + k ≤ limit.turns → Later r all limit next.Back b'
@@ -227,7 +226,7 @@ module _ (r : Run) (c : StringCursor) (b' : BoardValue) where
   )
 
   back_go : {all : List Way} (limit : Limit) (t : ℕ) (fs : List Frame)
-      → ((pl : Unforked r) → FaresAt r pl (earlier limit) (potential r.words r.subject.end (Instruction t) c.position)
+      → ((pl : Counted r) → FaresAt r pl (earlier limit) (potential r.words r.subject.end (Instruction t) c.position)
       (spot_at (Instruction t) fs c.position b'.marks) b'.choices)
       → (MarklessRegions r.words
       → ConfinedInside r.words (is_inside b'.choices) (Instruction t) (repeats fs) × AllConfined r.words b'.choices)
@@ -254,9 +253,9 @@ module _ (r : Run) (c : StringCursor) (b' : BoardValue) where
 
   -- what is left where the region is in progress
   abbrev Going : Limit → Region → Type 0
-  Going limit g = (pl : Unforked r) → FaresBack r pl limit (Keep g b'.frames c b'.marks ∷ b'.choices)
+  Going limit g = (pl : Counted r) → FaresBack r pl limit (Keep g b'.frames c b'.marks ∷ b'.choices)
 
-  back_off : (limit : Limit) (g : Region) → Going limit g → (pl : Unforked r)
+  back_off : (limit : Limit) (g : Region) → Going limit g → (pl : Counted r)
       → FaresBack r pl (earlier limit) b'.choices
   back_off limit g left pl = region_off r pl limit g b'.frames c b'.marks b'.choices (left pl)
 

@@ -30,8 +30,7 @@ use Rattle.sre_turns.specs.declared.Point.TheVariants.{Instruction, Alternatives
 use Rattle.sre_turns.specs.declared.Point.{Point}
 use Rattle.sre_turns.proofs.Confining.{confined_leads}
 use Rattle.sre_turns.proofs.Moving.{Barren, comes, run_on, sooner, continues_then, continues_exhausted}
-use Rattle.sre_turns.proofs.HereMoves.{inside_moves, here_map}
-use Rattle.sre_turns.proofs.SettledMoves.{settled_moves}
+use Rattle.sre_turns.proofs.HereMoves.{here_moves}
 use Rattle.sre_turns.proofs.StepsAtItems.{test_misses, test_continues, jump_continues}
 use Rattle.sre_turns.proofs.StepsInBranches.{branch_moves, alternatives_move, alternatives_pass, alternatives_exhausted}
 use Rattle.sre_turns.proofs.StepsInLoops.{InLoop, body_spot, end_spot, until_splits, until_runs}
@@ -53,18 +52,14 @@ module _ (r : Run) (x y : Spot) where
   yields_goes : Moves r.words r.subject x (Go y) → Yields r x y
   yields_goes h = record {
     runs = λ os n d. run_on y h d;
-    settles = λ pl start at.
-        settled_moves r.words r.subject pl.tree pl.whole start x (Go y) at h;
-    bodies = λ g entered b. inside_moves r g entered x b (Go y) h;
+    here = λ pl start cs at. here_moves r pl start cs x (Go y) at h;
     confines = λ l. confined_leads r.words r.subject x (Go y) h l;
   }
 
   yields_first : (z : Spot) → Moves r.words r.subject x (Split y z) → Barren r z → Yields r x y
   yields_first z h none = record {
     runs = λ os n d. run_first y z h none d;
-    settles = λ pl start at.
-        (settled_moves r.words r.subject pl.tree pl.whole start x (Split y z) at h).0;
-    bodies = λ g entered b. absurd (inside_moves r g entered x b (Split y z) h);
+    here = λ pl start cs at. (here_moves r pl start cs x (Split y z) at h).0;
     confines = λ l. (confined_leads r.words r.subject x (Split y z) h l).0;
   }
 
@@ -73,8 +68,7 @@ module _ (r : Run) (x y : Spot) where
     runs = λ os n d.
         let k = a.runs os n d in
         let l = b.runs os k.0 k.2 in (l.0, omega (arith, k.1, l.1), l.2);
-    settles = λ pl start at. b.settles pl start (a.settles pl start at);
-    bodies = λ g entered d. b.bodies g entered (a.bodies g entered d);
+    here = λ pl start cs at. b.here pl start cs (a.here pl start cs at);
     confines = λ l. b.confines (a.confines l);
   }
 
@@ -109,8 +103,7 @@ continues_yields : (r : Run) (pt pt' : Point) (c c' : StringCursor) → Continue
     (m : Marks) → Yields r (spot_at pt fs c.position m) (spot_at pt' fs c'.position m)
 continues_yields r pt pt' c c' on fs m = record {
   runs = λ os n d. on.runs fs m os n d;
-  settles = λ pl start at. (on.fares pl start fs m at).0;
-  bodies = λ g entered at. (on.bodies g entered fs m at).0;
+  here = λ pl start cs at. (on.fares pl start cs fs m at).0;
   confines = λ l. on.confines fs l;
 }
 
@@ -195,8 +188,7 @@ strides_none r u c f there = record {
   same = refl;
   yields = λ fs m. record {
     runs = λ os n d. (n, omega arith, d);
-    settles = λ pl start at. at;
-    bodies = λ g entered at. at;
+    here = λ pl start cs at. at;
     confines = λ l. l;
   };
 }
@@ -229,8 +221,7 @@ module _ (r : Run) (u : ℕ) (c c' : StringCursor) (f f' : Frame) (s : Strides r
         fares = λ pl o w.
             let old = g.fares pl o w in
             record {
-              here = here_map r pl limit.start b.choices (spot (Instruction u) c (with_loop f b))
-                  (spot (Instruction u) c' (with_loop f' b)) (y.settles pl limit.start) y.bodies old.here;
+              here = y.here pl limit.start b.choices old.here;
               fares = old.fares;
             };
         confined = λ none.
@@ -274,8 +265,7 @@ tells_first r start u none only no_ = record {
   passed = λ c ch after read n. record {
     stands = read.stands;
     runs = λ fs m os k d. (k, omega arith, d);
-    fares = λ pl begin fs m h. (h, omega arith);
-    bodies = λ g entered fs m h. (h, omega arith);
+    fares = λ pl begin cs fs m h. (h, omega arith);
     confines = λ fs l. l;
   };
   alone = λ c ch after read y. absurd (cc (y, no_ ch));
@@ -318,7 +308,3 @@ tells_last r start q u v none only w e told = record {
   each = λ c ch after read y.
       told.alone c ch after read y (alternatives_exhausted r q v c.position w e);
 }
-
-pub tells_nothing : (r : Run) (start u : ℕ) (set : ℕ → Bool) → ((ch : ℕ) → set ch ≡ false)
-    → TellsBodies r start u set
-tells_nothing r start u set no_ = record { each = λ c ch after read y. absurd (cc (y, no_ ch)) }

@@ -11,8 +11,8 @@ use Rattle.sre_turns.specs.Asked.{MarksAlike}
 use Rattle.sre_turns.specs.declared.Frame.{Frame}
 use Rattle.sre_turns.specs.declared.Point.TheVariants.{Instruction}
 use Rattle.sre_turns.specs.declared.Next.TheVariants as next
-use Rattle.sre_turns.specs.Limits.{Limit, with_tried, without_tried, Stage, Going, Splitting, spare, FaresBack}
-use Rattle.sre_turns.specs.Settled.{Unforked}
+use Rattle.sre_turns.specs.Limits.{Limit, attempt, with_tried, without_tried, Stage, Going, Splitting, spare, FaresBack}
+use Rattle.sre_turns.specs.Settled.{Counted}
 use Rattle.sre_turns.specs.Machine.{Runs, Waits, tried, GoesWith, Goes, Arrives, Tries, Backs, Later, spot}
 use Rattle.sre_turns.specs.Confining.{ChoicesConfined}
 use Rattle.sre_turns.specs.Fruit.{Fruitless, is_inside}
@@ -22,18 +22,15 @@ use Rattle.sre_turns.proofs.FirstOutcomes.{first_none}
 use Rattle.sre_turns.proofs.Hopeless.{hopeless_again, fruitless_waits, fruitless_none}
 use Rattle.sre_turns.specs.Potential.{potential_of}
 use Rattle.sre_turns.proofs.Moving.{sooner, some_turns}
-use Rattle.sre_turns.proofs.Faring.{run_code, forks_outside, instruction_left}
-use Rattle.sre_turns.proofs.HereMoves.{settling_each, share_each}
-use Rattle.sre_turns.proofs.Straight.{forks_never}
-use Rattle.sre_turns.specs.Straight.{ForksAt}
+use Rattle.sre_turns.proofs.Faring.{run_code, instruction_left}
 
 -- an instruction is tried: its mark waits
 tried_with : (stage : Stage) → spare stage ≡ 0 → (r : Run) (i : ℕ) (c : StringCursor) (b b' : BoardValue)
-    → b' ≡ record b { choices = Trying i b.frames c b.marks ∷ b.choices } → (Unforked r → ForksAt r.words i)
+    → b' ≡ record b { choices = Trying i b.frames c b.marks ∷ b.choices }
     → (all : List Way) (limit : Limit) → GoesWith stage r all limit (Instruction i) c b
-    → GoesWith stage r all (with_tried (spot (Instruction i) c b) limit) (Instruction i) c b'
-tried_with stage none r i c b b' e forked all limit g =
-    subst (λ x. GoesWith stage r all (with_tried (spot (Instruction i) c b) limit) (Instruction i) c x) (sym e)
+    → GoesWith stage r all (with_tried (attempt b.choices (spot (Instruction i) c b)) limit) (Instruction i) c b'
+tried_with stage none r i c b b' e all limit g =
+    subst (λ x. GoesWith stage r all (with_tried (attempt b.choices (spot (Instruction i) c b)) limit) (Instruction i) c x) (sym e)
     (record {
       now = g.now;
       turns = g.turns;
@@ -45,13 +42,11 @@ tried_with stage none r i c b b' e forked all limit g =
       within = g.within;
       fares = λ pl o w.
           let f = g.fares pl o w in
-          let out = forks_outside r pl limit _ (spot (Instruction i) c b) b.choices f
-          (forks_never r.words i (forked pl)) in
           record {
-            here = out.settled;
+            here = f.here;
             fares = record {
-              settled = (out.settled, out.each);
-              trying = ap (λ xs. spot (Instruction i) c b ∷ xs) f.fares.trying;
+              settled = (f.here, f.fares.settled);
+              trying = ap (λ xs. attempt b.choices (spot (Instruction i) c b) ∷ xs) f.fares.trying;
               left = omega (arith, f.fares.left);
             };
           };
@@ -61,17 +56,17 @@ tried_with stage none r i c b b' e forked all limit g =
 
 -- so it is where its turn is under way
 pub trying_goes : (r : Run) (i : ℕ) (c : StringCursor) (b b' : BoardValue)
-    → b' ≡ record b { choices = Trying i b.frames c b.marks ∷ b.choices } → (Unforked r → ForksAt r.words i)
+    → b' ≡ record b { choices = Trying i b.frames c b.marks ∷ b.choices }
     → (all : List Way) (limit : Limit) → Goes r all limit (Instruction i) c b
-    → Goes r all (with_tried (spot (Instruction i) c b) limit) (Instruction i) c b'
-trying_goes r i c b b' e forked all limit g = tried_with Going refl r i c b b' e forked all limit g
+    → Goes r all (with_tried (attempt b.choices (spot (Instruction i) c b)) limit) (Instruction i) c b'
+trying_goes r i c b b' e all limit g = tried_with Going refl r i c b b' e all limit g
 
 -- and where one toll alone was granted
 pub trying_tries : (r : Run) (i : ℕ) (c : StringCursor) (b b' : BoardValue)
-    → b' ≡ record b { choices = Trying i b.frames c b.marks ∷ b.choices } → (Unforked r → ForksAt r.words i)
+    → b' ≡ record b { choices = Trying i b.frames c b.marks ∷ b.choices }
     → (all : List Way) (limit : Limit) → Tries r all limit (Instruction i) c b
-    → Tries r all (with_tried (spot (Instruction i) c b) limit) (Instruction i) c b'
-trying_tries r i c b b' e forked all limit g = tried_with Splitting refl r i c b b' e forked all limit g
+    → Tries r all (with_tried (attempt b.choices (spot (Instruction i) c b)) limit) (Instruction i) c b'
+trying_tries r i c b b' e all limit g = tried_with Splitting refl r i c b b' e all limit g
 
 -- the mark is come to: what waited below it still waits
 pub tried_waits : (r : Run) (i : ℕ) (c : StringCursor) (b b' : BoardValue)
@@ -79,14 +74,13 @@ pub tried_waits : (r : Run) (i : ℕ) (c : StringCursor) (b b' : BoardValue)
     → Backs r all (without_tried limit) b'
 tried_waits r i c b b' e all limit g = go (subst (λ x. Waits r x 0 [] all g.later) e g.waits) g.within
   where
-    left : (pl : Unforked r) → FaresBack r pl (without_tried limit) b'.choices
+    left : (pl : Counted r) → FaresBack r pl (without_tried limit) b'.choices
     left pl =
         let f = subst (λ x. FaresBack r pl limit x) e (g.fares pl) in
-        let each = f.settled.1 in
         record {
-          settled = settling_each r pl limit.start b'.choices each;
+          settled = f.settled.1;
           trying = ap (λ xs. drop 1 xs) f.trying;
-          left = omega (arith, f.left, share_each r pl limit.start b'.choices 0 each);
+          left = f.left;
         }
 
     go : {k : ℕ} → Waits r (Trying i b'.frames c b'.marks ∷ b'.choices) 0 [] all k → k ≤ limit.turns

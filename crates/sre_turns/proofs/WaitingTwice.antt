@@ -19,7 +19,6 @@ use Rattle.sre_turns.specs.Machine.{Runs, turns, Comes, stops, ends, goes, split
 use Rattle.sre_turns.specs.Machine.{kept, tried, Arrives, Later, spot}
 use Rattle.sre_turns.proofs.FirstOutcomes.{SameFirsts, firsts_append, firsts_begin, closes_same}
 use Rattle.sre_turns.proofs.FirstOutcomes.{firsts_again}
-use Rattle.sre_turns.proofs.HereMoves.{here_each, settling_each}
 use Rattle.sre_turns.proofs.Moving.{comes, sooner}
 use Rattle.sre_turns.proofs.SameComes.{marks_apart}
 
@@ -102,11 +101,10 @@ dropped_arrives r told i c matter b b' m same none e all limit g =
           within = omega (arith, l);
           fares = λ pl o w.
               let f = a.fares pl o w in
-              let each = f.fares.settled.1 in
               record {
-                here = here_each r pl limit.start b'.choices (spot (Instruction i) c b') each f.here;
+                here = f.here;
                 fares = record {
-                  settled = settling_each r pl limit.start b'.choices each;
+                  settled = f.fares.settled.1;
                   trying = f.fares.trying;
                   left = omega (arith, f.fares.left);
                 };

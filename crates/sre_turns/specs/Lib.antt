@@ -1,5 +1,6 @@
 pub mod Board
 pub mod Moves
+pub mod Attempts
 pub mod MovesInRuns
 pub mod OperandsOfRuns
 pub mod MovesInLoops

@@ -1,17 +1,20 @@
--- What a run may still take: turns, and in a search over words whose regions do not fork a potential, which goes down
+-- What a run may still take: turns, and in a search over words whose turns are counted a potential, which goes down
 -- with each turn, and up by tolls where an instruction that may branch is gone on with.
 -- Words of the machine's contracts; what sre_engine makes public does not rest on it.
-use Rattle.std.specs.Prelude.{⊤, ℕ, ◌+◌, ◌-◌, ◌*◌, ◌≤◌, ◌≡◌, List, [], ◌∷◌, drop, length, true, false}
+use Rattle.std.specs.Prelude.{⊤, ℕ, ◌+◌, ◌-◌, ◌*◌, ◌≤◌, ◌≡◌, List, [], ◌∷◌, drop, length, map, true, false}
 use Rattle.sre_chars.specs.declared.constants.SreOpcode.{SreOpcode}
 use Rattle.sre_model.specs.Grammar.{Opcode}
 use Rattle.sre_model.specs.Roles.{role}
 use Rattle.sre_model.specs.Runs.{Run}
+use Rattle.sre_turns.specs.Attempts.{Attempt}
 use Rattle.sre_turns.specs.Board.{Choice, Else, Keep, Trying}
+use Rattle.sre_turns.specs.Fruit.{is_inside}
+use Rattle.sre_turns.specs.OpenMarks.{open_spots}
 use Rattle.sre_turns.specs.declared.Point.TheVariants.{Instruction, Alternatives, Shorter, Longer, Inside, Again, Tried}
 use Rattle.sre_turns.specs.declared.Point.{Point}
 use Rattle.sre_turns.specs.Moves.{Spot, spot_at}
 use Rattle.sre_turns.specs.Potential.{path, potential, potential_of, units}
-use Rattle.sre_turns.specs.Settled.{Unforked, SettledIn}
+use Rattle.sre_turns.specs.Settled.{Counted, SettledIn}
 use Rattle.sre_turns.specs.Straight.{InBody, tail_of, is_possessive, goes_behind}
 use Rattle.sre_turns.specs.declared.Frame.{Frame}
 use Rattle.sre_turns.specs.declared.Region.{Region}
@@ -24,7 +27,7 @@ pub record Limit : Type 0 where
   pub taken : ℕ
   pub granted : ℕ
   pub tolls : ℕ
-  pub trying : List Spot
+  pub trying : List Attempt
   pub start : ℕ
 
 -- the same a turn later
@@ -39,13 +42,21 @@ grant ws = 2 * path ws
 abbrev pub raised : ℕ → Limit → Limit
 raised n l = record l { tolls = l.tolls + n }
 
--- the same where a spot is tried
-abbrev pub with_tried : Spot → Limit → Limit
+-- the same where an instruction is tried
+abbrev pub with_tried : Attempt → Limit → Limit
 with_tried x l = record l { trying = x ∷ l.trying }
 
--- the same where the newest of the spots that are tried is not tried any more
+-- the same where so many of the newest that are tried are not tried any more
+abbrev pub without_newest : ℕ → Limit → Limit
+without_newest n l = record l { trying = drop n l.trying }
+
+-- the same where the newest is not tried any more
 abbrev pub without_tried : Limit → Limit
-without_tried l = record l { trying = drop 1 l.trying }
+without_tried l = without_newest 1 l
+
+-- the same where the innermost region of what waits is left, and nothing is tried inside any more
+abbrev pub without_open : List Choice → Limit → Limit
+without_open cs l = without_newest (length (open_spots cs)) l
 
 -- a limit to which more was granted, perhaps, in the same turn
 pub record Grants (limit more : Limit) : Type 0 where
@@ -63,12 +74,20 @@ pub record Wider (limit more : Limit) : Type 0 where
   pub trying : limit.trying ≡ more.trying
   pub start : limit.start ≡ more.start
 
--- the spots that are tried, whose marks wait
-abbrev pub tried_spots : List Choice → List Spot
+-- what is tried at a spot, above what waits
+abbrev pub attempt : List Choice → Spot → Attempt
+attempt cs x = record { inside = is_inside cs; spot = x }
+
+-- what is tried, whose marks wait
+abbrev pub tried_spots : List Choice → List Attempt
 tried_spots [] = []
 tried_spots (Else pt fs c m ∷ cs) = tried_spots cs
 tried_spots (Keep g fs c m ∷ cs) = tried_spots cs
-tried_spots (Trying i fs c m ∷ cs) = spot_at (Instruction i) fs c.position m ∷ tried_spots cs
+tried_spots (Trying i fs c m ∷ cs) = attempt cs (spot_at (Instruction i) fs c.position m) ∷ tried_spots cs
+
+-- what is tried in the innermost region
+abbrev pub open_attempts : List Choice → List Attempt
+open_attempts cs = map (λ (x : Spot). record { inside = true; spot = x }) (open_spots cs)
 
 -- the potential of what waits: each choice takes a turn more
 abbrev pub waiting : List ℕ → ℕ → List Choice → ℕ
@@ -77,76 +96,67 @@ waiting ws e (Else pt fs c m ∷ cs) = potential ws e pt c.position + 1 + waitin
 waiting ws e (Keep g fs c m ∷ cs) = waiting ws e cs
 waiting ws e (Trying i fs c m ∷ cs) = waiting ws e cs
 
--- each choice is of a spot of some kind, and no region is in progress
-abbrev pub EachChoice : (Spot → Type 0) → List Choice → Type 0
-EachChoice P [] = ⊤
-EachChoice P (Else pt fs c m ∷ cs) = P (spot_at pt fs c.position m) × EachChoice P cs
-EachChoice P (Keep g fs c m ∷ cs) = ⊥
-EachChoice P (Trying i fs c m ∷ cs) = P (spot_at (Instruction i) fs c.position m) × EachChoice P cs
-
 -- where the machine stands: in the body of the innermost region, if one is in progress, else where it is settled
-abbrev pub HereIn : (r : Run) → Unforked r → ℕ → List Choice → Spot → Type 0
+abbrev pub HereIn : (r : Run) → Counted r → ℕ → List Choice → Spot → Type 0
 HereIn r pl start [] x = SettledIn r pl start x
-HereIn r pl start (Else pt fs c m ∷ cs) x = SettledIn r pl start x
-HereIn r pl start (Keep g fs c m ∷ cs) x = InBody r g c.position x
-HereIn r pl start (Trying i fs c m ∷ cs) x = SettledIn r pl start x
+HereIn r pl start (Else pt fs c m ∷ cs) x = HereIn r pl start cs x
+HereIn r pl start (Keep g fs c m ∷ cs) x = InBody r pl start g c.position x
+HereIn r pl start (Trying i fs c m ∷ cs) x = HereIn r pl start cs x
 
 -- where it goes on behind a region that was entered at a cursor, no earlier than there
-pub record Reopens (r : Run) (pl : Unforked r) (start : ℕ) (g : Region) (fs : List Frame) (p : ℕ) (cs : List Choice)
+pub record Reopens (r : Run) (pl : Counted r) (start : ℕ) (g : Region) (fs : List Frame) (p : ℕ) (cs : List Choice)
     : Type 0 where
   pub alone : is_possessive g ≡ false
   pub inside : p ≤ r.subject.end
   pub tail :
       (q : ℕ) (m : Marks) → p ≤ q → q ≤ r.subject.end → HereIn r pl start cs (spot_at (Instruction (tail_of g)) fs q m)
 
--- what waits: the regions that are in progress, each in the body of the one before, and below them choices that are
--- settled
-abbrev pub Settling : (r : Run) → Unforked r → ℕ → List Choice → Type 0
+-- what waits: each choice where the machine may stand, and each region in the body of the one before
+abbrev pub Settling : (r : Run) → Counted r → ℕ → List Choice → Type 0
 Settling r pl start [] = ⊤
 Settling r pl start (Else pt fs c m ∷ cs) =
-    SettledIn r pl start (spot_at pt fs c.position m) × EachChoice (SettledIn r pl start) cs
+    HereIn r pl start cs (spot_at pt fs c.position m) × Settling r pl start cs
 Settling r pl start (Keep g fs c m ∷ cs) = Reopens r pl start g fs c.position cs × Settling r pl start cs
 Settling r pl start (Trying i fs c m ∷ cs) =
-    SettledIn r pl start (spot_at (Instruction i) fs c.position m) × EachChoice (SettledIn r pl start) cs
+    HereIn r pl start cs (spot_at (Instruction i) fs c.position m) × Settling r pl start cs
 
 -- so much potential is left beside that of what waits
-pub record Fares (r : Run) (pl : Unforked r) (limit : Limit) (n : ℕ) (cs : List Choice) : Type 0 where
+pub record Fares (r : Run) (pl : Counted r) (limit : Limit) (n : ℕ) (cs : List Choice) : Type 0 where
   pub settled : Settling r pl limit.start cs
   pub trying : tried_spots cs ≡ limit.trying
   pub left : n + waiting r.words r.subject.end cs + limit.taken
       ≤ limit.granted + limit.tolls * grant r.words
 
 -- and the machine stands at a spot
-pub record FaresAt (r : Run) (pl : Unforked r) (limit : Limit) (n : ℕ) (x : Spot) (cs : List Choice) : Type 0 where
+pub record FaresAt (r : Run) (pl : Counted r) (limit : Limit) (n : ℕ) (x : Spot) (cs : List Choice) : Type 0 where
   pub here : HereIn r pl limit.start cs x
   pub fares : Fares r pl limit n cs
 
--- or at one of two, of which the second waits; no region is in progress
-pub record FaresBoth (r : Run) (pl : Unforked r) (limit : Limit) (x y : Spot) (cs : List Choice) : Type 0 where
-  pub first : SettledIn r pl limit.start x
-  pub second : SettledIn r pl limit.start y
-  pub outside : EachChoice (SettledIn r pl limit.start) cs
+-- or at one of two, of which the second waits
+pub record FaresBoth (r : Run) (pl : Counted r) (limit : Limit) (x y : Spot) (cs : List Choice) : Type 0 where
+  pub first : HereIn r pl limit.start cs x
+  pub second : HereIn r pl limit.start cs y
   pub fares : Fares r pl limit (potential_of r.words r.subject.end x + potential_of r.words r.subject.end y + 2) cs
 
 -- what the place behind the innermost region needs, and a turn to come there
 abbrev pub behind_share : List ℕ → ℕ → List Choice → ℕ
 behind_share ws n [] = n
-behind_share ws n (Else pt fs c m ∷ cs) = n
+behind_share ws n (Else pt fs c m ∷ cs) = behind_share ws n cs
 behind_share ws n (Keep g fs c m ∷ cs) = 2 * (length ws - tail_of g) + 3 + 1
-behind_share ws n (Trying i fs c m ∷ cs) = n
+behind_share ws n (Trying i fs c m ∷ cs) = behind_share ws n cs
 
 -- the innermost region ends at a position
 abbrev pub EndsIn : Run → List Choice → ℕ → Type 0
 EndsIn r [] p = ⊤
-EndsIn r (Else pt fs c m ∷ cs) p = ⊤
+EndsIn r (Else pt fs c m ∷ cs) p = EndsIn r cs p
 EndsIn r (Keep g fs c m ∷ cs) p = (goes_behind g ≡ true → c.position ≤ p) × (p ≤ r.subject.end)
-EndsIn r (Trying i fs c m ∷ cs) p = ⊤
+EndsIn r (Trying i fs c m ∷ cs) p = EndsIn r cs p
 
 -- what is left where the machine goes back, and where the innermost region, or the whole, ends
-abbrev pub FaresBack : (r : Run) → Unforked r → Limit → List Choice → Type 0
+abbrev pub FaresBack : (r : Run) → Counted r → Limit → List Choice → Type 0
 FaresBack r pl limit cs = Fares r pl limit (behind_share r.words 0 cs) cs
 
-pub record FaresEnd (r : Run) (pl : Unforked r) (limit : Limit) (p : ℕ) (cs : List Choice) : Type 0 where
+pub record FaresEnd (r : Run) (pl : Counted r) (limit : Limit) (p : ℕ) (cs : List Choice) : Type 0 where
   pub at : EndsIn r cs p
   pub fares : Fares r pl limit (behind_share r.words 2 cs) cs
 

@@ -26,10 +26,9 @@ use Rattle.sre_turns.specs.declared.Point.{Point}
 use Rattle.sre_turns.specs.Moves.{Spot, spot_at, closing_move}
 pub use Rattle.sre_turns.specs.Turning.{InRole, MovesAt, Moves, Runs, turns, Comes, stops, ends, goes, splits, enters}
 use Rattle.sre_turns.specs.Potential.{potential_of}
-use Rattle.sre_turns.specs.Settled.{Unforked, SettledIn}
-use Rattle.sre_turns.specs.Straight.{InBody}
-use Rattle.sre_turns.specs.Limits.{Limit, earlier, Stage, Coming, Going, Splitting, spare, share, CodeAt}
-use Rattle.sre_turns.specs.Limits.{FaresAt, FaresBoth, FaresBack, FaresEnd}
+use Rattle.sre_turns.specs.Settled.{Counted}
+use Rattle.sre_turns.specs.Limits.{Limit, earlier, without_open, Stage, Coming, Going, Splitting, spare, share, CodeAt}
+use Rattle.sre_turns.specs.Limits.{HereIn, FaresAt, FaresBoth, FaresBack, FaresEnd}
 use Rattle.sre_turns.specs.declared.Next.{Next}
 use Rattle.sre_turns.specs.declared.Next.TheVariants as next
 
@@ -77,7 +76,7 @@ pub record GoesWith (stage : Stage) (r : Run) (all : List Way) (limit : Limit) (
   pub runs : Runs r.words r.subject (spot pt c b) now turns
   pub waits : Waits r b.choices (turns + spare stage) now all later
   pub within : turns + later ≤ limit.turns
-  pub fares : (pl : Unforked r) (o : SreOpcode) → CodeAt r.words pt o
+  pub fares : (pl : Counted r) (o : SreOpcode) → CodeAt r.words pt o
       → FaresAt r pl limit (share stage r.words r.subject.end o (spot pt c b)) (spot pt c b) b.choices
   pub confined : MarklessRegions r.words → StandsConfined r.words (spot pt c b) b.choices
 
@@ -108,7 +107,7 @@ pub record GoesBoth (r : Run) (all : List Way) (limit : Limit) (first second : S
   pub others : Runs r.words r.subject second next further
   pub waits : Waits r cs (turns + further + 2) (now ++ next) all later
   pub within : turns + further + later + 2 ≤ limit.turns
-  pub fares : (pl : Unforked r) → FaresBoth r pl limit first second cs
+  pub fares : (pl : Counted r) → FaresBoth r pl limit first second cs
   pub confined : MarklessRegions r.words → BothConfined r.words first second cs
 
 -- the innermost region has no more outcomes
@@ -116,7 +115,7 @@ pub record Backs (r : Run) (all : List Way) (limit : Limit) (b : BoardValue) : T
   pub later : ℕ
   pub waits : Waits r b.choices 0 [] all later
   pub within : later ≤ limit.turns
-  pub fares : (pl : Unforked r) → FaresBack r pl limit b.choices
+  pub fares : (pl : Counted r) → FaresBack r pl limit b.choices
   pub confined : MarklessRegions r.words → ChoicesConfined r.words b.choices
 
 -- the innermost region ends at a cursor
@@ -126,7 +125,7 @@ pub record Ends (r : Run) (all : List Way) (limit : Limit) (c : StringCursor) (b
   pub placed : Placed r.subject b.marks
   pub waits : Waits r b.choices 0 (here c.position b.marks) all later
   pub within : later + 1 ≤ limit.turns
-  pub fares : (pl : Unforked r) → FaresEnd r pl limit c.position b.choices
+  pub fares : (pl : Counted r) → FaresEnd r pl limit c.position b.choices
   pub confined : MarklessRegions r.words → ChoicesConfined r.words b.choices
 
 abbrev pub Stands : Run → List Way → Limit → Next → BoardValue → Type 0
@@ -155,9 +154,10 @@ Chooses r first second c old n new =
     (all : List Way) (limit : Limit) → GoesBoth r all limit (spot first c old) (spot second c old) c old.choices
     → Later r all limit n new
 
--- the same where a region ends
+-- the same where a region ends, inside of which nothing is tried any more
 abbrev pub Closes : Run → StringCursor → BoardValue → Next → BoardValue → Type 0
-Closes r c old n new = (all : List Way) (limit : Limit) → Ends r all limit c old → Later r all limit n new
+Closes r c old n new =
+    (all : List Way) (limit : Limit) → Ends r all limit c old → Later r all (without_open old.choices limit) n new
 
 -- what comes of a region that was entered at d, where its body has an outcome at c
 abbrev pub after_outcome : Region → StringCursor → StringCursor → Next
@@ -258,21 +258,16 @@ pub record Excludes (ws : List ℕ) (i : ℕ) (wanted : Option ℕ) : Type 0 whe
   pub known : wanted ≡ Some character
   pub each : (table : Table) (j : ℕ) (t : Test) → TestStands ws i j t → holds table t character ≡ false
 
--- what comes of one point and cursor comes of another, in no more turns, and with no more potential; and where the one
--- lies in the body of a region, the other does
+-- what comes of one point and cursor comes of another, in no more turns, and with no more potential; and where the
+-- machine may stand at the one, it may at the other
 pub record Continues (r : Run) (pt : Point) (c : StringCursor) (pt' : Point) (c' : StringCursor) : Type 0 where
   pub stands : r.stands c' c'.position
   pub runs : (fs : List Frame) (m : Marks) (os : List Way) (n : ℕ)
       → Runs r.words r.subject (spot_at pt fs c.position m) os n
       → (k : ℕ) × (k ≤ n) × Runs r.words r.subject (spot_at pt' fs c'.position m) os k
-  pub fares : (pl : Unforked r) (start : ℕ) (fs : List Frame) (m : Marks)
-      → SettledIn r pl start (spot_at pt fs c.position m)
-      → SettledIn r pl start (spot_at pt' fs c'.position m)
-      × (potential_of r.words r.subject.end (spot_at pt' fs c'.position m)
-      ≤ potential_of r.words r.subject.end (spot_at pt fs c.position m))
-  pub bodies : (g : Region) (entered : ℕ) (fs : List Frame) (m : Marks)
-      → InBody r g entered (spot_at pt fs c.position m)
-      → InBody r g entered (spot_at pt' fs c'.position m)
+  pub fares : (pl : Counted r) (start : ℕ) (cs : List Choice) (fs : List Frame) (m : Marks)
+      → HereIn r pl start cs (spot_at pt fs c.position m)
+      → HereIn r pl start cs (spot_at pt' fs c'.position m)
       × (potential_of r.words r.subject.end (spot_at pt' fs c'.position m)
       ≤ potential_of r.words r.subject.end (spot_at pt fs c.position m))
   pub confines : (fs : List Frame) → IsConfined r.words pt (repeats fs) → IsConfined r.words pt' (repeats fs)

@@ -31,12 +31,12 @@ most_ends ws e i = cond (nat_eq (word ws (i + 3)) unlimited) e (min (word ws (i 
 abbrev pub more_ends : List ℕ → ℕ → ℕ → ℕ → ℕ → ℕ
 more_ends ws e i n p = cond (nat_eq (word ws (i + 3)) unlimited) (e - p) (min (word ws (i + 3)) e - n)
 
--- the potential of a point and a position
+-- the potential of a point and a position. It is enough for what is behind a region, too, where the point is in its body
 abbrev pub potential : List ℕ → ℕ → Point → ℕ → ℕ
 potential ws e (Instruction i) p = 2 * (length ws - i) + 3
-potential ws e (Alternatives q) p = alternatives ws q * path ws + 2
-potential ws e (Shorter t k) p = k * path ws + 2
-potential ws e (Longer i n) p = more_ends ws e i n p * path ws + 2
+potential ws e (Alternatives q) p = alternatives ws q * path ws + path ws
+potential ws e (Shorter t k) p = k * path ws + path ws
+potential ws e (Longer i n) p = more_ends ws e i n p * path ws + path ws
 potential ws e (Inside g) p = 0
 potential ws e Again p = 0
 potential ws e (Tried i) p = 0

@@ -1,5 +1,5 @@
--- Where the machine stands outside of regions, in a search over words whose regions do not fork: in the words of their
--- tree, in the window from a start on, and behind where the last bodies of its loops began.
+-- Where the machine stands in a search over words whose turns are counted: in the words of their tree, in the window
+-- from a start on, and behind where the last bodies of its loops began.
 -- Of the law that a search takes few turns. What sre_engine makes public does not rest on
 -- it.
 use Rattle.std.specs.Prelude.{ℕ, ◌≤◌, ◌≡◌, false, List}
@@ -7,7 +7,7 @@ use Rattle.sre_model.specs.Tree.{Tree}
 use Rattle.sre_model.specs.Subject.{Subject}
 use Rattle.sre_model.specs.Grammar.{WholeItems}
 use Rattle.sre_model.specs.References.{refers}
-use Rattle.sre_model.specs.Regions.{has_forked_region}
+use Rattle.sre_model.specs.Regions.{has_uncounted_region}
 use Rattle.sre_model.specs.Runs.{Run}
 use Rattle.sre_turns.specs.Moves.{Spot}
 use Rattle.sre_turns.specs.Alike.{least_from}
@@ -19,12 +19,12 @@ pub record Settled (ws : List ℕ) (s : Subject) (t : Tree) (w : WholeItems ws t
   pub inside : InWindow s x
   pub from : start ≤ least_from x.point x.position
 
--- a run over the words of a tree without references, whose regions do not fork
-pub record Unforked (r : Run) : Type 0 where
+-- a run over the words of a tree without references, possessive loops, and looks behind whose body forks
+pub record Counted (r : Run) : Type 0 where
   pub tree : Tree
   pub whole : WholeItems r.words tree
-  pub unforked : has_forked_region tree ≡ false
+  pub counted : has_uncounted_region tree ≡ false
   pub no_reference : refers tree ≡ false
 
-abbrev pub SettledIn : (r : Run) → Unforked r → ℕ → Spot → Type 0
+abbrev pub SettledIn : (r : Run) → Counted r → ℕ → Spot → Type 0
 SettledIn r pl start x = Settled r.words r.subject pl.tree pl.whole start x

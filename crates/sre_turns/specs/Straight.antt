@@ -1,17 +1,20 @@
--- Bodies of regions that do not fork, where the machine has one way to go on at most, and where it stands in one.
+-- Bodies of regions, where the machine stands in one, and where it has one way to go on at most.
 -- Words of the machine's contracts; what sre_engine makes public does not rest on it.
-use Rattle.std.specs.Prelude.{ℕ, ◌+◌, ◌≡◌, ◌≤◌, Bool, true, false, List, []}
+use Rattle.std.specs.Prelude.{ℕ, ◌+◌, ◌≡◌, ◌≤◌, ◌⊎◌, Bool, true, false, List, []}
 use Rattle.sre_chars.specs.declared.constants.SreOpcode.{SreOpcode}
 use Rattle.sre_chars.specs.declared.constants.SreOpcode.TheVariants as opcode
 use Rattle.sre_model.specs.Tree.{Tree}
 use Rattle.sre_model.specs.Grammar.{Opcode, Reads}
-use Rattle.sre_model.specs.Regions.{forks}
+use Rattle.sre_model.specs.Regions.{forks, has_forked_region, has_uncounted_region}
 use Rattle.sre_model.specs.Roles.{Role, ToBranch, ToRun, ToRepeat, ToLoop, ToRepeatPossessively, role}
 use Rattle.sre_model.specs.Runs.{Run}
 use Rattle.sre_turns.specs.declared.Region.TheVariants.{AtomicGroup, Ahead, NotAhead, Owed, Further}
 use Rattle.sre_turns.specs.declared.Region.{Region}
+use Rattle.sre_turns.specs.Alike.{least_from}
 use Rattle.sre_turns.specs.Lying.{repeats, LiesIn}
 use Rattle.sre_turns.specs.Moves.{Spot}
+use Rattle.sre_turns.specs.Nested.{Lies, Passed, InWindow}
+use Rattle.sre_turns.specs.Settled.{Counted}
 
 -- whether the machine may have more than one way to go on at an instruction of this role, or go on more than once
 abbrev pub forking : Role → Bool
@@ -52,19 +55,27 @@ goes_behind (NotAhead t) = false
 goes_behind Owed = true
 goes_behind (Further t) = true
 
--- the body of a region that does not fork: its words, the SUCCESS behind them, and where one goes on behind that
-pub record StraightBody (ws : List ℕ) (t : ℕ) : Type 0 where
+-- the body of a region of some kind: its words, the SUCCESS behind them, and where one goes on behind that
+pub record BodyOf (ws : List ℕ) (P : Tree → Type 0) (t : ℕ) : Type 0 where
   pub start : ℕ
   pub end : ℕ
   pub tree : Tree
   pub reads : Reads ws start end tree
   pub ends : Opcode ws end opcode.SUCCESS
-  pub straight : forks tree ≡ false
+  pub is : P tree
   pub behind : t ≡ end + 1
 
--- a spot stands in such a body of a region that was entered at a position
-pub record InBody (r : Run) (g : Region) (entered : ℕ) (x : Spot) : Type 0 where
-  pub body : StraightBody r.words (tail_of g)
-  pub lies : LiesIn r.words body.start body.end body.tree body.reads [] x.point (repeats x.frames)
-  pub inside : x.position ≤ r.subject.end
-  pub from : goes_behind g ≡ true → entered ≤ x.position
+-- the turns of a body are counted, and where it forks a region of the whole does
+abbrev pub IsBodyIn : Tree → Tree → Type 0
+IsBodyIn whole body = (has_uncounted_region body ≡ false) × (forks body ≡ true → has_forked_region whole ≡ true)
+
+-- a spot stands in the body of a region that was entered at a position. Where the body forks it is no further back than
+-- the start, as in no look behind
+pub record InBody (r : Run) (pl : Counted r) (start : ℕ) (g : Region) (entered : ℕ) (x : Spot) : Type 0 where
+  pub body : BodyOf r.words (IsBodyIn pl.tree) (tail_of g)
+  pub here : LiesIn r.words body.start body.end body.tree body.reads [] x.point (repeats x.frames)
+  pub lies : Lies r.words pl.tree pl.whole x
+  pub passed : Passed x
+  pub inside : InWindow r.subject x
+  pub from : (forks body.tree ≡ false) ⊎ (start ≤ least_from x.point x.position)
+  pub behind : goes_behind g ≡ true → entered ≤ least_from x.point x.position

@@ -8,22 +8,20 @@ use Rattle.sre_model.specs.Runs.{Run}
 use Rattle.sre_model.specs.Ways.{Way, may_repeat, unlimited}
 use Rattle.sre_turns.specs.Bodies.{Confined}
 use Rattle.sre_turns.specs.Machine.{IsAt, with_loop, Refuses, Exhausted, Continues, IsRead}
-use Rattle.sre_turns.specs.Board.{BoardValue}
+use Rattle.sre_turns.specs.Board.{BoardValue, Choice}
 use Rattle.sre_turns.specs.Moves.{Spot, spot_at}
-use Rattle.sre_turns.specs.Settled.{Unforked, SettledIn}
-use Rattle.sre_turns.specs.Straight.{InBody}
-use Rattle.sre_turns.specs.declared.Region.{Region}
+use Rattle.sre_turns.specs.Settled.{Counted}
+use Rattle.sre_turns.specs.Limits.{HereIn}
 use Rattle.sre_turns.specs.Turning.{Runs}
 use Rattle.sre_turns.specs.declared.Frame.{Frame}
 use Rattle.sre_turns.specs.declared.Point.{Point}
 use Rattle.sre_turns.specs.declared.Point.TheVariants.{Instruction, Alternatives}
 
--- what comes of a spot comes of another one, in no more turns; and where the first stands in a search over words
--- whose regions do not fork, or lies in the body of a region, the other does
+-- what comes of a spot comes of another one, in no more turns; and where the machine may stand at the first, in a
+-- search over words whose turns are counted, it may at the other
 pub record Yields (r : Run) (x y : Spot) : Type 0 where
   pub runs : (os : List Way) (n : ℕ) → Runs r.words r.subject x os n → (k : ℕ) × (k ≤ n) × Runs r.words r.subject y os k
-  pub settles : (pl : Unforked r) (start : ℕ) → SettledIn r pl start x → SettledIn r pl start y
-  pub bodies : (g : Region) (entered : ℕ) → InBody r g entered x → InBody r g entered y
+  pub here : (pl : Counted r) (start : ℕ) (cs : List Choice) → HereIn r pl start cs x → HereIn r pl start cs y
   pub confines : Confined r.words x → Confined r.words y
 
 -- the same of a point and a cursor and of others, whatever the loops and the marks are

@@ -1,5 +1,5 @@
-//! What no clause says of the ends of bodies: that one which was kept is told again as long as no other took its place,
-//! that the table grows, and its memory.
+//! The ends of bodies: that each is told as long as none is forgotten, in whatever order their pages come; and what no
+//! clause says of them, that a refused growth can be tried again.
 
 use crate::growths::was_refused;
 use sre_board::Ends;
@@ -35,10 +35,33 @@ fn an_end_is_told_behind_its_keeping(rt: HostRuntime) {
         assert!(rt; ends.end(number).is_none(), "{number}");
         assert!(rt; tells(&mut ends, number), "{number}");
     }
-    // a table of 64 places tells no more
-    assert!(rt; count_told(&ends, 2000) > 64);
+    assert!(rt; count_told(&ends, 2000) == 2000);
     ends.forget();
     assert!(rt; count_told(&ends, 2000) == 0);
+}
+
+// Keeps the end of each number that is so many beyond one, up to a greatest, the greatest first: whether all are told.
+fn keeps_down<A: Allocator>(ends: &mut Ends<A>, first: usize, step: usize) -> bool {
+    for turn in 0..50usize {
+        let number = first.saturating_sub(turn.saturating_mul(step));
+        if !tells(ends, number) {
+            return false;
+        }
+    }
+    true
+}
+
+#[test]
+fn pages_come_in_any_order(rt: HostRuntime) {
+    let mut ends = Ends::new(rt.alloc());
+    for step in 1..200usize {
+        assert!(rt; keeps_down(&mut ends, 9999, step), "{step}");
+    }
+    // one that was kept, one before all pages, and one behind them
+    assert!(rt; ends.end(9998).is_some());
+    assert!(rt; ends.end(0).is_none());
+    assert!(rt; ends.end(10_000).is_none());
+    assert!(rt; count_told(&ends, 10_000) > 2000);
 }
 
 // How many of two numbers have their end told behind the keeping of both, the second twice.
@@ -80,7 +103,7 @@ fn keeps_all(heap: &Refusing<Global>, ends: &mut Ends<&Refusing<Global>>) -> boo
 fn are_kept(alloc: Global, refused: u64) -> (bool, bool) {
     let heap = Refusing::new(alloc, refused);
     let mut ends: Ends<&Refusing<Global>> = Ends::new(&heap);
-    let are_kept = keeps_all(&heap, &mut ends);
+    let are_kept = keeps_all(&heap, &mut ends) && count_told(&ends, 100) == 100;
     (are_kept, heap.left() == 0)
 }
 

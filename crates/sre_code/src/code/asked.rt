@@ -7,7 +7,7 @@ ghost use Rattle.sre_model.specs.Grammar.{WholeItems};
 ghost use Rattle.sre_model.specs.References.{asked_from, asked_to, no_group};
 ghost use Rattle.sre_code.specs.Instructions.{AskingAt};
 
-use crate::code::run_counts::next;
+use crate::code::run_counts::next_place;
 use crate::code::words;
 use crate::operands::word_or_zero;
 use sre_chars::constants::SreOpcode;
@@ -27,7 +27,7 @@ pub struct AskedGroups {
 fn next_asking(words: &[u32], place: usize) -> Option<(usize, Option<u32>)>
     ensures { AskingAt words.now place result }
 {
-    if let Some((behind, _)) = next(words, place) {
+    if let Some(behind) = next_place(words, place) {
         return Some((behind, None));
     }
     let Ok(code) = words::opcode(words, place) else {

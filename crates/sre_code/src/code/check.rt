@@ -13,7 +13,7 @@ use crate::code::{Code, CodeError, block, claims, run_counts};
 use sre_chars::string::LentTable;
 use std::alloc::Allocator;
 
-/// What [`Code::check`] says, with the stack in memory that `alloc` gives: for tests that refuse it.
+/// What [`Code::check`] says, with the stack in memory that `alloc` gives: so a test can refuse it.
 #[tactic(auto, using(crate::proofs::ReadFronts::front_laws))]
 pub fn check_in<'a, A: Allocator + Copy>(
     alloc: A,

@@ -14,9 +14,10 @@ ghost use Rattle.sre_model.specs.Grammar.{Opcode, WholeItems};
 ghost use Rattle.sre_model.specs.MarksSet.{marks_in_regions};
 ghost use Rattle.sre_model.specs.References.{refers};
 ghost use Rattle.sre_code.specs.RegionWords.{closing_place, RegionWord};
-ghost use Rattle.sre_code.specs.UnmarkedRegions.{body_offset, UnmarkedAt, MarkedOrRefers};
+ghost use Rattle.sre_code.specs.UnmarkedRegions.{UnmarkedAt, MarkedOrRefers};
 
-use crate::code::run_counts::next;
+use crate::code::region::body_offset;
+use crate::code::run_counts::next_place;
 use crate::code::sought::{Sought, has_or_refers};
 use crate::code::words;
 use crate::operands::word_or_zero;
@@ -81,18 +82,6 @@ fn may_set_marks(items: &[u32]) -> bool
     false
 }
 
-/// How far behind the opcode of a region its body begins.
-fn body_offset(code: SreOpcode) -> usize
-    ensures { result ≡ body_offset (role code) }
-{
-    match code {
-        SreOpcode::POSSESSIVE_REPEAT => 4,
-        SreOpcode::ATOMIC_GROUP => 2,
-        SreOpcode::ASSERT | SreOpcode::ASSERT_NOT => 3,
-        _ => 0,
-    }
-}
-
 /// Where the instruction behind the one at this place stands, or what is behind the region that begins here; none where
 /// that sets a mark or refers, or where a reference or a condition is here.
 fn next_unmarked(words: &[u32], place: usize) -> Option<usize>
@@ -104,10 +93,7 @@ fn next_unmarked(words: &[u32], place: usize) -> Option<usize>
     };
     let tail = place + 1 + word_or_zero(words, place + 1) as usize;
     let Some(end) = closing_place(code, tail) else {
-        return match next(words, place) {
-            Some((behind, _)) => Some(behind),
-            None => None,
-        };
+        return next_place(words, place);
     };
     if has_or_refers(words, place + body_offset(code), end, Sought::Mark) {
         return None;

@@ -2,13 +2,28 @@
 //! ASSERT_NOT alike; the skip leads behind the SUCCESS. `<POSSESSIVE_REPEAT> <skip> <least count> <greatest count>
 //! <items> <SUCCESS>`; its skip leads to the SUCCESS.
 
+ghost use Rattle.std.specs.Prelude.{◌≡◌};
 ghost use Rattle.sre_model.specs.Grammar.{Opcode};
+ghost use Rattle.sre_model.specs.Roles.{role};
+ghost use Rattle.sre_code.specs.RegionWords.{body_offset};
 ghost use Rattle.sre_code.specs.Steps.{Gives, ItemAt, LookAt, Closing};
 
 use crate::code::error::CodeError;
 use crate::code::step::{Part, Step};
 use crate::code::words;
 use sre_chars::constants::SreOpcode;
+
+/// How far behind the opcode of a region its body begins; 0 where the opcode is no region's.
+pub fn body_offset(code: SreOpcode) -> usize
+    ensures { result ≡ body_offset (role code) }
+{
+    match code {
+        SreOpcode::POSSESSIVE_REPEAT => 4,
+        SreOpcode::ATOMIC_GROUP => 2,
+        SreOpcode::ASSERT | SreOpcode::ASSERT_NOT => 3,
+        _ => 0,
+    }
+}
 
 /// The item, which opens its body.
 #[tactic(auto, using(crate::proofs::ReadRegions::atomic_group_laws))]

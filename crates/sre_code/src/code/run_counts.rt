@@ -11,7 +11,7 @@ ghost use Rattle.sre_model.specs.References.{refers};
 ghost use Rattle.sre_model.specs.RunCounts.{most_counts};
 ghost use Rattle.sre_model.specs.Roles.{role};
 ghost use Rattle.sre_model.specs.Slots.{counted_to};
-ghost use Rattle.sre_code.specs.Instructions.{own_words, count_at, NextAt};
+ghost use Rattle.sre_code.specs.Instructions.{own_words, count_at, NextAt, NextPlaceAt};
 
 use crate::code::{character, words};
 use crate::operands::word_or_zero;
@@ -70,7 +70,7 @@ fn count_at(words: &[u32], place: usize, code: SreOpcode) -> u32
 
 /// Where the instruction behind the one at this place stands, and how far the run at this place counts, or the look
 /// goes back; none where a reference or a condition is there.
-pub fn next(words: &[u32], place: usize) -> Option<(usize, u32)>
+fn next(words: &[u32], place: usize) -> Option<(usize, u32)>
     ensures { NextAt words.now place result }
 {
     let Ok(code) = words::opcode(words, place) else {
@@ -82,6 +82,16 @@ pub fn next(words: &[u32], place: usize) -> Option<(usize, u32)>
             Ok(behind) => Some((behind, 0)),
             Err(_) => None,
         },
+    }
+}
+
+/// Where the instruction behind the one at this place stands; none where a reference or a condition is there.
+pub fn next_place(words: &[u32], place: usize) -> Option<usize>
+    ensures { NextPlaceAt words.now place result }
+{
+    match next(words, place) {
+        Some((behind, _)) => Some(behind),
+        None => None,
     }
 }
 

@@ -5,15 +5,19 @@
 //! are multiplied, each has at least two, and no more are counted than a number that is asked for: so there are few
 //! calls within each other.
 //!
-//! An atomic group or a look is passed whole where its body does not fork: then it has neither loops nor branches. One
-//! whose body does ends the scan, and so do a possessive loop, a reference and a condition.
+//! Where no region may fork, an atomic group or a look is passed whole if its body does not: then it has neither loops
+//! nor branches. Where regions may fork, the scan steps into the body of an atomic group or of a look ahead, and past
+//! the SUCCESS that ends it, so regions within each other take no calls within each other. A look behind is passed
+//! whole if its body does not fork. Any other region ends the scan, and so do a possessive loop, a reference and a
+//! condition.
 
 ghost use Rattle.std.specs.Prelude.{◌≡◌, ◌<◌, ◌≤◌, length, IfSome};
 ghost use Rattle.sre_model.specs.Roles.{role};
 ghost use Rattle.sre_model.specs.Slots.{loop_slots};
-ghost use Rattle.sre_code.specs.PlainItems.{kind_of, AreTold, AreCounted, LoopTold, RegionTold, OtherTold, ToldAt};
+ghost use Rattle.sre_code.specs.PlainItems.{kind_of, stops_at_forks, AreTold, AreCounted, LoopTold, RegionTold};
+ghost use Rattle.sre_code.specs.PlainItems.{OtherTold, ToldAt};
 
-use crate::code::run_counts::{counted_to, next};
+use crate::code::run_counts::{counted_to, next_place};
 use crate::code::sought::{Sought, has_or_refers};
 use crate::code::words;
 use crate::operands::word_or_zero;
@@ -26,6 +30,15 @@ pub struct Passed {
     pub behind: usize,
     pub slots: u64,
     pub alternatives: u64,
+}
+
+/// Which regions a scan goes past.
+#[derive(Clone, Copy)]
+pub enum Regions {
+    /// Atomic groups and looks whose body does not fork.
+    Straight,
+    /// Those whose turns are counted: all but possessive loops, and looks behind whose body forks.
+    Counted,
 }
 
 /// What an instruction begins.
@@ -84,8 +97,8 @@ fn other(words: &[u32], place: usize) -> Option<Passed>
     ensures forward { IfSome result (λ p. place < p.behind) }
     ensures one { IfSome result (λ p. p.slots ≡ 1) }
 {
-    match next(words, place) {
-        Some((behind, _)) => Some(Passed {
+    match next_place(words, place) {
+        Some(behind) => Some(Passed {
             behind,
             slots: 1,
             alternatives: 0,
@@ -94,14 +107,33 @@ fn other(words: &[u32], place: usize) -> Option<Passed>
     }
 }
 
-/// What is passed by the atomic group or the look at this place, whose body begins at `body`; none where the body forks
-/// or refers to groups.
-fn region(words: &[u32], place: usize, body: usize) -> Option<Passed>
+/// Whether a fork in the body of an atomic group or a look that goes back so many characters ends a scan past such
+/// regions.
+fn stops_at_forks(regions: Regions, back: u32) -> bool
+    ensures { result ≡ stops_at_forks regions back }
+{
+    match regions {
+        Regions::Straight => true,
+        Regions::Counted => back > 0,
+    }
+}
+
+/// What is passed by the atomic group or the look at this place, whose body begins at `body`: all of it where a fork in
+/// the body ends the scan, and none where the body forks then, or refers to groups; or else the words before the body.
+fn region(words: &[u32], place: usize, body: usize, stops: bool) -> Option<Passed>
     requires here { place < length words.now }
-    ensures told { RegionTold words.now place body result }
+    requires inside { place < body }
+    ensures told { RegionTold stops words.now place body result }
     ensures forward { IfSome result (λ p. place < p.behind) }
     ensures one { IfSome result (λ p. p.slots ≡ 1) }
 {
+    if !stops {
+        return Some(Passed {
+            behind: body,
+            slots: 1,
+            alternatives: 0,
+        });
+    }
     let end = place + word_or_zero(words, place + 1) as usize;
     if has_or_refers(words, body, end, Sought::Fork) {
         return None;
@@ -115,10 +147,10 @@ fn region(words: &[u32], place: usize, body: usize) -> Option<Passed>
 
 /// What is passed by the loop at this place, its body and what ends it; none where that is not plain.
 #[cycle(plain)]
-fn looped(words: &[u32], place: usize, most: u64) -> Option<Passed>
+fn looped(words: &[u32], place: usize, most: u64, regions: Regions) -> Option<Passed>
     requires here { place < length words.now }
     requires some { 1 ≤ most }
-    ensures told { LoopTold most words.now place result }
+    ensures told { LoopTold regions most words.now place result }
     ensures forward { IfSome result (λ p. place < p.behind) }
     ensures few { IfSome result (λ p. p.slots ≤ most) }
 {
@@ -131,7 +163,7 @@ fn looped(words: &[u32], place: usize, most: u64) -> Option<Passed>
     if left == 0 {
         return None;
     }
-    match scan(words, place + 4, end, left) {
+    match scan(words, place + 4, end, left, regions) {
         Some(body) => Some(Passed {
             behind: end + 1,
             slots: slots * body.slots,
@@ -141,13 +173,13 @@ fn looped(words: &[u32], place: usize, most: u64) -> Option<Passed>
     }
 }
 
-/// What is passed by the instruction at this place, which is a whole loop, atomic group or look where one begins here;
-/// none where a possessive loop, a reference or a condition does, a region whose body forks, or a loop that is not
-/// plain.
+/// What is passed by the instruction at this place, which is a whole loop where one begins here, and a whole atomic
+/// group or look where the scan does not step into its body; none where a possessive loop, a reference or a condition
+/// does, a region that the scan does not go past, or a loop that is not plain.
 #[cycle(plain)]
-fn part(words: &[u32], place: usize, most: u64) -> Option<Passed>
+fn part(words: &[u32], place: usize, most: u64, regions: Regions) -> Option<Passed>
     requires some { 1 ≤ most }
-    ensures told { ToldAt most words.now place result }
+    ensures told { ToldAt regions most words.now place result }
     ensures forward { IfSome result (λ p. place < p.behind) }
     ensures few { IfSome result (λ p. p.slots ≤ most) }
 {
@@ -155,32 +187,35 @@ fn part(words: &[u32], place: usize, most: u64) -> Option<Passed>
         return None;
     };
     match kind_of(code) {
-        Kind::Loop => looped(words, place, most),
+        Kind::Loop => looped(words, place, most, regions),
         Kind::Branch => Some(Passed {
             behind: place + 2,
             slots: 1,
             alternatives: alternatives(words, place + 1),
         }),
-        Kind::AtomicGroup => region(words, place, place + 2),
-        Kind::Look => region(words, place, place + 3),
+        Kind::AtomicGroup => region(words, place, place + 2, stops_at_forks(regions, 0)),
+        Kind::Look => {
+            let back = word_or_zero(words, place + 2);
+            region(words, place, place + 3, stops_at_forks(regions, back))
+        }
         Kind::PossessiveLoop => None,
         Kind::Other => other(words, place),
     }
 }
 
-/// The slots and the alternatives of the items from `start` up to `end`; none where a possessive loop, an atomic group
-/// or a look whose body forks, a reference or a condition is among them, or where they have more slots than `most`.
+/// The slots and the alternatives of the items from `start` up to `end`; none where a reference or a condition is among
+/// them, or a region that the scan does not go past, or where they have more slots than `most`.
 #[cycle(plain)]
-pub fn scan(words: &[u32], start: usize, end: usize, most: u64) -> Option<Passed>
+pub fn scan(words: &[u32], start: usize, end: usize, most: u64, regions: Regions) -> Option<Passed>
     requires some { 1 ≤ most }
-    ensures told { AreTold most words.now start end result }
+    ensures told { AreTold regions most words.now start end result }
     ensures few { IfSome result (λ p. p.slots ≤ most) }
 {
     let mut place = start;
     let mut slots = 1;
     let mut alternatives = 0;
     'part: while place < end {
-        let Some(next) = part(words, place, most) else {
+        let Some(next) = part(words, place, most, regions) else {
             return None;
         };
         place = next.behind;

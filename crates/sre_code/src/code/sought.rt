@@ -8,7 +8,7 @@ ghost use Rattle.std.specs.Prelude.{◌≡◌};
 ghost use Rattle.sre_model.specs.Roles.{role};
 ghost use Rattle.sre_code.specs.Sought.{is_fork, is_mark, is_sought, WithoutAt, HasOrRefers};
 
-use crate::code::run_counts::next;
+use crate::code::run_counts::next_place;
 use crate::code::words;
 use sre_chars::constants::SreOpcode;
 
@@ -64,10 +64,7 @@ fn next_without(words: &[u32], place: usize, sought: Sought) -> Option<usize>
     if is_sought(code, sought) {
         return None;
     }
-    match next(words, place) {
-        Some((behind, _)) => Some(behind),
-        None => None,
-    }
+    next_place(words, place)
 }
 
 /// Whether what is sought, a reference or a condition is among the items from `start` up to `end`, or in a body of

@@ -222,8 +222,8 @@ impl<A: Allocator + Copy> State<A> {
     /// eight of them, on the way back to the group or the look's start, too. So the code alone bounds the time of a
     /// turn, but for one in which room for failures is made, and a number of turns bounds that of a call.
     ///
-    /// By a code that has neither references nor regions, and whose loops count no further than the memory of failures
-    /// goes (`IsRemembered`), more turns than `enough_turns` are not used up, unless memory is refused.
+    /// By a code without references, whose regions are counted, and whose loops count no further than the memory of
+    /// failures goes (`IsRemembered`), more turns than `enough_turns` are not used up, unless memory is refused.
     ///
     /// ```
     /// // The words of `a`.

@@ -1,9 +1,11 @@
-use Rattle.std.proofs.Common.{◌-◌, length}
-use Rattle.sre_board.specs.Ends.{HoldsNoEnd}
+use Rattle.std.proofs.Common.{◌≡◌, ◌-◌, ◌≤◌, ℕ, length, slice_index_or}
 use Rattle.sre_board.proofs.ends.lengthen.Given as goal
 
 abbrev pub invariant-more : goal.invariant-more
-invariant-more g l = HoldsNoEnd l.table.items
+invariant-more g l = record {
+  same : (i : ℕ) → slice_index_or l.list.items i l.item ≡ slice_index_or l.fn.list.items i l.item;
+  still : length l.fn.list.items ≤ length l.list.items;
+}
 
 abbrev pub decreases-more : goal.decreases-more
-decreases-more g l = l.places - length l.table.items
+decreases-more g l = l.least - length l.list.items

@@ -2,7 +2,7 @@ use Rattle.std.proofs.Common.{ap, subst, sym, ◌∙◌, List, ℕ}
 use Rattle.sre_code.specs.Codes.{items_of}
 use Rattle.sre_model.specs.Marks.{no_marks}
 use Rattle.sre_turns.proofs.BodyEnds.{tried_end}
-use Rattle.sre_board.specs.Ends.{HoldsOpenMore}
+use Rattle.sre_board.specs.Ends.{HoldsOpenMore, HoldsOpenEnds}
 use Rattle.sre_board.proofs.EndsKept.{right_open}
 use Rattle.sre_request.specs.Runs.{run_of}
 use Rattle.sre_machine.proofs.Recalling.{recalls_ended}
@@ -18,8 +18,14 @@ returns-then-is_unmarked-clause-remembers g c =
     let keeps = sym c.keeps_ends.ensures ∙ c.if-keeps_ends.true in
     let more = subst (λ (ws : List ℕ). HoldsOpenMore m.kept ws c.args.board.now.choices c.args.cursor m.ends m'.ends)
     (c.items.ensures.same ∙ ap items_of c.pattern_codes.ensures) c.keep_ends.ensures.more in
-    recalls_ended r m m' c.keep_ends.ensures.same
+    recalls_ended r m m' c.keep_ends.ensures.failures c.keep_ends.ensures.marked c.keep_ends.ensures.keeps
     (right_open r m.kept c.args.board.now.choices m.ends m'.ends c.args.cursor more
     (tried_end r (c.requires.remembers.markless keeps) no_marks e.all e.limit c.args.cursor
     c.args.board.now (c.is_unmarked.ensures.unmarked c.if-is_unmarked.true) inside e.ends)
     e.ends.stands c.requires.remembers.ends) c.requires.remembers
+
+pub returns-then-is_unmarked-clause-held : goal.returns-then-is_unmarked-clause-held
+returns-then-is_unmarked-clause-held g c = λ here going.
+    subst (λ (ws : List ℕ).
+    HoldsOpenEnds c.args.memo.now.kept ws c.args.board.now.choices c.args.cursor c.keep_ends.new.self.ends)
+    (c.items.ensures.same ∙ ap items_of c.pattern_codes.ensures) (c.keep_ends.ensures.held going)

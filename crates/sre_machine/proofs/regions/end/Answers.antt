@@ -1,4 +1,4 @@
-use Rattle.std.proofs.Common.{sym, subst}
+use Rattle.std.proofs.Common.{[], ◌∷◌, true, false, sym, ap, subst}
 use Rattle.sre_turns.specs.Machine.{Closes}
 use Rattle.sre_request.specs.Runs.{run_of}
 use Rattle.sre_turns.proofs.StepsInRegions.{region_closes}
@@ -7,6 +7,9 @@ use Rattle.sre_machine.proofs.regions.end.Goals as goal
 pub returns : goal.returns
 returns g c =
     let r = run_of c.args.req.now in
-    subst (λ n. Closes r c.args.cursor c.args.board.now n c.cut.new.self) (sym c.after_outcome.ensures)
-    (region_closes r c.args.cursor c.in_ok-region.entered c.args.board.now c.cut.new.self c.in_ok-region.region
-    c.in_ok-region.ensures)
+    let inside = ap (λ cs. elim cs [ [] ↦ false | (d ∷ rest) ↦ true ]) c.in_ok-region.ensures.region in (
+      inside,
+      subst (λ n. Closes r c.args.cursor c.args.board.now n c.cut.new.self) (sym c.after_outcome.ensures)
+          (region_closes r c.args.cursor c.in_ok-region.entered c.args.board.now c.cut.new.self c.in_ok-region.region
+          c.in_ok-region.ensures),
+    )

@@ -85,7 +85,7 @@ returns-in-Open-clause-leaves g c =
     (subst (λ (ws : List ℕ). IsOpen m.kept ws inside (record x { position = c.position.result })) same
     c.in-Open.ensures) in
     goes_tried c.args.req.now c.args.place c.args.cursor b c.args.memo.now m p c.requires.forks all limit arrives
-    c.begin_trying-made.new.self c.begin_trying-made.result c.begin_trying-made.ensures.marked
+    c.requires.remembers c.requires.no_end c.begin_trying-made.new.self c.begin_trying-made.result c.begin_trying-made.ensures.marked
     c.begin_trying-made.ensures.left c.begin_trying-made.ensures.refused opened)
 
 pub returns-in-Open-clause-tries : goal.returns-in-Open-clause-tries
@@ -103,7 +103,7 @@ returns-in-Open-clause-tries g c = λ _ all limit arrives.
     (subst (λ (ws : List ℕ). IsOpen m.kept ws inside (record x { position = c.position.result })) same
     c.in-Open.ensures) in
     tries_tried c.args.req.now c.args.place c.args.cursor b c.args.memo.now m p c.requires.forks all limit arrives
-    c.begin_trying-made.new.self c.begin_trying-made.result c.begin_trying-made.ensures.marked
+    c.requires.remembers c.requires.no_end c.begin_trying-made.new.self c.begin_trying-made.result c.begin_trying-made.ensures.marked
     c.begin_trying-made.ensures.left c.begin_trying-made.ensures.refused opened
 
 pub returns-in-NoBit-clause-leaves : goal.returns-in-NoBit-clause-leaves

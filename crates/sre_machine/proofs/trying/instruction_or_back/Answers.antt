@@ -8,7 +8,7 @@ instruction-requires g c =
 pub returns-in-Some-clause-turn : goal.returns-in-Some-clause-turn
 returns-in-Some-clause-turn g c =
     turn_ended c.args.req.now c.args.place c.args.cursor c.in-Some.end c.args.board.now c.args.memo.now
-    c.in-Some.ensures
+    c.in-Some.ensures.told
 
 pub returns-then-is_hopeless-clause-turn : goal.returns-then-is_hopeless-clause-turn
 returns-then-is_hopeless-clause-turn g c =

@@ -1,3 +1,4 @@
+use Rattle.std.proofs.Common.{rules}
 use Rattle.sre_machine.proofs.Failing.{stays_on}
 use Rattle.sre_machine.proofs.Opening.{goes_freely, goes_forgetting, branches_not}
 use Rattle.sre_machine.proofs.trying.is_hopeless.Goals as goal
@@ -25,3 +26,7 @@ returns-else-not-may_branch-clause-tries g c = λ told _ _. c.has_failed.ensures
 
 pub returns-in-Marked-clause-tries : goal.returns-in-Marked-clause-tries
 returns-in-Marked-clause-tries g c = λ told _ _. c.has_failed_marked.ensures.tries told
+
+pub has_failed-requires-clause-no_end : goal.has_failed-requires-clause-no_end
+has_failed-requires-clause-no_end g c =
+    c.requires.no_end c.in-Unmarked.is (c.may_branch.ensures.tolls (search rules))

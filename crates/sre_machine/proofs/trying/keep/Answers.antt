@@ -19,13 +19,12 @@ returns-then-is_unmarked-clause-remembers g c =
     c.requires.remembers
 
 pub returns-then-is_unmarked-clause-account : goal.returns-then-is_unmarked-clause-account
-returns-then-is_unmarked-clause-account g c = λ outside pl xs n a.
+returns-then-is_unmarked-clause-account g c =
     holds_tried c.args.req.now c.args.place c.position.result c.args.cursor.position c.args.board.now
     c.args.memo.now.kept c.keep.new.self.kept c.items-words.result.now
-    (c.items-words.ensures.same ∙ ap items_of c.pattern_codes.ensures) c.position.ensures c.keep.ensures.kept outside pl
-    xs n a
+    (c.items-words.ensures.same ∙ ap items_of c.pattern_codes.ensures) c.position.ensures c.keep.ensures.kept
 
 pub returns-else-is_unmarked-clause-account : goal.returns-else-is_unmarked-clause-account
-returns-else-is_unmarked-clause-account g c = λ outside pl.
+returns-else-is_unmarked-clause-account g c = λ pl.
     absurd (no_reference (run_of c.args.req.now).words pl.plain.tree pl.plain.whole pl.plain.no_reference
     (c.is_unmarked.ensures.marked c.if-is_unmarked.false))

@@ -11,7 +11,9 @@ use Rattle.sre_machine.proofs.Taken.{stands_at, proceeds_taken, later_taken, aga
 use Rattle.sre_machine.specs.Paying.{Pays}
 use Rattle.sre_machine.proofs.Paying.{pays_nothing}
 use Rattle.sre_machine.proofs.Following.{follows_on, given_up, settles, nothing_granted, stands_there}
-use Rattle.sre_machine.proofs.Following.{counts_on, waited_on, same_memo, kept_memo, ended_memo, ends_kept_then}
+use Rattle.sre_machine.proofs.Following.{counts_on, waited_on, same_memo, kept_memo}
+use Rattle.sre_machine.proofs.Ending.{kept_then, ended_then}
+use Rattle.sre_machine.specs.Turns.{KeepsBodyEnd}
 use Rattle.sre_turns.proofs.Faring.{again_free}
 use Rattle.sre_turns.proofs.Moving.{arrived}
 use Rattle.sre_machine.proofs.turns.remembering_turns.Goals as goal
@@ -47,7 +49,7 @@ turn-init g c =
       stands = c.requires.stands;
       follows = record {
         each = λ limit x.
-            (limit, x, refl, refl, refl, pays_nothing r m m limit limit refl (λ h. h) refl refl);
+            (limit, x, refl, refl, refl, pays_nothing r m m limit limit refl (refl, refl) (λ h. h) refl refl);
       };
       within = c.requires.within;
       limited = refl;
@@ -68,15 +70,21 @@ turn-preserved g c =
     (λ l x. refused_over r _ l c.position.result c.turn.next c.in-Done.cursor c.turns_due-turns.new.board
     c.end.new.board _
     c.in-Done.is c.position.ensures c.is_accepted.ensures c.in-None-end.ensures x c.if-is_accepted.false) stands in
+    let keeps : KeepsBodyEnd c.args.req.now c.in-Done.cursor c.turns_due-turns.new.board c.waits_on.new.memo
+    c.keep_ends.new.memo = record {
+      same = c.keep_ends.ensures.same;
+      kept = c.keep_ends.ensures.kept;
+      held = c.keep_ends.ensures.held;
+      refused = c.keep_ends.ensures.refused;
+    } in
     record {
       follows =
           follows_on c.args.req.now g.K.Plan.all c.args.first c.args.board.now c.args.memo.now c.args.turned.now
           c.turn.next
           next.Back c.turn.board c.end.new.board c.turn.memo c.waits_on.new.memo c.keep_ends.new.memo
           c.turn.turned c.tick.new.self c.tick.ensures c.waits_on.ensures.same
-          (λ l x. ends_kept_then c.args.req.now g.K.Plan.all c.args.first c.args.board.now c.args.memo.now
-          c.args.turned.now next.Back c.end.new.board c.waits_on.new.memo c.keep_ends.new.memo l
-          c.keep_ends.ensures.same
+          (λ l x. kept_then c.args.req.now c.in-Done.cursor c.turns_due-turns.new.board c.waits_on.new.memo
+          c.keep_ends.new.memo keeps g.K.Plan.all l next.Back c.end.new.board
           (refused_over r _ l c.position.result c.turn.next c.in-Done.cursor c.turns_due-turns.new.board
           c.end.new.board _
           c.in-Done.is c.position.ensures c.is_accepted.ensures c.in-None-end.ensures
@@ -91,15 +99,14 @@ turn-preserved g c =
           (left_of c.takes_turns.new.allowed)
           c.turns_due-turns.result c.turn.invariant.counts c.turns_due-turns.ensures.each c.takes_turns.ensures.spent
           c.keep_ends.new.memo c.tick.new.self c.tick.ensures
-          (λ h. inl (ap (λ (k : MemoValue). k.is_open) c.keep_ends.ensures.same
-          ∙ (ap (λ (k : MemoValue). k.is_open) c.waits_on.ensures.same ∙ h)));
+          (λ h. c.keep_ends.ensures.still (ap (λ (k : MemoValue). k.is_open) c.waits_on.ensures.same ∙ h));
       waited = λ w.
           waited_on c.args.memo.now c.turn.memo c.waits_on.new.memo c.keep_ends.new.memo (left_of c.args.allowed.now)
           (left_of c.turn.allowed) (left_of c.takes_turns.new.allowed) c.turns_due-turns.result
           (c.turn.invariant.waited w)
           c.waits_on.ensures.same
           (c.waits_on.ensures.waited c.if-not-waits_on.false w) c.takes_turns.ensures.spent
-          (λ h. ended_memo c.waits_on.new.memo c.keep_ends.new.memo c.keep_ends.ensures.same);
+          (λ h. same_memo c.waits_on.new.memo c.keep_ends.new.memo (c.keep_ends.ensures.closed h));
       limited = c.takes_turns.ensures.limited ∙ c.turn.invariant.limited;
       fewer = omega (arith, c.turn.invariant.fewer, c.takes_turns.ensures.fewer);
       spent = rw c.tick.ensures (turn_spent _ _ _ _ _ c.turn.invariant.spent
@@ -220,20 +227,27 @@ turn-preserved-in-Some-end g c =
     let stands : StandsWithin r g.K.Plan.all (g.K.Plan.limit - c.turn.turned) c.turn.next c.turns_due-turns.new.board =
     rw c.turns_due-turns.ensures.board c.turn.invariant.stands in
     let t = end_taken r g.K.Plan.all g.K.Plan.limit c.turn.turned c.tick.new.self c.turns_due-turns.new.board
-    c.end.new.board c.in-Some-end.after c.tick.ensures c.in-Done.cursor c.in-Some-end.ensures
+    c.end.new.board c.in-Some-end.after c.tick.ensures c.in-Done.cursor c.in-Some-end.ensures.1
     (stands_at r _ _ _ _ _ c.in-Done.is stands) in
+    let keeps : KeepsBodyEnd c.args.req.now c.in-Done.cursor c.turns_due-turns.new.board c.waits_on.new.memo
+    c.keep_ends.new.memo = record {
+      same = c.keep_ends.ensures.same;
+      kept = c.keep_ends.ensures.kept;
+      held = c.keep_ends.ensures.held;
+      refused = c.keep_ends.ensures.refused;
+    } in
     record {
       follows =
           follows_on c.args.req.now g.K.Plan.all c.args.first c.args.board.now c.args.memo.now c.args.turned.now
           c.turn.next
           c.in-Some-end.after c.turn.board c.end.new.board c.turn.memo c.waits_on.new.memo
           c.keep_ends.new.memo c.turn.turned c.tick.new.self c.tick.ensures c.waits_on.ensures.same
-          (λ l x. ends_kept_then c.args.req.now g.K.Plan.all c.args.first c.args.board.now c.args.memo.now
-          c.args.turned.now c.in-Some-end.after c.end.new.board c.waits_on.new.memo c.keep_ends.new.memo l
-          c.keep_ends.ensures.same
-          (c.in-Some-end.ensures g.K.Plan.all l
-          (stands_there r _ l c.turn.next (next.Done c.in-Done.cursor) c.turn.board c.turns_due-turns.new.board
-          c.in-Done.is c.turns_due-turns.ensures.board x))) c.turn.invariant.follows;
+          (λ l x.
+          let here = stands_there r _ l c.turn.next (next.Done c.in-Done.cursor) c.turn.board
+          c.turns_due-turns.new.board c.in-Done.is c.turns_due-turns.ensures.board x in
+          ended_then c.args.req.now c.in-Done.cursor c.turns_due-turns.new.board c.waits_on.new.memo
+          c.keep_ends.new.memo keeps c.in-Some-end.ensures.0 g.K.Plan.all l here c.in-Some-end.after c.end.new.board
+          (c.in-Some-end.ensures.1 g.K.Plan.all l here)) c.turn.invariant.follows;
       stands = t.1;
       within = omega (arith, c.tick.ensures, t.0);
       remembers = c.keep_ends.ensures.remembers;
@@ -243,15 +257,14 @@ turn-preserved-in-Some-end g c =
           (left_of c.takes_turns.new.allowed)
           c.turns_due-turns.result c.turn.invariant.counts c.turns_due-turns.ensures.each c.takes_turns.ensures.spent
           c.keep_ends.new.memo c.tick.new.self c.tick.ensures
-          (λ h. inl (ap (λ (k : MemoValue). k.is_open) c.keep_ends.ensures.same
-          ∙ (ap (λ (k : MemoValue). k.is_open) c.waits_on.ensures.same ∙ h)));
+          (λ h. c.keep_ends.ensures.still (ap (λ (k : MemoValue). k.is_open) c.waits_on.ensures.same ∙ h));
       waited = λ w.
           waited_on c.args.memo.now c.turn.memo c.waits_on.new.memo c.keep_ends.new.memo (left_of c.args.allowed.now)
           (left_of c.turn.allowed) (left_of c.takes_turns.new.allowed) c.turns_due-turns.result
           (c.turn.invariant.waited w)
           c.waits_on.ensures.same
           (c.waits_on.ensures.waited c.if-not-waits_on.false w) c.takes_turns.ensures.spent
-          (λ h. ended_memo c.waits_on.new.memo c.keep_ends.new.memo c.keep_ends.ensures.same);
+          (λ h. same_memo c.waits_on.new.memo c.keep_ends.new.memo (c.keep_ends.ensures.closed h));
       limited = c.takes_turns.ensures.limited ∙ c.turn.invariant.limited;
       fewer = omega (arith, c.turn.invariant.fewer, c.takes_turns.ensures.fewer);
       spent = rw c.tick.ensures (turn_spent _ _ _ _ _ c.turn.invariant.spent

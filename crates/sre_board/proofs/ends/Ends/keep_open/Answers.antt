@@ -1,12 +1,13 @@
 use Rattle.std.proofs.Common.{◌≡◌, Some, slice_get, slice_index_or, [], ap, ◌∙◌, arith}
 use Rattle.std.proofs.lemmas.Option.{slice_get_within}
 use Rattle.sre_turns.specs.Board.{choice, Trying}
-use Rattle.sre_board.proofs.OpenSpots.{gone_else, gone_tried, more_tried, passed_over}
-use Rattle.sre_board.proofs.ends.Ends.keep_open.Goals.{in-Tried+in_default-keep_spot, in_default-point}
+use Rattle.sre_board.proofs.OpenSpots.{gone_else, gone_tried, more_tried, kept_tried, gone_to_end, gone_to_region}
+use Rattle.sre_board.proofs.OpenSpots.{passed_over}
+use Rattle.sre_board.proofs.ends.Ends.keep_open.Goals.{in-Tried+in_ok-keep_spot-in-Tried, in_default-point}
 use Rattle.sre_board.proofs.ends.Ends.keep_open.Goals as goal
 
-pub returns-in-Err : goal.returns-in-Err
-returns-in-Err g c =
+pub returns-in_err-keep_spot-in-Tried-clause-more : goal.returns-in_err-keep_spot-in-Tried-clause-more
+returns-in_err-keep_spot-in-Tried-clause-more g c =
     let cs = c.args.board.now.choices in
     let s = c.in-Some.saved in
     let fs = slice_index_or c.in-Some.chains.now s.frame [] in
@@ -14,9 +15,32 @@ returns-in-Err g c =
     let m = w.1.0 in
     let e : slice_get cs c.choice.depth ≡ Some (Trying c.in-Tried.place fs s.cursor m) =
     w.1.1 ∙ ap (λ pt. Some (choice pt fs s.cursor m)) c.in-Tried.is in
-    more_tried cs c.choice.depth c.choice.invariant.gone c.in-Tried.place fs s.cursor m e c.args.failures.now
-    c.args.words.now c.args.end c.args.self.now c.choice.self c.keep_spot.new.self c.choice.invariant.more
-    (c.keep_spot.ensures m)
+    more_tried c.args.failures.now c.args.words.now c.args.end c.choice.self cs c.choice.depth
+    c.choice.invariant.gone c.in-Tried.place fs s.cursor m e c.args.self.now c.keep_spot.new.self
+    c.choice.invariant.more (c.keep_spot.ensures.more m)
+
+pub returns-in_err-keep_spot-in-Tried-clause-kept : goal.returns-in_err-keep_spot-in-Tried-clause-kept
+returns-in_err-keep_spot-in-Tried-clause-kept g c =
+    let cs = c.args.board.now.choices in
+    let s = c.in-Some.saved in
+    let fs = slice_index_or c.in-Some.chains.now s.frame [] in
+    let w = rw c.in-Some.is at c.saved.ensures.waits in
+    let m = w.1.0 in
+    let e : slice_get cs c.choice.depth ≡ Some (Trying c.in-Tried.place fs s.cursor m) =
+    w.1.1 ∙ ap (λ pt. Some (choice pt fs s.cursor m)) c.in-Tried.is in
+    kept_tried c.args.failures.now c.args.words.now c.args.end c.choice.self cs c.choice.depth
+    c.choice.invariant.gone c.in-Tried.place fs s.cursor m e c.args.self.now c.keep_spot.new.self
+    c.choice.invariant.kept (c.keep_spot.ensures.kept m)
+
+pub returns-in-Inside-clause-held : goal.returns-in-Inside-clause-held
+returns-in-Inside-clause-held g c =
+    let cs = c.args.board.now.choices in
+    let s = c.in-Some.saved in
+    let fs = slice_index_or c.in-Some.chains.now s.frame [] in
+    let w = rw c.in-Some.is at c.saved.ensures.waits in
+    gone_to_region c.args.failures.now c.args.words.now c.args.end c.choice.self cs c.choice.depth
+    c.choice.invariant.gone c.in-Inside.field-0 fs s.cursor w.1.0
+    (w.1.1 ∙ ap (λ pt. Some (choice pt fs s.cursor w.1.0)) c.in-Inside.is)
 
 pub choice-smaller : goal.choice-smaller
 choice-smaller g c =
@@ -26,26 +50,41 @@ choice-smaller g c =
 
 pub choice-preserved : goal.choice-preserved
 choice-preserved g c =
+    let k = c.args.failures.now in
+    let ws = c.args.words.now in
+    let d = c.args.end in
     let cs = c.args.board.now.choices in
+    let old = c.args.self.now in
+    let t = c.choice.self in
+    let gone = c.choice.invariant.gone in
     let s = c.in-Some.saved in
     let fs = slice_index_or c.in-Some.chains.now s.frame [] in
     let w = rw c.in-Some.is at c.saved.ensures.waits in
     let m = w.1.0 in
     elim c.match-saved-2.branch [
-      | in-Tried+in_default-keep_spot t ↦
-          let e : slice_get cs c.choice.depth ≡ Some (Trying t.in-Tried.place fs s.cursor m) =
-          w.1.1 ∙ ap (λ pt. Some (choice pt fs s.cursor m)) t.in-Tried.is in
+      | in-Tried+in_ok-keep_spot-in-Tried x ↦
+          let i = x.in-Tried.place in
+          let u = x.keep_spot.new.self in
+          let e : slice_get cs c.choice.depth ≡ Some (Trying i fs s.cursor m) =
+          w.1.1 ∙ ap (λ pt. Some (choice pt fs s.cursor m)) x.in-Tried.is in
           record {
-            gone = gone_tried cs c.choice.depth c.choice.invariant.gone t.in-Tried.place fs s.cursor m e;
-            more = rw t.self-is
-                (more_tried cs c.choice.depth c.choice.invariant.gone t.in-Tried.place fs s.cursor m e
-                c.args.failures.now c.args.words.now c.args.end c.args.self.now c.choice.self t.keep_spot.new.self
-                c.choice.invariant.more (t.keep_spot.ensures m));
+            gone = rw x.self-is (gone_tried k ws d t cs c.choice.depth gone i fs s.cursor m e u
+                (x.keep_spot.ensures.kept m) (x.in_ok-keep_spot-in-Tried.ensures.held m));
+            more = rw x.self-is (more_tried k ws d t cs c.choice.depth gone i fs s.cursor m e old u
+                c.choice.invariant.more (x.keep_spot.ensures.more m));
+            kept = rw x.self-is (kept_tried k ws d t cs c.choice.depth gone i fs s.cursor m e old u
+                c.choice.invariant.kept (x.keep_spot.ensures.kept m));
           }
-      | in_default-point t ↦
+      | in_default-point x ↦
           record {
-            gone = gone_else cs c.choice.depth c.choice.invariant.gone (choice s.point fs s.cursor m) w.1.1
-                (passed_over s.point fs s.cursor m _ t.in_default-point.not-Inside t.in_default-point.not-Tried);
-            more = rw t.self-is c.choice.invariant.more;
+            gone = rw x.self-is (gone_else k ws d t cs c.choice.depth gone (choice s.point fs s.cursor m) w.1.1
+                (passed_over s.point fs s.cursor m _ x.in_default-point.not-Inside x.in_default-point.not-Tried));
+            more = rw x.self-is c.choice.invariant.more;
+            kept = rw x.self-is c.choice.invariant.kept;
           }
     ]
+
+pub returns-clause-held : goal.returns-clause-held
+returns-clause-held g c =
+    gone_to_end c.args.failures.now c.args.words.now c.args.end c.choice.self c.args.board.now.choices c.choice.depth
+    c.choice.invariant.gone c.in_default.ensures.waits

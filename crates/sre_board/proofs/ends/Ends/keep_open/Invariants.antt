@@ -1,12 +1,13 @@
 use Rattle.std.proofs.Common.{◌-◌, length}
-use Rattle.sre_board.specs.Ends.{HoldsOpenMore}
+use Rattle.sre_board.specs.Ends.{HoldsOpenMore, KeepsOpenEnds}
 use Rattle.sre_board.proofs.OpenSpots.{GoneOver}
 use Rattle.sre_board.proofs.ends.Ends.keep_open.Given as goal
 
 abbrev pub invariant-choice : goal.invariant-choice
 invariant-choice g l = record {
-  gone : GoneOver l.board.choices l.depth;
+  gone : GoneOver l.failures l.words l.end l.self l.board.choices l.depth;
   more : HoldsOpenMore l.failures l.words l.board.choices l.end l.fn.self l.self;
+  kept : KeepsOpenEnds l.failures l.words l.board.choices l.end l.fn.self l.self;
 }
 
 abbrev pub decreases-choice : goal.decreases-choice

@@ -8,7 +8,7 @@ overflow_mul-result g c = let b = c.in_ok-bit.ensures no_marks in omega (arith, 
 pub overflow_add-result : goal.overflow_add-result
 overflow_add-result g c = let b = c.in_ok-bit.ensures no_marks in omega (arith, b.1, b.3)
 
-pub returns : goal.returns
-returns g c = λ m.
+pub returns-clause-number : goal.returns-clause-number
+returns-clause-number g c = λ m.
     let b = c.in_ok-bit.ensures m in
     record { at = c.in_ok-bit.bit.word; bit = c.in_ok-bit.bit.number; entry = b.2; below = b.1; number = refl }

@@ -7,7 +7,7 @@ pub returns : goal.returns
 returns c =
     let p = c.args.places in
     let f = c.args.positions in
-    let s = c.args.slots in
+    let s = c.args.spots in
     let w = c.args.ways in
     let k = c.args.counts / 8 + 1 in
     let ps : Held p p = held_same p (omega arith) in
@@ -25,9 +25,9 @@ returns c =
     let further = held_plus p 3 p 3 _ ps three c.saturating_add-further.ensures in
     let fourfold = held_times p 4 p 4 _ ps four c.saturating_mul-fourfold.ensures in
     let shapes = held_times (p * 4) (p + 3) _ _ _ fourfold further c.saturating_mul-shapes.ensures in
-    let spots = held_times (p * 4 * (p + 3)) s _ s _ shapes ss c.saturating_mul-spots.ensures in
+    let everywhere = held_times (p * 4 * (p + 3)) s _ s _ shapes ss c.saturating_mul-everywhere.ensures in
     let tried = held_plus w 1 w 1 _ ws one c.saturating_add-tried.ensures in
-    let tries = held_times (p * 4 * (p + 3) * s) (w + 1) _ _ _ spots tried c.saturating_mul-tries.ensures in
+    let tries = held_times (p * 4 * (p + 3) * s) (w + 1) _ _ _ everywhere tried c.saturating_mul-tries.ensures in
     let turns =
     held_plus (p * 2 + 4) (p * 4 * (p + 3) * s * (w + 1)) _ _ _ own tries c.saturating_add-turns.ensures in
     let long =

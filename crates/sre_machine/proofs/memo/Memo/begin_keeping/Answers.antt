@@ -1,4 +1,5 @@
-use Rattle.std.proofs.Common.{◌≡◌, Bool, true, false, not, subst, refl}
+use Rattle.std.proofs.Common.{◌≡◌, Bool, true, false, not, ap, ◌∙◌, subst, refl}
+use Rattle.sre_model.specs.References.{refers}
 use Rattle.sre_model.specs.MarksSet.{marks_in_regions}
 use Rattle.sre_model.specs.Tree.{Tree}
 use Rattle.sre_model.specs.Grammar.{Whole}
@@ -24,3 +25,12 @@ returns-clause-markless g c = λ keeps.
     turned : (b : Bool) → not b ≡ true → b ≡ false
     turned true never = absurd (cc)
     turned false e = refl
+
+pub returns-clause-ends : goal.returns-clause-ends
+returns-clause-ends g c = λ t w plain unmarked.
+    let code = code_of c.args.req.now in
+    let told : c.regions_set_marks.result ≡ marks_in_regions t =
+    subst (λ (d : Code). (u : Tree) → Whole (words_of d) u → refers u ≡ false
+    → c.regions_set_marks.result ≡ marks_in_regions u) c.pattern_codes.ensures c.regions_set_marks.ensures.told t
+    (whole_items code t w) plain in
+    ap not (told ∙ unmarked)

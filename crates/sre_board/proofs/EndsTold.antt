@@ -1,0 +1,102 @@
+-- Which ends a memory tells for spots after it has grown: those that it told before, and none outside of regions.
+-- The law that a search takes few turns (`enough` of sre_engine) rests on this.
+use Rattle.std.proofs.Common.{◌≡◌, ℕ, ◌+◌, ◌*◌, ◌/◌, Bool, true, false, List, [], ◌∷◌, Some}
+use Rattle.std.proofs.Common.{refl, sym, ap, ◌∙◌, subst, arith}
+use Rattle.sre_chars.specs.declared.string.StringCursor.{StringCursor}
+use Rattle.sre_model.specs.Runs.{Run}
+use Rattle.sre_turns.specs.Alike.{LoopsAlike, least_from}
+use Rattle.sre_turns.specs.Attempts.{Attempt}
+use Rattle.sre_turns.specs.Moves.{Spot}
+use Rattle.sre_turns.specs.declared.Frame.{Frame}
+use Rattle.sre_board.specs.Accounts.{BitOf}
+use Rattle.sre_board.specs.Ends.{EndsTable, HoldsEnd, NumberOf, EndsRight, TellsEnd}
+use Rattle.sre_board.specs.Failures.{Kept, Entry, HasSlot, BitsStay, RowsStay, Laid, radix, digit}
+use Rattle.sre_board.specs.declared.failures.Row.{Row}
+use Rattle.sre_board.proofs.EndsKept.{one_number, number_stays}
+use Rattle.sre_board.proofs.KeptSpots.{same_row}
+
+-- loops that have a slot of a shape had it before others followed, where loops that are alike had one
+slot_before : (ws : List ℕ) (p q least : ℕ) (old new : List ℕ) (j i a b : ℕ) (fs gs : List Frame) (s t : ℕ)
+    → HasSlot ws p new j i a fs s → HasSlot ws q old j i b gs t → LoopsAlike ws least fs gs
+    → HasSlot ws p old j i a fs s
+slot_before ws p q least old new j i a b [] [] s t h k alike = h
+slot_before ws p q least old new j i a b [] (g ∷ gs) s t h k alike = absurd alike
+slot_before ws p q least old new j i a b (f ∷ fs) [] s t h k alike = absurd alike
+slot_before ws p q least old new j i a b (f ∷ fs) (g ∷ gs) s t h k alike = (
+  k.0 ∙ ap (λ n. Some n) (sym alike.0.repeat),
+  h.1,
+  slot_before ws p q least old new j (i + 1) (a * radix ws f.repeat + digit ws p f)
+      (b * radix ws g.repeat + digit ws q g) fs gs s t h.2 k.2 alike.1,
+)
+
+-- a spot that shares its bit with one that had it before had it, too
+entry_before : (old new : Kept) (ws : List ℕ) (inside : Bool) (x y : Spot) (at bit least : ℕ) → RowsStay old new
+    → Laid new → Entry old ws inside y at bit → Entry new ws inside x at bit → LoopsAlike ws least x.frames y.frames
+    → Entry old ws inside x at bit
+entry_before old new ws inside x y at bit least stay laid was now alike =
+    let row : was.row ≡ now.row =
+    same_row new was.number now.number was.row now.row (was.index / 64) (now.index / 64) at laid
+    (stay.there was.number was.row was.there) now.there was.within now.within was.at_is now.at_is in
+    let shape = subst (λ (w : Row). HasSlot ws y.position old.shapes w.end w.shape 0 y.frames was.slot) row was.loops in
+    record {
+      number = was.number;
+      row = now.row;
+      slot = now.slot;
+      index = now.index;
+      there = was.there ∙ ap (λ (w : Row). Some w) row;
+      point = now.point;
+      read = now.read;
+      loops =
+          slot_before ws x.position y.position least old.shapes new.shapes now.row.end now.row.shape 0 0 x.frames
+          y.frames now.slot was.slot now.loops shape alike;
+      few = now.few;
+      from = now.from;
+      to = now.to;
+      index_is = now.index_is;
+      within = now.within;
+      at_is = now.at_is;
+      bit_is = now.bit_is;
+    }
+
+-- the number of a spot's bit
+number_of : (k : Kept) (ws : List ℕ) (inside : Bool) (x : Spot) (at bit : ℕ) → Entry k ws inside x at bit
+    → NumberOf k ws inside x (at * 64 + bit)
+number_of k ws inside x at bit e =
+    record { at = at; bit = bit; entry = e; below = omega (arith, e.bit_is); number = refl }
+
+-- so the number of the bit of an instruction that is tried is that of its spot
+pub bit_numbered : (k : Kept) (ws : List ℕ) (a : Attempt) (b : ℕ) → BitOf k ws a b
+    → NumberOf k ws a.inside a.spot b
+bit_numbered k ws a b g =
+    subst (λ n. NumberOf k ws a.inside a.spot n) (sym g.is) (number_of k ws a.inside a.spot g.at g.bit g.entry)
+
+module _ (r : Run) (old : Kept) (es : EndsTable) (right : EndsRight r old es) where
+  -- an end that is kept for the bit of a spot inside of one was told for that spot before the memory grew
+  pub end_told_before : (new : Kept) (x : Spot) (at bit : ℕ) (c : StringCursor) → BitsStay old new → RowsStay old new
+      → Laid new → Entry new r.words true x at bit → HoldsEnd es (at * 64 + bit) c → TellsEnd old es r.words true x c
+  end_told_before new x at bit c stay rows laid entry held =
+      let e = right (at * 64 + bit) c held in
+      let number : NumberOf new r.words true x (at * 64 + bit) = number_of new r.words true x at bit entry in
+      let alike = (one_number new r.words true true x e.spot (at * 64 + bit) laid number
+      (number_stays old new r.words true e.spot (at * 64 + bit) stay e.number)).1 in
+      let same_at : e.number.at ≡ at = omega (arith, e.number.number, e.number.below, number.below) in
+      let same_bit : e.number.bit ≡ bit = omega (arith, e.number.number, e.number.below, number.below) in
+      let was : Entry old r.words true e.spot at bit =
+      subst (λ i. Entry old r.words true e.spot at i) same_bit
+      (subst (λ w. Entry old r.words true e.spot w e.number.bit) same_at e.number.entry) in
+      record {
+        number = at * 64 + bit;
+        is = number_of old r.words true x at bit
+            (entry_before old new r.words true x e.spot at bit (least_from x.point x.position) rows laid was entry
+            alike.loops);
+        held = held;
+      }
+
+  -- no end is kept for the bit of a spot outside of regions
+  pub no_end_outside : (x : Spot) (at bit : ℕ) (c : StringCursor) → Laid old → Entry old r.words false x at bit
+      → HoldsEnd es (at * 64 + bit) c → ⊥
+  no_end_outside x at bit c laid entry held =
+      let e = right (at * 64 + bit) c held in
+      let number = number_of old r.words false x at bit entry in
+      let one = one_number old r.words false true x e.spot (at * 64 + bit) laid number e.number in
+      absurd (let false_is : true ≡ false = one.0 in cc)

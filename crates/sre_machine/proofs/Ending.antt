@@ -1,0 +1,157 @@
+-- The body of a region ends: what is tried inside is tried no more, and an end is kept for the bit that was taken in.
+use Rattle.std.proofs.Common.{◌≡◌, ℕ, ◌+◌, ◌*◌, ◌≤◌, ◌⊎◌, inl, inr, Bool, true, false, List, [], ◌∷◌, ◌++◌, drop}
+use Rattle.std.proofs.Common.{length, map, refl, sym, ap, ◌∙◌, subst, arith}
+use Rattle.std.specs.List.{AllByRecursion}
+use Rattle.sre_chars.specs.declared.string.StrDrive.{Ghosts}
+use Rattle.sre_chars.specs.declared.string.StringCursor.{StringCursor}
+use Rattle.sre_growth.specs.Refusal.{Refused}
+use Rattle.sre_model.specs.Regions.{has_forked_region}
+use Rattle.sre_model.specs.Ways.{Way}
+use Rattle.sre_turns.specs.Attempts.{Attempt}
+use Rattle.sre_turns.specs.Board.{BoardValue}
+use Rattle.sre_turns.specs.Fruit.{is_inside}
+use Rattle.sre_turns.specs.Limits.{Limit, open_attempts, without_open}
+use Rattle.sre_turns.specs.Machine.{Ends, Later}
+use Rattle.sre_turns.specs.Moves.{Spot}
+use Rattle.sre_turns.specs.OpenMarks.{open_spots}
+use Rattle.sre_turns.specs.declared.Next.{Next}
+use Rattle.sre_turns.proofs.FaringInRegions.{opened_first}
+use Rattle.sre_turns.proofs.Hopeless.{no_reference}
+use Rattle.sre_board.specs.Accounts.{Account, BitOf, IsEnded, StaysEnded}
+use Rattle.sre_board.proofs.AccountLaws.{account_ends, account_same_ends}
+use Rattle.sre_board.proofs.EndsTold.{bit_numbered}
+use Rattle.sre_request.specs.declared.request.Request.{Request}
+use Rattle.sre_request.specs.Requests.{start_of}
+use Rattle.sre_request.specs.Runs.{run_of}
+use Rattle.sre_machine.specs.Memos.{MemoValue}
+use Rattle.sre_machine.specs.Paying.{Holds, Holding, Pays, Remembering, weight}
+use Rattle.sre_machine.specs.Turns.{KeepsBodyEnd, Proceeds}
+use Rattle.sre_machine.proofs.Paying.{grants_nothing}
+
+-- what holds of all of two lists holds of those of the second
+all_behind : {A : Type 0} (P : A → Type 0) (xs ys : List A) → AllByRecursion P (xs ++ ys) → AllByRecursion P ys
+all_behind P [] ys all = all
+all_behind P (x ∷ xs) ys all = all_behind P xs ys all.1
+
+-- what holds of each spot of a list, if that is true of it which is told of it inside a region, holds of all of them
+each_inside : (P Q : Attempt → Type 0) (xs : List Spot) (rest : List Attempt)
+    → AllByRecursion P (map (λ (x : Spot). record { inside = true; spot = x }) xs ++ rest)
+    → ((x : Spot) (newer older : List Spot) → xs ≡ newer ++ x ∷ older → P (record { inside = true; spot = x })
+    → Q (record { inside = true; spot = x }))
+    → AllByRecursion Q (map (λ (x : Spot). record { inside = true; spot = x }) xs)
+each_inside P Q [] rest all f = tt
+each_inside P Q (x ∷ xs) rest all f = (
+  f x [] xs refl all.0,
+  each_inside P Q xs rest all.1 (λ y newer older e p. f y (x ∷ newer) older (ap (λ zs. x ∷ zs) e) p),
+)
+
+module _ {S : Type 0} {text : Ghosts S} (r : Request S text) (cursor : StringCursor) (b : BoardValue)
+    (m m' : MemoValue) (keeps : KeepsBodyEnd r cursor b m m') where
+  -- failures are kept still
+  stays_open : m.is_open ≡ true → m'.stopped ≡ false → m'.is_open ≡ true
+  stays_open opened e = ap (λ (k : MemoValue). k.is_open) (keeps.same e) ∙ opened
+
+  -- each number with an end has one still
+  still : StaysEnded m.ends m'.ends
+  still n c held = elim (keeps.kept n c held) [ inl same ↦ (c, same) | inr other ↦ (cursor, other.0) ]
+
+  -- where no region ends nothing is granted
+  pub pays_kept_end : (l : Limit) → Pays r m l m' l
+  pays_kept_end l = record { paid = λ pl opened at n h. go pl opened n h m'.stopped refl }
+    where
+      go : (pl : Remembering r) → m.is_open ≡ true → (n : ℕ) → Holding r pl m l n → (stopped : Bool)
+          → m'.stopped ≡ stopped → Refused ⊎ ((n' : ℕ) × Holding r pl m' l n' × (m'.is_open ≡ true)
+          × (l.tolls + n * weight r pl ≤ l.tolls + n' * weight r pl))
+      go pl opened n h true e = inl (keeps.refused e)
+      go pl opened n h false e =
+          let same = keeps.same e in
+          inr (
+            n,
+            record {
+              account =
+                  account_same_ends (run_of r) pl.plain (start_of r) m'.kept m.ends m'.ends l.trying n still
+                  (subst (λ k. Account (run_of r) pl.plain (start_of r) k m.ends l.trying n)
+                  (sym (ap (λ (k : MemoValue). k.kept) same)) h.account);
+              ends = λ forked. ap (λ (k : MemoValue). k.keeps_ends) same ∙ h.ends forked;
+              forked = h.forked;
+            },
+            stays_open opened e,
+            omega arith,
+          )
+
+  -- where one ends, an end is kept for what was tried inside
+  module _ (inside : is_inside b.choices ≡ true) (all : List Way) (l : Limit)
+      (x : Ends (run_of r) all l cursor b) where
+    abbrev left : List Attempt
+    left = drop (length (open_spots b.choices)) l.trying
+
+    trying : (pl : Remembering r) → l.trying ≡ open_attempts b.choices ++ left
+    trying pl =
+        let same = (x.fares pl.plain).fares.trying in
+        sym same ∙ opened_first b.choices inside
+        ∙ ap (λ xs. open_attempts b.choices ++ drop (length (open_spots b.choices)) xs) same
+
+    abbrev Forked : Remembering r → Attempt → Type 0
+    Forked pl a = a.inside ≡ true → has_forked_region pl.plain.tree ≡ true
+
+    abbrev Ended : Attempt → Type 0
+    Ended a = (bit : ℕ) → BitOf m.kept (run_of r).words a bit → IsEnded m'.ends bit
+
+    ended : (pl : Remembering r) (n : ℕ) → m.is_open ≡ true → Holding r pl m l n → m'.stopped ≡ false
+        → AllByRecursion Ended (open_attempts b.choices)
+    ended pl n opened h e =
+        each_inside (Forked pl) Ended (open_spots b.choices) left
+        (subst (λ xs. AllByRecursion (Forked pl) xs) (trying pl) h.forked)
+        (λ y newer older there forked bit at. (
+          cursor,
+          keeps.held
+              (record {
+                opened = opened;
+                keeps = h.ends (forked refl);
+                inside = inside;
+                plain = no_reference (run_of r).words pl.plain.tree pl.plain.whole pl.plain.no_reference;
+              })
+              e y (record { newer = newer; older = older; there = there }) bit
+              (bit_numbered m.kept (run_of r).words (record { inside = true; spot = y }) bit at),
+        ))
+
+    pays_ended : Pays r m l m' (without_open b.choices l)
+    pays_ended = record { paid = λ pl opened at n h. go pl opened n h m'.stopped refl }
+      where
+        go : (pl : Remembering r) → m.is_open ≡ true → (n : ℕ) → Holding r pl m l n → (stopped : Bool)
+            → m'.stopped ≡ stopped
+            → Refused ⊎ ((n' : ℕ) × Holding r pl m' (without_open b.choices l) n' × (m'.is_open ≡ true)
+            × (l.tolls + n * weight r pl ≤ l.tolls + n' * weight r pl))
+        go pl opened n h true e = inl (keeps.refused e)
+        go pl opened n h false e =
+            let same = keeps.same e in
+            let was = subst (λ xs. Holds r pl m xs n) (trying pl) h in
+            inr (
+              n,
+              record {
+                account =
+                    subst (λ k. Account (run_of r) pl.plain (start_of r) k m'.ends left n)
+                    (sym (ap (λ (k : MemoValue). k.kept) same))
+                    (account_ends (run_of r) pl.plain (start_of r) m.kept m.ends m'.ends (open_attempts b.choices) left n
+                    (ended pl n opened h e) still was.account);
+                ends = λ forked. ap (λ (k : MemoValue). k.keeps_ends) same ∙ h.ends forked;
+                forked = all_behind (Forked pl) (open_attempts b.choices) left was.forked;
+              },
+              stays_open opened e,
+              omega arith,
+            )
+
+    -- so the turn that leaves it is paid
+    pub ended_then : (n' : Next) (c : BoardValue) → Later (run_of r) all (without_open b.choices l) n' c
+        → Proceeds (run_of r) all l n' c (λ more. Pays r m l m' more)
+    ended_then n' c later = (
+      without_open b.choices l,
+      record { turns = refl; taken = refl; granted = refl; start = refl },
+      later,
+      pays_ended,
+    )
+
+  -- and one that leaves no region
+  pub kept_then : (all : List Way) (l : Limit) (n' : Next) (c : BoardValue) → Later (run_of r) all l n' c
+      → Proceeds (run_of r) all l n' c (λ more. Pays r m l m' more)
+  kept_then all l n' c later = (l, grants_nothing l, later, pays_kept_end l)

@@ -1,0 +1,92 @@
+-- What comes of a spot in the body of a region stops in the window, and no earlier than where the region was entered,
+-- unless it looks behind.
+-- The law that a search takes few turns (`enough` of sre_engine) rests on this.
+use Rattle.std.proofs.Common.{◌≡◌, ℕ, ◌≤◌, true, false, List, [], ◌∷◌, refl, subst, arith}
+use Rattle.std.specs.Bool.{⊤}
+use Rattle.std.specs.List.{AllByRecursion}
+use Rattle.sre_model.proofs.Each.{each-append}
+use Rattle.sre_model.specs.Marks.{Marks}
+use Rattle.sre_model.specs.Ways.{Way, first, here}
+use Rattle.sre_model.specs.Runs.{Run}
+use Rattle.sre_turns.specs.Board.{Choice, Else, Keep, Trying}
+use Rattle.sre_turns.specs.Limits.{HereIn, EndsIn}
+use Rattle.sre_turns.specs.Machine.{Runs, turns, Comes, stops, ends, goes, splits, enters}
+use Rattle.sre_turns.specs.Moves.{Spot, spot_at, Move, Stop, End, Go, Split, Enter, closing_move}
+use Rattle.sre_turns.specs.Settled.{Counted}
+use Rattle.sre_turns.specs.Straight.{tail_of, is_possessive, goes_behind, InBody}
+use Rattle.sre_turns.specs.declared.Point.TheVariants.{Instruction}
+use Rattle.sre_turns.specs.declared.Region.TheVariants.{AtomicGroup, Ahead, NotAhead, Owed, Further}
+use Rattle.sre_turns.specs.declared.Region.{Region}
+use Rattle.sre_turns.proofs.HereMoves.{InsideOnto, inside_moves}
+
+module _ (r : Run) (pl : Counted r) (start : ℕ) where
+  -- an outcome of a region's body that was entered at a position
+  abbrev StopsIn : Region → ℕ → Way → Type 0
+  StopsIn g entered w = (goes_behind g ≡ true → entered ≤ w.stop) × (w.stop ≤ r.subject.end)
+
+  abbrev AllStop : Region → ℕ → List Way → Type 0
+  AllStop g entered os = AllByRecursion (λ (w : Way). StopsIn g entered w) os
+
+  -- where a turn at a position leads in the body
+  abbrev Onto : Region → ℕ → ℕ → Move → Type 0
+  Onto g entered p Stop = ⊤
+  Onto g entered p End = (goes_behind g ≡ true → entered ≤ p) × (p ≤ r.subject.end)
+  Onto g entered p (Go y) = InBody r pl start g entered y
+  Onto g entered p (Split y z) = InBody r pl start g entered y × InBody r pl start g entered z
+  Onto g entered p (Enter k y z) =
+      (is_possessive k ≡ false) × (y.position ≤ r.subject.end)
+      × ((q : ℕ) (m : Marks) → y.position ≤ q → q ≤ r.subject.end
+      → InBody r pl start g entered (spot_at (Instruction (tail_of k)) y.frames q m))
+      × InBody r pl start k y.position z
+
+  onto_there : (g : Region) (entered : ℕ) (x : Spot) (b : InBody r pl start g entered x) (mv : Move)
+      → InsideOnto r pl start g entered x b mv → Onto g entered x.position mv
+  onto_there g entered x b Stop on = on
+  onto_there g entered x b End on = on
+  onto_there g entered x b (Go y) on = on
+  onto_there g entered x b (Split y z) on = on
+  onto_there g entered x b (Enter k y z) on = on
+
+  -- and where it leads behind a region inside
+  onto_behind : (g : Region) (entered : ℕ) (k : Region) (y : Spot) (now : List Way) → is_possessive k ≡ false
+      → y.position ≤ r.subject.end
+      → ((q : ℕ) (m : Marks) → y.position ≤ q → q ≤ r.subject.end
+      → InBody r pl start g entered (spot_at (Instruction (tail_of k)) y.frames q m))
+      → AllStop k y.position now → Onto g entered y.position (closing_move k y now)
+  onto_behind g entered (AtomicGroup t) y [] alone inside tail all = tt
+  onto_behind g entered (AtomicGroup t) y (w ∷ ws) alone inside tail all =
+      tail w.stop w.marks (all.0.0 refl) all.0.1
+  onto_behind g entered (Ahead t) y [] alone inside tail all = tt
+  onto_behind g entered (Ahead t) y (w ∷ ws) alone inside tail all = tail y.position w.marks (omega arith) inside
+  onto_behind g entered (NotAhead t) y [] alone inside tail all = tail y.position y.marks (omega arith) inside
+  onto_behind g entered (NotAhead t) y (w ∷ ws) alone inside tail all = tt
+  onto_behind g entered Owed y now alone inside tail all = absurd (cc)
+  onto_behind g entered (Further t) y now alone inside tail all = absurd (cc)
+
+  mutual
+    all_stop : (g : Region) (entered : ℕ) {x : Spot} {os : List Way} {n : ℕ} → (b : InBody r pl start g entered x)
+        → Runs r.words r.subject x os n → AllStop g entered os
+    all_stop g entered {x} b (turns mv h d) =
+        stop_after g entered mv (onto_there g entered x b mv (inside_moves r pl start g entered x b mv h)) d
+
+    stop_after : (g : Region) (entered : ℕ) {x : Spot} (mv : Move) → Onto g entered x.position mv → {os : List Way}
+        {n : ℕ} → Comes r.words r.subject x mv os n → AllStop g entered os
+    stop_after g entered Stop on stops = tt
+    stop_after g entered End on ends = (on, tt)
+    stop_after g entered (Go y) on (goes d) = all_stop g entered on d
+    stop_after g entered (Split y z) on (splits {os₁ = os₁} {os₂ = os₂} d f) =
+        each-append (λ (w : Way). StopsIn g entered w) os₁ os₂ (all_stop g entered on.0 d) (all_stop g entered on.1 f)
+    stop_after g entered (Enter k y z) on (enters {now = now} lies d f) =
+        stop_after g entered (closing_move k y now)
+        (onto_behind g entered k y now on.0 on.1 on.2 (all_stop k y.position on.3 d)) f
+
+  -- so where the first outcome stops the innermost region may end
+  pub first_ends : (cs : List Choice) (x : Spot) (q : ℕ) (m : Marks) (os : List Way) {n : ℕ} → HereIn r pl start cs x
+      → Runs r.words r.subject x os n → first os ≡ here q m → EndsIn r cs q
+  first_ends [] x q m os h d e = tt
+  first_ends (Else pt fs c k ∷ cs) x q m os h d e = first_ends cs x q m os h d e
+  first_ends (Trying i fs c k ∷ cs) x q m os h d e = first_ends cs x q m os h d e
+  first_ends (Keep g fs c k ∷ cs) x q m [] h d e = absurd (cc)
+  first_ends (Keep g fs c k ∷ cs) x q m (w ∷ os) h d e =
+      let same : w ≡ record { stop = q; marks = m } = cc in
+      subst (λ v. StopsIn g c.position v) same (all_stop g c.position h d).0
