@@ -189,7 +189,8 @@ module _ (r : Run) (pl : Counted r) (first : ℕ) where
       let l = lie i row (none i row there) in
       record {
         spot = l.spot;
-        point = l.point;
+        place_is = l.place_is;
+        kind = l.kind;
         lies = l.lies;
         place = l.place;
         is_for = stay.still r.words first r.subject.end _ row l.is_for;

@@ -44,7 +44,8 @@ entry_before old new ws inside x y at bit least stay laid was now alike =
       slot = now.slot;
       index = now.index;
       there = was.there ∙ ap (λ (w : Row). Some w) row;
-      point = now.point;
+      place = now.place;
+      kind = now.kind;
       read = now.read;
       loops =
           slot_before ws x.position y.position least old.shapes new.shapes now.row.end now.row.shape 0 0 x.frames

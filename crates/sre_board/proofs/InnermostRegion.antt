@@ -9,6 +9,7 @@ use Rattle.sre_board.specs.Trail.{Trail, states}
 use Rattle.sre_turns.specs.Board.{Choice, from_region, BoardValue, Cuts}
 use Rattle.sre_turns.specs.declared.Region.{Region}
 use Rattle.sre_turns.specs.declared.Point.TheVariants.{Instruction, Alternatives, Shorter, Longer, Inside, Again, Tried}
+use Rattle.sre_turns.specs.declared.Point.TheVariants.{TriedAgain}
 use Rattle.sre_turns.specs.declared.Point.{Point}
 use Rattle.sre_board.specs.Choices.{choice_of, board_of, Fits, regions_of, regions_in, down_to_region}
 use Rattle.sre_board.specs.declared.board.Saved.{Saved}
@@ -27,6 +28,7 @@ module _ (t : Table) (ms : List Marks) where
   down_step s ss ih (Longer i n) e = rw e ih
   down_step s ss ih Again e = rw e ih
   down_step s ss ih (Tried i) e = rw e ih
+  down_step s ss ih TriedAgain e = rw e ih
   down_step s ss ih (Inside g) e = rw e refl
 
   from_down : (ss : List Saved) → from_region (chosen ss) ≡ chosen (down_to_region ss)
@@ -42,6 +44,7 @@ region_or_not (Shorter j n) = inr refl
 region_or_not (Longer i n) = inr refl
 region_or_not Again = inr refl
 region_or_not (Tried i) = inr refl
+region_or_not TriedAgain = inr refl
 
 down_here : (s : Saved) (ss : List Saved) → regions_of s.point ≡ 1 → down_to_region (s ∷ ss) ≡ s ∷ ss
 down_here s ss e = rw e refl
@@ -123,6 +126,7 @@ regions_few (Shorter j n) = omega arith
 regions_few (Longer i n) = omega arith
 regions_few Again = omega arith
 regions_few (Tried i) = omega arith
+regions_few TriedAgain = omega arith
 
 -- there are no more regions than choices
 pub regions_fit : (ss : List Saved) → regions_in ss ≤ length ss

@@ -12,8 +12,8 @@ use Rattle.std.proofs.lemmas.Nat.Bits.{bit_at_set_other, bit_at-zero}
 use Rattle.sre_turns.specs.Alike.{LoopsAlike, Alike, least_from}
 use Rattle.sre_turns.specs.Moves.{Spot}
 use Rattle.sre_turns.specs.declared.Frame.{Frame}
-use Rattle.sre_turns.specs.declared.Point.{Point}
-use Rattle.sre_turns.specs.declared.Point.TheVariants.{Instruction}
+use Rattle.sre_turns.specs.Nested.{repeats, place_of, is_again}
+use Rattle.sre_turns.proofs.NestedPlaces.{same_point, placed_from}
 use Rattle.sre_board.specs.Failures.{Kept, kept_of, Entry, HoldsNoMore, HoldsOneMore, HasSlot, Laid, radix, digit}
 use Rattle.sre_board.specs.Failures.{HasNoRow}
 use Rattle.sre_board.specs.declared.failures.Row.{Row}
@@ -55,10 +55,12 @@ one_bit k ws inside other x y at bit laid a b =
     let slotted = subst (λ s. HasSlot ws x.position k.shapes a.row.end a.row.shape 0 y.frames s) pair.0 there in
     let alike = loops_alike ws x.position k.shapes a.row.end a.row.shape 0 0 x.frames y.frames a.slot a.loops slotted in
     let from : x.position ≡ least_from x.point x.position =
-    ap (λ (pt : Point). least_from pt x.position) (sym a.point) in (
+    sym (placed_from x.point (repeats x.frames) a.row.place x.position a.place) in
+    let placed : place_of y ≡ Some a.row.place = b.place ∙ ap (λ (r : Row). Some r.place) row in
+    let kind : is_again x.point ≡ is_again y.point = sym a.kind ∙ ap (λ (r : Row). r.again) (sym row) ∙ b.kind in (
       pair.1,
       record {
-        point = a.point ∙ ap (λ (r : Row). Instruction r.place) (sym row) ∙ sym b.point;
+        point = same_point x.point y.point (repeats x.frames) (repeats y.frames) a.row.place a.place placed kind;
         position = position;
         loops = subst (λ p. LoopsAlike ws p x.frames y.frames) from alike.1;
       },
@@ -78,7 +80,8 @@ entry_below old new ws inside x at bit er es e = record {
   slot = e.slot;
   index = e.index;
   there = ap (λ (rs : List Row). slice_get rs e.number) (sym er) ∙ e.there;
-  point = e.point;
+  place = e.place;
+  kind = e.kind;
   read = e.read;
   few = e.few;
   loops = subst (λ (ss : List ℕ). HasSlot ws x.position ss e.row.end e.row.shape 0 x.frames e.slot) es e.loops;
@@ -171,7 +174,8 @@ shapes_no_more k more laid = λ ws inside x h.
         slot = e.slot;
         index = e.index;
         there = e.there;
-        point = e.point;
+        place = e.place;
+        kind = e.kind;
         read = e.read;
         few = e.few;
         loops =
@@ -274,7 +278,8 @@ module _ (k : Kept) (row : Row) (n : ℕ) (laid : Laid k) (base : row.base ≡ l
                 slot = e.slot;
                 index = e.index;
                 there = l;
-                point = e.point;
+                place = e.place;
+                kind = e.kind;
                 read = e.read;
                 few = e.few;
                 loops = e.loops;

@@ -52,7 +52,8 @@ module _ (k : Kept) (rs : List Row) (ss : List ℕ) (n : ℕ) (laid : Laid k) wh
     slot = e.slot;
     index = e.index;
     there = got_still k.rows rs e.number e.row e.there;
-    point = e.point;
+    place = e.place;
+    kind = e.kind;
     read = e.read;
     few = e.few;
     loops = slot_still ws x.position k.shapes ss e.row.end e.row.shape 0 x.frames e.slot e.loops;

@@ -3,8 +3,6 @@ use Rattle.std.proofs.Common.{◌≡◌, ℕ, ◌+◌, ◌-◌, ◌*◌, ◌/◌
 use Rattle.std.proofs.Common.{sym, ap, ◌∙◌, subst}
 use Rattle.sre_turns.specs.Moves.{Spot}
 use Rattle.sre_turns.specs.declared.Frame.{Frame}
-use Rattle.sre_turns.specs.declared.Point.{Point}
-use Rattle.sre_turns.specs.declared.Point.TheVariants.{Instruction}
 use Rattle.sre_board.specs.Failures.{Kept, Entry, HasSlot, Laid, radix, digit}
 use Rattle.sre_board.specs.declared.failures.Row.{Row}
 
@@ -29,7 +27,7 @@ pub one_entry : (k : Kept) (ws : List ℕ) (inside : Bool) (x : Spot) (at bit ot
 one_entry k ws inside x at bit other_at other_bit laid a b =
     let row : a.row ≡ b.row =
     one_row_of k a.number b.number a.row b.row laid a.there b.there
-    (same_place a.row.place b.row.place (sym a.point ∙ b.point)) in
+    (same_place a.row.place b.row.place (sym a.place ∙ b.place)) in
     let there = subst (λ (r : Row). HasSlot ws x.position k.shapes r.end r.shape 0 x.frames a.slot) row a.loops in
     let slot : a.slot ≡ b.slot =
     one_slot ws x.position k.shapes b.row.end b.row.shape 0 x.frames a.slot b.slot there b.loops in
@@ -42,5 +40,5 @@ one_entry k ws inside x at bit other_at other_bit laid a b =
       a.bit_is ∙ ap (λ i. i % 64) index ∙ sym b.bit_is,
     )
   where
-    same_place : (m n : ℕ) → ◌≡◌ {A = Point} (Instruction m) (Instruction n) → m ≡ n
+    same_place : (m n : ℕ) → ◌≡◌ {A = Option ℕ} (Some m) (Some n) → m ≡ n
     same_place m n e = cc

@@ -1,6 +1,6 @@
 -- The spots that are tried in the innermost region, gone over from choice to choice.
 use Rattle.std.specs.List.{AllByRecursion}
-use Rattle.std.proofs.Common.{◌≡◌, ℕ, zero, suc, ◌+◌, ◌-◌, ◌<◌, ◌≤◌, inl, inr, List, [], ◌∷◌, ◌++◌, drop, length}
+use Rattle.std.proofs.Common.{◌≡◌, ℕ, zero, suc, ◌+◌, ◌-◌, ◌<◌, ◌≤◌, inl, inr, false, List, [], ◌∷◌, ◌++◌, drop, length}
 use Rattle.std.proofs.Common.{map, reverse, get_or, option_map, Some, slice_get, refl, sym, ap, ◌∙◌, subst, arith}
 use Rattle.std.proofs.lemmas.List.{append_assoc, drop_all, get_or-reverse, length-reverse}
 use Rattle.std.proofs.lemmas.Option.{slice_get-map, slice_get-get_or}
@@ -13,8 +13,10 @@ use Rattle.sre_turns.specs.declared.Frame.{Frame}
 use Rattle.sre_turns.specs.declared.Region.{Region}
 use Rattle.sre_turns.specs.declared.Point.{Point}
 use Rattle.sre_turns.specs.declared.Point.TheVariants.{Instruction, Alternatives, Shorter, Longer, Inside, Again, Tried}
+use Rattle.sre_turns.specs.declared.Point.TheVariants.{TriedAgain}
 use Rattle.sre_board.specs.Failures.{Kept}
-use Rattle.sre_board.specs.Choices.{Fits}
+use Rattle.sre_board.specs.Choices.{Fits, is_mark}
+use Rattle.std.proofs.lemmas.Bool.{true≢false}
 use Rattle.sre_board.specs.declared.board.Saved.{Saved}
 use Rattle.sre_board.specs.Ends.{EndsTable, HoldsEnd, HoldsSpotMore, HoldsOpenMore, IsOpenSpot, HasEnd}
 use Rattle.sre_board.specs.Ends.{KeepsSpotEnds, KeepsOpenEnds, HoldsOpenEnds}
@@ -50,17 +52,18 @@ from_item (y ∷ xs) (suc i) x e =
     let one : suc i + 1 ≡ suc (i + 1) = omega arith in
     from_item xs i x e ∙ ap (λ n. x ∷ drop n (y ∷ xs)) (sym one)
 
--- a choice that is neither a region nor an instruction that is tried
+-- a choice that is neither a region nor the mark of what is tried
 pub passed_over : (pt : Point) (fs : List Frame) (c : StringCursor) (m : Marks) (cs : List Choice)
-    → ((g : Region) → pt ≡ Inside g → ⊥) → ((i : ℕ) → pt ≡ Tried i → ⊥)
+    → ((g : Region) → pt ≡ Inside g → ⊥) → is_mark pt ≡ false
     → open_spots (choice pt fs c m ∷ cs) ≡ open_spots cs
-passed_over (Inside g) fs c m cs region tried = absurd (region g refl)
-passed_over (Tried i) fs c m cs region tried = absurd (tried i refl)
-passed_over (Instruction i) fs c m cs region tried = refl
-passed_over (Alternatives q) fs c m cs region tried = refl
-passed_over (Shorter j n) fs c m cs region tried = refl
-passed_over (Longer i n) fs c m cs region tried = refl
-passed_over Again fs c m cs region tried = refl
+passed_over (Inside g) fs c m cs region plain = absurd (region g refl)
+passed_over (Tried i) fs c m cs region plain = absurd (true≢false plain)
+passed_over TriedAgain fs c m cs region plain = absurd (true≢false plain)
+passed_over (Instruction i) fs c m cs region plain = refl
+passed_over (Alternatives q) fs c m cs region plain = refl
+passed_over (Shorter j n) fs c m cs region plain = refl
+passed_over (Longer i n) fs c m cs region plain = refl
+passed_over Again fs c m cs region plain = refl
 
 -- the spots from a depth on, where an end is kept for each of those above it that has a number
 pub record GoneOver (k : Kept) (ws : List ℕ) (d : StringCursor) (t : EndsTable) (cs : List Choice) (depth : ℕ)
@@ -119,13 +122,13 @@ module _ (k : Kept) (ws : List ℕ) (d : StringCursor) (t : EndsTable) (cs : Lis
       → slice_get cs depth ≡ Some (Keep g fs c m) → HoldsOpenEnds k ws cs d t
   gone_to_region g fs c m e = gone_all (ap open_spots (from_item cs depth (Keep g fs c m) e))
 
-  module _ (i : ℕ) (fs : List Frame) (c : StringCursor) (m : Marks)
-      (e : slice_get cs depth ≡ Some (Trying i fs c m)) where
+  module _ (pt : Point) (fs : List Frame) (c : StringCursor) (m : Marks)
+      (e : slice_get cs depth ≡ Some (Trying pt fs c m)) where
     abbrev here : Spot
-    here = spot_at (Instruction i) fs c.position m
+    here = spot_at pt fs c.position m
 
     rest : open_spots cs ≡ gone.newer ++ here ∷ open_spots (drop (depth + 1) cs)
-    rest = gone.all ∙ ap (λ ds. gone.newer ++ open_spots ds) (from_item cs depth (Trying i fs c m) e)
+    rest = gone.all ∙ ap (λ ds. gone.newer ++ open_spots ds) (from_item cs depth (Trying pt fs c m) e)
 
     is_open : IsOpenSpot cs here
     is_open = record {
@@ -134,7 +137,7 @@ module _ (k : Kept) (ws : List ℕ) (d : StringCursor) (t : EndsTable) (cs : Lis
       there = rest;
     }
 
-    -- past an instruction that is tried
+    -- past what is tried
     pub gone_tried : (u : EndsTable) → KeepsSpotEnds k ws here d t u → HasEnd k ws d u here
         → GoneOver k ws d u cs (depth + 1)
     gone_tried u kept has = record {

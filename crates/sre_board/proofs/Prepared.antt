@@ -5,14 +5,11 @@ use Rattle.std.proofs.Common.{length, Some, slice_get, refl, sym, ap, ◌∙◌,
 use Rattle.std.proofs.lemmas.Bool.{cases_eq}
 use Rattle.std.proofs.Math.Nat.{mul-le-mul_left, mul-le-mul_right}
 use Rattle.sre_model.specs.Runs.{Run}
-use Rattle.sre_turns.specs.Alike.{least_from}
 use Rattle.sre_turns.specs.Attempts.{Attempt}
 use Rattle.sre_turns.specs.Moves.{Spot}
-use Rattle.sre_turns.specs.Nested.{repeats, slots, most_slots}
+use Rattle.sre_turns.specs.Nested.{repeats, slots, most_slots, place_of, is_again}
 use Rattle.sre_turns.specs.Settled.{Counted, SettledIn}
-use Rattle.sre_turns.specs.declared.Point.{Point}
-use Rattle.sre_turns.specs.declared.Point.TheVariants.{Instruction}
-use Rattle.sre_turns.proofs.NestedPlaces.{same_loops}
+use Rattle.sre_turns.proofs.NestedPlaces.{same_station, same_number, placed_from}
 use Rattle.sre_turns.proofs.NestedSlots.{slots_within}
 use Rattle.sre_board.specs.Accounts.{Account, RowLies, Room}
 use Rattle.sre_board.specs.Ends.{EndsTable}
@@ -62,14 +59,14 @@ room_for_one rows words most bits l few all =
 
 module _ (r : Run) (pl : Counted r) (first : ℕ) (old new : Kept) (es : EndsTable) (x : Spot) (place : ℕ)
     (xs : List Attempt) (n : ℕ) (room : Room r pl first) (settled : SettledIn r pl first x)
-    (point : x.point ≡ Instruction place) (is_place : place < length r.words)
-    (rows : NewRow r.words first r.subject.end place (repeats x.frames) old new) (stay : BitsStay old new)
+    (place_is : place_of x ≡ Some place) (is_place : place < length r.words)
+    (rows : NewRow r.words first r.subject.end x.point (repeats x.frames) old new) (stay : BitsStay old new)
     (kept : BitsKept old new) (laid : Laid new)
     (roomy : (m : ℕ) → HasSlots r.words (repeats x.frames) m → Roomy r.words m first r.subject.end old
     → Roomy r.words m first r.subject.end new)
     (account : Account r pl first old es xs n) where
   begins : first ≤ x.position
-  begins = subst (λ (pt : Point). first ≤ least_from pt x.position) point settled.from
+  begins = subst (λ (q : ℕ). first ≤ q) (placed_from x.point (repeats x.frames) place x.position place_is) settled.from
 
   -- its loops have no more slots than the tree tells
   has_slots : HasSlots r.words (repeats x.frames) (most_slots pl.tree)
@@ -114,23 +111,29 @@ module _ (r : Run) (pl : Counted r) (first : ℕ) (old new : Kept) (es : EndsTab
         absurd (omega (arith, one, ei, got_within old.rows h.number h.row h.there))
   ]
 
+  same_place : (row : Row) → place_of x ≡ Some row.place → row.place ≡ place
+  same_place row e = same_number (sym e ∙ place_is)
+
   row_lies : (i : ℕ) (row : Row) → slice_get new.rows i ≡ Some row → RowLies r pl first new row
   row_lies i row e = elim (rows.rows i row e) [
     | inl l ↦
         let was = account.rows i row l in
         record {
           spot = was.spot;
-          point = was.point;
+          place_is = was.place_is;
+          kind = was.kind;
           lies = was.lies;
           place = was.place;
           is_for = rows.stay.still r.words first r.subject.end (repeats was.spot.frames) row was.is_for;
         }
     | inr g ↦ record {
       spot = x;
-      point = point ∙ ap (λ i. Instruction i) (sym g.1);
+      place_is = g.1;
+      kind = g.2;
       lies = settled.lies;
-      place = omega (arith, is_place, g.1);
-      is_for = g.2 (capacity (had_none i row e g.0 g.1));
+      place = omega (arith, is_place, same_place row g.1);
+      is_for = g.3 (subst (λ p. Capacity r.words first r.subject.end p (repeats x.frames) old)
+          (sym (same_place row g.1)) (capacity (had_none i row e g.0 (same_place row g.1))));
     }
   ]
 
@@ -156,8 +159,8 @@ module _ (r : Run) (pl : Counted r) (first : ℕ) (old new : Kept) (es : EndsTab
   bit_prepared inside there =
       let h = has_it there in
       let l = row_lies h.number h.row h.there in
-      let at : x.point ≡ Instruction h.row.place = point ∙ ap (λ i. Instruction i) (sym h.place_is) in
-      let loops : repeats x.frames ≡ repeats l.spot.frames =
-      same_loops r.words pl.tree pl.whole h.row.place x l.spot at l.point settled.lies l.lies in
-      bit_there new r.words first r.subject.end (repeats l.spot.frames) inside x h.number h.row at loops settled.passed
-      begins settled.inside (lies_words r.words pl.tree pl.whole l.spot l.lies) h.there l.is_for
+      let at : place_of x ≡ Some h.row.place = place_is ∙ ap (λ i. Some i) (sym h.place_is) in
+      let same = same_station r.words pl.tree pl.whole h.row.place x l.spot at l.place_is settled.lies l.lies in
+      let kind : h.row.again ≡ is_again x.point = l.kind ∙ ap (λ pt. is_again pt) (sym same.0) in
+      bit_there new r.words first r.subject.end (repeats l.spot.frames) inside x h.number h.row at kind same.1
+      settled.passed begins settled.inside (lies_words r.words pl.tree pl.whole l.spot l.lies) h.there l.is_for

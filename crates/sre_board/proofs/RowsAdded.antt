@@ -1,11 +1,12 @@
 -- Rows when one is added: those there were stay, and the new one is for what it was made for.
 use Rattle.std.proofs.Common.{◌≡◌, ℕ, ◌+◌, ◌-◌, ◌*◌, ◌^◌, ◌<◌, ◌≤◌, inl, inr, Bool, true, false, cond, List, []}
-use Rattle.std.proofs.Common.{◌∷◌, ◌++◌, length, slice_get, Result, Ok, Err, is_ok, IfOk}
+use Rattle.std.proofs.Common.{◌∷◌, ◌++◌, length, Some, slice_get, Result, Ok, Err, is_ok, IfOk}
 use Rattle.std.proofs.Common.{sym, ap, ◌∙◌, subst, arith}
 use Rattle.std.proofs.lemmas.List.{append-nil}
 use Rattle.std.proofs.Math.Nat.{mul-le-mul_right}
 use Rattle.sre_turns.specs.declared.Frame.{Frame}
-use Rattle.sre_turns.specs.Nested.{repeats, slots}
+use Rattle.sre_turns.specs.Nested.{repeats, slots, place_under, is_again}
+use Rattle.sre_turns.specs.declared.Point.{Point}
 use Rattle.sre_board.specs.declared.failures.Row.{Row}
 use Rattle.sre_board.specs.Failures.{Kept, HasShape, WordsThere, RowFor, RowsStay, Capacity, HasRow}
 use Rattle.sre_board.specs.Failures.{NewRow, OneRowMore, Roomy, most_words}
@@ -35,25 +36,27 @@ module _ (old new : Kept) (rs : List Row) (more : List ℕ) (er : new.rows ≡ o
   }
 
 -- no row is new
-pub no_row : (ws : List ℕ) (first end place : ℕ) (js : List ℕ) (old new : Kept) (more : List ℕ)
-    → new.rows ≡ old.rows → new.shapes ≡ old.shapes ++ more → NewRow ws first end place js old new
-no_row ws first end place js old new more er es = record {
+pub no_row : (ws : List ℕ) (first end : ℕ) (pt : Point) (js : List ℕ) (old new : Kept) (more : List ℕ)
+    → new.rows ≡ old.rows → new.shapes ≡ old.shapes ++ more → NewRow ws first end pt js old new
+no_row ws first end pt js old new more er es = record {
   stay = rows_stay old new [] more (er ∙ sym (append-nil old.rows)) es;
   rows = λ n row e. inl (ap (λ (xs : List Row). slice_get xs n) (sym er) ∙ e);
 }
 
 -- one row is new
-pub one_row : (ws : List ℕ) (first end place : ℕ) (js : List ℕ) (old new : Kept) (row : Row) (more : List ℕ)
-    → new.rows ≡ old.rows ++ row ∷ [] → new.shapes ≡ old.shapes ++ more → row.place ≡ place
-    → (Capacity ws first end place js old → RowFor new ws first end js row) → NewRow ws first end place js old new
-one_row ws first end place js old new row more er es ep for = record {
+pub one_row : (ws : List ℕ) (first end : ℕ) (pt : Point) (js : List ℕ) (old new : Kept) (row : Row) (more : List ℕ)
+    → new.rows ≡ old.rows ++ row ∷ [] → new.shapes ≡ old.shapes ++ more → place_under pt js ≡ Some row.place
+    → row.again ≡ is_again pt → (Capacity ws first end row.place js old → RowFor new ws first end js row)
+    → NewRow ws first end pt js old new
+one_row ws first end pt js old new row more er es ep ek for = record {
   stay = rows_stay old new (row ∷ []) more er es;
   rows = λ n r e. elim (got_row old.rows row n r (ap (λ (xs : List Row). slice_get xs n) (sym er) ∙ e)) [
     | inl l ↦ inl l
     | inr g ↦ inr (
       g.0,
-      ap (λ (x : Row). x.place) (sym g.1) ∙ ep,
-      λ room. subst (λ (x : Row). RowFor new ws first end js x) g.1 (for room),
+      subst (λ (x : Row). place_under pt js ≡ Some x.place) g.1 ep,
+      subst (λ (x : Row). x.again ≡ is_again pt) g.1 ek,
+      subst (λ (x : Row). Capacity ws first end x.place js old → RowFor new ws first end js x) g.1 for,
     )
   ];
 }
@@ -69,15 +72,16 @@ row_there old new row place er ep = record {
 }
 
 -- the rows of a list to which one is appended, or not
-pub new_row : (ws : List ℕ) (first end place : ℕ) (js : List ℕ) (old mid new : Kept) (row : Row) (more : List ℕ)
+pub new_row : (ws : List ℕ) (first end : ℕ) (pt : Point) (js : List ℕ) (old mid new : Kept) (row : Row) (more : List ℕ)
     (ok : Bool) → mid.rows ≡ old.rows → mid.shapes ≡ old.shapes ++ more
-    → new.rows ≡ cond ok (mid.rows ++ row ∷ []) mid.rows → new.shapes ≡ mid.shapes → row.place ≡ place
-    → (Capacity ws first end place js old → RowFor mid ws first end js row) → NewRow ws first end place js old new
-new_row ws first end place js old mid new row more true em es er et ep for =
-    one_row ws first end place js old new row more (er ∙ ap (λ (xs : List Row). xs ++ row ∷ []) em) (et ∙ es) ep
+    → new.rows ≡ cond ok (mid.rows ++ row ∷ []) mid.rows → new.shapes ≡ mid.shapes
+    → place_under pt js ≡ Some row.place → row.again ≡ is_again pt
+    → (Capacity ws first end row.place js old → RowFor mid ws first end js row) → NewRow ws first end pt js old new
+new_row ws first end pt js old mid new row more true em es er et ep ek for =
+    one_row ws first end pt js old new row more (er ∙ ap (λ (xs : List Row). xs ++ row ∷ []) em) (et ∙ es) ep ek
     (λ room. row_for mid new [] ws first end js row (et ∙ sym (append-nil mid.shapes)) (for room))
-new_row ws first end place js old mid new row more false em es er et ep for =
-    no_row ws first end place js old new more (er ∙ em) (et ∙ es)
+new_row ws first end pt js old mid new row more false em es er et ep ek for =
+    no_row ws first end pt js old new more (er ∙ em) (et ∙ es)
 
 -- the place has the row that was appended, if it was
 pub there_if_ok : {T E : Type 0} (r : Result T E) (needs : Type 0) (mid new : Kept) (row : Row) (place : ℕ)

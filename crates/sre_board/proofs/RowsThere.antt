@@ -3,11 +3,9 @@ use Rattle.std.proofs.Common.{◌≡◌, ℕ, ◌+◌, ◌-◌, ◌*◌, ◌/◌
 use Rattle.std.proofs.Common.{slice_get, arith}
 use Rattle.std.proofs.Math.Nat.{mul-le-mul_right}
 use Rattle.sre_turns.specs.declared.Frame.{Frame}
-use Rattle.sre_turns.specs.declared.Point.{Point}
-use Rattle.sre_turns.specs.declared.Point.TheVariants.{Instruction}
+use Rattle.sre_turns.proofs.NestedPlaces.{placed_from}
 use Rattle.sre_turns.specs.Moves.{Spot}
-use Rattle.sre_turns.specs.Alike.{least_from}
-use Rattle.sre_turns.specs.Nested.{repeats, AllBegunBy, Passed, slots}
+use Rattle.sre_turns.specs.Nested.{repeats, AllBegunBy, Passed, slots, place_of, is_again}
 use Rattle.sre_board.specs.declared.failures.Row.{Row}
 use Rattle.sre_board.specs.Failures.{Kept, digit, radix, HasSlot, HasShape, HasBit, RowFor, WordsThere, AreRead}
 use Rattle.sre_board.proofs.AlikeBySlot.{one_if, one_if_few, digit_below}
@@ -36,11 +34,13 @@ are_read ws [] h = tt
 are_read ws (f ∷ fs) h = (h.0, are_read ws fs h.1)
 
 pub bit_there : (k : Kept) (ws : List ℕ) (first end : ℕ) (js : List ℕ) (inside : Bool) (x : Spot) (n : ℕ) (row : Row)
-    → x.point ≡ Instruction row.place → repeats x.frames ≡ js → Passed x → first ≤ x.position → x.position ≤ end
+    → place_of x ≡ Some row.place → row.again ≡ is_again x.point → repeats x.frames ≡ js → Passed x
+    → first ≤ x.position → x.position ≤ end
     → WordsThere ws js → slice_get k.rows n ≡ Some row → RowFor k ws first end js row → HasBit k ws inside x
-bit_there k ws first end js inside x n row point loops passed from to words there for =
+bit_there k ws first end js inside x n row place_is kind loops passed from to words there for =
     let begun : AllBegunBy x.position x.frames =
-    subst (λ (pt : Point). AllBegunBy (least_from pt x.position) x.frames) point passed in
+    subst (λ (q : ℕ). AllBegunBy q x.frames)
+    (placed_from x.point (repeats x.frames) row.place x.position place_is) passed in
     let shape : HasShape k.shapes row.end row.shape (repeats x.frames) =
     subst (λ (qs : List ℕ). HasShape k.shapes row.end row.shape qs) (sym loops) for.shape in
     let s = slot_of_shape ws k.shapes x.position row.end row.shape 0 x.frames shape begun in
@@ -61,7 +61,8 @@ bit_there k ws first end js inside x n row point loops passed from to words ther
         slot = s.0;
         index = index;
         there = there;
-        point = point;
+        place = place_is;
+        kind = kind;
         read = are_read ws x.frames (subst (λ (qs : List ℕ). WordsThere ws qs) (sym loops) words);
         loops = s.1;
         few = omega (arith, few, for.few);

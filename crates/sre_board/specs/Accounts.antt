@@ -12,9 +12,8 @@ use Rattle.sre_model.specs.Runs.{Run}
 use Rattle.sre_model.specs.Tree.{Tree}
 use Rattle.sre_turns.specs.Attempts.{Attempt}
 use Rattle.sre_turns.specs.Moves.{Spot}
-use Rattle.sre_turns.specs.Nested.{Lies, repeats, most_slots}
+use Rattle.sre_turns.specs.Nested.{Lies, repeats, most_slots, place_of, is_again}
 use Rattle.sre_turns.specs.Settled.{Counted}
-use Rattle.sre_turns.specs.declared.Point.TheVariants.{Instruction}
 use Rattle.sre_board.specs.Apart.{Apart}
 use Rattle.sre_board.specs.Ends.{EndsTable, HoldsEnd}
 use Rattle.sre_board.specs.Failures.{Kept, Entry, RowFor, Roomy, Laid, most_words}
@@ -74,7 +73,8 @@ pub record IsOwned (r : Run) (pl : Counted r) (first : ℕ) (k : Kept) (b : ℕ)
 -- each row is for the loops of a place in the words, and for the positions from first to end
 pub record RowLies (r : Run) (pl : Counted r) (first : ℕ) (k : Kept) (row : Row) : Type 0 where
   pub spot : Spot
-  pub point : spot.point ≡ Instruction row.place
+  pub place_is : place_of spot ≡ Some row.place
+  pub kind : row.again ≡ is_again spot.point
   pub lies : Lies r.words pl.tree pl.whole spot
   pub place : row.place < length r.words
   pub is_for : RowFor k r.words first r.subject.end (repeats spot.frames) row

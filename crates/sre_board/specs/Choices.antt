@@ -1,13 +1,14 @@
 -- The choices of a board, which share one trail and one table of chains.
 -- Words of private contracts: the value of a board is `BoardValue` of sre_turns.
 use Rattle.std.specs.Prelude.{ℕ, ◌+◌, ◌<◌, ◌≤◌, cond, nat_eq, List, [], ◌∷◌, map, reverse, slice_index_or}
-use Rattle.std.specs.Prelude.{◌≡◌, Some, slice_get}
+use Rattle.std.specs.Prelude.{◌≡◌, Bool, true, false, Some, slice_get}
 use Rattle.sre_chars.specs.declared.string.StringCursor.{StringCursor}
 use Rattle.sre_model.specs.Marks.{Marks, no_marks}
 use Rattle.sre_board.specs.Trail.{Trail, states}
 use Rattle.sre_turns.specs.Board.{Choice, choice, BoardValue}
 use Rattle.sre_turns.specs.declared.Frame.{Frame}
-use Rattle.sre_turns.specs.declared.Point.TheVariants.{Inside}
+use Rattle.sre_turns.specs.declared.Point.TheVariants.{Instruction, Alternatives, Shorter, Longer, Inside, Again, Tried}
+use Rattle.sre_turns.specs.declared.Point.TheVariants.{TriedAgain}
 use Rattle.sre_turns.specs.declared.Point.{Point}
 use Rattle.sre_board.specs.declared.board.Saved.{Saved}
 
@@ -31,6 +32,17 @@ WaitsAt cs depth pt fs c = (m : Marks) × (slice_get cs depth ≡ Some (choice p
 abbrev pub Fits : List Saved → ℕ → ℕ → Type 0
 Fits [] n c = Unit {0}
 Fits (s ∷ ss) n c = (s.chains < n) × (s.changes ≤ c) × (s.frame ≤ s.chains) × Fits ss (s.chains + 1) s.changes
+
+-- whether a choice marks what is tried
+abbrev pub is_mark : Point → Bool
+is_mark (Instruction i) = false
+is_mark (Alternatives q) = false
+is_mark (Shorter t k) = false
+is_mark (Longer i n) = false
+is_mark (Inside g) = false
+is_mark Again = false
+is_mark (Tried i) = true
+is_mark TriedAgain = true
 
 abbrev pub regions_of : Point → ℕ
 regions_of (Inside g) = 1

@@ -10,9 +10,9 @@ use Rattle.sre_model.specs.Runs.{Run}
 use Rattle.sre_turns.specs.Alike.{Alike, counted_to, is_last}
 use Rattle.sre_turns.specs.Hopeless.{Hopeless}
 use Rattle.sre_turns.specs.Moves.{Spot}
-use Rattle.sre_turns.specs.Nested.{slots}
+use Rattle.sre_turns.specs.Nested.{slots, place_under, place_of, is_again}
 use Rattle.sre_turns.specs.declared.Frame.{Frame}
-use Rattle.sre_turns.specs.declared.Point.TheVariants.{Instruction}
+use Rattle.sre_turns.specs.declared.Point.{Point}
 use Rattle.sre_board.specs.declared.failures.Row.{Row}
 use Rattle.sre_board.specs.declared.failures.Known.{Known}
 use Rattle.sre_board.specs.declared.failures.Known.TheVariants.{Failed, Open, NoBit}
@@ -62,7 +62,8 @@ pub record Entry (k : Kept) (ws : List ℕ) (inside : Bool) (x : Spot) (at bit :
   pub slot : ℕ
   pub index : ℕ
   pub there : slice_get k.rows number ≡ Some row
-  pub point : x.point ≡ Instruction row.place
+  pub place : place_of x ≡ Some row.place
+  pub kind : row.again ≡ is_again x.point
   pub read : AreRead ws x.frames
   pub loops : HasSlot ws x.position k.shapes row.end row.shape 0 x.frames slot
   pub few : slot < 2 ^ 24
@@ -192,13 +193,13 @@ pub record RowsStay (old new : Kept) : Type 0 where
   pub still : (ws : List ℕ) (first end : ℕ) (js : List ℕ) (row : Row) → RowFor old ws first end js row
       → RowFor new ws first end js row
 
--- at most one row is new, the last one: it is that of a place and, where it had room, for these positions and loops
-pub record NewRow (ws : List ℕ) (first end place : ℕ) (js : List ℕ) (old new : Kept) : Type 0 where
+-- at most one row is new, the last one: it is that of a point and, where it had room, for these positions and loops
+pub record NewRow (ws : List ℕ) (first end : ℕ) (pt : Point) (js : List ℕ) (old new : Kept) : Type 0 where
   pub stay : RowsStay old new
   pub rows : (n : ℕ) (row : Row) → slice_get new.rows n ≡ Some row
       → (slice_get old.rows n ≡ Some row)
-      ⊎ ((n ≡ length old.rows) × (row.place ≡ place)
-      × (Capacity ws first end place js old → RowFor new ws first end js row))
+      ⊎ ((n ≡ length old.rows) × (place_under pt js ≡ Some row.place) × (row.again ≡ is_again pt)
+      × (Capacity ws first end row.place js old → RowFor new ws first end js row))
 
 -- the words of the loops at these places are there, and they have at most n slots
 pub record HasSlots (ws js : List ℕ) (n : ℕ) : Type 0 where

@@ -3,14 +3,17 @@
 //! Its value has frames, marks and choices as if each choice held its own. In memory all choices share one trail and
 //! one table of chains, and a chain is forgotten as soon as no choice can come back to it.
 
-ghost use Rattle.std.specs.Prelude.{◌≡◌, ℕ, ◌<◌, ◌≤◌, [], ◌∷◌, drop, length, reverse, IfOk, MatchOption};
+ghost use Rattle.std.specs.Prelude.{◌≡◌, ℕ, ◌<◌, ◌≤◌, List, [], ◌∷◌, drop, length, reverse, IfOk, MatchOption};
 ghost use Rattle.std.specs.Prelude.{true, false, slice_index_or, IfSome, OnErr, ◌+◌, ◌^◌};
 ghost use Rattle.sre_model.specs.Marks.{no_marks, set_mark, group};
+ghost use Rattle.sre_model.specs.Marks as values;
+ghost use Rattle.sre_turns.specs.declared.Frame.{Frame};
+ghost use Rattle.sre_chars.specs.declared.string.StringCursor.{StringCursor};
 ghost use Rattle.sre_growth.specs.Refusal.{Refused};
-ghost use Rattle.sre_turns.specs.Board.{Keep, Trying, choice, from_region, Cuts, Dropped, bare};
+ghost use Rattle.sre_turns.specs.Board.{Keep, Trying, choice, from_region, Cuts, Dropped, MayBeTried, bare};
 ghost use Rattle.sre_turns.specs.Fruit.{is_inside};
 ghost use Rattle.sre_turns.specs.declared.Point.TheVariants.{Instruction, Inside};
-ghost use Rattle.sre_board.specs.Choices.{Fits, regions_of, down_to_region, WaitsAt};
+ghost use Rattle.sre_board.specs.Choices.{Fits, regions_of, is_mark, down_to_region, WaitsAt};
 
 use crate::chains::{Chains, frame_of};
 use crate::marks::Marks;
@@ -96,6 +99,42 @@ fn regions_of(point: Point) -> usize
     match point {
         Point::Inside(_) => 1,
         _ => 0,
+    }
+}
+
+// The choice that marks that a point is tried.
+#[inline(always)]
+fn mark_of(point: Point) -> Point
+    requires { MayBeTried point }
+    ensures { (fs : List Frame) (c : StringCursor) (m : values.Marks) → choice result fs c m ≡ Trying point fs c m }
+{
+    match point {
+        Point::Instruction(place) => Point::Tried(place),
+        Point::Again => Point::TriedAgain,
+        Point::Alternatives(_) => unreachable!(),
+        Point::Shorter(_, _) => unreachable!(),
+        Point::Longer(_, _) => unreachable!(),
+        Point::Inside(_) => unreachable!(),
+        Point::Tried(_) => unreachable!(),
+        Point::TriedAgain => unreachable!(),
+    }
+}
+
+/// What a choice marks as tried, if it is a mark.
+#[inline(always)]
+pub(crate) fn tried_of(point: Point) -> Option<Point>
+    ensures { MatchOption result (is_mark point ≡ false)
+        (λ tried. (fs : List Frame) (c : StringCursor) (m : values.Marks) → choice point fs c m ≡ Trying tried fs c m) }
+{
+    match point {
+        Point::Tried(place) => Some(Point::Instruction(place)),
+        Point::TriedAgain => Some(Point::Again),
+        Point::Instruction(_) => None,
+        Point::Alternatives(_) => None,
+        Point::Shorter(_, _) => None,
+        Point::Longer(_, _) => None,
+        Point::Inside(_) => None,
+        Point::Again => None,
     }
 }
 
@@ -292,17 +331,18 @@ impl<A: Allocator> Board<A> {
         Ok(())
     }
 
-    /// Marks that an instruction is tried: what comes of it waits above the mark. Whether the mark was made; where its
-    /// memory is refused the board is as it was.
+    /// Marks that an instruction or a possessive loop is tried: what comes of it waits above the mark. Whether the mark
+    /// was made; where its memory is refused the board is as it was.
     #[inline(always)]
-    pub fn begin_trying(&mut self, place: usize, cursor: StringCursor) -> bool
+    pub fn begin_trying(&mut self, point: Point, cursor: StringCursor) -> bool
+        requires { MayBeTried point }
         ensures marked { result ≡ true → self.new ≡ record self.old {
-          choices = Trying place self.old.frames cursor self.old.marks ∷ self.old.choices;
+          choices = Trying point self.old.frames cursor self.old.marks ∷ self.old.choices;
         } }
         ensures left { result ≡ false → self.new ≡ self.old }
         ensures refused { result ≡ false → Refused }
     {
-        match self.add(Point::Tried(place), cursor) {
+        match self.add(mark_of(point), cursor) {
             Ok(()) => true,
             Err(_refusal) => false,
         }

@@ -12,9 +12,8 @@ ghost use Rattle.sre_board.specs.Ends.{KeepsEnds, KeepsOpenEnds, HoldsOpenEnds, 
 ghost use Rattle.sre_board.specs.Ends.{end_at, page_at, SameEnds, PutsEnd};
 ghost use Rattle.sre_model.specs.Marks.{Marks};
 ghost use Rattle.sre_turns.specs.Moves.{spot_at};
-ghost use Rattle.sre_turns.specs.declared.Point.TheVariants.{Instruction};
 
-use crate::board::{Board, Saved};
+use crate::board::{Board, Saved, tried_of};
 use crate::chains::Chains;
 use crate::failures::Failures;
 use sre_chars::string::StringCursor;
@@ -139,19 +138,18 @@ impl<A: Allocator> Ends<A> {
     {
         let mut depth = 0;
         'choice: while let Some((chains, saved)) = board.saved(depth) {
-            match saved.point {
-                Point::Tried(place) => {
-                    self.keep_spot(failures, words, chains, saved, place, end)?;
-                }
-                Point::Inside(_) => return Ok(()),
-                _ => {}
+            if let Point::Inside(_) = saved.point {
+                return Ok(());
+            }
+            if let Some(tried) = tried_of(saved.point) {
+                self.keep_spot(failures, words, chains, saved, tried, end)?;
             }
             depth += 1;
         }
         Ok(())
     }
 
-    // Keeps an end for the spot of an instruction that is tried inside a region, by what was saved with it.
+    // Keeps an end for the spot of a point that is tried inside a region, by what was saved with it.
     #[inline(always)]
     fn keep_spot(
         &mut self,
@@ -159,21 +157,21 @@ impl<A: Allocator> Ends<A> {
         words: &[u32],
         chains: &Chains<A>,
         saved: Saved,
-        place: usize,
+        point: Point,
         end: StringCursor,
     ) -> Result<(), Refusal>
         requires { saved.frame < length chains.now }
         ensures more { (m : Marks) → HoldsSpotMore failures.now words.now
-            (spot_at (Instruction place) (slice_index_or chains.now saved.frame []) saved.cursor.position m) end
+            (spot_at point (slice_index_or chains.now saved.frame []) saved.cursor.position m) end
             self.old self.new }
         ensures kept { (m : Marks) → KeepsSpotEnds failures.now words.now
-            (spot_at (Instruction place) (slice_index_or chains.now saved.frame []) saved.cursor.position m) end
+            (spot_at point (slice_index_or chains.now saved.frame []) saved.cursor.position m) end
             self.old self.new }
         ensures held { IfOk result (λ _. (m : Marks) → HasEnd failures.now words.now end self.new
-            (spot_at (Instruction place) (slice_index_or chains.now saved.frame []) saved.cursor.position m)) }
+            (spot_at point (slice_index_or chains.now saved.frame []) saved.cursor.position m)) }
     {
         let position = saved.cursor.position();
-        match failures.number_under(words, chains, saved.frame, place, position) {
+        match failures.number_under(words, chains, saved.frame, point, position) {
             Some(number) => self.keep(number, end),
             None => Ok(()),
         }

@@ -13,8 +13,7 @@ ghost use Rattle.std.specs.Prelude.{if◌then◌else◌, is_ok, MatchOption, Som
 ghost use Rattle.sre_model.specs.Marks.{Marks};
 ghost use Rattle.sre_turns.specs.Fruit.{is_inside};
 ghost use Rattle.sre_turns.specs.Moves.{spot_at};
-ghost use Rattle.sre_turns.specs.Nested.{repeats, slots};
-ghost use Rattle.sre_turns.specs.declared.Point.TheVariants.{Instruction};
+ghost use Rattle.sre_turns.specs.Nested.{repeats, slots, place_under};
 ghost use Rattle.sre_board.specs.Ends.{NumberOf};
 ghost use Rattle.sre_board.specs.Failures.{Entry, HoldsNone, HoldsNoMore, HoldsOneMore, HasBit, HasNoRow, HasSlots};
 ghost use Rattle.sre_board.specs.Failures.{HoldsStill, BitsStay, BitsKept, Grows, Sets, Tells, Roomy, OneRowMore, Laid};
@@ -22,13 +21,16 @@ ghost use Rattle.sre_board.specs.Failures.{ones, most_words, Capacity, HasRow, N
 
 use crate::board::Board;
 use crate::chains::Chains;
+use crate::places::{is_again, place_under};
 use crate::slots::{add_shape, slot_of};
 use sre_growth::Refusal;
+use sre_turns::Point;
 use std::alloc::Allocator;
 use std::marker::Model;
 
-/// The bits of a place: for so many positions from the first one on, in so many words from a base on. The places of the
-/// loops stand among the shapes from `shape` to `end`, innermost first.
+/// The bits of a place, at which an instruction is or, with `again`, a possessive loop's first operand: for so many
+/// positions from the first one on, in so many words from a base on. The places of the loops stand among the shapes
+/// from `shape` to `end`, innermost first.
 #[derive(Clone, Copy)]
 pub(crate) struct Row {
     pub place: usize,
@@ -38,6 +40,7 @@ pub(crate) struct Row {
     pub end: usize,
     pub base: usize,
     pub length: usize,
+    pub again: bool,
 }
 
 /// What is known of a spot: that nothing came of it, that it has a bit which is not set yet, or that it has none.
@@ -181,8 +184,8 @@ impl<A: Allocator> Failures<A> {
         self.bits.clear();
     }
 
-    /// Makes a row for a place under the loops of a board, for the positions from `first` to `end`, if it has none. One
-    /// that would be too large keeps nothing.
+    /// Makes a row for the place of a point under the loops of a board, for the positions from `first` to `end`, if it
+    /// has none. One that would be too large keeps nothing.
     ///
     /// # Errors
     ///
@@ -192,7 +195,7 @@ impl<A: Allocator> Failures<A> {
         &mut self,
         words: &[u32],
         board: &Board<A>,
-        place: usize,
+        point: Point,
         first: usize,
         end: usize,
     ) -> Result<(), Refusal>
@@ -204,32 +207,39 @@ impl<A: Allocator> Failures<A> {
         ensures bits { BitsKept self.old self.new }
         ensures roomy { (n : ℕ) → HasSlots words.now (repeats board.now.frames) n
             → Roomy words.now n first end self.old → Roomy words.now n first end self.new }
-        ensures rows { NewRow words.now first end place (repeats board.now.frames) self.old self.new }
-        ensures there { IfOk result (λ _. Capacity words.now first end place (repeats board.now.frames) self.old
-            → HasRow self.new place) }
+        ensures rows { NewRow words.now first end point (repeats board.now.frames) self.old self.new }
+        ensures there { IfOk result (λ _. (n : ℕ) → place_under point (repeats board.now.frames) ≡ Some n
+            → Capacity words.now first end n (repeats board.now.frames) self.old → HasRow self.new n) }
     {
+        let _rows = self.rows.len(); // which are laid
+        let (chains, innermost) = board.loops();
+        let Some(place) = place_under(words, point, chains, innermost) else {
+            return Ok(());
+        };
         if self.row(place).is_some() {
             return Ok(());
         }
-        self.add_row(words, board, place, first, end)
+        self.add_row(words, board, point, place, first, end)
     }
 
-    // Makes a row for a place that has none.
+    // Makes a row for a point's place that has none.
     #[inline(never)]
     fn add_row(
         &mut self,
         words: &[u32],
         board: &Board<A>,
+        point: Point,
         place: usize,
         first: usize,
         end: usize,
     ) -> Result<(), Refusal>
-        requires { HasNoRow self.old place }
+        requires none { HasNoRow self.old place }
+        requires place { place_under point (repeats board.now.frames) ≡ Some place }
         ensures grows { Grows self.old self.new }
         ensures laid { Laid self.new }
         ensures roomy { (n : ℕ) → HasSlots words.now (repeats board.now.frames) n
             → Roomy words.now n first end self.old → Roomy words.now n first end self.new }
-        ensures rows { NewRow words.now first end place (repeats board.now.frames) self.old self.new }
+        ensures rows { NewRow words.now first end point (repeats board.now.frames) self.old self.new }
         ensures there { IfOk result (λ _. Capacity words.now first end place (repeats board.now.frames) self.old
             → HasRow self.new place) }
     {
@@ -254,6 +264,7 @@ impl<A: Allocator> Failures<A> {
             end: self.shapes.len(),
             base,
             length,
+            again: is_again(point),
         };
         self.push_row(row, words.len())
     }
@@ -311,17 +322,21 @@ impl<A: Allocator> Failures<A> {
         chains: &Chains<A>,
         innermost: usize,
         inside: bool,
-        place: usize,
+        point: Point,
         position: usize,
     ) -> Option<Bit>
         requires { innermost < length chains.now }
         ensures { (m : Marks)
-            → let spot = spot_at (Instruction place) (slice_index_or chains.now innermost []) position m in
+            → let spot = spot_at point (slice_index_or chains.now innermost []) position m in
             MatchOption result (HasBit self.now words.now inside spot → ⊥)
             (λ b. (b.word < length self.now.bits) × (b.number < 64)
             × Entry self.now words.now inside spot b.word b.number × (b.word < 2 ^ 32)) }
     {
+        let place = place_under(words, point, chains, innermost)?;
         let row = self.row(place)?;
+        if row.again != is_again(point) {
+            return None;
+        }
         if position < row.first || position - row.first >= row.positions {
             return None;
         }
@@ -341,14 +356,14 @@ impl<A: Allocator> Failures<A> {
 
     // The same under the loops of a board, inside a region or not as it is.
     #[inline(always)]
-    fn bit(&self, words: &[u32], board: &Board<A>, place: usize, position: usize) -> Option<Bit>
-        ensures { let spot = spot_at (Instruction place) board.now.frames position board.now.marks in
+    fn bit(&self, words: &[u32], board: &Board<A>, point: Point, position: usize) -> Option<Bit>
+        ensures { let spot = spot_at point board.now.frames position board.now.marks in
             MatchOption result (HasBit self.now words.now (is_inside board.now.choices) spot → ⊥)
             (λ b. (b.word < length self.now.bits) × (b.number < 64)
             × Entry self.now words.now (is_inside board.now.choices) spot b.word b.number × (b.word < 2 ^ 32)) }
     {
         let (chains, innermost) = board.loops();
-        self.bit_under(words, chains, innermost, board.is_inside(), place, position)
+        self.bit_under(words, chains, innermost, board.is_inside(), point, position)
     }
 
     // The number of the bit of a spot inside a region, under the loops of a chain; none where it has no bit.
@@ -358,50 +373,50 @@ impl<A: Allocator> Failures<A> {
         words: &[u32],
         chains: &Chains<A>,
         innermost: usize,
-        place: usize,
+        point: Point,
         position: usize,
     ) -> Option<usize>
         requires { innermost < length chains.now }
         ensures number { (m : Marks)
-            → let spot = spot_at (Instruction place) (slice_index_or chains.now innermost []) position m in
+            → let spot = spot_at point (slice_index_or chains.now innermost []) position m in
             MatchOption result (HasBit self.now words.now true spot → ⊥)
             (λ n. NumberOf self.now words.now true spot n) }
         ensures laid { Laid self.now }
     {
         let _words = self.bits.len(); // in which the rows are laid
-        let bit = self.bit_under(words, chains, innermost, true, place, position)?;
+        let bit = self.bit_under(words, chains, innermost, true, point, position)?;
         Some(bit.word * 64 + bit.number as usize)
     }
 
-    /// The number of the bit of the spot at a place and a position, among the bits of all spots, under the loops of a
+    /// The number of the bit of the spot at a point and a position, among the bits of all spots, under the loops of a
     /// board and inside a region or not as it is; none where the spot has no bit.
     #[inline(never)]
     pub fn number(
         &self,
         words: &[u32],
         board: &Board<A>,
-        place: usize,
+        point: Point,
         position: usize,
     ) -> Option<usize>
-        ensures number { let spot = spot_at (Instruction place) board.now.frames position board.now.marks in
+        ensures number { let spot = spot_at point board.now.frames position board.now.marks in
             MatchOption result (HasBit self.now words.now (is_inside board.now.choices) spot → ⊥)
             (λ n. NumberOf self.now words.now (is_inside board.now.choices) spot n) }
         ensures laid { Laid self.now }
     {
         let _words = self.bits.len(); // in which the rows are laid
-        let bit = self.bit(words, board, place, position)?;
+        let bit = self.bit(words, board, point, position)?;
         Some(bit.word * 64 + bit.number as usize)
     }
 
-    /// What is known of the spot at a place and a position, under the loops of a board and inside a region or not as it
+    /// What is known of the spot at a point and a position, under the loops of a board and inside a region or not as it
     /// is.
     #[inline(never)]
-    pub fn known(&self, words: &[u32], board: &Board<A>, place: usize, position: usize) -> Known
+    pub fn known(&self, words: &[u32], board: &Board<A>, point: Point, position: usize) -> Known
         ensures told { Tells result self.now words.now (is_inside board.now.choices)
-            (spot_at (Instruction place) board.now.frames position board.now.marks) }
+            (spot_at point board.now.frames position board.now.marks) }
         ensures laid { Laid self.now }
     {
-        match self.bit(words, board, place, position) {
+        match self.bit(words, board, point, position) {
             None => Known::NoBit,
             Some(bit) => {
                 if (self.bits[bit.word] >> bit.number) & 1 == 1 {
@@ -415,9 +430,9 @@ impl<A: Allocator> Failures<A> {
 
     /// Keeps a spot, if there is a bit for it, and says whether there is one.
     #[inline(never)]
-    pub fn keep(&mut self, words: &[u32], board: &Board<A>, place: usize, position: usize) -> bool
+    pub fn keep(&mut self, words: &[u32], board: &Board<A>, point: Point, position: usize) -> bool
         ensures more { HoldsOneMore words.now (is_inside board.now.choices)
-            (spot_at (Instruction place) board.now.frames position board.now.marks) self.old self.new }
+            (spot_at point board.now.frames position board.now.marks) self.old self.new }
         ensures still { HoldsStill self.old self.new }
         ensures stay { BitsStay self.old self.new }
         ensures rows { self.new.rows ≡ self.old.rows }
@@ -426,12 +441,12 @@ impl<A: Allocator> Failures<A> {
         ensures laid { Laid self.new }
         ensures bits { BitsKept self.old self.new }
         ensures set { result ≡ true → Sets words.now (is_inside board.now.choices)
-            (spot_at (Instruction place) board.now.frames position board.now.marks) self.old self.new }
+            (spot_at point board.now.frames position board.now.marks) self.old self.new }
         ensures none { result ≡ false → self.new ≡ self.old }
         ensures no_bit { result ≡ false → HasBit self.old words.now (is_inside board.now.choices)
-            (spot_at (Instruction place) board.now.frames position board.now.marks) → ⊥ }
+            (spot_at point board.now.frames position board.now.marks) → ⊥ }
     {
-        match self.bit(words, board, place, position) {
+        match self.bit(words, board, point, position) {
             None => false,
             Some(bit) => {
                 self.bits[bit.word] |= 1 << bit.number;

@@ -13,6 +13,7 @@ mod chains;
 mod ends;
 mod failures;
 mod marks;
+mod places;
 mod slots;
 mod trail;
 

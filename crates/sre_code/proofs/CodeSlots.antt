@@ -8,14 +8,13 @@ use Rattle.sre_model.specs.References.{refers}
 use Rattle.sre_model.specs.Regions.{has_forked_region}
 use Rattle.sre_model.specs.MarksSet.{marks_in_regions}
 use Rattle.sre_model.specs.Slots.{most_slots}
-use Rattle.sre_model.proofs.CountedRegions.{unforked_counted}
 use Rattle.sre_code.specs.PlainItems.{AreTold}
 use Rattle.sre_code.specs.MostSlots.{AreMostSlots, HasTooManySlots, SlotsTold}
 use Rattle.sre_code.specs.TurnsTold.{CountedTold}
 use Rattle.sre_code.specs.declared.code.slots.Passed.{Passed}
 use Rattle.sre_code.specs.declared.code.slots.Regions.TheVariants as regions
 use Rattle.sre_code.specs.declared.code.turns.Counted.{Counted}
-use Rattle.sre_code.proofs.BarredRegions.{barred_forked, barred_uncounted}
+use Rattle.sre_code.proofs.BarredRegions.{barred_forked, never_barred}
 
 -- true, where it is not false
 true_or : (b : Bool) → (b ≡ false → ⊥) → b ≡ true
@@ -33,7 +32,6 @@ module _ (ws : List ℕ) (e : ℕ) (at : e ≡ length ws - 1) (t : Tree) (w : Wh
       let are = told.each t reads in
       let none : has_forked_region t ≡ false = sym (barred_forked t) ∙ are.0.unbarred in (
         record {
-          counted = unforked_counted t none;
           unmarked = λ some. absurd (true≢false (sym some ∙ none));
           no_reference = are.0.no_reference;
           few = are.0.few;
@@ -58,14 +56,13 @@ module _ (ws : List ℕ) (e : ℕ) (at : e ≡ length ws - 1) (t : Tree) (w : Wh
         true≢false
         (sym some ∙ told is.no_reference ∙ is.unmarked (forked is.no_reference is.few))
 
-    pub forked_counted : (p : Passed) (marked : Bool) → AreTold regions.Counted (2 ^ 24) ws 0 e (Some p)
+    pub forked_counted : (p : Passed) (marked : Bool) → AreTold regions.All (2 ^ 24) ws 0 e (Some p)
         → (marked ≡ false → marks_in_regions t ≡ false) → marked ≡ false
         → CountedTold t (Some (record { slots = p.slots; spots = p.slots * 2; alternatives = p.alternatives }))
     forked_counted p marked told unmarked none =
         let are = told.each t reads in
         let some : has_forked_region t ≡ true = forked are.0.no_reference are.0.few in (
           record {
-            counted = sym (barred_uncounted t) ∙ are.0.unbarred;
             unmarked = λ f. unmarked none;
             no_reference = are.0.no_reference;
             few = are.0.few;
@@ -76,14 +73,13 @@ module _ (ws : List ℕ) (e : ℕ) (at : e ≡ length ws - 1) (t : Tree) (w : Wh
         )
 
   -- where the second tells none the tree is not counted
-  pub uncounted : AreTold regions.Counted (2 ^ 24) ws 0 e None → CountedTold t None
+  pub uncounted : AreTold regions.All (2 ^ 24) ws 0 e None → CountedTold t None
   uncounted told = λ is.
       told.each t reads
-      (record { unbarred = barred_uncounted t ∙ is.counted; no_reference = is.no_reference; few = is.few })
+      (record { unbarred = never_barred t; no_reference = is.no_reference; few = is.few })
 
 pub slots_told : (n : ℕ) (c : Counted) (t : Tree) → CountedTold t (Some c) → n ≡ c.slots → AreMostSlots n t
 slots_told n c t told same = record {
-  counted = told.0.counted;
   unmarked = told.0.unmarked;
   no_reference = told.0.no_reference;
   is = same ∙ told.1;
@@ -92,10 +88,10 @@ slots_told n c t told same = record {
 
 pub no_slots : (t : Tree) → CountedTold t None → HasTooManySlots t
 no_slots t told = record {
-  more = λ counted unmarked reference.
+  more = λ unmarked reference.
       elim (few_or_many (most_slots t) (2 ^ 24)) [
         | inl few ↦ absurd
-            (told (record { counted = counted; unmarked = unmarked; no_reference = reference; few = few }))
+            (told (record { unmarked = unmarked; no_reference = reference; few = few }))
         | inr many ↦ many
       ];
 }

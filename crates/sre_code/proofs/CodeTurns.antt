@@ -6,10 +6,11 @@ use Rattle.sre_model.specs.Tree.{Tree}
 use Rattle.sre_model.specs.Found.{Asked}
 use Rattle.sre_model.specs.Slots.{most_slots}
 use Rattle.sre_model.specs.RunCounts.{most_counts}
+use Rattle.sre_model.specs.LooksBehind.{backs}
 use Rattle.sre_model.specs.Alternatives.{most_alternatives}
 use Rattle.sre_model.specs.References.{refers}
 use Rattle.sre_model.specs.Grammar.{WholeItems, Whole, behind_block}
-use Rattle.sre_model.specs.Remembered.{window_positions, words_at_place, IsRemembered, spots_at_most}
+use Rattle.sre_model.specs.Remembered.{kept_positions, words_at_place, IsRemembered, spots_at_most}
 use Rattle.sre_model.specs.Remembered.{enough_turns}
 use Rattle.sre_model.proofs.WiderWindows.{IsInside, remembered_inside, enough_inside}
 use Rattle.sre_code.specs.EnoughTurns.{IsWindow, IsWholeText, AreEnoughFor, HasNoNumber}
@@ -17,14 +18,14 @@ use Rattle.sre_code.specs.TurnsTold.{IsCounted, CountedTold, NumberTold, NumberB
 use Rattle.sre_code.specs.declared.code.turns.Counted.{Counted}
 
 -- the number as it is written, of positions from start to end
-abbrev written : ℕ → ℕ → ℕ → ℕ → ℕ → ℕ → ℕ
-written p s d m start end =
-    (end + 1 - start)
+abbrev written : ℕ → ℕ → ℕ → ℕ → ℕ → ℕ → ℕ → ℕ
+written p s d m b start end =
+    (end + 1 - (start - b))
     * (32 + (2 * p + 4 + 4 * p * (p + 3) * s * (1 + max (min m end) d)) * (1 + min m end / 8))
 
-from_start : (p s d m n : ℕ) → written p s d m 0 n ≡ turns_on p s d m n
-from_start p s d m n =
-    let all : n + 1 - 0 ≡ n + 1 = omega arith in
+from_start : (p s d m b n : ℕ) → written p s d m b 0 n ≡ turns_on p s d m n
+from_start p s d m b n =
+    let all : n + 1 - (0 - b) ≡ n + 1 = omega arith in
     ap (λ f. f * (32 + (2 * p + 4 + 4 * p * (p + 3) * s * (1 + max (min m n) d)) * (1 + min m n / 8))) all
 
 module _ (places : ℕ) (t : Tree) (n : ℕ) where
@@ -33,14 +34,14 @@ module _ (places : ℕ) (t : Tree) (n : ℕ) where
 
   on_whole : (a : Asked) → IsWholeText n a → enough_turns places t a ≡ told
   on_whole a w =
-      ap (λ i. written places (spots_at_most t) (most_alternatives t) (most_counts t) i a.end) w.start
-      ∙ ap (λ j. written places (spots_at_most t) (most_alternatives t) (most_counts t) 0 j) w.end
-      ∙ from_start places (spots_at_most t) (most_alternatives t) (most_counts t) n
+      ap (λ i. written places (spots_at_most t) (most_alternatives t) (most_counts t) (backs t) i a.end) w.start
+      ∙ ap (λ j. written places (spots_at_most t) (most_alternatives t) (most_counts t) (backs t) 0 j) w.end
+      ∙ from_start places (spots_at_most t) (most_alternatives t) (most_counts t) (backs t) n
 
   room_on_whole : (a : Asked) → IsWholeText n a
       → places * words_at_place t a ≡ room_by places (n + 1) (most_slots t)
   room_on_whole a w =
-      let all : window_positions a ≡ n + 1 = omega (arith, w.start, w.end) in
+      let all : kept_positions t a ≡ n + 1 = omega (arith, w.start, w.end) in
       ap (λ f. places * (most_slots t * 2 * f / 64 + 1)) all
 
   -- the whole text that a window stands in
@@ -55,7 +56,7 @@ module _ (places : ℕ) (t : Tree) (n : ℕ) where
 
   whole_on_whole : (a : Asked) → IsWholeText n a → words_at_place t a ≡ most_slots t * 2 * (n + 1) / 64 + 1
   whole_on_whole a w =
-      let all : window_positions a ≡ n + 1 = omega (arith, w.start, w.end) in
+      let all : kept_positions t a ≡ n + 1 = omega (arith, w.start, w.end) in
       ap (λ f. most_slots t * 2 * f / 64 + 1) all
 
   enough_for : (turns : ℕ) → IsCounted t → room_by places (n + 1) (most_slots t) ≤ 2 ^ 30
@@ -68,7 +69,6 @@ module _ (places : ℕ) (t : Tree) (n : ℕ) where
     where
       kept : (a : Asked) → IsRemembered places t (around a)
       kept a = record {
-        counted = counted.counted;
         unmarked = counted.unmarked;
         no_reference = counted.no_reference;
         slots = counted.few;
@@ -108,7 +108,6 @@ no_turns ws n t told = record {
   none = λ a whole kept.
       absurd
       (told (record {
-        counted = kept.counted;
         unmarked = kept.unmarked;
         no_reference = kept.no_reference;
         few = kept.slots;

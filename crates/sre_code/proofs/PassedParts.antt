@@ -1,5 +1,5 @@
 -- What is told of one instruction, by what it is: a loop with its body, a branch, or another one.
-use Rattle.std.proofs.Common.{ℕ, ◌+◌, ◌*◌, ◌/◌, ◌≡◌, ◌≤◌, ◌⊎◌, inl, inr, ⊎_elim, Bool, List, Option}
+use Rattle.std.proofs.Common.{ℕ, ◌+◌, ◌*◌, ◌/◌, ◌≡◌, ◌<◌, ◌≤◌, ◌⊎◌, inl, inr, ⊎_elim, Bool, true, false, List, Option}
 use Rattle.std.proofs.Common.{Some, None, refl, sym, ap, ◌∙◌, subst, arith}
 use Rattle.std.proofs.lemmas.Nat.{le-div}
 use Rattle.std.proofs.Math.Nat.{div-mul-le_self, mul-le-mul_left}
@@ -16,7 +16,7 @@ use Rattle.sre_model.proofs.Places.{alternative_long}
 use Rattle.sre_code.specs.Reading.{ReadsTest, NoCode}
 use Rattle.sre_code.specs.Instructions.{own_words, count_at, Behind, NoneBehind, StandsBehind}
 use Rattle.sre_code.specs.PlainItems.{has_barred_region, ArePlain, IsPlain, flat, AreTold, AreCounted, LoopTold}
-use Rattle.sre_code.specs.PlainItems.{BranchTold, OtherTold, kind_of, ToldBy, ToldAt}
+use Rattle.sre_code.specs.PlainItems.{BranchTold, OtherTold, PossessiveTold, kind_of, ToldBy, ToldAt}
 use Rattle.sre_code.specs.declared.code.slots.Regions.{Regions}
 use Rattle.sre_code.specs.declared.code.slots.Kind.{Kind}
 use Rattle.sre_code.specs.declared.code.slots.Passed.{Passed}
@@ -50,13 +50,38 @@ nothing_left q ws i end = record { each = λ t w x. omega (arith, x.few, some_sl
 pub within : (most slots m : ℕ) → m ≤ most / slots → slots * m ≤ most
 within most slots m le = omega (arith, mul-le-mul_left slots le, div-mul-le_self most slots)
 
-module _ (q : Regions) (ws : List ℕ) (most i by least greatest slots left : ℕ) (to : by ≡ word ws (i + 1))
-    (first : least ≡ word ws (i + 2)) (second : greatest ≡ word ws (i + 3)) (is : slots ≡ loop_slots least greatest)
-    (rest : left ≡ most / slots) where
+module _ (ws : List ℕ) (i least greatest slots : ℕ) (first : least ≡ word ws (i + 2))
+    (second : greatest ≡ word ws (i + 3)) (is : slots ≡ loop_slots least greatest) where
   same_slots : (low high : ℕ) → Word ws (i + 2) low → Word ws (i + 3) high → slots ≡ loop_slots low high
   same_slots low high l h =
       is ∙ ap (λ n. loop_slots n greatest) (first ∙ word_of ws (i + 2) low l)
       ∙ ap (λ n. loop_slots low n) (second ∙ word_of ws (i + 3) high h)
+
+  -- a possessive loop with more slots than there may be ends the scan
+  pub possessive_stops : (stops : Bool) (most : ℕ) → most < slots → PossessiveTold stops most ws i None
+  possessive_stops stops most more =
+      record { each = λ low high l h. inr (omega (arith, more, same_slots low high l h)) }
+
+  -- the words before its body are passed where no fork ends it
+  pub possessive_passed : (stops : Bool) (most : ℕ) → stops ≡ false → slots ≤ most
+      → PossessiveTold stops most ws i (Some (record { behind = i + 4; slots = slots; alternatives = 0 }))
+  possessive_passed stops most goes few = record {
+    each = λ low high l h.
+        let same = same_slots low high l h in (
+          goes,
+          omega (arith, few, same),
+          ap (λ (n : ℕ). record { behind = i + 4; slots = n; alternatives = 0 }) same,
+        );
+  }
+
+pub possessive_barred : (most : ℕ) (ws : List ℕ) (i : ℕ) → PossessiveTold true most ws i None
+possessive_barred most ws i = record { each = λ low high l h. inl refl }
+
+module _ (q : Regions) (ws : List ℕ) (most i by least greatest slots left : ℕ) (to : by ≡ word ws (i + 1))
+    (first : least ≡ word ws (i + 2)) (second : greatest ≡ word ws (i + 3)) (is : slots ≡ loop_slots least greatest)
+    (rest : left ≡ most / slots) where
+  own_slots : (low high : ℕ) → Word ws (i + 2) low → Word ws (i + 3) high → slots ≡ loop_slots low high
+  own_slots = same_slots ws i least greatest slots first second is
 
   same_end : i + 1 + by ≡ skip ws (i + 1)
   same_end = ap (λ n. i + 1 + n) to
@@ -64,7 +89,7 @@ module _ (q : Regions) (ws : List ℕ) (most i by least greatest slots left : �
   pub loop_stops : AreTold q left ws (i + 4) (i + 1 + by) None → LoopTold q most ws i None
   loop_stops told = record {
     each = λ o low high body j w.
-        let same : left ≡ most / loop_slots low high = rest ∙ ap (λ n. most / n) (same_slots low high w.0 w.1) in
+        let same : left ≡ most / loop_slots low high = rest ∙ ap (λ n. most / n) (own_slots low high w.0 w.1) in
         let reads : Reads ws (i + 4) (i + 1 + by) body =
         subst (λ n. Reads ws (i + 4) n body) (sym same_end) w.3 in
         loop_none most low high (most_slots body) (has_barred_region q body) (refers body)
@@ -76,7 +101,7 @@ module _ (q : Regions) (ws : List ℕ) (most i by least greatest slots left : �
       (Some (record { behind = i + 1 + by + 1; slots = slots * p.slots; alternatives = p.alternatives }))
   loop_passed p told = record {
     each = λ o low high body j w.
-        let own : slots ≡ loop_slots low high = same_slots low high w.0 w.1 in
+        let own : slots ≡ loop_slots low high = own_slots low high w.0 w.1 in
         let same : left ≡ most / loop_slots low high = rest ∙ ap (λ n. most / n) own in
         let reads : Reads ws (i + 4) (i + 1 + by) body =
         subst (λ n. Reads ws (i + 4) n body) (sym same_end) w.3 in

@@ -3,23 +3,22 @@
 use Rattle.std.proofs.Common.{ℕ, ◌+◌, ◌≡◌, ◌<◌, ◌≤◌, ◌⊎◌, inl, inr, Bool, true, false, ◌&&◌}
 use Rattle.std.proofs.Common.{◌||◌, List, Option, Some, None, max, refl, sym, ap, ap₂, ◌∙◌, subst, arith}
 use Rattle.std.proofs.lemmas.Bool.{true≢false}
-use Rattle.std.proofs.Math.Nat.{le-max_right, max-zero}
+use Rattle.std.proofs.Math.Nat.{le-max_right, max-zero, zero-max}
 use Rattle.sre_model.specs.Tree.{Tree, Empty, Then, Item, Loop, Trees, Only, Or}
 use Rattle.sre_model.specs.References.{refers, by_references}
 use Rattle.sre_model.specs.Folding.{Folding, of_tree, of_item, of_branch}
 use Rattle.sre_model.proofs.Foldings.{paired, tree_paired, item_paired}
 use Rattle.sre_model.specs.Regions.{forks}
-use Rattle.sre_model.specs.Slots.{most_slots, by_slots}
+use Rattle.sre_model.specs.Slots.{loop_slots, most_slots, by_slots}
 use Rattle.sre_model.specs.Alternatives.{alternatives_of, most_alternatives, by_alternatives}
 use Rattle.sre_model.specs.Roles.{Role, ToTest, TestKind}
 use Rattle.sre_model.specs.Grammar.{Reads}
 use Rattle.sre_model.proofs.Families.{HasRole, test_here}
 use Rattle.sre_model.proofs.Places.{test_past}
-use Rattle.sre_model.proofs.Words.{word_of}
 use Rattle.sre_code.specs.Instructions.{own_words}
 use Rattle.sre_code.specs.PlainItems.{stops_at_forks, by_barred_regions, has_barred_region, ArePlain, IsPlain}
 use Rattle.sre_code.specs.PlainItems.{TreeTold, ItemTold, flat, AreTold, flat_unless, region_passed, kind_of, ToldBy}
-use Rattle.sre_code.specs.PlainItems.{ToldAt}
+use Rattle.sre_code.specs.PlainItems.{ToldAt, OwnTold}
 use Rattle.sre_code.specs.declared.code.slots.Regions.{Regions}
 use Rattle.sre_code.specs.declared.code.slots.Kind.{Kind}
 use Rattle.sre_code.specs.declared.code.slots.Kind.TheVariants as kind
@@ -234,6 +233,33 @@ module _ (q : Regions) (ws : List ℕ) (most : ℕ) (some : 1 ≤ most) where
     region_scanned i b j body false before lt told y =
         behind scanner i b j (of_tree (by_all q) body) (flat_passed i b 0 before told) y
 
+    -- a possessive loop, whose body is stepped into
+    loop_scanned : (i j slots : ℕ) (a : (Bool × Bool) × (ℕ × ℕ)) (stops : Bool) → i < j
+        → ((r : Option Passed) → ToldAt q most ws i r → OwnTold stops most slots (i + 4) r)
+        → Passes (i + 4) j a → Passes i j ((stops || a.0.0, a.0.1), (max slots a.1.0, a.1.1))
+    loop_scanned i j slots a true lt told y =
+        barred i j _ lt (λ r h. none r (told r h)) (λ x. true≢false x.unbarred)
+      where
+        none : (r : Option Passed) → OwnTold true most slots (i + 4) r → r ≡ None
+        none (Some p) h = absurd (true≢false h.0)
+        none None h = refl
+    loop_scanned i j slots a false lt told y =
+        subst (λ n. Passes i j (a.0, (max slots a.1.0, n))) (zero-max a.1.1)
+        (join scanner i (i + 4) j ((false, false), (slots, 0)) a
+        (step scanner i (i + 4) ((false, false), (slots, 0)) (omega arith)
+        (λ k c h.
+        let is = told (Some (reached k c.0 c.1)) h in (
+          record { unbarred = refl; no_reference = refl; few = is.1 },
+          ap (λ (p : Passed). p.behind) is.2,
+          ap (λ (p : Passed). (p.slots, p.alternatives)) is.2,
+        ))
+        (λ h x. many (told None h) x.few))
+        y)
+      where
+        many : OwnTold false most slots (i + 4) None → slots ≤ most → ⊥
+        many (inl e) few = absurd (true≢false (sym e))
+        many (inr more) few = omega (arith, more, few)
+
     instructions : Instructions scanner
     instructions = record {
       own = λ i n o h has some none other plain. own i n o h has some other;
@@ -258,15 +284,14 @@ module _ (q : Regions) (ws : List ℕ) (most : ℕ) (some : 1 ≤ most) where
           item_passed i j (Loop o low high body) lt
           (λ r told. (by_role i _ kind.Loop r h refl told).each o low high body j w);
       possessive = λ i j low high body lt h w y.
-          barred i j _ lt (λ r told. by_role i _ kind.PossessiveLoop r h refl told) (λ x. true≢false x.unbarred);
+          loop_scanned i j (loop_slots low high) (of_tree (by_all q) body) (stops_at_forks q) lt
+          (λ r told. (by_role i _ kind.PossessiveLoop r h refl told).each low high w.0 w.1) y;
       atomic = λ i j body lt h w y.
-          region_scanned i (i + 2) j body (stops_at_forks q 0) (omega arith) lt
+          region_scanned i (i + 2) j body (stops_at_forks q) (omega arith) lt
           (λ r told. (by_role i _ kind.AtomicGroup r h refl told).each body j w.0 w.1) y;
       look = λ i j sign back body lt h w y.
-          region_scanned i (i + 3) j body (stops_at_forks q back) (omega arith) lt
-          (λ r told.
-          subst (λ n. r ≡ region_passed (stops_at_forks q n) (forks body || refers body) (i + 3) j)
-          (word_of ws (i + 2) back w.1) ((by_role i _ kind.Look r h refl told).each body j w.0 w.2)) y;
+          region_scanned i (i + 3) j body (stops_at_forks q) (omega arith) lt
+          (λ r told. (by_role i _ kind.Look r h refl told).each body j w.0 w.2) y;
       reference = λ i j f g lt h w. referring i j _ _ lt h refl to_refer refl (λ x. true≢false x.no_reference);
       exists = λ i j g there lt h. referring i j _ _ lt h refl to_check refl (λ x. true≢false x.no_reference);
       exists_else = λ i j g there absent lt h.

@@ -4,7 +4,7 @@ use Rattle.std.specs.Prelude.{ℕ, ◌+◌, ◌≡◌, ◌<◌, ◌⊎◌, List,
 use Rattle.sre_chars.specs.declared.constants.SreOpcode.{SreOpcode}
 use Rattle.sre_model.specs.Tree.{Test, Fold}
 use Rattle.sre_model.specs.Grammar.{Opcode, word, reference_opcode}
-use Rattle.sre_model.specs.RunCounts.{run_count}
+use Rattle.sre_model.specs.Slots.{counted_to}
 use Rattle.sre_model.specs.Roles.{Role, ToFail, ToEnd, ToCheckPosition, ToMark, ToBranch, ToJump, ToRun, ToRepeat}
 use Rattle.sre_model.specs.Roles.{ToLoop}
 use Rattle.sre_model.specs.Roles.{ToRepeatPossessively, ToGroupAtomically, ToLook, role}
@@ -30,13 +30,22 @@ own_words _ = None
 -- up to which number the characters of a run with these counts make a difference, or how many a look goes back, by the
 -- words behind the first two; 0 where neither is
 abbrev pub count_by : Role → ℕ → ℕ → ℕ
-count_by (ToRun kind) low high = run_count kind low high
+count_by (ToRun kind) low high = counted_to low high
 count_by (ToLook sign) back next = back
 count_by _ low high = 0
 
 -- the same of the instruction at i, which has this opcode
 abbrev pub count_at : SreOpcode → List ℕ → ℕ → ℕ
 count_at o ws i = count_by (role o) (word ws (i + 2)) (word ws (i + 3))
+
+-- how many characters a look goes back, by the words behind the first two; 0 where none is
+abbrev pub back_by : Role → ℕ → ℕ → ℕ
+back_by (ToLook sign) back next = back
+back_by _ back next = 0
+
+-- the same of the instruction at i, which has this opcode
+abbrev pub back_at : SreOpcode → List ℕ → ℕ → ℕ
+back_at o ws i = back_by (role o) (word ws (i + 2)) (word ws (i + 3))
 
 -- at i stands an instruction that is neither a reference nor a condition, and the next one at k; it counts c
 pub record Behind (ws : List ℕ) (i k c : ℕ) : Type 0 where
@@ -58,6 +67,17 @@ pub record StandsBehind (ws : List ℕ) (i k : ℕ) : Type 0 where
 abbrev pub NextPlaceAt : List ℕ → ℕ → Option ℕ → Type 0
 NextPlaceAt ws i (Some k) = (i < k) × StandsBehind ws i k
 NextPlaceAt ws i None = NoneBehind ws i
+
+-- where the next instruction stands, and how far the one at i goes back, or that none such is at i
+pub record LooksBack (ws : List ℕ) (i k back : ℕ) : Type 0 where
+  pub behind : StandsBehind ws i k
+  pub code : SreOpcode
+  pub there : Opcode ws i code
+  pub is : back ≡ back_at code ws i
+
+abbrev pub BackAt : List ℕ → ℕ → Option (ℕ × ℕ) → Type 0
+BackAt ws i (Some p) = (i < p.0) × LooksBack ws i p.0 p.1
+BackAt ws i None = NoneBehind ws i
 
 -- where the next instruction stands, and what the one at i counts, or that none such is at i
 abbrev pub NextAt : List ℕ → ℕ → Option (ℕ × ℕ) → Type 0

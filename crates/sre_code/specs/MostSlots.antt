@@ -1,26 +1,24 @@
--- How many slots the loops of a code have, where it has no references, and its regions are counted.
+-- How many slots the loops of a code have, where it has no references.
 -- Public clauses rest on it.
 use Rattle.std.specs.Prelude.{ℕ, ◌^◌, ◌≡◌, ◌<◌, ◌≤◌, true, false, Option, Some, None}
 use Rattle.sre_model.specs.Tree.{Tree}
 use Rattle.sre_model.specs.References.{refers}
-use Rattle.sre_model.specs.Regions.{has_forked_region, has_uncounted_region}
+use Rattle.sre_model.specs.Regions.{has_forked_region}
 use Rattle.sre_model.specs.MarksSet.{marks_in_regions}
 use Rattle.sre_model.specs.Slots.{most_slots}
 
--- the tree has neither regions that are not counted nor references, where a region forks none sets a mark, and its
--- loops have so many slots at most, which are no more than may be told apart
+-- the tree has no references, where a region forks none sets a mark, and its loops have so many slots at most, which
+-- are no more than may be told apart
 pub record AreMostSlots (n : ℕ) (t : Tree) : Type 0 where
-  pub counted : has_uncounted_region t ≡ false
   pub unmarked : has_forked_region t ≡ true → marks_in_regions t ≡ false
   pub no_reference : refers t ≡ false
   pub is : n ≡ most_slots t
   pub few : n ≤ 2 ^ 24
 
--- the tree has such a region, such a mark, a reference, or more slots than may be told apart
+-- the tree has such a mark, a reference, or more slots than may be told apart
 pub record HasTooManySlots (t : Tree) : Type 0 where
   pub more :
-      has_uncounted_region t ≡ false → (has_forked_region t ≡ true → marks_in_regions t ≡ false) → refers t ≡ false
-      → 2 ^ 24 < most_slots t
+      (has_forked_region t ≡ true → marks_in_regions t ≡ false) → refers t ≡ false → 2 ^ 24 < most_slots t
 
 -- what is told of a tree's slots
 abbrev pub SlotsTold : Tree → Option ℕ → Type 0

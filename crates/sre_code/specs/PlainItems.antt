@@ -1,16 +1,16 @@
 -- Items without references, whose loops have few slots within each other, and whose regions a scan goes past: those
--- that do not fork, so that no branch, run or loop is in their bodies, or those whose turns are counted.
+-- that do not fork, so that no branch, run or loop is in their bodies, or all of them.
 -- Words of the check's contracts; what sre_engine makes public does not rest on it.
-use Rattle.std.specs.Prelude.{ℕ, ◌+◌, ◌-◌, ◌≡◌, ◌≤◌, Bool, true, false, ◌||◌, ◌&&◌, nat_lt, cond}
+use Rattle.std.specs.Prelude.{ℕ, ◌+◌, ◌-◌, ◌≡◌, ◌<◌, ◌≤◌, ◌⊎◌, Bool, true, false, ◌||◌, ◌&&◌, cond}
 use Rattle.std.specs.Prelude.{List, Option, Some, None}
 use Rattle.sre_chars.specs.declared.constants.SreOpcode.{SreOpcode}
 use Rattle.sre_model.specs.Tree.{Tree, Item, Loop, PossessiveLoop, Atomic, Look, Trees, Order}
-use Rattle.sre_model.specs.Grammar.{word, skip, Opcode, Operands, Reads, ReadsBranch}
+use Rattle.sre_model.specs.Grammar.{Word, skip, Opcode, Operands, Reads, ReadsBranch}
 use Rattle.sre_model.specs.Roles.{Role, ToBranch, ToRepeat, ToRepeatPossessively, ToGroupAtomically, ToLook, role}
 use Rattle.sre_model.specs.References.{refers, by_references}
 use Rattle.sre_model.specs.Folding.{Folding, of_tree, of_item}
 use Rattle.sre_model.specs.Regions.{forks}
-use Rattle.sre_model.specs.Slots.{most_slots, by_slots}
+use Rattle.sre_model.specs.Slots.{loop_slots, most_slots, by_slots}
 use Rattle.sre_model.specs.Alternatives.{alternatives_of, most_alternatives, by_alternatives}
 use Rattle.sre_code.specs.Instructions.{Behind, NoneBehind}
 use Rattle.sre_code.specs.declared.code.slots.Regions.{Regions}
@@ -19,19 +19,19 @@ use Rattle.sre_code.specs.declared.code.slots.Kind.{Kind}
 use Rattle.sre_code.specs.declared.code.slots.Kind.TheVariants as kind
 use Rattle.sre_code.specs.declared.code.slots.Passed.{Passed}
 
--- whether a fork in the body of an atomic group, or of a look that goes back so many characters, ends a scan
-abbrev pub stops_at_forks : Regions → ℕ → Bool
-stops_at_forks regions.Straight back = true
-stops_at_forks regions.Counted back = nat_lt 0 back
+-- whether a region that forks ends a scan
+abbrev pub stops_at_forks : Regions → Bool
+stops_at_forks regions.Straight = true
+stops_at_forks regions.All = false
 
 -- the regions that end a scan
 abbrev pub by_barred_regions : Regions → Folding Bool
 by_barred_regions q = record { nothing = false; both = ◌||◌; item = barred_here }
   where
     barred_here : Item → Bool → Bool
-    barred_here (PossessiveLoop low high body) inside = true
-    barred_here (Atomic body) inside = (stops_at_forks q 0 && forks body) || inside
-    barred_here (Look sign back body) inside = (stops_at_forks q back && forks body) || inside
+    barred_here (PossessiveLoop low high body) inside = stops_at_forks q || inside
+    barred_here (Atomic body) inside = (stops_at_forks q && forks body) || inside
+    barred_here (Look sign back body) inside = (stops_at_forks q && forks body) || inside
     barred_here x inside = inside
 
 -- whether one stands anywhere in a tree
@@ -99,6 +99,19 @@ pub record RegionTold (stops : Bool) (ws : List ℕ) (i b : ℕ) (r : Option Pas
       (body : Tree) (j : ℕ) → j ≡ skip ws (i + 1) → Reads ws b (j - 1) body
       → r ≡ region_passed stops (forks body || refers body) b j
 
+-- what is told of a possessive loop with so many slots, whose body begins at b: it ends the scan, or has too many
+-- slots, or the words before the body are passed
+abbrev pub OwnTold : Bool → ℕ → ℕ → ℕ → Option Passed → Type 0
+OwnTold stops most slots b (Some p) =
+    (stops ≡ false) × (slots ≤ most) × (p ≡ record { behind = b; slots = slots; alternatives = 0 })
+OwnTold stops most slots b None = (stops ≡ true) ⊎ (most < slots)
+
+-- the same by the words at i
+pub record PossessiveTold (stops : Bool) (most : ℕ) (ws : List ℕ) (i : ℕ) (r : Option Passed) : Type 0 where
+  pub each :
+      (low high : ℕ) → Word ws (i + 2) low → Word ws (i + 3) high
+      → OwnTold stops most (loop_slots low high) (i + 4) r
+
 -- what is told of any other instruction
 pub record OtherTold (ws : List ℕ) (i : ℕ) (r : Option Passed) : Type 0 where
   pub some : (k c : ℕ) → Behind ws i k c → r ≡ Some (flat k 0)
@@ -115,9 +128,9 @@ kind_of _ = kind.Other
 abbrev pub ToldBy : Kind → Regions → ℕ → List ℕ → ℕ → Option Passed → Type 0
 ToldBy kind.Loop q most ws i r = LoopTold q most ws i r
 ToldBy kind.Branch q most ws i r = BranchTold ws i r
-ToldBy kind.AtomicGroup q most ws i r = RegionTold (stops_at_forks q 0) ws i (i + 2) r
-ToldBy kind.Look q most ws i r = RegionTold (stops_at_forks q (word ws (i + 2))) ws i (i + 3) r
-ToldBy kind.PossessiveLoop q most ws i r = r ≡ None
+ToldBy kind.AtomicGroup q most ws i r = RegionTold (stops_at_forks q) ws i (i + 2) r
+ToldBy kind.Look q most ws i r = RegionTold (stops_at_forks q) ws i (i + 3) r
+ToldBy kind.PossessiveLoop q most ws i r = PossessiveTold (stops_at_forks q) most ws i r
 ToldBy kind.Other q most ws i r = OtherTold ws i r
 
 -- what is told of the instruction at i, by what it is

@@ -3,7 +3,7 @@
 use Rattle.std.specs.Prelude.{ℕ, ◌+◌, ◌-◌, ◌*◌, ◌/◌, ◌^◌, ◌≡◌, ◌<◌, ◌≤◌, true, false, min, max, Option, Some, None}
 use Rattle.sre_model.specs.Tree.{Tree}
 use Rattle.sre_model.specs.References.{refers}
-use Rattle.sre_model.specs.Regions.{has_forked_region, has_uncounted_region}
+use Rattle.sre_model.specs.Regions.{has_forked_region}
 use Rattle.sre_model.specs.MarksSet.{marks_in_regions}
 use Rattle.sre_model.specs.Slots.{most_slots}
 use Rattle.sre_model.specs.Alternatives.{most_alternatives}
@@ -11,10 +11,8 @@ use Rattle.sre_model.specs.Remembered.{spots_at_most}
 use Rattle.sre_code.specs.EnoughTurns.{AreEnoughFor, HasNoNumber}
 use Rattle.sre_code.specs.declared.code.turns.Counted.{Counted}
 
--- the tree has neither regions that are not counted nor references, where a region forks none sets a mark, and the
--- slots are no more than may be told apart
+-- the tree has no references, where a region forks none sets a mark, and the slots are no more than may be told apart
 pub record IsCounted (t : Tree) : Type 0 where
-  pub counted : has_uncounted_region t ≡ false
   pub unmarked : has_forked_region t ≡ true → marks_in_regions t ≡ false
   pub no_reference : refers t ≡ false
   pub few : most_slots t ≤ 2 ^ 24

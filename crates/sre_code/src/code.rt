@@ -8,11 +8,12 @@
 //! the characters of their runs count; and what the block claims is compared with the first items, which confirm it or
 //! not.
 
-ghost use Rattle.std.specs.Prelude.{◌≡◌, ◌≢◌, ◌≤◌, false, length, IfOk, IfErr, OnOk, IfSome, None, min};
+ghost use Rattle.std.specs.Prelude.{◌≡◌, ◌≢◌, ◌≤◌, ◌-◌, ◌^◌, false, length, IfOk, IfErr, OnOk, IfSome, None, min};
 ghost use Rattle.sre_model.specs.Tree.{Tree};
 ghost use Rattle.sre_model.specs.Grammar.{Whole};
 ghost use Rattle.sre_model.specs.References as references;
 ghost use Rattle.sre_model.specs.RunCounts as run_counts;
+ghost use Rattle.sre_model.specs.LooksBehind as looks_behind;
 ghost use Rattle.sre_model.specs.MarksSet.{marks_in_regions};
 ghost use Rattle.sre_code.specs.Hinted.{Confirmed};
 ghost use Rattle.sre_model.specs.Grammar.{AreItems, IsCode, HasOneTree, behind_block};
@@ -33,6 +34,7 @@ mod descent;
 mod error;
 mod first_set;
 mod item;
+mod looks_behind;
 mod marked_regions;
 mod part;
 mod prefix;
@@ -250,8 +252,8 @@ impl<'a> Code<'a> {
     }
 
     /// Up to which number the characters that one instruction goes over make a difference: the greatest count of the
-    /// code's runs of one test, or the least one of a run without a greatest; 4294967295 where a possessive run has no
-    /// greatest; and how far a look goes back, if that is more. It tells nothing where the code refers to groups.
+    /// code's runs of one test, or the least one of a run without a greatest; and how far a look goes back, if that is
+    /// more. It tells nothing where the code refers to groups.
     #[inline(always)]
     pub fn most_counts(&self) -> u32
         ensures { (tree : Tree) → Whole (words_of self.now) tree → references.refers tree ≡ false
@@ -281,14 +283,32 @@ impl<'a> Code<'a> {
         marked_regions::regions_set_marks(self.items())
     }
 
+    /// How many characters the looks of the code go back together: from where it stands it looks no further back. Of a
+    /// code that refers to groups nothing is told.
+    ///
+    /// Each call goes over the words anew, so its time grows with them. The machine asks this once a search, before it
+    /// keeps what failed.
+    ///
+    /// ```
+    /// // The words of `(?<=ab)(?<!c)`.
+    /// let words = [4, 7, 2, 16, 97, 16, 98, 1, 5, 5, 1, 16, 99, 1, 1];
+    /// assert_eq!(Code::check(alloc, &words, &uni)?.looks_back(), 3);
+    /// ```
+    pub fn looks_back(&self) -> usize
+        ensures { (tree : Tree) → Whole (words_of self.now) tree → references.refers tree ≡ false
+            → result ≡ min (looks_behind.backs tree) (2 ^ 64 - 1) }
+    {
+        looks_behind::backs(self.items())
+    }
+
     /// How many states of the loops in progress make a difference at a place of the code, at most: those of each loop
     /// times those of the loops inside it. A loop has two for each count of bodies that makes a difference, as far as
     /// its greatest count, or its least where it has no greatest. What failed is kept for up to 16,777,216 of them.
     ///
-    /// `None` where there are more, and where the code has a reference, a condition, a possessive loop, or a look
-    /// behind whose body has a branch, a run or a loop; and where the body of an atomic group or of another look has
-    /// one, and a mark is set inside a region (`regions_set_marks`). Of such codes it is not told. Each call goes over
-    /// the words anew, so its time grows with them.
+    /// `None` where there are more, and where the code has a reference or a condition; and where the code has a
+    /// possessive loop, or the body of an atomic group or of a look has a branch, a run or a loop, and a mark is set
+    /// inside a region (`regions_set_marks`). Of such codes it is not told. Each call goes over the words anew, so its
+    /// time grows with them.
     ///
     /// ```
     /// // The words of `(?:(?:ab)+c){1,5}`, whose loops have 4 and 12 slots.
@@ -313,11 +333,11 @@ impl<'a> Code<'a> {
     /// any window of a text of at most so many characters: one more than `enough_turns` of the whole text. It grows
     /// with the text, and is told without one, in a time that grows with the words alone.
     ///
-    /// `None` where no such number is known: where the code has a reference, a condition, a possessive loop, or a look
-    /// behind whose body has a branch, a run or a loop; where the body of an atomic group or of another look has one,
-    /// and a mark is set inside a region (`regions_set_marks`); where not all that failed may be kept, since its loops
-    /// have more than 16,777,216 slots within each other (`most_slots`), or there is no room for so many characters,
-    /// which with more than 4,096 slots is less; and where the number takes more than 64 bits.
+    /// `None` where no such number is known: where the code has a reference or a condition; where the code has a
+    /// possessive loop, or the body of an atomic group or of a look has a branch, a run or a loop, and a mark is set
+    /// inside a region (`regions_set_marks`); where not all that failed may be kept, since its loops have more than
+    /// 16,777,216 slots within each other (`most_slots`), or there is no room for so many characters, which with more
+    /// than 4,096 slots is less; and where the number takes more than 64 bits.
     pub fn enough_turns(&self, characters: usize) -> Option<u64>
         ensures enough { IfSome result (λ turns. (tree : Tree) → Whole (words_of self.now) tree
             → AreEnoughFor (length (items_of self.now)) tree characters turns) }

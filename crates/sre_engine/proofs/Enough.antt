@@ -7,7 +7,7 @@ use Rattle.sre_chars.specs.declared.string.StrDrive.{Ghosts}
 use Rattle.sre_growth.specs.Refusal.{Refused}
 use Rattle.sre_model.specs.Regions.{has_forked_region}
 use Rattle.sre_model.specs.Slots.{most_slots}
-use Rattle.sre_model.specs.Remembered.{window_positions, spots_at_most, ways_at_most, enough_turns}
+use Rattle.sre_model.specs.Remembered.{kept_positions, spots_at_most, ways_at_most, enough_turns}
 use Rattle.sre_request.specs.declared.request.Request.{Request}
 use Rattle.sre_request.specs.Requests.{start_of, end_of, asked_of, code_of}
 use Rattle.sre_request.specs.Runs.{run_of}
@@ -29,21 +29,23 @@ by_spots false w n f g = omega arith
 
 -- runs from as many starts as there are, from where a memo begins, cost no more
 few : {S : Type 0} {text : Ghosts S} (r : Request S text) (pl : Remembering r) (runs : ℕ)
-    → runs ≤ window_positions (asked_of r)
+    → runs ≤ end_of r + 1 - start_of r
     → most_waits r + search_cost r pl runs (most_tolls r pl)
     ≤ enough_turns (length (run_of r).words) pl.plain.tree (asked_of r)
 few r pl runs l =
     let w : ℕ = length (run_of r).words in
-    let f : ℕ = window_positions (asked_of r) in
     let t = pl.plain.tree in
+    let f : ℕ = kept_positions t (asked_of r) in
+    let window : end_of r + 1 - start_of r ≤ f = omega arith in
+    let waits : most_waits r ≤ f * 32 = omega (arith, pl.order) in
     let s : ℕ = spots_at_most t in
     let ways : ℕ = 1 + ways_at_most pl.plain.tree (asked_of r) in
-    let own : runs * (2 * w + 4) ≤ f * (2 * w + 4) = mul-le-mul_right (2 * w + 4) l in
+    let own : runs * (2 * w + 4) ≤ f * (2 * w + 4) = mul-le-mul_right (2 * w + 4) (omega (arith, l, window)) in
     let bits : most_tolls r pl ≡ w * (s * f) * ways = by_spots (has_forked_region t) w (most_slots t) f ways in
     let tolls : most_tolls r pl * grant (run_of r).words ≤ f * (4 * w * (w + 3) * s * ways) = rw bits (omega arith) in
     let all : runs * (2 * w + 4) + most_tolls r pl * grant (run_of r).words
     ≤ f * (2 * w + 4 + 4 * w * (w + 3) * s * ways) = omega (arith, own, tolls) in
-    omega (arith, mul-le-mul_right (each_of r pl) all)
+    omega (arith, mul-le-mul_right (each_of r pl) all, waits)
 
 module _ {S : Type 0} {text : Ghosts S} (r : Request S text) (given : ℕ)
     (enough : AreEnough (asked_of r) (code_of r) given) where
@@ -53,7 +55,6 @@ module _ {S : Type 0} {text : Ghosts S} (r : Request S text) (given : ℕ)
     plain = record {
       tree = enough.tree;
       whole = items_whole (code_of r) enough.tree enough.whole;
-      counted = enough.remembered.counted;
       no_reference = enough.remembered.no_reference;
     };
     unmarked = enough.remembered.unmarked;

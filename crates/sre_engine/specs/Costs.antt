@@ -5,7 +5,7 @@ use Rattle.sre_chars.specs.declared.string.StrDrive.{Ghosts}
 use Rattle.sre_growth.specs.Refusal.{Refused}
 use Rattle.sre_board.specs.Accounts.{most_bits}
 use Rattle.sre_request.specs.declared.request.Request.{Request}
-use Rattle.sre_request.specs.Requests.{start_of, code_of, asked_of}
+use Rattle.sre_request.specs.Requests.{code_of, asked_of}
 use Rattle.sre_request.specs.Runs.{run_of}
 use Rattle.sre_turns.specs.Limits.{grant}
 use Rattle.sre_machine.specs.Allowances.{is_limited, left_of, Halted}
@@ -13,7 +13,7 @@ use Rattle.sre_machine.specs.declared.allowance.Allowance.{Allowance}
 use Rattle.sre_machine.specs.declared.turns.Halt.{Halt}
 use Rattle.sre_machine.specs.declared.turns.Halt.TheVariants as halt
 use Rattle.sre_machine.specs.Memos.{MemoValue}
-use Rattle.sre_machine.specs.Paying.{Remembering, HoldsBits, weight, each_of, window_of}
+use Rattle.sre_machine.specs.Paying.{Remembering, HoldsBits, rows_from, weight, each_of, window_of}
 use Rattle.sre_engine.specs.Counts.{SpentUpTo}
 
 -- what so many runs count for at most, by the tolls that are granted to them
@@ -23,7 +23,7 @@ search_cost r pl runs tolls =
 
 -- how many tolls are granted at most from where a memo begins
 abbrev pub most_tolls : {S : Type 0} {text : Ghosts S} (r : Request S text) → Remembering r → ℕ
-most_tolls r pl = most_bits (run_of r) pl.plain (start_of r) * weight r pl
+most_tolls r pl = most_bits (run_of r) pl.plain (rows_from r pl) * weight r pl
 
 -- how many turns a memo waits at most before failures are kept
 abbrev pub most_waits : {S : Type 0} {text : Ghosts S} → Request S text → ℕ

@@ -12,6 +12,7 @@ pub use Rattle.sre_model.specs.Regions
 pub use Rattle.sre_model.specs.MarksSet
 pub use Rattle.sre_model.specs.Slots
 pub use Rattle.sre_model.specs.RunCounts
+pub use Rattle.sre_model.specs.LooksBehind
 pub use Rattle.sre_model.specs.Alternatives
 pub use Rattle.sre_model.specs.Remembered
 pub use Rattle.sre_model.specs.Width

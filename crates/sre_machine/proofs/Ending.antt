@@ -21,10 +21,9 @@ use Rattle.sre_board.specs.Accounts.{Account, BitOf, IsEnded, StaysEnded}
 use Rattle.sre_board.proofs.AccountLaws.{account_ends, account_same_ends}
 use Rattle.sre_board.proofs.EndsTold.{bit_numbered}
 use Rattle.sre_request.specs.declared.request.Request.{Request}
-use Rattle.sre_request.specs.Requests.{start_of}
 use Rattle.sre_request.specs.Runs.{run_of}
 use Rattle.sre_machine.specs.Memos.{MemoValue}
-use Rattle.sre_machine.specs.Paying.{Holds, Holding, Pays, Remembering, weight}
+use Rattle.sre_machine.specs.Paying.{Holds, Holding, Pays, Remembering, rows_from, weight}
 use Rattle.sre_machine.specs.Turns.{KeepsBodyEnd, Proceeds}
 use Rattle.sre_machine.proofs.Paying.{grants_nothing}
 
@@ -69,9 +68,10 @@ module _ {S : Type 0} {text : Ghosts S} (r : Request S text) (cursor : StringCur
             n,
             record {
               account =
-                  account_same_ends (run_of r) pl.plain (start_of r) m'.kept m.ends m'.ends l.trying n still
-                  (subst (λ k. Account (run_of r) pl.plain (start_of r) k m.ends l.trying n)
+                  account_same_ends (run_of r) pl.plain (rows_from r pl) m'.kept m.ends m'.ends l.trying n still
+                  (subst (λ k. Account (run_of r) pl.plain (rows_from r pl) k m.ends l.trying n)
                   (sym (ap (λ (k : MemoValue). k.kept) same)) h.account);
+              first = ap (λ (k : MemoValue). k.first) same ∙ h.first;
               ends = λ forked. ap (λ (k : MemoValue). k.keeps_ends) same ∙ h.ends forked;
               forked = h.forked;
             },
@@ -130,10 +130,11 @@ module _ {S : Type 0} {text : Ghosts S} (r : Request S text) (cursor : StringCur
               n,
               record {
                 account =
-                    subst (λ k. Account (run_of r) pl.plain (start_of r) k m'.ends left n)
+                    subst (λ k. Account (run_of r) pl.plain (rows_from r pl) k m'.ends left n)
                     (sym (ap (λ (k : MemoValue). k.kept) same))
-                    (account_ends (run_of r) pl.plain (start_of r) m.kept m.ends m'.ends (open_attempts b.choices) left n
-                    (ended pl n opened h e) still was.account);
+                    (account_ends (run_of r) pl.plain (rows_from r pl) m.kept m.ends m'.ends (open_attempts b.choices)
+                    left n (ended pl n opened h e) still was.account);
+                first = ap (λ (k : MemoValue). k.first) same ∙ h.first;
                 ends = λ forked. ap (λ (k : MemoValue). k.keeps_ends) same ∙ h.ends forked;
                 forked = all_behind (Forked pl) (open_attempts b.choices) left was.forked;
               },

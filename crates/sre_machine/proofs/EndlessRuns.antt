@@ -4,11 +4,12 @@ use Rattle.std.proofs.Common.{refl, sym, subst, arith}
 use Rattle.sre_chars.specs.declared.constants.SreOpcode.TheVariants as opcode
 use Rattle.sre_chars.specs.declared.string.StrDrive.{Ghosts}
 use Rattle.sre_chars.specs.declared.string.StringCursor.{StringCursor}
-use Rattle.sre_model.specs.Grammar.{Word, Opcode, word}
+use Rattle.sre_model.specs.Grammar.{Word, Opcode, run_opcode, word}
+use Rattle.sre_model.specs.Runs.{Run}
 use Rattle.sre_model.specs.Standing.{HasTest, TestStands}
 use Rattle.sre_model.specs.Subject.{passes}
-use Rattle.sre_model.specs.Tree.{Test}
-use Rattle.sre_model.specs.Ways.{Way, run_length}
+use Rattle.sre_model.specs.Tree.{RunKind, Test}
+use Rattle.sre_model.specs.Ways.{Way, unlimited, run_length}
 use Rattle.sre_model.proofs.Longest.{run_inside, run_at_most}
 use Rattle.sre_model.proofs.Words.{word_there}
 use Rattle.sre_turns.specs.Board.{BoardValue, Else}
@@ -22,15 +23,26 @@ use Rattle.sre_turns.proofs.Moving.{both_first, both_second}
 use Rattle.sre_turns.proofs.RunEnds.{run_next, passed, pass_last}
 use Rattle.sre_turns.proofs.LazyRunEnds.{lazy_next}
 use Rattle.sre_turns.proofs.NextRuns.{greedy_both, greedy_only, greedy_short, lazy_both, lazy_only, lazy_short}
-use Rattle.sre_turns.proofs.NextRuns.{both_wait_there}
-use Rattle.sre_turns.proofs.StepsInRuns.{operands_within}
+use Rattle.sre_turns.proofs.NextRuns.{both_wait_there, possessive_on, possessive_only, possessive_short}
+use Rattle.sre_turns.proofs.StepsInRuns.{operands_within, run_there}
 use Rattle.sre_request.specs.declared.request.Request.{Request}
 use Rattle.sre_request.specs.Requests.{end_of}
 use Rattle.sre_request.specs.Runs.{run_of, OpcodeAt, Standing}
 use Rattle.sre_machine.specs.Runs.{AreOperands}
 use Rattle.sre_machine.specs.Turns.{At}
-use Rattle.sre_machine.specs.EndlessRuns.{AllTaken, LacksLeast, EndsFirst, NotTakenAt, TakenAt}
+use Rattle.sre_machine.specs.EndlessRuns.{AllTaken, HasOtherEnds, LacksLeast, EndsFirst, NotTakenAt, TakenAt}
 use Rattle.sre_machine.specs.declared.run_operands.RunOperands.{RunOperands}
+
+-- a run of which no greatest count stands there is one
+pub endless_there : (r : Run) (kind : RunKind) (i n : ℕ) (c : StringCursor) → Opcode r.words i (run_opcode kind)
+    → Opcode r.words i opcode.REPEAT_ONE
+    ⊎ (Opcode r.words i opcode.MIN_REPEAT_ONE ⊎ Opcode r.words i opcode.POSSESSIVE_REPEAT_ONE)
+    → HasRun r (Instruction i) c → Word r.words (i + 3) n → n ≡ unlimited → RunsOn r.words i
+endless_there r kind i n c w code x greatest same = record {
+  code = code;
+  greatest = subst (λ v. Word r.words (i + 3) v) same greatest;
+  test = run_there r kind i c w x;
+}
 
 module _ {S : Type 0} {text : Ghosts S} (r : Request S text) (place : ℕ) (on : RunsOn (run_of r).words place)
     (o : RunOperands) (read : AreOperands r place o) (c : StringCursor) where
@@ -52,7 +64,9 @@ module _ {S : Type 0} {text : Ghosts S} (r : Request S text) (place : ℕ) (on :
   run_short b lacks = elim on.code [
     | inl w ↦ greedy_short (run_of r) place o.least v w there wv read.operands.lowest on.greatest c b
         (lacks.short there.end there.test there.stands)
-    | inr w ↦ lazy_short (run_of r) place o.least v w there wv read.operands.lowest on.greatest c b
+    | inr (inl w) ↦ lazy_short (run_of r) place o.least v w there wv read.operands.lowest on.greatest c b
+        (lacks.short there.end there.test there.stands)
+    | inr (inr w) ↦ possessive_short (run_of r) place o.least w there read.operands.lowest on.greatest c b
         (lacks.short there.end there.test there.stands)
   ]
 
@@ -63,25 +77,29 @@ module _ {S : Type 0} {text : Ghosts S} (r : Request S text) (place : ℕ) (on :
   run_only b end e all limit g =
       subst (λ t. Later (run_of r) all limit (next.At t end) b) (sym read.operands.leads) (go on.code)
     where
-      go : Opcode ws place opcode.REPEAT_ONE ⊎ Opcode ws place opcode.MIN_REPEAT_ONE
+      go : Opcode ws place opcode.REPEAT_ONE
+          ⊎ (Opcode ws place opcode.MIN_REPEAT_ONE ⊎ Opcode ws place opcode.POSSESSIVE_REPEAT_ONE)
           → Later (run_of r) all limit (next.At (place + 1 + v) end) b
       go (inl w) =
           greedy_only (run_of r) place o.least v w there wv read.operands.lowest on.greatest c b end
           (e.taken there.end there.test there.stands) (e.others there.end there.test there.stands) e.position e.stands
           all limit g
-      go (inr w) =
+      go (inr (inl w)) =
           lazy_only (run_of r) place o.least v w there wv read.operands.lowest on.greatest c b end
           (e.taken there.end there.test there.stands) (e.others there.end there.test there.stands) e.position e.stands
           (omega arith) all limit g
+      go (inr (inr w)) =
+          possessive_only (run_of r) place o.least w there read.operands.lowest on.greatest c b end
+          (e.taken there.end there.test there.stands) (e.others there.end there.test there.stands) e.position e.stands
+          all limit g
 
   module _ (end later : StringCursor) (e : EndsFirst r place o.least c.position end (Some later)) where
     -- something may come of its tail
-    pub tail_has : At r place c → HasRun (run_of r) (Instruction o.tail) end
-    tail_has x =
-        subst (λ t. HasRun (run_of r) (Instruction t) end) (sym read.operands.leads) (go on.code)
+    pub tail_has : HasOtherEnds r place → At r place c → HasRun (run_of r) (Instruction o.tail) end
+    tail_has several x =
+        subst (λ t. HasRun (run_of r) (Instruction t) end) (sym read.operands.leads) (go several)
       where
-        go : Opcode ws place opcode.REPEAT_ONE ⊎ Opcode ws place opcode.MIN_REPEAT_ONE
-            → HasRun (run_of r) (Instruction (place + 1 + v)) end
+        go : HasOtherEnds r place → HasRun (run_of r) (Instruction (place + 1 + v)) end
         go (inl w) =
             let y = run_next (run_of r) place o.least v x.frames x.marks w there wv read.operands.lowest on.greatest
             c.position x.outcomes x.turns (e.others.2 there.end there.test there.stands) x.runs in
@@ -105,6 +123,14 @@ module _ {S : Type 0} {text : Ghosts S} (r : Request S text) (place : ℕ) (on :
               runs = rw e.position y.own_runs;
             }
 
+    -- a possessive one goes on to the run that begins later
+    pub possessive_goes : (b : BoardValue) → OpcodeAt r place opcode.POSSESSIVE_REPEAT_ONE
+        → (all : List Way) (limit : Limit) → Tries (run_of r) all limit (Instruction place) c b
+        → Later (run_of r) all limit (next.At place later) b
+    possessive_goes b w =
+        possessive_on (run_of r) place o.least w there read.operands.lowest on.greatest c b later
+        (e.others.2 there.end there.test there.stands) e.others.0 e.others.1
+
     -- the spots to which it leads, as they stand at their cursors
     greedy_spots : (b : BoardValue) (d : StringCursor) → (run_of r).stands d d.position
         → OpcodeAt r place opcode.REPEAT_ONE → (all : List Way) (limit : Limit)
@@ -125,16 +151,15 @@ module _ {S : Type 0} {text : Ghosts S} (r : Request S text) (place : ℕ) (on :
         b d (e.others.2 there.end there.test there.stands) stands all limit g)
 
     -- where its tail refuses it goes on to the run that has its other ends
-    pub run_refused : (b : BoardValue) → Refuses (run_of r) o.tail end.position → (all : List Way) (limit : Limit)
-        → Tries (run_of r) all limit (Instruction place) c b
+    pub run_refused : (b : BoardValue) → HasOtherEnds r place → Refuses (run_of r) o.tail end.position
+        → (all : List Way) (limit : Limit) → Tries (run_of r) all limit (Instruction place) c b
         → Later (run_of r) all limit (next.At place later) b
-    run_refused b none all limit g = go on.code
+    run_refused b several none all limit g = go several
       where
         barren : Refuses (run_of r) (place + 1 + v) end.position
         barren = subst (λ t. Refuses (run_of r) t end.position) read.operands.leads none
 
-        go : Opcode ws place opcode.REPEAT_ONE ⊎ Opcode ws place opcode.MIN_REPEAT_ONE
-            → Later (run_of r) all limit (next.At place later) b
+        go : HasOtherEnds r place → Later (run_of r) all limit (next.At place later) b
         go (inl w) =
             both_first (run_of r) (spot_at (Instruction (place + 1 + v)) b.frames end.position b.marks) place later b
             b.choices (λ os n x. barren b.frames b.marks os n x) refl all limit

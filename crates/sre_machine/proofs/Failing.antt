@@ -1,4 +1,4 @@
--- Instructions that are known to fail, and those that are tried.
+-- Instructions and possessive loops that are known to fail, and those that are tried.
 use Rattle.std.proofs.Common.{◌≡◌, ℕ, Bool, true, false, List, ◌∷◌, Result, Ok, Err, IfOk, ◌≢◌, refl, subst, sym}
 use Rattle.std.proofs.Common.{◌∙◌, ◌<◌, ◌≤◌, ◌+◌, ◌*◌, min, arith}
 use Rattle.std.proofs.lemmas.Bool.{true≢false}
@@ -13,6 +13,7 @@ use Rattle.sre_turns.specs.Limits.{Limit, without_tried}
 use Rattle.sre_turns.specs.declared.Next.TheVariants as next
 use Rattle.sre_turns.specs.declared.Next.{Next}
 use Rattle.sre_turns.specs.declared.Point.TheVariants.{Instruction}
+use Rattle.sre_turns.specs.declared.Point.{Point}
 use Rattle.sre_model.specs.Tree.{Tree}
 use Rattle.sre_model.specs.Grammar.{Whole}
 use Rattle.sre_model.specs.References.{refers, asked_from, asked_to, no_group}
@@ -24,10 +25,9 @@ use Rattle.sre_code.proofs.Checked.{whole_of, whole_items}
 use Rattle.sre_request.specs.declared.request.Request.{Request}
 use Rattle.sre_request.specs.Requests.{code_of}
 use Rattle.sre_request.specs.Runs.{run_of}
-use Rattle.sre_machine.specs.Turns.{Turn, TurnOnce, Takes, GivesUp, GoesOn, TriesOn, StaysAt, LeavesOrStays, Fails}
-use Rattle.sre_machine.specs.Turns.{EndsThere}
+use Rattle.sre_machine.specs.Turns.{TurnAt, TurnOnce, Takes, GivesUp, GoesOn, TriesOn, StaysAt, LeavesOrStays, Fails}
+use Rattle.sre_machine.specs.Turns.{EndsThere, RunsOnAt}
 use Rattle.sre_machine.specs.Paying.{Pays}
-use Rattle.sre_turns.specs.RunEnds.{RunsOn}
 use Rattle.sre_turns.specs.Fruit.{is_inside}
 use Rattle.sre_turns.specs.Moves.{spot_at}
 use Rattle.sre_board.specs.Failures.{Kept, HoldsOneMore, Remembers}
@@ -39,75 +39,76 @@ use Rattle.sre_machine.proofs.Paying.{grants_nothing, pays_left, pays_nothing}
 use Rattle.sre_turns.proofs.BodyEnds.{end_taken}
 
 -- a mark was made, or none: the machine may stand there still
-pub stays_tried : (r : Run) (place : ℕ) (cursor : StringCursor) (b c : BoardValue) (made : Bool)
-    → (made ≡ true → c ≡ record b { choices = Trying place b.frames cursor b.marks ∷ b.choices })
-    → (made ≡ false → c ≡ b) → IsAt r (Instruction place) cursor b → IsAt r (Instruction place) cursor c
-stays_tried r place cursor b c true marked left x =
-    subst (λ d. IsAt r (Instruction place) cursor d) (sym (marked refl))
+pub stays_tried : (r : Run) (point : Point) (cursor : StringCursor) (b c : BoardValue) (made : Bool)
+    → (made ≡ true → c ≡ record b { choices = Trying point b.frames cursor b.marks ∷ b.choices })
+    → (made ≡ false → c ≡ b) → IsAt r point cursor b → IsAt r point cursor c
+stays_tried r point cursor b c true marked left x =
+    subst (λ d. IsAt r point cursor d) (sym (marked refl))
     (record { outcomes = x.outcomes; turns = x.turns; stands = x.stands; placed = x.placed; runs = x.runs })
-stays_tried r place cursor b c false marked left x =
-    subst (λ d. IsAt r (Instruction place) cursor d) (sym (left refl)) x
+stays_tried r point cursor b c false marked left x =
+    subst (λ d. IsAt r point cursor d) (sym (left refl)) x
 
 -- an instruction is left at once
-pub left_at_once : {S : Type 0} {text : Ghosts S} (r : Request S text) (place : ℕ) (cursor : StringCursor)
-    (b c : BoardValue) (m m' : MemoValue) → GivesUp r place cursor b m c m' → LeavesOrStays r place cursor true b m c m'
-left_at_once r place cursor b c m m' left = record {
+pub left_at_once : {S : Type 0} {text : Ghosts S} (r : Request S text) (point : Point) (cursor : StringCursor)
+    (b c : BoardValue) (m m' : MemoValue) → GivesUp r point cursor b m c m' → LeavesOrStays r point cursor true b m c m'
+left_at_once r point cursor b c m m' left = record {
   left = λ _. left;
   stays = λ told. absurd (true≢false told);
   goes = λ told. absurd (true≢false told);
 }
 
 -- or is not
-pub stays_on : {S : Type 0} {text : Ghosts S} (r : Request S text) (place : ℕ) (cursor : StringCursor)
-    (b c : BoardValue) (m m' : MemoValue) → StaysAt r place cursor b c → GoesOn r place cursor b m c m'
-    → LeavesOrStays r place cursor false b m c m'
-stays_on r place cursor b c m m' stays goes = record {
+pub stays_on : {S : Type 0} {text : Ghosts S} (r : Request S text) (point : Point) (cursor : StringCursor)
+    (b c : BoardValue) (m m' : MemoValue) → StaysAt r point cursor b c → GoesOn r point cursor b m c m'
+    → LeavesOrStays r point cursor false b m c m'
+stays_on r point cursor b c m m' stays goes = record {
   left = λ told. absurd (true≢false (sym told));
   stays = λ _. stays;
   goes = λ _. goes;
 }
 
 -- an instruction that is gone on with takes its turn
-pub turn_goes_on : {S : Type 0} {text : Ghosts S} {E : Type 0} (r : Request S text) (place : ℕ) (cursor : StringCursor)
-    (b c d : BoardValue) (m m' : MemoValue) (result : Result Next E) → GoesOn r place cursor b m c m'
-    → ((l l' : Limit) → ((RunsOn (run_of r).words place → ⊥) → Pays r m l m' l') → Pays r m l m' l')
-    → IfOk result (λ after. Turn r place cursor c after d) → IfOk result (λ after. Takes r place cursor b m after d m')
-turn_goes_on r place cursor b c d m m' (Ok after) goes paid turn = λ all limit x.
+pub turn_goes_on : {S : Type 0} {text : Ghosts S} {E : Type 0} (r : Request S text) (point : Point)
+    (cursor : StringCursor) (b c d : BoardValue) (m m' : MemoValue) (result : Result Next E) → GoesOn r point cursor b m c m'
+    → ((l l' : Limit) → ((RunsOnAt (run_of r).words point → ⊥) → Pays r m l m' l') → Pays r m l m' l')
+    → IfOk result (λ after. TurnAt r point cursor c after d)
+    → IfOk result (λ after. Takes r point cursor b m after d m')
+turn_goes_on r point cursor b c d m m' (Ok after) goes paid turn = λ all limit x.
     let g = goes all limit x in (g.0, g.1, turn all g.0 g.2, paid limit g.0 g.3)
-turn_goes_on r place cursor b c d m m' (Err e) goes paid turn = turn
+turn_goes_on r point cursor b c d m m' (Err e) goes paid turn = turn
 
 -- it is paid, where failures are not kept, or where it is no run without a greatest count
-pub paid_so : {S : Type 0} {text : Ghosts S} (r : Request S text) (place : ℕ) (m m' : MemoValue) (keeping : Keeping)
+pub paid_so : {S : Type 0} {text : Ghosts S} (r : Request S text) (point : Point) (m m' : MemoValue) (keeping : Keeping)
     → (keeping ≡ Nothing → m.is_open ≡ true → HasReference (run_of r).words)
-    → (keeping ≢ Nothing → RunsOn (run_of r).words place → ⊥) → (l l' : Limit)
-    → ((RunsOn (run_of r).words place → ⊥) → Pays r m l m' l') → Pays r m l m' l'
-paid_so r place m m' Nothing left off l l' paid = pays_left r m m' l l' (left refl)
-paid_so r place m m' Unmarked left off l l' paid = paid (off (λ e. cc))
-paid_so r place m m' Marked left off l l' paid = paid (off (λ e. cc))
+    → (keeping ≢ Nothing → RunsOnAt (run_of r).words point → ⊥) → (l l' : Limit)
+    → ((RunsOnAt (run_of r).words point → ⊥) → Pays r m l m' l') → Pays r m l m' l'
+paid_so r point m m' Nothing left off l l' paid = pays_left r m m' l l' (left refl)
+paid_so r point m m' Unmarked left off l l' paid = paid (off (λ e. cc))
+paid_so r point m m' Marked left off l l' paid = paid (off (λ e. cc))
 
 -- the same with one toll
 pub turn_tried : {S : Type 0} {text : Ghosts S} {E : Type 0} (r : Request S text) (place : ℕ) (cursor : StringCursor)
-    (b c d : BoardValue) (m m' : MemoValue) (result : Result Next E) → TriesOn r place cursor b m c m'
+    (b c d : BoardValue) (m m' : MemoValue) (result : Result Next E) → TriesOn r (Instruction place) cursor b m c m'
     → IfOk result (λ after. TurnOnce r place cursor c after d)
-    → IfOk result (λ after. Takes r place cursor b m after d m')
+    → IfOk result (λ after. Takes r (Instruction place) cursor b m after d m')
 turn_tried r place cursor b c d m m' (Ok after) goes turn = λ all limit x.
     let g = goes all limit x in (g.0, g.1, turn all g.0 g.2, g.3)
 turn_tried r place cursor b c d m m' (Err e) goes turn = turn
 
 -- where it is left, nothing is granted
-pub turn_left : {S : Type 0} {text : Ghosts S} (r : Request S text) (place : ℕ) (cursor : StringCursor)
-    (b c : BoardValue) (m m' : MemoValue) → GivesUp r place cursor b m c m' → Takes r place cursor b m next.Back c m'
-turn_left r place cursor b c m m' left all limit x =
+pub turn_left : {S : Type 0} {text : Ghosts S} (r : Request S text) (point : Point) (cursor : StringCursor)
+    (b c : BoardValue) (m m' : MemoValue) → GivesUp r point cursor b m c m' → Takes r point cursor b m next.Back c m'
+turn_left r point cursor b c m m' left all limit x =
     let g = left all limit x in (limit, grants_nothing limit, g.0, g.1)
 
 -- and where the body that it is in is known to end, the machine goes there
-pub turn_ended : {S : Type 0} {text : Ghosts S} (r : Request S text) (place : ℕ) (cursor end : StringCursor)
-    (b : BoardValue) (m : MemoValue) → EndsThere r place cursor b end → Takes r place cursor b m (next.Done end) b m
-turn_ended r place cursor end b m e all limit x = (
+pub turn_ended : {S : Type 0} {text : Ghosts S} (r : Request S text) (point : Point) (cursor end : StringCursor)
+    (b : BoardValue) (m : MemoValue) → EndsThere r point cursor b end → Takes r point cursor b m (next.Done end) b m
+turn_ended r point cursor end b m e all limit x = (
   limit,
   grants_nothing limit,
-  end_taken (run_of r) place cursor end b no_marks e.inside e.unmarked e.stands e.ends all limit x,
-  pays_nothing r m m limit limit refl (refl, refl) (λ h. h) refl refl,
+  end_taken (run_of r) point cursor end b no_marks e.inside e.unmarked e.stands e.ends all limit x,
+  pays_nothing r m m limit limit refl (refl, refl, refl) (λ h. h) refl refl,
 )
 
 -- the groups that the words ask for are those from the one on that their code tells
@@ -160,13 +161,13 @@ referring_words r code told same tells told_so =
 
 -- one that fails may be kept
 pub fails_kept : {S : Type 0} {text : Ghosts S} (r : Request S text) (m : Marks) (old new : Kept) (ws : List ℕ)
-    (place p q : ℕ) (b : BoardValue) → ws ≡ (run_of r).words → p ≡ q
-    → HoldsOneMore ws (is_inside b.choices) (spot_at (Instruction place) b.frames p b.marks) old new
-    → Fails r place q m b → Remembers (run_of r) m old → Remembers (run_of r) m new
-fails_kept r m old new ws place p q b same there more fails remembers =
-    remembers_more (run_of r) (is_inside b.choices) m (spot_at (Instruction place) b.frames q b.marks) old new
-    (subst (λ z. HoldsOneMore (run_of r).words (is_inside b.choices) (spot_at (Instruction place) b.frames z b.marks)
+    (point : Point) (p q : ℕ) (b : BoardValue) → ws ≡ (run_of r).words → p ≡ q
+    → HoldsOneMore ws (is_inside b.choices) (spot_at point b.frames p b.marks) old new
+    → Fails r point q m b → Remembers (run_of r) m old → Remembers (run_of r) m new
+fails_kept r m old new ws point p q b same there more fails remembers =
+    remembers_more (run_of r) (is_inside b.choices) m (spot_at point b.frames q b.marks) old new
+    (subst (λ z. HoldsOneMore (run_of r).words (is_inside b.choices) (spot_at point b.frames z b.marks)
     old new) there
-    (subst (λ (us : List ℕ). HoldsOneMore us (is_inside b.choices) (spot_at (Instruction place) b.frames p b.marks)
+    (subst (λ (us : List ℕ). HoldsOneMore us (is_inside b.choices) (spot_at point b.frames p b.marks)
     old new) same more))
     fails remembers

@@ -32,9 +32,10 @@ use Rattle.sre_model.specs.RunCounts.{most_counts}
 use Rattle.sre_machine.specs.declared.turns.Decision.{Decision}
 use Rattle.sre_machine.specs.declared.turns.Decision.TheVariants.{Decided, Opened}
 use Rattle.sre_request.specs.Runs.{run_of}
-use Rattle.sre_machine.specs.Memos.{MemoValue, KeepsEndsOf}
-use Rattle.sre_machine.specs.Paying.{Pays, Remembering, Within, Follows, Counts, GivenUp, Settles, Waited}
-use Rattle.sre_machine.specs.Paying.{HoldsBits, run_cost, weight, each_of, RunGivenUp, RunSettles, AnewGivenUp, AnewSettles}
+use Rattle.sre_machine.specs.Memos.{MemoValue, KeepsEndsOf, KeepsFrom}
+use Rattle.sre_machine.specs.Paying.{Pays, Remembering, rows_from, Within, Follows, Counts, GivenUp, Settles, Waited}
+use Rattle.sre_machine.specs.Paying.{HoldsBits, run_cost, weight, each_of, RunGivenUp, RunSettles, AnewGivenUp}
+use Rattle.sre_machine.specs.Paying.{AnewSettles}
 use Rattle.sre_turns.proofs.Start.{first_limit, started, behind_has}
 use Rattle.sre_turns.proofs.SettledMoves.{settled_behind}
 use Rattle.sre_model.specs.Marks.{no_marks}
@@ -67,8 +68,11 @@ module _ {S : Type 0} {text : Ghosts S} (r : Request S text) (all : List Way) (f
   -- a memo that waits less keeps what it kept
   pays_waited : (m' m₁ : MemoValue) (l : Limit) → m₁ ≡ record m' { waits = m₁.waits } → Pays r m' l m₁ l
   pays_waited m' m₁ l same =
-      pays_nothing r m' m₁ l l (ap (λ (k : MemoValue). k.kept) same)
-      (ap (λ (k : MemoValue). k.ends) same, ap (λ (k : MemoValue). k.keeps_ends) same)
+      pays_nothing r m' m₁ l l (ap (λ (k : MemoValue). k.kept) same) (
+        ap (λ (k : MemoValue). k.ends) same,
+        ap (λ (k : MemoValue). k.keeps_ends) same,
+        ap (λ (k : MemoValue). k.first) same,
+      )
       (λ h. ap (λ (k : MemoValue). k.is_open) same ∙ h) refl refl
 
   -- a turn more
@@ -95,7 +99,7 @@ module _ {S : Type 0} {text : Ghosts S} (r : Request S text) (all : List Way) (f
   pub nothing_granted : (n' : Next) (b'' : BoardValue) (m' : MemoValue) (l : Limit) → Later (run_of r) all l n' b''
       → Proceeds (run_of r) all l n' b'' (λ more. Pays r m' l m' more)
   nothing_granted n' b'' m' l x =
-      (l, grants_nothing l, x, pays_nothing r m' m' l l refl (refl, refl) (λ h. h) refl refl)
+      (l, grants_nothing l, x, pays_nothing r m' m' l l refl (refl, refl, refl) (λ h. h) refl refl)
 
   -- so many turns cost no more than the potential and the tolls
   cost_of : (pl : Remembering r) (limit more : Limit) (turned left left' : ℕ) → limit.granted ≡ more.granted
@@ -151,8 +155,9 @@ module _ {S : Type 0} {text : Ghosts S} (r : Request S text) (all : List Way) (f
             | inr z ↦ elim (spent_more pl keeps) [
               | inl refused ↦ inl refused
               | inr more ↦
-                  let few_bits : z.0 * weight r pl ≤ most_bits (run_of r) pl.plain (start_of r) * weight r pl =
-                  mul-le-mul (account_few (run_of r) pl.plain (start_of r) m'.kept m'.ends y.0.trying z.0 z.1.account)
+                  let few_bits : z.0 * weight r pl ≤ most_bits (run_of r) pl.plain (rows_from r pl) * weight r pl =
+                  mul-le-mul
+                  (account_few (run_of r) pl.plain (rows_from r pl) m'.kept m'.ends y.0.trying z.0 z.1.account)
                   (omega arith) in
                   inr (
                     y.0.tolls,
@@ -185,7 +190,7 @@ module _ {S : Type 0} {text : Ghosts S} (r : Request S text) (all : List Way) (f
                 w.0.tolls,
                 z.0,
                 z.3,
-                held r pl m'' m'' w.0.trying [] z.0 refl (refl, refl) (sym ends.0) z.1,
+                held r pl m'' m'' w.0.trying [] z.0 refl (refl, refl, refl) (sym ends.0) z.1,
                 z.2,
                 cost_of pl limit w.0 turned given left' (y.2 ∙ w.1.granted) none
                     (omega (arith, y.4, w.1.taken)) ends.1 more,
@@ -266,15 +271,17 @@ rested r start m m' m'' left left' same run =
     })
   where
     still : (pl : Remembering r) (n : ℕ) → HoldsBits r pl m' n → HoldsBits r pl (record m' { stopped = false }) n
-    still pl n h = record { account = h.account; ends = h.ends; forked = h.forked }
+    still pl n h = record { account = h.account; first = h.first; ends = h.ends; forked = h.forked }
 
 -- a run that begins again with failures kept, of which there are none yet
 module _ {S : Type 0} {text : Ghosts S} (r : Request S text) (start : StringCursor) (m : MemoValue) (left : ℕ)
-    (keeps : m.is_open ≡ true) (empty : m.kept ≡ kept_of [] [] []) (ends : KeepsEndsOf r m) where
+    (keeps : m.is_open ≡ true) (empty : m.kept ≡ kept_of [] [] []) (first : KeepsFrom r m)
+    (ends : KeepsEndsOf r m) where
   -- nothing is taken in
   none_held : (pl : Remembering r) → HoldsBits r pl m 0
   none_held pl = record {
-    account = account_none (run_of r) pl.plain (start_of r) m.kept m.ends empty;
+    account = account_none (run_of r) pl.plain (rows_from r pl) m.kept m.ends empty;
+    first = first pl.plain.tree pl.plain.whole pl.plain.no_reference;
     ends = λ forked. ends pl.plain.tree pl.plain.whole pl.plain.no_reference (pl.unmarked forked);
     forked = tt;
   }

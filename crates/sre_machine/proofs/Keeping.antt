@@ -1,5 +1,5 @@
 -- A spot that failed is kept: the bit that was taken in for it is set.
-use Rattle.std.proofs.Common.{◌≡◌, ℕ, inr, false, List, [], ◌∷◌, drop, length, sym, ap, ◌∙◌, subst}
+use Rattle.std.proofs.Common.{◌≡◌, ℕ, inr, List, [], ◌∷◌, drop, length, sym, ap, ◌∙◌, subst}
 use Rattle.std.proofs.Common.{arith}
 use Rattle.std.proofs.lemmas.List.{append-nil}
 use Rattle.sre_chars.specs.declared.string.StrDrive.{Ghosts}
@@ -13,17 +13,17 @@ use Rattle.sre_turns.proofs.Faring.{newest_tried}
 use Rattle.sre_turns.specs.Fruit.{is_inside}
 use Rattle.sre_turns.specs.Moves.{spot_at}
 use Rattle.sre_turns.specs.Nested.{most_slots}
-use Rattle.sre_turns.specs.declared.Point.TheVariants.{Instruction}
+use Rattle.sre_turns.specs.declared.Point.{Point}
 use Rattle.sre_board.specs.Accounts.{Account, BitsOf}
 use Rattle.sre_board.specs.Failures.{Kept, HasBit, KeepsSpot, Roomy, RowsStay}
 use Rattle.sre_board.proofs.AccountLaws.{account_closes, no_new_row}
 use Rattle.sre_board.proofs.RowsAdded.{rows_stay}
 use Rattle.sre_board.specs.declared.failures.Row.{Row}
 use Rattle.sre_request.specs.declared.request.Request.{Request}
-use Rattle.sre_request.specs.Requests.{start_of, end_of}
+use Rattle.sre_request.specs.Requests.{end_of}
 use Rattle.sre_request.specs.Runs.{run_of}
 use Rattle.sre_machine.specs.Memos.{MemoValue}
-use Rattle.sre_machine.specs.Paying.{Holds, HoldsTried, Pays}
+use Rattle.sre_machine.specs.Paying.{Holds, HoldsTried, Pays, rows_from}
 
 -- the first that is tried has a bit
 first_bit : (k : Kept) (ws : List ℕ) (x : Attempt) (xs : List Attempt) (bs : List ℕ) → BitsOf k ws (x ∷ xs) bs
@@ -42,38 +42,39 @@ stay_roomy ws n first end old new rows words h =
     let same : length new.rows ≡ length old.rows = ap (λ (rs : List Row). length rs) rows in
     record { rows = omega (arith, same, h.rows); bits = rw (same, words) h.bits }
 
-module _ {S : Type 0} {text : Ghosts S} (r : Request S text) (place : ℕ) (p q : ℕ) (b : BoardValue) (k k' : Kept)
+module _ {S : Type 0} {text : Ghosts S} (r : Request S text) (point : Point) (p q : ℕ) (b : BoardValue) (k k' : Kept)
     (ws : List ℕ) (same : ws ≡ (run_of r).words) (there : p ≡ q)
-    (keeps : KeepsSpot ws (is_inside b.choices) (spot_at (Instruction place) b.frames p b.marks) k k') where
+    (keeps : KeepsSpot ws (is_inside b.choices) (spot_at point b.frames p b.marks) k k') where
   -- what was tried is tried no more
-  pub holds_tried : HoldsTried r (attempt b.choices (spot_at (Instruction place) b.frames q b.marks)) k k'
+  pub holds_tried : HoldsTried r (attempt b.choices (spot_at point b.frames q b.marks)) k k'
   holds_tried pl es xs n a =
-      let x = attempt b.choices (spot_at (Instruction place) b.frames q b.marks) in
+      let x = attempt b.choices (spot_at point b.frames q b.marks) in
       let here : KeepsSpot (run_of r).words x.inside x.spot k k' = rw (same, there) at keeps in
-      account_closes (run_of r) pl.plain (start_of r) k k' es x xs n
+      account_closes (run_of r) pl.plain (rows_from r pl) k k' es x xs n
       (here.set (first_bit k (run_of r).words x xs a.trying a.bits)) keeps.stay keeps.bits
       (stay_rows k k' keeps.rows keeps.shapes) (no_new_row k k' keeps.rows) keeps.laid
-      (stay_roomy (run_of r).words (most_slots pl.plain.tree) (start_of r) (end_of r) k k' keeps.rows keeps.words
+      (stay_roomy (run_of r).words (most_slots pl.plain.tree) (rows_from r pl) (end_of r) k k' keeps.rows keeps.words
       a.roomy) a
 
--- the mark of an instruction is passed over, which is kept: nothing is granted
-pub pays_kept : {S : Type 0} {text : Ghosts S} (r : Request S text) (place : ℕ) (cursor : StringCursor)
-    (b b' : BoardValue) (m m' : MemoValue) → b.choices ≡ Trying place b'.frames cursor b'.marks ∷ b'.choices
+-- a mark is passed over, whose point is kept: nothing is granted
+pub pays_kept : {S : Type 0} {text : Ghosts S} (r : Request S text) (point : Point) (cursor : StringCursor)
+    (b b' : BoardValue) (m m' : MemoValue) → b.choices ≡ Trying point b'.frames cursor b'.marks ∷ b'.choices
     → m' ≡ record m { kept = m'.kept; marked = m'.marked }
-    → HoldsTried r (attempt b'.choices (spot (Instruction place) cursor b')) m.kept m'.kept
+    → HoldsTried r (attempt b'.choices (spot point cursor b')) m.kept m'.kept
     → (all : List Way) (limit : Limit) → Backs (run_of r) all limit b → Pays r m limit m' (without_tried limit)
-pays_kept r place cursor b b' m m' marked same keeps all limit x = record {
+pays_kept r point cursor b b' m m' marked same keeps all limit x = record {
   paid = λ pl keeps_them at n h.
       let f = x.fares pl.plain in
-      let here = attempt b'.choices (spot (Instruction place) cursor b') in
+      let here = attempt b'.choices (spot point cursor b') in
       let trying = newest_tried (run_of r) pl.plain limit _ here b.choices b'.choices f
       (ap (λ cs. tried_spots cs) marked) in
       let was = subst (λ xs. Holds r pl m xs n) trying h in
       inr (
         n,
         record {
-          account = subst (λ es. Account (run_of r) pl.plain (start_of r) m'.kept es (drop 1 limit.trying) n)
+          account = subst (λ es. Account (run_of r) pl.plain (rows_from r pl) m'.kept es (drop 1 limit.trying) n)
               (sym (ap (λ (k : MemoValue). k.ends) same)) (keeps pl m.ends (drop 1 limit.trying) n was.account);
+          first = ap (λ (k : MemoValue). k.first) same ∙ h.first;
           ends = λ forked. ap (λ (k : MemoValue). k.keeps_ends) same ∙ h.ends forked;
           forked = was.forked.1;
         },

@@ -1,4 +1,4 @@
--- An end that a memo tells of an instruction is where the body ends from there.
+-- An end that a memo tells of a point is where the body ends from there.
 use Rattle.std.proofs.Common.{◌≡◌, ℕ, true, List, Option, Some, None, IfSome}
 use Rattle.sre_chars.specs.declared.string.StrDrive.{Ghosts}
 use Rattle.sre_chars.specs.declared.string.StringCursor.{StringCursor}
@@ -6,34 +6,34 @@ use Rattle.sre_turns.specs.Board.{BoardValue}
 use Rattle.sre_turns.specs.Fruit.{is_inside}
 use Rattle.sre_turns.specs.Machine.{spot}
 use Rattle.sre_turns.specs.Moves.{spot_at}
-use Rattle.sre_turns.specs.declared.Point.TheVariants.{Instruction}
+use Rattle.sre_turns.specs.declared.Point.{Point}
 use Rattle.sre_board.specs.Failures.{Laid}
 use Rattle.sre_board.specs.Ends.{TellsEnd}
 use Rattle.sre_board.proofs.EndsKept.{end_told}
 use Rattle.sre_request.specs.declared.request.Request.{Request}
 use Rattle.sre_request.specs.Runs.{run_of}
 use Rattle.sre_machine.specs.Memos.{MemoValue, Recalls}
-use Rattle.sre_machine.specs.Turns.{UnaskedMarks, EndsThere, ForksThere, NoEndTold}
+use Rattle.sre_machine.specs.Turns.{UnaskedMarks, EndsThere, NoEndTold}
 
-pub known_there : {S : Type 0} {text : Ghosts S} (r : Request S text) (place position : ℕ) (cursor : StringCursor)
-    (b : BoardValue) (m : MemoValue) (ws : List ℕ) → ws ≡ (run_of r).words → position ≡ cursor.position
-    → is_inside b.choices ≡ true → ForksThere r place → UnaskedMarks r b.marks → Recalls (run_of r) m → Laid m.kept
+pub known_there : {S : Type 0} {text : Ghosts S} (r : Request S text) (point : Point) (position : ℕ)
+    (cursor : StringCursor) (b : BoardValue) (m : MemoValue) (ws : List ℕ) → ws ≡ (run_of r).words → position ≡ cursor.position
+    → is_inside b.choices ≡ true → UnaskedMarks r b.marks → Recalls (run_of r) m → Laid m.kept
     → (told : Option StringCursor)
     → IfSome told (λ end. TellsEnd m.kept m.ends ws (is_inside b.choices)
-    (spot_at (Instruction place) b.frames position b.marks) end)
-    → IfSome told (λ end. EndsThere r place cursor b end)
-known_there r place position cursor b m ws same at inside forks unmarked recalls laid None tells = tt
-known_there r place position cursor b m ws same at inside forks unmarked recalls laid (Some end) tells =
-    let there : TellsEnd m.kept m.ends (run_of r).words true (spot (Instruction place) cursor b) end =
+    (spot_at point b.frames position b.marks) end)
+    → IfSome told (λ end. EndsThere r point cursor b end)
+known_there r point position cursor b m ws same at inside unmarked recalls laid None tells = tt
+known_there r point position cursor b m ws same at inside unmarked recalls laid (Some end) tells =
+    let there : TellsEnd m.kept m.ends (run_of r).words true (spot point cursor b) end =
     rw (same, at, inside) at tells in
-    let is = end_told (run_of r) m.kept m.ends (spot (Instruction place) cursor b) end recalls.ends laid there in
-    record { inside = inside; forks = forks; unmarked = unmarked; stands = is.1; ends = is.0 }
+    let is = end_told (run_of r) m.kept m.ends (spot point cursor b) end recalls.ends laid there in
+    record { inside = inside; unmarked = unmarked; stands = is.1; ends = is.0 }
 
 -- and where it tells none, none is told
-pub none_there : {S : Type 0} {text : Ghosts S} (r : Request S text) (place position : ℕ) (cursor : StringCursor)
-    (b : BoardValue) (m : MemoValue) (ws : List ℕ) → ws ≡ (run_of r).words → position ≡ cursor.position
+pub none_there : {S : Type 0} {text : Ghosts S} (r : Request S text) (point : Point) (position : ℕ)
+    (cursor : StringCursor) (b : BoardValue) (m : MemoValue) (ws : List ℕ) → ws ≡ (run_of r).words → position ≡ cursor.position
     → ((end : StringCursor) → TellsEnd m.kept m.ends ws (is_inside b.choices)
-    (spot_at (Instruction place) b.frames position b.marks) end → ⊥)
-    → NoEndTold r place cursor b m
-none_there r place position cursor b m ws same at none inside keeps end tells =
+    (spot_at point b.frames position b.marks) end → ⊥)
+    → NoEndTold r point cursor b m
+none_there r point position cursor b m ws same at none inside keeps end tells =
     none end (rw (same, at, inside) tells)

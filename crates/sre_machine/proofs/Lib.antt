@@ -9,6 +9,7 @@ pub mod LaterRuns
 pub mod Taken
 pub mod Opening
 pub mod Keeping
+pub mod MarksPassed
 pub mod Following
 pub mod Ending
 pub mod NothingBefore

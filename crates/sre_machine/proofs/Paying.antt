@@ -10,10 +10,9 @@ use Rattle.sre_turns.specs.MovesAtReferences.{HasReference}
 use Rattle.sre_turns.proofs.Hopeless.{no_reference}
 use Rattle.sre_board.specs.Accounts.{Account}
 use Rattle.sre_request.specs.declared.request.Request.{Request}
-use Rattle.sre_request.specs.Requests.{start_of}
 use Rattle.sre_request.specs.Runs.{run_of}
 use Rattle.sre_machine.specs.Memos.{MemoValue, EndsStay}
-use Rattle.sre_machine.specs.Paying.{Holds, Pays, Remembering}
+use Rattle.sre_machine.specs.Paying.{Holds, Pays, Remembering, rows_from}
 
 module _ {S : Type 0} {text : Ghosts S} (r : Request S text) where
   -- what was taken in is held by the same memory still
@@ -21,9 +20,10 @@ module _ {S : Type 0} {text : Ghosts S} (r : Request S text) where
       → EndsStay m m' → xs' ≡ xs → Holds r pl m xs n → Holds r pl m' xs' n
   held pl m m' xs xs' n same ends trying h = record {
     account =
-        subst (λ ys. Account (run_of r) pl.plain (start_of r) m'.kept m'.ends ys n) (sym trying)
-        (subst (λ e. Account (run_of r) pl.plain (start_of r) m'.kept e xs n) (sym ends.0)
-        (subst (λ k. Account (run_of r) pl.plain (start_of r) k m.ends xs n) (sym same) h.account));
+        subst (λ ys. Account (run_of r) pl.plain (rows_from r pl) m'.kept m'.ends ys n) (sym trying)
+        (subst (λ e. Account (run_of r) pl.plain (rows_from r pl) m'.kept e xs n) (sym ends.0)
+        (subst (λ k. Account (run_of r) pl.plain (rows_from r pl) k m.ends xs n) (sym same) h.account));
+    first = ends.2 ∙ h.first;
     ends = λ forked. ends.1 ∙ h.ends forked;
     forked =
         subst (λ ys. AllByRecursion (λ (a : Attempt). a.inside ≡ true → has_forked_region pl.plain.tree ≡ true) ys)

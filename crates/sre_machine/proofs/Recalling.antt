@@ -79,7 +79,11 @@ pub recalls_kept : (r : Run) (m m' : MemoValue) → m' ≡ record m { kept = m'.
     → Remembers r no_marks m'.kept → Recalls r m → Recalls r m'
 recalls_kept r m m' same stay plain recalls =
     let marked : m'.marked ≡ m.marked = ap (λ (y : MemoValue). y.marked) same in
-    let ends : EndsStay m m' = (ap (λ (y : MemoValue). y.ends) same, ap (λ (y : MemoValue). y.keeps_ends) same) in
+    let ends : EndsStay m m' = (
+      ap (λ (y : MemoValue). y.ends) same,
+      ap (λ (y : MemoValue). y.keeps_ends) same,
+      ap (λ (y : MemoValue). y.first) same,
+    ) in
     record {
       plain = plain;
       marked = subst (λ (x : MarkedValue). Remembers r x.marks x.kept) (sym marked) recalls.marked;

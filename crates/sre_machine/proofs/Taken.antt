@@ -12,8 +12,8 @@ use Rattle.sre_turns.specs.declared.Next.{Next}
 use Rattle.sre_turns.specs.declared.Next.TheVariants as next
 use Rattle.sre_turns.specs.declared.Point.TheVariants.{Instruction, Again}
 use Rattle.sre_machine.specs.Turns.{Proceeds}
-use Rattle.sre_turns.proofs.Faring.{run_code, again_free}
-use Rattle.sre_turns.proofs.Moving.{arrived, arrived_at}
+use Rattle.sre_turns.proofs.Faring.{run_code}
+use Rattle.sre_turns.proofs.Moving.{arrived_at}
 
 -- the same where the machine is known to stand
 pub stands_at : (r : Run) (all : List Way) (turns : ℕ) (n m : Next) (b : BoardValue) → n ≡ m
@@ -42,7 +42,9 @@ module _ (r : Run) (all : List Way) (limit turned counted : ℕ) (old new : Boar
   pub again_taken : (c : StringCursor) → Advances r Again c old n new
       → StandsWithin r all (limit - turned) (next.Again c) old → TurnCounted
   again_taken c turn x =
-      counts x.limit x.turns_left (turn all x.limit (arrived again_free x.stands))
+      let code = run_code r (spot Again c old) x.stands.runs in
+      let more : Limit = raised 1 x.limit in
+      counts more x.turns_left (turn all more (arrived_at code.0 code.1 x.stands))
 
   -- where a region ends
   pub end_taken : (c : StringCursor) → Closes r c old n new → StandsWithin r all (limit - turned) (next.Done c) old

@@ -1,6 +1,7 @@
 -- Runs without a greatest count, while failures are kept: their first end, and the run that has the others.
 -- Words of the machine's contracts; what sre_engine makes public does not rest on it.
-use Rattle.std.specs.Prelude.{ℕ, ◌+◌, ◌≡◌, ◌<◌, true, false, Option, MatchOption}
+use Rattle.std.specs.Prelude.{ℕ, ◌+◌, ◌≡◌, ◌<◌, ◌⊎◌, true, false, Option, MatchOption}
+use Rattle.sre_chars.specs.declared.constants.SreOpcode.TheVariants as opcode
 use Rattle.sre_chars.specs.declared.string.StrDrive.{Ghosts}
 use Rattle.sre_chars.specs.declared.string.StringCursor.{StringCursor}
 use Rattle.sre_model.specs.Tree.{Test}
@@ -9,11 +10,15 @@ use Rattle.sre_model.specs.Ways.{run_length}
 use Rattle.sre_model.specs.Standing.{TestStands}
 use Rattle.sre_turns.specs.RunEnds.{AllPass, RunsOn}
 use Rattle.sre_request.specs.declared.request.Request.{Request}
-use Rattle.sre_request.specs.Runs.{run_of, Standing}
+use Rattle.sre_request.specs.Runs.{run_of, OpcodeAt, Standing}
 
 -- a run without a greatest count is at a place
 abbrev pub IsEndlessRun : {S : Type 0} {text : Ghosts S} → Request S text → ℕ → Type 0
 IsEndlessRun r place = RunsOn (run_of r).words place
+
+-- a greedy or a lazy run is at a place, which may have other ends beside its longest
+abbrev pub HasOtherEnds : {S : Type 0} {text : Ghosts S} → Request S text → ℕ → Type 0
+HasOtherEnds r place = OpcodeAt r place opcode.REPEAT_ONE ⊎ OpcodeAt r place opcode.MIN_REPEAT_ONE
 
 -- the character at p passes the test at a place; so do all from p up to q
 abbrev pub TakenAt : {S : Type 0} {text : Ghosts S} → Request S text → ℕ → ℕ → Type 0

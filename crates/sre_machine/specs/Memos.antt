@@ -5,14 +5,18 @@ use Rattle.sre_chars.specs.declared.string.StrDrive.{Ghosts}
 use Rattle.sre_growth.specs.declared.Refusal.{Refusal}
 use Rattle.sre_model.specs.Tree.{Tree}
 use Rattle.sre_model.specs.Grammar.{WholeItems}
+use Rattle.sre_model.specs.LooksBehind.{backs}
 use Rattle.sre_model.specs.References.{refers}
 use Rattle.sre_model.specs.Marks.{Marks, no_marks}
 use Rattle.sre_model.specs.MarksSet.{marks_in_regions}
 use Rattle.sre_model.specs.Runs.{Run}
 use Rattle.sre_turns.specs.MovesAtReferences.{Asks}
 use Rattle.sre_request.specs.declared.request.Request.{Request}
+use Rattle.sre_request.specs.Requests.{start_of}
 use Rattle.sre_request.specs.Runs.{run_of}
 use Rattle.sre_turns.specs.Bodies.{MarklessRegions}
+use Rattle.sre_turns.specs.Nested.{place_under}
+use Rattle.sre_turns.specs.declared.Point.{Point}
 use Rattle.sre_board.specs.Ends.{EndsTable, EndsRight, HoldsNoEnd}
 use Rattle.sre_board.specs.Failures.{Kept, Remembers, Grows, Laid, HasSlots, Roomy, NewRow, Capacity, HasRow}
 use Rattle.sre_board.specs.Failures.{HoldsNone, kept_of}
@@ -31,14 +35,15 @@ abbrev pub Covers : List ℕ → ℕ → Type 0
 Covers ws end = (g : ℕ) → Asks ws g → 2 * g + 1 < end
 
 -- the failures; those that are kept while marks are set which are asked for; where bodies of regions end, and whether
--- such ends are kept; how many steps are left before the next look, and how many were taken up to that look; how many
--- turns a search within turns goes on without failures; whether failures are kept by now; and whether no more are,
--- since memory was refused for a place
+-- such ends are kept; from which position on failures are kept; how many steps are left before the next look, and how
+-- many were taken up to that look; how many turns a search within turns goes on without failures; whether failures are
+-- kept by now; and whether no more are, since memory was refused for a place
 pub record MemoValue : Type 0 where
   pub kept : Kept
   pub marked : MarkedValue
   pub ends : EndsTable
   pub keeps_ends : Bool
+  pub first : ℕ
   pub patience : ℕ
   pub waited : ℕ
   pub waits : ℕ
@@ -49,12 +54,13 @@ abbrev pub has_refusal : Option Refusal → Bool
 has_refusal None = false
 has_refusal (Some r) = true
 
-abbrev pub memo_of : Kept → MarkedValue → EndsTable → Bool → ℕ → ℕ → ℕ → Bool → Option Refusal → MemoValue
-memo_of k m e h p w t o r = record {
+abbrev pub memo_of : Kept → MarkedValue → EndsTable → Bool → ℕ → ℕ → ℕ → ℕ → Bool → Option Refusal → MemoValue
+memo_of k m e h f p w t o r = record {
   kept = k;
   marked = m;
   ends = e;
   keeps_ends = h;
+  first = f;
   patience = p;
   waited = w;
   waits = t;
@@ -74,22 +80,23 @@ pub record Recalled (r : Run) (k : Kept) (m : MarkedValue) (e : EndsTable) (h : 
 abbrev pub Recalls : Run → MemoValue → Type 0
 Recalls r m = Recalled r m.kept m.marked m.ends m.keeps_ends
 
--- the ends are as they were
+-- the ends are as they were, and from which position on failures are kept
 abbrev pub EndsStay : MemoValue → MemoValue → Type 0
-EndsStay m m' = (m'.ends ≡ m.ends) × (m'.keeps_ends ≡ m.keeps_ends)
+EndsStay m m' = (m'.ends ≡ m.ends) × (m'.keeps_ends ≡ m.keeps_ends) × (m'.first ≡ m.first)
 
 -- the same for a request
 abbrev pub RecallsOf : {S : Type 0} {text : Ghosts S} → Request S text → MemoValue → Type 0
 RecallsOf r m = Recalls (run_of r) m
 
--- room was made for the failures of a place with the loops at these places, for the positions from first to end, unless
+-- room was made for the failures of a point with the loops at these places, for the positions from first to end, unless
 -- no more are kept: nothing that was kept is lost, and no more is
-pub record MakesRoom (ws : List ℕ) (first end place : ℕ) (js : List ℕ) (m m' : MemoValue) : Type 0 where
+pub record MakesRoom (ws : List ℕ) (first end : ℕ) (pt : Point) (js : List ℕ) (m m' : MemoValue) : Type 0 where
   pub grows : Grows m.kept m'.kept
   pub laid : Laid m'.kept
   pub roomy : (n : ℕ) → HasSlots ws js n → Roomy ws n first end m.kept → Roomy ws n first end m'.kept
-  pub rows : NewRow ws first end place js m.kept m'.kept
-  pub there : m'.stopped ≡ false → Capacity ws first end place js m.kept → HasRow m'.kept place
+  pub rows : NewRow ws first end pt js m.kept m'.kept
+  pub there : m'.stopped ≡ false → (n : ℕ) → place_under pt js ≡ Some n → Capacity ws first end n js m.kept
+      → HasRow m'.kept n
 
 -- nothing is kept, and it is not known which groups are asked for: so it is where a search begins
 pub record IsBlank (k : Kept) (m : MarkedValue) (e : EndsTable) (h : Bool) : Type 0 where
@@ -118,3 +125,11 @@ pub record Begins (start end : ℕ) (m : MemoValue) : Type 0 where
 abbrev pub KeepsEndsOf : {S : Type 0} {text : Ghosts S} → Request S text → MemoValue → Type 0
 KeepsEndsOf r m =
     (t : Tree) → WholeItems (run_of r).words t → refers t ≡ false → marks_in_regions t ≡ false → m.keeps_ends ≡ true
+
+-- from which position on failures are kept of a tree's words: as far before the window as its looks may go back
+abbrev pub first_kept : {S : Type 0} {text : Ghosts S} → Request S text → Tree → ℕ
+first_kept r t = start_of r - backs t
+
+-- so it is of words that do not refer to groups
+abbrev pub KeepsFrom : {S : Type 0} {text : Ghosts S} → Request S text → MemoValue → Type 0
+KeepsFrom r m = (t : Tree) → WholeItems (run_of r).words t → refers t ≡ false → m.first ≡ first_kept r t

@@ -26,7 +26,7 @@ use Rattle.sre_board.specs.Failures.{Kept}
 use Rattle.sre_request.specs.declared.request.Request.{Request}
 use Rattle.sre_request.specs.Requests.{start_of, end_of}
 use Rattle.sre_request.specs.Runs.{run_of}
-use Rattle.sre_machine.specs.Memos.{MemoValue}
+use Rattle.sre_machine.specs.Memos.{MemoValue, first_kept}
 use Rattle.sre_machine.specs.declared.turns.Decision.{Decision}
 use Rattle.sre_machine.specs.declared.turns.Decision.TheVariants.{Decided, Opened}
 
@@ -34,19 +34,24 @@ use Rattle.sre_machine.specs.declared.turns.Decision.TheVariants.{Decided, Opene
 abbrev pub window_of : {S : Type 0} {text : Ghosts S} → Request S text → ℕ
 window_of r = end_of r - start_of r
 
--- the turns of the words are counted, where a region forks none sets a mark, and there is room for the bits of all their
--- places
+-- the turns of the words are counted, where a region forks none sets a mark, and there is room for the bits of all
+-- their places
 pub record Remembering {S : Type 0} {text : Ghosts S} (r : Request S text) : Type 0 where
   pub plain : Counted (run_of r)
   pub unmarked : has_forked_region plain.tree ≡ true → marks_in_regions plain.tree ≡ false
-  pub room : Room (run_of r) plain (start_of r)
+  pub room : Room (run_of r) plain (first_kept r plain.tree)
   pub order : start_of r ≤ end_of r
+
+-- from which position on failures are kept
+abbrev pub rows_from : {S : Type 0} {text : Ghosts S} (r : Request S text) → Remembering r → ℕ
+rows_from r pl = first_kept r pl.plain.tree
 
 -- the memory has taken in so many bits, of which some are those of what is tried; where a region forks it keeps ends of
 -- bodies, and else nothing is tried inside a region
 pub record Holds {S : Type 0} {text : Ghosts S} (r : Request S text) (pl : Remembering r) (m : MemoValue)
     (xs : List Attempt) (n : ℕ) : Type 0 where
-  pub account : Account (run_of r) pl.plain (start_of r) m.kept m.ends xs n
+  pub account : Account (run_of r) pl.plain (rows_from r pl) m.kept m.ends xs n
+  pub first : m.first ≡ rows_from r pl
   pub ends : has_forked_region pl.plain.tree ≡ true → m.keeps_ends ≡ true
   pub forked : AllByRecursion (λ (a : Attempt). a.inside ≡ true → has_forked_region pl.plain.tree ≡ true) xs
 
@@ -79,7 +84,8 @@ Within r l = l.taken ≤ l.granted + l.tolls * grant r.words
 abbrev pub HoldsTried : {S : Type 0} {text : Ghosts S} → Request S text → Attempt → Kept → Kept → Type 0
 HoldsTried r x k k' =
     (pl : Remembering r) (es : EndsTable) (xs : List Attempt) (n : ℕ)
-    → Account (run_of r) pl.plain (start_of r) k es (x ∷ xs) n → Account (run_of r) pl.plain (start_of r) k' es xs n
+    → Account (run_of r) pl.plain (rows_from r pl) k es (x ∷ xs) n
+    → Account (run_of r) pl.plain (rows_from r pl) k' es xs n
 
 -- from where some turns began the machine has come here, by so many more of them, and each toll is paid
 pub record Follows {S : Type 0} {text : Ghosts S} (r : Request S text) (all : List Way) (first next : Next)
@@ -100,7 +106,7 @@ pub record GivenUp {S : Type 0} {text : Ghosts S} (r : Request S text) (all : Li
   pub cost : (pl : Remembering r) → m.is_open ≡ true → (limit : Limit) → Stands (run_of r) all limit first b
       → limit.start ≡ start_of r → limit.taken ≡ before → (n : ℕ) → Holding r pl m limit n
       → Refused ⊎ ((tolls : ℕ)
-      × (tolls + n * weight r pl ≤ limit.tolls + most_bits (run_of r) pl.plain (start_of r) * weight r pl)
+      × (tolls + n * weight r pl ≤ limit.tolls + most_bits (run_of r) pl.plain (rows_from r pl) * weight r pl)
       × (left ≤ left' + (limit.granted + tolls * grant (run_of r).words + 1) * each_of r pl))
 
 -- turns by which the whole was decided, with no outcome: how many there were at most, and what the memory holds then
@@ -130,10 +136,11 @@ HoldsBits r pl m n = Holds r pl m [] n
 pub record RunGivenUp {S : Type 0} {text : Ghosts S} (r : Request S text) (start : StringCursor) (m : MemoValue)
     (left left' : ℕ) : Type 0 where
   pub keeping : (pl : Remembering r) → start_of r ≤ start.position → m.is_open ≡ true → (n : ℕ) → HoldsBits r pl m n
-      → Refused ⊎ ((tolls : ℕ) × (tolls + n * weight r pl ≤ most_bits (run_of r) pl.plain (start_of r) * weight r pl)
+      → Refused
+      ⊎ ((tolls : ℕ) × (tolls + n * weight r pl ≤ most_bits (run_of r) pl.plain (rows_from r pl) * weight r pl)
       × (left ≤ left' + run_cost r pl tolls))
   pub closed : (pl : Remembering r) → start_of r ≤ start.position → m.is_open ≡ false
-      → Refused ⊎ ((tolls : ℕ) × (tolls ≤ most_bits (run_of r) pl.plain (start_of r) * weight r pl)
+      → Refused ⊎ ((tolls : ℕ) × (tolls ≤ most_bits (run_of r) pl.plain (rows_from r pl) * weight r pl)
       × (left ≤ left' + m.waits + run_cost r pl tolls))
 
 -- a run with no outcome: the same, and what the memory holds then; or failures were not kept in it
@@ -151,7 +158,7 @@ pub record RunSettles {S : Type 0} {text : Ghosts S} (r : Request S text) (start
 pub record AnewGivenUp {S : Type 0} {text : Ghosts S} (r : Request S text) (start : StringCursor) (left left' : ℕ) :
     Type 0 where
   pub cost : (pl : Remembering r) → start_of r ≤ start.position
-      → Refused ⊎ ((tolls : ℕ) × (tolls ≤ most_bits (run_of r) pl.plain (start_of r) * weight r pl)
+      → Refused ⊎ ((tolls : ℕ) × (tolls ≤ most_bits (run_of r) pl.plain (rows_from r pl) * weight r pl)
       × (left ≤ left' + run_cost r pl tolls))
 
 -- one with no outcome, and what the memory holds then

@@ -1,12 +1,11 @@
 -- Where the machine stands, and what an instruction's turn keeps, in the words of its functions' contracts.
 -- Words of the machine's contracts; what sre_engine makes public does not rest on it.
-use Rattle.std.specs.Prelude.{ℕ, ◌≡◌, ◌≢◌, ◌≤◌, Bool, true, false, List, [], Option}
+use Rattle.std.specs.Prelude.{⊤, ℕ, ◌≡◌, ◌≢◌, ◌≤◌, Bool, true, false, List, [], Option}
 use Rattle.sre_chars.specs.declared.constants.SreOpcode.{SreOpcode}
 use Rattle.sre_chars.specs.declared.string.StrDrive.{Ghosts}
 use Rattle.sre_chars.specs.declared.string.StringCursor.{StringCursor}
 use Rattle.sre_model.specs.Marks.{Marks, no_marks}
 use Rattle.sre_growth.specs.Refusal.{Refused}
-use Rattle.sre_model.specs.Roles.{role}
 use Rattle.sre_model.specs.Runs.{Run}
 use Rattle.sre_turns.specs.Board.{BoardValue}
 use Rattle.sre_turns.specs.Asked as marks
@@ -23,12 +22,12 @@ use Rattle.sre_turns.specs.BodyEnds.{EndsAt}
 use Rattle.sre_turns.specs.Machine.{Ends, spot}
 use Rattle.sre_turns.specs.Machine.{Refuses, DemandsAny, Continues, SkipsBoth, IsRead}
 use Rattle.sre_turns.specs.RunEnds.{RunsOn}
-use Rattle.sre_turns.specs.Limits.{Limit, Grants}
-use Rattle.sre_turns.specs.Potential.{units}
+use Rattle.sre_turns.specs.Limits.{Limit, Grants, CodeAt, tolls_of}
 use Rattle.sre_turns.specs.declared.Next.TheVariants as next
 use Rattle.sre_turns.specs.declared.Next.{Next}
 use Rattle.sre_turns.specs.declared.Point.{Point}
-use Rattle.sre_turns.specs.declared.Point.TheVariants.{Instruction}
+use Rattle.sre_turns.specs.declared.Point.TheVariants.{Instruction, Alternatives, Shorter, Longer, Inside, Again, Tried}
+use Rattle.sre_turns.specs.declared.Point.TheVariants.{TriedAgain}
 use Rattle.sre_board.specs.Ends.{TellsEnd, KeepsOpenEnds, HoldsOpenEnds}
 use Rattle.sre_request.specs.declared.request.Request.{Request}
 use Rattle.sre_machine.specs.Memos.{MemoValue}
@@ -82,9 +81,9 @@ UnaskedMarks r m = marks.Unmarked (run_of r).words m
 abbrev pub AlikeMarks : {S : Type 0} {text : Ghosts S} → Request S text → Marks → Marks → Type 0
 AlikeMarks r m n = MarksAlike (run_of r).words m n
 
--- nothing comes of the instruction at a place and a position, under the loops of a board and under marks
-abbrev pub Fails : {S : Type 0} {text : Ghosts S} → Request S text → ℕ → ℕ → Marks → BoardValue → Type 0
-Fails r place p m b = Hopeless (run_of r) (is_inside b.choices) m (spot_at (Instruction place) b.frames p b.marks)
+-- nothing comes of a point at a position, under the loops of a board and under marks
+abbrev pub Fails : {S : Type 0} {text : Ghosts S} → Request S text → Point → ℕ → Marks → BoardValue → Type 0
+Fails r point p m b = Hopeless (run_of r) (is_inside b.choices) m (spot_at point b.frames p b.marks)
 
 -- a point's turn makes of a board what comes next and another board, and keeps the first accepted outcome
 abbrev pub TurnAt : {S : Type 0} {text : Ghosts S} → Request S text → Point → StringCursor → BoardValue → Next
@@ -99,11 +98,11 @@ Turn r place cursor b next c = TurnAt r (Instruction place) cursor b next c
 abbrev pub Proceeds : Run → List Way → Limit → Next → BoardValue → (Limit → Type 0) → Type 0
 Proceeds r all limit next c Paid = (more : Limit) × Grants limit more × Later r all more next c × Paid more
 
--- the turn of an instruction that was just come to
-abbrev pub Takes : {S : Type 0} {text : Ghosts S} → Request S text → ℕ → StringCursor → BoardValue → MemoValue → Next
-    → BoardValue → MemoValue → Type 0
-Takes r place cursor b m next c m' =
-    (all : List Way) (limit : Limit) → Arrives (run_of r) all limit (Instruction place) cursor b
+-- the turn of a point that was just come to
+abbrev pub Takes : {S : Type 0} {text : Ghosts S} → Request S text → Point → StringCursor → BoardValue → MemoValue
+    → Next → BoardValue → MemoValue → Type 0
+Takes r point cursor b m next c m' =
+    (all : List Way) (limit : Limit) → Arrives (run_of r) all limit point cursor b
     → Proceeds (run_of r) all limit next c (λ more. Pays r m limit m' more)
 
 -- the same where the machine goes back, and keeps what failed or does not
@@ -121,27 +120,38 @@ Finishes r keeps b m m' =
     → (all ≡ []) × ((more : Limit) × Grants limit more × (keeps ≡ true → Pays r m limit m' more)
     × (Counted (run_of r) → (more.trying ≡ []) × Within (run_of r) more))
 
--- the instruction is left at once
-abbrev pub GivesUp : {S : Type 0} {text : Ghosts S} → Request S text → ℕ → StringCursor → BoardValue → MemoValue
+-- the point is left at once
+abbrev pub GivesUp : {S : Type 0} {text : Ghosts S} → Request S text → Point → StringCursor → BoardValue → MemoValue
     → BoardValue → MemoValue → Type 0
-GivesUp r place cursor b m c m' =
-    (all : List Way) (limit : Limit) → Arrives (run_of r) all limit (Instruction place) cursor b
+GivesUp r point cursor b m c m' =
+    (all : List Way) (limit : Limit) → Arrives (run_of r) all limit point cursor b
     → Later (run_of r) all limit next.Back c × Pays r m limit m' limit
 
+-- a run without a greatest count is at a point
+abbrev pub RunsOnAt : List ℕ → Point → Type 0
+RunsOnAt ws (Instruction i) = RunsOn ws i
+RunsOnAt ws (Alternatives q) = ⊥
+RunsOnAt ws (Shorter t k) = ⊥
+RunsOnAt ws (Longer i n) = ⊥
+RunsOnAt ws (Inside g) = ⊥
+RunsOnAt ws Again = ⊥
+RunsOnAt ws (Tried i) = ⊥
+RunsOnAt ws TriedAgain = ⊥
+
 -- it is gone on with, which is paid where it is no run without a greatest count
-abbrev pub GoesOn : {S : Type 0} {text : Ghosts S} → Request S text → ℕ → StringCursor → BoardValue → MemoValue
+abbrev pub GoesOn : {S : Type 0} {text : Ghosts S} → Request S text → Point → StringCursor → BoardValue → MemoValue
     → BoardValue → MemoValue → Type 0
-GoesOn r place cursor b m c m' =
-    (all : List Way) (limit : Limit) → Arrives (run_of r) all limit (Instruction place) cursor b
-    → (more : Limit) × Grants limit more × Goes (run_of r) all more (Instruction place) cursor c
-    × ((RunsOn (run_of r).words place → ⊥) → Pays r m limit m' more)
+GoesOn r point cursor b m c m' =
+    (all : List Way) (limit : Limit) → Arrives (run_of r) all limit point cursor b
+    → (more : Limit) × Grants limit more × Goes (run_of r) all more point cursor c
+    × ((RunsOnAt (run_of r).words point → ⊥) → Pays r m limit m' more)
 
 -- one toll is granted for it
-abbrev pub TriesOn : {S : Type 0} {text : Ghosts S} → Request S text → ℕ → StringCursor → BoardValue → MemoValue
+abbrev pub TriesOn : {S : Type 0} {text : Ghosts S} → Request S text → Point → StringCursor → BoardValue → MemoValue
     → BoardValue → MemoValue → Type 0
-TriesOn r place cursor b m c m' =
-    (all : List Way) (limit : Limit) → Arrives (run_of r) all limit (Instruction place) cursor b
-    → (more : Limit) × Grants limit more × Tries (run_of r) all more (Instruction place) cursor c
+TriesOn r point cursor b m c m' =
+    (all : List Way) (limit : Limit) → Arrives (run_of r) all limit point cursor b
+    → (more : Limit) × Grants limit more × Tries (run_of r) all more point cursor c
     × Pays r m limit m' more
 
 -- the turn of an instruction for which one toll was granted
@@ -152,22 +162,29 @@ TurnOnce r place cursor b next c =
     → Later (run_of r) all limit next c
 
 -- the machine may stand there still, whatever else waits
-abbrev pub StaysAt : {S : Type 0} {text : Ghosts S} → Request S text → ℕ → StringCursor → BoardValue → BoardValue
+abbrev pub StaysAt : {S : Type 0} {text : Ghosts S} → Request S text → Point → StringCursor → BoardValue → BoardValue
     → Type 0
-StaysAt r place cursor b c = AtOnBoard r (Instruction place) cursor b → AtOnBoard r (Instruction place) cursor c
+StaysAt r point cursor b c = AtOnBoard r point cursor b → AtOnBoard r point cursor c
 
--- the instruction at a place forks: the machine may have more than one way to go on there
-abbrev pub ForksThere : {S : Type 0} {text : Ghosts S} → Request S text → ℕ → Type 0
-ForksThere r place = ForksAt (run_of r).words place
+-- a point forks: the machine may have more than one way to go on there, or go on more than once
+abbrev pub ForksThere : {S : Type 0} {text : Ghosts S} → Request S text → Point → Type 0
+ForksThere r (Instruction place) = ForksAt (run_of r).words place
+ForksThere r (Alternatives q) = ⊥
+ForksThere r (Shorter t k) = ⊥
+ForksThere r (Longer i n) = ⊥
+ForksThere r (Inside g) = ⊥
+ForksThere r Again = ⊤
+ForksThere r (Tried i) = ⊥
+ForksThere r TriedAgain = ⊥
 
--- an instruction is left at once, or else the machine stands there still and goes on with it
-pub record LeavesOrStays {S : Type 0} {text : Ghosts S} (r : Request S text) (place : ℕ) (cursor : StringCursor)
+-- a point is left at once, or else the machine stands there still and goes on with it
+pub record LeavesOrStays {S : Type 0} {text : Ghosts S} (r : Request S text) (point : Point) (cursor : StringCursor)
     (leaves : Bool) (b : BoardValue) (m : MemoValue) (c : BoardValue) (m' : MemoValue) : Type 0 where
-  pub left : leaves ≡ true → GivesUp r place cursor b m c m'
-  pub stays : leaves ≡ false → StaysAt r place cursor b c
-  pub goes : leaves ≡ false → GoesOn r place cursor b m c m'
+  pub left : leaves ≡ true → GivesUp r point cursor b m c m'
+  pub stays : leaves ≡ false → StaysAt r point cursor b c
+  pub goes : leaves ≡ false → GoesOn r point cursor b m c m'
 
--- under what marks failures are kept for an instruction: where they are not, but the memo is open, the words refer to
+-- under what marks failures are kept for a point: where they are not, but the memo is open, the words refer to
 -- groups
 pub record IsKeeping {S : Type 0} {text : Ghosts S} (r : Request S text) (keeping : Keeping) (b : BoardValue)
     (m : MemoValue) : Type 0 where
@@ -177,15 +194,14 @@ pub record IsKeeping {S : Type 0} {text : Ghosts S} (r : Request S text) (keepin
   pub refers : keeping ≡ Marked → RefersToGroups r
   pub left : keeping ≡ Nothing → m.is_open ≡ true → RefersToGroups r
 
--- from the instruction at a place, which forks, inside a region, its body ends at a cursor: so it does from what is
--- alike, as long as no mark is set that the words ask for
-pub record EndsThere {S : Type 0} {text : Ghosts S} (r : Request S text) (place : ℕ) (cursor : StringCursor)
+-- from a point inside a region its body ends at a cursor: so it does from what is alike, as long as no mark is set that
+-- the words ask for
+pub record EndsThere {S : Type 0} {text : Ghosts S} (r : Request S text) (point : Point) (cursor : StringCursor)
     (b : BoardValue) (end : StringCursor) : Type 0 where
   pub inside : is_inside b.choices ≡ true
-  pub forks : ForksThere r place
   pub unmarked : UnaskedMarks r b.marks
   pub stands : (run_of r).stands end end.position
-  pub ends : EndsAt (run_of r) no_marks (spot (Instruction place) cursor b) end.position
+  pub ends : EndsAt (run_of r) no_marks (spot point cursor b) end.position
 
 -- where a body ends that is kept: failures are kept, and ends of bodies, the machine is inside a region, and the words
 -- refer to no group
@@ -203,18 +219,23 @@ pub record BodyEnds {S : Type 0} {text : Ghosts S} (r : Request S text) (cursor 
   pub limit : Limit
   pub ends : Ends (run_of r) all limit cursor b
 
--- the instruction at a place brings tolls: the machine may have more than one way to go on
-pub record BringsTolls {S : Type 0} {text : Ghosts S} (r : Request S text) (place : ℕ) : Type 0 where
+-- a point brings tolls: the machine may have more than one way to go on
+pub record BringsTolls {S : Type 0} {text : Ghosts S} (r : Request S text) (point : Point) : Type 0 where
   pub code : SreOpcode
-  pub there : OpcodeAt r place code
-  pub some : 1 ≤ units (run_of r).words (run_of r).subject.end place (role code)
+  pub there : CodeAt (run_of r).words point code
+  pub some : 1 ≤ tolls_of (run_of r).words (run_of r).subject.end code point
 
--- no end is told of the instruction at a place and a cursor, where ends of bodies are kept
-abbrev pub NoEndTold : {S : Type 0} {text : Ghosts S} → Request S text → ℕ → StringCursor → BoardValue → MemoValue
+-- it brings none
+abbrev pub BringsNoTolls : {S : Type 0} {text : Ghosts S} → Request S text → Point → Type 0
+BringsNoTolls r point =
+    (o : SreOpcode) → CodeAt (run_of r).words point o → tolls_of (run_of r).words (run_of r).subject.end o point ≡ 0
+
+-- no end is told of a point and a cursor, where ends of bodies are kept
+abbrev pub NoEndTold : {S : Type 0} {text : Ghosts S} → Request S text → Point → StringCursor → BoardValue → MemoValue
     → Type 0
-NoEndTold r place cursor b m =
+NoEndTold r point cursor b m =
     is_inside b.choices ≡ true → m.keeps_ends ≡ true → (end : StringCursor)
-    → TellsEnd m.kept m.ends (run_of r).words true (spot (Instruction place) cursor b) end → ⊥
+    → TellsEnd m.kept m.ends (run_of r).words true (spot point cursor b) end → ⊥
 
 -- where a body ends is kept, or memory was refused
 pub record KeepsBodyEnd {S : Type 0} {text : Ghosts S} (r : Request S text) (cursor : StringCursor) (b : BoardValue)

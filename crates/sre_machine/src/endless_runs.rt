@@ -1,8 +1,8 @@
 //! Runs without a greatest count, while failures are kept: turn by turn.
 //!
-//! What comes of such a run is what comes of the same run from one character later, and of its own first end. So it
-//! goes on to that run, which is looked up and tried like any other instruction, and each end is tried once, from
-//! wherever the run is come to.
+//! What comes of such a run is what comes of the same run from one character later, and of its own first end. Of a
+//! possessive one it is what comes of the later run alone, if there is one. So it goes on to that run, which is looked
+//! up and tried like any other instruction, and each end is tried once, from wherever the run is come to.
 
 ghost use Rattle.std.specs.Prelude.{None, ◌≡◌, ◌+◌, ◌-◌, ◌^◌, ◌<◌, ◌≤◌, MatchOption, IfOk, true, false};
 ghost use Rattle.sre_model.specs.Ways.{unlimited};
@@ -11,6 +11,7 @@ ghost use Rattle.sre_request.specs.Requests.{end_of};
 ghost use Rattle.sre_request.specs.Runs.{OpcodeAt, Standing, TestAt};
 ghost use Rattle.sre_machine.specs.Turns.{At, TurnOnce, AtPoint, TurnAt};
 ghost use Rattle.sre_machine.specs.EndlessRuns.{TakenAt, NotTakenAt, LacksLeast, EndsFirst, BeginsLater, IsEndlessRun};
+ghost use Rattle.sre_machine.specs.EndlessRuns.{HasOtherEnds};
 ghost use Rattle.sre_reading.specs.Reads.{WordAt};
 
 use crate::lazy_runs::{longer, one_longer};
@@ -29,7 +30,7 @@ use sre_request::Request;
 use sre_turns::{Next, Point};
 use std::alloc::Allocator;
 
-/// Whether a run without a greatest count, greedy or lazy, is at a place.
+/// Whether a run without a greatest count is at a place.
 #[inline(always)]
 pub(super) fn is_endless_run<S: StrDrive>(
     req: &Request<'_, S>,
@@ -43,14 +44,25 @@ pub(super) fn is_endless_run<S: StrDrive>(
     match opcode(req, place, cursor) {
         SreOpcode::REPEAT_ONE => operand(req, place, 3) as usize == MAXREPEAT,
         SreOpcode::MIN_REPEAT_ONE => operand(req, place, 3) as usize == MAXREPEAT,
+        SreOpcode::POSSESSIVE_REPEAT_ONE => operand(req, place, 3) as usize == MAXREPEAT,
         _ => false,
     }
+}
+
+// Whether the run at a place gives nothing back, as a possessive one; else it has other ends beside its longest.
+#[inline(always)]
+fn gives_nothing_back<S: StrDrive>(req: &Request<'_, S>, place: usize) -> bool
+    requires { IsEndlessRun req.now place }
+    ensures possessive { result ≡ true → OpcodeAt req.now place SreOpcode.POSSESSIVE_REPEAT_ONE }
+    ensures others { result ≡ false → HasOtherEnds req.now place }
+{
+    word(req, place) == SreOpcode::POSSESSIVE_REPEAT_ONE as u32
 }
 
 // Whether the run at a place is a lazy one; else it is greedy.
 #[inline(always)]
 fn is_lazy<S: StrDrive>(req: &Request<'_, S>, place: usize) -> bool
-    requires { IsEndlessRun req.now place }
+    requires { HasOtherEnds req.now place }
     ensures lazy { result ≡ true → OpcodeAt req.now place SreOpcode.MIN_REPEAT_ONE }
     ensures greedy { result ≡ false → OpcodeAt req.now place SreOpcode.REPEAT_ONE }
 {
@@ -124,7 +136,8 @@ fn first_end<S: StrDrive, A: Allocator>(
     })
 }
 
-/// A run without a greatest count, while failures are kept: its first end, and the same run from one character later.
+/// A run without a greatest count, while failures are kept: its first end, and the same run from one character later;
+/// of a possessive run, its end if there is no later run, or else that one alone.
 #[inline(always)]
 pub(super) fn endless_run<S: StrDrive, A: Allocator>(
     req: &Request<'_, S>,
@@ -144,6 +157,9 @@ pub(super) fn endless_run<S: StrDrive, A: Allocator>(
     let Some(later) = first.later else {
         return Ok(Next::At(operands.tail, end));
     };
+    if gives_nothing_back(req, place) {
+        return Ok(Next::At(place, later));
+    }
     if refuses(req, operands.tail, end) {
         return Ok(Next::At(place, later));
     }

@@ -309,7 +309,12 @@ pub(super) fn back<S: StrDrive, A: Allocator, const KEEPS: bool>(
             Point::Inside(region) => return Ok(Some(without_outcome(board, region, choice.1))),
             Point::Tried(place) => {
                 if KEEPS {
-                    keep(req, board, memo, place, choice.1);
+                    keep(req, board, memo, Point::Instruction(place), choice.1);
+                }
+            }
+            Point::TriedAgain => {
+                if KEEPS {
+                    keep(req, board, memo, Point::Again, choice.1);
                 }
             }
         }

@@ -12,7 +12,6 @@ ghost use Rattle.sre_model.specs.Roles.{role};
 ghost use Rattle.sre_turns.specs.MovesAtReferences.{Asks, Named, asks};
 ghost use Rattle.sre_turns.specs.Fruit.{is_inside};
 ghost use Rattle.sre_turns.specs.Moves.{spot_at};
-ghost use Rattle.sre_turns.specs.declared.Point.TheVariants.{Instruction};
 ghost use Rattle.sre_board.specs.Failures.{HoldsNone, HoldsNoMore, HoldsOneMore, Tells};
 ghost use Rattle.sre_code.specs.Codes.{items_of};
 
@@ -20,6 +19,7 @@ use sre_board::{Board, Failures, Known};
 use sre_chars::constants::SreOpcode;
 use sre_code::Code;
 use sre_growth::Refusal;
+use sre_turns::Point;
 use std::alloc::Allocator;
 use std::convert::TryFrom;
 use std::marker::Model;
@@ -228,7 +228,7 @@ impl<A: Allocator> Marked<A> {
         copy(&mut self.marks, raw)
     }
 
-    /// Makes room for the failures of a place, if there is none.
+    /// Makes room for the failures of a point, if there is none.
     ///
     /// # Errors
     ///
@@ -238,7 +238,7 @@ impl<A: Allocator> Marked<A> {
         &mut self,
         words: &[u32],
         board: &Board<A>,
-        place: usize,
+        point: Point,
         first: usize,
         end: usize,
     ) -> Result<(), Refusal>
@@ -246,32 +246,32 @@ impl<A: Allocator> Marked<A> {
         ensures marks { self.new.marks ≡ self.old.marks }
         ensures end { self.new.end ≡ self.old.end }
     {
-        self.failures.prepare(words, board, place, first, end)
+        self.failures.prepare(words, board, point, first, end)
     }
 
-    /// What is known of an instruction at a position, as the board is.
+    /// What is known of a point at a position, as the board is.
     #[inline(always)]
     pub(crate) fn known(
         &self,
         words: &[u32],
         board: &Board<A>,
-        place: usize,
+        point: Point,
         position: usize,
     ) -> Known
         ensures { Tells result self.now.kept words.now (is_inside board.now.choices)
-            (spot_at (Instruction place) board.now.frames position board.now.marks) }
+            (spot_at point board.now.frames position board.now.marks) }
     {
-        self.failures.known(words, board, place, position)
+        self.failures.known(words, board, point, position)
     }
 
-    /// Keeps that an instruction fails at a position, as the board is.
+    /// Keeps that a point fails at a position, as the board is.
     #[inline(always)]
-    pub(crate) fn keep(&mut self, words: &[u32], board: &Board<A>, place: usize, position: usize)
+    pub(crate) fn keep(&mut self, words: &[u32], board: &Board<A>, point: Point, position: usize)
         ensures more { HoldsOneMore words.now (is_inside board.now.choices)
-            (spot_at (Instruction place) board.now.frames position board.now.marks) self.old.kept self.new.kept }
+            (spot_at point board.now.frames position board.now.marks) self.old.kept self.new.kept }
         ensures marks { self.new.marks ≡ self.old.marks }
         ensures end { self.new.end ≡ self.old.end }
     {
-        self.failures.keep(words, board, place, position);
+        self.failures.keep(words, board, point, position);
     }
 }

@@ -2,9 +2,10 @@
 //!
 //! To keep what failed costs time at each instruction, and most searches have little to gain by it. So a search goes
 //! its way without, and counts its steps back and the bodies of loops that it begins: only one that has taken 16 of
-//! these for each character of the window begins to remember. A search within turns counts these in place of its steps,
-//! twice as many for each character. The run that is under way then goes on, and remembers what it tries from there on;
-//! within turns it begins again.
+//! these for each character of the window begins to remember. Bodies of regions that end are steps, too, and so are the
+//! characters of long stretches, eight for one. A search within turns counts its turns in place of its steps, twice as
+//! many for each character. The run that is under way then goes on, and remembers what it tries from there on; within
+//! turns it begins again.
 
 ghost use Rattle.std.specs.Prelude.{[], ℕ, ◌≡◌, ◌⊎◌, ◌+◌, ◌-◌, ◌*◌, ◌<◌, ◌≤◌, None, IfSome, IfNone};
 ghost use Rattle.std.specs.Prelude.{slice_index_or, true, false};
@@ -13,10 +14,9 @@ ghost use Rattle.sre_turns.specs.Fruit.{is_inside};
 ghost use Rattle.sre_turns.specs.MovesAtReferences.{Asks};
 ghost use Rattle.sre_code.specs.Codes.{items_of};
 ghost use Rattle.sre_turns.specs.Moves.{spot_at};
-ghost use Rattle.sre_turns.specs.declared.Point.TheVariants.{Instruction};
 ghost use Rattle.sre_growth.specs.Refusal.{Refused};
 ghost use Rattle.sre_board.specs.Failures.{HoldsNone, HoldsNoMore, HoldsOneMore, Tells, Laid};
-ghost use Rattle.sre_machine.specs.Memos.{MakesRoom, RecallsOf, EndsStay, IsBlankMemo, KeepsEndsOf};
+ghost use Rattle.sre_machine.specs.Memos.{MakesRoom, RecallsOf, EndsStay, IsBlankMemo, KeepsEndsOf, KeepsFrom};
 ghost use Rattle.sre_board.specs.Ends.{TellsEnd, HoldsOpenMore, KeepsOpenEnds, HoldsOpenEnds};
 ghost use Rattle.sre_chars.specs.declared.string.StringCursor.{StringCursor};
 ghost use Rattle.sre_turns.specs.Bodies.{MarklessRegions};
@@ -32,6 +32,7 @@ use sre_code::Code;
 use sre_code::operands::know_words;
 use sre_growth::Refusal;
 use sre_request::Request;
+use sre_turns::Point;
 use std::alloc::Allocator;
 use std::marker::Model;
 
@@ -63,6 +64,8 @@ pub struct Memo<A: Allocator> {
     ends: Ends<A>,
     // whether such ends are kept: no region of the code sets a mark
     keeps_ends: bool,
+    // from which position on failures are kept, once they are
+    first: usize,
     // how many steps are left before the next look
     patience: usize,
     // how many were taken up to that look
@@ -83,7 +86,7 @@ impl<A: Allocator> Model for Memo<A> {
     ghost Value = { MemoValue };
 
     ghost view = { λ m.
-        memo_of m.failures m.marked m.ends m.keeps_ends m.patience m.waited m.waits m.is_open m.refused };
+        memo_of m.failures m.marked m.ends m.keeps_ends m.first m.patience m.waited m.waits m.is_open m.refused };
 
     ghost invariant = { λ m.
         IsMemo m.is_open m.is_used m.patience m.failures m.marked m.ends m.keeps_ends };
@@ -102,6 +105,7 @@ impl<A: Allocator + Copy> Memo<A> {
             marked: Marked::new(alloc),
             ends: Ends::new(alloc),
             keeps_ends: false,
+            first: 0,
             patience: STRIDE,
             waited: STRIDE,
             waits: 0,
@@ -172,6 +176,7 @@ impl<A: Allocator> Memo<A> {
     pub(crate) fn open<S: StrDrive>(&mut self, req: &Request<'_, S>)
         ensures opened { self.new.is_open ≡ true }
         ensures empty { self.new.kept ≡ kept_of [] [] [] }
+        ensures first { KeepsFrom req.now self.new }
         ensures ends { KeepsEndsOf req.now self.new }
         ensures recalls { RecallsOf req.now self.old → RecallsOf req.now self.new }
         ensures stopped { self.new.stopped ≡ self.old.stopped }
@@ -183,17 +188,22 @@ impl<A: Allocator> Memo<A> {
         self.begin_keeping(req);
     }
 
-    // Failures are kept, and where no region sets a mark the ends of their bodies, too.
+    // Failures are kept, from as far before the window as looks may go back, and where no region sets a mark the ends
+    // of their bodies, too.
     #[inline(always)]
     fn begin_keeping<S: StrDrive>(&mut self, req: &Request<'_, S>)
         requires { self.old.patience ≡ 0 }
-        ensures same { self.new ≡ record self.old { is_open = true; keeps_ends = self.new.keeps_ends } }
+        ensures same { self.new
+            ≡ record self.old { is_open = true; keeps_ends = self.new.keeps_ends; first = self.new.first } }
         ensures markless { self.new.keeps_ends ≡ true → MarklessRegions (run_of req.now).words }
+        ensures first { KeepsFrom req.now self.new }
         ensures ends { KeepsEndsOf req.now self.new }
     {
         self.is_used = true;
         self.is_open = true;
-        self.keeps_ends = !req.pattern_codes().regions_set_marks();
+        let code = req.pattern_codes();
+        self.first = req.start().saturating_sub(code.looks_back());
+        self.keeps_ends = !code.regions_set_marks();
     }
 
     // Whether failures are kept by now.
@@ -262,17 +272,10 @@ impl<A: Allocator> Memo<A> {
         false
     }
 
-    // Makes room for the failures of a place, if there is none. Where memory is refused the search goes on without.
+    // Makes room for the failures of a point, if there is none. Where memory is refused the search goes on without.
     #[inline(always)]
-    pub(crate) fn prepare(
-        &mut self,
-        words: &[u32],
-        board: &Board<A>,
-        place: usize,
-        first: usize,
-        end: usize,
-    )
-        ensures makes { MakesRoom words.now first end place (repeats board.now.frames) self.old self.new }
+    pub(crate) fn prepare(&mut self, words: &[u32], board: &Board<A>, point: Point, end: usize)
+        ensures makes { MakesRoom words.now self.old.first end point (repeats board.now.frames) self.old self.new }
         ensures marked { self.new.marked ≡ self.old.marked }
         ensures ends { EndsStay self.old self.new }
         ensures same { self.new.stopped ≡ false → self.new ≡ record self.old { kept = self.new.kept } }
@@ -280,7 +283,7 @@ impl<A: Allocator> Memo<A> {
         ensures refused { self.new.stopped ≡ true → Refused }
     {
         self.is_used = true;
-        if let Err(refusal) = self.failures.prepare(words, board, place, first, end) {
+        if let Err(refusal) = self.failures.prepare(words, board, point, self.first, end) {
             self.close(refusal);
         }
     }
@@ -300,30 +303,30 @@ impl<A: Allocator> Memo<A> {
         self.refused = Some(refusal);
     }
 
-    // What is known of an instruction at a position, as the board is.
+    // What is known of a point at a position, as the board is.
     #[inline(always)]
     pub(crate) fn known(
         &self,
         words: &[u32],
         board: &Board<A>,
-        place: usize,
+        point: Point,
         position: usize,
     ) -> Known
         ensures { Tells result self.now.kept words.now (is_inside board.now.choices)
-            (spot_at (Instruction place) board.now.frames position board.now.marks) }
+            (spot_at point board.now.frames position board.now.marks) }
     {
-        self.failures.known(words, board, place, position)
+        self.failures.known(words, board, point, position)
     }
 
-    // Keeps that an instruction fails at a position, as the board is.
+    // Keeps that a point fails at a position, as the board is.
     #[inline(always)]
-    pub(crate) fn keep(&mut self, words: &[u32], board: &Board<A>, place: usize, position: usize)
+    pub(crate) fn keep(&mut self, words: &[u32], board: &Board<A>, point: Point, position: usize)
         ensures kept { KeepsSpot words.now (is_inside board.now.choices)
-            (spot_at (Instruction place) board.now.frames position board.now.marks) self.old.kept self.new.kept }
+            (spot_at point board.now.frames position board.now.marks) self.old.kept self.new.kept }
         ensures same { self.new ≡ record self.old { kept = self.new.kept } }
     {
         self.is_used = true;
-        self.failures.keep(words, board, place, position);
+        self.failures.keep(words, board, point, position);
     }
 
     // Whether ends of bodies are kept.
@@ -334,30 +337,30 @@ impl<A: Allocator> Memo<A> {
         self.keeps_ends
     }
 
-    // Where the body of the innermost region ends, from an instruction inside at a position, as the board is; if that
-    // is kept.
+    // Where the body of the innermost region ends, from a point inside at a position, as the board is; if that is
+    // kept.
     #[inline(never)]
     pub(crate) fn end(
         &self,
         words: &[u32],
         board: &Board<A>,
-        place: usize,
+        point: Point,
         position: usize,
     ) -> Option<StringCursor>
         ensures told { IfSome result (λ end. TellsEnd self.now.kept self.now.ends words.now
             (is_inside board.now.choices)
-            (spot_at (Instruction place) board.now.frames position board.now.marks) end) }
+            (spot_at point board.now.frames position board.now.marks) end) }
         ensures none { IfNone result ((end : StringCursor) → TellsEnd self.now.kept self.now.ends words.now
             (is_inside board.now.choices)
-            (spot_at (Instruction place) board.now.frames position board.now.marks) end → ⊥) }
+            (spot_at point board.now.frames position board.now.marks) end → ⊥) }
         ensures laid { Laid self.now.kept }
     {
-        let number = self.failures.number(words, board, place, position)?;
+        let number = self.failures.number(words, board, point, position)?;
         self.ends.end(number)
     }
 
-    // Keeps that the body of the innermost region ends at a cursor, for each instruction that is tried inside. Where
-    // memory is refused the search goes on without.
+    // Keeps that the body of the innermost region ends at a cursor, for each point that is tried inside. Where memory
+    // is refused the search goes on without.
     #[inline(never)]
     pub(crate) fn keep_ends(&mut self, words: &[u32], board: &Board<A>, end: StringCursor)
         ensures more { HoldsOpenMore self.old.kept words.now board.now.choices end self.old.ends self.new.ends }
@@ -406,14 +409,13 @@ impl<A: Allocator> Memo<A> {
         }
     }
 
-    // Makes room for the failures of a place under marks, if there is none.
+    // Makes room for the failures of a point under marks, if there is none.
     #[inline(always)]
     pub(crate) fn prepare_marked(
         &mut self,
         words: &[u32],
         board: &Board<A>,
-        place: usize,
-        first: usize,
+        point: Point,
         end: usize,
     )
         ensures no_more { HoldsNoMore self.old.marked.kept self.new.marked.kept }
@@ -424,43 +426,43 @@ impl<A: Allocator> Memo<A> {
         ensures still { self.old.is_open ≡ true → self.new.is_open ≡ true ⊎ Refused }
     {
         self.is_used = true;
-        if let Err(refusal) = self.marked.prepare(words, board, place, first, end) {
+        if let Err(refusal) = self.marked.prepare(words, board, point, self.first, end) {
             self.close(refusal);
         }
     }
 
-    // What is known of an instruction at a position under marks, as the board is.
+    // What is known of a point at a position under marks, as the board is.
     #[inline(always)]
     pub(crate) fn known_marked(
         &self,
         words: &[u32],
         board: &Board<A>,
-        place: usize,
+        point: Point,
         position: usize,
     ) -> Known
         ensures { Tells result self.now.marked.kept words.now (is_inside board.now.choices)
-            (spot_at (Instruction place) board.now.frames position board.now.marks) }
+            (spot_at point board.now.frames position board.now.marks) }
     {
-        self.marked.known(words, board, place, position)
+        self.marked.known(words, board, point, position)
     }
 
-    // Keeps that an instruction fails at a position under marks, as the board is.
+    // Keeps that a point fails at a position under marks, as the board is.
     #[inline(always)]
     pub(crate) fn keep_marked(
         &mut self,
         words: &[u32],
         board: &Board<A>,
-        place: usize,
+        point: Point,
         position: usize,
     )
         ensures more { HoldsOneMore words.now (is_inside board.now.choices)
-            (spot_at (Instruction place) board.now.frames position board.now.marks) self.old.marked.kept
+            (spot_at point board.now.frames position board.now.marks) self.old.marked.kept
             self.new.marked.kept }
         ensures marks { self.new.marked.marks ≡ self.old.marked.marks }
         ensures end { self.new.marked.end ≡ self.old.marked.end }
         ensures same { self.new ≡ record self.old { marked = self.new.marked } }
     {
         self.is_used = true;
-        self.marked.keep(words, board, place, position);
+        self.marked.keep(words, board, point, position);
     }
 }

@@ -1,21 +1,20 @@
-//! Instructions that are tried: what failed is kept, and where it comes again the machine goes back at once.
+//! Instructions and possessive loops that are tried: what failed is kept, and where it comes again the machine goes
+//! back at once.
 
 ghost use Rattle.std.specs.Prelude.{◌≡◌, ◌≢◌, ◌⊎◌, IfOk, true, false};
 ghost use Rattle.sre_model.specs.Marks.{Marks};
-ghost use Rattle.sre_chars.specs.declared.constants.SreOpcode.{SreOpcode};
-ghost use Rattle.sre_model.specs.Roles.{role};
-ghost use Rattle.sre_turns.specs.Potential.{units};
 ghost use Rattle.sre_machine.specs.Paying.{HoldsTried};
-ghost use Rattle.sre_turns.specs.declared.Point.TheVariants.{Instruction};
+ghost use Rattle.sre_turns.specs.declared.Point.TheVariants.{Instruction, Again};
+ghost use Rattle.sre_turns.specs.Board.{MayBeTried};
 ghost use Rattle.sre_turns.specs.Fruit.{is_inside};
 ghost use Rattle.sre_turns.specs.Machine.{spot};
 ghost use Rattle.sre_turns.specs.Asked.{Unmarked};
 ghost use Rattle.sre_machine.specs.Memos.{RecallsOf};
-ghost use Rattle.sre_request.specs.Runs.{run_of, OpcodeAt};
+ghost use Rattle.sre_request.specs.Runs.{run_of};
 ghost use Rattle.sre_machine.specs.EndlessRuns.{IsEndlessRun};
-ghost use Rattle.sre_machine.specs.Turns.{At, AtOnBoard, Fails, Takes, TriesOn, IsKeeping, LeavesOrStays};
+ghost use Rattle.sre_machine.specs.Turns.{At, AtPoint, AtOnBoard, Fails, Takes, TriesOn, IsKeeping, LeavesOrStays};
 ghost use Rattle.sre_machine.specs.Turns.{RefersToGroups, UnaskedMarks, AlikeMarks, ForksThere};
-ghost use Rattle.sre_machine.specs.Turns.{BringsTolls, NoEndTold};
+ghost use Rattle.sre_machine.specs.Turns.{BringsTolls, BringsNoTolls, NoEndTold, RunsOnAt};
 ghost use Rattle.sre_turns.specs.Limits.{attempt};
 ghost use Rattle.sre_growth.specs.Refusal.{Refused};
 
@@ -23,16 +22,17 @@ use crate::body_ends::known_end;
 use crate::endless_runs::{endless_run, is_endless_run};
 use crate::machine::{instruction, opcode};
 use crate::memo::Memo;
+use crate::possessive_loops::again;
 use sre_board::{Board, Known};
 use sre_chars::constants::SreOpcode;
 use sre_chars::string::{StrDrive, StringCursor};
 use sre_growth::Refusal;
 use sre_request::Request;
-use sre_turns::Next;
+use sre_turns::{Next, Point};
 use std::alloc::Allocator;
 
-/// Whether the machine may have more than one way to go on at a place: between two such places nothing branches, so
-/// failures are kept there alone.
+/// Whether the machine may have more than one way to go on at a place, or go on at itself: between two such places
+/// nothing branches, so failures are kept there alone.
 #[inline(always)]
 pub(super) fn may_branch<S: StrDrive>(
     req: &Request<'_, S>,
@@ -40,10 +40,9 @@ pub(super) fn may_branch<S: StrDrive>(
     cursor: StringCursor,
 ) -> bool
     requires { At req.now place cursor }
-    ensures free { result ≡ false → (o : SreOpcode) → OpcodeAt req.now place o
-        → units (run_of req.now).words (run_of req.now).subject.end place (role o) ≡ 0 }
-    ensures forks { result ≡ true → ForksThere req.now place }
-    ensures tolls { result ≡ true → BringsTolls req.now place }
+    ensures free { result ≡ false → BringsNoTolls req.now (Instruction place) }
+    ensures forks { result ≡ true → ForksThere req.now (Instruction place) }
+    ensures tolls { result ≡ true → BringsTolls req.now (Instruction place) }
 {
     matches!(
         opcode(req, place, cursor),
@@ -53,7 +52,33 @@ pub(super) fn may_branch<S: StrDrive>(
             | SreOpcode::MIN_UNTIL
             | SreOpcode::REPEAT_ONE
             | SreOpcode::MIN_REPEAT_ONE
+            | SreOpcode::POSSESSIVE_REPEAT
+            | SreOpcode::POSSESSIVE_REPEAT_ONE
     )
+}
+
+/// The same at a point: a possessive loop may go on with a further body, or end.
+#[inline(always)]
+pub(super) fn may_branch_at<S: StrDrive>(
+    req: &Request<'_, S>,
+    point: Point,
+    cursor: StringCursor,
+) -> bool
+    requires { AtPoint req.now point cursor }
+    ensures free { result ≡ false → BringsNoTolls req.now point }
+    ensures forks { result ≡ true → ForksThere req.now point }
+    ensures tolls { result ≡ true → BringsTolls req.now point }
+{
+    match point {
+        Point::Instruction(place) => may_branch(req, place, cursor),
+        Point::Again => true,
+        Point::Alternatives(_) => false,
+        Point::Shorter(_, _) => false,
+        Point::Longer(_, _) => false,
+        Point::Inside(_) => false,
+        Point::Tried(_) => false,
+        Point::TriedAgain => false,
+    }
 }
 
 /// Whether no mark is set that the words ask for: those that are set end before the first group that is asked for.
@@ -95,17 +120,17 @@ pub(super) enum Keeping {
     Marked,
 }
 
-// Under which marks failures are kept, for the instruction at a place. Under those of the memo there are failures only
+// Under which marks failures are kept, for a point. Under those of the memo there are failures only
 // where the machine may branch.
 #[inline(always)]
 fn keeping_at<S: StrDrive, A: Allocator>(
     req: &Request<'_, S>,
     board: &Board<A>,
     memo: &Memo<A>,
-    place: usize,
+    point: Point,
     cursor: StringCursor,
 ) -> Keeping
-    requires stands { At req.now place cursor }
+    requires stands { AtPoint req.now point cursor }
     requires remembers { RecallsOf req.now memo.now }
     ensures { IsKeeping req.now result board.now memo.now }
 {
@@ -115,59 +140,59 @@ fn keeping_at<S: StrDrive, A: Allocator>(
     if is_unmarked(req, board) {
         return Keeping::Unmarked;
     }
-    if may_branch(req, place, cursor) && is_marked_so(req, board, memo) {
+    if may_branch_at(req, point, cursor) && is_marked_so(req, board, memo) {
         return Keeping::Marked;
     }
     Keeping::Nothing
 }
 
-// Keeps an instruction of which nothing came under marks that are asked for, if they are those of the memo.
+// Keeps a point of which nothing came under marks that are asked for, if they are those of the memo.
 #[inline(never)]
 fn keep_marked<S: StrDrive, A: Allocator>(
     req: &Request<'_, S>,
     board: &Board<A>,
     memo: &mut Memo<A>,
-    place: usize,
+    point: Point,
     cursor: StringCursor,
 )
     requires failed { (m : Marks) → AlikeMarks req.now m board.now.marks
-        → Fails req.now place cursor.position m board.now }
+        → Fails req.now point cursor.position m board.now }
     requires remembers { RecallsOf req.now memo.old }
     ensures remembers { RecallsOf req.now memo.new }
     ensures same { memo.new ≡ record memo.old { marked = memo.new.marked } }
 {
     if is_marked_so(req, board, memo) {
         let words = req.pattern_codes().items();
-        memo.keep_marked(words, board, place, cursor.position());
+        memo.keep_marked(words, board, point, cursor.position());
     }
 }
 
-// Keeps an instruction of which nothing came.
+// Keeps a point of which nothing came.
 #[inline(never)]
 pub(super) fn keep<S: StrDrive, A: Allocator>(
     req: &Request<'_, S>,
     board: &Board<A>,
     memo: &mut Memo<A>,
-    place: usize,
+    point: Point,
     cursor: StringCursor,
 )
     requires failed { (m : Marks) → AlikeMarks req.now m board.now.marks
-        → Fails req.now place cursor.position m board.now }
+        → Fails req.now point cursor.position m board.now }
     requires remembers { RecallsOf req.now memo.old }
     ensures remembers { RecallsOf req.now memo.new }
     ensures same { memo.new ≡ record memo.old { kept = memo.new.kept; marked = memo.new.marked } }
-    ensures account { HoldsTried req.now (attempt board.now.choices (spot (Instruction place) cursor board.now))
+    ensures account { HoldsTried req.now (attempt board.now.choices (spot point cursor board.now))
         memo.old.kept memo.new.kept }
 {
     if is_unmarked(req, board) {
         let words = req.pattern_codes().items();
-        memo.keep(words, board, place, cursor.position());
+        memo.keep(words, board, point, cursor.position());
     } else {
-        keep_marked(req, board, memo, place, cursor);
+        keep_marked(req, board, memo, point, cursor);
     }
 }
 
-// Whether the instruction at a place is known to fail. Where it is not, its mark is made, so that its failure is told;
+// Whether a point is known to fail. Where it is not, its mark is made, so that its failure is told;
 // but for a spot that has no bit, whose failure can't be kept: such marks of loops in loops would take the square of
 // their depth.
 #[inline(never)]
@@ -175,25 +200,26 @@ fn has_failed<S: StrDrive, A: Allocator>(
     req: &Request<'_, S>,
     board: &mut Board<A>,
     memo: &mut Memo<A>,
-    place: usize,
+    point: Point,
     cursor: StringCursor,
 ) -> bool
     requires remembers { RecallsOf req.now memo.old }
-    requires forks { ForksThere req.now place }
+    requires forks { ForksThere req.now point }
+    requires tried { MayBeTried point }
     requires opened { memo.old.is_open ≡ true }
     requires unmarked { UnaskedMarks req.now board.old.marks }
-    requires no_end { NoEndTold req.now place cursor board.old memo.old }
+    requires no_end { NoEndTold req.now point cursor board.old memo.old }
     ensures remembers { RecallsOf req.now memo.new }
-    ensures leaves { LeavesOrStays req.now place cursor result board.old memo.old board.new memo.new }
-    ensures tries { result ≡ false → TriesOn req.now place cursor board.old memo.old board.new memo.new }
+    ensures leaves { LeavesOrStays req.now point cursor result board.old memo.old board.new memo.new }
+    ensures tries { result ≡ false → TriesOn req.now point cursor board.old memo.old board.new memo.new }
     ensures still { memo.new.is_open ≡ true ⊎ Refused }
 {
     let words = req.pattern_codes().items();
-    memo.prepare(words, board, place, req.start(), req.end());
-    match memo.known(words, board, place, cursor.position()) {
+    memo.prepare(words, board, point, req.end());
+    match memo.known(words, board, point, cursor.position()) {
         Known::Failed => true,
         Known::Open => {
-            let _made = board.begin_trying(place, cursor);
+            let _made = board.begin_trying(point, cursor);
             false
         }
         Known::NoBit => false,
@@ -206,50 +232,51 @@ fn has_failed_marked<S: StrDrive, A: Allocator>(
     req: &Request<'_, S>,
     board: &mut Board<A>,
     memo: &mut Memo<A>,
-    place: usize,
+    point: Point,
     cursor: StringCursor,
 ) -> bool
     requires remembers { RecallsOf req.now memo.old }
     requires marked { AlikeMarks req.now memo.old.marked.marks board.old.marks }
     requires refers { RefersToGroups req.now }
+    requires tried { MayBeTried point }
     ensures remembers { RecallsOf req.now memo.new }
-    ensures leaves { LeavesOrStays req.now place cursor result board.old memo.old board.new memo.new }
-    ensures tries { result ≡ false → TriesOn req.now place cursor board.old memo.old board.new memo.new }
+    ensures leaves { LeavesOrStays req.now point cursor result board.old memo.old board.new memo.new }
+    ensures tries { result ≡ false → TriesOn req.now point cursor board.old memo.old board.new memo.new }
     ensures still { memo.old.is_open ≡ true → memo.new.is_open ≡ true ⊎ Refused }
 {
     let words = req.pattern_codes().items();
-    memo.prepare_marked(words, board, place, req.start(), req.end());
-    match memo.known_marked(words, board, place, cursor.position()) {
+    memo.prepare_marked(words, board, point, req.end());
+    match memo.known_marked(words, board, point, cursor.position()) {
         Known::Failed => true,
         Known::Open => {
-            let _made = board.begin_trying(place, cursor);
+            let _made = board.begin_trying(point, cursor);
             false
         }
         Known::NoBit => false,
     }
 }
 
-// Takes note of marks under which no failures are kept, at an instruction where they might be.
+// Takes note of marks under which no failures are kept, at a point where they might be.
 #[inline(always)]
 fn meet_marks<S: StrDrive, A: Allocator>(
     req: &Request<'_, S>,
     board: &Board<A>,
     memo: &mut Memo<A>,
-    place: usize,
+    point: Point,
     cursor: StringCursor,
 )
-    requires stands { At req.now place cursor }
+    requires stands { AtPoint req.now point cursor }
     requires remembers { RecallsOf req.now memo.old }
     ensures remembers { RecallsOf req.now memo.new }
     ensures closed { memo.old.is_open ≡ false → memo.new ≡ memo.old }
     ensures still { memo.old.is_open ≡ true → memo.new.is_open ≡ true ⊎ Refused }
 {
-    if memo.is_open() && may_branch(req, place, cursor) {
+    if memo.is_open() && may_branch_at(req, point, cursor) {
         memo.meets(&req.pattern_codes(), board.marks().raw());
     }
 }
 
-// Whether an instruction is left at once, since failures are kept and it is known to fail. Where it is not, the machine
+// Whether a point is left at once, since failures are kept and it is known to fail. Where it is not, the machine
 // stands there still.
 #[inline(always)]
 fn is_hopeless<S: StrDrive, A: Allocator>(
@@ -257,33 +284,34 @@ fn is_hopeless<S: StrDrive, A: Allocator>(
     board: &mut Board<A>,
     memo: &mut Memo<A>,
     keeping: Keeping,
-    place: usize,
+    point: Point,
     cursor: StringCursor,
 ) -> bool
-    requires stands { At req.now place cursor }
+    requires stands { AtPoint req.now point cursor }
     requires remembers { RecallsOf req.now memo.old }
     requires keeping { IsKeeping req.now keeping board.old memo.old }
-    requires no_end { keeping ≡ Keeping.Unmarked → BringsTolls req.now place
-        → NoEndTold req.now place cursor board.old memo.old }
+    requires tried { MayBeTried point }
+    requires no_end { keeping ≡ Keeping.Unmarked → BringsTolls req.now point
+        → NoEndTold req.now point cursor board.old memo.old }
     ensures remembers { RecallsOf req.now memo.new }
-    ensures leaves { LeavesOrStays req.now place cursor result board.old memo.old board.new memo.new }
-    ensures tries { result ≡ false → keeping ≢ Keeping.Nothing → IsEndlessRun req.now place
-        → TriesOn req.now place cursor board.old memo.old board.new memo.new }
+    ensures leaves { LeavesOrStays req.now point cursor result board.old memo.old board.new memo.new }
+    ensures tries { result ≡ false → keeping ≢ Keeping.Nothing → RunsOnAt (run_of req.now).words point
+        → TriesOn req.now point cursor board.old memo.old board.new memo.new }
     ensures closed { memo.old.is_open ≡ false → memo.new ≡ memo.old }
     ensures still { memo.old.is_open ≡ true → memo.new.is_open ≡ true ⊎ Refused }
 {
     match keeping {
         Keeping::Nothing => {
-            meet_marks(req, board, memo, place, cursor);
+            meet_marks(req, board, memo, point, cursor);
             false
         }
         Keeping::Unmarked => {
-            if !may_branch(req, place, cursor) {
+            if !may_branch_at(req, point, cursor) {
                 return false;
             }
-            has_failed(req, board, memo, place, cursor)
+            has_failed(req, board, memo, point, cursor)
         }
-        Keeping::Marked => has_failed_marked(req, board, memo, place, cursor),
+        Keeping::Marked => has_failed_marked(req, board, memo, point, cursor),
     }
 }
 
@@ -315,20 +343,48 @@ pub(super) fn instruction_or_back<S: StrDrive, A: Allocator, const LIMITED: bool
 ) -> Result<Next, Refusal>
     requires stands { AtOnBoard req.now (Instruction place) cursor board.old }
     requires remembers { RecallsOf req.now memo.old }
-    ensures turn { IfOk result (λ next. Takes req.now place cursor board.old memo.old next board.new memo.new) }
+    ensures turn { IfOk result (λ next.
+        Takes req.now (Instruction place) cursor board.old memo.old next board.new memo.new) }
     ensures remembers { RecallsOf req.now memo.new }
     ensures closed { memo.old.is_open ≡ false → memo.new ≡ memo.old }
     ensures still { memo.old.is_open ≡ true → memo.new.is_open ≡ true ⊎ Refused }
 {
-    let keeping = keeping_at(req, board, memo, place, cursor);
-    if let Some(end) = known_end(req, board, memo, keeping, place, cursor) {
+    let point = Point::Instruction(place);
+    let keeping = keeping_at(req, board, memo, point, cursor);
+    if let Some(end) = known_end(req, board, memo, keeping, point, cursor) {
         return Ok(Next::Done(end));
     }
-    if is_hopeless(req, board, memo, keeping, place, cursor) {
+    if is_hopeless(req, board, memo, keeping, point, cursor) {
         return Ok(Next::Back);
     }
     if goes_on_endlessly(req, keeping, place, cursor) {
         return endless_run(req, board, place, cursor);
     }
     instruction::<S, A, false, LIMITED>(req, board, place, cursor)
+}
+
+/// A further body of the innermost loop, which is possessive, or its end. It is left at once as an instruction is.
+#[tactic(auto, using(sre_turns::proofs::Moving::on_board))]
+#[inline(always)]
+pub(super) fn again_or_back<S: StrDrive, A: Allocator>(
+    req: &Request<'_, S>,
+    board: &mut Board<A>,
+    memo: &mut Memo<A>,
+    cursor: StringCursor,
+) -> Result<Next, Refusal>
+    requires stands { AtOnBoard req.now Again cursor board.old }
+    requires remembers { RecallsOf req.now memo.old }
+    ensures turn { IfOk result (λ next. Takes req.now Again cursor board.old memo.old next board.new memo.new) }
+    ensures remembers { RecallsOf req.now memo.new }
+    ensures closed { memo.old.is_open ≡ false → memo.new ≡ memo.old }
+    ensures still { memo.old.is_open ≡ true → memo.new.is_open ≡ true ⊎ Refused }
+{
+    let keeping = keeping_at(req, board, memo, Point::Again, cursor);
+    if let Some(end) = known_end(req, board, memo, keeping, Point::Again, cursor) {
+        return Ok(Next::Done(end));
+    }
+    if is_hopeless(req, board, memo, keeping, Point::Again, cursor) {
+        return Ok(Next::Back);
+    }
+    again(req, board, cursor)
 }

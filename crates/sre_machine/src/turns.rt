@@ -18,7 +18,7 @@ use crate::machine::{back, instruction};
 use crate::memo::Memo;
 use crate::possessive_loops::again;
 use crate::regions::end;
-use crate::trying::instruction_or_back;
+use crate::trying::{again_or_back, instruction_or_back};
 use sre_board::Board;
 use sre_chars::string::{StrDrive, StringCursor};
 use sre_growth::Refusal;
@@ -236,7 +236,7 @@ fn remembering_turns<L: Ledger, K: Plan, S: StrDrive, A: Allocator, const LIMITE
             Next::At(place, cursor) => {
                 next = instruction_or_back::<S, A, LIMITED>(req, board, memo, place, cursor)?;
             }
-            Next::Again(cursor) => next = again(req, board, cursor)?,
+            Next::Again(cursor) => next = again_or_back(req, board, memo, cursor)?,
             Next::Back => match back::<S, A, true>(req, board, memo)? {
                 Some(after) => next = after,
                 None => return Ok(Decision::Decided(None)),

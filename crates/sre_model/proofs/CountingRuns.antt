@@ -38,12 +38,12 @@ taken_length r i most count j start cursor t e s =
     (λ q from to. e.counted.each j q t s from (omega (arith, to, e.counted.position)))
     (λ m. ap (λ q. passes r.subject t q) (sym e.counted.position) ∙ e.ends m j t s)
 
--- a verdict that is compared with the one that is wanted
-told : (a b : Bool) → not (beq a b) ≡ false → a ≡ b
-told true true e = refl
-told true false e = e
-told false true e = sym e
-told false false e = refl
+-- what is not unequal is the same
+pub beq_same : (a b : Bool) → not (beq a b) ≡ false → a ≡ b
+beq_same true true e = refl
+beq_same true false e = e
+beq_same false true e = sym e
+beq_same false false e = refl
 
 -- behind one more character
 pub counted_more : (r : Run) (i most count c : ℕ) (wanted says : Bool) (start cursor after : StringCursor)
@@ -64,7 +64,7 @@ counted_more r i most count c wanted says start cursor after k l room e h same a
         | (inr behind) ↦
             let here : q ≡ cursor.position = omega (arith, behind, to, at) in
             ap (λ x. passes r.subject t x) here
-            ∙ read_passes r.subject t cursor.position c says inside e (h j t s) ∙ told says wanted same
+            ∙ read_passes r.subject t cursor.position c says inside e (h j t s) ∙ beq_same says wanted same
       ];
 }
 

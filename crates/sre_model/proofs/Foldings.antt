@@ -76,37 +76,32 @@ pub neither : (a b : Bool) → a ≡ false → b ≡ false → (a || b) ≡ fals
 neither false b x y = y
 neither true b x y = absurd (true≢false x)
 
--- where none of the one means none of the other of each item, it does of trees
-module _ (f g : Item → Bool → Bool)
-    (none : (x : Item) (a b : Bool) → (a ≡ false → b ≡ false) → f x a ≡ false → g x b ≡ false) where
+-- what no item has that its parts have not, no tree has
+module _ (f : Item → Bool → Bool) (none : (x : Item) (a : Bool) → a ≡ false → f x a ≡ false) where
   mutual
-    pub tree_none : (t : Tree) → of_tree (any_of f) t ≡ false → of_tree (any_of g) t ≡ false
-    tree_none Empty e = refl
-    tree_none (Then x rest) e =
-        let each = or_parts (of_item (any_of f) x) (of_tree (any_of f) rest) e in
-        neither (of_item (any_of g) x) (of_tree (any_of g) rest)
-        (none x (of_parts (any_of f) x) (of_parts (any_of g) x) (parts_none x) each.0) (tree_none rest each.1)
+    pub tree_never : (t : Tree) → of_tree (any_of f) t ≡ false
+    tree_never Empty = refl
+    tree_never (Then x rest) =
+        neither (of_item (any_of f) x) (of_tree (any_of f) rest)
+        (none x (of_parts (any_of f) x) (parts_never x)) (tree_never rest)
 
-    parts_none : (x : Item) → of_parts (any_of f) x ≡ false → of_parts (any_of g) x ≡ false
-    parts_none Fail e = refl
-    parts_none (One t) e = refl
-    parts_none (At a) e = refl
-    parts_none (Mark n) e = refl
-    parts_none (Branch ts) e = branch_none ts e
-    parts_none (Loop o low high body) e = tree_none body e
-    parts_none (Run kind low high t) e = refl
-    parts_none (PossessiveLoop low high body) e = tree_none body e
-    parts_none (Atomic body) e = tree_none body e
-    parts_none (Look sign back body) e = tree_none body e
-    parts_none (Reference fold n) e = refl
-    parts_none (Exists n there) e = tree_none there e
-    parts_none (ExistsElse n there absent) e =
-        let each = or_parts (of_tree (any_of f) there) (of_tree (any_of f) absent) e in
-        neither (of_tree (any_of g) there) (of_tree (any_of g) absent) (tree_none there each.0)
-        (tree_none absent each.1)
+    parts_never : (x : Item) → of_parts (any_of f) x ≡ false
+    parts_never Fail = refl
+    parts_never (One t) = refl
+    parts_never (At a) = refl
+    parts_never (Mark n) = refl
+    parts_never (Branch ts) = branch_never ts
+    parts_never (Loop o low high body) = tree_never body
+    parts_never (Run kind low high t) = refl
+    parts_never (PossessiveLoop low high body) = tree_never body
+    parts_never (Atomic body) = tree_never body
+    parts_never (Look sign back body) = tree_never body
+    parts_never (Reference fold n) = refl
+    parts_never (Exists n there) = tree_never there
+    parts_never (ExistsElse n there absent) =
+        neither (of_tree (any_of f) there) (of_tree (any_of f) absent) (tree_never there) (tree_never absent)
 
-    branch_none : (ts : Trees) → of_branch (any_of f) ts ≡ false → of_branch (any_of g) ts ≡ false
-    branch_none (Only t) e = tree_none t e
-    branch_none (Or t ts) e =
-        let each = or_parts (of_tree (any_of f) t) (of_branch (any_of f) ts) e in
-        neither (of_tree (any_of g) t) (of_branch (any_of g) ts) (tree_none t each.0) (branch_none ts each.1)
+    branch_never : (ts : Trees) → of_branch (any_of f) ts ≡ false
+    branch_never (Only t) = tree_never t
+    branch_never (Or t ts) =
+        neither (of_tree (any_of f) t) (of_branch (any_of f) ts) (tree_never t) (branch_never ts)

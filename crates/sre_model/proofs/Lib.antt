@@ -39,4 +39,3 @@ mod HintRows
 pub mod Passing
 pub mod TurnBounds
 pub mod WiderWindows
-pub mod CountedRegions

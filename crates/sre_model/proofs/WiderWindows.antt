@@ -4,7 +4,7 @@ use Rattle.std.proofs.Math.Nat.{mul-le-mul, mul-le-mul_left}
 use Rattle.sre_model.specs.Tree.{Tree}
 use Rattle.sre_model.specs.Found.{Asked}
 use Rattle.sre_model.specs.Slots.{most_slots}
-use Rattle.sre_model.specs.Remembered.{window_positions, words_at_place, IsRemembered, counts_at_most, ways_at_most}
+use Rattle.sre_model.specs.Remembered.{kept_positions, words_at_place, IsRemembered, counts_at_most, ways_at_most}
 use Rattle.sre_model.specs.Remembered.{spots_at_most, enough_turns}
 
 -- one window lies inside another
@@ -14,12 +14,12 @@ pub record IsInside (a b : Asked) : Type 0 where
   pub to : a.end ≤ b.end
 
 module _ (places : ℕ) (t : Tree) (a b : Asked) (inside : IsInside a b) where
-  positions : window_positions a ≤ window_positions b
+  positions : kept_positions t a ≤ kept_positions t b
   positions = omega arith
 
   words : words_at_place t a ≤ words_at_place t b
   words =
-      let bits : most_slots t * 2 * window_positions a ≤ most_slots t * 2 * window_positions b =
+      let bits : most_slots t * 2 * kept_positions t a ≤ most_slots t * 2 * kept_positions t b =
       mul-le-mul_left (most_slots t * 2) positions in
       omega arith
 
@@ -31,7 +31,6 @@ module _ (places : ℕ) (t : Tree) (a b : Asked) (inside : IsInside a b) where
 
   pub remembered_inside : IsRemembered places t b → IsRemembered places t a
   remembered_inside r = record {
-    counted = r.counted;
     unmarked = r.unmarked;
     no_reference = r.no_reference;
     slots = r.slots;

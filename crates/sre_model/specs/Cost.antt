@@ -1,12 +1,13 @@
 -- How many turns it takes to go over all ways of a tree, given how many it takes for what follows.
 -- Of the meaning: what sre_engine makes public rests on it.
-use Rattle.std.specs.Prelude.{ℕ, zero, suc, ◌+◌, ◌-◌, cond, nat_lt, nat_le, ◌&&◌, List, [], ◌∷◌, Option, Some, None}
+use Rattle.std.specs.Prelude.{ℕ, zero, suc, ◌+◌, ◌-◌, cond, nat_eq, nat_lt, nat_le, ◌&&◌, List, [], ◌∷◌, Option, Some}
+use Rattle.std.specs.Prelude.{None}
 use Rattle.sre_model.specs.Tree.{Tree, Empty, Then, Item, One, At, Mark, Branch, Loop, Run, GreedyRun, LazyRun}
 use Rattle.sre_model.specs.Tree.{PossessiveRun, PossessiveLoop, Atomic, Look, Sign, Positive, Negative, Trees, Only, Or}
 use Rattle.sre_model.specs.Tree.{Fail, Reference, Exists, ExistsElse, Fold}
 use Rattle.sre_model.specs.Marks.{Marks, set_mark, group}
 use Rattle.sre_model.specs.Subject.{Subject, passes, holds_at, same_folded}
-use Rattle.sre_model.specs.Ways.{Way, Body, longest_run, may_repeat, ways}
+use Rattle.sre_model.specs.Ways.{Way, Body, unlimited, longest_run, may_repeat, ways}
 
 -- the turns from a position under marks
 abbrev pub Costs : Type 0
@@ -24,8 +25,10 @@ shorter_cost C low (suc n) p m = suc (suc (C (p + (low + n)) m + shorter_cost C 
 abbrev pub run_cost : ℕ → ℕ → Costs → Costs
 run_cost low k C p m = cond (nat_lt k low) 1 (suc (suc (C (p + k) m + shorter_cost C low (k - low) p m)))
 
-abbrev pub longest_run_cost : ℕ → ℕ → Costs → Costs
-longest_run_cost low k C p m = cond (nat_lt k low) 1 (suc (C (p + k) m))
+-- the longest count alone: a run without a greatest count takes a turn for each character beyond its least count
+abbrev pub longest_run_cost : ℕ → ℕ → ℕ → Costs → Costs
+longest_run_cost low high k C p m =
+    cond (nat_lt k low) 1 (cond (nat_eq high unlimited) (k - low) 0 + suc (C (p + k) m))
 
 -- the longer counts of a lazy run, n of them behind c characters
 abbrev pub longer_cost : Costs → ℕ → ℕ → Costs
@@ -110,7 +113,7 @@ abbrev mutual
       (λ q k. more_cost high (λ D a b. cost s body D a b) C (s.end + 1 - q) low None q k) low p m)
   item_cost s (Run GreedyRun low high t) C p m = run_cost low (longest_run s t high p) C p m
   item_cost s (Run LazyRun low high t) C p m = lazy_run_cost low (longest_run s t high p) C p m
-  item_cost s (Run PossessiveRun low high t) C p m = longest_run_cost low (longest_run s t high p) C p m
+  item_cost s (Run PossessiveRun low high t) C p m = longest_run_cost low high (longest_run s t high p) C p m
   item_cost s (PossessiveLoop low high body) C p m =
       suc (owed_cost (λ D q k. cost s body D q k) (λ q k. ways s body q k)
       (λ q k. possessive_cost high (λ D a b. cost s body D a b) (λ a b. ways s body a b) C (s.end + 1 - q) low None q k)

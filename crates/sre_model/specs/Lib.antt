@@ -20,6 +20,7 @@ pub mod Regions
 pub mod MarksSet
 pub mod Slots
 pub mod RunCounts
+pub mod LooksBehind
 pub mod Alternatives
 pub mod Remembered
 pub mod LeadingRuns

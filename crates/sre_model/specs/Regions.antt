@@ -1,7 +1,7 @@
--- Regions: atomic groups, looks and possessive loops, whose bodies are matched apart; whether a body may be matched in
--- more than one way; and the regions whose turns no number counts.
+-- Regions: atomic groups, looks and possessive loops, whose bodies are matched apart; and whether a body may be matched
+-- in more than one way.
 -- Of the meaning: what sre_engine makes public rests on it.
-use Rattle.std.specs.Prelude.{Bool, true, false, ◌||◌, ◌&&◌, nat_lt}
+use Rattle.std.specs.Prelude.{Bool, true, false, ◌||◌}
 use Rattle.sre_model.specs.Tree.{Tree, Item, Branch, Run, Loop, PossessiveLoop, Atomic, Look}
 use Rattle.sre_model.specs.Folding.{Folding, of_tree}
 
@@ -33,16 +33,3 @@ by_forked_regions = record { nothing = false; both = ◌||◌; item = forked_her
 -- whether one stands anywhere in a tree
 abbrev pub has_forked_region : Tree → Bool
 has_forked_region = of_tree by_forked_regions
-
--- regions whose turns no number counts: possessive loops, and looks behind whose body forks
-abbrev pub by_uncounted_regions : Folding Bool
-by_uncounted_regions = record { nothing = false; both = ◌||◌; item = uncounted_here }
-  where
-    uncounted_here : Item → Bool → Bool
-    uncounted_here (PossessiveLoop low high body) inside = true
-    uncounted_here (Look sign back body) inside = (nat_lt 0 back && forks body) || inside
-    uncounted_here x inside = inside
-
--- whether one stands anywhere in a tree
-abbrev pub has_uncounted_region : Tree → Bool
-has_uncounted_region = of_tree by_uncounted_regions

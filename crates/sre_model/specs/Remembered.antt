@@ -4,25 +4,29 @@ use Rattle.std.specs.Prelude.{ℕ, ◌+◌, ◌-◌, ◌*◌, ◌^◌, ◌/◌, 
 use Rattle.sre_model.specs.Tree.{Tree}
 use Rattle.sre_model.specs.Found.{Asked}
 use Rattle.sre_model.specs.References.{refers}
-use Rattle.sre_model.specs.Regions.{has_forked_region, has_uncounted_region}
+use Rattle.sre_model.specs.Regions.{has_forked_region}
 use Rattle.sre_model.specs.MarksSet.{marks_in_regions}
 use Rattle.sre_model.specs.Slots.{most_slots}
 use Rattle.sre_model.specs.RunCounts.{most_counts}
+use Rattle.sre_model.specs.LooksBehind.{backs}
 use Rattle.sre_model.specs.Alternatives.{most_alternatives}
 
--- how many positions a window has, its end among them
-abbrev pub window_positions : Asked → ℕ
-window_positions a = a.end + 1 - a.start
+-- from which position on what failed is kept: as far before the window as looks may go back
+abbrev pub kept_from : Tree → Asked → ℕ
+kept_from t a = a.start - backs t
+
+-- how many positions there are from there to the window's end, which is one of them
+abbrev pub kept_positions : Tree → Asked → ℕ
+kept_positions t a = a.end + 1 - kept_from t a
 
 -- for so many words of 64 bits there has to be room at each place of the code: two bits for each slot and position
 abbrev pub words_at_place : Tree → Asked → ℕ
-words_at_place t a = most_slots t * 2 * window_positions a / 64 + 1
+words_at_place t a = most_slots t * 2 * kept_positions t a / 64 + 1
 
--- the tree has no references and no regions that are not counted, and where one forks none sets a mark; and there is
--- room for what failed at all of so many places: its loops have no more slots than may be told apart, and where these
--- are many, a place has not too many bits
+-- the tree has no references, and where a region forks none sets a mark; and there is room for what failed at all of so
+-- many places: its loops have no more slots than may be told apart, and where these are many, a place has not too many
+-- bits
 pub record IsRemembered (places : ℕ) (t : Tree) (a : Asked) : Type 0 where
-  pub counted : has_uncounted_region t ≡ false
   pub unmarked : has_forked_region t ≡ true → marks_in_regions t ≡ false
   pub no_reference : refers t ≡ false
   pub slots : most_slots t ≤ 2 ^ 24
@@ -50,6 +54,6 @@ spots_at_most t = cond (has_forked_region t) (most_slots t * 2) (most_slots t)
 -- those that make a difference
 abbrev pub enough_turns : ℕ → Tree → Asked → ℕ
 enough_turns places t a =
-    window_positions a
+    kept_positions t a
     * (32 + (2 * places + 4 + 4 * places * (places + 3) * spots_at_most t * (1 + ways_at_most t a))
     * (1 + counts_at_most t a / 8))

@@ -1,13 +1,14 @@
 -- Worked rows, by computation: how many turns are enough.
-use Rattle.std.specs.Prelude.{ℕ, refl, ◌≡◌, [], ◌∷◌, replicate, true, false}
+use Rattle.std.specs.Prelude.{ℕ, ◌-◌, ◌*◌, refl, ◌≡◌, [], ◌∷◌, replicate, true, false}
 use Rattle.sre_chars.specs.declared.constants.SreAtCode.TheVariants.{END}
-use Rattle.sre_model.specs.Tree.{Tree, Empty, At, Branch, Loop, Run, PossessiveLoop, Atomic, Look, Only, Or, Greedy}
-use Rattle.sre_model.specs.Tree.{GreedyRun, Positive, Negative}
+use Rattle.sre_model.specs.Tree.{Tree, Item, Empty, At, Branch, Loop, Run, PossessiveLoop, Atomic, Look, Only, Or}
+use Rattle.sre_model.specs.Tree.{Greedy, GreedyRun, PossessiveRun, Positive, Negative}
 use Rattle.sre_model.specs.Ways.{unlimited}
 use Rattle.sre_model.specs.Found.{Asked}
-use Rattle.sre_model.specs.Regions.{has_forked_region, has_uncounted_region}
+use Rattle.sre_model.specs.Regions.{has_forked_region}
+use Rattle.sre_model.specs.LooksBehind.{backs}
 use Rattle.sre_model.specs.Remembered.{words_at_place, spots_at_most, enough_turns}
-use Rattle.sre_model.specs.Shown.{items, is_a, a, b, c, whole}
+use Rattle.sre_model.specs.Shown.{items, is_a, a, b, c, window, whole}
 
 -- so many letters
 abbrev letters : ℕ → Asked
@@ -43,6 +44,19 @@ turns_of_a_counted_run = refl
 turns_of_a_short_window : enough_turns 10 (items (Run GreedyRun 0 20 is_a ∷ b ∷ [])) (letters 10) ≡ 126720
 turns_of_a_short_window = refl
 
+-- (?:a*+b|a)*c, which has 27 words: a possessive run without a greatest count goes on turn by turn, so its number is a
+-- multiple of the positions
+abbrev possessive_run : Tree
+possessive_run =
+    items (Loop Greedy 0 unlimited (items (Branch (Or (items (Run PossessiveRun 0 unlimited is_a ∷ b ∷ []))
+    (Only (items (a ∷ [])))) ∷ [])) ∷ c ∷ [])
+
+turns_of_a_possessive_run : enough_turns 27 possessive_run (letters 100) ≡ 101 * 19530
+turns_of_a_possessive_run = refl
+
+turns_of_a_longer_run : enough_turns 27 possessive_run (letters 1000) ≡ 1001 * 19530
+turns_of_a_longer_run = refl
+
 -- (?:(?=a)a)+b, which has 16 words: no body of a region forks
 abbrev looks : Tree
 looks =
@@ -75,9 +89,6 @@ forked_look =
     items (Loop Greedy 1 unlimited (items (Look Positive 0 (items (Run GreedyRun 1 unlimited is_a ∷ [])) ∷
     Run GreedyRun 1 unlimited is_a ∷ Run GreedyRun 1 unlimited is_a ∷ [])) ∷ b ∷ [])
 
-forked_look_is_counted : has_uncounted_region forked_look ≡ false
-forked_look_is_counted = refl
-
 spots_of_forked_look : spots_at_most forked_look ≡ 8
 spots_of_forked_look = refl
 
@@ -94,18 +105,41 @@ turns_of_a_forked_group : enough_turns 25 (items (Loop Greedy 0 unlimited
     (letters 100) ≡ 3402286
 turns_of_a_forked_group = refl
 
--- (?<=ab) is counted, and (?<=ab|bc) is not; nor is a possessive loop, whatever its body
-look_behind_is_counted : has_uncounted_region (items (Look Positive 2 (items (a ∷ b ∷ [])) ∷ [])) ≡ false
-look_behind_is_counted = refl
+-- (?<=ab|bc)c, which has 23 words: what failed is kept from two characters before the window on
+abbrev look_behind : Item
+look_behind = Look Positive 2 (items (Branch (Or (items (a ∷ b ∷ [])) (Only (items (b ∷ c ∷ [])))) ∷ []))
 
-forked_look_behind_is_uncounted : has_uncounted_region (items (Look Positive 2
-    (items (Branch (Or (items (a ∷ b ∷ [])) (Only (items (b ∷ c ∷ [])))) ∷ [])) ∷ [])) ≡ true
-forked_look_behind_is_uncounted = refl
+abbrev forked_look_behind : Tree
+forked_look_behind = items (look_behind ∷ c ∷ [])
 
-possessive_loop_is_uncounted : has_uncounted_region (items (PossessiveLoop 0 unlimited (items (a ∷ [])) ∷ [])) ≡ true
-possessive_loop_is_uncounted = refl
+-- the last 100 of so many letters
+abbrev last_letters : ℕ → Asked
+last_letters n = window (replicate n 97) (n - 100) n
 
--- one that is not counted may stand inside another region: (?=(?<=ab|bc)b)
-nested_is_uncounted : has_uncounted_region (items (Look Positive 0 (items (Look Positive 2
-    (items (Branch (Or (items (a ∷ b ∷ [])) (Only (items (b ∷ c ∷ [])))) ∷ [])) ∷ b ∷ [])) ∷ [])) ≡ true
-nested_is_uncounted = refl
+turns_of_look_behind : enough_turns 23 forked_look_behind (letters 100) ≡ 1457834
+turns_of_look_behind = refl
+
+-- as many as of a longer window without such looks
+turns_from_two_before : enough_turns 23 forked_look_behind (last_letters 200)
+    ≡ enough_turns 23 forked_look_behind (letters 102)
+turns_from_two_before = refl
+
+-- before the window there may be fewer
+turns_from_one_before : enough_turns 23 forked_look_behind (last_letters 101)
+    ≡ enough_turns 23 forked_look_behind (letters 101)
+turns_from_one_before = refl
+
+-- looks go back one after the other, and one inside the other: (?<=ab|bc)(?<!b(?<=ab|bc))
+looks_go_back : backs (items (look_behind ∷ Look Negative 1 (items (b ∷ look_behind ∷ [])) ∷ [])) ≡ 5
+looks_go_back = refl
+
+-- (?:ab)*+c, which has 12 words: two states of the loop tell a difference, inside of regions and outside
+abbrev possessive_loop : Tree
+possessive_loop = items (PossessiveLoop 0 unlimited (items (a ∷ b ∷ [])) ∷ c ∷ [])
+
+turns_of_a_possessive_loop : enough_turns 12 possessive_loop (letters 100) ≡ 296940
+turns_of_a_possessive_loop = refl
+
+-- with ten times the letters, but for what the window's end adds, ten times the turns
+turns_of_a_longer_window : enough_turns 12 possessive_loop (letters 1000) ≡ 2942940
+turns_of_a_longer_window = refl

@@ -1,23 +1,17 @@
 -- How far the counts of a tree's runs of one test make a difference, and how far its looks go back.
 -- Of the meaning: what sre_engine makes public rests on it.
 use Rattle.std.specs.Prelude.{ℕ, max}
-use Rattle.sre_model.specs.Tree.{Tree, Item, Run, Look, RunKind, GreedyRun, LazyRun, PossessiveRun}
+use Rattle.sre_model.specs.Tree.{Tree, Item, Run, Look}
 use Rattle.sre_model.specs.Folding.{Folding, of_tree}
 use Rattle.sre_model.specs.Slots.{counted_to}
 
--- up to which number the characters of a run make a difference: its greatest count, or its least where it has no
--- greatest; a possessive run counts all the same, since it is gone over anew from each start
-abbrev pub run_count : RunKind → ℕ → ℕ → ℕ
-run_count GreedyRun low high = counted_to low high
-run_count LazyRun low high = counted_to low high
-run_count PossessiveRun low high = max low high
-
--- a run has its own count, and a look how far it goes back and what is inside of it
+-- the characters of a run make a difference up to its greatest count, or up to its least where it has no greatest; a
+-- look has how far it goes back, and what is inside of it
 abbrev pub by_counts : Folding ℕ
 by_counts = record { nothing = 0; both = max; item = most_here }
   where
     most_here : Item → ℕ → ℕ
-    most_here (Run kind low high t) inside = run_count kind low high
+    most_here (Run kind low high t) inside = counted_to low high
     most_here (Look sign back body) inside = max back inside
     most_here x inside = inside
 

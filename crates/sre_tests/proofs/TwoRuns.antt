@@ -1,10 +1,10 @@
 -- How many turns are enough for (?:a+a+)+b, over any text of up to 1,000 characters.
-use Rattle.std.proofs.Common.{◌≡◌, ℕ, zero, suc, ◌+◌, ◌-◌, ◌*◌, ◌/◌, ◌<◌, ◌≤◌, ◌⊎◌, inl, inr, min, max, refl, arith}
+use Rattle.std.proofs.Common.{◌≡◌, ℕ, zero, suc, ◌+◌, ◌*◌, ◌/◌, ◌<◌, ◌≤◌, ◌⊎◌, inl, inr, min, max, refl, arith}
 use Rattle.sre_engine.specs.Tree.{Tree, Empty, Then, Item, One, Loop, Run, Literal, Plain, Greedy, GreedyRun}
 use Rattle.sre_engine.specs.Ways.{unlimited}
 use Rattle.sre_engine.specs.Grammar.{Whole, ReadsItem}
 use Rattle.sre_engine.specs.Found.{Asked}
-use Rattle.sre_engine.specs.Remembered.{IsRemembered, enough_turns}
+use Rattle.sre_engine.specs.Remembered.{IsRemembered, kept_positions, enough_turns}
 use Rattle.sre_tests.specs.TwoRuns.{words_of_two_runs}
 
 abbrev letters : Item
@@ -33,7 +33,7 @@ few n e c m short (inr one) = rw one (omega (arith, m, short))
 
 pub turns_enough : (a : Asked) → a.start ≤ a.end → a.end ≤ 1000 → enough_turns 22 two_runs a < 17697681
 turns_enough a order short =
-    few (a.end + 1 - a.start) a.end (min 1 a.end) (omega arith) short (least a.end)
+    few (kept_positions two_runs a) a.end (min 1 a.end) (omega arith) short (least a.end)
   where
     least : (e : ℕ) → (min 1 e ≡ 0) ⊎ (min 1 e ≡ 1)
     least zero = inl refl
@@ -41,7 +41,6 @@ turns_enough a order short =
 
 pub two_runs_remembered : (a : Asked) → a.start ≤ a.end → a.end ≤ 1000 → IsRemembered 22 two_runs a
 two_runs_remembered a order short = record {
-  counted = refl;
   unmarked = λ forked. refl;
   no_reference = refl;
   slots = omega arith;

@@ -21,7 +21,7 @@ use Rattle.sre_turns.specs.declared.Region.TheVariants.{AtomicGroup, Ahead, NotA
 use Rattle.sre_turns.specs.declared.Point.TheVariants.{Instruction, Alternatives, Shorter, Longer, Again}
 use Rattle.sre_turns.specs.declared.Point.{Point}
 use Rattle.sre_turns.specs.Moves.{Spot, spot_at, into_region, Move, Stop, End, Go, Split, Enter, closing_move}
-use Rattle.sre_turns.specs.MovesInRuns.{run_turn}
+use Rattle.sre_turns.specs.MovesInRuns.{onward_turn, run_turn}
 use Rattle.sre_turns.specs.MovesInLoops.{first_frame, next_frame, until_move, UntilMove, again_move, AgainMove}
 use Rattle.sre_turns.specs.MovesInLoops.{in_order}
 use Rattle.sre_turns.specs.MovesInRegions.{look}
@@ -124,6 +124,16 @@ module _ (ws : List ℕ) (s : Subject) (set : ℕ → Bool) (p : ℕ) (o : NextO
         never true b e y = let f : true ≡ false = sym y ∙ e in cc
         never false b e y = cc
 
+    onward_barren : (i t low : ℕ) (test : Test) → passes s test p ≡ false
+        → (low ≡ 0 → AdmitsOnly ws (Instruction t) set)
+        → BarrenAfter ws s (onward_turn s i t low test (spot_at (Instruction i) fs p m))
+    onward_barren i t low test missed tail =
+        let none : run_length s test low p ≡ 0 = run_none s test low p missed in
+        rw none (cond_barren ws s (nat_lt 0 low) Stop _ (λ e. tt) (λ e.
+        let free : low ≡ 0 = grind (arith, nat_tests) in
+        let same : p + low ≡ p = omega (arith, free) in
+        rw (same, missed) (there (Instruction t) (tail free) p refl)))
+
     run_barren : (kind : RunKind) (i t low high : ℕ) (test : Test) → passes s test p ≡ false
         → TestsOnly ws (i + 4) set → (low ≡ 0 → AdmitsOnly ws (Instruction t) set)
         → BarrenAfter ws s (run_turn kind s i t low high test (spot_at (Instruction i) fs p m))
@@ -140,10 +150,11 @@ module _ (ws : List ℕ) (s : Subject) (set : ℕ → Bool) (p : ℕ) (o : NextO
           no_longer i low only (p + low) (omega (arith, free)),
         )))
     run_barren PossessiveRun i t low high test missed only tail =
-        let none : longest_run s test high p ≡ 0 = run_none s test _ p missed in
+        cond_barren ws s (nat_eq high unlimited) _ _ (λ e. onward_barren i t low test missed tail)
+        (λ e. let none : longest_run s test high p ≡ 0 = run_none s test _ p missed in
         rw none (cond_barren ws s (nat_lt 0 low) Stop _ (λ e. tt) (λ e.
         let free : low ≡ 0 = grind (arith, nat_tests) in
-        there (Instruction t) (tail free) (p + 0) (omega arith)))
+        there (Instruction t) (tail free) (p + 0) (omega arith))))
 
     look_barren : (sign : Sign) (t back : ℕ) (i : ℕ) → AdmitsOnly ws (Instruction t) set
         → BarrenAfter ws s

@@ -17,10 +17,11 @@ use Rattle.sre_turns.specs.declared.Frame.{Frame}
 use Rattle.sre_turns.specs.declared.Region.TheVariants.{AtomicGroup, Ahead, NotAhead, Owed, Further}
 use Rattle.sre_turns.specs.declared.Region.{Region}
 use Rattle.sre_turns.specs.declared.Point.TheVariants.{Instruction, Alternatives, Shorter, Longer, Inside, Again, Tried}
+use Rattle.sre_turns.specs.declared.Point.TheVariants.{TriedAgain}
 use Rattle.sre_turns.specs.declared.Point.{Point}
 use Rattle.sre_turns.specs.Moves.{Spot, spot_at, to_point, to_place, into_region, Move, Stop, End, Go, Split, Enter}
 use Rattle.sre_turns.specs.Moves.{closing_move, AlternativesMove}
-use Rattle.sre_turns.specs.MovesInRuns.{run_turn, ShorterMove, LongerMove}
+use Rattle.sre_turns.specs.MovesInRuns.{onward_turn, run_turn, ShorterMove, LongerMove}
 use Rattle.sre_turns.specs.MovesInLoops.{first_frame, next_frame, at_body, behind, in_order, until_move}
 use Rattle.sre_turns.specs.MovesInLoops.{enter_body, again_move, AgainMove}
 use Rattle.sre_turns.specs.MovesInRegions.{look}
@@ -226,6 +227,15 @@ module _ (ws : List ℕ) (s : Subject) (i p : ℕ) (fs gs : List Frame) (m n : M
   unmoved : (j : ℕ) → Twins ws (spot_at (Instruction j) fs p m) (spot_at (Instruction j) gs p n)
   unmoved j = further_on (Instruction j) p (omega arith)
 
+  onward-alike : (t low : ℕ) (test : Test)
+      → MovesAlike ws (onward_turn s i t low test one) (onward_turn s i t low test other)
+  onward-alike t low test =
+      cond-alike ws (nat_lt (run_length s test low p) low) Stop Stop _ _ tt
+      (cond-alike ws (passes s test (p + low)) (Go (to_place one (Instruction i) (p + 1)))
+      (Go (to_place other (Instruction i) (p + 1))) (Go (to_place one (Instruction t) (p + low)))
+      (Go (to_place other (Instruction t) (p + low))) (further_on (Instruction i) (p + 1) (omega arith))
+      (further_on (Instruction t) (p + low) (omega arith)))
+
   run-alike : (kind : RunKind) (t low high : ℕ) (test : Test)
       → MovesAlike ws (run_turn kind s i t low high test one) (run_turn kind s i t low high test other)
   run-alike GreedyRun t low high test =
@@ -241,8 +251,12 @@ module _ (ws : List ℕ) (s : Subject) (i p : ℕ) (fs gs : List Frame) (m n : M
       (further_on (Instruction t) (p + low) (omega arith), further_on (Longer i low) (p + low) (omega arith))
   run-alike PossessiveRun t low high test =
       let k : ℕ = longest_run s test high p in
-      cond-alike ws (nat_lt k low) Stop Stop (Go (to_place one (Instruction t) (p + k)))
-      (Go (to_place other (Instruction t) (p + k))) tt (further_on (Instruction t) (p + k) (omega arith))
+      cond-alike ws (nat_eq high unlimited) (onward_turn s i t low test one) (onward_turn s i t low test other)
+      (cond (nat_lt k low) Stop (Go (to_place one (Instruction t) (p + k))))
+      (cond (nat_lt k low) Stop (Go (to_place other (Instruction t) (p + k))))
+      (onward-alike t low test)
+      (cond-alike ws (nat_lt k low) Stop Stop (Go (to_place one (Instruction t) (p + k)))
+      (Go (to_place other (Instruction t) (p + k))) tt (further_on (Instruction t) (p + k) (omega arith)))
 
   -- a region is entered at these spots, and its body begins there or before
   enters-alike : (g : Region) (j q : ℕ) → (goes_behind g ≡ true → p ≤ q)
@@ -525,6 +539,7 @@ module _ (ws : List ℕ) (s : Subject) (p : ℕ) (fs gs : List Frame) (m n : Mar
   point-alike (Inside g) a h k = absurd k
   point-alike Again a h k = possessive-alike a h k
   point-alike (Tried i) a h k = absurd k
+  point-alike TriedAgain a h k = absurd k
 
 -- alike spots make alike turns
 pub turns-alike : (ws : List ℕ) (s : Subject) (x y : Spot) (a b : Move) → Twins ws x y → Moves ws s x a

@@ -27,6 +27,7 @@ use Rattle.sre_turns.specs.declared.Frame.{Frame}
 use Rattle.sre_turns.specs.declared.Region.TheVariants.{AtomicGroup, Ahead, NotAhead, Owed, Further}
 use Rattle.sre_turns.specs.declared.Region.{Region}
 use Rattle.sre_turns.specs.declared.Point.TheVariants.{Instruction, Alternatives, Shorter, Longer, Inside, Again, Tried}
+use Rattle.sre_turns.specs.declared.Point.TheVariants.{TriedAgain}
 use Rattle.sre_turns.specs.declared.Point.{Point}
 use Rattle.sre_turns.specs.Moves.{Spot, spot_at, to_place, into_region, Move, Stop, End, Go, Split, Enter, closing_move}
 use Rattle.sre_turns.specs.MovesInRuns.{run_turn}
@@ -64,6 +65,7 @@ module _ (ws : List ℕ) where
   Markless (Inside g) = ⊤
   Markless Again = ⊤
   Markless (Tried i) = ⊤
+  Markless TriedAgain = ⊤
 
   -- by the role that is known to be there
   markless_role : (i : ℕ) (o : Role) → HasRole ws i o → sets o ≡ false → Markless (Instruction i)
@@ -71,24 +73,25 @@ module _ (ws : List ℕ) where
       subst (λ c. sets (role c) ≡ false) (same_opcode ws i h.code p h.there v) (ap sets h.begins ∙ e)
 
   -- so are all points of a tree that sets none
-  markless_in : HoldsInGood ws by_marks (λ a. a ≡ false) Markless
+  markless_in : HoldsInGood ws by_marks (λ a. a ≡ false) (λ pt ks. Markless pt)
   markless_in = record {
     first = λ a b e. (or_parts a b e).0;
     second = λ a b e. (or_parts a b e).1;
     parts = parts_markless;
-    item = λ i j a r e. markless_role i (item_role a) (item_here ws i j a r) (item_markless a e);
-    success = λ i h. markless_role i _ h refl;
-    jump = λ i h. markless_role i _ h refl;
-    until = λ i o low high body g h. markless_role i _ h refl;
-    alternatives = λ ts g q. tt;
-    shorter = λ kind low high t g j k. tt;
-    longer = λ kind low high t g i n. tt;
-    again = λ low high body e. tt;
+    item = λ i j a r e ks. markless_role i (item_role a) (item_here ws i j a r) (item_markless a e);
+    success = λ i h ks. markless_role i _ h refl;
+    jump = λ i h ks. markless_role i _ h refl;
+    until = λ i o low high body g h ks. markless_role i _ h refl;
+    alternatives = λ ts g q ks. tt;
+    shorter = λ kind low high t g j k ks. tt;
+    longer = λ kind low high t g i n ks. tt;
+    again = λ i j low high body r e js. tt;
   }
 
   body_markless : (b : MarklessBody ws) (pt : Point) (ks : List ℕ) → LiesInBody ws b pt ks → Markless pt
   body_markless b pt ks y =
-      tree_holds ws by_marks (λ a. a ≡ false) Markless markless_in b.start b.end b.tree b.reads [] pt ks b.markless
+      tree_holds ws by_marks (λ a. a ≡ false) (λ at js. Markless at) markless_in b.start b.end b.tree b.reads [] pt ks
+      b.markless
       (markless_role b.end ToEnd (role_here ws b.end opcode.SUCCESS ToEnd b.ends refl) refl) y
 
 -- each spot of a turn has these marks
@@ -132,7 +135,11 @@ module _ (ws : List ℕ) (s : Subject) (i p : ℕ) (fs : List Frame) (m : Marks)
   run_keeps GreedyRun t low high test =
       cond_keeps m (nat_lt (longest_run s test high p) low) _ _ tt (refl, refl)
   run_keeps LazyRun t low high test = cond_keeps m (nat_lt (run_length s test low p) low) _ _ tt (refl, refl)
-  run_keeps PossessiveRun t low high test = cond_keeps m (nat_lt (longest_run s test high p) low) _ _ tt refl
+  run_keeps PossessiveRun t low high test =
+      cond_keeps m (nat_eq high unlimited) _ _
+      (cond_keeps m (nat_lt (run_length s test low p) low) _ _ tt
+      (cond_keeps m (passes s test (p + low)) _ _ refl refl))
+      (cond_keeps m (nat_lt (longest_run s test high p) low) _ _ tt refl)
 
   reference_keeps : (fold : Fold) (n t : ℕ) → KeepsMarks m (reference_turn s fold n t standing)
   reference_keeps fold n t = go (group m n)
@@ -201,6 +208,7 @@ module _ (ws : List ℕ) (s : Subject) (p : ℕ) (fs : List Frame) (m : Marks) w
   point_keeps Again a e h =
       subst (KeepsMarks m) (sym h.is) (again_keeps h.low h.high (skip ws (h.frame.repeat + 1)) h.frame h.outer)
   point_keeps (Tried i) a e h = absurd h
+  point_keeps TriedAgain a e h = absurd h
 
 -- where a turn leads, and a region closes, in a body
 onto_leads : (P : Point → List ℕ → Type 0) (g : Region) (y : Spot) (now : List Way) → ClosesAt P g y.frames

@@ -11,7 +11,7 @@ use Rattle.sre_model.specs.Subject.{Subject}
 use Rattle.sre_model.specs.Ways.{Way, first, here}
 use Rattle.sre_model.specs.Runs.{Run}
 use Rattle.sre_turns.specs.Board.{Choice, Else, Keep, Trying, BoardValue}
-use Rattle.sre_turns.specs.declared.Point.TheVariants.{Instruction}
+use Rattle.sre_turns.specs.declared.Point.{Point}
 use Rattle.sre_turns.specs.declared.Next.TheVariants as next
 use Rattle.sre_turns.specs.Limits.{Limit}
 use Rattle.sre_turns.specs.Moves.{Spot, Move}
@@ -27,7 +27,7 @@ use Rattle.sre_turns.proofs.Bodies.{confined_stay}
 use Rattle.sre_turns.proofs.FirstOutcomes.{first_append, closes_same}
 use Rattle.sre_turns.proofs.SameComes.{marked_come}
 use Rattle.sre_turns.proofs.BodyStops.{first_ends}
-use Rattle.sre_turns.proofs.Faring.{instruction_ended, run_code}
+use Rattle.sre_turns.proofs.Faring.{place_ended, run_code, run_place}
 use Rattle.sre_turns.proofs.Moving.{sooner, some_turns}
 use Rattle.sre_turns.proofs.Trying.{alike_itself}
 use Rattle.sre_model.proofs.MarksApart.{SameStops}
@@ -59,7 +59,7 @@ inside_waits r (Else pt fs c m ∷ cs) xs ys inside h (otherwise {os = os} there
     otherwise there placed d (inside_waits r cs (xs ++ os) (ys ++ os) inside (first_append xs ys os h) wt)
 inside_waits r (Keep g fs c m ∷ cs) xs ys inside h (kept {pt = pt} there placed d wt) =
     kept {pt = pt} there placed (rw (closes_same g _ xs ys h) at d) wt
-inside_waits r (Trying i fs c m ∷ cs) xs ys inside h (tried {os = os} there placed d most same wt) =
+inside_waits r (Trying pt fs c m ∷ cs) xs ys inside h (tried {os = os} there placed d most same wt) =
     let here_ : SameFruit r true os xs = subst (λ b. SameFruit r b os xs) inside same in
     tried there placed d most (subst (λ b. SameFruit r b os ys) (sym inside) (here_ ∙ h))
     (inside_waits r cs xs ys inside h wt)
@@ -75,7 +75,7 @@ tried_first r (Else pt fs c l ∷ cs) q m xs inside h (otherwise {os = os} there
     begun [] e = absurd (cc)
     begun (x ∷ xs) e = e
 tried_first r (Keep g fs c l ∷ cs) q m xs inside h wt = tt
-tried_first r (Trying i fs c l ∷ cs) q m xs inside h (tried {n = n} {os = os} there placed d most same wt) =
+tried_first r (Trying pt fs c l ∷ cs) q m xs inside h (tried {n = n} {os = os} there placed d most same wt) =
     let here_ : SameFruit r true os xs = subst (λ b. SameFruit r b os xs) inside same in (
       record { outcomes = os; turns = n; runs = d; begins = here_ ∙ h },
       tried_first r cs q m xs inside h wt,
@@ -92,7 +92,7 @@ tried_confined : (ws : List ℕ) (cs : List Choice) → is_inside cs ≡ true �
 tried_confined ws [] inside h = tt
 tried_confined ws (Else pt fs c m ∷ cs) inside h = tried_confined ws cs inside h.1
 tried_confined ws (Keep g fs c m ∷ cs) inside h = tt
-tried_confined ws (Trying i fs c m ∷ cs) inside h = (h.0 inside, tried_confined ws cs inside h.1)
+tried_confined ws (Trying pt fs c m ∷ cs) inside h = (h.0 inside, tried_confined ws cs inside h.1)
 
 -- what holds of some spots by two things that hold of each
 each_by : (P Q R : Spot → Type 0) → ((x : Spot) → P x → Q x → R x) → (xs : List Spot) → AllByRecursion P xs
@@ -142,13 +142,13 @@ ended_turns {os = os} {n = n} q m h d = go (two_turns d)
     go (inl e) = let none : [] ≡ here q m = rw e at h in absurd (cc)
     go (inr l) = l
 
--- an instruction inside a region that is known to end at a cursor is left for that end at once
-pub end_taken : (r : Run) (i : ℕ) (c c' : StringCursor) (b : BoardValue) (m : Marks) → is_inside b.choices ≡ true
+-- what is inside a region that is known to end at a cursor is left for that end at once
+pub end_taken : (r : Run) (pt : Point) (c c' : StringCursor) (b : BoardValue) (m : Marks) → is_inside b.choices ≡ true
     → MarksAlike r.words m b.marks → r.stands c' c'.position
-    → EndsAt r m (spot (Instruction i) c b) c'.position
-    → (all : List Way) (limit : Limit) → Arrives r all limit (Instruction i) c b → Later r all limit (next.Done c') b
-end_taken r i c c' b m inside alike there known all limit g =
-    let x : Spot = spot (Instruction i) c b in
+    → EndsAt r m (spot pt c b) c'.position
+    → (all : List Way) (limit : Limit) → Arrives r all limit pt c b → Later r all limit (next.Done c') b
+end_taken r pt c c' b m inside alike there known all limit g =
+    let x : Spot = spot pt c b in
     let begins : first g.now ≡ here c'.position b.marks =
     known.begins x g.now g.turns (alike_itself r.words x) alike g.runs in
     let two : 2 ≤ g.turns = ended_turns c'.position b.marks begins g.runs in (
@@ -165,7 +165,7 @@ end_taken r i c c' b m inside alike there known all limit g =
             let f = g.fares pl code.0 code.1 in
             record {
               at = first_ends r pl limit.start b.choices x c'.position b.marks g.now f.here g.runs begins;
-              fares = instruction_ended r pl limit _ i x b.choices refl (omega arith) f;
+              fares = place_ended r pl limit _ x b.choices (run_place r x g.runs) (omega arith) f;
             };
         confined = λ none. (g.confined none).others;
       },

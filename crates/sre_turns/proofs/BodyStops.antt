@@ -1,7 +1,7 @@
 -- What comes of a spot in the body of a region stops in the window, and no earlier than where the region was entered,
 -- unless it looks behind.
 -- The law that a search takes few turns (`enough` of sre_engine) rests on this.
-use Rattle.std.proofs.Common.{◌≡◌, ℕ, ◌≤◌, true, false, List, [], ◌∷◌, refl, subst, arith}
+use Rattle.std.proofs.Common.{◌≡◌, ℕ, ◌≤◌, true, List, [], ◌∷◌, drop, refl, subst, arith}
 use Rattle.std.specs.Bool.{⊤}
 use Rattle.std.specs.List.{AllByRecursion}
 use Rattle.sre_model.proofs.Each.{each-append}
@@ -13,7 +13,7 @@ use Rattle.sre_turns.specs.Limits.{HereIn, EndsIn}
 use Rattle.sre_turns.specs.Machine.{Runs, turns, Comes, stops, ends, goes, splits, enters}
 use Rattle.sre_turns.specs.Moves.{Spot, spot_at, Move, Stop, End, Go, Split, Enter, closing_move}
 use Rattle.sre_turns.specs.Settled.{Counted}
-use Rattle.sre_turns.specs.Straight.{tail_of, is_possessive, goes_behind, InBody}
+use Rattle.sre_turns.specs.Straight.{point_behind, goes_behind, InBody}
 use Rattle.sre_turns.specs.declared.Point.TheVariants.{Instruction}
 use Rattle.sre_turns.specs.declared.Region.TheVariants.{AtomicGroup, Ahead, NotAhead, Owed, Further}
 use Rattle.sre_turns.specs.declared.Region.{Region}
@@ -34,9 +34,11 @@ module _ (r : Run) (pl : Counted r) (start : ℕ) where
   Onto g entered p (Go y) = InBody r pl start g entered y
   Onto g entered p (Split y z) = InBody r pl start g entered y × InBody r pl start g entered z
   Onto g entered p (Enter k y z) =
-      (is_possessive k ≡ false) × (y.position ≤ r.subject.end)
+      (y.position ≤ r.subject.end)
       × ((q : ℕ) (m : Marks) → y.position ≤ q → q ≤ r.subject.end
-      → InBody r pl start g entered (spot_at (Instruction (tail_of k)) y.frames q m))
+      → InBody r pl start g entered (spot_at (point_behind k) y.frames q m))
+      × ((t : ℕ) (m : Marks) → k ≡ Further t
+      → InBody r pl start g entered (spot_at (Instruction t) (drop 1 y.frames) y.position m))
       × InBody r pl start k y.position z
 
   onto_there : (g : Region) (entered : ℕ) (x : Spot) (b : InBody r pl start g entered x) (mv : Move)
@@ -48,20 +50,23 @@ module _ (r : Run) (pl : Counted r) (start : ℕ) where
   onto_there g entered x b (Enter k y z) on = on
 
   -- and where it leads behind a region inside
-  onto_behind : (g : Region) (entered : ℕ) (k : Region) (y : Spot) (now : List Way) → is_possessive k ≡ false
+  onto_behind : (g : Region) (entered : ℕ) (k : Region) (y : Spot) (now : List Way)
       → y.position ≤ r.subject.end
       → ((q : ℕ) (m : Marks) → y.position ≤ q → q ≤ r.subject.end
-      → InBody r pl start g entered (spot_at (Instruction (tail_of k)) y.frames q m))
+      → InBody r pl start g entered (spot_at (point_behind k) y.frames q m))
+      → ((t : ℕ) (m : Marks) → k ≡ Further t
+      → InBody r pl start g entered (spot_at (Instruction t) (drop 1 y.frames) y.position m))
       → AllStop k y.position now → Onto g entered y.position (closing_move k y now)
-  onto_behind g entered (AtomicGroup t) y [] alone inside tail all = tt
-  onto_behind g entered (AtomicGroup t) y (w ∷ ws) alone inside tail all =
-      tail w.stop w.marks (all.0.0 refl) all.0.1
-  onto_behind g entered (Ahead t) y [] alone inside tail all = tt
-  onto_behind g entered (Ahead t) y (w ∷ ws) alone inside tail all = tail y.position w.marks (omega arith) inside
-  onto_behind g entered (NotAhead t) y [] alone inside tail all = tail y.position y.marks (omega arith) inside
-  onto_behind g entered (NotAhead t) y (w ∷ ws) alone inside tail all = tt
-  onto_behind g entered Owed y now alone inside tail all = absurd (cc)
-  onto_behind g entered (Further t) y now alone inside tail all = absurd (cc)
+  onto_behind g entered (AtomicGroup t) y [] inside on left all = tt
+  onto_behind g entered (AtomicGroup t) y (w ∷ ws) inside on left all = on w.stop w.marks (all.0.0 refl) all.0.1
+  onto_behind g entered (Ahead t) y [] inside on left all = tt
+  onto_behind g entered (Ahead t) y (w ∷ ws) inside on left all = on y.position w.marks (omega arith) inside
+  onto_behind g entered (NotAhead t) y [] inside on left all = on y.position y.marks (omega arith) inside
+  onto_behind g entered (NotAhead t) y (w ∷ ws) inside on left all = tt
+  onto_behind g entered Owed y [] inside on left all = tt
+  onto_behind g entered Owed y (w ∷ ws) inside on left all = on w.stop w.marks (all.0.0 refl) all.0.1
+  onto_behind g entered (Further t) y [] inside on left all = left t y.marks refl
+  onto_behind g entered (Further t) y (w ∷ ws) inside on left all = on w.stop w.marks (all.0.0 refl) all.0.1
 
   mutual
     all_stop : (g : Region) (entered : ℕ) {x : Spot} {os : List Way} {n : ℕ} → (b : InBody r pl start g entered x)
@@ -85,7 +90,7 @@ module _ (r : Run) (pl : Counted r) (start : ℕ) where
       → Runs r.words r.subject x os n → first os ≡ here q m → EndsIn r cs q
   first_ends [] x q m os h d e = tt
   first_ends (Else pt fs c k ∷ cs) x q m os h d e = first_ends cs x q m os h d e
-  first_ends (Trying i fs c k ∷ cs) x q m os h d e = first_ends cs x q m os h d e
+  first_ends (Trying pt fs c k ∷ cs) x q m os h d e = first_ends cs x q m os h d e
   first_ends (Keep g fs c k ∷ cs) x q m [] h d e = absurd (cc)
   first_ends (Keep g fs c k ∷ cs) x q m (w ∷ os) h d e =
       let same : w ≡ record { stop = q; marks = m } = cc in

@@ -98,4 +98,4 @@ pub region_confined : (ws : List ℕ) (cs : List Choice) → AllConfined ws cs �
 region_confined ws [] h = tt
 region_confined ws (Else pt fs c m ∷ cs) h = region_confined ws cs h.1
 region_confined ws (Keep g fs c m ∷ cs) h = h
-region_confined ws (Trying i fs c m ∷ cs) h = region_confined ws cs h.1
+region_confined ws (Trying pt fs c m ∷ cs) h = region_confined ws cs h.1

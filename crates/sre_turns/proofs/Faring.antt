@@ -1,5 +1,5 @@
 -- What a turn leaves of the potential, in a search over words whose turns are counted.
-use Rattle.std.proofs.Common.{◌≡◌, ℕ, ◌+◌, ◌-◌, ◌*◌, ◌≤◌, length, List, [], ◌∷◌, drop, true, refl, sym, ap, ◌∙◌}
+use Rattle.std.proofs.Common.{◌≡◌, ℕ, ◌+◌, ◌-◌, ◌*◌, ◌≤◌, length, List, [], ◌∷◌, drop, true, false, refl, sym, ap, ◌∙◌}
 use Rattle.std.proofs.Common.{subst, arith, add-mul, one-mul}
 use Rattle.std.specs.Bool.{⊤}
 use Rattle.sre_chars.specs.declared.constants.SreOpcode.{SreOpcode}
@@ -13,20 +13,22 @@ use Rattle.sre_model.proofs.Families.{some_test}
 use Rattle.sre_turns.specs.Board.{Choice, Else, Keep, Trying}
 use Rattle.sre_turns.specs.declared.Frame.{Frame}
 use Rattle.sre_turns.specs.declared.Region.{Region}
+use Rattle.sre_turns.specs.declared.Region.TheVariants.{AtomicGroup, Ahead, NotAhead, Owed, Further}
 use Rattle.sre_turns.specs.declared.Point.TheVariants.{Instruction, Alternatives, Shorter, Longer, Inside, Again, Tried}
+use Rattle.sre_turns.specs.declared.Point.TheVariants.{TriedAgain}
 use Rattle.sre_turns.specs.declared.Point.{Point}
 use Rattle.sre_turns.specs.Moves.{Spot, spot_at, Move, Stop, End, Go, Split, Enter}
 use Rattle.sre_turns.specs.Potential.{potential, potential_of, units, Spends}
 use Rattle.sre_turns.specs.Settled.{Counted}
 use Rattle.sre_turns.specs.Attempts.{Attempt}
-use Rattle.sre_turns.specs.Limits.{Limit, earlier, raised, grant, pool, CodeAt, tried_spots}
-use Rattle.sre_turns.specs.Limits.{Fares, FaresAt, FaresBack, FaresEnd, HereIn, Reopens, Settling, behind_share}
-use Rattle.sre_turns.specs.Straight.{InBody, tail_of}
+use Rattle.sre_turns.specs.Limits.{Limit, earlier, raised, grant, pool, tolls_of, CodeAt, tried_spots}
+use Rattle.sre_turns.specs.Limits.{Fares, FaresAt, FaresBack, FaresEnd, HereIn, Reopens, Settling, share_of}
+use Rattle.sre_turns.specs.Limits.{behind_share}
+use Rattle.sre_turns.specs.Straight.{InBody, tail_of, is_possessive}
 use Rattle.sre_turns.specs.Limits.{FaresBoth, Wider}
 use Rattle.sre_turns.specs.Turning.{MovesAt, Moves, Runs, turns}
-use Rattle.sre_turns.proofs.HereMoves.{OntoHere, here_moves, here_lies, body_potential}
-use Rattle.sre_turns.proofs.PotentialMoves.{instruction_spends, point_spends}
-use Rattle.sre_turns.proofs.SettledMoves.{never_again}
+use Rattle.sre_turns.proofs.HereMoves.{OntoHere, here_moves, body_potential}
+use Rattle.sre_turns.proofs.PotentialMoves.{instruction_spends, point_spends, again_spends}
 
 -- an instruction has an opcode, and another point needs none
 pub code_at : (r : Run) (x : Spot) (mv : Move) → Moves r.words r.subject x mv
@@ -41,21 +43,23 @@ code_at r x mv h = go x.point h
     go (Inside g) h = (opcode.FAILURE, tt)
     go Again h = (opcode.FAILURE, tt)
     go (Tried i) h = (opcode.FAILURE, tt)
+    go TriedAgain h = (opcode.FAILURE, tt)
 
 -- what a spot has that is gone on with is enough for its turn
 pub spends : (r : Run) (pt : Point) (fs : List Frame) (p : ℕ) (m : Marks) (mv : Move) (o : SreOpcode)
-    → (pt ≡ Again → ⊥) → Moves r.words r.subject (spot_at pt fs p m) mv → CodeAt r.words pt o
+    → Moves r.words r.subject (spot_at pt fs p m) mv → CodeAt r.words pt o
     → Spends r.words r.subject.end (pool r.words r.subject.end o pt p) mv
-spends r (Instruction i) fs p m mv o never h w = instruction_spends r.words r.subject i p fs m o mv w h
-spends r (Alternatives q) fs p m mv o never h w =
-    point_spends r.words r.subject (Alternatives q) fs p m mv (λ i e. absurd (cc)) never h
-spends r (Shorter t k) fs p m mv o never h w =
-    point_spends r.words r.subject (Shorter t k) fs p m mv (λ i e. absurd (cc)) never h
-spends r (Longer i n) fs p m mv o never h w =
-    point_spends r.words r.subject (Longer i n) fs p m mv (λ i e. absurd (cc)) never h
-spends r (Inside g) fs p m mv o never h w = absurd h
-spends r Again fs p m mv o never h w = absurd (never refl)
-spends r (Tried i) fs p m mv o never h w = absurd h
+spends r (Instruction i) fs p m mv o h w = instruction_spends r.words r.subject i p fs m o mv w h
+spends r (Alternatives q) fs p m mv o h w =
+    point_spends r.words r.subject (Alternatives q) fs p m mv (λ i e. absurd (cc)) (λ e. absurd (cc)) h
+spends r (Shorter t k) fs p m mv o h w =
+    point_spends r.words r.subject (Shorter t k) fs p m mv (λ i e. absurd (cc)) (λ e. absurd (cc)) h
+spends r (Longer i n) fs p m mv o h w =
+    point_spends r.words r.subject (Longer i n) fs p m mv (λ i e. absurd (cc)) (λ e. absurd (cc)) h
+spends r (Inside g) fs p m mv o h w = absurd h
+spends r Again fs p m mv o h w = again_spends r.words r.subject o (spot_at Again fs p m) mv h
+spends r (Tried i) fs p m mv o h w = absurd h
+spends r TriedAgain fs p m mv o h w = absurd h
 
 -- a point at which a turn is made
 abbrev pub IsPlace : Point → Type 0
@@ -66,6 +70,7 @@ IsPlace (Longer i n) = ⊤
 IsPlace (Inside g) = ⊥
 IsPlace Again = ⊤
 IsPlace (Tried i) = ⊥
+IsPlace TriedAgain = ⊥
 
 pub moves_place : (r : Run) (x : Spot) (mv : Move) → Moves r.words r.subject x mv → IsPlace x.point
 moves_place r x mv h = go x.point h
@@ -78,6 +83,7 @@ moves_place r x mv h = go x.point h
     go (Inside g) h = absurd h
     go Again h = tt
     go (Tried i) h = absurd h
+    go TriedAgain h = absurd h
 
 -- what is left where a turn leads; of a region that is entered, whatever the cursor is
 abbrev pub Leaving : (r : Run) → Counted r → Limit → Spot → List Choice → Move → Type 0
@@ -101,31 +107,37 @@ module _ (r : Run) (pl : Counted r) (limit : Limit) (cs : List Choice) where
 -- where the machine stands it has enough for what is behind the innermost region, and for two turns more
 module _ (r : Run) (pl : Counted r) (start : ℕ) where
   enough_behind : (g : Region) (entered : ℕ) (pt : Point) (fs : List Frame) (p : ℕ) (m : Marks)
-      → InBody r pl start g entered (spot_at pt fs p m) → (pt ≡ Again → ⊥) → IsPlace pt
+      → is_possessive g ≡ false → InBody r pl start g entered (spot_at pt fs p m) → IsPlace pt
       → 2 * (length r.words - tail_of g) + 3 + 2 ≤ potential r.words r.subject.end pt p
-  enough_behind g entered (Instruction i) fs p m b never at =
-      let l = body_potential r pl start g entered (spot_at (Instruction i) fs p m) b i refl in omega (arith, l.0, l.1)
-  enough_behind g entered (Alternatives i) fs p m b never at = omega arith
-  enough_behind g entered (Shorter t k) fs p m b never at = omega arith
-  enough_behind g entered (Longer i n) fs p m b never at = omega arith
-  enough_behind g entered (Inside h) fs p m b never at = absurd at
-  enough_behind g entered Again fs p m b never at = absurd (never refl)
-  enough_behind g entered (Tried i) fs p m b never at = absurd at
+  enough_behind g entered (Instruction i) fs p m alone b at =
+      let l = body_potential r pl start g entered (spot_at (Instruction i) fs p m) b i refl alone in
+      omega (arith, l.0, l.1)
+  enough_behind g entered (Alternatives i) fs p m alone b at = omega arith
+  enough_behind g entered (Shorter t k) fs p m alone b at = omega arith
+  enough_behind g entered (Longer i n) fs p m alone b at = omega arith
+  enough_behind g entered (Inside h) fs p m alone b at = absurd at
+  enough_behind g entered Again fs p m alone b at = omega arith
+  enough_behind g entered (Tried i) fs p m alone b at = absurd at
+  enough_behind g entered TriedAgain fs p m alone b at = absurd at
 
-  -- no possessive loop is anywhere
-  pub here_never : (cs : List Choice) (x : Spot) → HereIn r pl start cs x → x.point ≡ Again → ⊥
-  here_never cs x h e =
-      never_again r.words pl.tree pl.whole pl.counted x e (here_lies r pl start cs x h)
+  -- so it has what the place behind a region needs, and more than a turn
+  share_in : (g : Region) (entered : ℕ) (x : Spot) (k n : ℕ) → InBody r pl start g entered x → IsPlace x.point
+      → k + 1 ≤ n → potential_of r.words r.subject.end x ≤ n → share_of r.words k g + 1 ≤ n
+  share_in (AtomicGroup t) entered x k n b at l m =
+      let e = enough_behind (AtomicGroup t) entered x.point x.frames x.position x.marks refl b at in omega (arith, e, m)
+  share_in (Ahead t) entered x k n b at l m =
+      let e = enough_behind (Ahead t) entered x.point x.frames x.position x.marks refl b at in omega (arith, e, m)
+  share_in (NotAhead t) entered x k n b at l m =
+      let e = enough_behind (NotAhead t) entered x.point x.frames x.position x.marks refl b at in omega (arith, e, m)
+  share_in Owed entered x k n b at l m = l
+  share_in (Further t) entered x k n b at l m = l
 
   pub share_spent : (cs : List Choice) (x : Spot) (k n : ℕ) → HereIn r pl start cs x → IsPlace x.point → k + 1 ≤ n
       → potential_of r.words r.subject.end x ≤ n → behind_share r.words k cs + 1 ≤ n
   share_spent [] x k n h at l m = l
   share_spent (Else pt fs c j ∷ cs) x k n h at l m = share_spent cs x k n h at l m
-  share_spent (Trying i fs c j ∷ cs) x k n h at l m = share_spent cs x k n h at l m
-  share_spent (Keep g fs c j ∷ cs) x k n h at l m =
-      let b = enough_behind g c.position x.point x.frames x.position x.marks h
-      (here_never (Keep g fs c j ∷ cs) x h) at in
-      omega (arith, b, m)
+  share_spent (Trying pt fs c j ∷ cs) x k n h at l m = share_spent cs x k n h at l m
+  share_spent (Keep g fs c j ∷ cs) x k n h at l m = share_in g c.position x k n h at l m
 
 -- tolls are granted beside the potential
 pool_more : (ws : List ℕ) (e : ℕ) (o : SreOpcode) (pt : Point) (p : ℕ) → potential ws e pt p ≤ pool ws e o pt p
@@ -136,6 +148,7 @@ pool_more ws e o (Longer i n) p = omega arith
 pool_more ws e o (Inside g) p = omega arith
 pool_more ws e o Again p = omega arith
 pool_more ws e o (Tried i) p = omega arith
+pool_more ws e o TriedAgain p = omega arith
 
 module _ (r : Run) (pl : Counted r) (limit : Limit) (cs : List Choice) (x : Spot) (o : SreOpcode)
     (at : IsPlace x.point) where
@@ -177,7 +190,7 @@ turn_leaves r pl limit cs x mv h f =
     let code = code_at r x mv h in
     let at = f code.0 code.1 in
     leaving r pl limit cs x code.0 (moves_place r x mv h) mv
-    (spends r x.point x.frames x.position x.marks mv code.0 (here_never r pl limit.start cs x at.here) h code.1)
+    (spends r x.point x.frames x.position x.marks mv code.0 h code.1)
     (here_moves r pl limit.start cs x mv at.here h) at
 
 -- what is come to is gone on with for nothing, but for an instruction
@@ -192,9 +205,6 @@ shorter_free = record { same = λ ws e p o. refl }
 
 pub longer_free : {i n : ℕ} → FreeOfToll (Longer i n)
 longer_free = record { same = λ ws e p o. refl }
-
-pub again_free : FreeOfToll Again
-again_free = record { same = λ ws e p o. refl }
 
 -- of two spots, what is left where the first is come to and the second waits, or where one of them is come to alone
 module _ (r : Run) (pl : Counted r) (limit : Limit) (x y : Spot) (cs : List Choice)
@@ -242,6 +252,9 @@ pub run_code : (r : Run) (x : Spot) {os : List Way} {n : ℕ} → Runs r.words r
     → (o : SreOpcode) × CodeAt r.words x.point o
 run_code r x (turns mv h d) = code_at r x mv h
 
+pub run_place : (r : Run) (x : Spot) {os : List Way} {n : ℕ} → Runs r.words r.subject x os n → IsPlace x.point
+run_place r x (turns mv h d) = moves_place r x mv h
+
 -- nothing comes of a spot: what waits is left
 pub nothing_left : (r : Run) (pl : Counted r) (limit : Limit) (cs : List Choice) (x : Spot) {os : List Way} {n : ℕ}
     → Runs r.words r.subject x os n
@@ -251,8 +264,7 @@ pub nothing_left : (r : Run) (pl : Counted r) (limit : Limit) (cs : List Choice)
 nothing_left r pl limit cs x (turns mv h d) f =
     let code = code_at r x mv h in
     let at = f code.0 code.1 in
-    let never = here_never r pl limit.start cs x at.here in
-    let l = spends r x.point x.frames x.position x.marks mv code.0 never h code.1 in
+    let l = spends r x.point x.frames x.position x.marks mv code.0 h code.1 in
     fares_earlier r pl limit cs (behind_share r.words 0 cs) _
     (share_spent r pl limit.start cs x 0 _ at.here (moves_place r x mv h) (some_spent mv l)
     (pool_more r.words r.subject.end code.0 x.point x.position)) at.fares
@@ -305,7 +317,7 @@ module _ (r : Run) (pl : Counted r) (start : ℕ) (cs : List Choice) (x : Spot) 
   second_less y z free h at =
       let code = code_at r x (Split y z) h in
       let on = here_moves r pl start cs x (Split y z) at h in
-      let l = spends r x.point x.frames x.position x.marks (Split y z) code.0 (here_never r pl start cs x at) h code.1 in
+      let l = spends r x.point x.frames x.position x.marks (Split y z) code.0 h code.1 in
       (on.1, omega (arith, l, free.same r.words r.subject.end x.position code.0))
 
   pub next_less : (y : Spot) (o : SreOpcode) → CodeAt r.words x.point o
@@ -313,7 +325,7 @@ module _ (r : Run) (pl : Counted r) (start : ℕ) (cs : List Choice) (x : Spot) 
       → Moves r.words r.subject x (Go y) → HereIn r pl start cs x → NoMore y
   next_less y o w less h at =
       let on = here_moves r pl start cs x (Go y) at h in
-      let l = spends r x.point x.frames x.position x.marks (Go y) o (here_never r pl start cs x at) h w in
+      let l = spends r x.point x.frames x.position x.marks (Go y) o h w in
       (on, omega (arith, l, less))
 
 -- a test brings no toll
@@ -326,17 +338,26 @@ test_pool r i p o e =
     ap (λ n. n * grant r.words) none in
     omega (arith, free)
 
--- of an instruction at which the machine has come, with the tolls of its opcode
-pub with_tolls : (r : Run) (pl : Counted r) (limit : Limit) (i : ℕ) (x : Spot) (cs : List Choice) (o : SreOpcode)
-    → x.point ≡ Instruction i → FaresAt r pl limit (potential_of r.words r.subject.end x) x cs
-    → FaresAt r pl (raised (units r.words r.subject.end i (role o)) limit)
+-- the potential with the tolls of a point
+pool_is : (ws : List ℕ) (e : ℕ) (o : SreOpcode) (pt : Point) (p : ℕ)
+    → pool ws e o pt p ≡ potential ws e pt p + tolls_of ws e o pt * grant ws
+pool_is ws e o (Instruction i) p = refl
+pool_is ws e o (Alternatives q) p = omega arith
+pool_is ws e o (Shorter t k) p = omega arith
+pool_is ws e o (Longer i n) p = omega arith
+pool_is ws e o (Inside g) p = omega arith
+pool_is ws e o Again p = omega arith
+pool_is ws e o (Tried i) p = omega arith
+pool_is ws e o TriedAgain p = omega arith
+
+-- of a spot at which the machine has come, with the tolls of its point
+pub with_tolls : (r : Run) (pl : Counted r) (limit : Limit) (x : Spot) (cs : List Choice) (o : SreOpcode)
+    → FaresAt r pl limit (potential_of r.words r.subject.end x) x cs
+    → FaresAt r pl (raised (tolls_of r.words r.subject.end o x.point) limit)
     (pool r.words r.subject.end o x.point x.position) x cs
-with_tolls r pl limit i x cs o e f =
-    let n : ℕ = units r.words r.subject.end i (role o) in
-    let same : pool r.words r.subject.end o x.point x.position
-    ≡ potential_of r.words r.subject.end x + n * grant r.words =
-    subst (λ pt. pool r.words r.subject.end o pt x.position
-    ≡ potential r.words r.subject.end pt x.position + n * grant r.words) (sym e) refl in
+with_tolls r pl limit x cs o f =
+    let n : ℕ = tolls_of r.words r.subject.end o x.point in
+    let same = pool_is r.words r.subject.end o x.point x.position in
     record {
       here = f.here;
       fares = record {
@@ -359,22 +380,31 @@ with_toll r pl limit x cs f = record {
   };
 }
 
--- an instruction is left at once, for what waits or where the innermost region ends
-module _ (r : Run) (pl : Counted r) (limit : Limit) (n i : ℕ) (x : Spot) (cs : List Choice)
-    (at : x.point ≡ Instruction i) (l : potential_of r.words r.subject.end x ≤ n) (f : FaresAt r pl limit n x cs) where
+-- where a turn is made there is potential for it, and for two more
+pub some_potential : (ws : List ℕ) (e : ℕ) (pt : Point) (p : ℕ) → IsPlace pt → 3 ≤ potential ws e pt p
+some_potential ws e (Instruction i) p at = omega arith
+some_potential ws e (Alternatives q) p at = omega arith
+some_potential ws e (Shorter t k) p at = omega arith
+some_potential ws e (Longer i n) p at = omega arith
+some_potential ws e (Inside g) p at = absurd at
+some_potential ws e Again p at = omega arith
+some_potential ws e (Tried i) p at = absurd at
+some_potential ws e TriedAgain p at = absurd at
+
+-- a spot is left at once, for what waits or where the innermost region ends
+module _ (r : Run) (pl : Counted r) (limit : Limit) (n : ℕ) (x : Spot) (cs : List Choice) (at : IsPlace x.point)
+    (l : potential_of r.words r.subject.end x ≤ n) (f : FaresAt r pl limit n x cs) where
   left_for : (k : ℕ) → k ≤ 2 → Fares r pl (earlier limit) (behind_share r.words k cs) cs
   left_for k few =
-      let some : 3 ≤ potential_of r.words r.subject.end x =
-      subst (λ pt. 3 ≤ potential r.words r.subject.end pt x.position) (sym at) (omega arith) in
-      let place : IsPlace x.point = subst (λ pt. IsPlace pt) (sym at) tt in
+      let some = some_potential r.words r.subject.end x.point x.position at in
       fares_earlier r pl limit cs (behind_share r.words k cs) n
-      (share_spent r pl limit.start cs x k n f.here place (omega (arith, some, l, few)) l) f.fares
+      (share_spent r pl limit.start cs x k n f.here at (omega (arith, some, l, few)) l) f.fares
 
-  pub instruction_left : FaresBack r pl (earlier limit) cs
-  instruction_left = left_for 0 (omega arith)
+  pub place_left : FaresBack r pl (earlier limit) cs
+  place_left = left_for 0 (omega arith)
 
-  pub instruction_ended : Fares r pl (earlier limit) (behind_share r.words 2 cs) cs
-  instruction_ended = left_for 2 (omega arith)
+  pub place_ended : Fares r pl (earlier limit) (behind_share r.words 2 cs) cs
+  place_ended = left_for 2 (omega arith)
 
 -- nothing waits: nothing is tried, and no more turns were taken than the potential allows
 pub nothing_waits : (r : Run) (pl : Counted r) (limit : Limit) (cs : List Choice) → cs ≡ [] → FaresBack r pl limit cs

@@ -1,14 +1,15 @@
 -- Where the machine stands in a search over words whose turns are counted, each turn leads to where it may stand: a
 -- region that is entered is entered at the body that it has, and behind it one goes on where one may stand, too.
 -- The law that a search takes few turns (`enough` of sre_engine) rests on this.
-use Rattle.std.proofs.Common.{◌≡◌, ℕ, ◌+◌, ◌-◌, ◌≤◌, ◌⊎◌, inl, inr, true, false, List, [], ◌∷◌, length, refl, sym}
-use Rattle.std.proofs.Common.{◌∙◌, subst, arith}
+use Rattle.std.proofs.Common.{◌≡◌, ℕ, ◌+◌, ◌-◌, ◌≤◌, true, false, List, [], ◌∷◌, length, drop, refl, sym, subst}
+use Rattle.std.proofs.Common.{arith}
 use Rattle.std.specs.Bool.{⊤}
 use Rattle.std.proofs.lemmas.Bool.{true≢false}
 use Rattle.sre_chars.specs.declared.constants.SreOpcode.TheVariants as opcode
 use Rattle.sre_model.specs.Tree.{Tree}
 use Rattle.sre_model.specs.Grammar.{Opcode, Reads}
 use Rattle.sre_model.specs.Marks.{Marks}
+use Rattle.sre_model.specs.LooksBehind.{backs}
 use Rattle.sre_model.specs.Regions.{forks, has_forked_region}
 use Rattle.sre_model.specs.Runs.{Run}
 use Rattle.sre_model.proofs.Words.{opcode_within}
@@ -18,9 +19,9 @@ use Rattle.sre_turns.specs.Fruit.{is_inside}
 use Rattle.sre_turns.specs.Limits.{HereIn, Reopens, EndsIn}
 use Rattle.sre_turns.specs.Machine.{Moves}
 use Rattle.sre_turns.specs.Moves.{Spot, spot_at, Move, Stop, End, Go, Split, Enter}
-use Rattle.sre_turns.specs.Nested.{repeats, LiesIn, Passed, ClosesAt, LeadsTo}
+use Rattle.sre_turns.specs.Nested.{repeats, LiesIn, Passed, AllBegunBy, ClosesAt, LeadsTo}
 use Rattle.sre_turns.specs.Settled.{Counted, SettledIn}
-use Rattle.sre_turns.specs.Straight.{tail_of, is_possessive, goes_behind, BodyOf, IsBodyIn, InBody}
+use Rattle.sre_turns.specs.Straight.{tail_of, is_possessive, point_behind, goes_behind, BodyOf, IsBodyIn, InBody}
 use Rattle.sre_turns.specs.declared.Frame.{Frame}
 use Rattle.sre_turns.specs.declared.Point.TheVariants.{Instruction}
 use Rattle.sre_turns.specs.declared.Point.{Point}
@@ -30,8 +31,7 @@ use Rattle.sre_turns.proofs.NestedMoves.{begins, body_moves}
 use Rattle.sre_turns.proofs.NestedPlaces.{lies_within}
 use Rattle.sre_turns.proofs.Onward.{Reaches, Reaching, point_reaches, all_later, least_position}
 use Rattle.sre_turns.proofs.SettledMoves.{settled_moves}
-use Rattle.sre_turns.proofs.Straight.{StraightPoint, IsStraight, body_straight, straight_counted}
-use Rattle.sre_turns.proofs.Straight.{Entered, straight_entry, counted_entry, point_entered}
+use Rattle.sre_turns.proofs.Straight.{StraightPoint, body_straight, GoesBack, counted_entry, point_entered}
 
 -- what is told of where a turn leads
 abbrev pub OntoHere : (r : Run) → Counted r → ℕ → List Choice → Spot → Move → Type 0
@@ -42,14 +42,31 @@ OntoHere r pl start cs x (Split y z) = HereIn r pl start cs y × HereIn r pl sta
 OntoHere r pl start cs x (Enter g y z) =
     Reopens r pl start g y.frames y.position cs × InBody r pl start g y.position z
 
--- behind a region, under the loops under which it was entered
-closes_tail : (P : Point → List ℕ → Type 0) (g : Region) (fs : List Frame) → is_possessive g ≡ false
-    → ClosesAt P g fs → P (Instruction (tail_of g)) (repeats fs)
-closes_tail P (AtomicGroup t) fs e h = h
-closes_tail P (Ahead t) fs e h = h
-closes_tail P (NotAhead t) fs e h = h
-closes_tail P Owed fs e h = absurd (cc)
-closes_tail P (Further t) fs e h = absurd (cc)
+-- behind a region, under the loops under which it was entered, or where a possessive loop is left
+closes_behind : (P : Point → List ℕ → Type 0) (g : Region) (fs : List Frame) → ClosesAt P g fs
+    → P (point_behind g) (repeats fs)
+closes_behind P (AtomicGroup t) fs h = h
+closes_behind P (Ahead t) fs h = h
+closes_behind P (NotAhead t) fs h = h
+closes_behind P Owed fs h = h
+closes_behind P (Further t) fs h = h.0
+
+closes_without : (P : Point → List ℕ → Type 0) (g : Region) (fs : List Frame) (t : ℕ) → g ≡ Further t → ClosesAt P g fs
+    → P (Instruction t) (repeats (drop 1 fs))
+closes_without P g fs t e h = (subst (λ k. ClosesAt P k fs) e h).1
+
+-- nothing comes back from behind a region
+behind_from : (g : Region) (q : ℕ) → least_from (point_behind g) q ≡ q
+behind_from (AtomicGroup t) q = refl
+behind_from (Ahead t) q = refl
+behind_from (NotAhead t) q = refl
+behind_from Owed q = refl
+behind_from (Further t) q = refl
+
+-- where the loops of a spot began before, those without the innermost did
+all_begun_without : (p : ℕ) (fs : List Frame) → AllBegunBy p fs → AllBegunBy p (drop 1 fs)
+all_begun_without p [] h = tt
+all_begun_without p (f ∷ fs) h = h.1
 
 -- what comes of words
 module _ (r : Run) (x : Spot) (i j : ℕ) (t : Tree) (reads : Reads r.words i j t)
@@ -61,9 +78,13 @@ module _ (r : Run) (x : Spot) (i j : ℕ) (t : Tree) (reads : Reads r.words i j 
   leads : (mv : Move) → Moves r.words r.subject x mv → LeadsTo Lying mv
   leads mv h = body_moves r.words r.subject i j t reads ends x mv lies h
 
-  tail_lies : (g : Region) (y z : Spot) → Moves r.words r.subject x (Enter g y z) → is_possessive g ≡ false
-      → Lying (Instruction (tail_of g)) (repeats y.frames)
-  tail_lies g y z h alone = closes_tail Lying g y.frames alone (leads (Enter g y z) h).1
+  behind_lies : (g : Region) (y z : Spot) → Moves r.words r.subject x (Enter g y z)
+      → Lying (point_behind g) (repeats y.frames)
+  behind_lies g y z h = closes_behind Lying g y.frames (leads (Enter g y z) h).1
+
+  without_lies : (g : Region) (y z : Spot) (t : ℕ) → g ≡ Further t → Moves r.words r.subject x (Enter g y z)
+      → Lying (Instruction t) (repeats (drop 1 y.frames))
+  without_lies g y z t e h = closes_without Lying g y.frames t e (leads (Enter g y z) h).1
 
 reaching : (r : Run) (x : Spot) (mv : Move) → Moves r.words r.subject x mv
     → Reaching r.subject x.position (least_from x.point x.position) x.frames mv
@@ -72,18 +93,6 @@ reaching r x mv h = point_reaches r.words r.subject x.frames x.position x.marks 
 -- the end of the words
 abbrev last : Run → ℕ
 last r = length r.words - 1
-
--- a body that does not fork is counted
-abbrev straight_body : {ws : List ℕ} {t : ℕ} (whole : Tree) → BodyOf ws IsStraight t → BodyOf ws (IsBodyIn whole) t
-straight_body whole b = record {
-  start = b.start;
-  end = b.end;
-  tree = b.tree;
-  reads = b.reads;
-  ends = b.ends;
-  is = (straight_counted b.tree b.is, λ e. absurd (true≢false (sym e ∙ b.is)));
-  behind = b.behind;
-}
 
 module _ (r : Run) (pl : Counted r) (start : ℕ) where
   -- a region is entered from a spot in the words of the tree, in its window
@@ -96,40 +105,35 @@ module _ (r : Run) (pl : Counted r) (start : ℕ) where
     y_inside : y.position ≤ r.subject.end
     y_inside = far.0.inside inside
 
-    -- at its body, which is no further back than the start, or does not fork
-    in_body : (b : BodyOf r.words (IsBodyIn pl.tree) (tail_of g)) → z.point ≡ Instruction b.start
-        → (forks b.tree ≡ false) ⊎ (start ≤ z.position) → InBody r pl start g y.position z
-    in_body b first from = record {
+    -- at its body
+    in_body : (tail : ℕ) (b : BodyOf r.words (IsBodyIn pl.tree) tail) → (is_possessive g ≡ false → tail_of g ≡ tail)
+        → z.point ≡ Instruction b.start → start + backs b.tree ≤ z.position + backs pl.tree
+        → InBody r pl start g y.position z
+    in_body tail b is first from = record {
+      tail = tail;
       body = b;
+      tail_is = is;
       here = subst (λ fs. LiesIn r.words b.start b.end b.tree b.reads [] z.point (repeats fs)) (sym far.2)
           (subst (λ pt. LiesIn r.words b.start b.end b.tree b.reads [] pt []) (sym first)
           (begins r.words b.start b.end b.tree b.reads []));
       lies = (leads r x 0 (last r) pl.tree pl.whole.0 pl.whole.1 lies (Enter g y z) h).0;
       passed = subst (λ fs. Passed (record z { frames = fs })) (sym far.2) tt;
       inside = far.1 y_inside;
-      from = elim from [
-        | inl straight ↦ inl straight
-        | inr l ↦ inr (subst (λ pt. start ≤ least_from pt z.position) (sym first) l)
-      ];
+      from = subst (λ pt. start + backs b.tree ≤ least_from pt z.position + backs pl.tree) (sym first) from;
       behind = far.3;
     }
 
-    -- the same where the spot is no further back than the start
-    entered_counted : start ≤ least_from x.point x.position
-        → InBody r pl start g y.position z × (is_possessive g ≡ false)
-    entered_counted from = (
-      in_body at.body at.first (elim at.back [
-        | inl e ↦ inr (omega (arith, e, from, least_position x.point x.position))
-        | inr straight ↦ inl straight
-      ]),
-      at.alone,
-    )
-      where
-        at : Entered r.words (IsBodyIn pl.tree) IsStraight x.position g z
-        at =
-            point_entered r.words (IsBodyIn pl.tree) IsStraight r.subject x.point x.frames x.position x.marks g y z
-            (counted_entry pl.tree r.words 0 (last r) pl.tree pl.whole.0 pl.whole.1 pl.counted (λ e. e) x.point
-            (repeats x.frames) lies) h
+    -- the same in the words of some tree, the whole or a body, whose looks go back no further than it may
+    entered_counted : (i j : ℕ) (t : Tree) (reads : Reads r.words i j t) → Opcode r.words j opcode.SUCCESS
+        → LiesIn r.words i j t reads [] x.point (repeats x.frames)
+        → (has_forked_region t ≡ true → has_forked_region pl.tree ≡ true)
+        → start + backs t ≤ least_from x.point x.position + backs pl.tree → InBody r pl start g y.position z
+    entered_counted i j t reads ends here forked from =
+        let at =
+        point_entered r.words (IsBodyIn pl.tree) (GoesBack (backs t)) r.subject x.point x.frames x.position x.marks g
+        y z (counted_entry pl.tree r.words i j t reads ends forked x.point (repeats x.frames) here) h in
+        let near = least_position x.point x.position in
+        in_body at.tail at.body at.tail_is at.first (omega (arith, from, near, at.far, at.is))
 
   -- where no region is in progress
   outside_moves : (x : Spot) (mv : Move) → SettledIn r pl start x → Moves r.words r.subject x mv
@@ -139,24 +143,33 @@ module _ (r : Run) (pl : Counted r) (start : ℕ) where
   outside_moves x (Go y) d h = settled_moves r.words r.subject pl.tree pl.whole start x (Go y) d h
   outside_moves x (Split y z) d h = settled_moves r.words r.subject pl.tree pl.whole start x (Split y z) d h
   outside_moves x (Enter g y z) d h =
-      let at = entered_counted x d.lies d.inside g y z h d.from in
+      let from = d.from in
+      let at =
+      entered_counted x d.lies d.inside g y z h 0 (last r) pl.tree pl.whole.0 pl.whole.1 d.lies (λ e. e)
+      (omega (arith, from)) in
       let f = reaching r x (Enter g y z) h in (
         record {
-          alone = at.1;
           inside = f.0.inside d.inside;
-          tail = λ q m l k. record {
-            lies = tail_lies r x 0 (last r) pl.tree pl.whole.0 pl.whole.1 d.lies g y z h at.1;
-            passed = all_later y.position q y.frames l (f.0.begun d.passed);
+          behind = λ q m l k. record {
+            lies = behind_lies r x 0 (last r) pl.tree pl.whole.0 pl.whole.1 d.lies g y z h;
+            passed = subst (λ n. AllBegunBy n y.frames) (sym (behind_from g q))
+                (all_later y.position q y.frames l (f.0.begun d.passed));
             inside = k;
-            from = let o = f.0.onward in let from = d.from in omega (arith, from, o, l);
+            from = let o = f.0.onward in let from = d.from in omega (arith, from, o, l, behind_from g q);
+          };
+          without = λ t m e. record {
+            lies = without_lies r x 0 (last r) pl.tree pl.whole.0 pl.whole.1 d.lies g y z t e h;
+            passed = all_begun_without y.position y.frames (f.0.begun d.passed);
+            inside = f.0.inside d.inside;
+            from = let o = f.0.onward in let from = d.from in omega (arith, from, o);
           };
         },
-        at.0,
+        at,
       )
 
   -- in the body of a region
   module _ (g : Region) (entered : ℕ) (x : Spot) (b : InBody r pl start g entered x) where
-    abbrev body : BodyOf r.words (IsBodyIn pl.tree) (tail_of g)
+    abbrev body : BodyOf r.words (IsBodyIn pl.tree) b.tail
     body = b.body
 
     -- it does not come back before where it was entered, nor before the start
@@ -166,15 +179,14 @@ module _ (r : Run) (pl : Counted r) (start : ℕ) where
         (least_from y.point y.position) y.frames
         → InBody r pl start g entered y
     stays y here lies k = record {
+      tail = b.tail;
       body = body;
+      tail_is = b.tail_is;
       here = here;
       lies = lies;
       passed = k.begun b.passed;
       inside = k.inside b.inside;
-      from = elim b.from [
-        | inl straight ↦ inl straight
-        | inr l ↦ inr (omega (arith, l, k.onward))
-      ];
+      from = let l = b.from in omega (arith, l, k.onward);
       behind = λ e. let l = b.behind e in omega (arith, l, k.onward);
     }
 
@@ -188,17 +200,10 @@ module _ (r : Run) (pl : Counted r) (start : ℕ) where
 
     -- a region inside of it
     entered_here : (k : Region) (y z : Spot) → Moves r.words r.subject x (Enter k y z)
-        → InBody r pl start k y.position z × (is_possessive k ≡ false)
-    entered_here k y z h = go b.from
-      where
-        go : (forks body.tree ≡ false) ⊎ (start ≤ least_from x.point x.position)
-            → InBody r pl start k y.position z × (is_possessive k ≡ false)
-        go (inr l) = entered_counted x b.lies b.inside k y z h l
-        go (inl straight) =
-            let at = point_entered r.words IsStraight IsStraight r.subject x.point x.frames x.position x.marks k y z
-            (straight_entry r.words body.start body.end body.tree body.reads body.ends straight x.point
-            (repeats x.frames) b.here) h in
-            (in_body x b.lies b.inside k y z h (straight_body pl.tree at.body) at.first (inl at.body.is), at.alone)
+        → InBody r pl start k y.position z
+    entered_here k y z h =
+        entered_counted x b.lies b.inside k y z h body.start body.end body.tree body.reads body.ends b.here body.is.1
+        b.from
 
     abbrev pub InsideOnto : Move → Type 0
     InsideOnto Stop = ⊤
@@ -206,9 +211,11 @@ module _ (r : Run) (pl : Counted r) (start : ℕ) where
     InsideOnto (Go y) = InBody r pl start g entered y
     InsideOnto (Split y z) = InBody r pl start g entered y × InBody r pl start g entered z
     InsideOnto (Enter k y z) =
-        (is_possessive k ≡ false) × (y.position ≤ r.subject.end)
+        (y.position ≤ r.subject.end)
         × ((q : ℕ) (m : Marks) → y.position ≤ q → q ≤ r.subject.end
-        → InBody r pl start g entered (spot_at (Instruction (tail_of k)) y.frames q m))
+        → InBody r pl start g entered (spot_at (point_behind k) y.frames q m))
+        × ((t : ℕ) (m : Marks) → k ≡ Further t
+        → InBody r pl start g entered (spot_at (Instruction t) (drop 1 y.frames) y.position m))
         × InBody r pl start k y.position z
 
     pub inside_moves : (mv : Move) → Moves r.words r.subject x mv → InsideOnto mv
@@ -224,48 +231,63 @@ module _ (r : Run) (pl : Counted r) (start : ℕ) where
     inside_moves (Enter k y z) h =
         let at = entered_here k y z h in
         let f = reaching r x (Enter k y z) h in (
-          at.1,
           f.0.inside b.inside,
-          λ q m l e. stays (spot_at (Instruction (tail_of k)) y.frames q m)
-              (tail_lies r x body.start body.end body.tree body.reads body.ends b.here k y z h at.1)
-              (tail_lies r x 0 (last r) pl.tree pl.whole.0 pl.whole.1 b.lies k y z h at.1)
+          λ q m l e. stays (spot_at (point_behind k) y.frames q m)
+              (behind_lies r x body.start body.end body.tree body.reads body.ends b.here k y z h)
+              (behind_lies r x 0 (last r) pl.tree pl.whole.0 pl.whole.1 b.lies k y z h)
               (record {
-                onward = let o = f.0.onward in omega (arith, o, l);
+                onward = let o = f.0.onward in omega (arith, o, l, behind_from k q);
                 inside = λ _. e;
-                begun = λ p. all_later y.position q y.frames l (f.0.begun p);
+                begun = λ p. subst (λ n. AllBegunBy n y.frames) (sym (behind_from k q))
+                    (all_later y.position q y.frames l (f.0.begun p));
               }),
-          at.0,
+          λ t m e. stays (spot_at (Instruction t) (drop 1 y.frames) y.position m)
+              (without_lies r x body.start body.end body.tree body.reads body.ends b.here k y z t e h)
+              (without_lies r x 0 (last r) pl.tree pl.whole.0 pl.whole.1 b.lies k y z t e h)
+              (record {
+                onward = let o = f.0.onward in omega (arith, o);
+                inside = λ _. f.0.inside b.inside;
+                begun = λ p. all_begun_without y.position y.frames (f.0.begun p);
+              }),
+          at,
         )
 
     -- a potential there is enough for what is behind the region
-    pub body_potential : (i : ℕ) → x.point ≡ Instruction i
+    pub body_potential : (i : ℕ) → x.point ≡ Instruction i → is_possessive g ≡ false
         → (i + 1 ≤ tail_of g) × (tail_of g ≤ length r.words)
-    body_potential i at =
+    body_potential i at alone =
         let lies = subst (λ pt. LiesIn r.words body.start body.end body.tree body.reads [] pt (repeats x.frames)) at
         b.here in
         let near = lies_within r.words i body.start body.end body.tree body.reads [] (repeats x.frames) lies in
         let end = opcode_within r.words body.end opcode.SUCCESS body.ends in
-        (omega (arith, near, body.behind), omega (arith, end, body.behind))
+        let tail = b.tail_is alone in
+        (omega (arith, near, body.behind, tail), omega (arith, end, body.behind, tail))
 
-    -- where it forks, it is settled, too
-    pub forked_settled : (StraightPoint r.words x.point → ⊥) → SettledIn r pl start x
-    forked_settled forked = record {
+    -- it is settled, too, from as far before the start as looks go back
+    pub body_settled : SettledIn r pl (start - backs pl.tree) x
+    body_settled = record {
       lies = b.lies;
       passed = b.passed;
       inside = b.inside;
-      from = elim b.from [
-        | inl straight ↦ absurd (forked (body_straight r.words body straight x.point (repeats x.frames) b.here))
-        | inr l ↦ l
-      ];
+      from = let l = b.from in omega (arith, l);
     }
 
-    -- and a region of the whole forks
+    -- where it forks, a region of the whole does
     pub forked_region : (StraightPoint r.words x.point → ⊥) → forks body.tree ≡ true
     forked_region forked = go (forks body.tree) refl
       where
         go : (told : _) → forks body.tree ≡ told → forks body.tree ≡ true
         go true e = e
         go false e = absurd (forked (body_straight r.words body e x.point (repeats x.frames) b.here))
+
+  -- below a choice or a mark the same waits
+  reopened_below : (cs ds : List Choice) → ((x : Spot) → HereIn r pl start cs x → HereIn r pl start ds x) → (g : Region)
+      (fs : List Frame) (p : ℕ) → Reopens r pl start g fs p cs → Reopens r pl start g fs p ds
+  reopened_below cs ds on g fs p o = record {
+    inside = o.inside;
+    behind = λ q m l e. on (spot_at (point_behind g) fs q m) (o.behind q m l e);
+    without = λ t m e. on (spot_at (Instruction t) (drop 1 fs) p m) (o.without t m e);
+  }
 
   -- where each turn leads
   pub here_moves : (cs : List Choice) (x : Spot) (mv : Move) → HereIn r pl start cs x → Moves r.words r.subject x mv
@@ -278,15 +300,15 @@ module _ (r : Run) (pl : Counted r) (start : ℕ) where
       go End on = on
       go (Go y) on = on
       go (Split y z) on = on
-      go (Enter f y z) on = (record { alone = on.0.alone; inside = on.0.inside; tail = on.0.tail }, on.1)
-  here_moves (Trying i fs c k ∷ cs) x mv h m = go mv (here_moves cs x mv h m)
+      go (Enter f y z) on = (reopened_below cs (Else pt fs c k ∷ cs) (λ x h. h) f y.frames y.position on.0, on.1)
+  here_moves (Trying pt fs c k ∷ cs) x mv h m = go mv (here_moves cs x mv h m)
     where
-      go : (mv : Move) → OntoHere r pl start cs x mv → OntoHere r pl start (Trying i fs c k ∷ cs) x mv
+      go : (mv : Move) → OntoHere r pl start cs x mv → OntoHere r pl start (Trying pt fs c k ∷ cs) x mv
       go Stop on = tt
       go End on = on
       go (Go y) on = on
       go (Split y z) on = on
-      go (Enter f y z) on = (record { alone = on.0.alone; inside = on.0.inside; tail = on.0.tail }, on.1)
+      go (Enter f y z) on = (reopened_below cs (Trying pt fs c k ∷ cs) (λ x h. h) f y.frames y.position on.0, on.1)
   here_moves (Keep g fs c k ∷ cs) x mv h m = go mv (inside_moves g c.position x h mv m)
     where
       go : (mv : Move) → InsideOnto g c.position x h mv → OntoHere r pl start (Keep g fs c k ∷ cs) x mv
@@ -294,23 +316,27 @@ module _ (r : Run) (pl : Counted r) (start : ℕ) where
       go End on = on
       go (Go y) on = on
       go (Split y z) on = on
-      go (Enter f y z) on = (record { alone = on.0; inside = on.1; tail = on.2 }, on.3)
+      go (Enter f y z) on = (record { inside = on.0; behind = on.1; without = on.2 }, on.3)
 
-  -- where it forks it is settled, whether a region is in progress or not
-  pub here_settled : (cs : List Choice) (x : Spot) → HereIn r pl start cs x → (StraightPoint r.words x.point → ⊥)
-      → SettledIn r pl start x
-  here_settled [] x h forked = h
-  here_settled (Else pt fs c m ∷ cs) x h forked = here_settled cs x h forked
-  here_settled (Keep g fs c m ∷ cs) x h forked = forked_settled g c.position x h forked
-  here_settled (Trying i fs c m ∷ cs) x h forked = here_settled cs x h forked
+  -- whether a region is in progress or not, it is settled from as far before the start as looks go back
+  pub here_settled : (cs : List Choice) (x : Spot) → HereIn r pl start cs x → SettledIn r pl (start - backs pl.tree) x
+  here_settled [] x h = record {
+    lies = h.lies;
+    passed = h.passed;
+    inside = h.inside;
+    from = let l = h.from in omega (arith, l);
+  }
+  here_settled (Else pt fs c m ∷ cs) x h = here_settled cs x h
+  here_settled (Keep g fs c m ∷ cs) x h = body_settled g c.position x h
+  here_settled (Trying pt fs c m ∷ cs) x h = here_settled cs x h
 
-  -- and where that is in a region, a region of the tree forks
+  -- where it forks in a region, a region of the tree does
   pub here_forked : (cs : List Choice) (x : Spot) → HereIn r pl start cs x → (StraightPoint r.words x.point → ⊥)
       → is_inside cs ≡ true → has_forked_region pl.tree ≡ true
   here_forked [] x h forked inside = absurd (true≢false (sym inside))
   here_forked (Else pt fs c m ∷ cs) x h forked inside = here_forked cs x h forked inside
-  here_forked (Keep g fs c m ∷ cs) x h forked inside = h.body.is.1 (forked_region g c.position x h forked)
-  here_forked (Trying i fs c m ∷ cs) x h forked inside = here_forked cs x h forked inside
+  here_forked (Keep g fs c m ∷ cs) x h forked inside = h.body.is.0 (forked_region g c.position x h forked)
+  here_forked (Trying pt fs c m ∷ cs) x h forked inside = here_forked cs x h forked inside
 
   -- in any case it lies in the words of the tree
   pub here_lies : (cs : List Choice) (x : Spot) → HereIn r pl start cs x
@@ -318,7 +344,7 @@ module _ (r : Run) (pl : Counted r) (start : ℕ) where
   here_lies [] x h = h.lies
   here_lies (Else pt fs c m ∷ cs) x h = here_lies cs x h
   here_lies (Keep g fs c m ∷ cs) x h = h.lies
-  here_lies (Trying i fs c m ∷ cs) x h = here_lies cs x h
+  here_lies (Trying pt fs c m ∷ cs) x h = here_lies cs x h
 
   -- where one spot may stand another does that lies in the words wherever the first does, and is within its reach
   pub here_reached : (cs : List Choice) (x y : Spot)
@@ -338,7 +364,7 @@ module _ (r : Run) (pl : Counted r) (start : ℕ) where
   here_reached (Keep g fs c m ∷ cs) x y lies k h =
       stays g c.position x h y (lies h.body.start h.body.end h.body.tree h.body.reads h.here)
       (lies 0 (last r) pl.tree pl.whole.0 h.lies) k
-  here_reached (Trying i fs c m ∷ cs) x y lies k h = here_reached cs x y lies k h
+  here_reached (Trying pt fs c m ∷ cs) x y lies k h = here_reached cs x y lies k h
 
   -- an instruction to which a turn leads, at another position within reach
   module _ (x z : Spot) (j p q : ℕ) (fs : List Frame) (m : Marks)
@@ -359,4 +385,4 @@ module _ (r : Run) (pl : Counted r) (start : ℕ) where
     here_first (Keep g gs c n ∷ cs) k d =
         stays g c.position x d (there q) (onto g c.position x d (Split (there p) z) h).0
         (onto_whole g c.position x d (Split (there p) z) h).0 k
-    here_first (Trying i gs c n ∷ cs) k d = here_first cs k d
+    here_first (Trying pt gs c n ∷ cs) k d = here_first cs k d

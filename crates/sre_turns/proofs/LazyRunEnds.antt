@@ -24,7 +24,7 @@ use Rattle.sre_turns.specs.declared.Point.TheVariants.{Instruction, Longer}
 use Rattle.sre_turns.proofs.Moving.{comes, at_instruction}
 
 -- the least count is there where so many characters pass
-least_passed : (s : Subject) (t : Test) (low p : ℕ) → AllPass s t p (p + low) → run_length s t low p ≡ low
+pub least_passed : (s : Subject) (t : Test) (low p : ℕ) → AllPass s t p (p + low) → run_length s t low p ≡ low
 least_passed s t low p all_pass =
     run_has s t low p low (omega arith) (λ c l. all_pass (p + c) (omega arith) (omega (arith, l)))
     (λ l. absurd (omega (arith, l)))

@@ -37,6 +37,8 @@ pub mod Hopeless
 pub mod Trying
 pub mod RunEnds
 pub mod LazyRunEnds
+pub mod PossessiveRunEnds
+pub mod StepsInPossessiveRuns
 pub mod NextRuns
 pub mod LaterRuns
 pub mod OpenMarks

@@ -13,6 +13,7 @@ use Rattle.sre_turns.specs.Board.{Choice, Else, Keep, Trying, choice, from_regio
 use Rattle.sre_turns.specs.declared.Frame.{Frame}
 use Rattle.sre_turns.specs.declared.Region.{Region}
 use Rattle.sre_turns.specs.declared.Point.TheVariants.{Instruction, Alternatives, Shorter, Longer, Inside, Again, Tried}
+use Rattle.sre_turns.specs.declared.Point.TheVariants.{TriedAgain}
 use Rattle.sre_turns.specs.declared.Point.{Point}
 use Rattle.sre_turns.specs.Moves.{Spot, spot_at, Move, Stop, End, Go, Split, Enter, TestMove, AtMove, MarkMove}
 use Rattle.sre_turns.specs.Moves.{AlternativesMove}
@@ -20,7 +21,7 @@ use Rattle.sre_turns.specs.MovesInRuns.{RunOperands, run_turn, RunMove, LongerMo
 use Rattle.sre_turns.specs.MovesInLoops.{UntilMove, AgainMove}
 use Rattle.sre_turns.specs.MovesInRegions.{LookMove}
 use Rattle.sre_turns.specs.MovesAtReferences.{ReferenceMove, ConditionMove}
-use Rattle.sre_turns.specs.Limits.{Limit, earlier, raised, pool, FaresAt}
+use Rattle.sre_turns.specs.Limits.{Limit, earlier, raised, pool, tolls_of, CodeAt, FaresAt}
 use Rattle.sre_turns.specs.Potential.{potential_of, units}
 use Rattle.sre_turns.specs.Settled.{Counted}
 use Rattle.sre_turns.specs.Confining.{StandsConfined}
@@ -157,6 +158,7 @@ moves_same ws s (Longer i n) x a b h k = same_longer ws s i n x a b h k
 moves_same ws s (Inside g) x a b h k = absurd h
 moves_same ws s Again x a b h k = same_again ws x a b h k
 moves_same ws s (Tried i) x a b h k = absurd h
+moves_same ws s TriedAgain x a b h k = absurd h
 
 -- so what comes of a spot comes of the one turn there
 pub comes : {ws : List ℕ} {s : Subject} {x : Spot} {os : List Way} {n : ℕ} (mv : Move) → Moves ws s x mv
@@ -289,11 +291,23 @@ arrived {r} {all} {limit} {pt} {c} {b} free g = record {
   confined = g.confined;
 }
 
--- an instruction is gone on with, for the tolls of its opcode
-pub arrived_at : {r : Run} {all : List Way} {limit : Limit} {i : ℕ} {c : StringCursor} {b : BoardValue} (o : SreOpcode)
-    → Opcode r.words i o → Arrives r all limit (Instruction i) c b
-    → Goes r all (raised (units r.words r.subject.end i (role o)) limit) (Instruction i) c b
-arrived_at {r} {all} {limit} {i} {c} {b} o w g = record {
+-- a point has the tolls of its opcode, whichever of them is read
+same_tolls : (ws : List ℕ) (e : ℕ) (pt : Point) (o p : SreOpcode) → CodeAt ws pt o → CodeAt ws pt p
+    → tolls_of ws e o pt ≡ tolls_of ws e p pt
+same_tolls ws e (Instruction i) o p w v = ap (λ q. units ws e i (role q)) (same_opcode ws i o p w v)
+same_tolls ws e (Alternatives q) o p w v = refl
+same_tolls ws e (Shorter t k) o p w v = refl
+same_tolls ws e (Longer i n) o p w v = refl
+same_tolls ws e (Inside g) o p w v = refl
+same_tolls ws e Again o p w v = refl
+same_tolls ws e (Tried i) o p w v = refl
+same_tolls ws e TriedAgain o p w v = refl
+
+-- a point is gone on with, for its tolls
+pub arrived_at : {r : Run} {all : List Way} {limit : Limit} {pt : Point} {c : StringCursor} {b : BoardValue}
+    (o : SreOpcode) → CodeAt r.words pt o → Arrives r all limit pt c b
+    → Goes r all (raised (tolls_of r.words r.subject.end o pt) limit) pt c b
+arrived_at {r} {all} {limit} {pt} {c} {b} o w g = record {
   now = g.now;
   turns = g.turns;
   later = g.later;
@@ -303,17 +317,16 @@ arrived_at {r} {all} {limit} {i} {c} {b} o w g = record {
   waits = sooner (g.turns + 1) (g.turns + 0) (omega arith) g.waits;
   within = g.within;
   fares = λ pl o' w'.
-      let x : Spot = spot (Instruction i) c b in
-      subst (λ q. FaresAt r pl (raised (units r.words r.subject.end i (role q)) limit)
-      (pool r.words r.subject.end o' (Instruction i) c.position) x b.choices) (same_opcode r.words i o' o w' w)
-      (with_tolls r pl limit i x b.choices o' refl (g.fares pl o' w'));
+      let x : Spot = spot pt c b in
+      subst (λ k. FaresAt r pl (raised k limit) (pool r.words r.subject.end o' pt c.position) x b.choices)
+      (same_tolls r.words r.subject.end pt o' o w' w) (with_tolls r pl limit x b.choices o' (g.fares pl o' w'));
   confined = g.confined;
 }
 
 -- or for one toll alone
-pub arrived_once : {r : Run} {all : List Way} {limit : Limit} {i : ℕ} {c : StringCursor} {b : BoardValue}
-    → Arrives r all limit (Instruction i) c b → Tries r all (raised 1 limit) (Instruction i) c b
-arrived_once {r} {all} {limit} {i} {c} {b} g = record {
+pub arrived_once : {r : Run} {all : List Way} {limit : Limit} {pt : Point} {c : StringCursor} {b : BoardValue}
+    → Arrives r all limit pt c b → Tries r all (raised 1 limit) pt c b
+arrived_once {r} {all} {limit} {pt} {c} {b} g = record {
   now = g.now;
   turns = g.turns;
   later = g.later;
@@ -322,7 +335,7 @@ arrived_once {r} {all} {limit} {i} {c} {b} g = record {
   runs = g.runs;
   waits = sooner (g.turns + 1) (g.turns + 0) (omega arith) g.waits;
   within = g.within;
-  fares = λ pl o w. with_toll r pl limit (spot (Instruction i) c b) b.choices (g.fares pl o w);
+  fares = λ pl o w. with_toll r pl limit (spot pt c b) b.choices (g.fares pl o w);
   confined = g.confined;
 }
 
@@ -511,6 +524,10 @@ both_choose r i Again c b b' eb all limit g = both_other r i Again c b b' eb all
 both_choose r i (Tried j) c b b' eb all limit g = absurd (nowhere g.others)
   where
     nowhere : {os : List Way} {n : ℕ} → Runs r.words r.subject (spot (Tried j) c b) os n → ⊥
+    nowhere (turns mv m d) = absurd m
+both_choose r i TriedAgain c b b' eb all limit g = absurd (nowhere g.others)
+  where
+    nowhere : {os : List Way} {n : ℕ} → Runs r.words r.subject (spot TriedAgain c b) os n → ⊥
     nowhere (turns mv m d) = absurd m
 
 -- a spot of which nothing comes
@@ -788,7 +805,7 @@ cut_waits r [] rest g fs c m w ws all k e wt = absurd (cc)
 cut_waits r (Else pt gs d l ∷ cs) rest g fs c m w ws all k e (otherwise {n = n} {k = k'} {os = os} there placed x wt) =
     let u = cut_waits r cs rest g fs c m w (ws ++ os) all k' e (sooner (0 + n + 1) 0 (omega arith) wt) in
     (u.0, u.1, omega (arith, u.2), u.3)
-cut_waits r (Trying i gs d l ∷ cs) rest g fs c m w ws all k e (tried there placed x most same wt) =
+cut_waits r (Trying pt gs d l ∷ cs) rest g fs c m w ws all k e (tried there placed x most same wt) =
     cut_waits r cs rest g fs c m w ws all k e wt
 cut_waits r (Keep h gs d l ∷ cs) rest g fs c m w ws all k e wt =
     (ws, k, omega arith, subst (λ x. Waits r x 0 (w ∷ ws) all k) e wt)

@@ -14,7 +14,8 @@ use Rattle.sre_model.specs.Grammar.{Opcode, word, skip, Word, ReadsItem, ReadsBr
 use Rattle.sre_model.specs.Marks.{Marks}
 use Rattle.sre_model.specs.Subject.{Subject}
 use Rattle.sre_model.specs.Roles.{Role, ToEnd, ToBranch, ToRun, role}
-use Rattle.sre_model.specs.RunCounts.{run_count, most_counts, by_counts}
+use Rattle.sre_model.specs.RunCounts.{most_counts, by_counts}
+use Rattle.sre_model.specs.Slots.{counted_to}
 use Rattle.sre_model.specs.Folding.{of_item, of_parts, of_branch}
 use Rattle.sre_model.proofs.Foldings.{paired, item_paired, tree_paired}
 use Rattle.sre_model.specs.Alternatives.{alternatives_of, most_alternatives, by_alternatives}
@@ -22,6 +23,7 @@ use Rattle.sre_model.specs.Runs as runs
 use Rattle.sre_model.proofs.Words.{word_of, same_opcode}
 use Rattle.sre_model.proofs.Families.{HasRole, role_here, is_run, is_branch}
 use Rattle.sre_turns.specs.declared.Point.TheVariants.{Instruction, Alternatives, Shorter, Longer, Inside, Again, Tried}
+use Rattle.sre_turns.specs.declared.Point.TheVariants.{TriedAgain}
 use Rattle.sre_turns.specs.declared.Point.{Point}
 use Rattle.sre_turns.specs.Machine.{Runs}
 use Rattle.sre_turns.specs.Moves.{Spot, spot_at}
@@ -34,14 +36,12 @@ use Rattle.sre_turns.specs.Settled.{Counted, SettledIn}
 use Rattle.sre_turns.proofs.NestedPoints.{HoldsInGood, tree_holds}
 
 -- no greatest count, or one that counts
-run_most : (kind : RunKind) (low high : ℕ) → (high ≡ unlimited) ⊎ (high ≤ run_count kind low high)
-run_most kind low high = go kind (nat_eq high unlimited) refl
+run_most : (low high : ℕ) → (high ≡ unlimited) ⊎ (high ≤ counted_to low high)
+run_most low high = go (nat_eq high unlimited) refl
   where
-    go : (kind : RunKind) (b : Bool) → nat_eq high unlimited ≡ b → (high ≡ unlimited) ⊎ (high ≤ run_count kind low high)
-    go kind true e = inl (grind (arith, nat_tests))
-    go GreedyRun false e = inr (rw e (omega arith))
-    go LazyRun false e = inr (rw e (omega arith))
-    go PossessiveRun false e = inr (omega arith)
+    go : (b : Bool) → nat_eq high unlimited ≡ b → (high ≡ unlimited) ⊎ (high ≤ counted_to low high)
+    go true e = inl (grind (arith, nat_tests))
+    go false e = inr (rw e (omega arith))
 
 -- as many alternatives stand in the words as the tree has
 as_many : (ws : List ℕ) (n q j : ℕ) (ts : Trees) → ReadsBranch ws q j ts → alternatives_in ws n q ≤ alternatives_of ts
@@ -80,6 +80,7 @@ module _ (ws : List ℕ) (n m : ℕ) where
   FewAt (Inside g) = ⊤
   FewAt Again = ⊤
   FewAt (Tried i) = ⊤
+  FewAt TriedAgain = ⊤
 
   -- by the role that is known to be there
   counted_role : (i : ℕ) (o : Role) → HasRole ws i o → ((kind : RunKind) → o ≡ ToRun kind → ⊥)
@@ -98,9 +99,9 @@ module _ (ws : List ℕ) (n m : ℕ) where
           → (word ws (i + 3) ≡ unlimited) ⊎ (word ws (i + 3) ≤ n)
       counted_run kind h =
           let x = is_run ws i j a h r in
-          let same : of_item by_counts a ≡ run_count kind x.0 x.1 = ap (of_item by_counts) x.3 in
+          let same : of_item by_counts a ≡ counted_to x.0 x.1 = ap (of_item by_counts) x.3 in
           let is : word ws (i + 3) ≡ x.1 = word_of ws (i + 3) x.1 x.4.1.2 in
-          elim (run_most kind x.0 x.1) [
+          elim (run_most x.0 x.1) [
             | inl e ↦ inl (is ∙ e)
             | inr most ↦ inr (omega (arith, same, is, most, l.0))
           ]
@@ -122,19 +123,19 @@ module _ (ws : List ℕ) (n m : ℕ) where
   parts_low a l = l
 
   -- so are all points of a tree of such counts
-  counted_in : HoldsInGood ws (paired by_counts by_alternatives) Low FewAt
+  counted_in : HoldsInGood ws (paired by_counts by_alternatives) Low (λ pt ks. FewAt pt)
   counted_in = record {
     first = λ a b l. (omega (arith, l.0), omega (arith, l.1));
     second = λ a b l. (omega (arith, l.0), omega (arith, l.1));
     parts = parts_low;
-    item = λ i j a r l. counted_item i j a r (subst Low (item_paired by_counts by_alternatives a) l);
-    success = λ i h. counted_role i _ h (λ kind e. absurd (cc)) (λ e. absurd (cc));
-    jump = λ i h. counted_role i _ h (λ kind e. absurd (cc)) (λ e. absurd (cc));
-    until = λ i o low high body g h. counted_role i _ h (λ kind e. absurd (cc)) (λ e. absurd (cc));
-    alternatives = λ ts g q. tt;
-    shorter = λ kind low high t g j k. tt;
-    longer = λ kind low high t g i k. tt;
-    again = λ low high body l. tt;
+    item = λ i j a r l ks. counted_item i j a r (subst Low (item_paired by_counts by_alternatives a) l);
+    success = λ i h ks. counted_role i _ h (λ kind e. absurd (cc)) (λ e. absurd (cc));
+    jump = λ i h ks. counted_role i _ h (λ kind e. absurd (cc)) (λ e. absurd (cc));
+    until = λ i o low high body g h ks. counted_role i _ h (λ kind e. absurd (cc)) (λ e. absurd (cc));
+    alternatives = λ ts g q ks. tt;
+    shorter = λ kind low high t g j k ks. tt;
+    longer = λ kind low high t g i k ks. tt;
+    again = λ i j low high body r l js. tt;
   }
 
 -- so wherever a spot lies
@@ -145,10 +146,11 @@ counted_within ws t w x y =
     let m : ℕ = most_alternatives t in
     let e : ℕ = length ws - 1 in
     let end : HasRole ws e ToEnd = role_here ws e opcode.SUCCESS ToEnd w.1 refl in
-    tree_holds ws (paired by_counts by_alternatives) (Low ws n m) (FewAt ws n m) (counted_in ws n m) 0 e t w.0 []
+    tree_holds ws (paired by_counts by_alternatives) (Low ws n m) (λ pt ks. FewAt ws n m pt) (counted_in ws n m) 0 e t
+    w.0 []
     x.point (repeats x.frames)
     (subst (Low ws n m) (sym (tree_paired by_counts by_alternatives t)) (omega arith, omega arith))
-    ((counted_in ws n m).success e end) y
+    ((counted_in ws n m).success e end []) y
 
 module _ (r : runs.Run) (pl : Counted r) (start : ℕ) (x : Spot) (i : ℕ) (o : SreOpcode)
     (at : SettledIn r pl start x) (here : x.point ≡ Instruction i) (w : Opcode r.words i o) where
@@ -220,7 +222,7 @@ has_greatest ws i o w none x (inl e) u =
 has_greatest ws i o w none x (inr e) u =
     let h = (in_role o (ToRun LazyRun) e w x).1 in
     none (record {
-      code = inr (subst (λ c. Opcode ws i c) (run_code_is o LazyRun e) w);
+      code = inr (inl (subst (λ c. Opcode ws i c) (run_code_is o LazyRun e) w));
       greatest = subst (λ v. Word ws (i + 3) v) (sym (word_of ws (i + 3) h.high h.operands.highest) ∙ u)
           h.operands.highest;
       test = record { end = h.end; test = h.test; stands = h.operands.stands };

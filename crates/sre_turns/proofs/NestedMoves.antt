@@ -115,21 +115,24 @@ module _ (ws : List ℕ) (s : Subject) (x : Spot) (mv : Move) (h : Moves ws s x 
 
     -- at the first word of an item
     module _ (j : ℕ) (end : P (Instruction j) js) where
-      run_leads : (kind : RunKind) (low high : ℕ) (test : Test) → skip ws (i + 1) ≡ j
+      run_leads : (kind : RunKind) (low high : ℕ) (test : Test) → skip ws (i + 1) ≡ j → P (Instruction i) js
           → ((k : ℕ) → P (Shorter j k) js) → ((n : ℕ) → P (Longer i n) js)
           → Leading (run_turn kind s i (skip ws (i + 1)) low high test x)
-      run_leads GreedyRun low high test e f g =
+      run_leads GreedyRun low high test e own f g =
           let shorter : (k : ℕ) → P (Shorter (skip ws (i + 1)) k) (repeats x.frames) =
           λ k. put P (Shorter (skip ws (i + 1)) k) (Shorter j k) (repeats x.frames) js
           (ap (λ n. Shorter n k) e) at.1 (f k) in
           leads_cond P (nat_lt (longest_run s test high x.position) low) _ _ tt
           (instruction (skip ws (i + 1)) j e end, shorter (longest_run s test high x.position - low))
-      run_leads LazyRun low high test e f g =
+      run_leads LazyRun low high test e own f g =
           leads_cond P (nat_lt (run_length s test low x.position) low) _ _ tt
           (instruction (skip ws (i + 1)) j e end, same (Longer i low) (g low))
-      run_leads PossessiveRun low high test e f g =
-          leads_cond P (nat_lt (longest_run s test high x.position) low) _ _ tt
-          (instruction (skip ws (i + 1)) j e end)
+      run_leads PossessiveRun low high test e own f g =
+          let tail : P (Instruction (skip ws (i + 1))) (repeats x.frames) = instruction (skip ws (i + 1)) j e end in
+          leads_cond P (nat_eq high unlimited) _ _
+          (leads_cond P (nat_lt (run_length s test low x.position) low) _ _ tt
+          (leads_cond P (passes s test (x.position + low)) _ _ (same (Instruction i) own) tail))
+          (leads_cond P (nat_lt (longest_run s test high x.position) low) _ _ tt tail)
 
       reference_leads : (fold : Fold) (n : ℕ) → j ≡ i + 2 → Leading (reference_turn s fold n (i + 2) x)
       reference_leads fold n e = go (group x.marks n)
@@ -165,58 +168,58 @@ module _ (ws : List ℕ) (s : Subject) (x : Spot) (mv : Move) (h : Moves ws s x 
           go None = instruction (i + 1 + word ws (i + 2)) (i + 1 + word ws (i + 2)) refl no_
           go (Some span) = instruction (i + 3) (i + 3) refl yes_
 
-      item_leads : (a : Item) (r : ReadsItem ws i j a)
+      item_leads : P (Instruction i) js → (a : Item) (r : ReadsItem ws i j a)
           → ((pt : Point) (ks : List ℕ) → LiesInItem ws i j a r.1 js pt ks → P pt ks) → Leading mv
-      item_leads Fail r f =
+      item_leads own Fail r f =
           subst (λ a. Leading a) (sym (known opcode.FAILURE ToFail r.0 refl)) tt
-      item_leads (One t) r f =
+      item_leads own (One t) r f =
           let m = known (test_opcode t) (ToTest (test_kind t)) r.0 (test_role t) in
           let e : m.end ≡ j = (test_same m.test t ws i m.end j m.stands.code m.stands.operands r.0 r.1).1 in
           subst (λ a. Leading a) (sym m.is)
           (leads_cond P (passes s m.test x.position) _ _ (instruction m.end j e end) tt)
-      item_leads (At a) r f =
+      item_leads own (At a) r f =
           let m = known opcode.AT ToCheckPosition r.0 refl in
           subst (λ a. Leading a) (sym m.is)
           (leads_cond P (holds_at s m.code x.position) _ _ (instruction (i + 2) j (sym r.1.1) end) tt)
-      item_leads (Mark n) r f =
+      item_leads own (Mark n) r f =
           let m = known opcode.MARK ToMark r.0 refl in
           subst (λ a. Leading a) (sym m.is) (instruction (i + 2) j (sym r.1.1) end)
-      item_leads (Branch ts) r f =
+      item_leads own (Branch ts) r f =
           let m = known opcode.BRANCH ToBranch r.0 refl in
           subst (λ a. Leading a) (sym m) (same (Alternatives (i + 1)) (f _ _ (branches ws (i + 1) j ts r.1 js)))
-      item_leads (Loop o low high body) r f =
+      item_leads own (Loop o low high body) r f =
           let m = known opcode.REPEAT ToRepeat r.0 refl in
           subst (λ a. Leading a) (sym m.is)
           (deeper (Instruction (skip ws (i + 1)))
           (f _ _ (finishes ws (i + 4) (skip ws (i + 1)) body r.1.3 (i ∷ js))))
-      item_leads (Run kind low high t) r f =
+      item_leads own (Run kind low high t) r f =
           let m = known (run_opcode kind) (ToRun kind) r.0 (run_role kind) in
           subst (λ a. Leading a) (sym m.is)
-          (run_leads kind m.low m.high m.test (sym r.1.0) (λ k. f _ _ (inl (k, (refl, refl))))
+          (run_leads kind m.low m.high m.test (sym r.1.0) own (λ k. f _ _ (inl (k, (refl, refl))))
           (λ n. f _ _ (inr (n, (refl, refl)))))
-      item_leads (PossessiveLoop low high body) r f =
+      item_leads own (PossessiveLoop low high body) r f =
           let m = known opcode.POSSESSIVE_REPEAT ToRepeatPossessively r.0 refl in
           subst (λ a. Leading a) (sym m) (deeper Again (f _ _ (inl (refl, refl))))
-      item_leads (Atomic body) r f =
+      item_leads own (Atomic body) r f =
           let m = known opcode.ATOMIC_GROUP ToGroupAtomically r.0 refl in
           subst (λ a. Leading a) (sym m.is) (
             f _ _ (begins ws (i + 2) (j - 1) body r.1.1 []),
             instruction (skip ws (i + 1)) j (sym r.1.0) end,
           )
-      item_leads (Look sign back body) r f =
+      item_leads own (Look sign back body) r f =
           let m = known (look_opcode sign) (ToLook sign) r.0 (look_role sign) in
           subst (λ a. Leading a) (sym m.is)
           (look_leads sign (skip ws (i + 1)) m.back r.1.0 (f _ _ (begins ws (i + 3) (j - 1) body r.1.2 [])))
-      item_leads (Reference fold g) r f =
+      item_leads own (Reference fold g) r f =
           let m = known (reference_opcode fold) ToRefer r.0 (reference_role fold) in
           subst (λ a. Leading a) (sym m.is) (reference_leads m.fold m.number r.1.1)
-      item_leads (Exists g a) r f =
+      item_leads own (Exists g a) r f =
           let m = known opcode.GROUPREF_EXISTS ToCheckGroup r.0 refl in
           subst (λ a. Leading a) (sym m.is)
           (condition_leads m.number (f _ _ (begins ws (i + 3) j a r.1.2 js))
           (put P (Instruction (i + 1 + word ws (i + 2))) (Instruction j) js js
           (ap (λ n. Instruction n) (sym r.1.1)) refl end))
-      item_leads (ExistsElse g a b) r f =
+      item_leads own (ExistsElse g a b) r f =
           let m = known opcode.GROUPREF_EXISTS ToCheckGroup r.0 refl in
           subst (λ a. Leading a) (sym m.is)
           (condition_leads m.number (f _ _ (inl (begins ws (i + 3) (i + 1 + word ws (i + 2) - 2) a r.1.1 js)))
@@ -328,7 +331,8 @@ module _ (ws : List ℕ) (s : Subject) (x : Spot) (mv : Move) (h : Moves ws s x 
         → LiesIn ws i j t r js x.point (repeats x.frames) → Leading mv
     tree_leads i j Empty r js f end y = end y
     tree_leads i j (Then a rest) r js f end (inl y) =
-        item_leads i js y r.0 (f _ _ (inr (inr (begins ws r.0 j rest r.2 js)))) a r.1 (λ pt ks z. f pt ks (inr (inl z)))
+        item_leads i js y r.0 (f _ _ (inr (inr (begins ws r.0 j rest r.2 js)))) (f _ _ (inl (refl, refl))) a r.1
+        (λ pt ks z. f pt ks (inr (inl z)))
     tree_leads i j (Then a rest) r js f end (inr (inl y)) =
         inside_leads i r.0 a r.1.1 js (λ pt ks z. f pt ks (inr (inl z)))
         (f _ _ (inr (inr (begins ws r.0 j rest r.2 js))))

@@ -1,20 +1,22 @@
 -- A run without a greatest count, turn by turn: what comes of it is what comes of the run that begins one character
--- later, and of its own first end. While failures are kept the machine goes by that, so that each end is tried once,
--- from wherever the run is come to. Such a turn has two ways to go on at most, so one toll alone pays for it.
+-- later, and of its own first end; of a possessive one, of one of the two. While failures are kept the machine goes by
+-- that, so that each end is tried once, from wherever the run is come to. Such a turn has two ways to go on at most, so
+-- one toll alone pays for it.
 use Rattle.std.proofs.Common.{◌≡◌, ℕ, suc, ◌+◌, ◌-◌, ◌<◌, ◌≤◌, false, List, ◌∷◌, ◌++◌, refl, sym, ap, ◌∙◌}
 use Rattle.std.proofs.Common.{subst, arith, append-nil}
 use Rattle.sre_chars.specs.declared.constants.SreOpcode.TheVariants as opcode
 use Rattle.sre_chars.specs.declared.string.StringCursor.{StringCursor}
 use Rattle.sre_model.specs.Subject.{Subject, passes}
 use Rattle.sre_model.specs.Ways.{Way, unlimited, run_length, longest_run}
-use Rattle.sre_model.specs.Grammar.{Word, Opcode}
+use Rattle.sre_model.specs.Grammar.{Word, Opcode, skip}
 use Rattle.sre_model.specs.Runs.{Run}
 use Rattle.sre_model.specs.Standing.{HasTest}
 use Rattle.sre_model.proofs.Bounds.{passes-below}
 use Rattle.sre_turns.specs.Board.{Choice, Else, BoardValue}
-use Rattle.sre_turns.specs.Limits.{Limit, earlier, grant, HereIn, Fares, FaresAt, FaresBoth}
+use Rattle.sre_turns.specs.Limits.{Limit, earlier, grant, HereIn, Fares, FaresAt, FaresBoth, Splitting}
 use Rattle.sre_turns.specs.Machine.{Moves, Runs, Comes, splits, Tries, GoesBoth, Later, Waits, otherwise, spot}
 use Rattle.sre_turns.specs.Moves.{Spot, spot_at, Stop, Split}
+use Rattle.sre_turns.specs.MovesInRuns.{RunOperands}
 use Rattle.sre_turns.specs.Potential.{potential_of}
 use Rattle.sre_turns.specs.RunEnds.{AllPass}
 use Rattle.sre_turns.specs.Settled.{Counted}
@@ -23,13 +25,15 @@ use Rattle.sre_turns.specs.declared.Next.TheVariants as next
 use Rattle.sre_turns.specs.declared.Point.TheVariants.{Instruction, Shorter, Longer}
 use Rattle.sre_turns.specs.Confining.{StandsConfined}
 use Rattle.sre_turns.proofs.Confining.{splits_confined, first_confined, first_left}
-use Rattle.sre_turns.proofs.Faring.{fares_less, fares_earlier, first_waits, run_code, instruction_left}
+use Rattle.sre_turns.proofs.Faring.{fares_less, fares_earlier, first_waits, run_code, place_left}
 use Rattle.sre_turns.proofs.HereMoves.{here_moves, here_reached, here_first}
 use Rattle.sre_turns.proofs.Moving.{comes, run_nothing, some_turns, sooner}
 use Rattle.sre_turns.proofs.Onward.{Reaches, all_later}
 use Rattle.sre_turns.proofs.StepsInRuns.{shorter_stop}
 use Rattle.sre_turns.proofs.RunEnds.{longest_reaches, run_moves, run_next, run_only_moves, run_short_moves}
 use Rattle.sre_turns.proofs.LazyRunEnds.{lazy_next, lazy_moves, lazy_stops, longer_stops}
+use Rattle.sre_turns.proofs.PossessiveRunEnds.{onward_stops}
+use Rattle.sre_turns.proofs.StepsInPossessiveRuns.{over_stretch, goes_onward}
 
 -- an instruction further on in the text is within reach
 further_on : (s : Subject) (p q : ℕ) (fs : List Frame) → p ≤ q → q ≤ s.end → Reaches s p p fs q q fs
@@ -48,7 +52,7 @@ tries_nothing r i c b none all limit g = (
     within = omega (arith, some_turns g.runs, g.within);
     fares = λ pl.
         let code = run_code r (spot (Instruction i) c b) g.runs in
-        instruction_left r pl limit _ i (spot (Instruction i) c b) b.choices refl (omega arith)
+        place_left r pl limit _ (spot (Instruction i) c b) b.choices tt (omega arith)
         (g.fares pl code.0 code.1);
     confined = λ none. (g.confined none).others;
   },
@@ -282,6 +286,40 @@ module _ (r : Run) (i low v : ℕ) (w : Opcode r.words i opcode.MIN_REPEAT_ONE) 
       → (all : List Way) (limit : Limit) → Tries r all limit (Instruction i) c b → Later r all limit next.Back b
   lazy_short short all limit g =
       tries_nothing r i c b (lazy_stops r i low v b.frames b.marks w there wv wl wh c.position short) all limit g
+
+-- a possessive one
+module _ (r : Run) (i low : ℕ) (w : Opcode r.words i opcode.POSSESSIVE_REPEAT_ONE) (there : HasTest r.words (i + 4))
+    (wl : Word r.words (i + 2) low) (wh : Word r.words (i + 3) unlimited) (c : StringCursor) (b : BoardValue) where
+  -- its operands
+  possessive_operands : RunOperands r.words i low unlimited there.end there.test
+  possessive_operands = record { lowest = wl; highest = wh; stands = there.stands }
+
+  -- where more than its least count passes, it comes to the run from the next character on
+  pub possessive_on : (d : StringCursor) → AllPass r.subject there.test c.position (c.position + low + 1)
+      → d.position ≡ c.position + 1 → r.stands d d.position → (all : List Way) (limit : Limit)
+      → Tries r all limit (Instruction i) c b → Later r all limit (next.At i d) b
+  possessive_on d all_pass e stands =
+      goes_onward r i low there.end there.test w possessive_operands c d b stands Splitting (λ j. omega arith) all_pass
+      e
+
+  -- where no more passes, to its tail
+  pub possessive_only : (d : StringCursor) → AllPass r.subject there.test c.position (c.position + low)
+      → passes r.subject there.test (c.position + low) ≡ false → d.position ≡ c.position + low → r.stands d d.position
+      → (all : List Way) (limit : Limit) → Tries r all limit (Instruction i) c b
+      → Later r all limit (next.At (skip r.words (i + 1)) d) b
+  possessive_only d all_pass stopped e stands =
+      let same : c.position + low ≡ c.position + low + 0 = omega arith in
+      over_stretch r i low there.end there.test w possessive_operands c d b stands Splitting (λ j. omega arith) 0
+      (λ q from to. all_pass q from (omega (arith, to)))
+      (subst (λ q. passes r.subject there.test q ≡ false) same stopped) (omega (arith, e))
+
+  -- where less passes it comes to nothing
+  pub possessive_short : run_length r.subject there.test low c.position < low
+      → (all : List Way) (limit : Limit) → Tries r all limit (Instruction i) c b → Later r all limit next.Back b
+  possessive_short short all limit g =
+      tries_nothing r i c b
+      (onward_stops r.words r.subject i low there.end there.test b.frames b.marks w possessive_operands c.position
+      short) all limit g
 
 -- the second of two spots waits at a cursor of its own, and the machine goes on at the first
 pub both_wait_there : (r : Run) (i : ℕ) (z : Spot) (c d : StringCursor) (b b' : BoardValue) (cs : List Choice)

@@ -20,9 +20,10 @@ use Rattle.sre_turns.specs.declared.Frame.{Frame}
 use Rattle.sre_turns.specs.declared.Region.TheVariants.{AtomicGroup, Ahead, NotAhead, Owed, Further}
 use Rattle.sre_turns.specs.declared.Region.{Region}
 use Rattle.sre_turns.specs.declared.Point.TheVariants.{Instruction, Alternatives, Shorter, Longer, Inside, Again, Tried}
+use Rattle.sre_turns.specs.declared.Point.TheVariants.{TriedAgain}
 use Rattle.sre_turns.specs.declared.Point.{Point}
 use Rattle.sre_turns.specs.Moves.{Spot, spot_at, to_place, into_region, Move, Stop, End, Go, Split, Enter, closing_move}
-use Rattle.sre_turns.specs.MovesInRuns.{run_turn, ShorterMove, LongerMove}
+use Rattle.sre_turns.specs.MovesInRuns.{onward_turn, run_turn, ShorterMove, LongerMove}
 use Rattle.sre_turns.specs.MovesInLoops.{first_frame, next_frame, at_body, behind, in_order, until_move, again_move}
 use Rattle.sre_turns.specs.MovesInRegions.{look}
 use Rattle.sre_turns.specs.MovesAtReferences.{reference_turn}
@@ -134,6 +135,14 @@ module _ (ws : List ℕ) (s : Subject) (i p : ℕ) (fs : List Frame) (m : Marks)
   here : Reaches s p p fs p p fs
   here = on s p p fs p p (omega arith) (λ l. l)
 
+  onward_reaches : (t low : ℕ) (test : Test) → Leading (onward_turn s i t low test standing)
+  onward_reaches t low test =
+      cond_reaches s p p fs (nat_lt (run_length s test low p) low) Stop _ (λ e. tt)
+      (λ e. cond_reaches s p p fs (passes s test (p + low)) _ _
+      (λ more. on s p p fs (p + 1) (p + 1) (omega arith)
+      (λ l. let inside = passes-below s test (p + low) more in omega (arith, inside)))
+      (λ more. on s p p fs (p + low) (p + low) (omega arith) (λ l. least_fits s test low p l e)))
+
   run_reaches : (kind : RunKind) (t low high : ℕ) (test : Test) → Leading (run_turn kind s i t low high test standing)
   run_reaches GreedyRun t low high test =
       let k : ℕ = longest_run s test high p in
@@ -147,8 +156,9 @@ module _ (ws : List ℕ) (s : Subject) (i p : ℕ) (fs : List Frame) (m : Marks)
       (y, y))
   run_reaches PossessiveRun t low high test =
       let k : ℕ = longest_run s test high p in
-      cond_reaches s p p fs (nat_lt k low) Stop _ (λ e. tt)
-      (λ e. on s p p fs (p + k) (p + k) (omega arith) (λ l. longest_run-fits s test high p l))
+      cond_reaches s p p fs (nat_eq high unlimited) _ _ (λ e. onward_reaches t low test)
+      (λ e. cond_reaches s p p fs (nat_lt k low) Stop _ (λ e. tt)
+      (λ e. on s p p fs (p + k) (p + k) (omega arith) (λ l. longest_run-fits s test high p l)))
 
   reference_reaches : (fold : Fold) (n t : ℕ) → Leading (reference_turn s fold n t standing)
   reference_reaches fold n t = go (group m n)
@@ -261,6 +271,7 @@ module _ (ws : List ℕ) (s : Subject) (fs : List Frame) (p : ℕ) (m : Marks) w
       subst (Reaching s p p fs) (sym h.is)
       (again_reaches ws s 0 p fs m h.frame h.outer h.inside h.low h.high (skip ws (h.frame.repeat + 1)))
   point_reaches (Tried i) a h = absurd h
+  point_reaches TriedAgain a h = absurd h
 
 -- what comes of a region goes on from where it was entered, or from where its body ends
 outer_begun : (p : ℕ) (fs : List Frame) → AllBegunBy p fs → AllBegunBy p (drop 1 fs)
@@ -328,6 +339,7 @@ least_position (Longer i n) p = omega arith
 least_position (Inside g) p = omega arith
 least_position Again p = omega arith
 least_position (Tried i) p = omega arith
+least_position TriedAgain p = omega arith
 
 -- so the outcomes of a spot end no earlier, and in the window
 module _ (ws : List ℕ) (s : Subject) where

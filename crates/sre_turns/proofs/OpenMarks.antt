@@ -28,7 +28,7 @@ apart : (r : Run) → (HasReference r.words → ⊥) → (x : Spot) (os : List W
 apart r none x os n d [] l wt = tt
 apart r none x os n d (Else pt fs c m ∷ cs) l (otherwise there placed e wt) =
     apart r none x os n d cs (omega arith) wt
-apart r none x os n d (Trying j fs c m ∷ cs) l (tried there placed e most same wt) = (
+apart r none x os n d (Trying pt fs c m ∷ cs) l (tried there placed e most same wt) = (
   λ alike. absurd (omega (arith, (same_comes r.words r.subject none alike e d).1, l, most)),
   apart r none x os n d cs l wt,
 )

@@ -21,16 +21,18 @@ use Rattle.sre_model.proofs.Places.{test_past}
 use Rattle.sre_model.proofs.Longest.{run_at_most, run_inside}
 use Rattle.sre_turns.specs.declared.Frame.{Frame}
 use Rattle.sre_turns.specs.declared.Region.{Region}
+use Rattle.sre_turns.specs.declared.Region.TheVariants.{Owed, Further}
 use Rattle.sre_turns.specs.declared.Point.TheVariants.{Instruction, Alternatives, Shorter, Longer, Inside, Again, Tried}
+use Rattle.sre_turns.specs.declared.Point.TheVariants.{TriedAgain}
 use Rattle.sre_turns.specs.declared.Point.{Point}
 use Rattle.sre_turns.specs.Moves.{Spot, spot_at, to_place, into_region, Move, Stop, End, Go, Split, Enter, closing_move}
 use Rattle.sre_turns.specs.MovesInRuns.{run_turn}
-use Rattle.sre_turns.specs.MovesInLoops.{at_body, behind, in_order, until_move}
+use Rattle.sre_turns.specs.MovesInLoops.{at_body, behind, in_order, until_move, enter_body, AgainMove}
 use Rattle.sre_turns.specs.MovesInRegions.{look}
 use Rattle.sre_turns.specs.MovesAtReferences.{reference_turn, condition_place}
 use Rattle.sre_turns.specs.Machine.{InRole, MovesAt}
 use Rattle.sre_turns.specs.Potential.{path, alternatives_in, alternatives, most_ends, more_ends, potential}
-use Rattle.sre_turns.specs.Potential.{potential_of, units, Spends}
+use Rattle.sre_turns.specs.Potential.{potential_of, units, held, Spends}
 use Rattle.sre_turns.specs.Limits.{grant, pool}
 use Rattle.sre_model.proofs.Bounds.{passes-below}
 
@@ -46,7 +48,7 @@ Spent E ws e n Stop = 1 ≤ n
 Spent E ws e n End = 3 ≤ n
 Spent E ws e n (Go y) = potential_of ws e y + 1 ≤ n
 Spent E ws e n (Split y z) = potential_of ws e y + potential_of ws e z + 2 ≤ n
-Spent E ws e n (Enter g y z) = E × (potential_of ws e z + 1 ≤ n)
+Spent E ws e n (Enter g y z) = E × (potential_of ws e z + held ws g + 1 ≤ n)
 
 spends : (E : Type 0) (ws : List ℕ) (e n : ℕ) (mv : Move) → Spent E ws e n mv → Spends ws e n mv
 spends E ws e n Stop h = h
@@ -195,8 +197,12 @@ module _ (ws : List ℕ) (s : Subject) where
         pays_cond (ToRun LazyRun) (nat_lt (run_length s test low p) low) _ _ (λ e. stopped (ToRun LazyRun))
         (λ e. ends_by_toll t (more_ends ws s.end i low (p + low)) (ends_fit ws s.end i low (p + low)))
     run_pays PossessiveRun t low high test l is =
-        pays_cond (ToRun PossessiveRun) (nat_lt (longest_run s test high p) low) _ _
-        (λ e. stopped (ToRun PossessiveRun)) (λ e. forward (ToRun PossessiveRun) t l)
+        pays_cond (ToRun PossessiveRun) (nat_eq high unlimited) _ _
+        (λ e. pays_cond (ToRun PossessiveRun) (nat_lt (run_length s test low p) low) _ _
+        (λ e. stopped (ToRun PossessiveRun))
+        (λ e. pays_cond (ToRun PossessiveRun) (passes s test (p + low)) _ _ (λ e. by_toll i) (λ e. by_toll t)))
+        (λ e. pays_cond (ToRun PossessiveRun) (nat_lt (longest_run s test high p) low) _ _
+        (λ e. stopped (ToRun PossessiveRun)) (λ e. by_toll t))
 
     reference_pays : (fold : Fold) (n : ℕ) → Pays ToRefer (reference_turn s fold n (i + 2) standing)
     reference_pays fold n = go (group m n)
@@ -218,10 +224,10 @@ module _ (ws : List ℕ) (s : Subject) where
         (Enter (look sign t) standing (into_region standing (i + 3) (p - back))))
     look_pays Positive t back l =
         pays_cond (ToLook Positive) (nat_lt p back) _ _ (λ e. stopped (ToLook Positive))
-        (λ e. (refl, forward (ToLook Positive) (i + 3) (omega arith)))
+        (λ e. (refl, omega (arith, forward (ToLook Positive) (i + 3) (omega arith))))
     look_pays Negative t back l =
         pays_cond (ToLook Negative) (nat_lt p back) _ _ (λ e. forward (ToLook Negative) t l)
-        (λ e. (refl, forward (ToLook Negative) (i + 3) (omega arith)))
+        (λ e. (refl, omega (arith, forward (ToLook Negative) (i + 3) (omega arith))))
 
     order_pays : (o : Order) (f : Frame) (last : Option ℕ) (outer : List Frame)
         → Pays (ToLoop o) (in_order o (at_body f last outer standing) (behind i outer standing))
@@ -270,10 +276,11 @@ module _ (ws : List ℕ) (s : Subject) where
     role_pays ToRepeat a h = subst (λ move. Pays ToRepeat move) (sym h.is) (omega (arith, by_toll (skip ws (i + 1))))
     role_pays (ToLoop o) a h =
         subst (λ move. Pays (ToLoop o) move) (sym h.is) (until_pays o h.low h.high h.frame h.outer)
-    role_pays ToRepeatPossessively a h = subst (λ move. Pays ToRepeatPossessively move) (sym h) (omega arith)
+    role_pays ToRepeatPossessively a h =
+        subst (λ move. Pays ToRepeatPossessively move) (sym h) (omega (arith, units_pay ws 0 0 (omega arith)))
     role_pays ToGroupAtomically a h =
         subst (λ move. Pays ToGroupAtomically move) (sym h.is)
-        (refl, forward ToGroupAtomically (i + 2) (omega arith))
+        (refl, omega (arith, forward ToGroupAtomically (i + 2) (omega arith)))
     role_pays (ToLook sign) a h =
         subst (λ move. Pays (ToLook sign) move) (sym h.is) (look_pays sign (skip ws (i + 1)) h.back (omega arith))
     role_pays ToRefer a h = subst (λ move. Pays ToRefer move) (sym h.is) (reference_pays h.fold h.number)
@@ -337,6 +344,7 @@ point_spent ws s (Longer i c) fs p m a n k h =
 point_spent ws s (Inside g) fs p m a n k h = absurd h
 point_spent ws s Again fs p m a n k h = absurd (k refl)
 point_spent ws s (Tried i) fs p m a n k h = absurd h
+point_spent ws s TriedAgain fs p m a n k h = absurd h
 
 pub instruction_spends : (ws : List ℕ) (s : Subject) (i p : ℕ) (fs : List Frame) (m : Marks) (o : SreOpcode)
     (mv : Move)
@@ -345,6 +353,23 @@ pub instruction_spends : (ws : List ℕ) (s : Subject) (i p : ℕ) (fs : List Fr
 instruction_spends ws s i p fs m o mv w h =
     spends (enters (role o) ≡ true) ws s.end (pool ws s.end o (Instruction i) p) mv
     (instruction_spent ws s i p fs m o mv w h)
+
+-- at a possessive loop one toll pays for a body, and for what is put aside there, or for the loop's end
+pub again_spends : (ws : List ℕ) (s : Subject) (o : SreOpcode) (x : Spot) (mv : Move) → AgainMove ws x mv
+    → Spends ws s.end (pool ws s.end o Again x.position) mv
+again_spends ws s o x mv h =
+    subst (λ move. Spends ws s.end (pool ws s.end o Again x.position) move) (sym h.is)
+    (go (nat_lt h.frame.count h.low) (may_repeat h.high h.frame.count h.frame.last x.position))
+  where
+    u : ℕ
+    u = skip ws (h.frame.repeat + 1)
+
+    go : (owed more : Bool) → Spends ws s.end (pool ws s.end o Again x.position)
+        (cond owed (enter_body Owed h.frame h.frame.last h.outer x)
+        (cond more (enter_body (Further (u + 1)) h.frame (Some x.position) h.outer x) (Go (behind u h.outer x))))
+    go true more = omega arith
+    go false true = omega arith
+    go false false = omega arith
 
 -- which roles enter a region
 pub entry_role : (ws : List ℕ) (s : Subject) (i p : ℕ) (fs : List Frame) (m : Marks) (o : SreOpcode) (g : Region)

@@ -128,25 +128,6 @@ longest_later r t p count e l =
     subst (λ q. passes r.subject t q ≡ false) there
     (run_stopped r.subject t (r.subject.end - p) p (omega (arith, e, short, l))))
 
--- a run that begins within the characters of another ends where that one ends. This waits for a memory of where
--- possessive runs end, which go over the same characters from each place
-pub longest_within : (r : Run) (t : Test) (p q e : ℕ) → AllPass r.subject t p e → passes r.subject t e ≡ false
-    → p ≤ q → q ≤ e → longest_run r.subject t unlimited q ≡ e - q
-longest_within r t p q e all_pass stopped from to =
-    run_has r.subject t (r.subject.end - q) q (e - q) (inside (nat_lt q e) refl)
-    (λ c before. all_pass (q + c) (omega (arith, from)) (omega (arith, before)))
-    (λ short.
-    let there : e ≡ q + (e - q) = omega (arith, to) in
-    subst (λ z. passes r.subject t z ≡ false) there stopped)
-  where
-    inside : (b : Bool) → nat_lt q e ≡ b → e - q ≤ r.subject.end - q
-    inside true y =
-        let some : q < e = grind (arith, nat_tests) in
-        let last = passes-below r.subject t (e - 1)
-        (all_pass (e - 1) (omega (arith, some, from)) (omega (arith, some))) in
-        omega (arith, last, some)
-    inside false y = let none : e ≤ q = grind (arith, nat_tests) in omega (arith, none)
-
 -- a run is as long as its characters pass
 pub longest_reaches : (r : Run) (t : Test) (p q : ℕ) → AllPass r.subject t p q
     → q ≤ p + longest_run r.subject t unlimited p

@@ -1,26 +1,23 @@
 -- In words whose turns are counted each turn of a settled spot leads to settled spots, but for the body of a region.
 -- The law that a search takes few turns (`enough` of sre_engine) rests on this.
-use Rattle.std.proofs.Common.{◌≡◌, ℕ, ◌-◌, ◌*◌, ◌≤◌, false, List, [], length, subst}
+use Rattle.std.proofs.Common.{ℕ, ◌*◌, ◌≤◌, List, []}
 use Rattle.std.specs.Bool.{⊤}
 use Rattle.sre_model.specs.Tree.{Tree}
 use Rattle.sre_model.specs.Marks.{Marks}
 use Rattle.sre_model.specs.Subject.{Subject}
 use Rattle.sre_model.specs.Grammar.{WholeItems}
 use Rattle.sre_model.specs.Prefixes.{ReadsBehind}
-use Rattle.sre_model.specs.Regions.{has_uncounted_region}
 use Rattle.sre_model.specs.Standing.{AreWords}
-use Rattle.sre_turns.specs.declared.Point.TheVariants.{Instruction, Again}
+use Rattle.sre_turns.specs.declared.Point.TheVariants.{Instruction}
 use Rattle.sre_turns.specs.Moves.{Spot, spot_at, Move, Stop, End, Go, Split, Enter}
 use Rattle.sre_turns.specs.Machine.{Moves}
 use Rattle.sre_turns.specs.Alike.{least_from}
-use Rattle.sre_turns.specs.Nested.{repeats, Lies, Leads, Passed, InWindow}
+use Rattle.sre_turns.specs.Nested.{Lies, Leads, Passed, InWindow}
 use Rattle.sre_turns.specs.Settled.{Settled}
 use Rattle.sre_turns.proofs.Onward.{Onward, onward-less, point-onward}
 use Rattle.sre_turns.proofs.NestedMoves.{lies_moves}
 use Rattle.sre_turns.proofs.NestedPositions.{passed_moves, window_moves}
 use Rattle.sre_turns.proofs.NestedStarts.{lies_first, lies_behind}
-use Rattle.sre_turns.specs.Straight.{IsBodyIn}
-use Rattle.sre_turns.proofs.Straight.{Entry, IsStraight, counted_entry}
 
 -- each spot to which a turn leads outside of the regions that it enters is one of some kind
 abbrev pub OntoOutside : (Spot → Type 0) → Move → Type 0
@@ -29,13 +26,6 @@ OntoOutside P End = ⊤
 OntoOutside P (Go y) = P y
 OntoOutside P (Split y z) = P y × P z
 OntoOutside P (Enter g y z) = ⊤
-
--- a spot in words whose turns are counted is never at a possessive loop
-pub never_again : (ws : List ℕ) (t : Tree) (w : WholeItems ws t) → has_uncounted_region t ≡ false → (x : Spot)
-    → x.point ≡ Again → Lies ws t w x → ⊥
-never_again ws t w e x a y =
-    subst (λ pt. Entry ws (IsBodyIn t) IsStraight pt) a
-    (counted_entry t ws 0 (length ws - 1) t w.0 w.1 e (λ f. f) x.point (repeats x.frames) y)
 
 -- what each turn keeps
 module _ (ws : List ℕ) (s : Subject) (t : Tree) (w : WholeItems ws t) (start : ℕ) where

@@ -131,7 +131,7 @@ first_waits r [] w rest {all = all} none y (outermost begins) =
     begun_by (v ∷ others) e = (others, cc)
 first_waits r (Else pt fs c m ∷ cs) w rest none y (otherwise {os = os} there placed d wt) =
     first_waits r cs w (rest ++ os) none y wt
-first_waits r (Trying i fs c m ∷ cs) w rest none y (tried there placed d most same wt) =
+first_waits r (Trying pt fs c m ∷ cs) w rest none y (tried there placed d most same wt) =
     first_waits r cs w rest none y wt
 first_waits r (Keep g fs c m ∷ cs) w rest none y wt = absurd (cc)
 
@@ -141,7 +141,7 @@ pub refused_waits : (r : Run) (cs : List Choice) (w : Way) (rest : List Way) {al
 refused_waits r [] w rest none n (outermost begins) = outermost (rw n at begins)
 refused_waits r (Else pt fs c m ∷ cs) w rest none n (otherwise {os = os} there placed d wt) =
     otherwise there placed d (refused_waits r cs w (rest ++ os) none n wt)
-refused_waits r (Trying i fs c m ∷ cs) w rest none n (tried {os = os} there placed d most same wt) =
+refused_waits r (Trying pt fs c m ∷ cs) w rest none n (tried {os = os} there placed d most same wt) =
     let outside : is_inside cs ≡ false = none_inside cs none in
     let was : SameFruit r false os (w ∷ rest) = subst (λ b. SameFruit r b os (w ∷ rest)) outside same in
     let left : SameFruit r (is_inside cs) os rest =

@@ -1,6 +1,6 @@
 -- Turns at a possessive loop: POSSESSIVE_REPEAT, and a body or the end.
 use Rattle.std.proofs.Common.{◌≡◌, ℕ, ◌+◌, ◌<◌, ◌≤◌, true, false, nat_lt, List, [], ◌∷◌, length, drop, Option, Some}
-use Rattle.std.proofs.Common.{refl, sym, ◌∙◌, subst, arith}
+use Rattle.std.proofs.Common.{refl, sym, ap, ◌∙◌, subst, arith}
 use Rattle.std.proofs.lemmas.Bool.Decides.{nat_tests}
 use Rattle.sre_chars.specs.declared.constants.SreOpcode.TheVariants as opcode
 use Rattle.sre_chars.specs.declared.string.StringCursor.{StringCursor}
@@ -12,6 +12,7 @@ use Rattle.sre_turns.specs.declared.Region.{Region}
 use Rattle.sre_turns.specs.declared.Region.TheVariants.{Owed, Further}
 use Rattle.sre_turns.specs.declared.Point.TheVariants.{Instruction, Again}
 use Rattle.sre_turns.specs.Moves.{Move, Go}
+use Rattle.sre_turns.specs.Nested.{repeats, place_under, place_of}
 use Rattle.sre_turns.specs.MovesInLoops.{first_frame, next_frame, enter_body, again_move}
 use Rattle.sre_turns.specs.Limits.{Limit}
 use Rattle.sre_turns.specs.Machine.{Moves, Runs, turns, Goes, Later, spot, IsAt}
@@ -48,6 +49,17 @@ again_operands r c b f x e = go x.runs
         let frames : h.frame ∷ h.outer ≡ f ∷ drop 1 b.frames = sym h.inside ∙ e in
         let frame : h.frame ≡ f = cc in
         word_within r.words (f.repeat + 3) h.high (subst (λ g. Word r.words (g.repeat + 3) h.high) frame h.highest)
+
+-- so it has a place within the words
+pub again_place : (r : Run) (c : StringCursor) (b : BoardValue) {os : List Way} {n : ℕ}
+    → Runs r.words r.subject (spot Again c b) os n
+    → (place : ℕ) × (place_of (spot Again c b) ≡ Some place) × (place < length r.words)
+again_place r c b (turns mv h d) =
+    let high = word_within r.words (h.frame.repeat + 3) h.high h.highest in (
+      h.frame.repeat + 1,
+      ap (λ fs. place_under Again (repeats fs)) h.inside,
+      omega (arith, high),
+    )
 
 again_at : (r : Run) (v low high : ℕ) (c : StringCursor) (b : BoardValue) (f : Frame) (mv : Move)
     → InPossessiveLoop r v low high b f

@@ -20,12 +20,12 @@ use Rattle.sre_turns.specs.Bodies.{MarklessRegions}
 use Rattle.sre_turns.specs.Confining.{ConfinedInside, AllConfined, ChoicesConfined, StandsConfined}
 use Rattle.sre_turns.specs.Fruit.{is_inside}
 use Rattle.sre_turns.specs.Nested.{repeats, ClosesAt}
+use Rattle.sre_turns.specs.Straight.{point_behind}
 use Rattle.sre_turns.specs.Settled.{Counted}
 use Rattle.sre_turns.proofs.Confining.{region_confined}
-use Rattle.sre_turns.proofs.FaringInRegions.{cut_fares, region_on, region_off, region_never}
+use Rattle.sre_turns.proofs.FaringInRegions.{cut_fares, region_on, region_off, loop_left}
 use Rattle.sre_turns.specs.Limits.{Limit, earlier, without_open, FaresAt, FaresBack, FaresEnd}
 use Rattle.sre_turns.specs.Potential.{potential, potential_of}
-use Rattle.sre_turns.specs.Straight.{is_possessive}
 use Rattle.sre_turns.specs.Machine.{Moves, Runs, Comes, stops, goes, Waits, kept, Goes, Arrives, Placed, Ends}
 use Rattle.sre_model.specs.Runs.{Run}
 use Rattle.sre_turns.specs.Machine.{Later, spot, HasRun, after_outcome, without_outcome, without_loop}
@@ -169,9 +169,12 @@ module _ (r : Run) (c d : StringCursor) (b b' : BoardValue) where
   abbrev Ending : Limit → Region → Marks → Type 0
   Ending limit g m = (pl : Counted r) → FaresEnd r pl limit c.position (Keep g b'.frames d m ∷ b'.choices)
 
-  ends_never : (limit : Limit) (g : Region) (m : Marks) → Ending limit g m → is_possessive g ≡ true → Counted r → ⊥
-  ends_never limit g m left e pl =
-      region_never r pl limit g b'.frames d m b'.choices (left pl).fares e
+  -- it goes on behind the region from a position
+  ends_on : (limit : Limit) (g : Region) (m : Marks) → Ending limit g m → (pl : Counted r) (q : ℕ) → d.position ≤ q
+      → q ≤ r.subject.end
+      → FaresAt r pl (earlier limit) (potential r.words r.subject.end (point_behind g) q)
+      (spot_at (point_behind g) b'.frames q b'.marks) b'.choices
+  ends_on limit g m left pl q = region_on r pl limit g b'.frames d m b'.choices 2 (left pl).fares q b'.marks
 
   region_ends : (g : Region) → Closing g → (m : Marks) (us all : List Way) (limit : Limit) (j later : ℕ)
       → Ending limit g m → b'.marks ≡ b.marks → r.stands c c.position → Placed r.subject b.marks
@@ -179,22 +182,21 @@ module _ (r : Run) (c d : StringCursor) (b b' : BoardValue) where
       → j ≤ later → later + 1 ≤ limit.turns → Later r all limit (after_outcome g c d) b'
   region_ends (AtomicGroup t) lies m us all limit j later left em there placed (kept at _ f wt) l k =
       ends_go limit (Instruction t) c
-      (λ pl. region_on r pl limit (AtomicGroup t) b'.frames d m b'.choices (left pl).fares c.position b'.marks
-      ((left pl).at.0 refl) (left pl).at.1)
+      (λ pl. ends_on limit (AtomicGroup t) m left pl c.position ((left pl).at.0 refl) (left pl).at.1)
       (λ none. goes_on (lies none)) there placed em f wt (omega arith) l k
   region_ends (Ahead t) lies m us all limit j later left em there placed (kept at _ f wt) l k =
       ends_go limit (Instruction t) d
-      (λ pl. region_on r pl limit (Ahead t) b'.frames d m b'.choices (left pl).fares d.position b'.marks
-      (omega arith) (left pl).fares.settled.0.inside)
+      (λ pl. ends_on limit (Ahead t) m left pl d.position (omega arith) (left pl).fares.settled.0.inside)
       (λ none. goes_on (lies none)) at placed em f wt (omega arith) l k
   region_ends (NotAhead t) lies m us all limit j later left em there placed (kept at _ f wt) l k =
-      ends_stop limit (λ pl. region_off r pl limit (NotAhead t) b'.frames d m b'.choices (left pl).fares)
+      ends_stop limit (λ pl. region_off r pl limit (NotAhead t) b'.frames d m b'.choices 2 (left pl).fares)
       (λ none. record { each = (lies none).1 }) f wt (omega arith) l k
   region_ends Owed lies m us all limit j later left em there placed (kept at _ f wt) l k =
-      ends_go limit Again c (λ pl. absurd (ends_never limit Owed m left refl pl))
+      ends_go limit Again c (λ pl. ends_on limit Owed m left pl c.position ((left pl).at.0 refl) (left pl).at.1)
       (λ none. goes_on (lies none)) there placed em f wt (omega arith) l k
   region_ends (Further t) lies m us all limit j later left em there placed (kept at _ f wt) l k =
-      ends_go limit Again c (λ pl. absurd (ends_never limit (Further t) m left refl pl))
+      ends_go limit Again c
+      (λ pl. ends_on limit (Further t) m left pl c.position ((left pl).at.0 refl) (left pl).at.1)
       (λ none. goes_on ((lies none).0.0, (lies none).1)) there placed em f wt (omega arith) l k
 
   pub region_closes : (g : Region) → Cuts b g d b' → (all : List Way) (limit : Limit) → Ends r all limit c b
@@ -257,7 +259,7 @@ module _ (r : Run) (c : StringCursor) (b' : BoardValue) where
 
   back_off : (limit : Limit) (g : Region) → Going limit g → (pl : Counted r)
       → FaresBack r pl (earlier limit) b'.choices
-  back_off limit g left pl = region_off r pl limit g b'.frames c b'.marks b'.choices (left pl)
+  back_off limit g left pl = region_off r pl limit g b'.frames c b'.marks b'.choices 0 (left pl)
 
   pub region_back : (g : Region)
       → (MarklessRegions r.words → AllConfined r.words (Keep g b'.frames c b'.marks ∷ b'.choices))
@@ -270,12 +272,12 @@ module _ (r : Run) (c : StringCursor) (b' : BoardValue) where
       back_stop limit (back_off limit (Ahead t) left) (λ none. record { each = (lies none).1 }) f wt l
   region_back (NotAhead t) lies all limit k left (kept at placed f wt) l =
       back_go limit t b'.frames
-      (λ pl. region_on r pl limit (NotAhead t) b'.frames c b'.marks b'.choices (left pl) c.position b'.marks
+      (λ pl. region_on r pl limit (NotAhead t) b'.frames c b'.marks b'.choices 0 (left pl) c.position b'.marks
       (omega arith) (left pl).settled.0.inside)
       lies at placed f wt l
   region_back Owed lies all limit k left (kept at _ f wt) l =
       back_stop limit (back_off limit Owed left) (λ none. record { each = (lies none).1 }) f wt l
   region_back (Further t) lies all limit k left (kept at placed f wt) l =
       back_go limit t (drop 1 b'.frames)
-      (λ pl. absurd (region_never r pl limit (Further t) b'.frames c b'.marks b'.choices (left pl) refl))
+      (λ pl. loop_left r pl limit t b'.frames c b'.marks b'.choices 0 (left pl) b'.marks)
       (λ none. ((lies none).0.1, (lies none).1)) at placed f wt l

@@ -4,7 +4,7 @@ use Rattle.std.proofs.Common.{nat_eq, nat_lt, List, [], length, Option, refl, sy
 use Rattle.std.proofs.lemmas.Bool.Decides.{nat_tests}
 use Rattle.sre_chars.specs.declared.constants.SreOpcode.TheVariants as opcode
 use Rattle.sre_chars.specs.declared.string.StringCursor.{StringCursor}
-use Rattle.sre_model.specs.Tree.{Test, RunKind, GreedyRun, LazyRun, PossessiveRun}
+use Rattle.sre_model.specs.Tree.{Test, RunKind, GreedyRun, LazyRun}
 use Rattle.sre_model.specs.Marks.{Marks}
 use Rattle.sre_model.specs.Subject.{passes, char_at}
 use Rattle.sre_model.specs.Characters.{holds}
@@ -14,7 +14,7 @@ use Rattle.sre_turns.specs.Board.{BoardValue}
 use Rattle.sre_turns.specs.declared.Frame.{Frame}
 use Rattle.sre_turns.specs.declared.Point.{Point}
 use Rattle.sre_turns.specs.declared.Point.TheVariants.{Instruction, Shorter, Longer}
-use Rattle.sre_turns.specs.Moves.{spot_at, Stop, Split, Go}
+use Rattle.sre_turns.specs.Moves.{spot_at, Stop, Split}
 use Rattle.sre_turns.specs.MovesInRuns.{RunOperands}
 use Rattle.sre_turns.specs.OperandsOfRuns.{OperandsOfRun}
 use Rattle.sre_turns.specs.Limits.{Limit}
@@ -29,7 +29,7 @@ use Rattle.sre_model.proofs.Words.{opcode_within}
 use Rattle.sre_model.proofs.Passing.{past_end, read_passes, other_taken}
 use Rattle.sre_model.proofs.Longest.{goes_on, run_passes, run_at_most, run_inside, run_none}
 use Rattle.sre_turns.proofs.Moving.{in_role, at_instruction, has_run, run_splits, turn_stops, turn_splits, both_last}
-use Rattle.sre_turns.proofs.Moving.{turn_goes, run_nothing, run_second}
+use Rattle.sre_turns.proofs.Moving.{run_nothing, run_second}
 use Rattle.sre_turns.proofs.StepsInBranches.{positive}
 
 -- shorter counts
@@ -117,7 +117,7 @@ pub operands_within : (ws : List ℕ) (i : ℕ) → HasTest ws (i + 4) → i + 4
 operands_within ws i t = opcode_within ws (i + 4) (test_opcode t.test) t.stands.code
 
 -- as a turn at a run has them
-stands_of : (ws : List ℕ) (i tail low high : ℕ) (o : OperandsOfRun ws i tail low high)
+pub stands_of : (ws : List ℕ) (i tail low high : ℕ) (o : OperandsOfRun ws i tail low high)
     → RunOperands ws i low high o.test.end o.test.test
 stands_of ws i tail low high o = record { lowest = o.lowest; highest = o.highest; stands = o.test.stands }
 
@@ -253,43 +253,6 @@ run_refuses r i tail low high p w o none fs m os n d =
         })) (λ os' n' e. none (p + count) (omega arith) fs m os' n' e) d in
         shorter_exhausted r tail (count - low) (p + count) (λ q from to. none q (omega (arith, from, l))) fs m os rest.0
         rest.2
-
--- POSSESSIVE_REPEAT_ONE
-module _ (r : Run) (i tail low high count : ℕ) (c : StringCursor) (b : BoardValue)
-    (w : Opcode r.words i opcode.POSSESSIVE_REPEAT_ONE) (o : OperandsOfRun r.words i tail low high)
-    (k : CountsRun r i high c.position count) where
-  longest_is : longest_run r.subject o.test.test high c.position ≡ count
-  longest_is = sym (k o.test.end o.test.test o.test.stands)
-
-  pub longest_short : count < low → (all : List Way) (limit : Limit) → Goes r all limit (Instruction i) c b
-      → Later r all limit next.Back b
-  longest_short l =
-      let short : nat_lt count low ≡ true = grind (arith, nat_tests) in
-      turn_stops r (Instruction i) c b (at_instruction opcode.POSSESSIVE_REPEAT_ONE (ToRun PossessiveRun) refl w
-      (record {
-        low = low;
-        high = high;
-        end = o.test.end;
-        test = o.test.test;
-        operands = stands_of r.words i tail low high o;
-        is = rw (longest_is, short) refl;
-      }))
-
-  pub longest_step : (after : StringCursor) → low ≤ count → after.position ≡ c.position + count
-      → r.stands after after.position → (all : List Way) (limit : Limit) → Goes r all limit (Instruction i) c b
-      → Later r all limit (next.At tail after) b
-  longest_step after l moved_on there all limit g =
-      let enough : nat_lt count low ≡ false = grind (arith, nat_tests) in
-      let move : Moves r.words r.subject (spot (Instruction i) c b) (Go (spot (Instruction tail) after b)) =
-      at_instruction opcode.POSSESSIVE_REPEAT_ONE (ToRun PossessiveRun) refl w (record {
-        low = low;
-        high = high;
-        end = o.test.end;
-        test = o.test.test;
-        operands = stands_of r.words i tail low high o;
-        is = rw (longest_is, enough, moved_on, o.leads) refl;
-      }) in
-      turn_goes r (Instruction i) c b (Instruction tail) after b move there g.placed refl all limit g
 
 -- MIN_REPEAT_ONE: how many of the first characters pass, whatever test stands there
 abbrev pub CountsUpTo : Run → ℕ → ℕ → ℕ → ℕ → Type 0

@@ -1,5 +1,5 @@
--- An instruction that is tried: a mark waits below all that comes of it, and where that mark is come to again, nothing
--- came of the instruction, and nothing will.
+-- An instruction or a possessive loop that is tried: a mark waits below all that comes of it, and where that mark is
+-- come to again, nothing came of it, and nothing will.
 use Rattle.std.proofs.Common.{◌≡◌, ℕ, ◌+◌, ◌≤◌, Bool, List, [], ◌∷◌, drop, ap, refl, sym, subst, arith}
 use Rattle.sre_chars.specs.declared.string.StringCursor.{StringCursor}
 use Rattle.sre_model.specs.Marks.{Marks}
@@ -9,7 +9,7 @@ use Rattle.sre_turns.specs.Board.{Trying, BoardValue}
 use Rattle.sre_turns.specs.Moves.{Spot}
 use Rattle.sre_turns.specs.Asked.{MarksAlike}
 use Rattle.sre_turns.specs.declared.Frame.{Frame}
-use Rattle.sre_turns.specs.declared.Point.TheVariants.{Instruction}
+use Rattle.sre_turns.specs.declared.Point.{Point}
 use Rattle.sre_turns.specs.declared.Next.TheVariants as next
 use Rattle.sre_turns.specs.Limits.{Limit, attempt, with_tried, without_tried, Stage, Going, Splitting, spare, FaresBack}
 use Rattle.sre_turns.specs.Settled.{Counted}
@@ -22,15 +22,15 @@ use Rattle.sre_turns.proofs.FirstOutcomes.{first_none}
 use Rattle.sre_turns.proofs.Hopeless.{hopeless_again, fruitless_waits, fruitless_none}
 use Rattle.sre_turns.specs.Potential.{potential_of}
 use Rattle.sre_turns.proofs.Moving.{sooner, some_turns}
-use Rattle.sre_turns.proofs.Faring.{run_code, instruction_left}
+use Rattle.sre_turns.proofs.Faring.{run_code, run_place, place_left}
 
--- an instruction is tried: its mark waits
-tried_with : (stage : Stage) → spare stage ≡ 0 → (r : Run) (i : ℕ) (c : StringCursor) (b b' : BoardValue)
-    → b' ≡ record b { choices = Trying i b.frames c b.marks ∷ b.choices }
-    → (all : List Way) (limit : Limit) → GoesWith stage r all limit (Instruction i) c b
-    → GoesWith stage r all (with_tried (attempt b.choices (spot (Instruction i) c b)) limit) (Instruction i) c b'
-tried_with stage none r i c b b' e all limit g =
-    subst (λ x. GoesWith stage r all (with_tried (attempt b.choices (spot (Instruction i) c b)) limit) (Instruction i) c x) (sym e)
+-- what is tried has its mark wait
+tried_with : (stage : Stage) → spare stage ≡ 0 → (r : Run) (pt : Point) (c : StringCursor) (b b' : BoardValue)
+    → b' ≡ record b { choices = Trying pt b.frames c b.marks ∷ b.choices }
+    → (all : List Way) (limit : Limit) → GoesWith stage r all limit pt c b
+    → GoesWith stage r all (with_tried (attempt b.choices (spot pt c b)) limit) pt c b'
+tried_with stage none r pt c b b' e all limit g =
+    subst (λ x. GoesWith stage r all (with_tried (attempt b.choices (spot pt c b)) limit) pt c x) (sym e)
     (record {
       now = g.now;
       turns = g.turns;
@@ -46,7 +46,7 @@ tried_with stage none r i c b b' e all limit g =
             here = f.here;
             fares = record {
               settled = (f.here, f.fares.settled);
-              trying = ap (λ xs. attempt b.choices (spot (Instruction i) c b) ∷ xs) f.fares.trying;
+              trying = ap (λ xs. attempt b.choices (spot pt c b) ∷ xs) f.fares.trying;
               left = omega (arith, f.fares.left);
             };
           };
@@ -55,24 +55,24 @@ tried_with stage none r i c b b' e all limit g =
     })
 
 -- so it is where its turn is under way
-pub trying_goes : (r : Run) (i : ℕ) (c : StringCursor) (b b' : BoardValue)
-    → b' ≡ record b { choices = Trying i b.frames c b.marks ∷ b.choices }
-    → (all : List Way) (limit : Limit) → Goes r all limit (Instruction i) c b
-    → Goes r all (with_tried (attempt b.choices (spot (Instruction i) c b)) limit) (Instruction i) c b'
-trying_goes r i c b b' e all limit g = tried_with Going refl r i c b b' e all limit g
+pub trying_goes : (r : Run) (pt : Point) (c : StringCursor) (b b' : BoardValue)
+    → b' ≡ record b { choices = Trying pt b.frames c b.marks ∷ b.choices }
+    → (all : List Way) (limit : Limit) → Goes r all limit pt c b
+    → Goes r all (with_tried (attempt b.choices (spot pt c b)) limit) pt c b'
+trying_goes r pt c b b' e all limit g = tried_with Going refl r pt c b b' e all limit g
 
 -- and where one toll alone was granted
-pub trying_tries : (r : Run) (i : ℕ) (c : StringCursor) (b b' : BoardValue)
-    → b' ≡ record b { choices = Trying i b.frames c b.marks ∷ b.choices }
-    → (all : List Way) (limit : Limit) → Tries r all limit (Instruction i) c b
-    → Tries r all (with_tried (attempt b.choices (spot (Instruction i) c b)) limit) (Instruction i) c b'
-trying_tries r i c b b' e all limit g = tried_with Splitting refl r i c b b' e all limit g
+pub trying_tries : (r : Run) (pt : Point) (c : StringCursor) (b b' : BoardValue)
+    → b' ≡ record b { choices = Trying pt b.frames c b.marks ∷ b.choices }
+    → (all : List Way) (limit : Limit) → Tries r all limit pt c b
+    → Tries r all (with_tried (attempt b.choices (spot pt c b)) limit) pt c b'
+trying_tries r pt c b b' e all limit g = tried_with Splitting refl r pt c b b' e all limit g
 
 -- the mark is come to: what waited below it still waits
-pub tried_waits : (r : Run) (i : ℕ) (c : StringCursor) (b b' : BoardValue)
-    → b.choices ≡ Trying i b'.frames c b'.marks ∷ b'.choices → (all : List Way) (limit : Limit) → Backs r all limit b
+pub tried_waits : (r : Run) (pt : Point) (c : StringCursor) (b b' : BoardValue)
+    → b.choices ≡ Trying pt b'.frames c b'.marks ∷ b'.choices → (all : List Way) (limit : Limit) → Backs r all limit b
     → Backs r all (without_tried limit) b'
-tried_waits r i c b b' e all limit g = go (subst (λ x. Waits r x 0 [] all g.later) e g.waits) g.within
+tried_waits r pt c b b' e all limit g = go (subst (λ x. Waits r x 0 [] all g.later) e g.waits) g.within
   where
     left : (pl : Counted r) → FaresBack r pl (without_tried limit) b'.choices
     left pl =
@@ -83,7 +83,7 @@ tried_waits r i c b b' e all limit g = go (subst (λ x. Waits r x 0 [] all g.lat
           left = f.left;
         }
 
-    go : {k : ℕ} → Waits r (Trying i b'.frames c b'.marks ∷ b'.choices) 0 [] all k → k ≤ limit.turns
+    go : {k : ℕ} → Waits r (Trying pt b'.frames c b'.marks ∷ b'.choices) 0 [] all k → k ≤ limit.turns
         → Backs r all (without_tried limit) b'
     go (tried {k = k} there placed d most same wt) l = record {
       later = k;
@@ -105,14 +105,14 @@ pub came_hopeless : (r : Run) → AcceptsByStop r → (inside : Bool) (m : Marks
 came_hopeless r told inside m x alike d =
     hopeless_again r told inside m x alike d.outcomes d.turns d.runs d.fruitless
 
--- the instruction came to nothing
-pub tried_came : (r : Run) (i : ℕ) (c : StringCursor) (b b' : BoardValue)
-    → b.choices ≡ Trying i b'.frames c b'.marks ∷ b'.choices → (all : List Way) (limit : Limit) → Backs r all limit b
-    → CameToNothing r (is_inside b'.choices) (spot (Instruction i) c b')
-tried_came r i c b b' e all limit g = go (subst (λ x. Waits r x 0 [] all g.later) e g.waits)
+-- what was tried came to nothing
+pub tried_came : (r : Run) (pt : Point) (c : StringCursor) (b b' : BoardValue)
+    → b.choices ≡ Trying pt b'.frames c b'.marks ∷ b'.choices → (all : List Way) (limit : Limit) → Backs r all limit b
+    → CameToNothing r (is_inside b'.choices) (spot pt c b')
+tried_came r pt c b b' e all limit g = go (subst (λ x. Waits r x 0 [] all g.later) e g.waits)
   where
-    go : {k : ℕ} → Waits r (Trying i b'.frames c b'.marks ∷ b'.choices) 0 [] all k
-        → CameToNothing r (is_inside b'.choices) (spot (Instruction i) c b')
+    go : {k : ℕ} → Waits r (Trying pt b'.frames c b'.marks ∷ b'.choices) 0 [] all k
+        → CameToNothing r (is_inside b'.choices) (spot pt c b')
     go (tried {n = n} {os = os} there placed d most same wt) =
         record {
           outcomes = os;
@@ -122,13 +122,13 @@ tried_came r i c b b' e all limit g = go (subst (λ x. Waits r x 0 [] all g.late
         }
 
 -- so it is hopeless under marks that are alike
-pub tried_hopeless : (r : Run) → AcceptsByStop r → (i : ℕ) (c : StringCursor) (b b' : BoardValue) (m : Marks)
-    → MarksAlike r.words m b'.marks → b.choices ≡ Trying i b'.frames c b'.marks ∷ b'.choices
+pub tried_hopeless : (r : Run) → AcceptsByStop r → (pt : Point) (c : StringCursor) (b b' : BoardValue) (m : Marks)
+    → MarksAlike r.words m b'.marks → b.choices ≡ Trying pt b'.frames c b'.marks ∷ b'.choices
     → (all : List Way) (limit : Limit) → Backs r all limit b
-    → Hopeless r (is_inside b'.choices) m (spot (Instruction i) c b')
-tried_hopeless r told i c b b' m alike e all limit g =
-    came_hopeless r told (is_inside b'.choices) m (spot (Instruction i) c b') alike
-    (tried_came r i c b b' e all limit g)
+    → Hopeless r (is_inside b'.choices) m (spot pt c b')
+tried_hopeless r told pt c b b' m alike e all limit g =
+    came_hopeless r told (is_inside b'.choices) m (spot pt c b') alike
+    (tried_came r pt c b b' e all limit g)
 
 -- a spot is alike to itself
 loops_itself : (ws : List ℕ) (p : ℕ) (fs : List Frame) → LoopsAlike ws p fs fs
@@ -143,12 +143,12 @@ alike_itself ws x = record {
   loops = loops_itself ws (least_from x.point x.position) x.frames;
 }
 
--- a hopeless instruction that is come to is left at once
-pub hopeless_left : (r : Run) (i : ℕ) (c : StringCursor) (b : BoardValue) (m : Marks)
-    → MarksAlike r.words m b.marks → Hopeless r (is_inside b.choices) m (spot (Instruction i) c b) → (all : List Way)
-    (limit : Limit) → Arrives r all limit (Instruction i) c b → Later r all limit next.Back b
-hopeless_left r i c b m alike hopeless all limit g =
-    let x : Spot = spot (Instruction i) c b in (
+-- what is hopeless and come to is left at once
+pub hopeless_left : (r : Run) (pt : Point) (c : StringCursor) (b : BoardValue) (m : Marks)
+    → MarksAlike r.words m b.marks → Hopeless r (is_inside b.choices) m (spot pt c b) → (all : List Way)
+    (limit : Limit) → Arrives r all limit pt c b → Later r all limit next.Back b
+hopeless_left r pt c b m alike hopeless all limit g =
+    let x : Spot = spot pt c b in (
       omega (arith, some_turns g.runs, g.within),
       record {
         later = g.later;
@@ -158,8 +158,8 @@ hopeless_left r i c b m alike hopeless all limit g =
         within = omega (arith, some_turns g.runs, g.within);
         fares = λ pl.
             let code = run_code r x g.runs in
-            instruction_left r pl limit (potential_of r.words r.subject.end x) i x b.choices refl (omega arith)
-            (g.fares pl code.0 code.1);
+            place_left r pl limit (potential_of r.words r.subject.end x) x b.choices (run_place r x g.runs)
+            (omega arith) (g.fares pl code.0 code.1);
         confined = λ none. (g.confined none).others;
       },
     )

@@ -36,7 +36,7 @@ waits_alike r told (Else pt fs c m ∷ cs) xs ys h (otherwise {os = os} there pl
     otherwise there placed d (waits_alike r told cs (xs ++ os) (ys ++ os) (firsts_append xs ys os h) wt)
 waits_alike r told (Keep g fs c m ∷ cs) xs ys h (kept {pt = pt} there placed d wt) =
     kept {pt = pt} there placed (rw (closes_same g _ xs ys (firsts_begin xs ys h)) at d) wt
-waits_alike r told (Trying i fs c m ∷ cs) xs ys h (tried there placed d most same wt) =
+waits_alike r told (Trying pt fs c m ∷ cs) xs ys h (tried there placed d most same wt) =
     tried there placed d most (same ∙ fruit_alike r told (is_inside cs) xs ys h) (waits_alike r told cs xs ys h wt)
 
 -- what comes of a spot is determined

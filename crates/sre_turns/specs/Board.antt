@@ -1,32 +1,45 @@
 -- The board: what a run of the machine holds beside its place and position.
 -- Words of the machine's contracts; what sre_engine makes public does not rest on it.
-use Rattle.std.specs.Prelude.{ℕ, ◌≡◌, ◌⊎◌, Bool, true, List, [], ◌∷◌}
+use Rattle.std.specs.Prelude.{⊤, ℕ, ◌≡◌, ◌⊎◌, Bool, true, List, [], ◌∷◌}
 use Rattle.sre_chars.specs.declared.string.StringCursor.{StringCursor}
 use Rattle.sre_model.specs.Marks.{Marks}
 use Rattle.sre_turns.specs.declared.Frame.{Frame}
 use Rattle.sre_turns.specs.declared.Point.{Point}
-use Rattle.sre_turns.specs.declared.Point.TheVariants.{Instruction, Inside, Tried}
+use Rattle.sre_turns.specs.declared.Point.TheVariants.{Instruction, Alternatives, Shorter, Longer, Inside, Again, Tried}
+use Rattle.sre_turns.specs.declared.Point.TheVariants.{TriedAgain}
 use Rattle.sre_turns.specs.declared.Region.{Region}
 
 -- what is still to be tried: another point, under other loops and marks; or what comes of a region, whose body is in
--- progress, and which was entered under those loops and marks; or an instruction that is tried, by its place, of which
--- all comes that waits above it
+-- progress, and which was entered under those loops and marks; or an instruction or a possessive loop that is tried, by
+-- its point, of which all comes that waits above it
 pub data Choice : Type 0 where
   Else : Point → List Frame → StringCursor → Marks → Choice
   Keep : Region → List Frame → StringCursor → Marks → Choice
-  Trying : ℕ → List Frame → StringCursor → Marks → Choice
+  Trying : Point → List Frame → StringCursor → Marks → Choice
 
 -- a choice, by its point
 abbrev pub choice : Point → List Frame → StringCursor → Marks → Choice
 choice (Inside g) fs c m = Keep g fs c m
-choice (Tried i) fs c m = Trying i fs c m
+choice (Tried i) fs c m = Trying (Instruction i) fs c m
+choice TriedAgain fs c m = Trying Again fs c m
 choice pt fs c m = Else pt fs c m
+
+-- what may be tried: an instruction, or a possessive loop
+abbrev pub MayBeTried : Point → Type 0
+MayBeTried (Instruction i) = ⊤
+MayBeTried (Alternatives q) = ⊥
+MayBeTried (Shorter t k) = ⊥
+MayBeTried (Longer i n) = ⊥
+MayBeTried (Inside g) = ⊥
+MayBeTried Again = ⊤
+MayBeTried (Tried i) = ⊥
+MayBeTried TriedAgain = ⊥
 
 -- the innermost region, and what waits behind it
 abbrev pub from_region : List Choice → List Choice
 from_region [] = []
 from_region (Else pt fs c m ∷ cs) = from_region cs
-from_region (Trying i fs c m ∷ cs) = from_region cs
+from_region (Trying pt fs c m ∷ cs) = from_region cs
 from_region (Keep g fs c m ∷ cs) = Keep g fs c m ∷ cs
 
 -- the loops in progress, innermost first, the marks, and the choices, newest first

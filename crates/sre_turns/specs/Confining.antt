@@ -8,7 +8,6 @@ use Rattle.sre_turns.specs.Fruit.{is_inside}
 use Rattle.sre_turns.specs.Lying.{repeats}
 use Rattle.sre_turns.specs.Moves.{Spot}
 use Rattle.sre_turns.specs.Nested.{ClosesAt}
-use Rattle.sre_turns.specs.declared.Point.TheVariants.{Instruction}
 use Rattle.sre_turns.specs.declared.Point.{Point}
 
 -- inside a region a point lies in such a body
@@ -20,8 +19,7 @@ abbrev pub AllConfined : List ℕ → List Choice → Type 0
 AllConfined ws [] = ⊤
 AllConfined ws (Else pt fs c m ∷ cs) = ConfinedInside ws (is_inside cs) pt (repeats fs) × AllConfined ws cs
 AllConfined ws (Keep g fs c m ∷ cs) = ClosesAt (ConfinedInside ws (is_inside cs)) g fs × AllConfined ws cs
-AllConfined ws (Trying i fs c m ∷ cs) =
-    ConfinedInside ws (is_inside cs) (Instruction i) (repeats fs) × AllConfined ws cs
+AllConfined ws (Trying pt fs c m ∷ cs) = ConfinedInside ws (is_inside cs) pt (repeats fs) × AllConfined ws cs
 
 -- the same as one fact
 pub record ChoicesConfined (ws : List ℕ) (cs : List Choice) : Type 0 where

@@ -11,13 +11,15 @@ use Rattle.sre_turns.specs.Board.{Choice, Else, Keep, Trying}
 use Rattle.sre_turns.specs.Fruit.{is_inside}
 use Rattle.sre_turns.specs.OpenMarks.{open_spots}
 use Rattle.sre_turns.specs.declared.Point.TheVariants.{Instruction, Alternatives, Shorter, Longer, Inside, Again, Tried}
+use Rattle.sre_turns.specs.declared.Point.TheVariants.{TriedAgain}
 use Rattle.sre_turns.specs.declared.Point.{Point}
 use Rattle.sre_turns.specs.Moves.{Spot, spot_at}
-use Rattle.sre_turns.specs.Potential.{path, potential, potential_of, units}
+use Rattle.sre_turns.specs.Potential.{path, potential, potential_of, units, held}
 use Rattle.sre_turns.specs.Settled.{Counted, SettledIn}
-use Rattle.sre_turns.specs.Straight.{InBody, tail_of, is_possessive, goes_behind}
+use Rattle.sre_turns.specs.Straight.{InBody, point_behind, goes_behind}
 use Rattle.sre_turns.specs.declared.Frame.{Frame}
 use Rattle.sre_turns.specs.declared.Region.{Region}
+use Rattle.sre_turns.specs.declared.Region.TheVariants.{AtomicGroup, Ahead, NotAhead, Owed, Further}
 use Rattle.sre_model.specs.Marks.{Marks}
 
 -- how many turns are left; how many were taken, with how much potential at first, and how often a toll was granted;
@@ -83,33 +85,35 @@ abbrev pub tried_spots : List Choice → List Attempt
 tried_spots [] = []
 tried_spots (Else pt fs c m ∷ cs) = tried_spots cs
 tried_spots (Keep g fs c m ∷ cs) = tried_spots cs
-tried_spots (Trying i fs c m ∷ cs) = attempt cs (spot_at (Instruction i) fs c.position m) ∷ tried_spots cs
+tried_spots (Trying pt fs c m ∷ cs) = attempt cs (spot_at pt fs c.position m) ∷ tried_spots cs
 
 -- what is tried in the innermost region
 abbrev pub open_attempts : List Choice → List Attempt
 open_attempts cs = map (λ (x : Spot). record { inside = true; spot = x }) (open_spots cs)
 
--- the potential of what waits: each choice takes a turn more
+-- the potential of what waits: each choice takes a turn more, and a region has what was put aside for it
 abbrev pub waiting : List ℕ → ℕ → List Choice → ℕ
 waiting ws e [] = 0
 waiting ws e (Else pt fs c m ∷ cs) = potential ws e pt c.position + 1 + waiting ws e cs
-waiting ws e (Keep g fs c m ∷ cs) = waiting ws e cs
-waiting ws e (Trying i fs c m ∷ cs) = waiting ws e cs
+waiting ws e (Keep g fs c m ∷ cs) = held ws g + waiting ws e cs
+waiting ws e (Trying pt fs c m ∷ cs) = waiting ws e cs
 
 -- where the machine stands: in the body of the innermost region, if one is in progress, else where it is settled
 abbrev pub HereIn : (r : Run) → Counted r → ℕ → List Choice → Spot → Type 0
 HereIn r pl start [] x = SettledIn r pl start x
 HereIn r pl start (Else pt fs c m ∷ cs) x = HereIn r pl start cs x
 HereIn r pl start (Keep g fs c m ∷ cs) x = InBody r pl start g c.position x
-HereIn r pl start (Trying i fs c m ∷ cs) x = HereIn r pl start cs x
+HereIn r pl start (Trying pt fs c m ∷ cs) x = HereIn r pl start cs x
 
--- where it goes on behind a region that was entered at a cursor, no earlier than there
+-- where it goes on behind a region that was entered at a position, no earlier than there; and a possessive loop of
+-- which a further body has no outcome is left there
 pub record Reopens (r : Run) (pl : Counted r) (start : ℕ) (g : Region) (fs : List Frame) (p : ℕ) (cs : List Choice)
     : Type 0 where
-  pub alone : is_possessive g ≡ false
   pub inside : p ≤ r.subject.end
-  pub tail :
-      (q : ℕ) (m : Marks) → p ≤ q → q ≤ r.subject.end → HereIn r pl start cs (spot_at (Instruction (tail_of g)) fs q m)
+  pub behind :
+      (q : ℕ) (m : Marks) → p ≤ q → q ≤ r.subject.end → HereIn r pl start cs (spot_at (point_behind g) fs q m)
+  pub without :
+      (t : ℕ) (m : Marks) → g ≡ Further t → HereIn r pl start cs (spot_at (Instruction t) (drop 1 fs) p m)
 
 -- what waits: each choice where the machine may stand, and each region in the body of the one before
 abbrev pub Settling : (r : Run) → Counted r → ℕ → List Choice → Type 0
@@ -117,8 +121,8 @@ Settling r pl start [] = ⊤
 Settling r pl start (Else pt fs c m ∷ cs) =
     HereIn r pl start cs (spot_at pt fs c.position m) × Settling r pl start cs
 Settling r pl start (Keep g fs c m ∷ cs) = Reopens r pl start g fs c.position cs × Settling r pl start cs
-Settling r pl start (Trying i fs c m ∷ cs) =
-    HereIn r pl start cs (spot_at (Instruction i) fs c.position m) × Settling r pl start cs
+Settling r pl start (Trying pt fs c m ∷ cs) =
+    HereIn r pl start cs (spot_at pt fs c.position m) × Settling r pl start cs
 
 -- so much potential is left beside that of what waits
 pub record Fares (r : Run) (pl : Counted r) (limit : Limit) (n : ℕ) (cs : List Choice) : Type 0 where
@@ -138,19 +142,27 @@ pub record FaresBoth (r : Run) (pl : Counted r) (limit : Limit) (x y : Spot) (cs
   pub second : HereIn r pl limit.start cs y
   pub fares : Fares r pl limit (potential_of r.words r.subject.end x + potential_of r.words r.subject.end y + 2) cs
 
--- what the place behind the innermost region needs, and a turn to come there
+-- what the place behind a region needs, and a turn to come there; a possessive loop has that put aside
+abbrev pub share_of : List ℕ → ℕ → Region → ℕ
+share_of ws n (AtomicGroup t) = 2 * (length ws - t) + 3 + 1
+share_of ws n (Ahead t) = 2 * (length ws - t) + 3 + 1
+share_of ws n (NotAhead t) = 2 * (length ws - t) + 3 + 1
+share_of ws n Owed = n
+share_of ws n (Further t) = n
+
+-- the same of the innermost region, or so much outside of all
 abbrev pub behind_share : List ℕ → ℕ → List Choice → ℕ
 behind_share ws n [] = n
 behind_share ws n (Else pt fs c m ∷ cs) = behind_share ws n cs
-behind_share ws n (Keep g fs c m ∷ cs) = 2 * (length ws - tail_of g) + 3 + 1
-behind_share ws n (Trying i fs c m ∷ cs) = behind_share ws n cs
+behind_share ws n (Keep g fs c m ∷ cs) = share_of ws n g
+behind_share ws n (Trying pt fs c m ∷ cs) = behind_share ws n cs
 
 -- the innermost region ends at a position
 abbrev pub EndsIn : Run → List Choice → ℕ → Type 0
 EndsIn r [] p = ⊤
 EndsIn r (Else pt fs c m ∷ cs) p = EndsIn r cs p
 EndsIn r (Keep g fs c m ∷ cs) p = (goes_behind g ≡ true → c.position ≤ p) × (p ≤ r.subject.end)
-EndsIn r (Trying i fs c m ∷ cs) p = EndsIn r cs p
+EndsIn r (Trying pt fs c m ∷ cs) p = EndsIn r cs p
 
 -- what is left where the machine goes back, and where the innermost region, or the whole, ends
 abbrev pub FaresBack : (r : Run) → Counted r → Limit → List Choice → Type 0
@@ -165,15 +177,27 @@ abbrev pub CodeAt : List ℕ → Point → SreOpcode → Type 0
 CodeAt ws (Instruction i) o = Opcode ws i o
 CodeAt ws pt o = ⊤
 
--- a potential, with the tolls where an instruction is gone on with
+-- how many tolls a point brings: an instruction those of its opcode, and a possessive loop one
+abbrev pub tolls_of : List ℕ → ℕ → SreOpcode → Point → ℕ
+tolls_of ws e o (Instruction i) = units ws e i (role o)
+tolls_of ws e o (Alternatives q) = 0
+tolls_of ws e o (Shorter t k) = 0
+tolls_of ws e o (Longer i n) = 0
+tolls_of ws e o (Inside g) = 0
+tolls_of ws e o Again = 1
+tolls_of ws e o (Tried i) = 0
+tolls_of ws e o TriedAgain = 0
+
+-- a potential, with the tolls where an instruction or a possessive loop is gone on with
 abbrev pub pool : List ℕ → ℕ → SreOpcode → Point → ℕ → ℕ
 pool ws e o (Instruction i) p = potential ws e (Instruction i) p + units ws e i (role o) * grant ws
 pool ws e o (Alternatives q) p = potential ws e (Alternatives q) p
 pool ws e o (Shorter t k) p = potential ws e (Shorter t k) p
 pool ws e o (Longer i n) p = potential ws e (Longer i n) p
 pool ws e o (Inside g) p = potential ws e (Inside g) p
-pool ws e o Again p = potential ws e Again p
+pool ws e o Again p = potential ws e Again p + grant ws
 pool ws e o (Tried i) p = potential ws e (Tried i) p
+pool ws e o TriedAgain p = potential ws e TriedAgain p
 
 -- a spot is come to, or gone on with: with the tolls of its opcode, or with one alone
 pub data Stage : Type 0 where

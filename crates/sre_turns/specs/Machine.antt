@@ -38,7 +38,7 @@ pub record Placed (s : Subject) (m : Marks) : Type 0 where
 
 -- what the accepted outcomes of the whole begin with, and the turns to come, where the innermost region has the
 -- outcomes now, and where so many turns, as those of Runs are counted, may still come before what waits is come to: a
--- mark waits for no more than the turns of its instruction. Nothing is said of later outcomes, so that what waits twice
+-- mark waits for no more than the turns of what is tried. Nothing is said of later outcomes, so that what waits twice
 -- may go
 pub data Waits (r : Run) : List Choice → ℕ → List Way → List Way → ℕ → Type 0 where
   outermost : {u : ℕ} {now all : List Way} → first all ≡ first (filter r.accepts now) → Waits r [] u now all 0
@@ -52,12 +52,12 @@ pub data Waits (r : Run) : List Choice → ℕ → List Way → List Way → ℕ
       → r.stands c c.position → Placed r.subject m
       → Comes r.words r.subject (spot_at pt fs c.position m) (closing_move g (spot_at pt fs c.position m) now) os n
       → Waits r cs (u + n) os all k → Waits r (Keep g fs c m ∷ cs) u now all (n + k)
-  tried : {i : ℕ} {fs : List Frame} {c : StringCursor} {u n k : ℕ} {m : Marks} {os now all : List Way}
+  tried : {pt : Point} {fs : List Frame} {c : StringCursor} {u n k : ℕ} {m : Marks} {os now all : List Way}
       {cs : List Choice}
       → r.stands c c.position → Placed r.subject m
-      → Runs r.words r.subject (spot_at (Instruction i) fs c.position m) os n → u ≤ n
+      → Runs r.words r.subject (spot_at pt fs c.position m) os n → u ≤ n
       → SameFruit r (is_inside cs) os now
-      → Waits r cs u now all k → Waits r (Trying i fs c m ∷ cs) u now all k
+      → Waits r cs u now all k → Waits r (Trying pt fs c m ∷ cs) u now all k
 
 -- where the machine stands at a point and a cursor
 abbrev pub spot : Point → StringCursor → BoardValue → Spot

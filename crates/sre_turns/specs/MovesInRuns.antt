@@ -15,6 +15,14 @@ pub record RunOperands (ws : List ℕ) (i low high end : ℕ) (test : Test) : Ty
   pub highest : Word ws (i + 3) high
   pub stands : TestStands ws (i + 4) end test
 
+-- what comes of a possessive run at i without a greatest count, whose tail is at t: what comes of the same run one
+-- character later, as long as more than the least count passes
+abbrev pub onward_turn : Subject → ℕ → ℕ → ℕ → Test → Spot → Move
+onward_turn s i t low test x =
+    cond (nat_lt (run_length s test low x.position) low) Stop
+    (cond (passes s test (x.position + low)) (Go (to_place x (Instruction i) (x.position + 1)))
+    (Go (to_place x (Instruction t) (x.position + low))))
+
 -- what comes of a run at i whose tail is at t: the longest run, and then the shorter ones; the least count,
 -- and then the longer ones; or the longest run alone
 abbrev pub run_turn : RunKind → Subject → ℕ → ℕ → ℕ → ℕ → Test → Spot → Move
@@ -27,7 +35,8 @@ run_turn LazyRun s i t low high test x =
     (Split (to_place x (Instruction t) (x.position + low)) (to_place x (Longer i low) (x.position + low)))
 run_turn PossessiveRun s i t low high test x =
     let k = longest_run s test high x.position in
-    cond (nat_lt k low) Stop (Go (to_place x (Instruction t) (x.position + k)))
+    cond (nat_eq high unlimited) (onward_turn s i t low test x)
+    (cond (nat_lt k low) Stop (Go (to_place x (Instruction t) (x.position + k))))
 
 -- REPEAT_ONE, MIN_REPEAT_ONE or POSSESSIVE_REPEAT_ONE
 pub record RunMove (ws : List ℕ) (s : Subject) (kind : RunKind) (i : ℕ) (x : Spot) (mv : Move) : Type 0 where

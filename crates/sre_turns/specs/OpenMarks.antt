@@ -3,14 +3,13 @@
 use Rattle.std.specs.Prelude.{List, [], ◌∷◌}
 use Rattle.std.specs.List.{AllByRecursion}
 use Rattle.sre_turns.specs.Board.{Choice, Else, Keep, Trying}
-use Rattle.sre_turns.specs.declared.Point.TheVariants.{Instruction}
 use Rattle.sre_turns.specs.Moves.{Spot, spot_at}
 
 -- the spots that are tried in the innermost region, newest first
 abbrev pub open_spots : List Choice → List Spot
 open_spots [] = []
 open_spots (Else pt fs c m ∷ cs) = open_spots cs
-open_spots (Trying i fs c m ∷ cs) = spot_at (Instruction i) fs c.position m ∷ open_spots cs
+open_spots (Trying pt fs c m ∷ cs) = spot_at pt fs c.position m ∷ open_spots cs
 open_spots (Keep g fs c m ∷ cs) = []
 
 -- each of them is one of some kind

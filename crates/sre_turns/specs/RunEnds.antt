@@ -1,4 +1,5 @@
--- Runs of one test without a greatest count, of whose ends all but the first are those of the run one character later.
+-- Runs of one test without a greatest count: but for its own first end, what comes of one comes of the run one
+-- character later.
 -- Words of the machine's contracts; what sre_engine makes public does not rest on it.
 use Rattle.std.specs.Prelude.{ℕ, ◌+◌, ◌≡◌, ◌<◌, ◌≤◌, ◌⊎◌, true, List}
 use Rattle.sre_chars.specs.declared.constants.SreOpcode.TheVariants as opcode
@@ -12,8 +13,10 @@ use Rattle.sre_model.specs.Standing.{HasTest}
 abbrev pub AllPass : Subject → Test → ℕ → ℕ → Type 0
 AllPass s t p q = (c : ℕ) → p ≤ c → c < q → passes s t c ≡ true
 
--- a greedy or a lazy run without a greatest count is at i
+-- a run without a greatest count is at i
 pub record RunsOn (ws : List ℕ) (i : ℕ) : Type 0 where
-  pub code : Opcode ws i opcode.REPEAT_ONE ⊎ Opcode ws i opcode.MIN_REPEAT_ONE
+  pub code :
+      Opcode ws i opcode.REPEAT_ONE
+      ⊎ (Opcode ws i opcode.MIN_REPEAT_ONE ⊎ Opcode ws i opcode.POSSESSIVE_REPEAT_ONE)
   pub greatest : Word ws (i + 3) unlimited
   pub test : HasTest ws (i + 4)

@@ -1,13 +1,11 @@
 -- Where the machine stands in a search over words whose turns are counted: in the words of their tree, in the window
 -- from a start on, and behind where the last bodies of its loops began.
--- Of the law that a search takes few turns. What sre_engine makes public does not rest on
--- it.
+-- Of the law that a search takes few turns. What sre_engine makes public does not rest on it.
 use Rattle.std.specs.Prelude.{ℕ, ◌≤◌, ◌≡◌, false, List}
 use Rattle.sre_model.specs.Tree.{Tree}
 use Rattle.sre_model.specs.Subject.{Subject}
 use Rattle.sre_model.specs.Grammar.{WholeItems}
 use Rattle.sre_model.specs.References.{refers}
-use Rattle.sre_model.specs.Regions.{has_uncounted_region}
 use Rattle.sre_model.specs.Runs.{Run}
 use Rattle.sre_turns.specs.Moves.{Spot}
 use Rattle.sre_turns.specs.Alike.{least_from}
@@ -19,11 +17,10 @@ pub record Settled (ws : List ℕ) (s : Subject) (t : Tree) (w : WholeItems ws t
   pub inside : InWindow s x
   pub from : start ≤ least_from x.point x.position
 
--- a run over the words of a tree without references, possessive loops, and looks behind whose body forks
+-- a run over the words of a tree without references
 pub record Counted (r : Run) : Type 0 where
   pub tree : Tree
   pub whole : WholeItems r.words tree
-  pub counted : has_uncounted_region tree ≡ false
   pub no_reference : refers tree ≡ false
 
 abbrev pub SettledIn : (r : Run) → Counted r → ℕ → Spot → Type 0

@@ -1,15 +1,18 @@
 -- Bodies of regions, where the machine stands in one, and where it has one way to go on at most.
 -- Words of the machine's contracts; what sre_engine makes public does not rest on it.
-use Rattle.std.specs.Prelude.{ℕ, ◌+◌, ◌≡◌, ◌≤◌, ◌⊎◌, Bool, true, false, List, []}
+use Rattle.std.specs.Prelude.{ℕ, ◌+◌, ◌≡◌, ◌≤◌, Bool, true, false, List, []}
 use Rattle.sre_chars.specs.declared.constants.SreOpcode.{SreOpcode}
 use Rattle.sre_chars.specs.declared.constants.SreOpcode.TheVariants as opcode
 use Rattle.sre_model.specs.Tree.{Tree}
 use Rattle.sre_model.specs.Grammar.{Opcode, Reads}
-use Rattle.sre_model.specs.Regions.{forks, has_forked_region, has_uncounted_region}
+use Rattle.sre_model.specs.LooksBehind.{backs}
+use Rattle.sre_model.specs.Regions.{forks, has_forked_region}
 use Rattle.sre_model.specs.Roles.{Role, ToBranch, ToRun, ToRepeat, ToLoop, ToRepeatPossessively, role}
 use Rattle.sre_model.specs.Runs.{Run}
 use Rattle.sre_turns.specs.declared.Region.TheVariants.{AtomicGroup, Ahead, NotAhead, Owed, Further}
 use Rattle.sre_turns.specs.declared.Region.{Region}
+use Rattle.sre_turns.specs.declared.Point.{Point}
+use Rattle.sre_turns.specs.declared.Point.TheVariants.{Instruction, Again}
 use Rattle.sre_turns.specs.Alike.{least_from}
 use Rattle.sre_turns.specs.Lying.{repeats, LiesIn}
 use Rattle.sre_turns.specs.Moves.{Spot}
@@ -47,6 +50,14 @@ is_possessive (NotAhead t) = false
 is_possessive Owed = true
 is_possessive (Further t) = true
 
+-- where one goes on behind a region: behind a body of a possessive loop at the loop
+abbrev pub point_behind : Region → Point
+point_behind (AtomicGroup t) = Instruction t
+point_behind (Ahead t) = Instruction t
+point_behind (NotAhead t) = Instruction t
+point_behind Owed = Again
+point_behind (Further t) = Again
+
 -- whether a region is gone on from where its body ends
 abbrev pub goes_behind : Region → Bool
 goes_behind (AtomicGroup t) = true
@@ -65,17 +76,21 @@ pub record BodyOf (ws : List ℕ) (P : Tree → Type 0) (t : ℕ) : Type 0 where
   pub is : P tree
   pub behind : t ≡ end + 1
 
--- the turns of a body are counted, and where it forks a region of the whole does
+-- where a body forks a region of the whole does, and where a region of the body does
 abbrev pub IsBodyIn : Tree → Tree → Type 0
-IsBodyIn whole body = (has_uncounted_region body ≡ false) × (forks body ≡ true → has_forked_region whole ≡ true)
+IsBodyIn whole body =
+    (forks body ≡ true → has_forked_region whole ≡ true)
+    × (has_forked_region body ≡ true → has_forked_region whole ≡ true)
 
--- a spot stands in the body of a region that was entered at a position. Where the body forks it is no further back than
--- the start, as in no look behind
+-- a spot stands in the body of a region that was entered at a position. It is no further back than the looks of the
+-- whole may go from the start, and as much further on as those of the body may still go back
 pub record InBody (r : Run) (pl : Counted r) (start : ℕ) (g : Region) (entered : ℕ) (x : Spot) : Type 0 where
-  pub body : BodyOf r.words (IsBodyIn pl.tree) (tail_of g)
+  pub tail : ℕ
+  pub body : BodyOf r.words (IsBodyIn pl.tree) tail
+  pub tail_is : is_possessive g ≡ false → tail_of g ≡ tail
   pub here : LiesIn r.words body.start body.end body.tree body.reads [] x.point (repeats x.frames)
   pub lies : Lies r.words pl.tree pl.whole x
   pub passed : Passed x
   pub inside : InWindow r.subject x
-  pub from : (forks body.tree ≡ false) ⊎ (start ≤ least_from x.point x.position)
+  pub from : start + backs body.tree ≤ least_from x.point x.position + backs pl.tree
   pub behind : goes_behind g ≡ true → entered ≤ least_from x.point x.position

@@ -11,6 +11,7 @@ use Rattle.sre_model.specs.Ways.{Way, here}
 use Rattle.sre_model.specs.Grammar.{Opcode}
 use Rattle.sre_turns.specs.declared.Region.{Region}
 use Rattle.sre_turns.specs.declared.Point.TheVariants.{Instruction, Alternatives, Shorter, Longer, Inside, Again, Tried}
+use Rattle.sre_turns.specs.declared.Point.TheVariants.{TriedAgain}
 use Rattle.sre_turns.specs.declared.Point.{Point}
 use Rattle.sre_turns.specs.Bodies.{Confined, MarklessRegions}
 use Rattle.sre_turns.specs.Moves.{Spot, Move, Stop, End, Go, Split, Enter, closing_move, to_point, TestMove, AtMove}
@@ -48,6 +49,7 @@ MovesAt ws s (Longer i n) x mv = LongerMove ws s i n x mv
 MovesAt ws s (Inside g) x mv = ⊥
 MovesAt ws s Again x mv = AgainMove ws x mv
 MovesAt ws s (Tried i) x mv = ⊥
+MovesAt ws s TriedAgain x mv = ⊥
 
 abbrev pub Moves : List ℕ → Subject → Spot → Move → Type 0
 Moves ws s x mv = MovesAt ws s x.point x mv

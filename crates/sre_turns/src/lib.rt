@@ -40,6 +40,8 @@ pub enum Point {
     /// Behind all that comes of an instruction that is tried, by its place. Nobody goes on there: where it is come to,
     /// nothing came of the instruction.
     Tried(usize),
+    /// The same of the innermost loop, a possessive one, that is tried before a body or its end.
+    TriedAgain,
 }
 
 /// A loop in progress: the place of its REPEAT, its bodies so far, held at 4294967295,

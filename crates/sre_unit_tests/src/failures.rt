@@ -97,7 +97,7 @@ fn prepare_in<A: Allocator>(
     first: usize,
     end: usize,
 ) -> Result<(), Refusal> {
-    failures.prepare(words, board, place, first, end)
+    failures.prepare(words, board, Point::Instruction(place), first, end)
 }
 
 fn keep_in<A: Allocator>(
@@ -107,7 +107,7 @@ fn keep_in<A: Allocator>(
     place: usize,
     position: usize,
 ) -> bool {
-    failures.keep(words, board, place, position)
+    failures.keep(words, board, Point::Instruction(place), position)
 }
 
 fn is_kept_in<A: Allocator>(
@@ -117,7 +117,7 @@ fn is_kept_in<A: Allocator>(
     place: usize,
     position: usize,
 ) -> bool {
-    failures.known(words, board, place, position) == Known::Failed
+    failures.known(words, board, Point::Instruction(place), position) == Known::Failed
 }
 
 // Whether a spot that is kept under some loops is told under others, in a row up to a position.

@@ -37,7 +37,7 @@ fn own_words(code: SreOpcode) -> Option<usize>
     }
 }
 
-/// Up to which number the characters of a greedy or a lazy run make a difference, by its least and its greatest count.
+/// Up to which number the characters of a run make a difference, by its least and its greatest count.
 pub fn counted_to(low: u32, high: u32) -> u32
     ensures { result ≡ counted_to low high }
 {
@@ -54,14 +54,11 @@ fn count_at(words: &[u32], place: usize, code: SreOpcode) -> u32
     ensures { result ≡ count_at code words.now place }
 {
     match code {
-        SreOpcode::REPEAT_ONE | SreOpcode::MIN_REPEAT_ONE => {
+        SreOpcode::REPEAT_ONE | SreOpcode::MIN_REPEAT_ONE | SreOpcode::POSSESSIVE_REPEAT_ONE => {
             counted_to(
                 word_or_zero(words, place + 2),
                 word_or_zero(words, place + 3),
             )
-        }
-        SreOpcode::POSSESSIVE_REPEAT_ONE => {
-            word_or_zero(words, place + 2).max(word_or_zero(words, place + 3))
         }
         SreOpcode::ASSERT | SreOpcode::ASSERT_NOT => word_or_zero(words, place + 2),
         _ => 0,
@@ -97,7 +94,6 @@ pub fn next_place(words: &[u32], place: usize) -> Option<usize>
 
 /// Up to which number the characters of the items' runs make a difference, or their looks go back; none where a
 /// reference or a condition is among the items, which have SUCCESS as the last word.
-#[tactic(auto, using(crate::proofs::Scanning::scan_laws))]
 pub fn most_counts(words: &[u32]) -> Option<u32>
     ensures { (tree : Tree) → WholeItems words.now tree → MatchOption result (refers tree ≡ true)
         (λ most. (refers tree ≡ false) × (most ≡ most_counts tree)) }

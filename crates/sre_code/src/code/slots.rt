@@ -6,16 +6,16 @@
 //! calls within each other.
 //!
 //! Where no region may fork, an atomic group or a look is passed whole if its body does not: then it has neither loops
-//! nor branches. Where regions may fork, the scan steps into the body of an atomic group or of a look ahead, and past
-//! the SUCCESS that ends it, so regions within each other take no calls within each other. A look behind is passed
-//! whole if its body does not fork. Any other region ends the scan, and so do a possessive loop, a reference and a
-//! condition.
+//! nor branches. Any other region ends the scan, and so does a possessive loop. Where regions may fork, the scan steps
+//! into the body of each, and past the SUCCESS that ends it, so regions within each other take no calls within each
+//! other. A possessive loop's own slots are not multiplied with those inside: its bodies are matched apart. A reference
+//! or a condition ends each scan.
 
 ghost use Rattle.std.specs.Prelude.{◌≡◌, ◌<◌, ◌≤◌, length, IfSome};
 ghost use Rattle.sre_model.specs.Roles.{role};
 ghost use Rattle.sre_model.specs.Slots.{loop_slots};
 ghost use Rattle.sre_code.specs.PlainItems.{kind_of, stops_at_forks, AreTold, AreCounted, LoopTold, RegionTold};
-ghost use Rattle.sre_code.specs.PlainItems.{OtherTold, ToldAt};
+ghost use Rattle.sre_code.specs.PlainItems.{OtherTold, PossessiveTold, ToldAt};
 
 use crate::code::run_counts::{counted_to, next_place};
 use crate::code::sought::{Sought, has_or_refers};
@@ -37,8 +37,8 @@ pub struct Passed {
 pub enum Regions {
     /// Atomic groups and looks whose body does not fork.
     Straight,
-    /// Those whose turns are counted: all but possessive loops, and looks behind whose body forks.
-    Counted,
+    /// All of them.
+    All,
 }
 
 /// What an instruction begins.
@@ -107,14 +107,13 @@ fn other(words: &[u32], place: usize) -> Option<Passed>
     }
 }
 
-/// Whether a fork in the body of an atomic group or a look that goes back so many characters ends a scan past such
-/// regions.
-fn stops_at_forks(regions: Regions, back: u32) -> bool
-    ensures { result ≡ stops_at_forks regions back }
+/// Whether a region that forks ends a scan past such regions.
+fn stops_at_forks(regions: Regions) -> bool
+    ensures { result ≡ stops_at_forks regions }
 {
     match regions {
         Regions::Straight => true,
-        Regions::Counted => back > 0,
+        Regions::All => false,
     }
 }
 
@@ -141,6 +140,31 @@ fn region(words: &[u32], place: usize, body: usize, stops: bool) -> Option<Passe
     Some(Passed {
         behind: end + 1,
         slots: 1,
+        alternatives: 0,
+    })
+}
+
+/// What is passed by the possessive loop at this place: the words before its body; none where a fork ends the scan, or
+/// where the loop alone has more slots than `most`.
+fn possessive(words: &[u32], place: usize, most: u64, stops: bool) -> Option<Passed>
+    requires here { place < length words.now }
+    ensures told { PossessiveTold stops most words.now place result }
+    ensures forward { IfSome result (λ p. place < p.behind) }
+    ensures few { IfSome result (λ p. p.slots ≤ most) }
+{
+    if stops {
+        return None;
+    }
+    let slots = loop_slots(
+        word_or_zero(words, place + 2),
+        word_or_zero(words, place + 3),
+    );
+    if most < slots {
+        return None;
+    }
+    Some(Passed {
+        behind: place + 4,
+        slots,
         alternatives: 0,
     })
 }
@@ -174,8 +198,8 @@ fn looped(words: &[u32], place: usize, most: u64, regions: Regions) -> Option<Pa
 }
 
 /// What is passed by the instruction at this place, which is a whole loop where one begins here, and a whole atomic
-/// group or look where the scan does not step into its body; none where a possessive loop, a reference or a condition
-/// does, a region that the scan does not go past, or a loop that is not plain.
+/// group or look where the scan does not step into its body; none where a reference or a condition does, a region that
+/// the scan does not go past, or a loop that is not plain.
 #[cycle(plain)]
 fn part(words: &[u32], place: usize, most: u64, regions: Regions) -> Option<Passed>
     requires some { 1 ≤ most }
@@ -193,12 +217,9 @@ fn part(words: &[u32], place: usize, most: u64, regions: Regions) -> Option<Pass
             slots: 1,
             alternatives: alternatives(words, place + 1),
         }),
-        Kind::AtomicGroup => region(words, place, place + 2, stops_at_forks(regions, 0)),
-        Kind::Look => {
-            let back = word_or_zero(words, place + 2);
-            region(words, place, place + 3, stops_at_forks(regions, back))
-        }
-        Kind::PossessiveLoop => None,
+        Kind::AtomicGroup => region(words, place, place + 2, stops_at_forks(regions)),
+        Kind::Look => region(words, place, place + 3, stops_at_forks(regions)),
+        Kind::PossessiveLoop => possessive(words, place, most, stops_at_forks(regions)),
         Kind::Other => other(words, place),
     }
 }

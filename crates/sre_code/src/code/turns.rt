@@ -92,8 +92,8 @@ fn number(places: u64, counted: Counted, counts: u64, characters: u64) -> Option
     turns_by(places, positions, counted.spots, ways, counts).checked_add(1)
 }
 
-/// The slots, spots and alternatives of these items; none where a reference or a region that is not counted is among
-/// them, where a region forks and one sets a mark, or where the slots are more than may be told apart.
+/// The slots, spots and alternatives of these items; none where a reference is among them, where a region forks and one
+/// sets a mark, or where the slots are more than may be told apart.
 fn count(items: &[u32]) -> Option<Counted>
     ensures told { (tree : Tree) → WholeItems items.now tree → CountedTold tree result }
     ensures few { IfSome result (λ c. c.slots ≤ 2 ^ 24) }
@@ -109,7 +109,7 @@ fn count(items: &[u32]) -> Option<Counted>
     if regions_set_marks(items) {
         return None;
     }
-    match scan(items, 0, end, MOST_SLOTS, Regions::Counted) {
+    match scan(items, 0, end, MOST_SLOTS, Regions::All) {
         Some(forked) => Some(Counted {
             slots: forked.slots,
             spots: forked.slots * 2,

@@ -10,15 +10,14 @@ returns-clause-told g c =
     let b = c.args.board.now in
     let inside : is_inside b.choices ≡ true = search rules in
     let plain : c.args.keeping ≡ Unmarked = search rules in
-    known_there c.args.req.now c.args.place c.position.result c.args.cursor b c.args.memo.now c.items.result.now
+    known_there c.args.req.now c.args.point c.position.result c.args.cursor b c.args.memo.now c.items.result.now
     (c.items.ensures.same ∙ ap items_of c.pattern_codes.ensures) c.position.ensures inside
-    (c.may_branch.ensures.forks (search rules))
     (c.requires.keeping.unmarked plain) c.requires.remembers c.end.ensures.laid c.end.result c.end.ensures.told
 
 pub returns-clause-none : goal.returns-clause-none
 returns-clause-none g c =
     untold c.end.result (λ none _ _.
-    none_there c.args.req.now c.args.place c.position.result c.args.cursor c.args.board.now c.args.memo.now
+    none_there c.args.req.now c.args.point c.position.result c.args.cursor c.args.board.now c.args.memo.now
     c.items.result.now (c.items.ensures.same ∙ ap items_of c.pattern_codes.ensures) c.position.ensures none)
     c.end.ensures.none
   where

@@ -2,19 +2,14 @@ use Rattle.std.proofs.lemmas.Bool.{true≢false}
 use Rattle.std.proofs.Common.{◌∷◌, sym, refl, ap, ◌∙◌}
 use Rattle.sre_turns.specs.Board.{choice}
 use Rattle.sre_turns.specs.declared.Point.TheVariants.{Instruction, Alternatives, Shorter, Longer, Again}
-use Rattle.sre_request.specs.Requests.{asked_of}
 use Rattle.sre_request.specs.Runs.{run_of}
-use Rattle.sre_turns.specs.Limits.{earlier, without_tried}
+use Rattle.sre_turns.specs.Limits.{earlier}
 use Rattle.sre_turns.proofs.Faring.{alternatives_free, shorter_free, longer_free}
 use Rattle.sre_turns.proofs.GoingBack.{back_none, back_arrives, back_at, back_run, back_region}
 use Rattle.sre_turns.proofs.GoingBack.{later_again}
-use Rattle.sre_turns.proofs.Hopeless.{asked_by_stop}
-use Rattle.sre_turns.proofs.Trying.{tried_waits, tried_hopeless}
 use Rattle.sre_turns.proofs.Faring.{nothing_waits}
-use Rattle.sre_machine.proofs.Failing.{still_back}
 use Rattle.sre_machine.proofs.Keeping.{pays_kept}
-use Rattle.sre_machine.specs.Memos.{MemoValue}
-use Rattle.sre_machine.proofs.Paying.{pays_then, grants_then}
+use Rattle.sre_machine.proofs.MarksPassed.{passed_still, passed_failed, passed_back, only_kept}
 use Rattle.sre_machine.proofs.machine.back.Goals as goal
 
 -- the machine is at the point that it goes back to
@@ -124,57 +119,83 @@ returns-in-Again-clause-next g c = λ all limit x.
 
 -- a mark is passed over
 pub keep-requires-clause-failed : goal.keep-requires-clause-failed
-keep-requires-clause-failed g c = λ m alike.
+keep-requires-clause-failed g c =
     let b = c.back.new.self in
-    let x = c.choice.invariant.back in
-    let marked = c.in-Some.ensures ∙ ap (λ pt. choice pt b.frames c.in-Some.choice.1 b.marks ∷ b.choices)
-    c.in-Tried.is in
-    tried_hopeless (run_of c.args.req.now) (asked_by_stop (asked_of c.args.req.now)) c.in-Tried.place
-    c.in-Some.choice.1 c.choice.board b m alike marked x.all x.limit x.backs
+    passed_failed c.args.req.now (Instruction c.in-Tried.place) c.in-Some.choice.1 c.choice.board b
+    (c.in-Some.ensures ∙ ap (λ pt. choice pt b.frames c.in-Some.choice.1 b.marks ∷ b.choices) c.in-Tried.is)
+    c.choice.invariant.back
 
 pub choice-preserved-then-this-ne0 : goal.choice-preserved-then-this-ne0
 choice-preserved-then-this-ne0 g c =
-    let r = run_of c.args.req.now in
+    let r = c.args.req.now in
     let b = c.back.new.self in
     let cursor = c.in-Some.choice.1 in
+    let point = Instruction c.in-Tried.place in
     let marked = c.in-Some.ensures ∙ ap (λ pt. choice pt b.frames cursor b.marks ∷ b.choices) c.in-Tried.is in
-    let waits = tried_waits r c.in-Tried.place cursor c.choice.board b marked in
     record {
-      back = still_back r c.choice.board b waits c.choice.invariant.back;
+      back = passed_still r point cursor c.choice.board b marked c.choice.invariant.back;
       backs = λ all limit x.
-          let y = c.choice.invariant.backs all limit x in (
-            without_tried y.0,
-            grants_then limit y.0 (without_tried y.0) y.1
-                (record { turns = refl; taken = refl; granted = refl; start = refl }),
-            waits all y.0 y.2,
-            λ keeps. pays_then c.args.req.now c.args.memo.now c.choice.memo c.keep.new.memo limit y.0
-                (without_tried y.0) y.1.start (y.3 keeps)
-                (pays_kept c.args.req.now c.in-Tried.place cursor c.choice.board b c.choice.memo c.keep.new.memo marked
-                c.keep.ensures.same c.keep.ensures.account all y.0 y.2),
-          );
+          passed_back r point cursor c.choice.board b marked _ c.args.memo.now c.choice.memo c.keep.new.memo
+          (λ _. pays_kept r point cursor c.choice.board b c.choice.memo c.keep.new.memo marked c.keep.ensures.same
+          c.keep.ensures.account)
+          all limit (c.choice.invariant.backs all limit x);
       remembers = c.keep.ensures.remembers;
-      same =
-          c.keep.ensures.same
-          ∙ ap (λ (m : MemoValue). record m { kept = c.keep.new.memo.kept; marked = c.keep.new.memo.marked })
-          c.choice.invariant.same;
+      same = only_kept c.args.memo.now c.choice.memo c.keep.new.memo c.choice.invariant.same c.keep.ensures.same;
+    }
+
+pub choice-preserved-else-this-ne0 : goal.choice-preserved-else-this-ne0
+choice-preserved-else-this-ne0 g c =
+    let r = c.args.req.now in
+    let b = c.back.new.self in
+    let cursor = c.in-Some.choice.1 in
+    let point = Instruction c.in-Tried.place in
+    let marked = c.in-Some.ensures ∙ ap (λ pt. choice pt b.frames cursor b.marks ∷ b.choices) c.in-Tried.is in
+    record {
+      back = passed_still r point cursor c.choice.board b marked c.choice.invariant.back;
+      backs = λ all limit x.
+          passed_back r point cursor c.choice.board b marked _ c.args.memo.now c.choice.memo c.choice.memo
+          (λ keeps. absurd (keeps c.if-this-ne0.false)) all limit (c.choice.invariant.backs all limit x);
+      remembers = c.choice.invariant.remembers;
+      same = c.choice.invariant.same;
+    }
+
+pub keep-requires-then-this-ne0-2-clause-failed : goal.keep-requires-then-this-ne0-2-clause-failed
+keep-requires-then-this-ne0-2-clause-failed g c =
+    let b = c.back.new.self in
+    passed_failed c.args.req.now Again c.in-Some.choice.1 c.choice.board b
+    (c.in-Some.ensures ∙ ap (λ pt. choice pt b.frames c.in-Some.choice.1 b.marks ∷ b.choices) c.in-TriedAgain.is)
+    c.choice.invariant.back
+
+pub choice-preserved-then-this-ne0-2 : goal.choice-preserved-then-this-ne0-2
+choice-preserved-then-this-ne0-2 g c =
+    let r = c.args.req.now in
+    let b = c.back.new.self in
+    let cursor = c.in-Some.choice.1 in
+    let point = Again in
+    let marked = c.in-Some.ensures ∙ ap (λ pt. choice pt b.frames cursor b.marks ∷ b.choices) c.in-TriedAgain.is in
+    record {
+      back = passed_still r point cursor c.choice.board b marked c.choice.invariant.back;
+      backs = λ all limit x.
+          passed_back r point cursor c.choice.board b marked _ c.args.memo.now c.choice.memo c.keep-then-this-ne0-2.new.memo
+          (λ _. pays_kept r point cursor c.choice.board b c.choice.memo c.keep-then-this-ne0-2.new.memo marked c.keep-then-this-ne0-2.ensures.same
+          c.keep-then-this-ne0-2.ensures.account)
+          all limit (c.choice.invariant.backs all limit x);
+      remembers = c.keep-then-this-ne0-2.ensures.remembers;
+      same = only_kept c.args.memo.now c.choice.memo c.keep-then-this-ne0-2.new.memo c.choice.invariant.same c.keep-then-this-ne0-2.ensures.same;
     }
 
 pub choice-preserved : goal.choice-preserved
 choice-preserved g c =
-    let r = run_of c.args.req.now in
+    let r = c.args.req.now in
     let b = c.back.new.self in
-    let waits = tried_waits r c.in-Tried.place c.in-Some.choice.1 c.choice.board b
-    (c.in-Some.ensures ∙ ap (λ pt. choice pt b.frames c.in-Some.choice.1 b.marks ∷ b.choices) c.in-Tried.is) in
+    let cursor = c.in-Some.choice.1 in
+    let point = Again in
+    let marked = c.in-Some.ensures ∙ ap (λ pt. choice pt b.frames cursor b.marks ∷ b.choices) c.in-TriedAgain.is in
     record {
-      back = still_back r c.choice.board b waits c.choice.invariant.back;
+      back = passed_still r point cursor c.choice.board b marked c.choice.invariant.back;
       backs = λ all limit x.
-          let y = c.choice.invariant.backs all limit x in (
-            without_tried y.0,
-            grants_then limit y.0 (without_tried y.0) y.1
-                (record { turns = refl; taken = refl; granted = refl; start = refl }),
-            waits all y.0 y.2,
-            λ keeps. absurd (keeps c.if-this-ne0.false),
-          );
+          passed_back r point cursor c.choice.board b marked _ c.args.memo.now c.choice.memo c.choice.memo
+          (λ keeps. absurd (keeps c.if-this-ne0-2.false)) all limit (c.choice.invariant.backs all limit x);
       remembers = c.choice.invariant.remembers;
       same = c.choice.invariant.same;
     }

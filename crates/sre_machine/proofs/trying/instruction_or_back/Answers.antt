@@ -1,3 +1,4 @@
+use Rattle.sre_turns.specs.declared.Point.TheVariants.{Instruction}
 use Rattle.sre_machine.proofs.Failing.{turn_goes_on, turn_tried, turn_left, turn_ended, paid_so}
 use Rattle.sre_machine.proofs.trying.instruction_or_back.Goals as goal
 
@@ -7,20 +8,20 @@ instruction-requires g c =
 
 pub returns-in-Some-clause-turn : goal.returns-in-Some-clause-turn
 returns-in-Some-clause-turn g c =
-    turn_ended c.args.req.now c.args.place c.args.cursor c.in-Some.end c.args.board.now c.args.memo.now
+    turn_ended c.args.req.now (Instruction c.args.place) c.args.cursor c.in-Some.end c.args.board.now c.args.memo.now
     c.in-Some.ensures.told
 
 pub returns-then-is_hopeless-clause-turn : goal.returns-then-is_hopeless-clause-turn
 returns-then-is_hopeless-clause-turn g c =
-    turn_left c.args.req.now c.args.place c.args.cursor _ _ _ _
+    turn_left c.args.req.now (Instruction c.args.place) c.args.cursor _ _ _ _
     (c.is_hopeless.ensures.leaves.left c.if-is_hopeless.true)
 
 pub returns-clause-turn : goal.returns-clause-turn
 returns-clause-turn g c =
-    turn_goes_on c.args.req.now c.args.place c.args.cursor _ _ _ _ _ c.instruction.result
+    turn_goes_on c.args.req.now (Instruction c.args.place) c.args.cursor _ _ _ _ _ c.instruction.result
     (c.is_hopeless.ensures.leaves.goes c.if-is_hopeless.false)
-    (paid_so c.args.req.now c.args.place c.args.memo.now c.is_hopeless.new.memo c.keeping_at-keeping.result
-    c.keeping_at-keeping.ensures.left (c.goes_on_endlessly.ensures.off c.if-goes_on_endlessly.false))
+    (paid_so c.args.req.now (Instruction c.args.place) c.args.memo.now c.is_hopeless.new.memo
+    c.keeping_at-keeping.result c.keeping_at-keeping.ensures.left (c.goes_on_endlessly.ensures.off c.if-goes_on_endlessly.false))
     c.instruction.ensures
 
 pub returns-then-goes_on_endlessly-clause-turn : goal.returns-then-goes_on_endlessly-clause-turn

@@ -5,28 +5,28 @@ use Rattle.sre_machine.proofs.trying.is_hopeless.Goals as goal
 
 pub returns-in-Nothing-clause-leaves : goal.returns-in-Nothing-clause-leaves
 returns-in-Nothing-clause-leaves g c =
-    stays_on c.args.req.now c.args.place c.args.cursor c.args.board.now c.args.board.now c.args.memo.now
+    stays_on c.args.req.now c.args.point c.args.cursor c.args.board.now c.args.board.now c.args.memo.now
     c.meet_marks.new.memo (λ x. x) (λ all limit x.
-    goes_forgetting c.args.req.now c.args.place c.args.cursor c.args.board.now c.args.memo.now c.meet_marks.new.memo
+    goes_forgetting c.args.req.now c.args.point c.args.cursor c.args.board.now c.args.memo.now c.meet_marks.new.memo
     all limit x (c.requires.keeping.left c.in-Nothing.is))
 
-pub returns-then-not-may_branch-clause-leaves : goal.returns-then-not-may_branch-clause-leaves
-returns-then-not-may_branch-clause-leaves g c =
-    stays_on c.args.req.now c.args.place c.args.cursor c.args.board.now c.args.board.now c.args.memo.now
+pub returns-then-not-may_branch_at-clause-leaves : goal.returns-then-not-may_branch_at-clause-leaves
+returns-then-not-may_branch_at-clause-leaves g c =
+    stays_on c.args.req.now c.args.point c.args.cursor c.args.board.now c.args.board.now c.args.memo.now
     c.args.memo.now (λ x. x) (λ all limit x.
-    goes_freely c.args.req.now c.args.place c.args.cursor c.args.board.now c.args.memo.now c.args.memo.now all limit x
-    (c.may_branch.ensures.free c.if-not-may_branch.true))
+    goes_freely c.args.req.now c.args.point c.args.cursor c.args.board.now c.args.memo.now c.args.memo.now all limit x
+    (c.may_branch_at.ensures.free c.if-not-may_branch_at.true))
 
-pub returns-then-not-may_branch-clause-tries : goal.returns-then-not-may_branch-clause-tries
-returns-then-not-may_branch-clause-tries g c = λ _ _ on.
-    absurd (branches_not c.args.req.now c.args.place on (c.may_branch.ensures.free c.if-not-may_branch.true))
+pub returns-then-not-may_branch_at-clause-tries : goal.returns-then-not-may_branch_at-clause-tries
+returns-then-not-may_branch_at-clause-tries g c = λ _ _ on.
+    absurd (branches_not c.args.req.now c.args.point on (c.may_branch_at.ensures.free c.if-not-may_branch_at.true))
 
-pub returns-else-not-may_branch-clause-tries : goal.returns-else-not-may_branch-clause-tries
-returns-else-not-may_branch-clause-tries g c = λ told _ _. c.has_failed.ensures.tries told
+pub returns-else-not-may_branch_at-clause-tries : goal.returns-else-not-may_branch_at-clause-tries
+returns-else-not-may_branch_at-clause-tries g c = λ told _ _. c.has_failed.ensures.tries told
 
 pub returns-in-Marked-clause-tries : goal.returns-in-Marked-clause-tries
 returns-in-Marked-clause-tries g c = λ told _ _. c.has_failed_marked.ensures.tries told
 
 pub has_failed-requires-clause-no_end : goal.has_failed-requires-clause-no_end
 has_failed-requires-clause-no_end g c =
-    c.requires.no_end c.in-Unmarked.is (c.may_branch.ensures.tolls (search rules))
+    c.requires.no_end c.in-Unmarked.is (c.may_branch_at.ensures.tolls (search rules))

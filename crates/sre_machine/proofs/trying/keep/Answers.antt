@@ -12,7 +12,7 @@ pub returns-then-is_unmarked-clause-remembers : goal.returns-then-is_unmarked-cl
 returns-then-is_unmarked-clause-remembers g c =
     recalls_kept (run_of c.args.req.now) c.args.memo.now c.keep.new.self c.keep.ensures.same
     c.keep.ensures.kept.stay
-    (fails_kept c.args.req.now no_marks c.args.memo.now.kept c.keep.new.self.kept c.items-words.result.now c.args.place
+    (fails_kept c.args.req.now no_marks c.args.memo.now.kept c.keep.new.self.kept c.items-words.result.now c.args.point
     c.position.result c.args.cursor.position c.args.board.now
     (c.items-words.ensures.same ∙ ap items_of c.pattern_codes.ensures) c.position.ensures c.keep.ensures.kept.more
     (c.requires.failed no_marks (c.is_unmarked.ensures.unmarked c.if-is_unmarked.true)) c.requires.remembers.plain)
@@ -20,7 +20,7 @@ returns-then-is_unmarked-clause-remembers g c =
 
 pub returns-then-is_unmarked-clause-account : goal.returns-then-is_unmarked-clause-account
 returns-then-is_unmarked-clause-account g c =
-    holds_tried c.args.req.now c.args.place c.position.result c.args.cursor.position c.args.board.now
+    holds_tried c.args.req.now c.args.point c.position.result c.args.cursor.position c.args.board.now
     c.args.memo.now.kept c.keep.new.self.kept c.items-words.result.now
     (c.items-words.ensures.same ∙ ap items_of c.pattern_codes.ensures) c.position.ensures c.keep.ensures.kept
 

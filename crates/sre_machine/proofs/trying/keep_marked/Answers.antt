@@ -17,11 +17,12 @@ returns-then-is_marked_so-clause-remembers g c =
     let ends : EndsStay m m' = (
       ap (λ (x : MemoValue). x.ends) c.keep_marked.ensures.same,
       ap (λ (x : MemoValue). x.keeps_ends) c.keep_marked.ensures.same,
+      ap (λ (x : MemoValue). x.first) c.keep_marked.ensures.same,
     ) in
     record {
       plain = subst (λ k. Remembers r no_marks k) (sym kept) c.requires.remembers.plain;
       marked = subst (λ (x : Marks). Remembers r x m'.marked.kept) (sym c.keep_marked.ensures.marks)
-          (fails_kept c.args.req.now m.marked.marks m.marked.kept m'.marked.kept c.items-words.result.now c.args.place
+          (fails_kept c.args.req.now m.marked.marks m.marked.kept m'.marked.kept c.items-words.result.now c.args.point
           c.position.result c.args.cursor.position c.args.board.now
           (c.items-words.ensures.same ∙ ap items_of c.pattern_codes.ensures) c.position.ensures
           c.keep_marked.ensures.more

@@ -7,15 +7,13 @@ use Rattle.sre_turns.proofs.Start.{accepted_first, refused_over}
 use Rattle.sre_machine.proofs.Recalling.{recalls_waited}
 use Rattle.sre_machine.specs.Allowances.{left_of}
 use Rattle.sre_machine.specs.Memos.{MemoValue}
-use Rattle.sre_machine.proofs.Taken.{stands_at, proceeds_taken, later_taken, again_taken, end_taken}
+use Rattle.sre_machine.proofs.Taken.{stands_at, proceeds_taken, later_taken, end_taken}
 use Rattle.sre_machine.specs.Paying.{Pays}
 use Rattle.sre_machine.proofs.Paying.{pays_nothing}
 use Rattle.sre_machine.proofs.Following.{follows_on, given_up, settles, nothing_granted, stands_there}
 use Rattle.sre_machine.proofs.Following.{counts_on, waited_on, same_memo, kept_memo}
 use Rattle.sre_machine.proofs.Ending.{kept_then, ended_then}
 use Rattle.sre_machine.specs.Turns.{KeepsBodyEnd}
-use Rattle.sre_turns.proofs.Faring.{again_free}
-use Rattle.sre_turns.proofs.Moving.{arrived}
 use Rattle.sre_machine.proofs.turns.remembering_turns.Goals as goal
 
 pub keep_ends-requires-clause-ends : goal.keep_ends-requires-clause-ends
@@ -49,7 +47,7 @@ turn-init g c =
       stands = c.requires.stands;
       follows = record {
         each = λ limit x.
-            (limit, x, refl, refl, refl, pays_nothing r m m limit limit refl (refl, refl) (λ h. h) refl refl);
+            (limit, x, refl, refl, refl, pays_nothing r m m limit limit refl (refl, refl, refl) (λ h. h) refl refl);
       };
       within = c.requires.within;
       limited = refl;
@@ -172,9 +170,10 @@ turn-smaller-in-Again g c =
     let r = run_of c.args.req.now in
     let stands : StandsWithin r g.K.Plan.all (g.K.Plan.limit - c.turn.turned) c.turn.next c.turns_due-turns.new.board =
     rw c.turns_due-turns.ensures.board c.turn.invariant.stands in
-    let t = again_taken r g.K.Plan.all g.K.Plan.limit c.turn.turned c.tick.new.self c.turns_due-turns.new.board
-    c.again.new.board c.in_ok-next-in-Again.next c.tick.ensures c.in-Again.cursor c.in_ok-next-in-Again.ensures
-    (stands_at r _ _ _ _ _ c.in-Again.is stands) in
+    let t = proceeds_taken r g.K.Plan.all g.K.Plan.limit c.turn.turned c.tick.new.self c.turns_due-turns.new.board
+    c.again_or_back.new.board c.in_ok-next-in-Again.next c.tick.ensures (next.Again c.in-Again.cursor)
+    (λ l more. Pays c.args.req.now c.waits_on.new.memo l c.again_or_back.new.memo more)
+    (λ l x. c.in_ok-next-in-Again.ensures.turn g.K.Plan.all l x) (stands_at r _ _ _ _ _ c.in-Again.is stands) in
     omega (arith, c.tick.ensures, t.0)
 
 pub turn-preserved-in-Again : goal.turn-preserved-in-Again
@@ -182,39 +181,38 @@ turn-preserved-in-Again g c =
     let r = run_of c.args.req.now in
     let stands : StandsWithin r g.K.Plan.all (g.K.Plan.limit - c.turn.turned) c.turn.next c.turns_due-turns.new.board =
     rw c.turns_due-turns.ensures.board c.turn.invariant.stands in
-    let t = again_taken r g.K.Plan.all g.K.Plan.limit c.turn.turned c.tick.new.self c.turns_due-turns.new.board
-    c.again.new.board c.in_ok-next-in-Again.next c.tick.ensures c.in-Again.cursor c.in_ok-next-in-Again.ensures
-    (stands_at r _ _ _ _ _ c.in-Again.is stands) in
+    let t = proceeds_taken r g.K.Plan.all g.K.Plan.limit c.turn.turned c.tick.new.self c.turns_due-turns.new.board
+    c.again_or_back.new.board c.in_ok-next-in-Again.next c.tick.ensures (next.Again c.in-Again.cursor)
+    (λ l more. Pays c.args.req.now c.waits_on.new.memo l c.again_or_back.new.memo more)
+    (λ l x. c.in_ok-next-in-Again.ensures.turn g.K.Plan.all l x) (stands_at r _ _ _ _ _ c.in-Again.is stands) in
     record {
       follows =
           follows_on c.args.req.now g.K.Plan.all c.args.first c.args.board.now c.args.memo.now c.args.turned.now
           c.turn.next
-          c.in_ok-next-in-Again.next c.turn.board c.again.new.board c.turn.memo c.waits_on.new.memo
-          c.waits_on.new.memo c.turn.turned c.tick.new.self c.tick.ensures c.waits_on.ensures.same
-          (λ l x. nothing_granted c.args.req.now g.K.Plan.all c.args.first c.args.board.now c.args.memo.now
-          c.args.turned.now c.in_ok-next-in-Again.next c.again.new.board c.waits_on.new.memo l
-          (c.in_ok-next-in-Again.ensures g.K.Plan.all l (arrived again_free
-          (stands_there r _ l c.turn.next (next.Again c.in-Again.cursor) c.turn.board c.turns_due-turns.new.board
-          c.in-Again.is c.turns_due-turns.ensures.board x)))) c.turn.invariant.follows;
+          c.in_ok-next-in-Again.next c.turn.board c.again_or_back.new.board c.turn.memo c.waits_on.new.memo
+          c.again_or_back.new.memo c.turn.turned c.tick.new.self c.tick.ensures c.waits_on.ensures.same
+          (λ l x. c.in_ok-next-in-Again.ensures.turn g.K.Plan.all l
+          (stands_there r _ l c.turn.next (next.Again c.in-Again.cursor) c.turn.board
+          c.turns_due-turns.new.board
+          c.in-Again.is c.turns_due-turns.ensures.board x)) c.turn.invariant.follows;
       stands = t.1;
       within = omega (arith, c.tick.ensures, t.0);
-      remembers =
-          recalls_waited (run_of c.args.req.now) c.turn.memo c.waits_on.new.memo c.waits_on.ensures.same
-          c.turn.invariant.remembers;
+      remembers = c.again_or_back.ensures.remembers;
       counts =
           counts_on c.args.req.now g.K.Plan.all c.args.first c.args.board.now c.args.memo.now
           c.args.turned.now c.turn.memo c.turn.turned (left_of c.args.allowed.now) (left_of c.turn.allowed)
           (left_of c.takes_turns.new.allowed)
           c.turns_due-turns.result c.turn.invariant.counts c.turns_due-turns.ensures.each c.takes_turns.ensures.spent
-          c.waits_on.new.memo c.tick.new.self c.tick.ensures
-          (λ h. inl (ap (λ (k : MemoValue). k.is_open) c.waits_on.ensures.same ∙ h));
+          c.again_or_back.new.memo c.tick.new.self c.tick.ensures
+          (λ h. c.in_ok-next-in-Again.ensures.still (ap (λ (k : MemoValue). k.is_open) c.waits_on.ensures.same ∙ h));
       waited = λ w.
-          waited_on c.args.memo.now c.turn.memo c.waits_on.new.memo c.waits_on.new.memo (left_of c.args.allowed.now)
+          waited_on c.args.memo.now c.turn.memo c.waits_on.new.memo c.again_or_back.new.memo
+          (left_of c.args.allowed.now)
           (left_of c.turn.allowed) (left_of c.takes_turns.new.allowed) c.turns_due-turns.result
           (c.turn.invariant.waited w)
           c.waits_on.ensures.same
           (c.waits_on.ensures.waited c.if-not-waits_on.false w) c.takes_turns.ensures.spent
-          (λ h. (refl, refl));
+          (λ h. same_memo c.waits_on.new.memo c.again_or_back.new.memo (c.in_ok-next-in-Again.ensures.closed h));
       limited = c.takes_turns.ensures.limited ∙ c.turn.invariant.limited;
       fewer = omega (arith, c.turn.invariant.fewer, c.takes_turns.ensures.fewer);
       spent = rw c.tick.ensures (turn_spent _ _ _ _ _ c.turn.invariant.spent

@@ -3,33 +3,35 @@ use Rattle.std.proofs.lemmas.Option.{slice_get_within}
 use Rattle.sre_turns.specs.Board.{choice, Trying}
 use Rattle.sre_board.proofs.OpenSpots.{gone_else, gone_tried, more_tried, kept_tried, gone_to_end, gone_to_region}
 use Rattle.sre_board.proofs.OpenSpots.{passed_over}
-use Rattle.sre_board.proofs.ends.Ends.keep_open.Goals.{in-Tried+in_ok-keep_spot-in-Tried, in_default-point}
+use Rattle.sre_board.proofs.ends.Ends.keep_open.Goals.{in-Some-tried_of+in_ok-keep_spot, in_default-tried_of}
 use Rattle.sre_board.proofs.ends.Ends.keep_open.Goals as goal
 
-pub returns-in_err-keep_spot-in-Tried-clause-more : goal.returns-in_err-keep_spot-in-Tried-clause-more
-returns-in_err-keep_spot-in-Tried-clause-more g c =
+pub returns-in_err-keep_spot-clause-more : goal.returns-in_err-keep_spot-clause-more
+returns-in_err-keep_spot-clause-more g c =
     let cs = c.args.board.now.choices in
     let s = c.in-Some.saved in
     let fs = slice_index_or c.in-Some.chains.now s.frame [] in
     let w = rw c.in-Some.is at c.saved.ensures.waits in
     let m = w.1.0 in
-    let e : slice_get cs c.choice.depth ≡ Some (Trying c.in-Tried.place fs s.cursor m) =
-    w.1.1 ∙ ap (λ pt. Some (choice pt fs s.cursor m)) c.in-Tried.is in
+    let tried = c.in-Some-tried_of.tried in
+    let e : slice_get cs c.choice.depth ≡ Some (Trying tried fs s.cursor m) =
+    w.1.1 ∙ ap (λ x. Some x) (c.in-Some-tried_of.ensures fs s.cursor m) in
     more_tried c.args.failures.now c.args.words.now c.args.end c.choice.self cs c.choice.depth
-    c.choice.invariant.gone c.in-Tried.place fs s.cursor m e c.args.self.now c.keep_spot.new.self
+    c.choice.invariant.gone tried fs s.cursor m e c.args.self.now c.keep_spot.new.self
     c.choice.invariant.more (c.keep_spot.ensures.more m)
 
-pub returns-in_err-keep_spot-in-Tried-clause-kept : goal.returns-in_err-keep_spot-in-Tried-clause-kept
-returns-in_err-keep_spot-in-Tried-clause-kept g c =
+pub returns-in_err-keep_spot-clause-kept : goal.returns-in_err-keep_spot-clause-kept
+returns-in_err-keep_spot-clause-kept g c =
     let cs = c.args.board.now.choices in
     let s = c.in-Some.saved in
     let fs = slice_index_or c.in-Some.chains.now s.frame [] in
     let w = rw c.in-Some.is at c.saved.ensures.waits in
     let m = w.1.0 in
-    let e : slice_get cs c.choice.depth ≡ Some (Trying c.in-Tried.place fs s.cursor m) =
-    w.1.1 ∙ ap (λ pt. Some (choice pt fs s.cursor m)) c.in-Tried.is in
+    let tried = c.in-Some-tried_of.tried in
+    let e : slice_get cs c.choice.depth ≡ Some (Trying tried fs s.cursor m) =
+    w.1.1 ∙ ap (λ x. Some x) (c.in-Some-tried_of.ensures fs s.cursor m) in
     kept_tried c.args.failures.now c.args.words.now c.args.end c.choice.self cs c.choice.depth
-    c.choice.invariant.gone c.in-Tried.place fs s.cursor m e c.args.self.now c.keep_spot.new.self
+    c.choice.invariant.gone tried fs s.cursor m e c.args.self.now c.keep_spot.new.self
     c.choice.invariant.kept (c.keep_spot.ensures.kept m)
 
 pub returns-in-Inside-clause-held : goal.returns-in-Inside-clause-held
@@ -61,24 +63,24 @@ choice-preserved g c =
     let fs = slice_index_or c.in-Some.chains.now s.frame [] in
     let w = rw c.in-Some.is at c.saved.ensures.waits in
     let m = w.1.0 in
-    elim c.match-saved-2.branch [
-      | in-Tried+in_ok-keep_spot-in-Tried x ↦
-          let i = x.in-Tried.place in
+    elim c.match-tried_of.branch [
+      | in-Some-tried_of+in_ok-keep_spot x ↦
+          let pt = x.in-Some-tried_of.tried in
           let u = x.keep_spot.new.self in
-          let e : slice_get cs c.choice.depth ≡ Some (Trying i fs s.cursor m) =
-          w.1.1 ∙ ap (λ pt. Some (choice pt fs s.cursor m)) x.in-Tried.is in
+          let e : slice_get cs c.choice.depth ≡ Some (Trying pt fs s.cursor m) =
+          w.1.1 ∙ ap (λ y. Some y) (x.in-Some-tried_of.ensures fs s.cursor m) in
           record {
-            gone = rw x.self-is (gone_tried k ws d t cs c.choice.depth gone i fs s.cursor m e u
-                (x.keep_spot.ensures.kept m) (x.in_ok-keep_spot-in-Tried.ensures.held m));
-            more = rw x.self-is (more_tried k ws d t cs c.choice.depth gone i fs s.cursor m e old u
+            gone = rw x.self-is (gone_tried k ws d t cs c.choice.depth gone pt fs s.cursor m e u
+                (x.keep_spot.ensures.kept m) (x.in_ok-keep_spot.ensures.held m));
+            more = rw x.self-is (more_tried k ws d t cs c.choice.depth gone pt fs s.cursor m e old u
                 c.choice.invariant.more (x.keep_spot.ensures.more m));
-            kept = rw x.self-is (kept_tried k ws d t cs c.choice.depth gone i fs s.cursor m e old u
+            kept = rw x.self-is (kept_tried k ws d t cs c.choice.depth gone pt fs s.cursor m e old u
                 c.choice.invariant.kept (x.keep_spot.ensures.kept m));
           }
-      | in_default-point x ↦
+      | in_default-tried_of x ↦
           record {
             gone = rw x.self-is (gone_else k ws d t cs c.choice.depth gone (choice s.point fs s.cursor m) w.1.1
-                (passed_over s.point fs s.cursor m _ x.in_default-point.not-Inside x.in_default-point.not-Tried));
+                (passed_over s.point fs s.cursor m _ c.in_default-point.not-Inside x.in_default-tried_of.ensures));
             more = rw x.self-is c.choice.invariant.more;
             kept = rw x.self-is c.choice.invariant.kept;
           }

@@ -1,6 +1,5 @@
 use Rattle.std.proofs.Common.{true, IfOk, Ok, Err, Result, [], slice_index_or}
 use Rattle.sre_turns.specs.Moves.{spot_at}
-use Rattle.sre_turns.specs.declared.Point.TheVariants.{Instruction}
 use Rattle.sre_board.proofs.EndsKept.{no_number, has_end}
 use Rattle.sre_board.proofs.ends.Ends.keep_spot.Goals as goal
 
@@ -11,7 +10,7 @@ if_ok (Err e) f p = tt
 pub returns-in-Some-clause-held : goal.returns-in-Some-clause-held
 returns-in-Some-clause-held g c =
     if_ok c.keep.result (λ held m.
-    let x = spot_at (Instruction c.args.place) (slice_index_or c.args.chains.now c.args.saved.frame [])
+    let x = spot_at c.args.point (slice_index_or c.args.chains.now c.args.saved.frame [])
     c.args.saved.cursor.position m in
     has_end c.args.failures.now c.args.words.now x c.in-Some.number c.args.end c.keep.new.self
     (rw c.position-position.ensures at (c.in-Some.ensures.number m)) c.in-Some.ensures.laid held) c.keep.ensures.held

@@ -21,11 +21,11 @@ returns-clause-grows g c =
 
 pub push_row-requires-clause-none : goal.push_row-requires-clause-none
 push_row-requires-clause-none g c = λ n r e.
-    c.requires n r (ap (λ (y : Kept). slice_get y.rows n) (sym c.self.view_is) ∙ e)
+    c.requires.none n r (ap (λ (y : Kept). slice_get y.rows n) (sym c.self.view_is) ∙ e)
 
 pub returns-in_err-slots-clause-rows : goal.returns-in_err-slots-clause-rows
 returns-in_err-slots-clause-rows g c =
-    no_row c.args.words.now c.args.first c.args.end c.args.place _ c.args.self.now
+    no_row c.args.words.now c.args.first c.args.end c.args.point _ c.args.self.now
     (kept_of c.self.inside.rows.items c.add_shape.new.shapes.items c.self.inside.bits.items) c.add_shape.ensures.more.0
     (ap (λ (y : Kept). y.rows) c.self.view_is)
     (c.add_shape.ensures.more.1
@@ -42,6 +42,7 @@ returns-clause-rows g c =
       end = c.len.result;
       base = c.len-base.result;
       length = c.room-positions.result.1;
+      again = c.is_again.result;
     } in
     let shape : c.len-shape.result ≡ length c.self.inside.shapes.items =
     omega (arith, c.len-shape.ensures, c.self.inside.shapes.ok.0) in
@@ -49,11 +50,11 @@ returns-clause-rows g c =
     omega (arith, c.len.ensures, c.add_shape.new.shapes.ok.0) in
     let base : c.len-base.result ≡ length c.args.self.now.bits =
     omega (arith, c.len-base.ensures, c.self.inside.bits.ok.0, ap (λ (y : Kept). length y.bits) c.self.view_is) in
-    new_row c.args.words.now c.args.first c.args.end c.args.place _ c.args.self.now mid c.push_row.new.self row
+    new_row c.args.words.now c.args.first c.args.end c.args.point _ c.args.self.now mid c.push_row.new.self row
     c.add_shape.ensures.more.0 _ (ap (λ (y : Kept). y.rows) c.self.view_is)
     (c.add_shape.ensures.more.1
     ∙ ap (λ (y : Kept). y.shapes ++ c.add_shape.ensures.more.0) c.self.view_is)
-    c.push_row.ensures.rows c.push_row.ensures.shapes refl
+    c.push_row.ensures.rows c.push_row.ensures.shapes c.requires.place c.is_again.ensures
     (made_for c.args.words.now c.args.first c.args.end c.args.place _ _ c.args.self.now mid row c.in_ok-slots.slots
     c.len-base.result (length c.self.inside.shapes.items) c.loops-innermost.ensures.frames refl end shape
     c.in_ok-slots.ensures.shape c.in_ok-slots.ensures.slots base c.room-positions.ensures.enough)

@@ -2,7 +2,6 @@ use Rattle.std.proofs.Common.{IfNone, subst}
 use Rattle.sre_chars.specs.declared.string.StringCursor.{StringCursor}
 use Rattle.sre_turns.specs.Fruit.{is_inside}
 use Rattle.sre_turns.specs.Moves.{spot_at}
-use Rattle.sre_turns.specs.declared.Point.TheVariants.{Instruction}
 use Rattle.sre_board.specs.Ends.{TellsEnd}
 use Rattle.sre_board.proofs.EndsKept.{none_told}
 use Rattle.sre_machine.specs.Memos.{MemoValue}
@@ -13,7 +12,7 @@ returns-clause-none g c =
     let b = c.args.board.now in
     let ws = c.args.words.now in
     let inside = is_inside b.choices in
-    let x = spot_at (Instruction c.args.place) b.frames c.args.position b.marks in
+    let x = spot_at c.args.point b.frames c.args.position b.marks in
     subst (λ (m : MemoValue).
     IfNone c.end.result ((end : StringCursor) → TellsEnd m.kept m.ends ws inside x end → ⊥)) c.self.view_is
     (none_told c.self.inside.failures c.self.inside.ends ws inside x c.in_ok-number.number

@@ -13,7 +13,7 @@ returns-in_err-run_once-clause-costs g c = record {
   given_up = passed_found c.from_residual.result c.run_once.new.ended c.in_err-run_once.field-0.0 _
       c.from_residual.ensures.1
       (λ used. anew_given_up c.args.req.now c.args.start c.open.new.self _ c.open.ensures.opened
-      c.open.ensures.empty c.open.ensures.ends _ (c.in_err-run_once.ensures.costs.given_up used));
+      c.open.ensures.empty c.open.ensures.first c.open.ensures.ends _ (c.in_err-run_once.ensures.costs.given_up used));
   settles = λ _. never_found _ _ c.from_residual.result c.run_once.new.ended c.from_residual.ensures.1;
 }
 
@@ -22,7 +22,8 @@ returns-in-Failed-clause-costs g c = record {
   spent = c.in_ok-run_once.ensures.costs.spent;
   given_up = tt;
   settles = λ limited none.
-      anew_settles c.args.req.now c.args.start c.open.new.self _ c.open.ensures.opened c.open.ensures.empty c.open.ensures.ends
-      c.run_once.new.self.memo _ (c.in_ok-run_once.ensures.costs.settles limited
+      anew_settles c.args.req.now c.args.start c.open.new.self _ c.open.ensures.opened c.open.ensures.empty
+      c.open.ensures.first c.open.ensures.ends c.run_once.new.self.memo _
+      (c.in_ok-run_once.ensures.costs.settles limited
       (ap (λ e. decision_of e c.run_once.new.ended) c.in-Failed.is));
 }

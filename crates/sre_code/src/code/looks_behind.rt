@@ -1,0 +1,58 @@
+//! How far the looks of items go back together: a scan from one instruction to the next, into each body, as that of the
+//! runs' counts.
+
+ghost use Rattle.std.specs.Prelude.{◌≡◌, ◌<◌, ◌-◌, ◌^◌, false, length, min};
+ghost use Rattle.sre_model.specs.Tree.{Tree};
+ghost use Rattle.sre_model.specs.Grammar.{WholeItems};
+ghost use Rattle.sre_model.specs.References.{refers};
+ghost use Rattle.sre_model.specs.LooksBehind.{backs};
+ghost use Rattle.sre_code.specs.Instructions.{back_at, BackAt};
+
+use crate::code::run_counts::next_place;
+use crate::code::words;
+use crate::operands::word_or_zero;
+use sre_chars::constants::SreOpcode;
+
+/// How many characters the look at this place goes back, which has this opcode; 0 where another instruction is.
+fn back_at(words: &[u32], place: usize, code: SreOpcode) -> u32
+    requires { place < length words.now }
+    ensures { result ≡ back_at code words.now place }
+{
+    match code {
+        SreOpcode::ASSERT | SreOpcode::ASSERT_NOT => word_or_zero(words, place + 2),
+        _ => 0,
+    }
+}
+
+/// Where the instruction behind the one at this place stands, and how many characters the look at this place goes back;
+/// none where a reference or a condition is there.
+fn next_back(words: &[u32], place: usize) -> Option<(usize, u32)>
+    ensures { BackAt words.now place result }
+{
+    let Ok(code) = words::opcode(words, place) else {
+        return None;
+    };
+    match next_place(words, place) {
+        Some(behind) => Some((behind, back_at(words, place, code))),
+        None => None,
+    }
+}
+
+/// How many characters the looks of the items go back together, which have SUCCESS as the last word, or the greatest
+/// number where these are more. Of items with a reference or a condition nothing is told.
+pub fn backs(words: &[u32]) -> usize
+    ensures { (tree : Tree) → WholeItems words.now tree → refers tree ≡ false
+        → result ≡ min (backs tree) (2 ^ 64 - 1) }
+{
+    let last = words.len().saturating_sub(1);
+    let mut place = 0;
+    let mut sum: usize = 0;
+    'instruction: while place < last {
+        let Some((behind, back)) = next_back(words, place) else {
+            return sum;
+        };
+        sum = sum.saturating_add(back as usize);
+        place = behind;
+    }
+    sum
+}

@@ -1,0 +1,17 @@
+-- How far the looks of a tree go back together.
+-- Of the meaning: what sre_engine makes public rests on it.
+use Rattle.std.specs.Prelude.{ℕ, ◌+◌}
+use Rattle.sre_model.specs.Tree.{Tree, Item, Look}
+use Rattle.sre_model.specs.Folding.{Folding, of_tree}
+
+-- a look goes back, and so may those inside of it from there
+abbrev pub by_backs : Folding ℕ
+by_backs = record { nothing = 0; both = ◌+◌; item = backs_here }
+  where
+    backs_here : Item → ℕ → ℕ
+    backs_here (Look sign back body) inside = back + inside
+    backs_here x inside = inside
+
+-- how far all looks of a tree go back together: from where it begins it is never looked further back
+abbrev pub backs : Tree → ℕ
+backs = of_tree by_backs

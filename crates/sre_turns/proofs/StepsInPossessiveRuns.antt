@@ -1,0 +1,184 @@
+-- Turns at a possessive run of one test. One without a greatest count goes on turn by turn; the machine may go over all
+-- these turns at once.
+use Rattle.std.proofs.Common.{◌≡◌, ℕ, ◌+◌, ◌-◌, ◌*◌, ◌<◌, ◌≤◌, Bool, true, false, nat_eq, nat_lt, List, length}
+use Rattle.std.proofs.Common.{refl, sym, subst, arith}
+use Rattle.std.proofs.lemmas.Bool.Decides.{nat_tests}
+use Rattle.sre_chars.specs.declared.constants.SreOpcode.{SreOpcode}
+use Rattle.sre_chars.specs.declared.constants.SreOpcode.TheVariants as opcode
+use Rattle.sre_chars.specs.declared.string.StringCursor.{StringCursor}
+use Rattle.sre_model.specs.Tree.{Test, PossessiveRun}
+use Rattle.sre_model.specs.Subject.{passes}
+use Rattle.sre_model.specs.Ways.{Way, unlimited, longest_run}
+use Rattle.sre_model.specs.Grammar.{Opcode, skip}
+use Rattle.sre_model.specs.Roles.{ToRun}
+use Rattle.sre_model.specs.Runs.{Run}
+use Rattle.sre_turns.specs.Board.{BoardValue}
+use Rattle.sre_turns.specs.Confining.{StandsConfined}
+use Rattle.sre_turns.specs.Limits.{Limit, Stage, share, Going, spare, HereIn}
+use Rattle.sre_turns.specs.Machine.{Moves, Runs, Comes, goes, Goes, GoesWith, Later, spot}
+use Rattle.sre_turns.specs.Moves.{Spot, spot_at, Stop, Go}
+use Rattle.sre_turns.specs.MovesInRuns.{RunOperands}
+use Rattle.sre_turns.specs.OperandsOfRuns.{OperandsOfRun}
+use Rattle.sre_turns.specs.RunEnds.{AllPass}
+use Rattle.sre_turns.specs.declared.Next.TheVariants as next
+use Rattle.sre_turns.specs.declared.Point.TheVariants.{Instruction}
+use Rattle.sre_turns.proofs.Confining.{goes_confined}
+use Rattle.sre_turns.proofs.Faring.{fares_earlier}
+use Rattle.sre_turns.proofs.HereMoves.{here_moves}
+use Rattle.sre_turns.proofs.Moving.{at_instruction, comes, sooner, turn_goes, turn_stops}
+use Rattle.sre_turns.proofs.PossessiveRunEnds.{longest_lacks, longest_stretch, onward_stops, onward_goes}
+use Rattle.sre_turns.proofs.PossessiveRunEnds.{stretch_keeps, stretch_over}
+use Rattle.sre_turns.proofs.StepsInRuns.{CountsRun, stands_of}
+
+-- what each turn that goes to another spot keeps is so of y where it is so of x, and what comes of x comes of y, in
+-- fewer turns
+pub record ComesTo (r : Run) (x y : Spot) : Type 1 where
+  pub keeps : (P : Spot → Type 0) → ((x y : Spot) → Moves r.words r.subject x (Go y) → P x → P y) → P x → P y
+  pub runs : (os : List Way) (n : ℕ) → Runs r.words r.subject x os n
+      → (k : ℕ) × (k + 1 ≤ n) × Runs r.words r.subject y os k
+
+-- so it is behind one such turn
+one_turn : (r : Run) (x y : Spot) → Moves r.words r.subject x (Go y) → ComesTo r x y
+one_turn r x y mv = record { keeps = λ P keeps. keeps x y mv; runs = λ os n d. go (comes (Go y) mv d) }
+  where
+    go : {os : List Way} {n : ℕ} → Comes r.words r.subject x (Go y) os n
+        → (k : ℕ) × (k + 1 ≤ n) × Runs r.words r.subject y os k
+    go (goes {n = k} e) = (k, omega arith, e)
+
+-- and the machine may go there at once, if it has enough for an instruction there
+pub comes_at_once : (stage : Stage) (r : Run) (i j : ℕ) (c d : StringCursor) (b : BoardValue) (o : SreOpcode)
+    → Opcode r.words i o
+    → 2 * (length r.words - j) + 3 + 1 ≤ share stage r.words r.subject.end o (spot (Instruction i) c b)
+    → ComesTo r (spot (Instruction i) c b) (spot (Instruction j) d b) → r.stands d d.position
+    → (all : List Way) (limit : Limit) → GoesWith stage r all limit (Instruction i) c b
+    → Later r all limit (next.At j d) b
+comes_at_once stage r i j c d b o w enough on stands all limit g =
+    let f = on.runs g.now g.turns g.runs in (
+      omega (arith, f.1, g.within),
+      record {
+        now = g.now;
+        turns = f.0;
+        later = g.later;
+        stands = stands;
+        placed = g.placed;
+        runs = f.2;
+        waits = sooner (g.turns + spare stage) (f.0 + 1) (omega (arith, f.1)) g.waits;
+        within = omega (arith, f.1, g.within);
+        fares = λ pl o' w'.
+            let at = g.fares pl o w in record {
+              here =
+                  on.keeps (λ x. HereIn r pl limit.start b.choices x)
+                  (λ x y mv h. here_moves r pl limit.start b.choices x (Go y) h mv) at.here;
+              fares = fares_earlier r pl limit b.choices _ _ enough at.fares;
+            };
+        confined = λ none.
+            on.keeps (λ x. StandsConfined r.words x b.choices)
+            (λ x y mv h. goes_confined r.words r.subject x y b.choices mv h) (g.confined none);
+      },
+    )
+
+-- a possessive run without a greatest count
+module _ (r : Run) (i low end : ℕ) (t : Test) (w : Opcode r.words i opcode.POSSESSIVE_REPEAT_ONE)
+    (o : RunOperands r.words i low unlimited end t) (c d : StringCursor) (b : BoardValue)
+    (stands : r.stands d d.position) where
+  -- one toll pays for the way to an instruction
+  abbrev pays : (stage : Stage) → Type 0
+  pays stage =
+      (j : ℕ) → 2 * (length r.words - j) + 3 + 1
+      ≤ share stage r.words r.subject.end opcode.POSSESSIVE_REPEAT_ONE (spot (Instruction i) c b)
+
+  -- over so many characters more than its least count, behind which no more pass, it comes to its tail
+  pub over_stretch : (stage : Stage) → pays stage → (more : ℕ)
+      → AllPass r.subject t c.position (c.position + low + more) → passes r.subject t (c.position + low + more) ≡ false
+      → d.position ≡ c.position + low + more → (all : List Way) (limit : Limit)
+      → GoesWith stage r all limit (Instruction i) c b → Later r all limit (next.At (skip r.words (i + 1)) d) b
+  over_stretch stage enough more all_pass stopped there =
+      let tail : ℕ = skip r.words (i + 1) in
+      comes_at_once stage r i tail c d b opcode.POSSESSIVE_REPEAT_ONE w (enough tail)
+      (subst (λ q. ComesTo r (spot (Instruction i) c b) (spot_at (Instruction tail) b.frames q b.marks)) (sym there)
+      (record {
+        keeps = λ P keeps x.
+            stretch_keeps r.words r.subject i low end t b.frames b.marks w o P keeps more c.position (all_pass, stopped)
+            x;
+        runs = λ os n x.
+            stretch_over r.words r.subject i low end t b.frames b.marks w o more c.position os n (all_pass, stopped) x;
+      })) stands
+
+  -- where more than its least count passes, it goes on to the run from the next character on
+  pub goes_onward : (stage : Stage) → pays stage → AllPass r.subject t c.position (c.position + low + 1)
+      → d.position ≡ c.position + 1 → (all : List Way) (limit : Limit)
+      → GoesWith stage r all limit (Instruction i) c b → Later r all limit (next.At i d) b
+  goes_onward stage enough all_pass there =
+      let mv : Moves r.words r.subject (spot (Instruction i) c b) (Go (spot (Instruction i) d b)) =
+      subst (λ q. Moves r.words r.subject (spot (Instruction i) c b)
+      (Go (spot_at (Instruction i) b.frames q b.marks))) (sym there)
+      (onward_goes r.words r.subject i low end t b.frames b.marks w o c.position all_pass) in
+      comes_at_once stage r i i c d b opcode.POSSESSIVE_REPEAT_ONE w (enough i)
+      (one_turn r (spot (Instruction i) c b) (spot (Instruction i) d b) mv) stands
+
+-- POSSESSIVE_REPEAT_ONE, gone over at once
+module _ (r : Run) (i tail low high count : ℕ) (c : StringCursor) (b : BoardValue)
+    (w : Opcode r.words i opcode.POSSESSIVE_REPEAT_ONE) (o : OperandsOfRun r.words i tail low high)
+    (k : CountsRun r i high c.position count) where
+  longest_is : longest_run r.subject o.test.test high c.position ≡ count
+  longest_is = sym (k o.test.end o.test.test o.test.stands)
+
+  -- without a greatest count
+  abbrev Endless : Type 0
+  Endless =
+      RunOperands r.words i low unlimited o.test.end o.test.test
+      × (longest_run r.subject o.test.test unlimited c.position ≡ count)
+
+  endless : nat_eq high unlimited ≡ true → Endless
+  endless y =
+      let same : high ≡ unlimited = grind (arith, nat_tests) in (
+        subst (λ n. RunOperands r.words i low n o.test.end o.test.test) same (stands_of r.words i tail low high o),
+        subst (λ n. longest_run r.subject o.test.test n c.position ≡ count) same longest_is,
+      )
+
+  pub longest_short : count < low → (all : List Way) (limit : Limit) → Goes r all limit (Instruction i) c b
+      → Later r all limit next.Back b
+  longest_short l = turn_stops r (Instruction i) c b (go (nat_eq high unlimited) refl)
+    where
+      go : (y : Bool) → nat_eq high unlimited ≡ y → Moves r.words r.subject (spot (Instruction i) c b) Stop
+      go true y =
+          let x = endless y in
+          onward_stops r.words r.subject i low o.test.end o.test.test b.frames b.marks w x.0 c.position
+          (longest_lacks r.subject o.test.test low c.position (omega (arith, x.1, l)))
+      go false y =
+          let short : nat_lt count low ≡ true = grind (arith, nat_tests) in
+          at_instruction opcode.POSSESSIVE_REPEAT_ONE (ToRun PossessiveRun) refl w (record {
+            low = low;
+            high = high;
+            end = o.test.end;
+            test = o.test.test;
+            operands = stands_of r.words i tail low high o;
+            is = rw (longest_is, y, short) refl;
+          })
+
+  pub longest_step : (after : StringCursor) → low ≤ count → after.position ≡ c.position + count
+      → r.stands after after.position → (all : List Way) (limit : Limit) → Goes r all limit (Instruction i) c b
+      → Later r all limit (next.At tail after) b
+  longest_step after l moved_on there all limit g = go (nat_eq high unlimited) refl
+    where
+      go : (y : Bool) → nat_eq high unlimited ≡ y → Later r all limit (next.At tail after) b
+      go true y =
+          let x = endless y in
+          let t : Test = o.test.test in
+          let more : ℕ = longest_run r.subject t unlimited c.position - low in
+          let all_of_it = longest_stretch r.subject t low c.position (omega (arith, x.1, l)) in
+          subst (λ j. Later r all limit (next.At j after) b) (sym o.leads)
+          (over_stretch r i low o.test.end t w x.0 c after b there Going (λ j. omega arith) more all_of_it.0 all_of_it.1
+          (omega (arith, moved_on, x.1, l)) all limit g)
+      go false y =
+          let enough : nat_lt count low ≡ false = grind (arith, nat_tests) in
+          let move : Moves r.words r.subject (spot (Instruction i) c b) (Go (spot (Instruction tail) after b)) =
+          at_instruction opcode.POSSESSIVE_REPEAT_ONE (ToRun PossessiveRun) refl w (record {
+            low = low;
+            high = high;
+            end = o.test.end;
+            test = o.test.test;
+            operands = stands_of r.words i tail low high o;
+            is = rw (longest_is, y, enough, moved_on, o.leads) refl;
+          }) in
+          turn_goes r (Instruction i) c b (Instruction tail) after b move there g.placed refl all limit g
