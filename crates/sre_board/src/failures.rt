@@ -410,7 +410,7 @@ impl<A: Allocator> Failures<A> {
 
     /// What is known of the spot at a point and a position, under the loops of a board and inside a region or not as it
     /// is.
-    #[inline(never)]
+    #[inline(always)]
     pub fn known(&self, words: &[u32], board: &Board<A>, point: Point, position: usize) -> Known
         ensures told { Tells result self.now words.now (is_inside board.now.choices)
             (spot_at point board.now.frames position board.now.marks) }
@@ -429,7 +429,7 @@ impl<A: Allocator> Failures<A> {
     }
 
     /// Keeps a spot, if there is a bit for it, and says whether there is one.
-    #[inline(never)]
+    #[inline(always)]
     pub fn keep(&mut self, words: &[u32], board: &Board<A>, point: Point, position: usize) -> bool
         ensures more { HoldsOneMore words.now (is_inside board.now.choices)
             (spot_at point board.now.frames position board.now.marks) self.old self.new }
