@@ -15,7 +15,7 @@ use Rattle.sre_turns.specs.declared.Point.{Point}
 use Rattle.sre_turns.specs.declared.Point.TheVariants.{Instruction, Alternatives, Shorter, Longer, Inside, Again, Tried}
 use Rattle.sre_turns.specs.declared.Point.TheVariants.{TriedAgain}
 use Rattle.sre_board.specs.Failures.{Kept}
-use Rattle.sre_board.specs.Choices.{Fits, is_mark}
+use Rattle.sre_board.specs.Choices.{Fits, is_tried}
 use Rattle.std.proofs.lemmas.Bool.{true≢false}
 use Rattle.sre_board.specs.declared.board.Saved.{Saved}
 use Rattle.sre_board.specs.Ends.{EndsTable, HoldsEnd, HoldsSpotMore, HoldsOpenMore, IsOpenSpot, HasEnd}
@@ -54,7 +54,7 @@ from_item (y ∷ xs) (suc i) x e =
 
 -- a choice that is neither a region nor the mark of what is tried
 pub passed_over : (pt : Point) (fs : List Frame) (c : StringCursor) (m : Marks) (cs : List Choice)
-    → ((g : Region) → pt ≡ Inside g → ⊥) → is_mark pt ≡ false
+    → ((g : Region) → pt ≡ Inside g → ⊥) → is_tried pt ≡ false
     → open_spots (choice pt fs c m ∷ cs) ≡ open_spots cs
 passed_over (Inside g) fs c m cs region plain = absurd (region g refl)
 passed_over (Tried i) fs c m cs region plain = absurd (true≢false plain)

@@ -19,7 +19,7 @@ use Rattle.sre_board.specs.Ends.{EndsTable, HoldsEnd}
 use Rattle.sre_board.specs.Failures.{Kept, Entry, RowFor, Roomy, Laid, most_words}
 use Rattle.sre_board.specs.declared.failures.Row.{Row}
 
--- the number of the bit of an instruction that is tried
+-- the number of the bit of what is tried
 pub record BitOf (k : Kept) (ws : List ℕ) (a : Attempt) (b : ℕ) : Type 0 where
   pub at : ℕ
   pub bit : ℕ
@@ -42,7 +42,7 @@ IsEnded es b = (c : StringCursor) × HoldsEnd es b c
 abbrev pub StaysEnded : EndsTable → EndsTable → Type 0
 StaysEnded old new = (b : ℕ) (c : StringCursor) → HoldsEnd old b c → IsEnded new b
 
--- the bits of some instructions that are tried, in their order
+-- the bits of all that is tried, in its order
 abbrev pub BitsOf : Kept → List ℕ → List Attempt → List ℕ → Type 0
 BitsOf k ws [] [] = ⊤
 BitsOf k ws [] (b ∷ bs) = ⊥

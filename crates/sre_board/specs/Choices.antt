@@ -7,8 +7,7 @@ use Rattle.sre_model.specs.Marks.{Marks, no_marks}
 use Rattle.sre_board.specs.Trail.{Trail, states}
 use Rattle.sre_turns.specs.Board.{Choice, choice, BoardValue}
 use Rattle.sre_turns.specs.declared.Frame.{Frame}
-use Rattle.sre_turns.specs.declared.Point.TheVariants.{Instruction, Alternatives, Shorter, Longer, Inside, Again, Tried}
-use Rattle.sre_turns.specs.declared.Point.TheVariants.{TriedAgain}
+use Rattle.sre_turns.specs.declared.Point.TheVariants.{Inside, Tried, TriedAgain}
 use Rattle.sre_turns.specs.declared.Point.{Point}
 use Rattle.sre_board.specs.declared.board.Saved.{Saved}
 
@@ -34,15 +33,10 @@ Fits [] n c = Unit {0}
 Fits (s ∷ ss) n c = (s.chains < n) × (s.changes ≤ c) × (s.frame ≤ s.chains) × Fits ss (s.chains + 1) s.changes
 
 -- whether a choice marks what is tried
-abbrev pub is_mark : Point → Bool
-is_mark (Instruction i) = false
-is_mark (Alternatives q) = false
-is_mark (Shorter t k) = false
-is_mark (Longer i n) = false
-is_mark (Inside g) = false
-is_mark Again = false
-is_mark (Tried i) = true
-is_mark TriedAgain = true
+abbrev pub is_tried : Point → Bool
+is_tried (Tried i) = true
+is_tried TriedAgain = true
+is_tried pt = false
 
 abbrev pub regions_of : Point → ℕ
 regions_of (Inside g) = 1

@@ -13,7 +13,7 @@ ghost use Rattle.sre_growth.specs.Refusal.{Refused};
 ghost use Rattle.sre_turns.specs.Board.{Keep, Trying, choice, from_region, Cuts, Dropped, MayBeTried, bare};
 ghost use Rattle.sre_turns.specs.Fruit.{is_inside};
 ghost use Rattle.sre_turns.specs.declared.Point.TheVariants.{Instruction, Inside};
-ghost use Rattle.sre_board.specs.Choices.{Fits, regions_of, is_mark, down_to_region, WaitsAt};
+ghost use Rattle.sre_board.specs.Choices.{Fits, regions_of, is_tried, down_to_region, WaitsAt};
 
 use crate::chains::{Chains, frame_of};
 use crate::marks::Marks;
@@ -123,7 +123,7 @@ fn mark_of(point: Point) -> Point
 /// What a choice marks as tried, if it is a mark.
 #[inline(always)]
 pub(crate) fn tried_of(point: Point) -> Option<Point>
-    ensures { MatchOption result (is_mark point ≡ false)
+    ensures { MatchOption result (is_tried point ≡ false)
         (λ tried. (fs : List Frame) (c : StringCursor) (m : values.Marks) → choice point fs c m ≡ Trying tried fs c m) }
 {
     match point {

@@ -16,7 +16,8 @@ use Rattle.sre_machine.specs.Memos.{MemoValue, Recalls}
 use Rattle.sre_machine.specs.Turns.{UnaskedMarks, EndsThere, NoEndTold}
 
 pub known_there : {S : Type 0} {text : Ghosts S} (r : Request S text) (point : Point) (position : ℕ)
-    (cursor : StringCursor) (b : BoardValue) (m : MemoValue) (ws : List ℕ) → ws ≡ (run_of r).words → position ≡ cursor.position
+    (cursor : StringCursor) (b : BoardValue) (m : MemoValue) (ws : List ℕ) → ws ≡ (run_of r).words
+    → position ≡ cursor.position
     → is_inside b.choices ≡ true → UnaskedMarks r b.marks → Recalls (run_of r) m → Laid m.kept
     → (told : Option StringCursor)
     → IfSome told (λ end. TellsEnd m.kept m.ends ws (is_inside b.choices)
@@ -31,7 +32,8 @@ known_there r point position cursor b m ws same at inside unmarked recalls laid 
 
 -- and where it tells none, none is told
 pub none_there : {S : Type 0} {text : Ghosts S} (r : Request S text) (point : Point) (position : ℕ)
-    (cursor : StringCursor) (b : BoardValue) (m : MemoValue) (ws : List ℕ) → ws ≡ (run_of r).words → position ≡ cursor.position
+    (cursor : StringCursor) (b : BoardValue) (m : MemoValue) (ws : List ℕ) → ws ≡ (run_of r).words
+    → position ≡ cursor.position
     → ((end : StringCursor) → TellsEnd m.kept m.ends ws (is_inside b.choices)
     (spot_at point b.frames position b.marks) end → ⊥)
     → NoEndTold r point cursor b m

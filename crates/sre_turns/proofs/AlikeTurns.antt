@@ -30,7 +30,7 @@ use Rattle.sre_turns.specs.Asked.{MarksAlike, OutcomesAlike}
 use Rattle.sre_turns.specs.Machine.{InRole, Moves, MovesAt}
 use Rattle.sre_turns.specs.Alike.{is_last, LoopsAlike, FramesAlike, least_from, Alike}
 use Rattle.sre_turns.proofs.Asked.{alike_set, group_alike}
-use Rattle.sre_turns.proofs.Moving.{moves_same}
+use Rattle.sre_turns.proofs.OneTurn.{moves_same}
 use Rattle.sre_turns.specs.Straight.{goes_behind}
 use Rattle.sre_turns.proofs.Onward.{EndFrom}
 use Rattle.sre_turns.proofs.AlikeLoops.{loops_later, loops_left, Beside, loop_beside, frame-alike, next-alike}

@@ -2,7 +2,6 @@
 -- unless it looks behind.
 -- The law that a search takes few turns (`enough` of sre_engine) rests on this.
 use Rattle.std.proofs.Common.{◌≡◌, ℕ, ◌≤◌, true, List, [], ◌∷◌, drop, refl, subst, arith}
-use Rattle.std.specs.Bool.{⊤}
 use Rattle.std.specs.List.{AllByRecursion}
 use Rattle.sre_model.proofs.Each.{each-append}
 use Rattle.sre_model.specs.Marks.{Marks}
@@ -27,36 +26,14 @@ module _ (r : Run) (pl : Counted r) (start : ℕ) where
   abbrev AllStop : Region → ℕ → List Way → Type 0
   AllStop g entered os = AllByRecursion (λ (w : Way). StopsIn g entered w) os
 
-  -- where a turn at a position leads in the body
-  abbrev Onto : Region → ℕ → ℕ → Move → Type 0
-  Onto g entered p Stop = ⊤
-  Onto g entered p End = (goes_behind g ≡ true → entered ≤ p) × (p ≤ r.subject.end)
-  Onto g entered p (Go y) = InBody r pl start g entered y
-  Onto g entered p (Split y z) = InBody r pl start g entered y × InBody r pl start g entered z
-  Onto g entered p (Enter k y z) =
-      (y.position ≤ r.subject.end)
-      × ((q : ℕ) (m : Marks) → y.position ≤ q → q ≤ r.subject.end
-      → InBody r pl start g entered (spot_at (point_behind k) y.frames q m))
-      × ((t : ℕ) (m : Marks) → k ≡ Further t
-      → InBody r pl start g entered (spot_at (Instruction t) (drop 1 y.frames) y.position m))
-      × InBody r pl start k y.position z
-
-  onto_there : (g : Region) (entered : ℕ) (x : Spot) (b : InBody r pl start g entered x) (mv : Move)
-      → InsideOnto r pl start g entered x b mv → Onto g entered x.position mv
-  onto_there g entered x b Stop on = on
-  onto_there g entered x b End on = on
-  onto_there g entered x b (Go y) on = on
-  onto_there g entered x b (Split y z) on = on
-  onto_there g entered x b (Enter k y z) on = on
-
-  -- and where it leads behind a region inside
+  -- where the machine goes behind a region inside
   onto_behind : (g : Region) (entered : ℕ) (k : Region) (y : Spot) (now : List Way)
       → y.position ≤ r.subject.end
       → ((q : ℕ) (m : Marks) → y.position ≤ q → q ≤ r.subject.end
       → InBody r pl start g entered (spot_at (point_behind k) y.frames q m))
       → ((t : ℕ) (m : Marks) → k ≡ Further t
       → InBody r pl start g entered (spot_at (Instruction t) (drop 1 y.frames) y.position m))
-      → AllStop k y.position now → Onto g entered y.position (closing_move k y now)
+      → AllStop k y.position now → InsideOnto r pl start g entered y.position (closing_move k y now)
   onto_behind g entered (AtomicGroup t) y [] inside on left all = tt
   onto_behind g entered (AtomicGroup t) y (w ∷ ws) inside on left all = on w.stop w.marks (all.0.0 refl) all.0.1
   onto_behind g entered (Ahead t) y [] inside on left all = tt
@@ -72,10 +49,11 @@ module _ (r : Run) (pl : Counted r) (start : ℕ) where
     all_stop : (g : Region) (entered : ℕ) {x : Spot} {os : List Way} {n : ℕ} → (b : InBody r pl start g entered x)
         → Runs r.words r.subject x os n → AllStop g entered os
     all_stop g entered {x} b (turns mv h d) =
-        stop_after g entered mv (onto_there g entered x b mv (inside_moves r pl start g entered x b mv h)) d
+        stop_after g entered mv (inside_moves r pl start g entered x b mv h) d
 
-    stop_after : (g : Region) (entered : ℕ) {x : Spot} (mv : Move) → Onto g entered x.position mv → {os : List Way}
-        {n : ℕ} → Comes r.words r.subject x mv os n → AllStop g entered os
+    stop_after : (g : Region) (entered : ℕ) {x : Spot} (mv : Move)
+        → InsideOnto r pl start g entered x.position mv → {os : List Way} {n : ℕ}
+        → Comes r.words r.subject x mv os n → AllStop g entered os
     stop_after g entered Stop on stops = tt
     stop_after g entered End on ends = (on, tt)
     stop_after g entered (Go y) on (goes d) = all_stop g entered on d

@@ -1,7 +1,7 @@
 -- What is left of the potential where a region is left, in a search over words whose turns are counted: the choices
 -- above it go, with what is tried inside.
 -- The law that a search takes few turns (`enough` of sre_engine) rests on this.
-use Rattle.std.proofs.Common.{◌≡◌, ℕ, ◌+◌, ◌-◌, ◌*◌, ◌≤◌, length, List, [], ◌∷◌, drop, true, refl, sym, ap, ◌∙◌}
+use Rattle.std.proofs.Common.{◌≡◌, ℕ, ◌+◌, ◌≤◌, length, List, [], ◌∷◌, drop, true, refl, sym, ap, ◌∙◌}
 use Rattle.std.proofs.Common.{◌++◌, subst, arith}
 use Rattle.std.proofs.lemmas.Bool.{true≢false}
 use Rattle.sre_chars.specs.declared.string.StringCursor.{StringCursor}
@@ -9,7 +9,7 @@ use Rattle.sre_model.specs.Marks.{Marks}
 use Rattle.sre_model.specs.Runs.{Run}
 use Rattle.sre_turns.specs.Attempts.{Attempt}
 use Rattle.sre_turns.specs.Board.{Choice, Else, Keep, Trying, from_region}
-use Rattle.sre_turns.specs.Limits.{Limit, earlier, without_open, HereIn, Reopens, Settling, Fares, FaresAt, FaresBack}
+use Rattle.sre_turns.specs.Limits.{Limit, earlier, without_open, Reopens, Settling, Fares, FaresAt, FaresBack}
 use Rattle.sre_turns.specs.Fruit.{is_inside}
 use Rattle.sre_turns.specs.Limits.{FaresEnd, EndsIn, share_of, behind_share, waiting, tried_spots, open_attempts}
 use Rattle.sre_turns.specs.Moves.{Spot, spot_at}

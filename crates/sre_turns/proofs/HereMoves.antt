@@ -167,6 +167,20 @@ module _ (r : Run) (pl : Counted r) (start : ℕ) where
         at,
       )
 
+  -- where a turn at a position leads in the body of a region
+  abbrev pub InsideOnto : Region → ℕ → ℕ → Move → Type 0
+  InsideOnto g entered p Stop = ⊤
+  InsideOnto g entered p End = (goes_behind g ≡ true → entered ≤ p) × (p ≤ r.subject.end)
+  InsideOnto g entered p (Go y) = InBody r pl start g entered y
+  InsideOnto g entered p (Split y z) = InBody r pl start g entered y × InBody r pl start g entered z
+  InsideOnto g entered p (Enter k y z) =
+      (y.position ≤ r.subject.end)
+      × ((q : ℕ) (m : Marks) → y.position ≤ q → q ≤ r.subject.end
+      → InBody r pl start g entered (spot_at (point_behind k) y.frames q m))
+      × ((t : ℕ) (m : Marks) → k ≡ Further t
+      → InBody r pl start g entered (spot_at (Instruction t) (drop 1 y.frames) y.position m))
+      × InBody r pl start k y.position z
+
   -- in the body of a region
   module _ (g : Region) (entered : ℕ) (x : Spot) (b : InBody r pl start g entered x) where
     abbrev body : BodyOf r.words (IsBodyIn pl.tree) b.tail
@@ -205,20 +219,7 @@ module _ (r : Run) (pl : Counted r) (start : ℕ) where
         entered_counted x b.lies b.inside k y z h body.start body.end body.tree body.reads body.ends b.here body.is.1
         b.from
 
-    abbrev pub InsideOnto : Move → Type 0
-    InsideOnto Stop = ⊤
-    InsideOnto End = (goes_behind g ≡ true → entered ≤ x.position) × (x.position ≤ r.subject.end)
-    InsideOnto (Go y) = InBody r pl start g entered y
-    InsideOnto (Split y z) = InBody r pl start g entered y × InBody r pl start g entered z
-    InsideOnto (Enter k y z) =
-        (y.position ≤ r.subject.end)
-        × ((q : ℕ) (m : Marks) → y.position ≤ q → q ≤ r.subject.end
-        → InBody r pl start g entered (spot_at (point_behind k) y.frames q m))
-        × ((t : ℕ) (m : Marks) → k ≡ Further t
-        → InBody r pl start g entered (spot_at (Instruction t) (drop 1 y.frames) y.position m))
-        × InBody r pl start k y.position z
-
-    pub inside_moves : (mv : Move) → Moves r.words r.subject x mv → InsideOnto mv
+    pub inside_moves : (mv : Move) → Moves r.words r.subject x mv → InsideOnto g entered x.position mv
     inside_moves Stop h = tt
     inside_moves End h =
         (λ e. let l = b.behind e in omega (arith, l, least_position x.point x.position), b.inside)
@@ -311,7 +312,7 @@ module _ (r : Run) (pl : Counted r) (start : ℕ) where
       go (Enter f y z) on = (reopened_below cs (Trying pt fs c k ∷ cs) (λ x h. h) f y.frames y.position on.0, on.1)
   here_moves (Keep g fs c k ∷ cs) x mv h m = go mv (inside_moves g c.position x h mv m)
     where
-      go : (mv : Move) → InsideOnto g c.position x h mv → OntoHere r pl start (Keep g fs c k ∷ cs) x mv
+      go : (mv : Move) → InsideOnto g c.position x.position mv → OntoHere r pl start (Keep g fs c k ∷ cs) x mv
       go Stop on = tt
       go End on = on
       go (Go y) on = on

@@ -21,7 +21,8 @@ use Rattle.sre_turns.specs.MovesInRuns.{RunOperands}
 use Rattle.sre_turns.specs.RunEnds.{AllPass}
 use Rattle.sre_turns.specs.declared.Frame.{Frame}
 use Rattle.sre_turns.specs.declared.Point.TheVariants.{Instruction, Longer}
-use Rattle.sre_turns.proofs.Moving.{comes, at_instruction}
+use Rattle.sre_turns.proofs.Moving.{at_instruction}
+use Rattle.sre_turns.proofs.OneTurn.{comes}
 
 -- the least count is there where so many characters pass
 pub least_passed : (s : Subject) (t : Test) (low p : ℕ) → AllPass s t p (p + low) → run_length s t low p ≡ low

@@ -1,4 +1,5 @@
 pub mod Asked
+pub mod OneTurn
 pub mod Moving
 pub mod FirstOutcomes
 pub mod PotentialMoves

@@ -27,7 +27,8 @@ use Rattle.sre_turns.specs.Confining.{StandsConfined}
 use Rattle.sre_turns.proofs.Confining.{splits_confined, first_confined, first_left}
 use Rattle.sre_turns.proofs.Faring.{fares_less, fares_earlier, first_waits, run_code, place_left}
 use Rattle.sre_turns.proofs.HereMoves.{here_moves, here_reached, here_first}
-use Rattle.sre_turns.proofs.Moving.{comes, run_nothing, some_turns, sooner}
+use Rattle.sre_turns.proofs.Moving.{run_nothing, some_turns, sooner}
+use Rattle.sre_turns.proofs.OneTurn.{comes}
 use Rattle.sre_turns.proofs.Onward.{Reaches, all_later}
 use Rattle.sre_turns.proofs.StepsInRuns.{shorter_stop}
 use Rattle.sre_turns.proofs.RunEnds.{longest_reaches, run_moves, run_next, run_only_moves, run_short_moves}

@@ -19,7 +19,8 @@ use Rattle.sre_turns.specs.MovesInRuns.{RunOperands, onward_turn}
 use Rattle.sre_turns.specs.RunEnds.{AllPass}
 use Rattle.sre_turns.specs.declared.Frame.{Frame}
 use Rattle.sre_turns.specs.declared.Point.TheVariants.{Instruction}
-use Rattle.sre_turns.proofs.Moving.{comes, at_instruction}
+use Rattle.sre_turns.proofs.Moving.{at_instruction}
+use Rattle.sre_turns.proofs.OneTurn.{comes}
 use Rattle.sre_turns.proofs.LazyRunEnds.{least_passed}
 use Rattle.sre_turns.proofs.RunEnds.{passed}
 

@@ -21,7 +21,8 @@ use Rattle.sre_turns.specs.Moves.{Spot, spot_at, Stop, Split}
 use Rattle.sre_turns.specs.RunEnds.{AllPass}
 use Rattle.sre_turns.specs.declared.Frame.{Frame}
 use Rattle.sre_turns.specs.declared.Point.TheVariants.{Instruction, Shorter}
-use Rattle.sre_turns.proofs.Moving.{comes, at_instruction}
+use Rattle.sre_turns.proofs.Moving.{at_instruction}
+use Rattle.sre_turns.proofs.OneTurn.{comes}
 use Rattle.sre_turns.proofs.StepsInRuns.{shorter_stop, shorter_moves, shorter_within}
 
 -- the shorter counts of a run behind p: all but the last of them, and the last, which ends at q

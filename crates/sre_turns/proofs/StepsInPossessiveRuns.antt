@@ -25,7 +25,8 @@ use Rattle.sre_turns.specs.declared.Point.TheVariants.{Instruction}
 use Rattle.sre_turns.proofs.Confining.{goes_confined}
 use Rattle.sre_turns.proofs.Faring.{fares_earlier}
 use Rattle.sre_turns.proofs.HereMoves.{here_moves}
-use Rattle.sre_turns.proofs.Moving.{at_instruction, comes, sooner, turn_goes, turn_stops}
+use Rattle.sre_turns.proofs.Moving.{at_instruction, sooner, turn_goes, turn_stops}
+use Rattle.sre_turns.proofs.OneTurn.{comes}
 use Rattle.sre_turns.proofs.PossessiveRunEnds.{longest_lacks, longest_stretch, onward_stops, onward_goes}
 use Rattle.sre_turns.proofs.PossessiveRunEnds.{stretch_keeps, stretch_over}
 use Rattle.sre_turns.proofs.StepsInRuns.{CountsRun, stands_of}

@@ -1,7 +1,7 @@
 -- At no point of a body that does not fork the machine has more than one way to go on. Where a region is entered, it
 -- has a body, of which is told what its tree tells.
 -- The law that a search takes few turns (`enough` of sre_engine) rests on this.
-use Rattle.std.proofs.Common.{◌≡◌, ℕ, ◌+◌, ◌-◌, ◌<◌, ◌≤◌, ◌⊎◌, inl, inr, Bool, true, false, ◌||◌, cond, nat_lt}
+use Rattle.std.proofs.Common.{◌≡◌, ℕ, ◌+◌, ◌-◌, ◌≤◌, ◌⊎◌, inl, inr, Bool, true, false, ◌||◌, cond, nat_lt}
 use Rattle.std.proofs.Common.{List, [], ◌∷◌, Option, Some, refl, sym, ap, ◌∙◌, subst, arith}
 use Rattle.std.specs.Bool.{⊤}
 use Rattle.std.proofs.lemmas.Bool.{or_parts, true≢false}
@@ -31,7 +31,7 @@ use Rattle.sre_turns.specs.declared.Point.TheVariants.{TriedAgain}
 use Rattle.sre_turns.specs.declared.Point.{Point}
 use Rattle.sre_turns.specs.Moves.{Spot, spot_at, into_region, Go, Enter, closing_move}
 use Rattle.sre_turns.specs.MovesInRegions.{look, LookMove}
-use Rattle.sre_turns.specs.MovesInLoops.{behind, next_frame, enter_body, again_move, AgainMove}
+use Rattle.sre_turns.specs.MovesInLoops.{behind, enter_body, AgainMove}
 use Rattle.sre_turns.specs.Machine.{InRole, MovesAt}
 use Rattle.sre_turns.specs.Nested.{repeats, LiesIn}
 use Rattle.sre_turns.specs.Straight.{forking, ForksAt, tail_of, is_possessive, BodyOf, IsBodyIn}

@@ -29,7 +29,8 @@ use Rattle.sre_turns.specs.declared.Frame.{Frame}
 use Rattle.sre_turns.specs.declared.Point.TheVariants.{Instruction, Alternatives}
 use Rattle.sre_turns.specs.declared.Point.{Point}
 use Rattle.sre_turns.proofs.Confining.{confined_leads}
-use Rattle.sre_turns.proofs.Moving.{Barren, comes, run_on, sooner, continues_then, continues_exhausted}
+use Rattle.sre_turns.proofs.Moving.{Barren, run_on, sooner, continues_then, continues_exhausted}
+use Rattle.sre_turns.proofs.OneTurn.{comes}
 use Rattle.sre_turns.proofs.HereMoves.{here_moves}
 use Rattle.sre_turns.proofs.StepsAtItems.{test_misses, test_continues, jump_continues}
 use Rattle.sre_turns.proofs.StepsInBranches.{branch_moves, alternatives_move, alternatives_pass, alternatives_exhausted}

@@ -19,7 +19,8 @@ use Rattle.sre_turns.specs.Machine.{Runs, turns, Comes, stops, ends, goes, split
 use Rattle.sre_turns.specs.Machine.{kept, tried, Arrives, Later, spot}
 use Rattle.sre_turns.proofs.FirstOutcomes.{SameFirsts, firsts_append, firsts_begin, closes_same}
 use Rattle.sre_turns.proofs.FirstOutcomes.{firsts_again}
-use Rattle.sre_turns.proofs.Moving.{comes, sooner}
+use Rattle.sre_turns.proofs.Moving.{sooner}
+use Rattle.sre_turns.proofs.OneTurn.{comes}
 use Rattle.sre_turns.proofs.SameComes.{marks_apart}
 
 -- of outcomes that begin with the same under each test the first that counts is the same

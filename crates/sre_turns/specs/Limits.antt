@@ -1,7 +1,7 @@
 -- What a run may still take: turns, and in a search over words whose turns are counted a potential, which goes down
 -- with each turn, and up by tolls where an instruction that may branch is gone on with.
 -- Words of the machine's contracts; what sre_engine makes public does not rest on it.
-use Rattle.std.specs.Prelude.{⊤, ℕ, ◌+◌, ◌-◌, ◌*◌, ◌≤◌, ◌≡◌, List, [], ◌∷◌, drop, length, map, true, false}
+use Rattle.std.specs.Prelude.{⊤, ℕ, ◌+◌, ◌-◌, ◌*◌, ◌≤◌, ◌≡◌, List, [], ◌∷◌, drop, length, map, true}
 use Rattle.sre_chars.specs.declared.constants.SreOpcode.{SreOpcode}
 use Rattle.sre_model.specs.Grammar.{Opcode}
 use Rattle.sre_model.specs.Roles.{role}
@@ -10,8 +10,7 @@ use Rattle.sre_turns.specs.Attempts.{Attempt}
 use Rattle.sre_turns.specs.Board.{Choice, Else, Keep, Trying}
 use Rattle.sre_turns.specs.Fruit.{is_inside}
 use Rattle.sre_turns.specs.OpenMarks.{open_spots}
-use Rattle.sre_turns.specs.declared.Point.TheVariants.{Instruction, Alternatives, Shorter, Longer, Inside, Again, Tried}
-use Rattle.sre_turns.specs.declared.Point.TheVariants.{TriedAgain}
+use Rattle.sre_turns.specs.declared.Point.TheVariants.{Instruction, Again}
 use Rattle.sre_turns.specs.declared.Point.{Point}
 use Rattle.sre_turns.specs.Moves.{Spot, spot_at}
 use Rattle.sre_turns.specs.Potential.{path, potential, potential_of, units, held}
@@ -23,7 +22,7 @@ use Rattle.sre_turns.specs.declared.Region.TheVariants.{AtomicGroup, Ahead, NotA
 use Rattle.sre_model.specs.Marks.{Marks}
 
 -- how many turns are left; how many were taken, with how much potential at first, and how often a toll was granted;
--- the instructions that are tried, newest first; and where the window begins
+-- what is tried, newest first; and where the window begins
 pub record Limit : Type 0 where
   pub turns : ℕ
   pub taken : ℕ
@@ -44,7 +43,7 @@ grant ws = 2 * path ws
 abbrev pub raised : ℕ → Limit → Limit
 raised n l = record l { tolls = l.tolls + n }
 
--- the same where an instruction is tried
+-- the same where one more is tried
 abbrev pub with_tried : Attempt → Limit → Limit
 with_tried x l = record l { trying = x ∷ l.trying }
 
@@ -180,24 +179,14 @@ CodeAt ws pt o = ⊤
 -- how many tolls a point brings: an instruction those of its opcode, and a possessive loop one
 abbrev pub tolls_of : List ℕ → ℕ → SreOpcode → Point → ℕ
 tolls_of ws e o (Instruction i) = units ws e i (role o)
-tolls_of ws e o (Alternatives q) = 0
-tolls_of ws e o (Shorter t k) = 0
-tolls_of ws e o (Longer i n) = 0
-tolls_of ws e o (Inside g) = 0
 tolls_of ws e o Again = 1
-tolls_of ws e o (Tried i) = 0
-tolls_of ws e o TriedAgain = 0
+tolls_of ws e o pt = 0
 
 -- a potential, with the tolls where an instruction or a possessive loop is gone on with
 abbrev pub pool : List ℕ → ℕ → SreOpcode → Point → ℕ → ℕ
 pool ws e o (Instruction i) p = potential ws e (Instruction i) p + units ws e i (role o) * grant ws
-pool ws e o (Alternatives q) p = potential ws e (Alternatives q) p
-pool ws e o (Shorter t k) p = potential ws e (Shorter t k) p
-pool ws e o (Longer i n) p = potential ws e (Longer i n) p
-pool ws e o (Inside g) p = potential ws e (Inside g) p
 pool ws e o Again p = potential ws e Again p + grant ws
-pool ws e o (Tried i) p = potential ws e (Tried i) p
-pool ws e o TriedAgain p = potential ws e TriedAgain p
+pool ws e o pt p = potential ws e pt p
 
 -- a spot is come to, or gone on with: with the tolls of its opcode, or with one alone
 pub data Stage : Type 0 where

@@ -9,8 +9,7 @@ use Rattle.sre_model.specs.Subject.{Subject}
 use Rattle.sre_model.specs.Ways.{Way}
 use Rattle.sre_model.specs.Grammar.{word, WholeItems}
 use Rattle.sre_turns.specs.declared.Frame.{Frame}
-use Rattle.sre_turns.specs.declared.Point.TheVariants.{Instruction, Alternatives, Shorter, Longer, Inside, Again, Tried}
-use Rattle.sre_turns.specs.declared.Point.TheVariants.{TriedAgain}
+use Rattle.sre_turns.specs.declared.Point.TheVariants.{Instruction, Again}
 use Rattle.sre_turns.specs.declared.Point.{Point}
 use Rattle.sre_turns.specs.declared.Region.TheVariants.{AtomicGroup, Ahead, NotAhead, Owed, Further}
 use Rattle.sre_turns.specs.declared.Region.{Region}
@@ -24,28 +23,16 @@ pub use Rattle.sre_model.specs.Slots.{loop_slots, most_slots, by_slots}
 -- operand, where no instruction is
 abbrev pub place_under : Point → List ℕ → Option ℕ
 place_under (Instruction i) ks = Some i
-place_under (Alternatives q) ks = None
-place_under (Shorter t k) ks = None
-place_under (Longer i n) ks = None
-place_under (Inside g) ks = None
-place_under Again [] = None
 place_under Again (q ∷ qs) = Some (q + 1)
-place_under (Tried i) ks = None
-place_under TriedAgain ks = None
+place_under pt ks = None
 
 abbrev pub place_of : Spot → Option ℕ
 place_of x = place_under x.point (repeats x.frames)
 
 -- whether a point is that of a possessive loop
 abbrev pub is_again : Point → Bool
-is_again (Instruction i) = false
-is_again (Alternatives q) = false
-is_again (Shorter t k) = false
-is_again (Longer i n) = false
-is_again (Inside g) = false
 is_again Again = true
-is_again (Tried i) = false
-is_again TriedAgain = false
+is_again pt = false
 
 -- a spot lies in the words of a tree: its point and its loops do
 abbrev pub Lies : (ws : List ℕ) (t : Tree) → WholeItems ws t → Spot → Type 0

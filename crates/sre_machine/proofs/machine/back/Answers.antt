@@ -168,6 +168,7 @@ keep-requires-then-this-ne0-2-clause-failed g c =
 
 pub choice-preserved-then-this-ne0-2 : goal.choice-preserved-then-this-ne0-2
 choice-preserved-then-this-ne0-2 g c =
+    let kept = c.keep-then-this-ne0-2 in
     let r = c.args.req.now in
     let b = c.back.new.self in
     let cursor = c.in-Some.choice.1 in
@@ -176,12 +177,12 @@ choice-preserved-then-this-ne0-2 g c =
     record {
       back = passed_still r point cursor c.choice.board b marked c.choice.invariant.back;
       backs = λ all limit x.
-          passed_back r point cursor c.choice.board b marked _ c.args.memo.now c.choice.memo c.keep-then-this-ne0-2.new.memo
-          (λ _. pays_kept r point cursor c.choice.board b c.choice.memo c.keep-then-this-ne0-2.new.memo marked c.keep-then-this-ne0-2.ensures.same
-          c.keep-then-this-ne0-2.ensures.account)
+          passed_back r point cursor c.choice.board b marked _ c.args.memo.now c.choice.memo kept.new.memo
+          (λ _. pays_kept r point cursor c.choice.board b c.choice.memo kept.new.memo marked kept.ensures.same
+          kept.ensures.account)
           all limit (c.choice.invariant.backs all limit x);
-      remembers = c.keep-then-this-ne0-2.ensures.remembers;
-      same = only_kept c.args.memo.now c.choice.memo c.keep-then-this-ne0-2.new.memo c.choice.invariant.same c.keep-then-this-ne0-2.ensures.same;
+      remembers = kept.ensures.remembers;
+      same = only_kept c.args.memo.now c.choice.memo kept.new.memo c.choice.invariant.same kept.ensures.same;
     }
 
 pub choice-preserved : goal.choice-preserved

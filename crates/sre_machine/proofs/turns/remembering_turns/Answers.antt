@@ -10,7 +10,7 @@ use Rattle.sre_machine.specs.Memos.{MemoValue}
 use Rattle.sre_machine.proofs.Taken.{stands_at, proceeds_taken, later_taken, end_taken}
 use Rattle.sre_machine.specs.Paying.{Pays}
 use Rattle.sre_machine.proofs.Paying.{pays_nothing}
-use Rattle.sre_machine.proofs.Following.{follows_on, given_up, settles, nothing_granted, stands_there}
+use Rattle.sre_machine.proofs.Following.{follows_on, given_up, settles, stands_there}
 use Rattle.sre_machine.proofs.Following.{counts_on, waited_on, same_memo, kept_memo}
 use Rattle.sre_machine.proofs.Ending.{kept_then, ended_then}
 use Rattle.sre_machine.specs.Turns.{KeepsBodyEnd}
