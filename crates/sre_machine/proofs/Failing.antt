@@ -1,5 +1,5 @@
 -- Instructions and possessive loops that are known to fail, and those that are tried.
-use Rattle.std.proofs.Common.{◌≡◌, ℕ, Bool, true, false, List, ◌∷◌, Result, Ok, Err, IfOk, ◌≢◌, refl, subst, sym}
+use Rattle.std.proofs.Common.{◌≡◌, ℕ, Bool, true, false, List, ◌∷◌, Result, Ok, Err, IfOk, refl, subst, sym}
 use Rattle.std.proofs.Common.{◌∙◌, ◌<◌, ◌≤◌, ◌+◌, ◌*◌, min, arith}
 use Rattle.std.proofs.lemmas.Bool.{true≢false}
 use Rattle.sre_chars.specs.declared.string.StrDrive.{Ghosts}
@@ -8,7 +8,7 @@ use Rattle.sre_model.specs.Runs.{Run}
 use Rattle.sre_model.specs.Marks.{Marks, no_marks}
 use Rattle.sre_model.specs.Ways.{Way}
 use Rattle.sre_turns.specs.Board.{BoardValue, Trying}
-use Rattle.sre_turns.specs.Machine.{IsAt, IsBack, Backs}
+use Rattle.sre_turns.specs.Machine.{IsAt, IsBack, Backs, Arrives, Goes}
 use Rattle.sre_turns.specs.Limits.{Limit, without_tried}
 use Rattle.sre_turns.specs.declared.Next.TheVariants as next
 use Rattle.sre_turns.specs.declared.Next.{Next}
@@ -33,9 +33,7 @@ use Rattle.sre_turns.specs.Moves.{spot_at}
 use Rattle.sre_board.specs.Failures.{Kept, HoldsOneMore, Remembers}
 use Rattle.sre_board.proofs.Remembering.{remembers_more}
 use Rattle.sre_machine.specs.Memos.{MemoValue}
-use Rattle.sre_machine.specs.declared.trying.Keeping.{Keeping}
-use Rattle.sre_machine.specs.declared.trying.Keeping.TheVariants.{Nothing, Unmarked, Marked}
-use Rattle.sre_machine.proofs.Paying.{grants_nothing, pays_left, pays_nothing}
+use Rattle.sre_machine.proofs.Paying.{grants_nothing, pays_nothing}
 use Rattle.sre_turns.proofs.BodyEnds.{end_taken}
 
 -- a mark was made, or none: the machine may stand there still
@@ -69,22 +67,16 @@ stays_on r point cursor b c m m' stays goes = record {
 
 -- an instruction that is gone on with takes its turn
 pub turn_goes_on : {S : Type 0} {text : Ghosts S} {E : Type 0} (r : Request S text) (point : Point)
-    (cursor : StringCursor) (b c d : BoardValue) (m m' : MemoValue) (result : Result Next E) → GoesOn r point cursor b m c m'
-    → ((l l' : Limit) → ((RunsOnAt (run_of r).words point → ⊥) → Pays r m l m' l') → Pays r m l m' l')
+    (cursor : StringCursor) (b c d : BoardValue) (m m' : MemoValue) (result : Result Next E)
+    → GoesOn r point cursor b m c m'
+    → ((all : List Way) (l l' : Limit) → Arrives (run_of r) all l point cursor b
+    → Goes (run_of r) all l' point cursor c
+    → ((RunsOnAt (run_of r).words point → ⊥) → Pays r m l m' l') → Pays r m l m' l')
     → IfOk result (λ after. TurnAt r point cursor c after d)
     → IfOk result (λ after. Takes r point cursor b m after d m')
 turn_goes_on r point cursor b c d m m' (Ok after) goes paid turn = λ all limit x.
-    let g = goes all limit x in (g.0, g.1, turn all g.0 g.2, paid limit g.0 g.3)
+    let g = goes all limit x in (g.0, g.1, turn all g.0 g.2, paid all limit g.0 x g.2 g.3)
 turn_goes_on r point cursor b c d m m' (Err e) goes paid turn = turn
-
--- it is paid, where failures are not kept, or where it is no run without a greatest count
-pub paid_so : {S : Type 0} {text : Ghosts S} (r : Request S text) (point : Point) (m m' : MemoValue) (keeping : Keeping)
-    → (keeping ≡ Nothing → m.is_open ≡ true → HasReference (run_of r).words)
-    → (keeping ≢ Nothing → RunsOnAt (run_of r).words point → ⊥) → (l l' : Limit)
-    → ((RunsOnAt (run_of r).words point → ⊥) → Pays r m l m' l') → Pays r m l m' l'
-paid_so r point m m' Nothing left off l l' paid = pays_left r m m' l l' (left refl)
-paid_so r point m m' Unmarked left off l l' paid = paid (off (λ e. cc))
-paid_so r point m m' Marked left off l l' paid = paid (off (λ e. cc))
 
 -- the same with one toll
 pub turn_tried : {S : Type 0} {text : Ghosts S} {E : Type 0} (r : Request S text) (place : ℕ) (cursor : StringCursor)

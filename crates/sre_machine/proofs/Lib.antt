@@ -1,6 +1,7 @@
 pub mod Paying
 pub mod Halting
 pub mod Failing
+pub mod AtOnce
 pub mod AskedGroups
 pub mod Recalling
 pub mod KnownEnds

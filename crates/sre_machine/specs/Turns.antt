@@ -26,15 +26,14 @@ use Rattle.sre_turns.specs.Limits.{Limit, Grants, CodeAt, tolls_of}
 use Rattle.sre_turns.specs.declared.Next.TheVariants as next
 use Rattle.sre_turns.specs.declared.Next.{Next}
 use Rattle.sre_turns.specs.declared.Point.{Point}
-use Rattle.sre_turns.specs.declared.Point.TheVariants.{Instruction, Alternatives, Shorter, Longer, Inside, Again, Tried}
-use Rattle.sre_turns.specs.declared.Point.TheVariants.{TriedAgain}
+use Rattle.sre_turns.specs.declared.Point.TheVariants.{Instruction, Again}
 use Rattle.sre_board.specs.Ends.{TellsEnd, KeepsOpenEnds, HoldsOpenEnds}
 use Rattle.sre_request.specs.declared.request.Request.{Request}
 use Rattle.sre_machine.specs.Memos.{MemoValue}
 use Rattle.sre_machine.specs.Paying.{Pays, Within}
 use Rattle.sre_machine.specs.declared.trying.Keeping.{Keeping}
 use Rattle.sre_machine.specs.declared.trying.Keeping.TheVariants.{Nothing, Unmarked, Marked}
-use Rattle.sre_request.specs.Runs.{run_of, OpcodeAt}
+use Rattle.sre_request.specs.Runs.{run_of}
 
 -- the machine is at a point, with a cursor at its position; at an instruction
 abbrev pub AtPoint : {S : Type 0} {text : Ghosts S} → Request S text → Point → StringCursor → Type 0
@@ -130,13 +129,7 @@ GivesUp r point cursor b m c m' =
 -- a run without a greatest count is at a point
 abbrev pub RunsOnAt : List ℕ → Point → Type 0
 RunsOnAt ws (Instruction i) = RunsOn ws i
-RunsOnAt ws (Alternatives q) = ⊥
-RunsOnAt ws (Shorter t k) = ⊥
-RunsOnAt ws (Longer i n) = ⊥
-RunsOnAt ws (Inside g) = ⊥
-RunsOnAt ws Again = ⊥
-RunsOnAt ws (Tried i) = ⊥
-RunsOnAt ws TriedAgain = ⊥
+RunsOnAt ws pt = ⊥
 
 -- it is gone on with, which is paid where it is no run without a greatest count
 abbrev pub GoesOn : {S : Type 0} {text : Ghosts S} → Request S text → Point → StringCursor → BoardValue → MemoValue
@@ -169,13 +162,8 @@ StaysAt r point cursor b c = AtOnBoard r point cursor b → AtOnBoard r point cu
 -- a point forks: the machine may have more than one way to go on there, or go on more than once
 abbrev pub ForksThere : {S : Type 0} {text : Ghosts S} → Request S text → Point → Type 0
 ForksThere r (Instruction place) = ForksAt (run_of r).words place
-ForksThere r (Alternatives q) = ⊥
-ForksThere r (Shorter t k) = ⊥
-ForksThere r (Longer i n) = ⊥
-ForksThere r (Inside g) = ⊥
 ForksThere r Again = ⊤
-ForksThere r (Tried i) = ⊥
-ForksThere r TriedAgain = ⊥
+ForksThere r pt = ⊥
 
 -- a point is left at once, or else the machine stands there still and goes on with it
 pub record LeavesOrStays {S : Type 0} {text : Ghosts S} (r : Request S text) (point : Point) (cursor : StringCursor)
@@ -193,6 +181,13 @@ pub record IsKeeping {S : Type 0} {text : Ghosts S} (r : Request S text) (keepin
   pub marked : keeping ≡ Marked → AlikeMarks r m.marked.marks b.marks
   pub refers : keeping ≡ Marked → RefersToGroups r
   pub left : keeping ≡ Nothing → m.is_open ≡ true → RefersToGroups r
+
+-- a run without a greatest count is at a point inside a region, and no end of its body is kept there
+pub record RunsAtOnce {S : Type 0} {text : Ghosts S} (r : Request S text) (point : Point) (keeping : Keeping)
+    (b : BoardValue) (m : MemoValue) : Type 0 where
+  pub runs : RunsOnAt (run_of r).words point
+  pub inside : is_inside b.choices ≡ true
+  pub none : keeping ≡ Unmarked → m.keeps_ends ≡ false
 
 -- from a point inside a region its body ends at a cursor: so it does from what is alike, as long as no mark is set that
 -- the words ask for

@@ -49,9 +49,9 @@ pub(super) fn is_endless_run<S: StrDrive>(
     }
 }
 
-// Whether the run at a place gives nothing back, as a possessive one; else it has other ends beside its longest.
+/// Whether the run at a place gives nothing back, as a possessive one; else it has other ends beside its longest.
 #[inline(always)]
-fn gives_nothing_back<S: StrDrive>(req: &Request<'_, S>, place: usize) -> bool
+pub(super) fn gives_nothing_back<S: StrDrive>(req: &Request<'_, S>, place: usize) -> bool
     requires { IsEndlessRun req.now place }
     ensures possessive { result ≡ true → OpcodeAt req.now place SreOpcode.POSSESSIVE_REPEAT_ONE }
     ensures others { result ≡ false → HasOtherEnds req.now place }

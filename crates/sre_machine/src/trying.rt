@@ -14,12 +14,12 @@ ghost use Rattle.sre_request.specs.Runs.{run_of};
 ghost use Rattle.sre_machine.specs.EndlessRuns.{IsEndlessRun};
 ghost use Rattle.sre_machine.specs.Turns.{At, AtPoint, AtOnBoard, Fails, Takes, TriesOn, IsKeeping, LeavesOrStays};
 ghost use Rattle.sre_machine.specs.Turns.{RefersToGroups, UnaskedMarks, AlikeMarks, ForksThere};
-ghost use Rattle.sre_machine.specs.Turns.{BringsTolls, BringsNoTolls, NoEndTold, RunsOnAt};
+ghost use Rattle.sre_machine.specs.Turns.{BringsTolls, BringsNoTolls, NoEndTold, RunsOnAt, RunsAtOnce};
 ghost use Rattle.sre_turns.specs.Limits.{attempt};
 ghost use Rattle.sre_growth.specs.Refusal.{Refused};
 
 use crate::body_ends::known_end;
-use crate::endless_runs::{endless_run, is_endless_run};
+use crate::endless_runs::{endless_run, gives_nothing_back, is_endless_run};
 use crate::machine::{instruction, opcode};
 use crate::memo::Memo;
 use crate::possessive_loops::again;
@@ -315,10 +315,24 @@ fn is_hopeless<S: StrDrive, A: Allocator>(
     }
 }
 
-// Whether failures are kept and a run without a greatest count is at a place.
+// Whether the machine is inside a region where no end of its body is kept.
 #[inline(always)]
-fn goes_on_endlessly<S: StrDrive>(
+fn keeps_no_end<A: Allocator>(board: &Board<A>, memo: &Memo<A>, keeping: Keeping) -> bool
+    ensures inside { result ≡ true → is_inside board.now.choices ≡ true }
+    ensures none { result ≡ true → keeping ≡ Keeping.Unmarked → memo.now.keeps_ends ≡ false }
+{
+    board.is_inside() && (keeping != Keeping::Unmarked || !memo.keeps_ends())
+}
+
+// Whether a run without a greatest count is at a place that is gone on with turn by turn, as such runs are while
+// failures are kept. A possessive one inside a region whose ends are not kept goes over its characters at once: turn by
+// turn each of them is told anew where its body ends, which takes many times as long. Within turns it does not, since a
+// turn would go over more characters than it counts for.
+#[inline(always)]
+fn goes_on_endlessly<S: StrDrive, A: Allocator, const LIMITED: bool>(
     req: &Request<'_, S>,
+    board: &Board<A>,
+    memo: &Memo<A>,
     keeping: Keeping,
     place: usize,
     cursor: StringCursor,
@@ -326,9 +340,16 @@ fn goes_on_endlessly<S: StrDrive>(
     requires { At req.now place cursor }
     ensures keeps { result ≡ true → keeping ≢ Keeping.Nothing }
     ensures on { result ≡ true → IsEndlessRun req.now place }
-    ensures off { result ≡ false → keeping ≢ Keeping.Nothing → IsEndlessRun req.now place → ⊥ }
+    ensures off { result ≡ false → keeping ≢ Keeping.Nothing → (IsEndlessRun req.now place → ⊥)
+        ⊎ RunsAtOnce req.now (Instruction place) keeping board.now memo.now }
 {
-    keeping != Keeping::Nothing && is_endless_run(req, place, cursor)
+    if keeping == Keeping::Nothing || !is_endless_run(req, place, cursor) {
+        return false;
+    }
+    if LIMITED || !gives_nothing_back(req, place) {
+        return true;
+    }
+    !keeps_no_end(board, memo, keeping)
 }
 
 /// One instruction, which is left at once where it is known to fail, or where the body that it is in is known to end.
@@ -357,7 +378,7 @@ pub(super) fn instruction_or_back<S: StrDrive, A: Allocator, const LIMITED: bool
     if is_hopeless(req, board, memo, keeping, point, cursor) {
         return Ok(Next::Back);
     }
-    if goes_on_endlessly(req, keeping, place, cursor) {
+    if goes_on_endlessly::<S, A, LIMITED>(req, board, memo, keeping, place, cursor) {
         return endless_run(req, board, place, cursor);
     }
     instruction::<S, A, false, LIMITED>(req, board, place, cursor)

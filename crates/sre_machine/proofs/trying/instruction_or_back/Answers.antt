@@ -1,5 +1,6 @@
 use Rattle.sre_turns.specs.declared.Point.TheVariants.{Instruction}
-use Rattle.sre_machine.proofs.Failing.{turn_goes_on, turn_tried, turn_left, turn_ended, paid_so}
+use Rattle.sre_machine.proofs.Failing.{turn_goes_on, turn_tried, turn_left, turn_ended}
+use Rattle.sre_machine.proofs.AtOnce.{paid_so}
 use Rattle.sre_machine.proofs.trying.instruction_or_back.Goals as goal
 
 pub instruction-requires : goal.instruction-requires
@@ -20,8 +21,10 @@ pub returns-clause-turn : goal.returns-clause-turn
 returns-clause-turn g c =
     turn_goes_on c.args.req.now (Instruction c.args.place) c.args.cursor _ _ _ _ _ c.instruction.result
     (c.is_hopeless.ensures.leaves.goes c.if-is_hopeless.false)
-    (paid_so c.args.req.now (Instruction c.args.place) c.args.memo.now c.is_hopeless.new.memo
-    c.keeping_at-keeping.result c.keeping_at-keeping.ensures.left (c.goes_on_endlessly.ensures.off c.if-goes_on_endlessly.false))
+    (paid_so c.args.req.now (Instruction c.args.place) c.args.cursor c.args.board.now c.is_hopeless.new.board
+    c.args.memo.now c.is_hopeless.new.memo c.keeping_at-keeping.result c.keeping_at-keeping.ensures
+    (c.goes_on_endlessly.ensures.off c.if-goes_on_endlessly.false)
+    (c.is_hopeless.ensures.tries c.if-is_hopeless.false))
     c.instruction.ensures
 
 pub returns-then-goes_on_endlessly-clause-turn : goal.returns-then-goes_on_endlessly-clause-turn
