@@ -326,8 +326,8 @@ fn keeps_no_end<A: Allocator>(board: &Board<A>, memo: &Memo<A>, keeping: Keeping
 
 // Whether a run without a greatest count is at a place that is gone on with turn by turn, as such runs are while
 // failures are kept. A possessive one inside a region whose ends are not kept goes over its characters at once: turn by
-// turn each of them is told anew where its body ends, which takes many times as long. Within turns it does not, since a
-// turn would go over more characters than it counts for.
+// turn each of these places would be gone on from anew, whenever the body ends, which takes many times as long. Within
+// turns it does not, since a turn would go over more characters than it counts for.
 #[inline(always)]
 fn goes_on_endlessly<S: StrDrive, A: Allocator, const LIMITED: bool>(
     req: &Request<'_, S>,
