@@ -1,7 +1,7 @@
 -- Two foldings in one: what a tree has by it is what it has by each. And foldings that tell whether some item is there:
 -- what is so of each item is so of trees.
 use Rattle.std.proofs.Common.{◌≡◌, Bool, true, false, ◌||◌, refl, ap, ap₂, ◌∙◌}
-use Rattle.std.proofs.lemmas.Bool.{or_parts, true≢false}
+use Rattle.std.proofs.lemmas.Bool.{true≢false}
 use Rattle.sre_model.specs.Tree.{Tree, Empty, Then, Item, Fail, One, At, Mark, Branch, Loop, Run, PossessiveLoop}
 use Rattle.sre_model.specs.Tree.{Atomic, Look, Reference, Exists, ExistsElse, Trees, Only, Or}
 use Rattle.sre_model.specs.Folding.{Folding, of_tree, of_parts, of_branch, of_item}
