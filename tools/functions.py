@@ -8,6 +8,13 @@ import re
 FUNCTION = re.compile(r'( *)(?:pub(?:\([\w:]+\))? )?(?:const )?(?:extern "C" )?fn (\w+)')
 TYPE = re.compile(r"(?:pub(?:\([\w:]+\))? )?(?:struct|enum) (\w+)")
 OWN_METHODS = re.compile(r"impl(?:<.*?>)? (\w+)(?:<.*>)? \{")
+# What a body may hold that is more than code: items, which others may see, clauses and attributes.
+MORE_THAN_CODE = re.compile(
+    r"\b(?:impl|trait|struct|enum|union|type|const|static|mod|use|fn|macro_rules|unsafe|extern|dyn)\b"
+    r"|\b(?:ghost|requires|ensures|invariant)\b|#!?\["
+)
+# By such a type what functions make may be part of what others state.
+MADE_FUNCTION = re.compile(r"\bdyn\b|\bfn\s*\(")
 
 
 class Function:
@@ -97,6 +104,23 @@ def begin_of_body(lines, indent):
     alone = [i for i, line in enumerate(lines) if line == f"{indent}{{"]
     behind = [i for i, line in enumerate(lines) if line.endswith(" {") and not line.endswith("}")]
     return next(iter([*alone, *behind]), None)
+
+
+def hidden(texts):
+    """The paths of the functions of which another crate reads the head and the contract alone: their bodies are code
+    and no more. A body that a constant or an array's length may rest on is none of them, as that of a `const fn`, nor
+    is any body of sources that have a type of functions. Nor are those that `functions` leaves out, and cycles'."""
+    if any(MADE_FUNCTION.search(text) for text in texts.values()):
+        return set()
+    found = set()
+    for path, it in functions(texts).items():
+        own = it.text(texts).rstrip("\n").split("\n")
+        begin = begin_of_body(own, re.match(" *", own[-1])[0])
+        head = next(FUNCTION.match(line) for line in own if FUNCTION.match(line))
+        if not it.cycle and begin is not None and "const " not in head[0]:
+            if not MORE_THAN_CODE.search("\n".join(own[begin + 1 : -1])):
+                found.add(path)
+    return found
 
 
 def emptied(texts, kept, is_padded=True):
