@@ -4,8 +4,9 @@ Under `#[tactic(auto)]` a check searches for every goal of a function that has n
 alone tells. So its function is checked under `#[tactic(none)]`, which leaves such goals open, and its answers get a
 lemma for each search that the check would make for that one goal, in the check's own words: `search rules`,
 `grind (arith, common_steps)`, and where the function names lemmas, `grind (arith, ..)` with these. The goal is open
-where each of them finds nothing. So that this says something, they have to find the goal of the function as it is:
-each such function stands beside its wrong bodies, and one whose goal they do not find is searched for whole.
+where each of them finds nothing. So that this says something, one of them has to find the goal of the function as it
+is: each such function stands beside its wrong bodies, with the searches in one lemma that ends with the first that
+finds. A function whose goal they do not find is searched for whole. Answers to other goals are left out.
 """
 import re
 
@@ -25,6 +26,10 @@ LEMMA = """
 pub {name} : {goals}.{goal}
 {name} {arguments} = {search}
 """
+
+# The first line of the answer to a goal, and a line that brings names of a module.
+ANSWER = re.compile(r"pub (\S+) : \w+\.\1")
+USE = re.compile(r"use (\S+)\.\{(.*)\}")
 
 
 def is_try(name):
@@ -63,20 +68,24 @@ def heads(function, texts):
 class Tries:
     """The goals of a function that tell, and the searches for those of them that have no answer."""
 
-    def __init__(self, function, texts, goals, answers):
+    def __init__(self, function, texts, goals, answers, is_wrong):
         self.goals, self.asked = goals, [it for it in goals if not is_answered(it, answers)]
+        self.is_wrong = is_wrong
         attribute = ATTRIBUTE.search(function.text(texts))
         listed = USING.search(attribute[1]) if attribute else None
         self.using = [it.strip().split("::") for it in listed[1].split(",")] if listed else []
         self.arguments = "g c" if any(map(has_type_parameter, heads(function, texts))) else "c"
 
     def names(self, goal):
-        """The lemmas of the searches for a goal. The first is its answer, without which a check does not name it."""
-        return [goal, f"{goal}-tried-steps", *([f"{goal}-tried-using"] if self.using else [])]
+        """The lemmas of the searches for a goal. The first is its answer, without which a check does not name it. Of a
+        function as it is that one has all searches, since it is enough that one of them finds."""
+        others = [f"{goal}-tried-steps", *([f"{goal}-tried-using"] if self.using else [])]
+        return [goal, *others] if self.is_wrong else [goal]
 
     def answers(self, answers, crate, proof):
-        """The answers with these lemmas."""
+        """The answers with these lemmas, and without what the goals that tell do not rest on."""
         head, lemmas, goals = HEAD, "", GOALS.format(crate=crate, proof=proof.replace("/", "."))
+        answers = needed(answers, self.goals, f"Rattle.{crate}.proofs.")
         # a file has one name for a module
         named = re.search(rf"(?m)^{re.escape(goals)}(\w+)$", answers)
         head += "" if named else f"{goals}tried\n"
@@ -85,6 +94,10 @@ class Tries:
             head += f"use Rattle.{module}.{{{path[-1]} as tried_{at}}}\n"
         cited = ", ".join(["tried_arith", *(f"tried_{at}" for at, _ in enumerate(self.using))])
         searches = ["search tried_rules", "grind (tried_arith, tried_steps)", f"grind ({cited})"]
+        searches = searches if self.using else searches[:2]
+        if not self.is_wrong:
+            # the lemmas that a function names are those that its goals want
+            searches = [f"first_of ({', '.join([*searches[2:], *searches[:2]])})"]
         words = {"goals": named[1] if named else "tried", "arguments": self.arguments}
         for goal in self.asked:
             for name, search in zip(self.names(goal), searches):
@@ -97,13 +110,55 @@ class Tries:
         return [it for it in lost if it in told]
 
 
+def parts_of(answers):
+    """The parts of a file of answers, each with the goal that it answers, if it is an answer to one."""
+    parts = [["", ""]]
+    for line in answers.split("\n"):
+        goal, begun = parts[-1][0], ANSWER.fullmatch(line)
+        goes_on = not line or line[0] in " )]}" or line.startswith((f"{goal} ", "unfolding "))
+        if begun or goal and not goes_on:
+            parts.append([begun[1] if begun else "", ""])
+        parts[-1][1] += f"{line}\n"
+    return parts
+
+
+def is_said(name, text):
+    """Whether a name stands in a text, be it a part of a path."""
+    return bool(re.search(rf"(?<![\w-]){re.escape(name)}(?![\w-])", text))
+
+
+def needed(answers, goals, own):
+    """Of a file of answers what the answers to these goals may rest on, and what has no goal. A check proves each
+    answer and each file of lemmas that one of them names; what is said of other goals tells nothing here. `own` begins
+    the names of the crate's modules of lemmas."""
+    parts, kept, lines, said = parts_of(answers), set(), [], ""
+    found = {goal for goal, _ in parts if goal in goals}
+    while found - kept:
+        kept |= found
+        text = "".join(part for goal, part in parts if not goal or goal in kept)
+        lines = text.split("\n")
+        said = "\n".join(it for it in lines if not USE.fullmatch(it) and not ANSWER.fullmatch(it))
+        found = {goal for goal, _ in parts if goal and is_said(goal, said)}
+    return "\n".join(it for it in lines if not is_idle(it, said, own))
+
+
+def is_idle(line, said, own):
+    """Whether a line brings names of the crate's lemmas, none of which is said."""
+    listed = USE.fullmatch(line)
+    if not listed or not listed[1].startswith(own) or "◌" in listed[2]:
+        return False
+    return not any(is_said(name.split(" ")[-1], said) for name in listed[2].split(", "))
+
+
 def is_answered(goal, answers):
     return bool(re.search(rf"(?m)^(?:pub )?{re.escape(goal)} :", answers))
 
 
 def can_try(goals, answers):
-    """Whether each of these goals has an answer, or is one for which the searches can be written."""
-    return bool(goals) and all(is_answered(it, answers) or it.startswith("returns") for it in goals)
+    """Whether each of these goals has an answer, or is one for which the searches are those of a check: a clause of the
+    contract, or of that of a call. A check searches for invariants in more ways."""
+    written = re.compile(r"returns.*|.*-requires(-.*)?")
+    return bool(goals) and all(is_answered(it, answers) or written.fullmatch(it) for it in goals)
 
 
 def righted(crate, bodies):

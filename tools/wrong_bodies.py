@@ -24,6 +24,7 @@ each body is judged as it must.
 """
 import copy
 import itertools
+import math
 import os
 import re
 import subprocess
@@ -46,8 +47,8 @@ PROMISE = re.compile(r"\b(?:ensures|requires|ghost)\b[^{;]*[{;]")
 # for them. Its offers take a second pass, as long as a third of the first.
 NO_OFFERS = "\nno_offers : no_such_type\nno_offers = ?\n"
 
-# A check of more bodies than these would be the gate's end by the clock.
-MOST_BODIES = 52
+# Each check loads what its bodies stand on, and one of more bodies than these would be the gate's end by the clock.
+MOST_BODIES = 90
 
 # The proof of a function that a wrong body may call. Its contract is what it is in any case.
 HOLE = """use Rattle.{crate}.proofs.{path}.Statement as stated
@@ -259,15 +260,15 @@ def bodies_of(crate, part="wrong"):
 class Bundle:
     """Bodies that are tried in one check, each of a function of its own name, and the texts that they make."""
 
-    def __init__(self, texts):
-        self.before, self.texts, self.copies, self.is_open = texts, texts, {}, True
+    def __init__(self, texts, most=MOST_BODIES):
+        self.before, self.texts, self.copies, self.most, self.is_open = texts, texts, {}, most, True
         self.bodies, self.given = [], []
 
     def take(self, body):
         """Takes a body in, in its function or, where that is another by now, in a copy of it: whether it could. One
         that changes more than its function stands alone."""
         is_inside = body.is_inside(self.before)
-        if self.bodies and not (is_inside and self.is_open and len(self.bodies) < MOST_BODIES):
+        if self.bodies and not (is_inside and self.is_open and len(self.bodies) < self.most):
             return False
         self.is_open = is_inside
         names = {it.function for it in self.bodies}
@@ -293,14 +294,15 @@ class Bundle:
 
 
 def bundles(bodies, crate, is_alone=False):
-    """Bodies in few bundles; and a line for each body that cannot be written into the crate."""
+    """Bodies in few bundles of about one size; and a line for each body that cannot be written into the crate."""
     made, bad, texts = [], [], sources(crate.folder)
+    most = math.ceil(len(bodies) / math.ceil(len(bodies) / MOST_BODIES)) if bodies else 0
     for body in bodies:
         fault = body.fault(texts)
         if fault:
             bad.append(f"{body.label(crate)}: BAD: {fault}")
         elif is_alone or not any(it.take(body) for it in made):
-            made.append(Bundle(texts))
+            made.append(Bundle(texts, most))
             made[-1].take(body)
     return made, bad
 
@@ -388,20 +390,22 @@ class Trial:
         for proof in opened:
             path, name = proof.replace("/", "."), os.path.basename(proof)
             texts[f"proofs/{proof}/Proof.antt"] = HOLE.format(crate=self.crate.name, path=path, name=name)
+        texts = self.searched(texts, bundle)
         for proof in own:
             answers = f"proofs/{proof}/Answers.antt"
             texts[answers] = texts.get(answers, "") + NO_OFFERS
-        return self.searched(texts, bundle)
+        return texts
 
     def searched(self, texts, bundle):
         """These texts, but of each body's function the goals that tell alone are searched for, where that can be
         written: not for methods of traits and cycles."""
         listed, paths = functions(texts), []
         for body in bundle.bodies:
-            function, answers = listed.get(body.function), f"proofs/{body.proof()}/Answers.antt"
-            if function and not function.cycle and tries.can_try(body.goals, texts[answers]):
-                body.searches = tries.Tries(function, texts, body.goals, texts[answers])
-                texts[answers] = body.searches.answers(texts[answers], self.crate.name, body.proof())
+            function, path = listed.get(body.function), f"proofs/{body.proof()}/Answers.antt"
+            answers = texts.get(path, "")
+            if function and not function.cycle and tries.can_try(body.goals, answers):
+                body.searches = tries.Tries(function, texts, body.goals, answers, body.is_wrong)
+                texts[path] = body.searches.answers(answers, self.crate.name, body.proof())
                 paths.append(body.function)
         return tries.under_none(texts, paths)
 
