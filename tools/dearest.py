@@ -1,38 +1,48 @@
 #!/usr/bin/env python3
-"""What each function of a crate takes of a processor while the crate is proved from nothing.
+"""What each function of a crate takes by the clock while the crate is proved from nothing.
 
     dearest.py CRATE [--test] [--only PATH]..
 
 The crates below have to be built, as `rt check` in the crate's folder does. With --test the tests are proved, too, and
-with --only those functions alone. A check ends with functions in an order of its own, and reads a definition or a
-contract where it is first needed: so a figure in a whole check may belong to a function beside it, and one of --only
-holds the check's beginning, some 20 seconds of tests or of a program. The status is that of the check.
+with --only those functions alone. A check makes some modules for each function, and with `--incremental` it keeps each
+one once it is checked: so the times of these files tell what each module took. Of a function's seconds those of its
+steps are told, with what is alive at each of them (`Lts`), and those of its goals and answers (`Proof`). What is read
+for the first time stands in modules of its own, or in the first one that needs it. The last line tells what the check
+took of a processor and by the clock, with its beginning. The status is that of the check.
 """
+import collections
 import os
 import re
+import resource
 import subprocess
 import sys
+import tempfile
+import time
 
 import wrong_bodies
 
 
-def processor_seconds(pid):
-    """What a process has taken so far."""
-    fields = wrong_bodies.read(f"/proc/{pid}/stat").rpartition(")")[2].split()
-    return sum(int(it) for it in fields[11:15]) / os.sysconf("SC_CLK_TCK")
+def kept(folder):
+    """The modules that a check has kept, by the times at which it did."""
+    found = []
+    for path, _, names in os.walk(folder):
+        found += [(os.stat(f"{path}/{it}").st_mtime_ns, it[:-6]) for it in names if it.endswith(".oantt")]
+    return sorted(found)
 
 
-def figures(check):
-    """The seconds up to the end of each function, behind that of the one before, as the check tells of them."""
-    before, found = 0, []
-    for line in check.stdout:
-        ended = re.match(r"checked (\S+), \d+ of \d+", line)
-        if ended:
-            now = processor_seconds(check.pid)
-            found.append((now - before, ended[1]))
-            before = now
-        elif re.search(r"error|: (not proved|no proof)|^logic=|^only=", line):
-            print(line.rstrip())
+def figures(crate, modules):
+    """The seconds of each function, with those of its steps and of its goals, by the end of the module before."""
+    found = collections.defaultdict(lambda: [0, 0, 0])
+    for (before, _), (now, module) in zip(modules, modules[1:]):
+        path = re.sub(r"\.The[A-Z].*", "", module.removeprefix(f"Rattle-{crate}-proofs."))
+        words, kinds = path.removesuffix(".decls").split("."), set()
+        while words and not words[-1][:1].islower():
+            kinds.add(words.pop())
+        seconds = (now - before) / 1e9
+        of = found["::".join(words) if module.startswith(f"Rattle-{crate}-proofs.") else "contracts and specs"]
+        of[0] += seconds
+        of[1] += seconds * ("Lts" in kinds)
+        of[2] += seconds * ("Proof" in kinds)
     return found
 
 
@@ -41,15 +51,21 @@ def main(words):
     if not words or words[0] not in known:
         print(__doc__.strip())
         return 2
-    crate, kit = known[words[0]], wrong_bodies.kit()
-    command = [f"{kit}/bin/rattle", "check", *crate.words(kit, lambda it: f"{it.folder}/out/rlib"), "--progress"]
-    how = {"cwd": crate.folder, "text": True, "errors": "replace", "stdin": subprocess.DEVNULL}
-    check = subprocess.Popen([*command, *words[1:]], stdout=subprocess.PIPE, stderr=subprocess.STDOUT, **how)
-    found = figures(check)
-    for seconds, name in sorted(found, reverse=True)[:20]:
-        print(f"{seconds:6.1f} s {name}")
-    print(f"{sum(seconds for seconds, _ in found):6.1f} s all {len(found)} functions")
-    return check.wait()
+    crate, kit, began = known[words[0]], wrong_bodies.kit(), time.monotonic()
+    with tempfile.TemporaryDirectory(prefix="dearest-") as folder:
+        named = crate.words(kit, lambda it: f"{it.folder}/out/rlib")
+        command = [f"{kit}/bin/rattle", "check", *named, "--incremental", folder, *words[1:]]
+        how = {"cwd": crate.folder, "capture_output": True, "text": True, "errors": "replace"}
+        check = subprocess.run(command, stdin=subprocess.DEVNULL, **how)
+        found = figures(crate.name, kept(folder))
+    for line in (check.stdout + check.stderr).split("\n"):
+        if re.search(r"error|: (not proved|no proof)|^logic=|^only=", line):
+            print(line)
+    for name, (seconds, steps, goals) in sorted(found.items(), key=lambda it: -it[1][0])[:20]:
+        print(f"{seconds:6.1f} s, steps {steps:5.1f}, goals {goals:5.1f}  {name}")
+    used = resource.getrusage(resource.RUSAGE_CHILDREN)
+    print(f"{used.ru_utime + used.ru_stime:6.1f} s of a processor, {time.monotonic() - began:.1f} by the clock")
+    return check.returncode
 
 
 if __name__ == "__main__":
