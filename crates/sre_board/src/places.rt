@@ -1,11 +1,14 @@
 //! The place of what may be tried: an instruction has its own, and a possessive loop, before a body or its end, that of
-//! its first operand, where no instruction is. So a place of the words has one row at most.
+//! its first operand, where no instruction is. So a place of the words has one row at most. And what a list says of the
+//! places where the loops in progress have their bodies.
 
-ghost use Rattle.std.specs.Prelude.{◌≡◌, ℕ, ◌<◌, [], length, MatchOption, Some, slice_index_or};
+ghost use Rattle.std.specs.Prelude.{◌≡◌, ℕ, ◌+◌, ◌<◌, [], length, MatchOption, Some, true, slice_get, slice_index_or};
 ghost use Rattle.sre_turns.specs.Nested.{repeats, place_under, is_again};
 ghost use Rattle.sre_turns.specs.declared.Point.TheVariants.{Again};
+ghost use Rattle.sre_turns.specs.AskedPlaces.{SaysOfBodies};
 ghost use Rattle.sre_board.specs.Failures.{AreRead};
 
+use crate::board::Board;
 use crate::chains::Chains;
 use sre_turns::Point;
 use std::alloc::Allocator;
@@ -64,5 +67,47 @@ pub(crate) fn place_under<A: Allocator>(
         Point::Inside(_) => None,
         Point::Tried(_) => None,
         Point::TriedAgain => None,
+    }
+}
+
+// Whether a list says yes of the place where a body of a loop begins.
+#[inline(always)]
+fn says_of_body(list: &[bool], repeat: usize) -> bool
+    ensures { result ≡ true → slice_get list.now (repeat + 4) ≡ Some true }
+{
+    let Some(body) = repeat.checked_add(4) else {
+        return false;
+    };
+    match list.get(body) {
+        Some(&says) => says,
+        None => false,
+    }
+}
+
+// The same of each loop of a chain.
+#[inline(always)]
+fn says_of_bodies<A: Allocator>(list: &[bool], chains: &Chains<A>, innermost: usize) -> bool
+    requires { innermost < length chains.now }
+    ensures { result ≡ true → SaysOfBodies list.now (slice_index_or chains.now innermost []) }
+{
+    let mut id = innermost;
+    'walk: while !chains.is_empty(id) {
+        let node = chains.node(id);
+        if !says_of_body(list, node.repeat) {
+            return false;
+        }
+        id = node.parent;
+    }
+    true
+}
+
+impl<A: Allocator> Board<A> {
+    /// Whether a list says yes of the place where a body of each loop in progress begins.
+    #[inline(always)]
+    pub fn are_bodies_in(&self, list: &[bool]) -> bool
+        ensures { result ≡ true → SaysOfBodies list.now self.now.frames }
+    {
+        let (chains, innermost) = self.loops();
+        says_of_bodies(list, chains, innermost)
     }
 }

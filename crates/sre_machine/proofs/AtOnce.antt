@@ -23,7 +23,7 @@ use Rattle.sre_machine.specs.Memos.{MemoValue}
 use Rattle.sre_machine.specs.Paying.{Pays}
 use Rattle.sre_machine.specs.Turns.{IsKeeping, RunsOnAt, RunsAtOnce, TriesOn}
 use Rattle.sre_machine.specs.declared.trying.Keeping.{Keeping}
-use Rattle.sre_machine.specs.declared.trying.Keeping.TheVariants.{Nothing, Unmarked, Marked}
+use Rattle.sre_machine.specs.declared.trying.Keeping.TheVariants.{Nothing, Unmarked, Idle, Marked}
 use Rattle.sre_machine.proofs.Paying.{pays_left}
 
 -- a run without a greatest count forks
@@ -68,7 +68,7 @@ module _ {S : Type 0} {text : Ghosts S} (r : Request S text) (point : Point) (cu
 
   -- so a point that is gone on with is paid, where failures are not kept, where it is no run without a greatest count,
   -- and there
-  pub paid_so : IsKeeping r keeping b m
+  pub paid_so : IsKeeping r keeping point b m
       → (keeping ≢ Nothing → (RunsOnAt (run_of r).words point → ⊥) ⊎ RunsAtOnce r point keeping c m')
       → (keeping ≢ Nothing → RunsOnAt (run_of r).words point → TriesOn r point cursor b m c m') → (all : List Way)
       (l l' : Limit) → Arrives (run_of r) all l point cursor b → Goes (run_of r) all l' point cursor c
@@ -78,6 +78,7 @@ module _ {S : Type 0} {text : Ghosts S} (r : Request S text) (point : Point) (cu
       go : (k : Keeping) → keeping ≡ k → Pays r m l m' l'
       go Nothing e = pays_left r m m' l l' (is.left e)
       go Marked e = pays_left r m m' l l' (λ opened. is.refers e)
+      go Idle e = pays_left r m m' l l' (λ opened. is.refers_idly e)
       go Unmarked e =
           let keeps : keeping ≢ Nothing = λ nothing. cc in
           elim (off keeps) [

@@ -18,4 +18,6 @@ pub mod Elsewhere
 pub mod VainRuns
 pub mod ByPlace
 pub mod AdmittedHere
+pub mod AskedHere
+pub mod AskedLists
 pub mod ToldBodies

@@ -5,13 +5,12 @@ use Rattle.sre_chars.specs.declared.string.StrDrive.{Ghosts}
 use Rattle.sre_chars.specs.declared.string.StringCursor.{StringCursor}
 use Rattle.sre_model.specs.Marks.{Marks}
 use Rattle.sre_model.specs.Ways.{Way}
-use Rattle.sre_turns.specs.Asked.{MarksAlike}
 use Rattle.sre_turns.specs.Board.{BoardValue, Trying}
 use Rattle.sre_turns.specs.Fruit.{is_inside}
 use Rattle.sre_turns.specs.Limits.{Limit, Grants, without_tried}
 use Rattle.sre_turns.specs.Machine.{IsBack, Backs, spot}
 use Rattle.sre_turns.specs.declared.Point.{Point}
-use Rattle.sre_turns.specs.Hopeless.{Hopeless}
+use Rattle.sre_turns.specs.Hopeless.{Hopeless, MarksServe}
 use Rattle.sre_turns.proofs.Hopeless.{asked_by_stop}
 use Rattle.sre_turns.proofs.Trying.{tried_waits, tried_hopeless}
 use Rattle.sre_request.specs.declared.request.Request.{Request}
@@ -31,10 +30,10 @@ module _ {S : Type 0} {text : Ghosts S} (r : Request S text) (point : Point) (cu
   pub passed_still : IsBack (run_of r) b → IsBack (run_of r) b'
   passed_still = still_back (run_of r) b b' waits
 
-  pub passed_failed : IsBack (run_of r) b → (m : Marks) → MarksAlike (run_of r).words m b'.marks
+  pub passed_failed : IsBack (run_of r) b → (m : Marks) → MarksServe (run_of r).words m (spot point cursor b')
       → Hopeless (run_of r) (is_inside b'.choices) m (spot point cursor b')
-  passed_failed x m alike =
-      tried_hopeless (run_of r) (asked_by_stop (asked_of r)) point cursor b b' m alike marked x.all x.limit x.backs
+  passed_failed x m serves =
+      tried_hopeless (run_of r) (asked_by_stop (asked_of r)) point cursor b b' m serves marked x.all x.limit x.backs
 
   -- the machine goes back under a limit that grants no more, and where failures are kept all is paid
   abbrev GoesBackSo : Type 0 → MemoValue → MemoValue → List Way → Limit → BoardValue → Type 0

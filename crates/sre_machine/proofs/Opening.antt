@@ -31,7 +31,7 @@ use Rattle.sre_turns.specs.declared.Point.{Point}
 use Rattle.sre_turns.proofs.Faring.{run_code}
 use Rattle.sre_turns.proofs.HereMoves.{here_settled, here_forked}
 use Rattle.sre_turns.proofs.Straight.{StraightPoint, forks_never}
-use Rattle.sre_machine.specs.Turns.{ForksThere, NoEndTold, BringsNoTolls, RunsOnAt}
+use Rattle.sre_machine.specs.Turns.{RefersToGroups, ForksThere, NoEndTold, BringsNoTolls, RunsOnAt}
 use Rattle.sre_turns.proofs.NestedCounts.{units_most, has_greatest}
 use Rattle.sre_turns.proofs.Hopeless.{no_reference}
 use Rattle.sre_turns.proofs.Moving.{arrived_at, arrived_once}
@@ -208,12 +208,19 @@ module _ {S : Type 0} {text : Ghosts S} (r : Request S text) (point : Point) (cu
       cursor b x)
 
   -- no end is kept for its bit: outside of regions none ever is, and inside it would have been told
-  module _ (recalls : RecallsOf r m) (untold : NoEndTold r point cursor b m) where
+  module _ (recalls : RecallsOf r m) (untold : RefersToGroups r ⊎ NoEndTold r point cursor b m) where
+    untold_here : Remembering r → NoEndTold r point cursor b m
+    untold_here pl = elim untold [
+      | inl has ↦
+          absurd (no_reference (run_of r).words pl.plain.tree pl.plain.whole pl.plain.no_reference has)
+      | inr none ↦ none
+    ]
+
     no_end : (pl : Remembering r) (n : ℕ) → Holding r pl m limit n → (inside : Bool) → is_inside b.choices ≡ inside
         → (at bit : ℕ) → Entry m'.kept (run_of r).words inside here at bit → (c : StringCursor)
         → HoldsEnd m.ends (at * 64 + bit) c → ⊥
     no_end pl n h true told at bit entry c held =
-        untold told (h.ends (in_forked pl told)) c
+        untold_here pl told (h.ends (in_forked pl told)) c
         (end_told_before (run_of r) m.kept m.ends recalls.ends m'.kept here at bit c p.makes.grows.stay
         p.makes.rows.stay p.makes.laid entry held)
     no_end pl n h false told at bit entry c held =
@@ -293,7 +300,8 @@ module _ {S : Type 0} {text : Ghosts S} (r : Request S text) (point : Point) (cu
       pays_untried 1 none,
     )
 
-  module _ (recalls : RecallsOf r m) (untold : NoEndTold r point cursor b m) (c : BoardValue) (made : Bool)
+  module _ (recalls : RecallsOf r m) (untold : RefersToGroups r ⊎ NoEndTold r point cursor b m) (c : BoardValue)
+      (made : Bool)
       (marked : made ≡ true → c ≡ record b { choices = Trying point b.frames cursor b.marks ∷ b.choices })
       (left : made ≡ false → c ≡ b) (none : made ≡ false → Refused)
       (opened : IsOpen m'.kept (run_of r).words (is_inside b.choices) here) where

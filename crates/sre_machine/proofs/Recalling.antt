@@ -2,22 +2,25 @@
 use Rattle.std.proofs.Common.{◌≡◌, ℕ, ◌+◌, ◌*◌, ◌<◌, ◌⊎◌, inl, inr, List, Bool, true, sym, ap, ◌∙◌, subst}
 use Rattle.sre_model.specs.Marks.{no_marks}
 use Rattle.sre_model.specs.Runs.{Run}
+use Rattle.sre_turns.specs.AskedPlaces.{AreIdle}
 use Rattle.sre_turns.specs.Bodies.{MarklessRegions}
 use Rattle.sre_turns.specs.MovesAtReferences.{Asks}
 use Rattle.sre_board.specs.Ends.{EndsTable, EndsRight, HoldsNoEnd}
 use Rattle.sre_board.specs.Failures.{Kept, HoldsNone, HoldsNoMore, BitsStay, Grows, Remembers}
 use Rattle.sre_board.proofs.EndsKept.{right_none, right_stays}
 use Rattle.sre_board.proofs.Remembering.{remembers_none, remembers_still}
-use Rattle.sre_machine.specs.Memos.{MarkedValue, MemoValue, Covers, Recalled, Recalls, EndsStay}
+use Rattle.sre_machine.specs.Memos.{MarkedValue, MemoValue, Covers, Recalled, Recalls, MarkedStays, EndsStay}
 use Rattle.sre_machine.proofs.AskedGroups.{covers_told}
 
 -- nothing is kept
 pub recalls_none : (r : Run) (k : Kept) (m : MarkedValue) (e : EndsTable) (h : Bool) → HoldsNone k → HoldsNone m.kept
-    → Covers r.words m.end → HoldsNoEnd e → (h ≡ true → MarklessRegions r.words) → Recalled r k m e h
-recalls_none r k m e h none unmarked covers no_end markless = record {
+    → Covers r.words m.end → AreIdle r.words m.idle → HoldsNoEnd e → (h ≡ true → MarklessRegions r.words)
+    → Recalled r k m e h
+recalls_none r k m e h none unmarked covers idle no_end markless = record {
   plain = remembers_none r no_marks k none;
   marked = remembers_none r m.marks m.kept unmarked;
   covers = covers;
+  idle = idle;
   ends = right_none r k e no_end;
   markless = markless;
 }
@@ -38,27 +41,35 @@ bits_stay k k' same = subst (λ l. BitsStay k l) (sym same) (λ ws inside x at b
 
 -- what was kept under marks is kept still, or is forgotten
 pub recalls_met : (r : Run) (m m' : MemoValue) → m'.kept ≡ m.kept → EndsStay m m'
-    → (m'.marked ≡ m.marked) ⊎ HoldsNone m'.marked.kept → (ws : List ℕ) → ws ≡ r.words
-    → (m'.marked.end ≡ m.marked.end) ⊎ ((g : ℕ) → Asks ws g → 2 * g + 1 < m'.marked.end) → Recalls r m → Recalls r m'
-recalls_met r m m' same ends met ws words told recalls = record {
+    → MarkedStays m.marked m'.marked ⊎ HoldsNone m'.marked.kept → (ws : List ℕ) → ws ≡ r.words
+    → (m'.marked.end ≡ m.marked.end) ⊎ ((g : ℕ) → Asks ws g → 2 * g + 1 < m'.marked.end)
+    → (m'.marked.idle ≡ m.marked.idle) ⊎ AreIdle ws m'.marked.idle → Recalls r m → Recalls r m'
+recalls_met r m m' same ends met ws words told idle recalls = record {
   plain = subst (λ k. Remembers r no_marks k) (sym same) recalls.plain;
   marked = elim met [
-    | inl e ↦ subst (λ (x : MarkedValue). Remembers r x.marks x.kept) (sym e) recalls.marked
+    | inl e ↦ subst (λ k. Remembers r k m'.marked.kept) (sym e.0)
+        (subst (λ k. Remembers r m.marked.marks k) (sym e.1) recalls.marked)
     | inr none ↦ remembers_none r m'.marked.marks m'.marked.kept none
   ];
   covers = covers_told r.words ws m.marked.end m'.marked.end words told recalls.covers;
+  idle = elim idle [
+    | inl e ↦ subst (λ list. AreIdle r.words list) (sym e) recalls.idle
+    | inr told ↦ subst (λ us. AreIdle us m'.marked.idle) words told
+  ];
   ends = ends_kept r m m' ends (bits_stay m.kept m'.kept same) recalls;
   markless = still_markless r m m' ends (bits_stay m.kept m'.kept same) recalls;
 }
 
 -- no more is kept under marks
 pub recalls_still : (r : Run) (m m' : MemoValue) → m'.kept ≡ m.kept → EndsStay m m' → m'.marked.marks ≡ m.marked.marks
-    → m'.marked.end ≡ m.marked.end → HoldsNoMore m.marked.kept m'.marked.kept → Recalls r m → Recalls r m'
-recalls_still r m m' same ends marks end no_more recalls = record {
+    → m'.marked.end ≡ m.marked.end → m'.marked.idle ≡ m.marked.idle → HoldsNoMore m.marked.kept m'.marked.kept
+    → Recalls r m → Recalls r m'
+recalls_still r m m' same ends marks end idle no_more recalls = record {
   plain = subst (λ k. Remembers r no_marks k) (sym same) recalls.plain;
   marked = subst (λ k. Remembers r k m'.marked.kept) (sym marks)
       (remembers_still r m.marked.marks m.marked.kept m'.marked.kept no_more recalls.marked);
   covers = subst (λ k. Covers r.words k) (sym end) recalls.covers;
+  idle = subst (λ list. AreIdle r.words list) (sym idle) recalls.idle;
   ends = ends_kept r m m' ends (bits_stay m.kept m'.kept same) recalls;
   markless = still_markless r m m' ends (bits_stay m.kept m'.kept same) recalls;
 }
@@ -70,6 +81,7 @@ recalls_prepared r m m' same ends grows recalls = record {
   plain = remembers_still r no_marks m.kept m'.kept grows.no_more recalls.plain;
   marked = subst (λ (x : MarkedValue). Remembers r x.marks x.kept) (sym same) recalls.marked;
   covers = subst (λ (x : MarkedValue). Covers r.words x.end) (sym same) recalls.covers;
+  idle = subst (λ (x : MarkedValue). AreIdle r.words x.idle) (sym same) recalls.idle;
   ends = ends_kept r m m' ends grows.stay recalls;
   markless = still_markless r m m' ends grows.stay recalls;
 }
@@ -88,6 +100,7 @@ recalls_kept r m m' same stay plain recalls =
       plain = plain;
       marked = subst (λ (x : MarkedValue). Remembers r x.marks x.kept) (sym marked) recalls.marked;
       covers = subst (λ (x : MarkedValue). Covers r.words x.end) (sym marked) recalls.covers;
+      idle = subst (λ (x : MarkedValue). AreIdle r.words x.idle) (sym marked) recalls.idle;
       ends = ends_kept r m m' ends stay recalls;
       markless = still_markless r m m' ends stay recalls;
     }
@@ -99,6 +112,7 @@ recalls_ended r m m' kept marked keeps ends recalls = record {
   plain = subst (λ k. Remembers r no_marks k) (sym kept) recalls.plain;
   marked = subst (λ (x : MarkedValue). Remembers r x.marks x.kept) (sym marked) recalls.marked;
   covers = subst (λ (x : MarkedValue). Covers r.words x.end) (sym marked) recalls.covers;
+  idle = subst (λ (x : MarkedValue). AreIdle r.words x.idle) (sym marked) recalls.idle;
   ends = subst (λ k. EndsRight r k m'.ends) (sym kept) ends;
   markless = λ h. recalls.markless (sym keeps ∙ h);
 }
@@ -111,6 +125,7 @@ recalls_begun r m' k m e h kept marked ends markless recalls = record {
   plain = subst (λ l. Remembers r no_marks l) (sym kept) recalls.plain;
   marked = subst (λ (x : MarkedValue). Remembers r x.marks x.kept) (sym marked) recalls.marked;
   covers = subst (λ (x : MarkedValue). Covers r.words x.end) (sym marked) recalls.covers;
+  idle = subst (λ (x : MarkedValue). AreIdle r.words x.idle) (sym marked) recalls.idle;
   ends = subst (λ l. EndsRight r l m'.ends) (sym kept) (subst (λ t. EndsRight r k t) (sym ends) recalls.ends);
   markless = markless;
 }

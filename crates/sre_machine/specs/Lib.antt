@@ -7,3 +7,4 @@ pub mod Runs
 pub mod EndlessRuns
 pub mod Spending
 pub mod ByPlace
+pub mod AskedLists

@@ -14,6 +14,7 @@ use Rattle.sre_turns.specs.MovesAtReferences.{Asks}
 use Rattle.sre_request.specs.declared.request.Request.{Request}
 use Rattle.sre_request.specs.Requests.{start_of}
 use Rattle.sre_request.specs.Runs.{run_of}
+use Rattle.sre_turns.specs.AskedPlaces.{AreIdle}
 use Rattle.sre_turns.specs.Bodies.{MarklessRegions}
 use Rattle.sre_turns.specs.Nested.{place_under}
 use Rattle.sre_turns.specs.declared.Point.{Point}
@@ -21,14 +22,16 @@ use Rattle.sre_board.specs.Ends.{EndsTable, EndsRight, HoldsNoEnd}
 use Rattle.sre_board.specs.Failures.{Kept, Remembers, Grows, Laid, HasSlots, Roomy, NewRow, Capacity, HasRow}
 use Rattle.sre_board.specs.Failures.{HoldsNone, kept_of}
 
--- failures, the marks under which they were kept, and behind which mark none is asked for
+-- failures, the marks under which they were kept, behind which mark none is asked for, and from which places on none is
 pub record MarkedValue : Type 0 where
   pub marks : Marks
   pub end : ℕ
   pub kept : Kept
+  pub idle : List Bool
 
-abbrev pub marked_of : List (Option ℕ) → ℕ → Kept → MarkedValue
-marked_of raw end k = record { marks = record { raw = raw; last = negsuc 0 }; end = end; kept = k }
+abbrev pub marked_of : List (Option ℕ) → ℕ → Kept → List Bool → MarkedValue
+marked_of raw end k idle =
+    record { marks = record { raw = raw; last = negsuc 0 }; end = end; kept = k; idle = idle }
 
 -- the marks of each group that is asked for stand before an end
 abbrev pub Covers : List ℕ → ℕ → Type 0
@@ -69,16 +72,22 @@ memo_of k m e h f p w t o r = record {
 }
 
 -- each spot that is kept is hopeless: under no marks, or under those that are kept with it, as far as they are asked
--- for; and each end that is kept is right, and kept only where no region of the words sets a mark
+-- for; what is told of places from which none is is so; and each end that is kept is right, and kept only where no
+-- region of the words sets a mark
 pub record Recalled (r : Run) (k : Kept) (m : MarkedValue) (e : EndsTable) (h : Bool) : Type 0 where
   pub plain : Remembers r no_marks k
   pub marked : Remembers r m.marks m.kept
   pub covers : Covers r.words m.end
+  pub idle : AreIdle r.words m.idle
   pub ends : EndsRight r k e
   pub markless : h ≡ true → MarklessRegions r.words
 
 abbrev pub Recalls : Run → MemoValue → Type 0
 Recalls r m = Recalled r m.kept m.marked m.ends m.keeps_ends
+
+-- what is kept under marks is as it was, whatever is told of places
+abbrev pub MarkedStays : MarkedValue → MarkedValue → Type 0
+MarkedStays m m' = (m'.marks ≡ m.marks) × (m'.kept ≡ m.kept)
 
 -- the ends are as they were, and from which position on failures are kept
 abbrev pub EndsStay : MemoValue → MemoValue → Type 0
@@ -104,6 +113,7 @@ pub record IsBlank (k : Kept) (m : MarkedValue) (e : EndsTable) (h : Bool) : Typ
   pub empty : k ≡ kept_of [] [] []
   pub unmarked : HoldsNone m.kept
   pub end : m.end ≡ 2 ^ 64 - 1
+  pub idle : m.idle ≡ []
   pub ends : HoldsNoEnd e
   pub closed : h ≡ false
 

@@ -11,7 +11,8 @@ use Rattle.sre_turns.specs.Board.{BoardValue}
 use Rattle.sre_turns.specs.Asked as marks
 use Rattle.sre_turns.specs.Asked.{MarksAlike}
 use Rattle.sre_turns.specs.Fruit.{is_inside}
-use Rattle.sre_turns.specs.Hopeless.{Hopeless}
+use Rattle.sre_turns.specs.AskedPlaces.{MarksIdle}
+use Rattle.sre_turns.specs.Hopeless.{Hopeless, MarksServe}
 use Rattle.sre_turns.specs.Moves.{spot_at}
 use Rattle.sre_turns.specs.MovesAtReferences.{HasReference}
 use Rattle.sre_turns.specs.Settled.{Counted}
@@ -32,7 +33,7 @@ use Rattle.sre_request.specs.declared.request.Request.{Request}
 use Rattle.sre_machine.specs.Memos.{MemoValue}
 use Rattle.sre_machine.specs.Paying.{Pays, Within}
 use Rattle.sre_machine.specs.declared.trying.Keeping.{Keeping}
-use Rattle.sre_machine.specs.declared.trying.Keeping.TheVariants.{Nothing, Unmarked, Marked}
+use Rattle.sre_machine.specs.declared.trying.Keeping.TheVariants.{Nothing, Unmarked, Idle, Marked}
 use Rattle.sre_request.specs.Runs.{run_of}
 
 -- the machine is at a point, with a cursor at its position; at an instruction
@@ -79,6 +80,14 @@ UnaskedMarks r m = marks.Unmarked (run_of r).words m
 
 abbrev pub AlikeMarks : {S : Type 0} {text : Ghosts S} → Request S text → Marks → Marks → Type 0
 AlikeMarks r m n = MarksAlike (run_of r).words m n
+
+-- what is known under some marks serves a point at a position, as a board is
+abbrev pub ServesThere : {S : Type 0} {text : Ghosts S} → Request S text → Marks → Point → ℕ → BoardValue → Type 0
+ServesThere r m point p b = MarksServe (run_of r).words m (spot_at point b.frames p b.marks)
+
+-- no mark that a board has makes a difference at a point
+abbrev pub IdleThere : {S : Type 0} {text : Ghosts S} → Request S text → Point → BoardValue → Type 0
+IdleThere r point b = (p : ℕ) → MarksIdle (run_of r).words (spot_at point b.frames p b.marks)
 
 -- nothing comes of a point at a position, under the loops of a board and under marks
 abbrev pub Fails : {S : Type 0} {text : Ghosts S} → Request S text → Point → ℕ → Marks → BoardValue → Type 0
@@ -174,12 +183,15 @@ pub record LeavesOrStays {S : Type 0} {text : Ghosts S} (r : Request S text) (po
 
 -- under what marks failures are kept for a point: where they are not, but the memo is open, the words refer to
 -- groups
-pub record IsKeeping {S : Type 0} {text : Ghosts S} (r : Request S text) (keeping : Keeping) (b : BoardValue)
-    (m : MemoValue) : Type 0 where
+pub record IsKeeping {S : Type 0} {text : Ghosts S} (r : Request S text) (keeping : Keeping) (point : Point)
+    (b : BoardValue) (m : MemoValue) : Type 0 where
   pub opened : keeping ≢ Nothing → m.is_open ≡ true
   pub unmarked : keeping ≡ Unmarked → UnaskedMarks r b.marks
+  pub idle : keeping ≡ Idle → IdleThere r point b
+  pub forks : keeping ≡ Idle → ForksThere r point
   pub marked : keeping ≡ Marked → AlikeMarks r m.marked.marks b.marks
   pub refers : keeping ≡ Marked → RefersToGroups r
+  pub refers_idly : keeping ≡ Idle → RefersToGroups r
   pub left : keeping ≡ Nothing → m.is_open ≡ true → RefersToGroups r
 
 -- a run without a greatest count is at a point inside a region, and no end of its body is kept there

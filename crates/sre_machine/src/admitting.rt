@@ -33,8 +33,8 @@ fn all() -> AsciiSet
     AsciiSet::new().complement()
 }
 
-// Where the skip word at a place leads.
-fn leads(words: &[u32], place: usize) -> usize
+/// Where the skip word at a place leads.
+pub(crate) fn leads(words: &[u32], place: usize) -> usize
     requires { place ≤ length words.now + 4 }
     ensures { result ≡ skip words.now place }
 {

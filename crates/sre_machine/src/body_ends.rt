@@ -32,7 +32,7 @@ pub(super) fn known_end<S: StrDrive, A: Allocator>(
 ) -> Option<StringCursor>
     requires stands { AtPoint req.now point cursor }
     requires remembers { RecallsOf req.now memo.now }
-    requires keeping { IsKeeping req.now keeping board.now memo.now }
+    requires keeping { IsKeeping req.now keeping point board.now memo.now }
     ensures told { IfSome result (λ end. EndsThere req.now point cursor board.now end) }
     ensures none { IfNone result (keeping ≡ Keeping.Unmarked → BringsTolls req.now point
         → NoEndTold req.now point cursor board.now memo.now) }

@@ -9,6 +9,7 @@
 
 pub mod admitting;
 pub mod allowance;
+mod asked_places;
 pub mod barring;
 mod body_ends;
 mod branches;

@@ -3,18 +3,25 @@
 //! All of them were kept under marks that are alike to those of one time, of which there is a copy. They serve as long
 //! as the marks are alike to these. Where others are met often, these are taken over, and the failures go. Marks behind
 //! the last group that is asked for make no difference: which that is, a search asks its code once.
+//!
+//! Nor do any make a difference at a place from which none is asked for, before it is set anew. A search lists such
+//! places once, when it first meets other marks.
 
-ghost use Rattle.std.specs.Prelude.{ℕ, ◌≡◌, ◌⊎◌, ◌+◌, ◌-◌, ◌*◌, ◌^◌, ◌<◌, ◌≤◌, IfOk, None, slice_index_or, true, false};
+ghost use Rattle.std.specs.Prelude.{[], ℕ, ◌≡◌, ◌⊎◌, ◌+◌, ◌-◌, ◌*◌, ◌^◌, ◌<◌, ◌≤◌, IfOk, None, slice_index_or};
+ghost use Rattle.std.specs.Prelude.{true, false};
 ghost use Rattle.sre_model.specs.Marks.{mark_at};
 ghost use Rattle.sre_chars.specs.Numbers.{opcode_number};
 ghost use Rattle.sre_chars.specs.declared.constants.SreOpcode.{SreOpcode};
 ghost use Rattle.sre_model.specs.Roles.{role};
 ghost use Rattle.sre_turns.specs.MovesAtReferences.{Asks, Named, asks};
+ghost use Rattle.sre_machine.specs.Memos.{MarkedStays};
+ghost use Rattle.sre_turns.specs.AskedPlaces.{AreIdle, SaysOf};
 ghost use Rattle.sre_turns.specs.Fruit.{is_inside};
 ghost use Rattle.sre_turns.specs.Moves.{spot_at};
 ghost use Rattle.sre_board.specs.Failures.{HoldsNone, HoldsNoMore, HoldsOneMore, Tells};
 ghost use Rattle.sre_code.specs.Codes.{items_of};
 
+use crate::asked_places::{AskedPlace, list_idle, says_of};
 use sre_board::{Board, Failures, Known};
 use sre_chars::constants::SreOpcode;
 use sre_code::Code;
@@ -36,6 +43,9 @@ pub(crate) struct Marked<A: Allocator> {
     end: usize,
     // how often other marks were met
     strange: usize,
+    // which marks are asked for from each place on, and the places from which none is, once they are told
+    asked: Vec<AskedPlace, A>,
+    idle: Vec<bool, A>,
 }
 
 impl<A: Allocator> Model for Marked<A> {
@@ -43,7 +53,7 @@ impl<A: Allocator> Model for Marked<A> {
 
     ghost Value = { MarkedValue };
 
-    ghost view = { λ m. marked_of m.marks.items m.end m.failures };
+    ghost view = { λ m. marked_of m.marks.items m.end m.failures m.idle.items };
 }
 
 // The position of a mark; none where it is absent, or behind the end.
@@ -161,12 +171,15 @@ impl<A: Allocator + Copy> Marked<A> {
     pub(crate) fn new(alloc: A) -> Marked<A>
         ensures none { HoldsNone result.kept }
         ensures end { result.end ≡ 2 ^ 64 - 1 }
+        ensures idle { result.idle ≡ [] }
     {
         Marked {
             marks: Vec::new(alloc),
             failures: Failures::new(alloc),
             end: usize::MAX,
             strange: 0,
+            asked: Vec::new(alloc),
+            idle: Vec::new(alloc),
         }
     }
 }
@@ -177,6 +190,7 @@ impl<A: Allocator> Marked<A> {
     pub(crate) fn forget(&mut self)
         ensures none { HoldsNone self.new.kept }
         ensures end { self.new.end ≡ self.old.end }
+        ensures idle { self.new.idle ≡ self.old.idle }
     {
         self.failures.forget();
         self.strange = 0;
@@ -187,10 +201,38 @@ impl<A: Allocator> Marked<A> {
     pub(crate) fn begin(&mut self)
         ensures none { HoldsNone self.new.kept }
         ensures end { self.new.end ≡ 2 ^ 64 - 1 }
+        ensures idle { self.new.idle ≡ [] }
     {
         self.failures.forget();
         self.strange = 0;
         self.end = usize::MAX;
+        self.idle.clear();
+    }
+
+    /// Lists the places of the words from which no mark is asked for, if that was not done in this search.
+    ///
+    /// # Errors
+    ///
+    /// [`Refusal`], where memory was refused. What is listed by then is right.
+    fn tell_places(&mut self, words: &[u32]) -> Result<(), Refusal>
+        ensures idle { (self.new.idle ≡ self.old.idle) ⊎ AreIdle words.now self.new.idle }
+        ensures marks { self.new.marks ≡ self.old.marks }
+        ensures end { self.new.end ≡ self.old.end }
+        ensures kept { self.new.kept ≡ self.old.kept }
+    {
+        if !self.idle.is_empty() {
+            return Ok(());
+        }
+        list_idle(words, &mut self.asked, &mut self.idle)
+    }
+
+    /// Whether it is listed that no mark is asked for from a place on, nor in a further body of a loop in progress.
+    #[inline(always)]
+    pub(crate) fn is_idle(&self, board: &Board<A>, place: usize) -> bool
+        ensures { result ≡ true → SaysOf self.now.idle board.now.frames place }
+    {
+        let idle = self.idle.as_slice();
+        says_of(idle, place) && board.are_bodies_in(idle)
     }
 
     /// Whether marks are those under which the failures were kept, from an entry on.
@@ -204,7 +246,7 @@ impl<A: Allocator> Marked<A> {
 
     /// Notes that other marks were met, and says whether that was often enough to take them over.
     #[inline(always)]
-    pub(crate) fn is_worn(&mut self) -> bool
+    fn is_worn(&mut self) -> bool
         ensures { self.new ≡ self.old }
     {
         self.strange = self.strange.saturating_add(1);
@@ -216,16 +258,36 @@ impl<A: Allocator> Marked<A> {
     /// # Errors
     ///
     /// [`Refusal`], where memory was refused. No failure is kept then, either.
-    pub(crate) fn adopt(&mut self, code: &Code<'_>, raw: &[Option<usize>]) -> Result<(), Refusal>
+    fn adopt(&mut self, code: &Code<'_>, raw: &[Option<usize>]) -> Result<(), Refusal>
         ensures none { HoldsNone self.new.kept }
         ensures end { (self.new.end ≡ self.old.end)
             ⊎ ((g : ℕ) → Asks (items_of code.now) g → 2 * g + 1 < self.new.end) }
+        ensures idle { self.new.idle ≡ self.old.idle }
         ensures marks { IfOk result (λ _. self.new.marks.raw ≡ raw.now) }
     {
         self.failures.forget();
         self.strange = 0;
         self.end = known_end(self.end, code);
         copy(&mut self.marks, raw)
+    }
+
+    /// Other marks are met, which are taken over where that was often enough. The first time the places from which none
+    /// is asked for are listed.
+    ///
+    /// # Errors
+    ///
+    /// [`Refusal`], where memory was refused. What is kept and listed by then is right.
+    pub(crate) fn meet(&mut self, code: &Code<'_>, raw: &[Option<usize>]) -> Result<(), Refusal>
+        ensures stays { MarkedStays self.old self.new ⊎ HoldsNone self.new.kept }
+        ensures end { (self.new.end ≡ self.old.end)
+            ⊎ ((g : ℕ) → Asks (items_of code.now) g → 2 * g + 1 < self.new.end) }
+        ensures idle { (self.new.idle ≡ self.old.idle) ⊎ AreIdle (items_of code.now) self.new.idle }
+    {
+        self.tell_places(code.items())?;
+        if !self.is_worn() {
+            return Ok(());
+        }
+        self.adopt(code, raw)
     }
 
     /// Makes room for the failures of a point, if there is none.
@@ -245,6 +307,7 @@ impl<A: Allocator> Marked<A> {
         ensures no_more { HoldsNoMore self.old.kept self.new.kept }
         ensures marks { self.new.marks ≡ self.old.marks }
         ensures end { self.new.end ≡ self.old.end }
+        ensures idle { self.new.idle ≡ self.old.idle }
     {
         self.failures.prepare(words, board, point, first, end)
     }
@@ -271,6 +334,7 @@ impl<A: Allocator> Marked<A> {
             (spot_at point board.now.frames position board.now.marks) self.old.kept self.new.kept }
         ensures marks { self.new.marks ≡ self.old.marks }
         ensures end { self.new.end ≡ self.old.end }
+        ensures idle { self.new.idle ≡ self.old.idle }
     {
         self.failures.keep(words, board, point, position);
     }

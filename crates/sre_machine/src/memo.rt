@@ -17,6 +17,8 @@ ghost use Rattle.sre_turns.specs.Moves.{spot_at};
 ghost use Rattle.sre_growth.specs.Refusal.{Refused};
 ghost use Rattle.sre_board.specs.Failures.{HoldsNone, HoldsNoMore, HoldsOneMore, Tells, Laid};
 ghost use Rattle.sre_machine.specs.Memos.{MakesRoom, RecallsOf, EndsStay, IsBlankMemo, KeepsEndsOf, KeepsFrom};
+ghost use Rattle.sre_machine.specs.Memos.{MarkedStays};
+ghost use Rattle.sre_turns.specs.AskedPlaces.{AreIdle, SaysOf};
 ghost use Rattle.sre_board.specs.Ends.{TellsEnd, HoldsOpenMore, KeepsOpenEnds, HoldsOpenEnds};
 ghost use Rattle.sre_chars.specs.declared.string.StringCursor.{StringCursor};
 ghost use Rattle.sre_turns.specs.Bodies.{MarklessRegions};
@@ -390,10 +392,22 @@ impl<A: Allocator> Memo<A> {
         self.marked.agrees(raw, from)
     }
 
-    // Other marks were met, which are taken over where that was often enough.
+    // Whether no mark is asked for from a place on, nor in a further body of a loop in progress, as far as that is
+    // told.
+    #[inline(always)]
+    pub(crate) fn is_idle(&self, board: &Board<A>, place: usize) -> bool
+        ensures { result ≡ true → SaysOf self.now.marked.idle board.now.frames place }
+    {
+        self.marked.is_idle(board, place)
+    }
+
+    // Other marks were met, which are taken over where that was often enough. From which places on marks make no
+    // difference is told the first time.
     #[inline(never)]
     pub(crate) fn meets(&mut self, code: &Code<'_>, raw: &[Option<usize>])
-        ensures marked { (self.new.marked ≡ self.old.marked) ⊎ HoldsNone self.new.marked.kept }
+        ensures marked { MarkedStays self.old.marked self.new.marked ⊎ HoldsNone self.new.marked.kept }
+        ensures idle { (self.new.marked.idle ≡ self.old.marked.idle)
+            ⊎ AreIdle (items_of code.now) self.new.marked.idle }
         ensures end { (self.new.marked.end ≡ self.old.marked.end)
             ⊎ ((g : ℕ) → Asks (items_of code.now) g → 2 * g + 1 < self.new.marked.end) }
         ensures kept { self.new.kept ≡ self.old.kept }
@@ -401,10 +415,7 @@ impl<A: Allocator> Memo<A> {
         ensures still { self.old.is_open ≡ true → self.new.is_open ≡ true ⊎ Refused }
     {
         self.is_used = true;
-        if !self.marked.is_worn() {
-            return;
-        }
-        if let Err(refusal) = self.marked.adopt(code, raw) {
+        if let Err(refusal) = self.marked.meet(code, raw) {
             self.close(refusal);
         }
     }
@@ -422,6 +433,7 @@ impl<A: Allocator> Memo<A> {
         ensures kept { self.new.kept ≡ self.old.kept }
         ensures marks { self.new.marked.marks ≡ self.old.marked.marks }
         ensures end { self.new.marked.end ≡ self.old.marked.end }
+        ensures idle { self.new.marked.idle ≡ self.old.marked.idle }
         ensures ends { EndsStay self.old self.new }
         ensures still { self.old.is_open ≡ true → self.new.is_open ≡ true ⊎ Refused }
     {
@@ -460,6 +472,7 @@ impl<A: Allocator> Memo<A> {
             self.new.marked.kept }
         ensures marks { self.new.marked.marks ≡ self.old.marked.marks }
         ensures end { self.new.marked.end ≡ self.old.marked.end }
+        ensures idle { self.new.marked.idle ≡ self.old.marked.idle }
         ensures same { self.new ≡ record self.old { marked = self.new.marked } }
     {
         self.is_used = true;

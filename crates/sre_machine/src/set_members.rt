@@ -168,10 +168,24 @@ pub(crate) fn filled<T: Copy + Drop, A: Allocator>(
     ensures each { IfOk result (λ list. (i : ℕ) (x : T) → slice_get list.items i ≡ Some x → x ≡ value) }
 {
     let mut list = Vec::new(alloc);
-    'item: for _item in 0..count {
-        sre_growth::push(&mut list, value)?;
-    }
+    fill(&mut list, count, value)?;
     Ok(list)
+}
+
+/// Makes so many equal items of a list, whose memory is used again.
+pub(crate) fn fill<T: Copy + Drop, A: Allocator>(
+    list: &mut Vec<T, A>,
+    count: usize,
+    value: T,
+) -> Result<(), Refusal>
+    ensures length { IfOk result (λ _. length list.new.items ≡ count) }
+    ensures each { IfOk result (λ _. (i : ℕ) (x : T) → slice_get list.new.items i ≡ Some x → x ≡ value) }
+{
+    list.clear();
+    'item: for _item in 0..count {
+        sre_growth::push(list, value)?;
+    }
+    Ok(())
 }
 
 /// For each place of the words the ASCII characters that a set takes whose items begin there, where they are told:

@@ -1,8 +1,8 @@
 //! Instructions and possessive loops that are tried: what failed is kept, and where it comes again the machine goes
 //! back at once.
 
-ghost use Rattle.std.specs.Prelude.{◌≡◌, ◌≢◌, ◌⊎◌, IfOk, true, false};
-ghost use Rattle.sre_model.specs.Marks.{Marks};
+ghost use Rattle.std.specs.Prelude.{ℕ, ◌≡◌, ◌≢◌, ◌⊎◌, IfOk, true, false};
+ghost use Rattle.sre_model.specs.Marks.{Marks, no_marks};
 ghost use Rattle.sre_machine.specs.Paying.{HoldsTried};
 ghost use Rattle.sre_turns.specs.declared.Point.TheVariants.{Instruction, Again};
 ghost use Rattle.sre_turns.specs.Board.{MayBeTried};
@@ -14,6 +14,7 @@ ghost use Rattle.sre_request.specs.Runs.{run_of};
 ghost use Rattle.sre_machine.specs.EndlessRuns.{IsEndlessRun};
 ghost use Rattle.sre_machine.specs.Turns.{At, AtPoint, AtOnBoard, Fails, Takes, TriesOn, IsKeeping, LeavesOrStays};
 ghost use Rattle.sre_machine.specs.Turns.{RefersToGroups, UnaskedMarks, AlikeMarks, ForksThere};
+ghost use Rattle.sre_machine.specs.Turns.{ServesThere, IdleThere};
 ghost use Rattle.sre_machine.specs.Turns.{BringsTolls, BringsNoTolls, NoEndTold, RunsOnAt, RunsAtOnce};
 ghost use Rattle.sre_turns.specs.Limits.{attempt};
 ghost use Rattle.sre_growth.specs.Refusal.{Refused};
@@ -109,6 +110,48 @@ fn is_marked_so<S: StrDrive, A: Allocator>(
     memo.agrees(board.marks().raw(), first)
 }
 
+// Whether no mark that is set makes a difference at a point, as far as that is told.
+#[inline(always)]
+fn is_idle<S: StrDrive, A: Allocator>(
+    req: &Request<'_, S>,
+    board: &Board<A>,
+    memo: &Memo<A>,
+    point: Point,
+) -> bool
+    requires { RecallsOf req.now memo.now }
+    ensures { result ≡ true → IdleThere req.now point board.now }
+{
+    match point {
+        Point::Instruction(place) => memo.is_idle(board, place),
+        Point::Again => false,
+        Point::Alternatives(_) => false,
+        Point::Shorter(_, _) => false,
+        Point::Longer(_, _) => false,
+        Point::Inside(_) => false,
+        Point::Tried(_) => false,
+        Point::TriedAgain => false,
+    }
+}
+
+// Whether a failure may be kept with those under no marks: none is set that the words ask for, or none makes a
+// difference.
+#[inline(always)]
+fn serves_unmarked<S: StrDrive, A: Allocator>(
+    req: &Request<'_, S>,
+    board: &Board<A>,
+    memo: &Memo<A>,
+    point: Point,
+) -> bool
+    requires { RecallsOf req.now memo.now }
+    ensures serves { (p : ℕ) → result ≡ true → ServesThere req.now no_marks point p board.now }
+    ensures marked { result ≡ false → RefersToGroups req.now }
+{
+    if is_unmarked(req, board) {
+        return true;
+    }
+    is_idle(req, board, memo, point)
+}
+
 /// Under which marks failures are kept, those of the board being such.
 #[derive(Clone, Copy, Debug, PartialEq, Eq)]
 pub(super) enum Keeping {
@@ -116,11 +159,13 @@ pub(super) enum Keeping {
     Nothing,
     // No mark is set that the words ask for.
     Unmarked,
+    // None that is set makes a difference.
+    Idle,
     // The marks that the words ask for are those which the memo has.
     Marked,
 }
 
-// Under which marks failures are kept, for a point. Under those of the memo there are failures only
+// Under which marks failures are kept, for a point. Where marks are set that are asked for there are failures only
 // where the machine may branch.
 #[inline(always)]
 fn keeping_at<S: StrDrive, A: Allocator>(
@@ -132,7 +177,7 @@ fn keeping_at<S: StrDrive, A: Allocator>(
 ) -> Keeping
     requires stands { AtPoint req.now point cursor }
     requires remembers { RecallsOf req.now memo.now }
-    ensures { IsKeeping req.now result board.now memo.now }
+    ensures { IsKeeping req.now result point board.now memo.now }
 {
     if !memo.is_open() {
         return Keeping::Nothing;
@@ -140,7 +185,13 @@ fn keeping_at<S: StrDrive, A: Allocator>(
     if is_unmarked(req, board) {
         return Keeping::Unmarked;
     }
-    if may_branch_at(req, point, cursor) && is_marked_so(req, board, memo) {
+    if !may_branch_at(req, point, cursor) {
+        return Keeping::Nothing;
+    }
+    if is_idle(req, board, memo, point) {
+        return Keeping::Idle;
+    }
+    if is_marked_so(req, board, memo) {
         return Keeping::Marked;
     }
     Keeping::Nothing
@@ -155,7 +206,7 @@ fn keep_marked<S: StrDrive, A: Allocator>(
     point: Point,
     cursor: StringCursor,
 )
-    requires failed { (m : Marks) → AlikeMarks req.now m board.now.marks
+    requires failed { (m : Marks) → ServesThere req.now m point cursor.position board.now
         → Fails req.now point cursor.position m board.now }
     requires remembers { RecallsOf req.now memo.old }
     ensures remembers { RecallsOf req.now memo.new }
@@ -176,7 +227,7 @@ pub(super) fn keep<S: StrDrive, A: Allocator>(
     point: Point,
     cursor: StringCursor,
 )
-    requires failed { (m : Marks) → AlikeMarks req.now m board.now.marks
+    requires failed { (m : Marks) → ServesThere req.now m point cursor.position board.now
         → Fails req.now point cursor.position m board.now }
     requires remembers { RecallsOf req.now memo.old }
     ensures remembers { RecallsOf req.now memo.new }
@@ -184,7 +235,7 @@ pub(super) fn keep<S: StrDrive, A: Allocator>(
     ensures account { HoldsTried req.now (attempt board.now.choices (spot point cursor board.now))
         memo.old.kept memo.new.kept }
 {
-    if is_unmarked(req, board) {
+    if serves_unmarked(req, board, memo, point) {
         let words = req.pattern_codes().items();
         memo.keep(words, board, point, cursor.position());
     } else {
@@ -207,8 +258,8 @@ fn has_failed<S: StrDrive, A: Allocator>(
     requires forks { ForksThere req.now point }
     requires tried { MayBeTried point }
     requires opened { memo.old.is_open ≡ true }
-    requires unmarked { UnaskedMarks req.now board.old.marks }
-    requires no_end { NoEndTold req.now point cursor board.old memo.old }
+    requires serves { ServesThere req.now no_marks point cursor.position board.old }
+    requires no_end { RefersToGroups req.now ⊎ NoEndTold req.now point cursor board.old memo.old }
     ensures remembers { RecallsOf req.now memo.new }
     ensures leaves { LeavesOrStays req.now point cursor result board.old memo.old board.new memo.new }
     ensures tries { result ≡ false → TriesOn req.now point cursor board.old memo.old board.new memo.new }
@@ -289,7 +340,7 @@ fn is_hopeless<S: StrDrive, A: Allocator>(
 ) -> bool
     requires stands { AtPoint req.now point cursor }
     requires remembers { RecallsOf req.now memo.old }
-    requires keeping { IsKeeping req.now keeping board.old memo.old }
+    requires keeping { IsKeeping req.now keeping point board.old memo.old }
     requires tried { MayBeTried point }
     requires no_end { keeping ≡ Keeping.Unmarked → BringsTolls req.now point
         → NoEndTold req.now point cursor board.old memo.old }
@@ -311,6 +362,7 @@ fn is_hopeless<S: StrDrive, A: Allocator>(
             }
             has_failed(req, board, memo, point, cursor)
         }
+        Keeping::Idle => has_failed(req, board, memo, point, cursor),
         Keeping::Marked => has_failed_marked(req, board, memo, point, cursor),
     }
 }

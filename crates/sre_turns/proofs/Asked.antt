@@ -1,12 +1,13 @@
 -- Marks that are alike stay so, and tell the same of a group.
 use Rattle.std.proofs.Common.{◌≡◌, ℕ, zero, suc, ◌+◌, ◌-◌, ◌*◌, ◌<◌, ◌≤◌, List, [], ◌∷◌, ◌++◌, length, replicate, cond}
 use Rattle.std.proofs.Common.{slice_set, slice_index_or, Option, Some, None, refl, sym, ap, ◌∙◌, arith, nat_le}
+use Rattle.std.proofs.Common.{◌⊎◌, inl, inr}
 use Rattle.std.proofs.lemmas.List.{length-append, length-replicate}
 use Rattle.sre_model.specs.Marks.{Marks, lengthened, set_mark, mark_at, group}
 use Rattle.sre_model.specs.Ways.{Way}
 use Rattle.sre_model.proofs.MarksApart.{SameStops}
 use Rattle.sre_turns.specs.MovesAtReferences.{HasReference, Asks}
-use Rattle.sre_turns.specs.Asked.{MarksAlike, Unmarked, OutcomesAlike}
+use Rattle.sre_turns.specs.Asked.{MarksAgree, AskedMark, MarksAlike, Unmarked, OutcomesAlike}
 
 -- one entry of a list
 abbrev entry : List (Option ℕ) → ℕ → Option ℕ
@@ -22,6 +23,12 @@ set_in_both (x ∷ xs) (y ∷ ys) zero (suc k) v l l' h = h
 set_in_both (x ∷ xs) (y ∷ ys) (suc n) zero v l l' h = h
 set_in_both (x ∷ xs) (y ∷ ys) (suc n) (suc k) v l l' h =
     set_in_both xs ys n k v (omega (arith, l)) (omega (arith, l')) h
+
+-- the entry that is set
+set_here : (xs : List (Option ℕ)) (n v : ℕ) → n < length xs → entry (slice_set xs n (Some v)) n ≡ Some v
+set_here [] n v l = absurd (omega (arith, l))
+set_here (x ∷ xs) zero v l = refl
+set_here (x ∷ xs) (suc n) v l = set_here xs n v (omega (arith, l))
 
 abbrev absent : ℕ → List (Option ℕ)
 absent more = replicate more None
@@ -65,59 +72,100 @@ mark_in_both m o n p k h =
     set_in_both (lengthened n m.raw) (lengthened n o.raw) n k p (long_enough n m.raw) (long_enough n o.raw)
     (longer n m.raw k ∙ h ∙ sym (longer n o.raw k))
 
+-- and that mark is the same then, whatever it was
+mark_set_in_both : (m o : Marks) (n p : ℕ) → mark_at (set_mark m n p) n ≡ mark_at (set_mark o n p) n
+mark_set_in_both m o n p =
+    set_here (lengthened n m.raw) n p (long_enough n m.raw)
+    ∙ sym (set_here (lengthened n o.raw) n p (long_enough n o.raw))
+
 -- behind its end a list has no marks
 past_end : (raw : List (Option ℕ)) (k : ℕ) → length raw ≤ k → entry raw k ≡ None
 past_end [] k l = refl
 past_end (x ∷ raw) zero l = absurd (omega (arith, l))
 past_end (x ∷ raw) (suc k) l = past_end raw k (omega (arith, l))
 
-module _ (ws : List ℕ) where
-  pub alike_set : (m o : Marks) (n p : ℕ) → MarksAlike ws m o → MarksAlike ws (set_mark m n p) (set_mark o n p)
-  alike_set m o n p h = λ g asks.
-      let both = h g asks in (mark_in_both m o n p (2 * g) both.0, mark_in_both m o n p (2 * g + 1) both.1)
+-- marks of which fewer matter
+pub agree_less : (matters less : ℕ → Type 0) (m n : Marks) → ((k : ℕ) → less k → matters k) → MarksAgree matters m n
+    → MarksAgree less m n
+agree_less matters less m n fewer h = λ k x. h k (fewer k x)
 
-  -- marks that are alike to the same ones
-  pub both_alike : (l m n : Marks) → MarksAlike ws l m → MarksAlike ws l n → MarksAlike ws m n
-  both_alike l m n h k = λ g asks.
-      let one = h g asks in let other = k g asks in (sym one.0 ∙ other.0, sym one.1 ∙ other.1)
+-- where one is set in both, that one may matter, too
+pub agree_set : (matters more : ℕ → Type 0) (m o : Marks) (n p : ℕ) → ((k : ℕ) → more k → matters k ⊎ (k ≡ n))
+    → MarksAgree matters m o → MarksAgree more (set_mark m n p) (set_mark o n p)
+agree_set matters more m o n p fewer h k x = go (fewer k x)
+  where
+    go : matters k ⊎ (k ≡ n) → mark_at (set_mark m n p) k ≡ mark_at (set_mark o n p) k
+    go (inl y) = mark_in_both m o n p k (h k y)
+    go (inr e) = rw e (mark_set_in_both m o n p)
 
-  -- where the words have no reference all marks are alike
-  pub apart_alike : (HasReference ws → ⊥) → (m n : Marks) → MarksAlike ws m n
-  apart_alike none m n = λ g asks. absurd (none asks.0.0)
+-- marks that agree with the same ones
+pub both_agree : (matters : ℕ → Type 0) (l m n : Marks) → MarksAgree matters l m → MarksAgree matters l n
+    → MarksAgree matters m n
+both_agree matters l m n h e = λ k x. sym (h k x) ∙ e k x
 
-  -- marks that end before those of the first group that is asked for
-  pub few_unmarked : (m : Marks) (least : ℕ) → ((g : ℕ) → Asks ws g → least ≤ g) → length m.raw ≤ 2 * least
-      → Unmarked ws m
-  few_unmarked m least from l = λ g asks.
-      let far : least ≤ g = from g asks in
-      (sym (past_end m.raw (2 * g) (omega (arith, far, l))), sym (past_end m.raw (2 * g + 1) (omega (arith, far, l))))
+-- so a group is the same in both, where its marks matter
+pub group_agrees : (matters : ℕ → Type 0) (m n : Marks) (g : ℕ) → matters (2 * g) → matters (2 * g + 1)
+    → MarksAgree matters m n → group m g ≡ group n g
+group_agrees matters m n g start end h =
+    same_group (mark_at m (2 * g)) (mark_at n (2 * g)) (mark_at m (2 * g + 1)) (mark_at n (2 * g + 1))
+    (h (2 * g) start) (h (2 * g + 1) end)
 
-  -- marks that are the same from the first group that is asked for up to the last
-  pub from_alike : (m n : Marks) (least most : ℕ) → ((g : ℕ) → Asks ws g → least ≤ g)
-      → ((g : ℕ) → Asks ws g → 2 * g + 1 < most)
-      → ((k : ℕ) → 2 * least ≤ k → k < most → mark_at m k ≡ mark_at n k) → MarksAlike ws m n
-  from_alike m n least most from to same = λ g asks.
-      let far : least ≤ g = from g asks in
-      let few : 2 * g + 1 < most = to g asks in (
-        same (2 * g) (omega (arith, far)) (omega (arith, few)),
-        same (2 * g + 1) (omega (arith, far)) (omega (arith, few)),
-      )
-
-  -- a group that is asked for is the same in both
-  pub group_alike : (m n : Marks) (g : ℕ) → Asks ws g → MarksAlike ws m n → group m g ≡ group n g
-  group_alike m n g asks h =
-      let both = h g asks in
-      same_group (mark_at m (2 * g)) (mark_at n (2 * g)) (mark_at m (2 * g + 1)) (mark_at n (2 * g + 1)) both.0 both.1
-
-  pub outcomes_appended : (xs ys us vs : List Way) → OutcomesAlike ws xs ys → OutcomesAlike ws us vs
-      → OutcomesAlike ws (xs ++ us) (ys ++ vs)
+module _ (matters : ℕ → Type 0) where
+  pub outcomes_appended : (xs ys us vs : List Way) → OutcomesAlike matters xs ys → OutcomesAlike matters us vs
+      → OutcomesAlike matters (xs ++ us) (ys ++ vs)
   outcomes_appended [] [] us vs h k = k
   outcomes_appended [] (y ∷ ys) us vs h k = absurd h
   outcomes_appended (x ∷ xs) [] us vs h k = absurd h
   outcomes_appended (x ∷ xs) (y ∷ ys) us vs h k = (h.0, h.1, outcomes_appended xs ys us vs h.2 k)
 
-  pub stops_of : (xs ys : List Way) → OutcomesAlike ws xs ys → SameStops xs ys
+  pub stops_of : (xs ys : List Way) → OutcomesAlike matters xs ys → SameStops xs ys
   stops_of [] [] h = tt
   stops_of [] (y ∷ ys) h = absurd h
   stops_of (x ∷ xs) [] h = absurd h
   stops_of (x ∷ xs) (y ∷ ys) h = (h.0, stops_of xs ys h.2)
+
+module _ (ws : List ℕ) where
+  -- the marks of a group that is asked for
+  pub start_asked : (g : ℕ) → Asks ws g → AskedMark ws (2 * g)
+  start_asked g asked = record { group = g; asked = asked; of = inl refl }
+
+  pub end_asked : (g : ℕ) → Asks ws g → AskedMark ws (2 * g + 1)
+  end_asked g asked = record { group = g; asked = asked; of = inr refl }
+
+  -- a mark of a group that is asked for lies where those of all such groups do
+  asked_between : (k least most : ℕ) → ((g : ℕ) → Asks ws g → least ≤ g) → ((g : ℕ) → Asks ws g → 2 * g + 1 < most)
+      → AskedMark ws k → (2 * least ≤ k) × (k < most)
+  asked_between k least most from to x = go x.of
+    where
+      go : (k ≡ 2 * x.group) ⊎ (k ≡ 2 * x.group + 1) → (2 * least ≤ k) × (k < most)
+      go (inl e) =
+          let far : least ≤ x.group = from x.group x.asked in
+          let few : 2 * x.group + 1 < most = to x.group x.asked in
+          (omega (arith, far, e), omega (arith, few, e))
+      go (inr e) =
+          let far : least ≤ x.group = from x.group x.asked in
+          let few : 2 * x.group + 1 < most = to x.group x.asked in
+          (omega (arith, far, e), omega (arith, few, e))
+
+  -- where the words have no reference all marks are alike
+  pub apart_alike : (HasReference ws → ⊥) → (m n : Marks) → MarksAlike ws m n
+  apart_alike none m n = λ k x. absurd (none x.asked.0.0)
+
+  -- marks that end before those of the first group that is asked for
+  pub few_unmarked : (m : Marks) (least : ℕ) → ((g : ℕ) → Asks ws g → least ≤ g) → length m.raw ≤ 2 * least
+      → Unmarked ws m
+  few_unmarked m least from l = λ k x. sym (past_end m.raw k (behind k x))
+    where
+      behind : (k : ℕ) → AskedMark ws k → length m.raw ≤ k
+      behind k x = go x.of
+        where
+          go : (k ≡ 2 * x.group) ⊎ (k ≡ 2 * x.group + 1) → length m.raw ≤ k
+          go (inl e) = let far : least ≤ x.group = from x.group x.asked in omega (arith, far, l, e)
+          go (inr e) = let far : least ≤ x.group = from x.group x.asked in omega (arith, far, l, e)
+
+  -- marks that are the same from the first group that is asked for up to the last
+  pub from_alike : (m n : Marks) (least most : ℕ) → ((g : ℕ) → Asks ws g → least ≤ g)
+      → ((g : ℕ) → Asks ws g → 2 * g + 1 < most)
+      → ((k : ℕ) → 2 * least ≤ k → k < most → mark_at m k ≡ mark_at n k) → MarksAlike ws m n
+  from_alike m n least most from to same = λ k x.
+      let between = asked_between k least most from to x in same k between.0 between.1

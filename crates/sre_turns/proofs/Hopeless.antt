@@ -1,6 +1,6 @@
 -- A spot of which nothing came is hopeless, and the machine may go back at once from one that is alike.
 -- The memory of failures, which keeps hopeless spots, rests on these laws.
-use Rattle.std.proofs.Common.{◌≡◌, ℕ, Bool, true, false, List, [], ◌∷◌, refl, sym, ◌∙◌, subst}
+use Rattle.std.proofs.Common.{◌≡◌, ℕ, Bool, true, false, List, [], ◌∷◌, refl, sym, ◌∙◌, subst, inl, inr}
 use Rattle.std.specs.List.{filter}
 use Rattle.std.proofs.lemmas.Bool.{true≢false}
 use Rattle.sre_model.specs.Marks.{Marks}
@@ -15,8 +15,8 @@ use Rattle.sre_turns.specs.Board.{Choice, from_region}
 use Rattle.sre_turns.specs.Moves.{Spot}
 use Rattle.sre_turns.specs.MovesAtReferences.{HasReference}
 use Rattle.sre_turns.specs.Machine.{Runs, Waits}
-use Rattle.sre_turns.specs.Asked.{MarksAlike}
-use Rattle.sre_turns.specs.Hopeless.{Fruitless, Hopeless, AcceptsByStop, is_inside}
+use Rattle.sre_turns.specs.Alike.{Alike}
+use Rattle.sre_turns.specs.Hopeless.{Fruitless, Hopeless, MarksServe, AcceptsByStop, is_inside}
 use Rattle.sre_turns.proofs.FirstOutcomes.{none_passes}
 use Rattle.sre_turns.proofs.SameComes.{marked_come}
 use Rattle.sre_turns.proofs.Start.{refused_waits}
@@ -38,13 +38,20 @@ same_fruitless r told true (x ∷ xs) [] h e = refl
 same_fruitless r told true (x ∷ xs) (y ∷ ys) h e = absurd (cc)
 same_fruitless r told false xs ys h e = none_passes r.accepts told xs ys h e
 
--- a spot that was fruitless is hopeless under marks that are alike to its own
+-- what came of a spot stops where it does of one that is alike, where the same marks serve both
+served_come : (r : Run) (m : Marks) (x y : Spot) (os us : List Way) (n k : ℕ) → MarksServe r.words m x
+    → MarksServe r.words m y → Alike r.words x y → Runs r.words r.subject x os n → Runs r.words r.subject y us k
+    → SameStops os us
+served_come r m x y os us n k (inl one) (inl other) h d e = (marked_come r.words r.subject m h one other d e).0
+served_come r m x y os us n k (inr idle) other h d e = idle.onward r.subject y os us n k h d e
+served_come r m x y os us n k (inl one) (inr idle) h d e = idle.back r.subject x os us n k h d e
+
+-- a spot that was fruitless is hopeless where marks serve that serve it
 pub hopeless_again : (r : Run) → AcceptsByStop r → (inside : Bool) (m : Marks) (x : Spot)
-    → MarksAlike r.words m x.marks → (os : List Way) (n : ℕ) → Runs r.words r.subject x os n → Fruitless r inside os
+    → MarksServe r.words m x → (os : List Way) (n : ℕ) → Runs r.words r.subject x os n → Fruitless r inside os
     → Hopeless r inside m x
 hopeless_again r told inside m x one os n d e = record {
-  none = λ y us k h other d'.
-      same_fruitless r told inside os us (marked_come r.words r.subject m h one other d d').0 e;
+  none = λ y us k h other d'. same_fruitless r told inside os us (served_come r m x y os us n k one other h d d') e;
 }
 
 -- outside all regions what is not accepted may be left out

@@ -48,6 +48,7 @@ pub mod Bodies
 pub mod Confining
 pub mod BodyEnds
 pub mod Admitting
+pub mod AskedPlaces
 pub mod Straight
 pub mod HereMoves
 pub mod BodyStops

@@ -7,7 +7,6 @@ use Rattle.sre_model.specs.Ways.{Way}
 use Rattle.sre_model.specs.Runs.{Run}
 use Rattle.sre_turns.specs.Board.{Trying, BoardValue}
 use Rattle.sre_turns.specs.Moves.{Spot}
-use Rattle.sre_turns.specs.Asked.{MarksAlike}
 use Rattle.sre_turns.specs.declared.Frame.{Frame}
 use Rattle.sre_turns.specs.declared.Point.{Point}
 use Rattle.sre_turns.specs.declared.Next.TheVariants as next
@@ -17,7 +16,7 @@ use Rattle.sre_turns.specs.Machine.{Runs, Waits, tried, GoesWith, Goes, Arrives,
 use Rattle.sre_turns.specs.Confining.{ChoicesConfined}
 use Rattle.sre_turns.specs.Fruit.{Fruitless, is_inside}
 use Rattle.sre_turns.specs.Alike.{Alike, LoopsAlike, least_from}
-use Rattle.sre_turns.specs.Hopeless.{Hopeless, AcceptsByStop}
+use Rattle.sre_turns.specs.Hopeless.{Hopeless, AcceptsByStop, MarksServe}
 use Rattle.sre_turns.proofs.FirstOutcomes.{first_none}
 use Rattle.sre_turns.proofs.Hopeless.{hopeless_again, fruitless_waits, fruitless_none}
 use Rattle.sre_turns.specs.Potential.{potential_of}
@@ -101,9 +100,9 @@ pub record CameToNothing (r : Run) (inside : Bool) (x : Spot) : Type 0 where
   pub fruitless : Fruitless r inside outcomes
 
 pub came_hopeless : (r : Run) → AcceptsByStop r → (inside : Bool) (m : Marks) (x : Spot)
-    → MarksAlike r.words m x.marks → CameToNothing r inside x → Hopeless r inside m x
-came_hopeless r told inside m x alike d =
-    hopeless_again r told inside m x alike d.outcomes d.turns d.runs d.fruitless
+    → MarksServe r.words m x → CameToNothing r inside x → Hopeless r inside m x
+came_hopeless r told inside m x serves d =
+    hopeless_again r told inside m x serves d.outcomes d.turns d.runs d.fruitless
 
 -- what was tried came to nothing
 pub tried_came : (r : Run) (pt : Point) (c : StringCursor) (b b' : BoardValue)
@@ -121,13 +120,13 @@ tried_came r pt c b b' e all limit g = go (subst (λ x. Waits r x 0 [] all g.lat
           fruitless = first_none _ _ same (fruitless_none r (is_inside b'.choices));
         }
 
--- so it is hopeless under marks that are alike
+-- so it is hopeless where marks serve that serve it
 pub tried_hopeless : (r : Run) → AcceptsByStop r → (pt : Point) (c : StringCursor) (b b' : BoardValue) (m : Marks)
-    → MarksAlike r.words m b'.marks → b.choices ≡ Trying pt b'.frames c b'.marks ∷ b'.choices
+    → MarksServe r.words m (spot pt c b') → b.choices ≡ Trying pt b'.frames c b'.marks ∷ b'.choices
     → (all : List Way) (limit : Limit) → Backs r all limit b
     → Hopeless r (is_inside b'.choices) m (spot pt c b')
-tried_hopeless r told pt c b b' m alike e all limit g =
-    came_hopeless r told (is_inside b'.choices) m (spot pt c b') alike
+tried_hopeless r told pt c b b' m serves e all limit g =
+    came_hopeless r told (is_inside b'.choices) m (spot pt c b') serves
     (tried_came r pt c b b' e all limit g)
 
 -- a spot is alike to itself
@@ -145,16 +144,16 @@ alike_itself ws x = record {
 
 -- what is hopeless and come to is left at once
 pub hopeless_left : (r : Run) (pt : Point) (c : StringCursor) (b : BoardValue) (m : Marks)
-    → MarksAlike r.words m b.marks → Hopeless r (is_inside b.choices) m (spot pt c b) → (all : List Way)
+    → MarksServe r.words m (spot pt c b) → Hopeless r (is_inside b.choices) m (spot pt c b) → (all : List Way)
     (limit : Limit) → Arrives r all limit pt c b → Later r all limit next.Back b
-hopeless_left r pt c b m alike hopeless all limit g =
+hopeless_left r pt c b m serves hopeless all limit g =
     let x : Spot = spot pt c b in (
       omega (arith, some_turns g.runs, g.within),
       record {
         later = g.later;
         waits = sooner (g.turns + 1) 0 (omega arith)
             (fruitless_waits r b.choices g.now
-            (hopeless.none x g.now g.turns (alike_itself r.words x) alike g.runs) g.waits);
+            (hopeless.none x g.now g.turns (alike_itself r.words x) serves g.runs) g.waits);
         within = omega (arith, some_turns g.runs, g.within);
         fares = λ pl.
             let code = run_code r x g.runs in

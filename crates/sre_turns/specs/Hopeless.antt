@@ -1,7 +1,7 @@
 -- Hopeless spots: where the machine stood and nothing came of it, so that nothing comes of a spot that is alike.
 -- Words of the machine's contracts: the memory of failures keeps such spots, and the machine leaves them at once. What
 -- sre_engine makes public does not rest on it.
-use Rattle.std.specs.Prelude.{ℕ, ◌≡◌, Bool, List}
+use Rattle.std.specs.Prelude.{ℕ, ◌≡◌, ◌⊎◌, Bool, List}
 use Rattle.sre_model.specs.Marks.{Marks}
 use Rattle.sre_model.specs.Ways.{Way}
 use Rattle.sre_model.specs.Runs.{Run}
@@ -10,10 +10,15 @@ use Rattle.sre_turns.specs.Moves.{Spot}
 use Rattle.sre_turns.specs.Machine.{Runs}
 use Rattle.sre_turns.specs.Alike.{Alike}
 use Rattle.sre_turns.specs.Asked.{MarksAlike}
+use Rattle.sre_turns.specs.AskedPlaces.{MarksIdle}
 
--- nothing comes of a spot, nor of one that is alike, as long as the marks that the words ask for are these
+-- what is known under some marks serves a spot: the marks that the words ask for are these, or none makes a difference
+abbrev pub MarksServe : List ℕ → Marks → Spot → Type 0
+MarksServe ws m x = MarksAlike ws m x.marks ⊎ MarksIdle ws x
+
+-- nothing comes of a spot, nor of one that is alike, where these marks serve
 pub record Hopeless (r : Run) (inside : Bool) (m : Marks) (x : Spot) : Type 0 where
-  pub none : (y : Spot) (os : List Way) (n : ℕ) → Alike r.words x y → MarksAlike r.words m y.marks
+  pub none : (y : Spot) (os : List Way) (n : ℕ) → Alike r.words x y → MarksServe r.words m y
       → Runs r.words r.subject y os n → Fruitless r inside os
 
 -- whether an outcome is accepted is told by where it stops

@@ -11,6 +11,7 @@ pub mod Lying
 pub mod Bodies
 pub mod Turning
 pub mod Alike
+pub mod AskedPlaces
 pub mod Nested
 pub mod Potential
 pub mod Straight

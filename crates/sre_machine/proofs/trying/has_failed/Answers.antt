@@ -29,7 +29,7 @@ returns-in-Failed-clause-leaves g c =
     let held = subst (λ p. Holds m.kept r.words inside (record x { position = p })) c.position.ensures
     (subst (λ (ws : List ℕ). Holds m.kept ws inside (record x { position = c.position.result })) same
     c.in-Failed.ensures) in (
-      hopeless_left r c.args.point c.args.cursor b no_marks c.requires.unmarked
+      hopeless_left r c.args.point c.args.cursor b no_marks c.requires.serves
           (remembers_still r no_marks _ _ c.prepare.ensures.makes.grows.no_more c.requires.remembers.plain inside x
           held) all limit arrives,
       pays_prepared c.args.req.now c.args.point c.args.cursor b c.args.memo.now m p c.requires.forks all limit arrives,

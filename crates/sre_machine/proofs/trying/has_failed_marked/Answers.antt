@@ -1,4 +1,4 @@
-use Rattle.std.proofs.Common.{◌≡◌, false, refl, ◌∙◌, ap, sym, subst, List, ℕ}
+use Rattle.std.proofs.Common.{inl, ◌≡◌, false, refl, ◌∙◌, ap, sym, subst, List, ℕ}
 use Rattle.std.proofs.lemmas.Bool.{true≢false}
 use Rattle.sre_code.specs.Codes.{items_of}
 use Rattle.sre_turns.specs.Fruit.{is_inside}
@@ -27,7 +27,7 @@ returns-in-Failed-clause-leaves g c =
     let held = subst (λ p. Holds m'.marked.kept r.words inside (record x { position = p })) c.position.ensures
     (subst (λ (ws : List ℕ). Holds m'.marked.kept ws inside (record x { position = c.position.result })) same
     c.in-Failed.ensures) in (
-      hopeless_left r c.args.point c.args.cursor b m.marked.marks c.requires.marked
+      hopeless_left r c.args.point c.args.cursor b m.marked.marks (inl c.requires.marked)
           (remembers_still r m.marked.marks m.marked.kept m'.marked.kept c.prepare_marked.ensures.no_more
           c.requires.remembers.marked inside x held) all limit arrives,
       pays_left c.args.req.now m m' limit limit (λ _. c.requires.refers),
@@ -37,19 +37,19 @@ pub returns-in-Failed-clause-remembers : goal.returns-in-Failed-clause-remembers
 returns-in-Failed-clause-remembers g c =
     recalls_still (run_of c.args.req.now) c.args.memo.now c.prepare_marked.new.self c.prepare_marked.ensures.kept
     c.prepare_marked.ensures.ends c.prepare_marked.ensures.marks c.prepare_marked.ensures.end
-    c.prepare_marked.ensures.no_more c.requires.remembers
+    c.prepare_marked.ensures.idle c.prepare_marked.ensures.no_more c.requires.remembers
 
 pub returns-in-Open-clause-remembers : goal.returns-in-Open-clause-remembers
 returns-in-Open-clause-remembers g c =
     recalls_still (run_of c.args.req.now) c.args.memo.now c.prepare_marked.new.self c.prepare_marked.ensures.kept
     c.prepare_marked.ensures.ends c.prepare_marked.ensures.marks c.prepare_marked.ensures.end
-    c.prepare_marked.ensures.no_more c.requires.remembers
+    c.prepare_marked.ensures.idle c.prepare_marked.ensures.no_more c.requires.remembers
 
 pub returns-in-NoBit-clause-remembers : goal.returns-in-NoBit-clause-remembers
 returns-in-NoBit-clause-remembers g c =
     recalls_still (run_of c.args.req.now) c.args.memo.now c.prepare_marked.new.self c.prepare_marked.ensures.kept
     c.prepare_marked.ensures.ends c.prepare_marked.ensures.marks c.prepare_marked.ensures.end
-    c.prepare_marked.ensures.no_more c.requires.remembers
+    c.prepare_marked.ensures.idle c.prepare_marked.ensures.no_more c.requires.remembers
 
 pub returns-in-Open-clause-leaves : goal.returns-in-Open-clause-leaves
 returns-in-Open-clause-leaves g c =

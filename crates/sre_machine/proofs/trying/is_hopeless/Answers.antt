@@ -1,4 +1,4 @@
-use Rattle.std.proofs.Common.{rules}
+use Rattle.std.proofs.Common.{rules, inl, inr}
 use Rattle.sre_machine.proofs.Failing.{stays_on}
 use Rattle.sre_machine.proofs.Opening.{goes_freely, goes_forgetting, branches_not}
 use Rattle.sre_machine.proofs.trying.is_hopeless.Goals as goal
@@ -29,4 +29,7 @@ returns-in-Marked-clause-tries g c = λ told _ _. c.has_failed_marked.ensures.tr
 
 pub has_failed-requires-clause-no_end : goal.has_failed-requires-clause-no_end
 has_failed-requires-clause-no_end g c =
-    c.requires.no_end c.in-Unmarked.is (c.may_branch_at.ensures.tolls (search rules))
+    inr (c.requires.no_end c.in-Unmarked.is (c.may_branch_at.ensures.tolls (search rules)))
+
+pub has_failed-requires-clause-serves : goal.has_failed-requires-clause-serves
+has_failed-requires-clause-serves g c = inl (c.requires.keeping.unmarked c.in-Unmarked.is)

@@ -7,9 +7,9 @@ use Rattle.sre_machine.proofs.Failing.{plain_words, referring_words, asked_few}
 use Rattle.sre_machine.proofs.trying.is_unmarked.Goals as goal
 
 pub returns-then-not-refers-clause-unmarked : goal.returns-then-not-refers-clause-unmarked
-returns-then-not-refers-clause-unmarked g c = λ _ group asks.
+returns-then-not-refers-clause-unmarked g c = λ _ k marked.
     absurd (plain_words c.args.req.now c.pattern_codes-code.result c.refers.result c.pattern_codes-code.ensures
-    c.refers.ensures c.if-not-refers.true asks.0.0)
+    c.refers.ensures c.if-not-refers.true marked.asked.0.0)
 
 pub returns-clause-unmarked : goal.returns-clause-unmarked
 returns-clause-unmarked g c = λ told.

@@ -8,23 +8,24 @@ use Rattle.sre_machine.proofs.Recalling.{recalls_kept}
 use Rattle.sre_machine.proofs.Keeping.{holds_tried}
 use Rattle.sre_machine.proofs.trying.keep.Goals as goal
 
-pub returns-then-is_unmarked-clause-remembers : goal.returns-then-is_unmarked-clause-remembers
-returns-then-is_unmarked-clause-remembers g c =
+pub returns-then-serves_unmarked-clause-remembers : goal.returns-then-serves_unmarked-clause-remembers
+returns-then-serves_unmarked-clause-remembers g c =
     recalls_kept (run_of c.args.req.now) c.args.memo.now c.keep.new.self c.keep.ensures.same
     c.keep.ensures.kept.stay
     (fails_kept c.args.req.now no_marks c.args.memo.now.kept c.keep.new.self.kept c.items-words.result.now c.args.point
     c.position.result c.args.cursor.position c.args.board.now
     (c.items-words.ensures.same ∙ ap items_of c.pattern_codes.ensures) c.position.ensures c.keep.ensures.kept.more
-    (c.requires.failed no_marks (c.is_unmarked.ensures.unmarked c.if-is_unmarked.true)) c.requires.remembers.plain)
+    (c.requires.failed no_marks
+    (c.serves_unmarked.ensures.serves c.args.cursor.position c.if-serves_unmarked.true)) c.requires.remembers.plain)
     c.requires.remembers
 
-pub returns-then-is_unmarked-clause-account : goal.returns-then-is_unmarked-clause-account
-returns-then-is_unmarked-clause-account g c =
+pub returns-then-serves_unmarked-clause-account : goal.returns-then-serves_unmarked-clause-account
+returns-then-serves_unmarked-clause-account g c =
     holds_tried c.args.req.now c.args.point c.position.result c.args.cursor.position c.args.board.now
     c.args.memo.now.kept c.keep.new.self.kept c.items-words.result.now
     (c.items-words.ensures.same ∙ ap items_of c.pattern_codes.ensures) c.position.ensures c.keep.ensures.kept
 
-pub returns-else-is_unmarked-clause-account : goal.returns-else-is_unmarked-clause-account
-returns-else-is_unmarked-clause-account g c = λ pl.
+pub returns-else-serves_unmarked-clause-account : goal.returns-else-serves_unmarked-clause-account
+returns-else-serves_unmarked-clause-account g c = λ pl.
     absurd (no_reference (run_of c.args.req.now).words pl.plain.tree pl.plain.whole pl.plain.no_reference
-    (c.is_unmarked.ensures.marked c.if-is_unmarked.false))
+    (c.serves_unmarked.ensures.marked c.if-serves_unmarked.false))

@@ -1,7 +1,8 @@
-use Rattle.std.proofs.Common.{ap, sym, subst, ◌∙◌}
+use Rattle.std.proofs.Common.{inl, ap, sym, subst, ◌∙◌}
 use Rattle.sre_code.specs.Codes.{items_of}
 use Rattle.sre_model.specs.Marks.{Marks, no_marks}
 use Rattle.sre_board.specs.Failures.{Remembers}
+use Rattle.sre_turns.specs.AskedPlaces.{AreIdle}
 use Rattle.sre_request.specs.Runs.{run_of}
 use Rattle.sre_machine.specs.Memos.{MemoValue, Covers, EndsStay}
 use Rattle.sre_machine.proofs.Recalling.{bits_stay, ends_kept, still_markless}
@@ -26,9 +27,10 @@ returns-then-is_marked_so-clause-remembers g c =
           c.position.result c.args.cursor.position c.args.board.now
           (c.items-words.ensures.same ∙ ap items_of c.pattern_codes.ensures) c.position.ensures
           c.keep_marked.ensures.more
-          (c.requires.failed m.marked.marks (c.is_marked_so.ensures c.if-is_marked_so.true))
+          (c.requires.failed m.marked.marks (inl (c.is_marked_so.ensures c.if-is_marked_so.true)))
           c.requires.remembers.marked);
       covers = subst (λ end. Covers r.words end) (sym c.keep_marked.ensures.end) c.requires.remembers.covers;
+      idle = subst (λ list. AreIdle r.words list) (sym c.keep_marked.ensures.idle) c.requires.remembers.idle;
       ends = ends_kept r m m' ends (bits_stay m.kept m'.kept kept) c.requires.remembers;
       markless = still_markless r m m' ends (bits_stay m.kept m'.kept kept) c.requires.remembers;
     }

@@ -9,4 +9,4 @@ returns-then-may_branch_at-clause-remembers g c =
     recalls_met (run_of c.args.req.now) c.args.memo.now c.meets.new.self c.meets.ensures.kept c.meets.ensures.ends
     c.meets.ensures.marked
     (items_of c.pattern_codes.result) (ap items_of c.pattern_codes.ensures) c.meets.ensures.end
-    c.requires.remembers
+    c.meets.ensures.idle c.requires.remembers

@@ -2,6 +2,8 @@ use Rattle.std.proofs.Common.{◌≡◌, ap, sym, ◌∙◌, subst, List, ℕ}
 use Rattle.sre_code.specs.Codes.{items_of}
 use Rattle.sre_model.specs.Standing.{AreWords}
 use Rattle.sre_request.specs.Runs.{run_of}
+use Rattle.sre_turns.specs.AskedPlaces.{AreIdle}
+use Rattle.sre_turns.proofs.SameComes.{none_idle}
 use Rattle.sre_machine.specs.Memos.{Covers}
 use Rattle.sre_machine.proofs.AskedGroups.{covers_all}
 use Rattle.sre_machine.proofs.Recalling.{recalls_none}
@@ -16,4 +18,5 @@ returns-clause-remembers g c =
     recalls_none r m.failures m.marked m.ends m.keeps_ends blank.none blank.unmarked
     (subst (λ end. Covers r.words end) (sym blank.end)
     (covers_all r.words (subst (λ (ws : List ℕ). AreWords ws) same c.know_words.ensures)))
+    (subst (λ list. AreIdle r.words list) (sym blank.idle) (none_idle r.words))
     blank.ends (λ never. absurd (cc (never, blank.closed)))

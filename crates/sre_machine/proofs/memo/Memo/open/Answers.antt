@@ -1,5 +1,6 @@
 use Rattle.std.proofs.Common.{ap, subst, sym}
 use Rattle.sre_request.specs.Runs.{run_of}
+use Rattle.sre_turns.specs.AskedPlaces.{AreIdle}
 use Rattle.sre_machine.specs.Memos.{MemoValue, Covers}
 use Rattle.sre_machine.proofs.Recalling.{recalls_none, recalls_begun}
 use Rattle.sre_machine.proofs.memo.Memo.open.Goals as goal
@@ -16,5 +17,6 @@ returns-clause-recalls g c = λ recalls.
     recalls_begun r c.begin_keeping.new.self k m e h (ap (λ (x : MemoValue). x.kept) same)
     (ap (λ (x : MemoValue). x.marked) same) (ap (λ (x : MemoValue). x.ends) same) c.begin_keeping.ensures.markless
     (recalls_none r k m e h c.forget.ensures.none c.forget-2.ensures.none
-    (subst (λ end. Covers r.words end) (sym c.forget-2.ensures.end) before.covers) c.forget-3.ensures.none
+    (subst (λ end. Covers r.words end) (sym c.forget-2.ensures.end) before.covers)
+    (subst (λ list. AreIdle r.words list) (sym c.forget-2.ensures.idle) before.idle) c.forget-3.ensures.none
     before.markless)

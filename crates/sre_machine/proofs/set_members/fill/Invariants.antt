@@ -1,5 +1,5 @@
 use Rattle.std.proofs.Common.{◌≡◌, ℕ, length, Some, slice_get}
-use Rattle.sre_machine.proofs.set_members.filled.Given as goal
+use Rattle.sre_machine.proofs.set_members.fill.Given as goal
 
 abbrev pub invariant-item : goal.invariant-item
 invariant-item g l = record {

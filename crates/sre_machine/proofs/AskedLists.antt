@@ -1,0 +1,173 @@
+-- A list that tells of each place which marks may be asked for tells it rightly where one place more is told.
+-- The list of what places ask for is told by this; nothing else here rests on it.
+use Rattle.std.proofs.Common.{◌≡◌, ℕ, zero, suc, ◌<◌, ◌≤◌, ◌⊎◌, inl, inr, List, [], ◌∷◌, ◌++◌, Option, Some, None}
+use Rattle.std.proofs.Common.{Bool, true}
+use Rattle.std.proofs.Common.{length, slice_get, slice_set, refl, sym, ◌∙◌, ap, subst, arith}
+use Rattle.sre_model.specs.Roles.{role}
+use Rattle.sre_model.specs.Standing.{AreWords}
+use Rattle.sre_turns.specs.AskedPlaces.{AreIdle, Lies, MarkRange, Within, PlacesAsk, AsksAt, AlternativesAsk}
+use Rattle.sre_turns.proofs.SameComes.{are_idle}
+use Rattle.sre_turns.proofs.AskedPlaces.{IsNarrower, IsSameBut, one_place_told, told_everywhere}
+use Rattle.sre_machine.specs.declared.asked_places.AskedMarks.{AskedMarks}
+use Rattle.sre_machine.specs.declared.asked_places.AskedPlace.{AskedPlace}
+use Rattle.sre_machine.specs.AskedLists.{range_of, any_marks, asks_for_any, told_or_any, asks_of, AllAsked, AreMarks}
+use Rattle.sre_machine.specs.AskedLists.{HaveAll, InstructionAsks}
+use Rattle.sre_machine.proofs.AskedHere.{named_groups}
+
+-- nothing is told yet of the places before one
+pub record NoneBefore (list : List AskedPlace) (place : ℕ) : Type 0 where
+  pub each : (i : ℕ) → i < place → told_or_any (slice_get list i) ≡ asks_for_any
+
+-- the item that is set, and the others
+got_here : {X : Type 0} (xs : List X) (i : ℕ) (v : X) → i < length xs → slice_get (slice_set xs i v) i ≡ Some v
+got_here [] i v there = absurd (omega arith)
+got_here (y ∷ ys) zero v there = refl
+got_here (y ∷ ys) (suc i) v there = got_here ys i v (omega (arith, there))
+
+got_elsewhere : {X : Type 0} (xs : List X) (i j : ℕ) (v : X)
+    → (j ≡ i) ⊎ (slice_get (slice_set xs i v) j ≡ slice_get xs j)
+got_elsewhere [] i j v = inr refl
+got_elsewhere (y ∷ ys) zero zero v = inl refl
+got_elsewhere (y ∷ ys) zero (suc j) v = inr refl
+got_elsewhere (y ∷ ys) (suc i) zero v = inr refl
+got_elsewhere (y ∷ ys) (suc i) (suc j) v = elim (got_elsewhere ys i j v) [
+  | (inl same) ↦ inl (ap (λ n. suc n) same)
+  | (inr was) ↦ inr was
+]
+
+-- a place that asks for such marks as a group has
+abbrev pub MarksFit : AskedPlace → Type 0
+MarksFit asked =
+    Within (range_of asked.instruction) (range_of any_marks) × Within (range_of asked.alternatives) (range_of any_marks)
+
+module _ (list : List AskedPlace) (p : ℕ) (new : AskedPlace) (there : p < length list)
+    (before : told_or_any (slice_get list p) ≡ asks_for_any) (fit : MarksFit new) where
+  abbrev replaced : List AskedPlace
+  replaced = slice_set list p new
+
+  abbrev old : PlacesAsk
+  old = asks_of list
+
+  abbrev now : PlacesAsk
+  now = asks_of replaced
+
+  abbrev told : (AskedPlace → AskedMarks) → List AskedPlace → ℕ → MarkRange
+  told part xs i = range_of (part (told_or_any (slice_get xs i)))
+
+  here : told_or_any (slice_get replaced p) ≡ new
+  here = ap told_or_any (got_here list p new there)
+
+  same_or : (part : AskedPlace → AskedMarks) (i : ℕ) → (i ≡ p) ⊎ (told part replaced i ≡ told part list i)
+  same_or part i = elim (got_elsewhere list p i new) [
+    | (inl e) ↦ inl e
+    | (inr e) ↦ inr (ap (λ o. range_of (part (told_or_any o))) e)
+  ]
+
+  less : (part : AskedPlace → AskedMarks) → Within (range_of (part new)) (range_of (part asks_for_any)) → (i : ℕ)
+      → Within (told part replaced i) (told part list i)
+  less part fits i = elim (same_or part i) [
+    | (inl e) ↦
+        let at : Within (told part replaced p) (told part list p) =
+        subst (λ a. Within (range_of (part a)) (told part list p)) (sym here)
+        (subst (λ a. Within (range_of (part new)) (range_of (part a))) (sym before) fits) in
+        subst (λ n. Within (told part replaced n) (told part list n)) (sym e) at
+    | (inr e) ↦ subst (λ r. Within r (told part list i)) (sym e) (λ k l. l)
+  ]
+
+  narrower : IsNarrower now old
+  narrower = record {
+    instruction = less (λ a. a.instruction) fit.0;
+    alternatives = less (λ a. a.alternatives) fit.1;
+  }
+
+  same_but : IsSameBut p now old
+  same_but = record { instruction = same_or (λ a. a.instruction); alternatives = same_or (λ a. a.alternatives) }
+
+  -- a place more is told
+  pub asked_more : (ws : List ℕ) → AllAsked ws list → InstructionAsks ws list p new.instruction
+      → AlternativesAsk ws (asks_of list) (range_of new.alternatives) p → AllAsked ws replaced
+  asked_more ws was asks others = record {
+    told =
+        one_place_told (λ k. ⊥) ws old now p was.told narrower same_but
+        (λ o w. subst (λ a. AsksAt (λ k. ⊥) ws old (range_of a.instruction) (role o) p) (sym here) (asks.each o w))
+        (subst (λ a. AlternativesAsk ws old (range_of a.alternatives) p) (sym here) others);
+  }
+
+  pub marks_more : AreMarks list → AreMarks replaced
+  marks_more are = record {
+    instruction = λ i k l. are.instruction i k (narrower.instruction i k l);
+    alternatives = λ q k l. are.alternatives q k (narrower.alternatives q k l);
+  }
+
+  pub none_before : (was : ℕ) → p ≤ was → NoneBefore list was → NoneBefore replaced p
+  none_before was le none = record {
+    each = λ i l. elim (got_elsewhere list p i new) [
+      | (inl e) ↦ absurd (omega (arith, l, e))
+      | (inr e) ↦ ap told_or_any e ∙ none.each i (omega (arith, l, le))
+    ];
+  }
+
+-- any mark may be asked for, as long as no place is told
+module _ (list : List AskedPlace) (any : AskedPlace) (is : any ≡ asks_for_any)
+    (each : (i : ℕ) (x : AskedPlace) → slice_get list i ≡ Some x → x ≡ any) where
+  untold : (i : ℕ) → told_or_any (slice_get list i) ≡ asks_for_any
+  untold i = by_item (slice_get list i) refl
+    where
+      by_item : (o : Option AskedPlace) → slice_get list i ≡ o → told_or_any o ≡ asks_for_any
+      by_item None e = refl
+      by_item (Some x) e = each i x e ∙ is
+
+  pub all_untold : (ws : List ℕ) → AreWords ws → AllAsked ws list
+  all_untold ws are = record {
+    told =
+        told_everywhere (λ k. ⊥) ws (asks_of list) (range_of any_marks)
+        (λ i. ap (λ a. range_of a.instruction) (untold i)) (λ q. ap (λ a. range_of a.alternatives) (untold q))
+        (named_groups ws are);
+  }
+
+  pub marks_untold : AreMarks list
+  marks_untold = record {
+    instruction = λ i. subst (λ a. Within (range_of a.instruction) (range_of any_marks)) (sym (untold i)) (λ k l. l);
+    alternatives = λ q. subst (λ a. Within (range_of a.alternatives) (range_of any_marks)) (sym (untold q)) (λ k l. l);
+  }
+
+  pub none_told : (place : ℕ) → NoneBefore list place
+  none_told place = record { each = λ i l. untold i }
+
+-- a list says yes of no place from which a mark is asked for
+pub record SaysOfNone (list : List AskedPlace) (idle : List Bool) : Type 0 where
+  pub none : (i : ℕ) → slice_get idle i ≡ Some true → (k : ℕ) → Lies k ((asks_of list).instruction i) → ⊥
+
+-- so it says yes of places at which marks make no difference
+pub idle_told : (ws : List ℕ) (list : List AskedPlace) (idle : List Bool) → AllAsked ws list → SaysOfNone list idle
+    → AreIdle ws idle
+idle_told ws list idle all says = are_idle ws (asks_of list) all.told idle says.none
+
+-- a list that has no place says yes of none, and one that says it of one place more is still right
+pub says_nothing : (list : List AskedPlace) (idle : List Bool) → idle ≡ [] → SaysOfNone list idle
+says_nothing list idle e = record { none = λ i says k l. absurd (cc (says, e)) }
+
+appended : {X : Type 0} (xs : List X) (v w : X) (i : ℕ) → slice_get (xs ++ v ∷ []) i ≡ Some w
+    → (slice_get xs i ≡ Some w) ⊎ ((i ≡ length xs) × (v ≡ w))
+appended [] v w zero e = inr (refl, cc)
+appended [] v w (suc i) e = inl e
+appended (x ∷ xs) v w zero e = inl e
+appended (x ∷ xs) v w (suc i) e = elim (appended xs v w i e) [
+  | (inl there) ↦ inl there
+  | (inr last) ↦ inr (ap (λ n. suc n) last.0, last.1)
+]
+
+pub says_more : (list : List AskedPlace) (idle now : List Bool) (place : ℕ) (told : Bool) (marks : AskedMarks)
+    → length idle ≡ place → now ≡ idle ++ told ∷ [] → HaveAll marks ((asks_of list).instruction place)
+    → (told ≡ true → marks.end ≤ marks.from) → SaysOfNone list idle → SaysOfNone list now
+says_more list idle now place told marks long same has empty says = record { none = λ i said k l. go i said k l }
+  where
+    go : (i : ℕ) → slice_get now i ≡ Some true → (k : ℕ) → Lies k ((asks_of list).instruction i) → ⊥
+    go i said k l = elim (appended idle told true i (subst (λ xs. slice_get xs i ≡ Some true) same said)) [
+      | (inl before) ↦ says.none i before k l
+      | (inr last) ↦
+          let at : Lies k (range_of marks) =
+          has.all k (subst (λ n. Lies k ((asks_of list).instruction n)) (last.0 ∙ long) l) in
+          let none : marks.end ≤ marks.from = empty last.1 in
+          absurd (omega (arith, at.0, at.1, none))
+    ]

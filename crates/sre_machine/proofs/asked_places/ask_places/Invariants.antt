@@ -1,0 +1,16 @@
+use Rattle.std.proofs.Common.{◌≡◌, ◌≤◌, length}
+use Rattle.sre_machine.specs.AskedLists.{AllAsked, AreMarks}
+use Rattle.sre_machine.proofs.AskedLists.{NoneBefore}
+use Rattle.sre_machine.proofs.asked_places.ask_places.Given as goal
+
+abbrev pub invariant-place : goal.invariant-place
+invariant-place g l = record {
+  long : length l.list.items ≡ length l.words;
+  within : l.place ≤ length l.words;
+  asked : AllAsked l.words l.list.items;
+  marks : AreMarks l.list.items;
+  before : NoneBefore l.list.items l.place;
+}
+
+abbrev pub decreases-place : goal.decreases-place
+decreases-place g l = l.place

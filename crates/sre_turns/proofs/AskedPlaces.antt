@@ -1,0 +1,119 @@
+-- What is told of the places, which marks may be asked for from each on, stays so where fewer are told of one place.
+-- The list of the machine that tells this is filled by it; nothing in this crate rests on it.
+use Rattle.std.proofs.Common.{◌≡◌, ℕ, ◌+◌, ◌⊎◌, inl, inr, List, sym, subst}
+use Rattle.sre_chars.specs.declared.constants.SreOpcode.{SreOpcode}
+use Rattle.sre_model.specs.Grammar.{Word, Opcode, word, skip}
+use Rattle.sre_model.specs.Roles.{Role, ToFail, ToEnd, ToTest, ToCheckPosition, ToMark, ToBranch, ToJump, ToRun}
+use Rattle.sre_model.specs.Roles.{ToRepeat, ToLoop, ToRepeatPossessively, ToGroupAtomically, ToLook, ToRefer}
+use Rattle.sre_model.specs.Roles.{ToCheckGroup, ToNothing, role}
+use Rattle.sre_turns.specs.AskedPlaces.{MarkRange, Within, PlacesAsk, GroupLies}
+use Rattle.sre_turns.specs.AskedPlaces.{BothLead, AsksAt, AlternativesAsk, AskedByPlace}
+
+-- no more is told of any place
+pub record IsNarrower (b a : PlacesAsk) : Type 0 where
+  pub instruction : (i : ℕ) → Within (b.instruction i) (a.instruction i)
+  pub alternatives : (q : ℕ) → Within (b.alternatives q) (a.alternatives q)
+
+-- the same is told of all places but one
+pub record IsSameBut (p : ℕ) (b a : PlacesAsk) : Type 0 where
+  pub instruction : (i : ℕ) → (i ≡ p) ⊎ (b.instruction i ≡ a.instruction i)
+  pub alternatives : (q : ℕ) → (q ≡ p) ⊎ (b.alternatives q ≡ a.alternatives q)
+
+-- a range that has what is asked for where an instruction goes on has it where no more is told of the places
+module _ (base : ℕ → Type 0) (ws : List ℕ) (a b : PlacesAsk) (less : IsNarrower b a) (own : MarkRange) where
+  still : (i : ℕ) → Within (a.instruction i) own → Within (b.instruction i) own
+  still i h = λ k l. h k (less.instruction i k l)
+
+  still_alternatives : (q : ℕ) → Within (a.alternatives q) own → Within (b.alternatives q) own
+  still_alternatives q h = λ k l. h k (less.alternatives q k l)
+
+  still_both : (i j : ℕ) → BothLead a own i j → BothLead b own i j
+  still_both i j h = (still i h.0, still j h.1)
+
+  pub still_asks : (f : Role) (i : ℕ) → AsksAt base ws a own f i → AsksAt base ws b own f i
+  still_asks ToFail i h = tt
+  still_asks ToEnd i h = tt
+  still_asks (ToTest kind) i h = record { each = λ j t s. still j (h.each j t s) }
+  still_asks ToCheckPosition i h = still (i + 2) h
+  still_asks ToMark i h = record { each = λ v w k l. h.each v w k (less.instruction (i + 2) k l) }
+  still_asks ToBranch i h = still_alternatives (i + 1) h
+  still_asks ToJump i h = still (skip ws (i + 1)) h
+  still_asks (ToRun kind) i h = still (skip ws (i + 1)) h
+  still_asks ToRepeat i h = still_both (skip ws (i + 1)) (i + 4) h
+  still_asks (ToLoop o) i h = still (i + 1) h
+  still_asks ToRepeatPossessively i h = still_both (skip ws (i + 1) + 1) (i + 4) h
+  still_asks ToGroupAtomically i h = still_both (skip ws (i + 1)) (i + 2) h
+  still_asks (ToLook sign) i h = still_both (skip ws (i + 1)) (i + 3) h
+  still_asks ToRefer i h = (h.0, still (i + 2) h.1)
+  still_asks ToCheckGroup i h = (h.0, still_both (i + 1 + word ws (i + 2)) (i + 3) h.1)
+  still_asks ToNothing i h = tt
+
+  pub alternatives_still_ask : (q : ℕ) → AlternativesAsk ws a own q → AlternativesAsk ws b own q
+  alternatives_still_ask q h = record {
+    first = λ some. still (q + 1) (h.first some);
+    others = λ some. still_alternatives (skip ws q) (h.others some);
+  }
+
+-- so what is told of a place is replaced by a part of it that has what is asked for there
+pub one_place_told : (base : ℕ → Type 0) (ws : List ℕ) (a b : PlacesAsk) (p : ℕ) → AskedByPlace base ws a
+    → IsNarrower b a → IsSameBut p b a
+    → ((o : SreOpcode) → Opcode ws p o → AsksAt base ws a (b.instruction p) (role o) p)
+    → AlternativesAsk ws a (b.alternatives p) p → AskedByPlace base ws b
+one_place_told base ws a b p told less same here alternatives = record {
+  instruction = λ i o w.
+      still_asks base ws a b less (b.instruction i) (role o) i (elim (same.instruction i) [
+        | (inl e) ↦
+            let P : ℕ → Type 0 = λ n.
+            (x : SreOpcode) → Opcode ws n x → AsksAt base ws a (b.instruction n) (role x) n in
+            subst P (sym e) here o w
+        | (inr e) ↦ subst (λ r. AsksAt base ws a r (role o) i) (sym e) (told.instruction i o w)
+      ]);
+  alternatives = λ q.
+      alternatives_still_ask base ws a b less (b.alternatives q) q (elim (same.alternatives q) [
+        | (inl e) ↦ subst (λ n. AlternativesAsk ws a (b.alternatives n) n) (sym e) alternatives
+        | (inr e) ↦ subst (λ r. AlternativesAsk ws a r q) (sym e) (told.alternatives q)
+      ]);
+}
+
+-- a range has what any instruction asks for, if what is told of the places lies in it, and the marks of all groups that
+-- words name do
+module _ (base : ℕ → Type 0) (ws : List ℕ) (a : PlacesAsk) (whole : MarkRange)
+    (inside : (i : ℕ) → Within (a.instruction i) whole) (others : (q : ℕ) → Within (a.alternatives q) whole)
+    (groups : (i g : ℕ) → Word ws i g → GroupLies base whole g) where
+  pub whole_asks : (f : Role) (i : ℕ) → AsksAt base ws a whole f i
+  whole_asks ToFail i = tt
+  whole_asks ToEnd i = tt
+  whole_asks (ToTest kind) i = record { each = λ j t s. inside j }
+  whole_asks ToCheckPosition i = inside (i + 2)
+  whole_asks ToMark i = record { each = λ v w k l. inl (inside (i + 2) k l) }
+  whole_asks ToBranch i = others (i + 1)
+  whole_asks ToJump i = inside (skip ws (i + 1))
+  whole_asks (ToRun kind) i = inside (skip ws (i + 1))
+  whole_asks ToRepeat i = (inside (skip ws (i + 1)), inside (i + 4))
+  whole_asks (ToLoop o) i = inside (i + 1)
+  whole_asks ToRepeatPossessively i = (inside (skip ws (i + 1) + 1), inside (i + 4))
+  whole_asks ToGroupAtomically i = (inside (skip ws (i + 1)), inside (i + 2))
+  whole_asks (ToLook sign) i = (inside (skip ws (i + 1)), inside (i + 3))
+  whole_asks ToRefer i = (record { each = λ g asked w. groups (i + 1) g w }, inside (i + 2))
+  whole_asks ToCheckGroup i =
+      (record { each = λ g asked w. groups (i + 1) g w }, (inside (i + 1 + word ws (i + 2)), inside (i + 3)))
+  whole_asks ToNothing i = tt
+
+-- so it is told rightly of every place
+pub told_everywhere : (base : ℕ → Type 0) (ws : List ℕ) (a : PlacesAsk) (whole : MarkRange)
+    → ((i : ℕ) → a.instruction i ≡ whole) → ((q : ℕ) → a.alternatives q ≡ whole)
+    → ((i g : ℕ) → Word ws i g → GroupLies base whole g) → AskedByPlace base ws a
+told_everywhere base ws a whole same others groups = record {
+  instruction = λ i o w.
+      subst (λ r. AsksAt base ws a r (role o) i) (sym (same i))
+      (whole_asks base ws a whole inside inside_others groups (role o) i);
+  alternatives = λ q.
+      subst (λ r. AlternativesAsk ws a r q) (sym (others q))
+      (record { first = λ some. inside (q + 1); others = λ some. inside_others (skip ws q) });
+}
+  where
+    inside : (i : ℕ) → Within (a.instruction i) whole
+    inside i = subst (λ r. Within r whole) (sym (same i)) (λ k l. l)
+
+    inside_others : (q : ℕ) → Within (a.alternatives q) whole
+    inside_others q = subst (λ r. Within r whole) (sym (others q)) (λ k l. l)
