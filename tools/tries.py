@@ -131,14 +131,16 @@ def needed(answers, goals, own):
     """Of a file of answers what the answers to these goals may rest on, and what has no goal. A check proves each
     answer and each file of lemmas that one of them names; what is said of other goals tells nothing here. `own` begins
     the names of the crate's modules of lemmas."""
-    parts, kept, lines, said = parts_of(answers), set(), [], ""
+    parts, kept, is_more = parts_of(answers), set(), True
     found = {goal for goal, _ in parts if goal in goals}
-    while found - kept:
+    # once at least: the goal that tells may be a lemma of the answers' own, which is never left out
+    while is_more:
         kept |= found
         text = "".join(part for goal, part in parts if not goal or goal in kept)
         lines = text.split("\n")
         said = "\n".join(it for it in lines if not USE.fullmatch(it) and not ANSWER.fullmatch(it))
         found = {goal for goal, _ in parts if goal and is_said(goal, said)}
+        is_more = not found <= kept
     return "\n".join(it for it in lines if not is_idle(it, said, own))
 
 
