@@ -12,7 +12,6 @@ use std::alloc::Global;
 use std::marker::Model;
 
 /// A pattern that is sought in texts, with what was made to seek it.
-#[derive(Drop)]
 pub struct Seeker {
     alloc: Global,
     hir: Hir,
@@ -20,6 +19,21 @@ pub struct Seeker {
     needle: Option<Needle>,
     is_made: bool,
     automata: Option<Automata>,
+}
+
+// By hand, so that whoever lets a seeker go calls this. A derived one goes through each table of the automata there.
+impl Drop for Seeker {
+    fn drop(self) {
+        let Seeker {
+            alloc: _,
+            hir,
+            size_limit: _,
+            needle,
+            is_made: _,
+            automata,
+        } = self;
+        drop((hir, needle, automata));
+    }
 }
 
 impl Model for Seeker {

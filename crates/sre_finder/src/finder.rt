@@ -38,7 +38,6 @@ use std::marker::Model;
 pub(crate) const SIZE_LIMIT: usize = 1 << 16;
 
 /// What seeks the starts of a code's matches, where that is worth what it takes.
-#[derive(Drop)]
 pub struct Finder<'c> {
     alloc: Global,
     code: Code<'c>,
@@ -52,6 +51,24 @@ pub struct Finder<'c> {
     is_silent: bool,
     end: Option<StringCursor>,
     pace: Pace,
+}
+
+// By hand, so that whoever lets a finder go calls this.
+impl<'c> Drop for Finder<'c> {
+    fn drop(self) {
+        let Finder {
+            alloc: _,
+            code: _,
+            encoding: _,
+            is_read: _,
+            seeker,
+            whole,
+            is_silent: _,
+            end: _,
+            pace: _,
+        } = self;
+        drop((seeker, whole));
+    }
 }
 
 impl<'c> Model for Finder<'c> {

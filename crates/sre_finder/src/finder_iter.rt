@@ -14,12 +14,19 @@ use std::alloc::Allocator;
 
 /// The matches of a window as a `SearchIter` gives them; the starts of which the automata tell that they have no match
 /// are passed.
-#[derive(Drop)]
 pub struct FinderIter<'c, 'a, S: StrDrive, A: Allocator + Copy> {
     finder: Finder<'c>,
     walk: SearchIter<'a, S, A>,
     ghost own: { finder.code ≡ code_of (request_of walk) },
     ghost known: { ∥ EndStands (S.stands (string_of (request_of walk))) finder.end ∥₁ },
+}
+
+// By hand, as that of `Finder`.
+impl<'c, 'a, S: StrDrive, A: Allocator + Copy> Drop for FinderIter<'c, 'a, S, A> {
+    fn drop(self) {
+        let FinderIter { finder, walk } = self;
+        drop((finder, walk));
+    }
 }
 
 impl<'c> Finder<'c> {

@@ -32,13 +32,26 @@ enum Known {
 
 /// The automata that tell the spans of a code's matches, where such are known; else a finder, which tells where the
 /// next match can begin.
-#[derive(Drop)]
 pub struct SpanFinder<'c> {
     code: Code<'c>,
     encoding: Encoding,
     finder: Finder<'c>,
     exact: Option<Seeker>,
     pace: Pace,
+}
+
+// By hand, as that of `Finder`.
+impl<'c> Drop for SpanFinder<'c> {
+    fn drop(self) {
+        let SpanFinder {
+            code: _,
+            encoding: _,
+            finder,
+            exact,
+            pace: _,
+        } = self;
+        drop((finder, exact));
+    }
 }
 
 impl<'c> Model for SpanFinder<'c> {

@@ -29,7 +29,6 @@ pub struct Span {
 /// The spans of a window's matches, in the order of a `SearchIter`: where automata tell them no machine is run.
 ///
 /// The state serves the steps of which automata tell no span, and `show`. What it shows after `next` is left open.
-#[derive(Drop)]
 pub struct SpanIter<'c, 'a, S: StrDrive, A: Allocator + Copy> {
     finder: SpanFinder<'c>,
     req: Request<'a, S>,
@@ -46,6 +45,23 @@ pub struct SpanIter<'c, 'a, S: StrDrive, A: Allocator + Copy> {
     ghost last: { ∥ (stands_in req at at.position) ∥₁ },
     ghost inside: { at.position ≤ end_of req },
     ghost admitted: { AllAdmitted (items_of (code_of req)) places } by { one_all_admitted },
+}
+
+// By hand, as that of `Finder`.
+impl<'c, 'a, S: StrDrive, A: Allocator + Copy> Drop for SpanIter<'c, 'a, S, A> {
+    fn drop(self) {
+        let SpanIter {
+            finder,
+            req: _,
+            state,
+            cursor: _,
+            at: _,
+            advances: _,
+            ended: _,
+            places,
+        } = self;
+        drop((finder, state, places));
+    }
 }
 
 impl<'c> SpanFinder<'c> {

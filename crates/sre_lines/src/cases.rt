@@ -141,7 +141,6 @@ pub fn answer_lines_by<A: Allocator + Copy, W: Write>(
 }
 
 // What answers one line after the other. Its memory, the state's too, serves all of them.
-#[derive(Drop)]
 struct Desk<A: Allocator + Copy> {
     alloc: Global,
     detail: Detail,
@@ -149,6 +148,21 @@ struct Desk<A: Allocator + Copy> {
     operands: Operands<A>,
     state: State<A>,
     answer: String<A>,
+}
+
+// By hand, so that whoever lets a desk go calls this.
+impl<A: Allocator + Copy> Drop for Desk<A> {
+    fn drop(self) {
+        let Desk {
+            alloc: _,
+            detail: _,
+            table,
+            operands,
+            state,
+            answer,
+        } = self;
+        drop((table, operands, state, answer));
+    }
 }
 
 // Answers one line, where it is a case.

@@ -14,12 +14,24 @@ use sre_lines::line::{Case, Finding, Operands, Subject, TextForm, Window, read_c
 use std::alloc::{AllocError, Allocator, Global};
 
 /// What answers one probe after the other. The state's memory is the heap's.
-#[derive(Drop)]
 pub(crate) struct Desk<A: Allocator + Copy> {
     pub(crate) alloc: Global,
     pub(crate) heap: A,
     pub(crate) operands: Operands<Global>,
     pub(crate) state: State<A>,
+}
+
+// By hand, so that whoever lets a desk go calls this.
+impl<A: Allocator + Copy> Drop for Desk<A> {
+    fn drop(self) {
+        let Desk {
+            alloc: _,
+            heap: _,
+            operands,
+            state,
+        } = self;
+        drop((operands, state));
+    }
 }
 
 impl<A: Allocator + Copy> Desk<A> {

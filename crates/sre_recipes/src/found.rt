@@ -12,12 +12,19 @@ use std::alloc::Allocator;
 
 /// The texts of a window's matches, in the order of `find_all`. Where the finder's automata tell spans, no machine is
 /// run; where they tell starts, it is run from those alone.
-#[derive(Drop)]
 pub struct FoundTexts<'c, 'a, S: StrDrive, A: Allocator + Copy> {
     walk: SpanIter<'c, 'a, S, A>,
     // where what is asked next starts
     cursor: StringCursor,
     ghost here: { ∥ (stands_in (request_of walk) cursor (start_of (request_of walk))) ∥₁ },
+}
+
+// By hand, so that whoever lets the walk go calls this.
+impl<'c, 'a, S: StrDrive, A: Allocator + Copy> Drop for FoundTexts<'c, 'a, S, A> {
+    fn drop(self) {
+        let FoundTexts { walk, cursor: _ } = self;
+        drop(walk);
+    }
 }
 
 impl<'c, 'a, S: Text + Haystack, A: Allocator + Copy> FoundTexts<'c, 'a, S, A> {

@@ -40,7 +40,6 @@ use std::alloc::{Allocator, Global};
 /// }
 /// assert!(starts == 0 + 2);
 /// ```
-#[derive(Drop)]
 pub struct SearchIter<'a, S: StrDrive, A: Allocator + Copy = Global> {
     req: Request<'a, S>,
     state: State<A>,
@@ -50,6 +49,20 @@ pub struct SearchIter<'a, S: StrDrive, A: Allocator + Copy = Global> {
     ghost here: { ∥ (stands_in req cursor (start_of req)) ∥₁ },
     ghost over: { ended ≡ true → state.marks ≡ no_marks },
     ghost admitted: { AllAdmitted (items_of (code_of req)) places } by { one_all_admitted },
+}
+
+// By hand, as that of `State`.
+impl<'a, S: StrDrive, A: Allocator + Copy> Drop for SearchIter<'a, S, A> {
+    fn drop(self) {
+        let SearchIter {
+            req: _,
+            state,
+            cursor: _,
+            ended: _,
+            places,
+        } = self;
+        drop((state, places));
+    }
 }
 
 impl<'a, S: StrDrive, A: Allocator + Copy> SearchIter<'a, S, A> {

@@ -69,12 +69,24 @@ impl<T: Drop> From<AllocFailed<T>> for SreError {
 /// The marks, the start and the end of a match, the counts of a search, and the memory in which it runs.
 ///
 /// A state serves any number of searches, over texts of any kind. Its memory is kept from one to the next.
-#[derive(Drop)]
 pub struct State<A: Allocator + Copy = Global> {
     runner: Runner<A>,
     start: usize,
     cursor: StringCursor,
     compared: u64,
+}
+
+// By hand, so that whoever lets a state go calls this. A derived one goes through each field of the runner there.
+impl<A: Allocator + Copy> Drop for State<A> {
+    fn drop(self) {
+        let State {
+            runner,
+            start: _,
+            cursor: _,
+            compared: _,
+        } = self;
+        drop(runner);
+    }
 }
 
 impl<A: Allocator + Copy> Model for State<A> {
