@@ -150,9 +150,13 @@ impl<'c, 'a, S: StrDrive, A: Allocator + Copy> SpanIter<'c, 'a, S, A> {
     {
         let SpanIter {
             finder,
+            req: _,
             state,
+            cursor: _,
+            at: _,
+            advances: _,
+            ended: _,
             places,
-            ..
         } = self;
         drop((state, places));
         finder
