@@ -44,12 +44,24 @@ pub enum FirstMatch {
 }
 
 /// The automata of a pattern, and what they have built so far.
-#[derive(Drop)]
 pub struct Automata {
     dfa: Dfa,
     forward: Forward,
     reverse: Reverse,
     read: usize,
+}
+
+// By hand, so that whoever lets automata go calls this. A derived one goes through each of their tables there.
+impl Drop for Automata {
+    fn drop(self) {
+        let Automata {
+            dfa,
+            forward,
+            reverse,
+            read: _,
+        } = self;
+        drop((dfa, forward, reverse));
+    }
 }
 
 impl Model for Automata {
@@ -82,9 +94,11 @@ impl Automata {
         };
         let stops_when_idle = false;
         let Ok(forward) = Forward::new(alloc, &dfa, stops_when_idle) else {
+            drop(dfa);
             return None;
         };
         let Ok(reverse) = Reverse::new(alloc, &dfa) else {
+            drop((dfa, forward));
             return None;
         };
         Some(Automata {

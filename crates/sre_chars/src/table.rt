@@ -104,13 +104,26 @@ enum Listing {
 /// no range of the alphanumerics is not alphanumeric, and one in no range of the digits is no digit.
 ///
 /// It keeps its lists itself, as [`UniTable`] always does, or a caller lends them for as long as `'t`.
-#[derive(Drop)]
 pub struct LentTable<'t> {
     lower: Entries<'t>,
     upper: Entries<'t>,
     alnum: Entries<'t>,
     digits: Entries<'t>,
     alloc: Global,
+}
+
+// By hand, so that whoever lets a table go calls this. A derived one goes through each list there.
+impl<'t> Drop for LentTable<'t> {
+    fn drop(self) {
+        let LentTable {
+            lower,
+            upper,
+            alnum,
+            digits,
+            alloc: _,
+        } = self;
+        drop((lower, upper, alnum, digits));
+    }
 }
 
 /// A table that keeps its lists itself, and so lives as long as its owner wants.

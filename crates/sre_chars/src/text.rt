@@ -41,17 +41,15 @@ fn char_before(s: &str, cursor: &StringCursor) -> (char, usize)
     ensures value { result.0 ≡ slice_index (chars s.now) (cursor.now.position - 1) }
     ensures offset { result.1 ≡ offset_of s.now (cursor.now.position - 1) }
 {
+    let bytes = s.as_bytes();
     let offset = cursor.offset();
-    let byte = s.as_bytes()[offset - 1];
+    let byte = bytes[offset - 1];
     if byte < 0x80 {
         return (char::from(byte), offset - 1);
     }
-    let (before, _) = s.split_at(offset);
-    let mut front = before.chars();
-    match front.next_back() {
-        Some(c) => (c, front.as_str().len()),
-        None => unreachable!(),
-    }
+    let start = pass_bytes_back(bytes, offset, 1);
+    let (passed, _) = char_after(s, &StringCursor::new(cursor.position() - 1, start));
+    (passed, start)
 }
 
 // How many bytes a long block has, and a short one: what is counted goes over long ones first, and at last over bytes.
@@ -168,6 +166,7 @@ fn pass_blocks_back<const N: usize>(bytes: &[u8], mut offset: usize, mut n: usiz
 }
 
 // Where the character begins that is the `n`th before `offset`.
+#[inline(always)]
 fn pass_bytes_back(bytes: &[u8], mut offset: usize, mut n: usize) -> usize
     requires in_bounds { offset ≤ length bytes.now }
     requires within { n ≤ begun bytes.now offset }

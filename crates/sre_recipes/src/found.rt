@@ -88,7 +88,8 @@ impl<'c, 'a, S: StrDrive, A: Allocator + Copy> FoundTexts<'c, 'a, S, A> {
     pub fn into_finder(self) -> SpanFinder<'c>
         ensures { result.code ≡ code_of (request_of (walk_of self.entry)) }
     {
-        self.walk.into_finder()
+        let FoundTexts { walk, cursor: _ } = self;
+        walk.into_finder()
     }
 }
 
