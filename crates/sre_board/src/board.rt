@@ -456,11 +456,17 @@ impl<A: Allocator> Board<A> {
         self.vain = counts;
     }
 
+    /// Whether the last run in vain was long.
+    #[inline(always)]
+    pub fn ran_long_in_vain(&self) -> bool {
+        self.vain >= 64
+    }
+
     /// Whether the last run in vain was so long that it is worth to look, in so many characters, for what has to come
     /// behind the next one: by `LOOK_SPEED` that takes less time than the run did.
     #[inline(always)]
     pub fn is_look_worth(&self, characters: usize) -> bool {
-        self.vain >= 64 && self.vain > characters / LOOK_SPEED
+        self.vain > characters / LOOK_SPEED
     }
 
     /// The innermost loop in progress.

@@ -5,8 +5,8 @@
 //! own growth of the list failed. So a call whose error has the fact errs only where memory was
 //! refused, however it came by the error.
 //!
-//! Each function is a match on the call of std that grows the list, and no more: that is what a reader
-//! has to believe.
+//! Each function is a match on the call of std that grows the list, which `push` makes where the list is full,
+//! and no more: that is what a reader has to believe.
 #![tactic(auto)]
 
 ghost use Rattle.std.specs.Prelude.{◌≡◌, ◌+◌, ◌-◌, ◌^◌, ◌<◌, ◌≤◌, ◌++◌, ◌∷◌, []};
@@ -36,7 +36,12 @@ pub fn push<T: Drop, A: Allocator>(list: &mut Vec<T, A>, item: T) -> Result<(), 
     ensures len { vec_len list.new ≡ (if is_ok result then vec_len list.old + 1 else vec_len list.old) }
     ensures full { OnErr result (vec_capacity list.old ≤ vec_len list.old) }
 {
-    // Room first, and then a write: std's `push` takes each item through memory, to hand it back where it fails.
+    // Room first, and then a write: std's `push` takes each item through memory, to hand it back where it fails. Most
+    // lists have room, which is looked at here, since std's own look is a call.
+    if list.len() < list.capacity() {
+        list.push_reserved(item);
+        return Ok(());
+    }
     match list.reserve(1) {
         Ok(()) => {
             list.push_reserved(item);

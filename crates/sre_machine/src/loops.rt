@@ -6,6 +6,7 @@
 //! that the same end, saved before that body, is dropped: else nested loops would keep the square of their depth.
 
 ghost use Rattle.std.specs.Prelude.{◌≡◌, ◌+◌, IfOk};
+ghost use Rattle.sre_model.specs.Grammar.{Word};
 ghost use Rattle.sre_model.specs.Ways.{may_repeat};
 ghost use Rattle.sre_turns.specs.declared.Point.TheVariants.{Instruction};
 ghost use Rattle.sre_turns.specs.MovesInLoops.{next_frame};
@@ -15,7 +16,7 @@ ghost use Rattle.sre_request.specs.Runs.{run_of, OpcodeAt};
 ghost use Rattle.sre_machine.specs.Turns.{Turn, AtOnBoard};
 
 use crate::machine::{ends_in_vain, opcode, refuses};
-use crate::strides::stride_on;
+use crate::strides::{may_stride, stride_on};
 use sre_board::Board;
 use sre_chars::constants::{MAXREPEAT, SreOpcode};
 use sre_chars::string::{StrDrive, StringCursor};
@@ -108,6 +109,28 @@ fn body_or_end<S: StrDrive, A: Allocator>(
     Ok(Next::At(body, cursor))
 }
 
+// The same behind bodies that are gone over at once. It is out of line, so that what goes through memory for it does so
+// where there are such bodies alone.
+#[inline(never)]
+fn strided<S: StrDrive, A: Allocator>(
+    req: &Request<'_, S>,
+    board: &mut Board<A>,
+    place: usize,
+    greatest: u32,
+    frame: Frame,
+    cursor: StringCursor,
+) -> Result<Next, Refusal>
+    requires opcode { OpcodeAt req.now place SreOpcode.MAX_UNTIL }
+    requires greatest { Word (run_of req.now).words (frame.repeat + 3) greatest }
+    requires more { MayRepeat (run_of req.now).words frame cursor.position }
+    requires stands { AtOnBoard req.now (Instruction place) cursor (with_loop frame board.old) }
+    ensures { IfOk result
+        (λ next. Turn req.now place cursor (with_loop frame board.old) next board.new) }
+{
+    let end = stride_on(req, board, place, greatest, frame, cursor);
+    Ok(body_or_end(req, board, place, end.frame, end.cursor)?)
+}
+
 // The same, or what is owed before one may be tried.
 #[inline(always)]
 fn further<S: StrDrive, A: Allocator, const STRIDES: bool>(
@@ -134,8 +157,10 @@ fn further<S: StrDrive, A: Allocator, const STRIDES: bool>(
         board.drop_same(place + 1, cursor, refers);
         return Ok(Next::At(place + 1, cursor));
     }
-    let end = stride_on::<S, A, STRIDES>(req, board, place, greatest, frame, cursor);
-    Ok(body_or_end(req, board, place, end.frame, end.cursor)?)
+    if may_stride::<S, STRIDES>(req, frame.repeat + 4, greatest, frame, cursor) {
+        return strided(req, board, place, greatest, frame, cursor);
+    }
+    Ok(body_or_end(req, board, place, frame, cursor)?)
 }
 
 /// MAX_UNTIL: a further body first, then the loop's end.

@@ -18,6 +18,7 @@ ghost use Rattle.sre_machine.specs.Turns.{AtPoint, DemandedAt};
 use crate::branches::only_alternative;
 use crate::loops::next_frame;
 use crate::machine::first_literal;
+use crate::set_members::word_at;
 use crate::told_bodies::told_bodies;
 use sre_board::Board;
 use sre_chars::constants::{MAXREPEAT, SreOpcode};
@@ -134,11 +135,35 @@ fn had_one_character(frame: Frame, cursor: StringCursor) -> bool {
     }
 }
 
-/// Goes over bodies of one character each where strides are wanted, a loop without a greatest count has alternatives,
-/// and a literal has to come behind it. The next body behind a longer one is not tried so: most bodies are like the one
-/// before.
+// Whether a BRANCH is at a place of the words.
 #[inline(always)]
-pub(super) fn stride_on<S: StrDrive, A: Allocator, const STRIDES: bool>(
+fn is_branch<S: StrDrive>(req: &Request<'_, S>, place: usize) -> bool {
+    match word_at(req.pattern_codes().items(), place) {
+        Some(word) => word == SreOpcode::BRANCH as u32,
+        None => false,
+    }
+}
+
+/// Whether a loop whose body is at a place may be gone over in strides: these are wanted, it has no greatest count, and
+/// its body has alternatives. The next body behind a longer one is not tried so: most bodies are like the one before.
+#[inline(always)]
+pub(super) fn may_stride<S: StrDrive, const STRIDES: bool>(
+    req: &Request<'_, S>,
+    body: usize,
+    greatest: u32,
+    frame: Frame,
+    cursor: StringCursor,
+) -> bool {
+    STRIDES
+        && greatest as usize == MAXREPEAT
+        && had_one_character(frame, cursor)
+        && is_branch(req, body)
+}
+
+/// Goes over bodies of one character each where a loop without a greatest count has alternatives, and a literal has to
+/// come behind it.
+#[inline(always)]
+pub(super) fn stride_on<S: StrDrive, A: Allocator>(
     req: &Request<'_, S>,
     board: &mut Board<A>,
     place: usize,
@@ -155,7 +180,7 @@ pub(super) fn stride_on<S: StrDrive, A: Allocator, const STRIDES: bool>(
     ensures more { MayRepeat (run_of req.now).words result.frame result.cursor.position }
 {
     let here = BodyEnd { frame, cursor };
-    if !STRIDES || greatest as usize != MAXREPEAT || !had_one_character(frame, cursor) {
+    if greatest as usize != MAXREPEAT {
         return here;
     }
     let _opcode = operand(req, place, 0);

@@ -94,6 +94,9 @@ pub(super) fn is_in_vain<S: StrDrive, A: Allocator>(
     ensures told { result ≡ true → (q : ℕ) → cursor.position ≤ q → RefusesAt req.now tail q }
     ensures board { board.new ≡ board.old }
 {
+    if !board.ran_long_in_vain() {
+        return false;
+    }
     let left = req.end().saturating_sub(cursor.position());
     if !board.is_look_worth(left) {
         return false;

@@ -5,7 +5,6 @@ use Rattle.sre_request.specs.Requests.{asked_of}
 use Rattle.sre_request.specs.Runs.{run_of}
 use Rattle.sre_turns.proofs.Hopeless.{asked_by_stop}
 use Rattle.sre_turns.proofs.StepsInLoops.{until_below, until_done, entered_on, until_operands}
-use Rattle.sre_turns.proofs.Strides.{strides_at, strides_goes}
 use Rattle.sre_turns.proofs.WaitingTwice.{later_dropped}
 use Rattle.sre_machine.proofs.Failing.{plain_words}
 use Rattle.sre_machine.proofs.loops.further.Goals as goal
@@ -53,8 +52,8 @@ operand-greatest-requires g c =
           c.args.frame c.requires.opcode c.requires.stands refl,
     )
 
-pub stride_on-end-requires-clause-more : goal.stride_on-end-requires-clause-more
-stride_on-end-requires-clause-more g c = record {
+pub strided-requires-clause-more : goal.strided-requires-clause-more
+strided-requires-clause-more g c = record {
   low = c.operand-least.result;
   high = c.operand-greatest.result;
   lowest = c.operand-least.ensures.word;
@@ -64,18 +63,13 @@ stride_on-end-requires-clause-more g c = record {
   more = sym c.if-not-may_repeat.ensures;
 }
 
-pub stride_on-end-requires-clause-ends : goal.stride_on-end-requires-clause-ends
-stride_on-end-requires-clause-ends g c = record { board = c.args.board.now; at = c.requires.stands }
-
-pub body_or_end-requires-clause-stands : goal.body_or_end-requires-clause-stands
-body_or_end-requires-clause-stands g c =
-    rw c.stride_on-end.ensures.board (strides_at (run_of c.args.req.now) c.args.place c.args.cursor
-    c.stride_on-end.result.cursor c.args.frame c.stride_on-end.result.frame c.stride_on-end.ensures.strides
-    c.args.board.now c.requires.stands)
-
-pub returns : goal.returns
-returns g c = λ all limit st.
-    c.in_ok-body_or_end.ensures all limit
-    (rw c.stride_on-end.ensures.board (strides_goes (run_of c.args.req.now) c.args.place c.args.cursor
-    c.stride_on-end.result.cursor c.args.frame c.stride_on-end.result.frame c.stride_on-end.ensures.strides
-    c.args.board.now all limit st))
+pub body_or_end-requires-clause-more : goal.body_or_end-requires-clause-more
+body_or_end-requires-clause-more g c = record {
+  low = c.operand-least.result;
+  high = c.operand-greatest.result;
+  lowest = c.operand-least.ensures.word;
+  highest = c.operand-greatest.ensures.word;
+  small = omega arith;
+  enough = omega arith;
+  more = sym c.if-not-may_repeat.ensures;
+}
