@@ -90,3 +90,17 @@ ascii_before bs (suc q) b u h l e m =
           let ends = ends_at bs q bytes.0 (next c) u (omega arith) bytes.1 in
           absurd (omega (arith, e, ends.0))
     ]
+
+-- a character that ends in another byte is past ASCII
+pub later_before : (bs : List ℕ) (p b : ℕ) → IsUtf8 bs → 0 < p → p ≤ length (chars bs)
+    → b ≡ get_or bs (offset_of bs p - 1) 0 → 128 ≤ b → 128 ≤ get_or (chars bs) (p - 1) 0
+later_before bs zero b u h l e m = absurd (omega arith)
+later_before bs (suc q) b u h l e m =
+    let c = get_or (chars bs) q 0 in
+    let back : suc q - 1 ≡ q = omega arith in
+    elim (cases_lt c 128) [
+      | inl ascii ↦
+          let ends = ends_at bs q [] c u (omega arith) (encode_ascii c ascii) in
+          absurd (omega (arith, e, ends.0))
+      | inr later ↦ rw back later
+    ]

@@ -2,10 +2,10 @@
 use Rattle.std.proofs.Common.{◌≡◌, ℕ, zero, suc, add-one, ◌+◌, ◌-◌, ◌<◌, ◌≤◌, true, refl, ap, sym, ◌∙◌, arith}
 use Rattle.std.proofs.Common.{List, [], ◌∷◌, ◌++◌, length, take, drop, get_or, length-append}
 use Rattle.std.proofs.Math.Seq.{take-append_seam, drop-append_seam, take-suc, drop-cons, drop-nil}
-use Rattle.std.proofs.lemmas.List.{take-append-drop}
+use Rattle.std.proofs.lemmas.List.{take-append-drop, append-nil, same_from_push}
 use Rattle.std.proofs.lemmas.Bool.{and_parts}
 use Rattle.std.proofs.lemmas.Str.{encodes-append, encodes-chars, scalars-chars, IsCharBoundary-at_seam}
-use Rattle.std.proofs.lemmas.Str.{cons_from_encodes, length-encode, len_utf8_bounds, length-le-encodes}
+use Rattle.std.proofs.lemmas.Str.{cons_from_encodes, encodes_same, length-encode, len_utf8_bounds, length-le-encodes}
 use Rattle.std.specs.Str.{chars, IsUtf8, IsCharBoundary}
 use lib.Utf8.{scalars, scalar, encodes, encode}
 use Rattle.sre_chars.specs.Texts.{offset_of}
@@ -75,3 +75,18 @@ some_before bs (suc q) u h l =
     let parts = length-append (encodes (take q (chars bs))) (encode x ++ []) in
     rw (take_offset bs (suc q) u, take-suc (chars bs) q 0 (omega arith), encodes-append (take q (chars bs)) (x ∷ []))
     (omega (arith, parts, length-append (encode x) [], length-encode x, len_utf8_bounds x))
+
+-- it is the one that ends what is before, and begins at the place before
+pub before_char : (bs : List ℕ) (p c : ℕ) (es : List ℕ) → IsUtf8 bs → 0 < p → p ≤ length (chars bs)
+    → take (offset_of bs p) bs ≡ encodes es ++ encode c
+    → (c ≡ get_or (chars bs) (p - 1) 0) × (length (encodes es) ≡ offset_of bs (p - 1))
+before_char bs zero c es u h l e = absurd (omega arith)
+before_char bs (suc q) c es u h l e =
+    let x = get_or (chars bs) q 0 in
+    let whole = encodes-append es (c ∷ []) ∙ ap (λ t. encodes es ++ t) (append-nil (encode c)) in
+    let same : take (suc q) (chars bs) ≡ es ++ c ∷ [] =
+    encodes_same _ _ (sym (take_offset bs (suc q) u) ∙ e ∙ sym whole)
+    in
+    let ends = same_from_push (take q (chars bs)) es x c (sym (take-suc (chars bs) q 0 (omega arith)) ∙ same) in
+    let back : suc q - 1 ≡ q = omega arith in
+    rw back (sym ends.1, ap (λ t. length (encodes t)) (sym ends.0))

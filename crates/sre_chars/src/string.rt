@@ -4,7 +4,7 @@
 //! `StrDrive` can be matched; `&[u8]` and `&str` are two of them. A position counts characters,
 //! an offset bytes.
 
-ghost use Rattle.std.specs.Prelude.{◌≡◌, ◌+◌, ◌-◌, ◌^◌, ◌<◌, ◌≤◌, ℕ, List, length, slice_index};
+ghost use Rattle.std.specs.Prelude.{◌≡◌, ◌≢◌, ◌+◌, ◌-◌, ◌^◌, ◌<◌, ◌≤◌, ℕ, List, length, slice_index, true, false};
 ghost use Rattle.sre_chars.specs.declared.string.StringCursor.{StringCursor};
 ghost use Rattle.sre_chars.specs.Texts.{Sought};
 
@@ -124,6 +124,20 @@ pub trait StrDrive: Copy {
         requires after_start { 0 < cursor.old.position }
         ensures value { result ≡ slice_index (text self.now) (cursor.old.position - 1) }
         ensures after { stands self.now cursor.new (cursor.old.position - 1) };
+
+    /// Steps back over the character before, and says whether it is `character`.
+    ///
+    /// No text has to write this. One that can tell two characters apart before it has read the one can, as `&str`
+    /// does.
+    fn back_over(&self, cursor: &mut StringCursor, character: u32) -> bool
+        requires at { stands self.now cursor.old cursor.old.position }
+        requires after_start { 0 < cursor.old.position }
+        ensures same { result ≡ true → slice_index (text self.now) (cursor.old.position - 1) ≡ character }
+        ensures other { result ≡ false → slice_index (text self.now) (cursor.old.position - 1) ≢ character }
+        ensures after { stands self.now cursor.new (cursor.old.position - 1) }
+    {
+        self.back_advance(cursor) == character
+    }
 
     /// The character before.
     fn back_peek(&self, cursor: &StringCursor) -> u32

@@ -41,15 +41,17 @@ fn char_before(s: &str, cursor: &StringCursor) -> (char, usize)
     ensures value { result.0 ≡ slice_index (chars s.now) (cursor.now.position - 1) }
     ensures offset { result.1 ≡ offset_of s.now (cursor.now.position - 1) }
 {
-    let bytes = s.as_bytes();
     let offset = cursor.offset();
-    let byte = bytes[offset - 1];
+    let byte = s.as_bytes()[offset - 1];
     if byte < 0x80 {
         return (char::from(byte), offset - 1);
     }
-    let start = pass_bytes_back(bytes, offset, 1);
-    let (passed, _) = char_after(s, &StringCursor::new(cursor.position() - 1, start));
-    (passed, start)
+    let (before, _) = s.split_at(offset);
+    let mut front = before.chars();
+    match front.next_back() {
+        Some(c) => (c, front.as_str().len()),
+        None => unreachable!(),
+    }
 }
 
 // How many bytes a long block has, and a short one: what is counted goes over long ones first, and at last over bytes.
@@ -315,6 +317,20 @@ impl<'a> StrDrive for &'a str {
         let (passed, offset) = char_before(self, cursor);
         *cursor = StringCursor::new(cursor.position() - 1, offset);
         u32::from(passed)
+    }
+
+    // One that is not ASCII is passed by its bytes, and read only where it may be the one that is asked for.
+    #[inline(always)]
+    fn back_over(&self, cursor: &mut StringCursor, character: u32) -> bool {
+        let bytes = self.as_bytes();
+        let offset = cursor.offset();
+        let byte = bytes[offset - 1];
+        if byte >= 0x80 && character < 0x80 {
+            let start = pass_bytes_back(bytes, offset, 1);
+            *cursor = StringCursor::new(cursor.position() - 1, start);
+            return false;
+        }
+        self.back_advance(cursor) == character
     }
 
     #[inline(always)]

@@ -15,7 +15,7 @@ use sre_chars::constants::SreOpcode;
 use sre_chars::string::{StrDrive, StringCursor};
 use sre_growth::Refusal;
 use sre_reading::runs::longest_run;
-use sre_reading::text::{back_one, read_back};
+use sre_reading::text::{back_one, back_over};
 use sre_reading::words::{operand, word};
 use sre_request::Request;
 use sre_turns::{Next, Point};
@@ -59,9 +59,9 @@ fn first_shorter<S: StrDrive>(
             return None;
         }
         left -= 1;
-        let step = read_back(req, cursor);
+        let step = back_over(req, cursor, value);
         cursor = step.1;
-        if step.0 == value {
+        if step.0 {
             return Some(ShorterRun { left, end: cursor });
         }
     }

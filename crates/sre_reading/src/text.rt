@@ -1,6 +1,6 @@
 //! Steps over the text of a request, by one character or by some.
 
-ghost use Rattle.std.specs.Prelude.{◌≡◌, ◌+◌, ◌-◌, ◌<◌, ◌≤◌, length};
+ghost use Rattle.std.specs.Prelude.{◌≡◌, ◌≢◌, ◌+◌, ◌-◌, ◌<◌, ◌≤◌, length, true, false};
 ghost use Rattle.sre_request.specs.Requests.{end_of};
 ghost use Rattle.sre_request.specs.Runs.{run_of, Standing};
 ghost use Rattle.sre_reading.specs.Reads.{character_at};
@@ -34,18 +34,23 @@ pub fn read_in_text<S: StrDrive>(req: &Request<'_, S>, cursor: StringCursor) -> 
     (character, after)
 }
 
-/// The character before a cursor, and the cursor in front of it.
+/// Whether the character before a cursor is one that is asked for, and the cursor in front of it.
 #[inline(always)]
-pub fn read_back<S: StrDrive>(req: &Request<'_, S>, cursor: StringCursor) -> (u32, StringCursor)
+pub fn back_over<S: StrDrive>(
+    req: &Request<'_, S>,
+    cursor: StringCursor,
+    character: u32,
+) -> (bool, StringCursor)
     requires stands { Standing req.now cursor }
     requires past { 1 ≤ cursor.position }
     ensures position { cursor.position ≡ result.1.position + 1 }
-    ensures character { result.0 ≡ character_at req.now result.1.position }
+    ensures same { result.0 ≡ true → character_at req.now result.1.position ≡ character }
+    ensures other { result.0 ≡ false → character_at req.now result.1.position ≢ character }
     ensures stands { Standing req.now result.1 }
 {
     let mut before = cursor;
-    let character = req.string().back_advance(&mut before);
-    (character, before)
+    let is_same = req.string().back_over(&mut before, character);
+    (is_same, before)
 }
 
 /// The cursor one character back.

@@ -1,8 +1,7 @@
-use Rattle.std.proofs.Common.{◌≡◌, ◌-◌, arith, refl, ap, ◌∙◌, get_or}
-use Rattle.std.specs.Prelude.{slice_index}
-use Rattle.std.specs.Str.{chars}
+use Rattle.std.proofs.Common.{◌≡◌, ◌-◌, ◌++◌, arith, sym, ap, ◌∙◌, take, length, get_or}
+use lib.Utf8.{encodes, encode}
 use Rattle.sre_chars.proofs.AsciiSteps.{ascii_before, byte_before}
-use Rattle.sre_chars.proofs.Beginnings.{place_at, place_in}
+use Rattle.sre_chars.proofs.TextPlaces.{offset_boundary, before_char, some_before}
 use Rattle.sre_chars.proofs.text.char_before.Goals as goal
 
 pub overflow_sub-byte : goal.overflow_sub-byte
@@ -10,11 +9,11 @@ overflow_sub-byte c =
     let at = c.offset-offset.ensures ∙ c.requires.at.1 in
     omega (arith, at, (byte_before _ _ c.utf8.s c.requires.after_start c.requires.at.2).0)
 
-pub bounds-bytes-offset : goal.bounds-bytes-offset
-bounds-bytes-offset c =
+pub bounds-as_bytes-offset : goal.bounds-as_bytes-offset
+bounds-as_bytes-offset c =
     let at = c.offset-offset.ensures ∙ c.requires.at.1 in
     let within = byte_before _ _ c.utf8.s c.requires.after_start c.requires.at.2 in
-    rw c.as_bytes-bytes.ensures.value (omega (arith, at, within.0, within.1))
+    rw c.as_bytes.ensures.value (omega (arith, at, within.0, within.1))
 
 pub overflow_sub-result : goal.overflow_sub-result
 overflow_sub-result c =
@@ -26,7 +25,7 @@ returns-then-byte-lt128 c =
     let at = c.offset-offset.ensures ∙ c.requires.at.1 in
     let byte =
     c.from.ensures
-    ∙ ap (λ bs. get_or bs (c.offset-offset.result - 1) 0) c.as_bytes-bytes.ensures.value
+    ∙ ap (λ bs. get_or bs (c.offset-offset.result - 1) 0) c.as_bytes.ensures.value
     ∙ ap (λ o. get_or c.args.s.now (o - 1) 0) at
     in
     let step = ascii_before _ _ _ c.utf8.s c.requires.after_start c.requires.at.2 byte
@@ -37,41 +36,25 @@ returns-then-byte-lt128 c =
       offset = omega (arith, at, step.1);
     }
 
-pub pass_bytes_back-start-requires : goal.pass_bytes_back-start-requires
-pass_bytes_back-start-requires c =
-    let bytes = c.as_bytes-bytes.ensures in
-    let at = c.offset-offset.ensures ∙ c.requires.at.1 in
-    let from = place_in _ _ _ _ bytes.value bytes.utf8 at c.requires.at.2 in
-    record {
-      in_bounds = from.in_bounds;
-      within = omega (arith, from.begun_before, c.requires.after_start);
-      at = λ none. absurd (omega (arith, none));
-    }
+pub split_at-requires : goal.split_at-requires
+split_at-requires c = rw (c.offset-offset.ensures, c.requires.at.1) (offset_boundary _ _ c.utf8.s)
 
-pub char_after-passed-requires-clause-at : goal.char_after-passed-requires-clause-at
-char_after-passed-requires-clause-at c =
-    let bytes = c.as_bytes-bytes.ensures in
+pub unreachable-requires : goal.unreachable-requires
+unreachable-requires c =
     let at = c.offset-offset.ensures ∙ c.requires.at.1 in
-    let from = place_in _ _ _ _ bytes.value bytes.utf8 at c.requires.at.2 in
-    let start = c.pass_bytes_back-start.ensures in
-    let to = place_at _ _ _ c.new.result.position bytes.value bytes.utf8 start.at
-    (omega (arith, from.begun_before, start.passed, c.requires.after_start, c.new.ensures.position))
-    in
-    (refl, c.new.ensures.offset ∙ to.0, to.1)
+    let front = c.chars-front.ensures.rest ∙ c.split_at.ensures.front ∙ ap (λ n. take n c.args.s.now) at in
+    let some = some_before _ _ c.utf8.s c.requires.after_start c.requires.at.2 in
+    omega (arith, some, ap length front, c.in-None.ensures.steps.0)
 
 pub returns : goal.returns
 returns c =
-    let bytes = c.as_bytes-bytes.ensures in
     let at = c.offset-offset.ensures ∙ c.requires.at.1 in
-    let from = place_in _ _ _ _ bytes.value bytes.utf8 at c.requires.at.2 in
-    let start = c.pass_bytes_back-start.ensures in
-    let to = place_at _ _ _ (c.args.cursor.now.position - 1) bytes.value bytes.utf8 start.at
-    (omega (arith, from.begun_before, start.passed, c.requires.after_start))
-    in
-    let there : c.new.result.position ≡ c.args.cursor.now.position - 1 =
-    c.new.ensures.position ∙ ap (λ p. p - 1) c.position.ensures
+    let front = c.chars-front.ensures.rest ∙ c.split_at.ensures.front ∙ ap (λ n. take n c.args.s.now) at in
+    let left : encodes c.as_str.utf8.0 ≡ c.next_back.new.self.rest.now = c.as_str.utf8.1.1 ∙ c.as_str.ensures in
+    let taken = before_char _ _ c.in-Some.c c.as_str.utf8.0 c.utf8.s c.requires.after_start c.requires.at.2
+    (sym front ∙ c.in-Some.ensures.steps ∙ ap (λ t. t ++ encode c.in-Some.c) (sym left))
     in
     record {
-      value = c.char_after-passed.ensures.value ∙ ap (slice_index (chars c.args.s.now)) there;
-      offset = to.0;
+      value = taken.0;
+      offset = ap length (sym c.as_str.utf8.1.1) ∙ taken.1;
     }

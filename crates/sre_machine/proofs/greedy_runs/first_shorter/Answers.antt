@@ -1,4 +1,4 @@
-use Rattle.std.proofs.Common.{◌-◌, subst}
+use Rattle.std.proofs.Common.{◌-◌, refl, subst}
 use Rattle.sre_turns.specs.declared.Point.TheVariants.{Instruction, Shorter}
 use Rattle.sre_turns.specs.Machine.{SkipsBoth, Demands, DemandsAny}
 use Rattle.sre_request.specs.Runs.{run_of}
@@ -27,26 +27,26 @@ returns-then-left-eq0 g c = λ b all limit x.
     shorter_none (run_of c.args.req.now) c.args.tail _ _ b c.if-left-eq0.true all limit
     (c.count.invariant.same b all limit x)
 
-pub read_back-step-requires-clause-past : goal.read_back-step-requires-clause-past
-read_back-step-requires-clause-past g c =
+pub back_over-step-requires-clause-past : goal.back_over-step-requires-clause-past
+back_over-step-requires-clause-past g c =
     shorter_past (run_of c.args.req.now) c.args.tail _ _ (positive _ c.if-left-eq0.false) c.count.invariant.at
 
-pub returns-then-step-value : goal.returns-then-step-value
-returns-then-step-value g c =
-    shorter_skips (run_of c.args.req.now) _ c.args.start c.args.tail _ c.count.cursor c.read_back-step.result.1
-    c.if-left-eq0.false c.read_back-step.ensures.position c.read_back-step.ensures.stands c.count.invariant.at
+pub returns-then-step : goal.returns-then-step
+returns-then-step g c =
+    shorter_skips (run_of c.args.req.now) _ c.args.start c.args.tail _ c.count.cursor c.back_over-step.result.1
+    c.if-left-eq0.false c.back_over-step.ensures.position c.back_over-step.ensures.stands c.count.invariant.at
     c.count.invariant.same
 
 pub count-preserved : goal.count-preserved
 count-preserved g c =
     let r = run_of c.args.req.now in
-    let before = c.read_back-step.result.1 in
+    let before = c.back_over-step.result.1 in
     let s : SkipsBoth r (Shorter c.args.tail c.args.count) c.args.start (Instruction c.args.tail)
     (Shorter c.args.tail (c.count.left - 1)) before =
     shorter_skips r _ c.args.start c.args.tail _ c.count.cursor before c.if-left-eq0.false
-    c.read_back-step.ensures.position c.read_back-step.ensures.stands c.count.invariant.at c.count.invariant.same in
+    c.back_over-step.ensures.position c.back_over-step.ensures.stands c.count.invariant.at c.count.invariant.same in
     let demands : Demands r c.args.tail c.in-Some.value =
     subst (λ w. DemandsAny r c.args.tail w) c.in-Some.is c.requires.wanted in
-    let none = demands before.position (other_character r.subject c.in-Some.value c.read_back-step.result.0
-    before.position c.read_back-step.ensures.character c.if-step-value.false) in
+    let none = demands before.position (other_character r.subject c.in-Some.value _ before.position refl
+    (c.back_over-step.ensures.other c.if-step.false)) in
     record { at = s.others; same = both_skips r _ c.args.start _ _ before shorter_free none s }
