@@ -2,6 +2,7 @@
 
 Methods of traits, functions that macros write and those that stand in another are left out.
 """
+import functools
 import os
 import re
 
@@ -18,7 +19,8 @@ MADE_FUNCTION = re.compile(r"\bdyn\b|\bfn\s*\(")
 
 
 class Function:
-    """A function: its path below the crate, its file, and its first and last line there, with what is written on it."""
+    """A function: its path below the crate, its file, its first and last line there, with what is written on it, and the
+    name of its cycle, if it is in one."""
 
     def __init__(self, path, file, begin, end, cycle):
         self.path, self.file, self.begin, self.end, self.cycle = path, file, begin, end, cycle
@@ -31,6 +33,15 @@ class Function:
 
     def text(self, texts):
         return self.parts(texts)[1]
+
+    def proof(self):
+        return proof_of(self.path, self.cycle)
+
+
+def proof_of(function, cycle):
+    """The folder of a function's proof, or of its cycle's, below `proofs/`."""
+    module, _, name = f"::{function}".rpartition("::")
+    return f"{module}::{f'+{cycle}' if cycle else name}".replace("::", "/")[1:]
 
 
 def module_of(file):
@@ -51,9 +62,15 @@ def sources(folder):
     return texts
 
 
+@functools.lru_cache(maxsize=1024)
+def types_of(text):
+    """The types that a source declares."""
+    return re.findall(rf"(?m)^{TYPE.pattern}", text)
+
+
 def types(texts):
     """The module of each type."""
-    return {it: module_of(file) for file, text in texts.items() for it in re.findall(rf"(?m)^{TYPE.pattern}", text)}
+    return {it: module_of(file) for file, text in texts.items() for it in types_of(text)}
 
 
 def extent(lines, at, indent):
@@ -65,23 +82,31 @@ def extent(lines, at, indent):
     return begin, at if is_short else next(i for i in range(at, len(lines)) if lines[i] == f"{indent}}}")
 
 
+@functools.lru_cache(maxsize=1024)
+def functions_of(file, text, owners):
+    """The functions of one source, by their paths, where these are the modules of the crate's types. A file stands in
+    the texts of each body of its crate, mostly as it stood in those of the one before, and is read once."""
+    found, lines, owner, owners = {}, text.split("\n"), module_of(file), dict(owners)
+    for at, line in enumerate(lines):
+        if re.match(r"(impl|(pub )?trait|(pub )?mod \w+ \{|macro_rules!)", line):
+            own = OWN_METHODS.match(line)
+            owner = [*owners[own[1]], own[1]] if own and own[1] in owners else None
+        elif line.startswith("}"):
+            owner = module_of(file)
+        head = FUNCTION.match(line)
+        if head and owner is not None and len(head[1]) == (0 if owner == module_of(file) else 4):
+            begin, end = extent(lines, at, head[1])
+            cycle = re.search(r"#\[cycle\((\w+)\)\]", "\n".join(lines[begin:at]))
+            path = "::".join([*owner, head[2]])
+            found[path] = Function(path, file, begin, end, cycle[1] if cycle else "")
+    return found
+
+
 def functions(texts):
     """The functions of sources, by their paths."""
-    found, owners = {}, types(texts)
+    found, owners = {}, frozenset((it, tuple(module)) for it, module in types(texts).items())
     for file, text in texts.items():
-        lines, owner = text.split("\n"), module_of(file)
-        for at, line in enumerate(lines):
-            if re.match(r"(impl|(pub )?trait|(pub )?mod \w+ \{|macro_rules!)", line):
-                own = OWN_METHODS.match(line)
-                owner = [*owners[own[1]], own[1]] if own and own[1] in owners else None
-            elif line.startswith("}"):
-                owner = module_of(file)
-            head = FUNCTION.match(line)
-            if head and owner is not None and len(head[1]) == (0 if owner == module_of(file) else 4):
-                begin, end = extent(lines, at, head[1])
-                is_cycle = any("#[cycle" in it for it in lines[begin:at])
-                path = "::".join([*owner, head[2]])
-                found[path] = Function(path, file, begin, end, is_cycle)
+        found.update(functions_of(file, text, owners))
     return found
 
 

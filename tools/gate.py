@@ -136,7 +136,7 @@ class Checks:
     def watch(self):
         while self.rt.poll() is None:
             self.look()
-            time.sleep(0.25)
+            time.sleep(1)
         self.running = 0
         for (kind, _), seconds in self.seen.values():
             self.phases.take(kind, seconds)

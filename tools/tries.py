@@ -131,6 +131,8 @@ def needed(answers, goals, own):
     """Of a file of answers what the answers to these goals may rest on, and what has no goal. A check proves each
     answer and each file of lemmas that one of them names; what is said of other goals tells nothing here. `own` begins
     the names of the crate's modules of lemmas."""
+    if not any(is_answered(it, answers) for it in goals):
+        return ""
     parts, kept, is_more = parts_of(answers), set(), True
     found = {goal for goal, _ in parts if goal in goals}
     # once at least: the goal that tells may be a lemma of the answers' own, which is never left out

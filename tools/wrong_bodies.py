@@ -32,7 +32,7 @@ import sys
 import tempfile
 
 import tries
-from functions import emptied, functions, name_around, sources
+from functions import emptied, functions, name_around, proof_of, sources
 
 ROOT = os.path.dirname(os.path.dirname(os.path.realpath(__file__)))
 PARTS = ("src", "specs", "proofs")
@@ -47,8 +47,8 @@ PROMISE = re.compile(r"\b(?:ensures|requires|ghost)\b[^{;]*[{;]")
 # for them. Its offers take a second pass, as long as a third of the first.
 NO_OFFERS = "\nno_offers : no_such_type\nno_offers = ?\n"
 
-# Each check loads what its bodies stand on, and one of more bodies than these would be the gate's end by the clock.
-MOST_BODIES = 90
+# Each check reads anew what its bodies stand on, so a crate has one bundle where that is not the gate's end by the clock.
+MOST_BODIES = 200
 
 # The proof of a function that a wrong body may call. Its contract is what it is in any case.
 HOLE = """use Rattle.{crate}.proofs.{path}.Statement as stated
@@ -169,8 +169,7 @@ class Body:
 
     def proof(self):
         """The folder of the function's proof, below `proofs/`."""
-        module, _, name = f"::{self.function}".rpartition("::")
-        return f"{module}::{f'+{self.cycle}' if self.cycle else name}".replace("::", "/")[1:]
+        return proof_of(self.function, self.cycle)
 
     def own(self, goals):
         """Those of the goals that are told with its function that are its own."""
@@ -398,7 +397,7 @@ class Trial:
 
     def searched(self, texts, bundle):
         """These texts, but of each body's function the goals that tell alone are searched for, where that can be
-        written: not for methods of traits and cycles."""
+        written: not for methods of traits. Of a cycle no goal is, where each that tells has an answer."""
         listed, paths = functions(texts), []
         for body in bundle.bodies:
             function, path = listed.get(body.function), f"proofs/{body.proof()}/Answers.antt"
@@ -407,7 +406,16 @@ class Trial:
                 body.searches = tries.Tries(function, texts, body.goals, answers, body.is_wrong)
                 texts[path] = body.searches.answers(answers, self.crate.name, body.proof())
                 paths.append(body.function)
-        return tries.under_none(texts, paths)
+        return tries.under_none(texts, [*paths, *self.answered_cycles(bundle, texts, listed)])
+
+    def answered_cycles(self, bundle, texts, listed):
+        """The functions of the cycles of which each goal that tells has an answer."""
+        proofs = {it.proof(): True for it in bundle.bodies if it.cycle}
+        for it in bundle.bodies:
+            answers = texts.get(f"proofs/{it.proof()}/Answers.antt", "")
+            if it.cycle and not all(tries.is_answered(goal, answers) for goal in it.goals or [""]):
+                proofs[it.proof()] = False
+        return [path for path, it in listed.items() if it.cycle and proofs.get(it.proof())]
 
     def place(self, name, bundle):
         """A folder with these texts."""
