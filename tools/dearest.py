@@ -6,9 +6,10 @@
 The crates below have to be built, as `rt check` in the crate's folder does. With --test the tests are proved, too, and
 with --only those functions alone. A check makes some modules for each function, and with `--incremental` it keeps each
 one once it is checked: so the times of these files tell what each module took. Of a function's seconds those of its
-steps are told, with what is alive at each of them (`Lts`), and those of its goals and answers (`Proof`). What is read
-for the first time stands in modules of its own, or in the first one that needs it. The last line tells what the check
-took of a processor and by the clock, with its beginning. The status is that of the check.
+steps are told, with what is alive at each of them (`Lts`), those of the goals that are searched for (`Proof`), and
+those of its answers (`Answers`). What is read for the first time stands in modules of its own, or in the first one that
+needs it. The last line tells what the check took of a processor and by the clock, with its beginning. The status is
+that of the check.
 """
 import collections
 import os
@@ -21,6 +22,9 @@ import time
 
 import wrong_bodies
 
+# What the check makes of a function: its steps, the proofs of its goals, and its answers.
+KINDS = ("Lts", "Proof", "Answers")
+
 
 def kept(folder):
     """The modules that a check has kept, by the times at which it did."""
@@ -31,8 +35,8 @@ def kept(folder):
 
 
 def figures(crate, modules):
-    """The seconds of each function, with those of its steps and of its goals, by the end of the module before."""
-    found = collections.defaultdict(lambda: [0, 0, 0])
+    """The seconds of each function, with those of each of the kinds, by the end of the module before."""
+    found = collections.defaultdict(lambda: [0, 0, 0, 0])
     for (before, _), (now, module) in zip(modules, modules[1:]):
         path = re.sub(r"\.The[A-Z].*", "", module.removeprefix(f"Rattle-{crate}-proofs."))
         words, kinds = path.removesuffix(".decls").split("."), set()
@@ -41,8 +45,8 @@ def figures(crate, modules):
         seconds = (now - before) / 1e9
         of = found["::".join(words) if module.startswith(f"Rattle-{crate}-proofs.") else "contracts and specs"]
         of[0] += seconds
-        of[1] += seconds * ("Lts" in kinds)
-        of[2] += seconds * ("Proof" in kinds)
+        for at, kind in enumerate(KINDS, 1):
+            of[at] += seconds * (kind in kinds)
     return found
 
 
@@ -61,8 +65,8 @@ def main(words):
     for line in (check.stdout + check.stderr).split("\n"):
         if re.search(r"error|: (not proved|no proof)|^logic=|^only=", line):
             print(line)
-    for name, (seconds, steps, goals) in sorted(found.items(), key=lambda it: -it[1][0])[:20]:
-        print(f"{seconds:6.1f} s, steps {steps:5.1f}, goals {goals:5.1f}  {name}")
+    for name, (seconds, steps, goals, answers) in sorted(found.items(), key=lambda it: -it[1][0])[:20]:
+        print(f"{seconds:6.1f} s, steps {steps:5.1f}, goals {goals:5.1f}, answers {answers:5.1f}  {name}")
     used = resource.getrusage(resource.RUSAGE_CHILDREN)
     print(f"{used.ru_utime + used.ru_stime:6.1f} s of a processor, {time.monotonic() - began:.1f} by the clock")
     return check.returncode

@@ -67,6 +67,14 @@ pub record SpanPlaces (a : Asked) (place : ℕ → ℕ) (first last : ℕ) : Typ
   pub forward : start ≤ end
   pub inside : end ≤ a.end
 
+-- two positions of a window stand at the bytes of a span
+pub record Reached (a : Asked) (place : ℕ → ℕ) (first last start end : ℕ) : Type 0 where
+  pub begins : place start ≡ first
+  pub ends : place end ≡ last
+  pub from : a.start ≤ start
+  pub starts : start ≤ a.end
+  pub inside : end ≤ a.end
+
 -- a match with its span
 spanned : (m : Match) (start end : ℕ) → m.start ≡ start → m.end ≡ end → m ≡ match_with start end m.marks
 spanned m start end e f = ap₂ (λ x y. match_with x y m.marks) e f
@@ -77,7 +85,7 @@ module _ (encoding : Encoding) (a : Asked) (re : Re) (place : ℕ → ℕ) (hay 
   view = seen.seen (subject_of a) refl refl
 
   -- two positions do not stand at one byte
-  pub once : (p q : ℕ) → p ≤ a.end → q ≤ a.end → place p ≡ place q → p ≡ q
+  once : (p q : ℕ) → p ≤ a.end → q ≤ a.end → place p ≡ place q → p ≡ q
   once p q l h e = elim (cases_lt p q) [
     | (inl less) ↦ absurd (omega (arith, rises encoding (subject_of a) hay place view p q less h, e))
     | (inr more) ↦ elim (cases_lt q p) [
@@ -93,7 +101,7 @@ module _ (encoding : Encoding) (a : Asked) (re : Re) (place : ℕ → ℕ) (hay 
         found_by (view_of encoding) (rises encoding) a hay place view seen.whole window re t x reads all f e
 
     -- the span that automata tell stands at positions of the window
-    pub span_places : (first last : ℕ) → IsBetween hay re (place a.start) first last → SpanPlaces a place first last
+    span_places : (first last : ℕ) → IsBetween hay re (place a.start) first last → SpanPlaces a place first last
     span_places first last is =
         let it = span_found is.match is.found in
         record {
@@ -104,6 +112,33 @@ module _ (encoding : Encoding) (a : Asked) (re : Re) (place : ℕ → ℕ) (hay 
           from = it.from;
           forward = omega (arith, it.forward);
           inside = it.inside;
+        }
+
+    -- a cursor that goes from the window's start up to the span's first byte stands there
+    pub first_reached : (first last : ℕ) → IsBetween hay re (place a.start) first last → (from start end : ℕ)
+        → from ≡ a.start → end ≡ a.end
+        → ((n : ℕ) → from ≤ n → n ≤ end → place n ≡ first → place start ≡ first) → place start ≡ first
+    first_reached first last is from start end begins ends there =
+        let at = span_places first last is in
+        there at.start (omega (arith, begins, at.from)) (omega (arith, at.forward, at.inside, ends)) at.starts
+
+    -- and one that goes on from there up to its last one stands there
+    pub span_reached : (first last : ℕ) → IsBetween hay re (place a.start) first last → (from start stop end : ℕ)
+        → from ≡ a.start → end ≡ a.end
+        → start ≤ end → ((n : ℕ) → from ≤ n → n ≤ end → place n ≡ first → place start ≡ first)
+        → stop ≤ end → ((n : ℕ) → start ≤ n → n ≤ end → place n ≡ last → place stop ≡ last)
+        → Reached a place first last start stop
+    span_reached first last is from start stop end begins ends before there within behind =
+        let at = span_places first last is in
+        let first_is = first_reached first last is from start end begins ends there in
+        let same = once start at.start (omega (arith, before, ends)) (omega (arith, at.forward, at.inside))
+        (first_is ∙ sym at.starts) in
+        record {
+          begins = first_is;
+          ends = behind at.end (omega (arith, same, at.forward)) (omega (arith, at.inside, ends)) at.ends;
+          from = omega (arith, same, at.from);
+          starts = omega (arith, before, ends);
+          inside = omega (arith, within, ends);
         }
 
     -- and where it finds nothing, nothing is

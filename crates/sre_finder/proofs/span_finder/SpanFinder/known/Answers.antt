@@ -1,4 +1,4 @@
-use Rattle.std.proofs.Common.{◌≡◌, ◌≤◌, false, ap, subst, ◌∙◌, arith, rules}
+use Rattle.std.proofs.Common.{◌≡◌, ◌≤◌, false, ap, sym, subst, ◌∙◌, arith, rules}
 use Rattle.regex_hir.specs.Meaning.{meaning}
 use Rattle.sre_model.specs.Tree.{Tree}
 use Rattle.sre_model.specs.Grammar.{Whole}
@@ -9,7 +9,7 @@ use Rattle.sre_request.specs.Requests.{string_of, start_of, code_of, asked_of}
 use Rattle.sre_automata.specs.Told.{FindsFirst, IsBetween}
 use Rattle.sre_finder.specs.Views.{SeenAs}
 use Rattle.sre_finder.specs.Spans.{Exactly}
-use Rattle.sre_finder.proofs.Spans.{once, span_places, span_between, nothing_found, exact_same}
+use Rattle.sre_finder.proofs.Spans.{first_reached, span_reached, span_between, nothing_found, exact_same}
 use Rattle.sre_finder.proofs.span_finder.SpanFinder.known.Goals.{in-Nothing, in-Between, in-Unknown}
 use Rattle.sre_finder.proofs.span_finder.SpanFinder.known.Goals as goal
 
@@ -50,11 +50,9 @@ cursor_up_to-requires-clause-behind g c =
     let tree = tree_of (items_of (code_of asked)) in
     let x = exact_same encoding c.self.inside.code (code_of asked) pattern own code tree
     (whole_of asked.pattern_codes) in
-    let at = span_places encoding a pattern place hay own.reads all asked.in_window.0.0 seen tree x
-    c.in-Between.first c.in-Between.last is in
-    let there =
-    c.cursor_up_to-start.ensures.there at.start (omega (arith, here, at.from))
-    (omega (arith, at.forward, at.inside, c.end_in-end.ensures.end)) at.starts in
+    let there = first_reached encoding a pattern place hay own.reads all asked.in_window.0.0 seen tree x
+    c.in-Between.first c.in-Between.last is c.args.from.position c.cursor_up_to-start.result.position
+    c.end_in-end.result.position here c.end_in-end.ensures.end c.cursor_up_to-start.ensures.there in
     omega (arith, there, is.forward)
 
 pub cursor_up_to-requires-clause-within : goal.cursor_up_to-requires-clause-within
@@ -99,35 +97,26 @@ returns-clause-knows g c =
           let tree = tree_of (items_of (code_of asked)) in
           let x = exact_same encoding c.self.inside.code (code_of asked) pattern own code tree
           (whole_of asked.pattern_codes) in
-          let at =
-          span_places encoding a pattern place hay own.reads all window seen tree x w.in-Between.first
-          w.in-Between.last is in
           let first = w.cursor_up_to-start.result in
           let last = w.cursor_up_to.result in
-          let ends = c.end_in-end.ensures.end in
           let starts = w.cursor_up_to-start.ensures in
           let stops = w.cursor_up_to.ensures in
-          let first_there = starts.there at.start (omega (arith, here, at.from))
-          (omega (arith, at.forward, at.inside, ends)) at.starts in
-          let first_is =
-          once encoding a pattern place hay own.reads all window seen first.position at.start
-          (omega (arith, starts.inside, ends)) (omega (arith, at.forward, at.inside))
-          (omega (arith, first_there, at.starts)) in
-          let last_there = stops.there at.end (omega (arith, first_is, at.forward))
-          (omega (arith, at.inside, ends)) at.ends in
+          let there =
+          span_reached encoding a pattern place hay own.reads all window seen tree x w.in-Between.first
+          w.in-Between.last is c.args.from.position first.position last.position c.end_in-end.result.position here
+          c.end_in-end.ensures.end starts.inside starts.there stops.inside stops.there in
           rw w.result-is
           (record {
             begins = subst (λ x. g.S.StrDrive.stands x first first.position) c.string-text.ensures starts.stands;
             ends = subst (λ x. g.S.StrDrive.stands x last last.position) c.string-text.ensures stops.stands;
-            from = omega (arith, first_is, at.from);
+            from = there.from;
             forward = stops.after;
-            inside = omega (arith, stops.inside, ends);
+            inside = there.inside;
             finds = record {
               some = λ t whole.
                   span_between encoding a pattern place hay own.reads all window seen t (tries t whole)
-                  is.match is.found first.position last.position (omega (arith, starts.inside, ends))
-                  (omega (arith, stops.inside, ends)) (omega (arith, first_there, is.begins))
-                  (omega (arith, last_there, is.ends));
+                  is.match is.found first.position last.position there.starts there.inside
+                  (there.begins ∙ sym is.begins) (there.ends ∙ sym is.ends);
             };
           })
       | in-Unknown w ↦ rw w.result-is tt
