@@ -410,12 +410,14 @@ class Trial:
 
     def answered_cycles(self, bundle, texts, listed):
         """The functions of the cycles of which each goal that tells has an answer."""
-        proofs = {it.proof(): True for it in bundle.bodies if it.cycle}
-        for it in bundle.bodies:
-            answers = texts.get(f"proofs/{it.proof()}/Answers.antt", "")
-            if it.cycle and not all(tries.is_answered(goal, answers) for goal in it.goals or [""]):
-                proofs[it.proof()] = False
-        return [path for path, it in listed.items() if it.cycle and proofs.get(it.proof())]
+
+        def is_answered(body):
+            answers = texts.get(f"proofs/{body.proof()}/Answers.antt", "")
+            return bool(body.goals) and all(tries.is_answered(it, answers) for it in body.goals)
+
+        cycles = [it for it in bundle.bodies if it.cycle]
+        answered = {it.proof() for it in cycles} - {it.proof() for it in cycles if not is_answered(it)}
+        return [path for path, it in listed.items() if it.cycle and it.proof() in answered]
 
     def place(self, name, bundle):
         """A folder with these texts."""
