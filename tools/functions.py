@@ -19,8 +19,8 @@ MADE_FUNCTION = re.compile(r"\bdyn\b|\bfn\s*\(")
 
 
 class Function:
-    """A function: its path below the crate, its file, its first and last line there, with what is written on it, and the
-    name of its cycle, if it is in one."""
+    """A function: its path below the crate, its file, its first and last line there, with what is written on it, and
+    the name of its cycle, if it is in one."""
 
     def __init__(self, path, file, begin, end, cycle):
         self.path, self.file, self.begin, self.end, self.cycle = path, file, begin, end, cycle

@@ -47,7 +47,7 @@ PROMISE = re.compile(r"\b(?:ensures|requires|ghost)\b[^{;]*[{;]")
 # for them. Its offers take a second pass, as long as a third of the first.
 NO_OFFERS = "\nno_offers : no_such_type\nno_offers = ?\n"
 
-# Each check reads anew what its bodies stand on, so a crate has one bundle where that is not the gate's end by the clock.
+# Each check reads anew what its bodies stand on, so a crate has one bundle, but where that would be the gate's end.
 MOST_BODIES = 200
 
 # The proof of a function that a wrong body may call. Its contract is what it is in any case.
