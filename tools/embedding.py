@@ -4,7 +4,7 @@
     embedding.py [LIBRARY]     over a folder that `python/build.py library` has made, or one that is made now
 
 The programs of docs/EMBEDDING.md are compiled and run, and have to write what the page says. The callers of
-embedding/bad_callers.c have to get a status for all that they hand over, under valgrind, too. And the package of
+embedding/bad_callers.c have to get a status for all that they hand over. All run under valgrind, too. And the package of
 python/ is built for each Python that is found: the examples of docs/PYTHON.md, the package's own tests, and CPython's
 `test_re` with the engine in place of `_sre` are run over it; with one Python the tests run by ctypes, too. Whatever is
 made stands in a folder that is taken away. A line tells of each compiler and Python that was not found: that fails
@@ -164,6 +164,15 @@ class Embedding:
             # a warning is no example
             if self.ran(f"the program in {language} is compiled", *words, writes=""):
                 self.ran(f"the program in {language}", f"{self.room}/settings", writes=written)
+                # Rust's own runtime leaves memory that is still reachable
+                leaks = "all" if language == "c" else "definite,indirect,possible"
+                self.watched(f"the program in {language}", f"{self.room}/settings", written, leaks)
+
+    def watched(self, what, program, written, leaks="all"):
+        """Runs a program under valgrind: it may touch its own memory alone, and has to free it."""
+        if not self.lacks("valgrind", f"{what} under valgrind"):
+            watch = ["valgrind", "-q", "--error-exitcode=9", "--leak-check=full", f"--errors-for-leak-kinds={leaks}"]
+            self.ran(f"{what} under valgrind", *watch, program, writes=written)
 
     def try_bad_callers(self, library):
         if self.lacks("cc", "bad callers"):
@@ -173,9 +182,7 @@ class Embedding:
         if not self.ran("bad callers are compiled", *words, "-Wl,--wrap=malloc,--wrap=realloc", "-o", made):
             return
         self.ran("bad callers", made, writes="bad callers: 0 failures\n")
-        if not self.lacks("valgrind", "bad callers under valgrind"):
-            watch = ["valgrind", "-q", "--error-exitcode=9", "--leak-check=full", "--errors-for-leak-kinds=all"]
-            self.ran("bad callers under valgrind", *watch, made, writes="bad callers: 0 failures\n")
+        self.watched("bad callers", made, "bad callers: 0 failures\n")
 
     def try_python(self, library, version, python, is_first):
         """Builds the package for a Python, and runs its tests and CPython's."""
