@@ -26,6 +26,11 @@
  * - No function is called from a signal handler, nor in the forked child of a process with threads.
  *
  * Positions count characters. A character is a byte, a code point of UTF-8, a number of 32 bits or one of 16 bits.
+ *
+ * Turns. They bound how long a call may take, and UINT64_MAX sets no bound. Over bytes and UTF-8 a call without a bound
+ * asks automata where the window has some thousand characters and the first turns of the machine were not enough: where
+ * a match can begin, or from where to where it goes. The answers are the same. The automata are made in each such call
+ * and are gone with it, so one walk into many rows takes less than one call a row.
  */
 #ifndef SRE_H
 #define SRE_H
@@ -107,7 +112,7 @@ typedef struct sre_code {
 typedef struct sre_asked {
   size_t start; /* held at the window's end */
   size_t end;   /* held at the number of characters */
-  uint64_t turns;
+  uint64_t turns; /* UINT64_MAX: as many as it takes, and what comes back of them counts nothing */
   bool search;       /* whether the least start of the window with a match is looked for, or its start alone */
   bool match_all;    /* a match has to end at the window's end */
   bool must_advance; /* no empty match at the window's start */

@@ -2,3 +2,5 @@ pub mod Telling
 pub mod Rows
 pub mod Walks
 pub mod Knowing
+pub mod SpanRows
+pub mod Turns

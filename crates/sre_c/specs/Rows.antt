@@ -40,3 +40,8 @@ WritesRows Yes first next turns width w rows = ⊥
 WritesRows NoCode first next turns width w rows = ⊥
 WritesRows NotUtf8 first next turns width w rows = ⊥
 WritesRows FaultyTable first next turns width w rows = ⊥
+
+-- the same of rows after which some request is next
+abbrev pub Writes : {S : Type 0} {text : Ghosts S} → Status → Request S text → ℕ → ℕ → SreWalked → List ℕ → Type 0
+Writes {S = S} {text = text} status first turns width w rows =
+    (next : Request S text) × WritesRows status first next turns width w rows

@@ -13,6 +13,7 @@ ghost use Rattle.sre_c.specs.Known.{table_in};
 ghost use Rattle.sre_c.specs.Given.{asked_in, IsEnough};
 ghost use Rattle.sre_c.specs.Answered.{mark_number, IsFound, IsTold, Answers};
 
+use crate::asks::Asks;
 use crate::check;
 use crate::code::SreCode;
 use crate::status::Status;
@@ -62,7 +63,9 @@ fn copy_marks(from: &[Option<usize>], marks: &mut [usize]) -> bool
 
 // Asks a state: whether there is a match at the window's start, or at the least start where `search` says so.
 #[tactic(auto, using(crate::proofs::Telling::enough_of))]
-fn ask<S: StrDrive>(
+fn ask<S: StrDrive, H: Asks<S>>(
+    alloc: Global,
+    how: &H,
     state: &mut State<Global>,
     request: Request<'_, S>,
     search: bool,
@@ -78,7 +81,7 @@ fn ask<S: StrDrive>(
     ensures memory { OnErr result Refused }
 {
     if search {
-        state.search_within(request, turns)
+        how.search(alloc, state, &request, turns)
     } else {
         state.match_within(&request, turns)
     }
@@ -99,8 +102,9 @@ fn show(state: &State<Global>, found: &mut SreFound, marks: &mut [usize]) -> boo
 }
 
 // The match of a code that is read by a table, as `answer` tells it.
-fn answer_by<'a, S: StrDrive>(
+fn answer_by<'a, S: StrDrive, H: Asks<S>>(
     alloc: Global,
+    how: &H,
     code: &'a SreCode<'a>,
     uni: &'a LentTable<'a>,
     text: S,
@@ -121,7 +125,7 @@ fn answer_by<'a, S: StrDrive>(
     let mut state = State::new(alloc);
     let request = request(text, asked, code);
     let mut turns = asked.turns;
-    let told = ask(&mut state, request, asked.search, &mut turns);
+    let told = ask(alloc, how, &mut state, request, asked.search, &mut turns);
     found.turns = turns;
     match told {
         Ok(Some(true)) => {
@@ -138,8 +142,9 @@ fn answer_by<'a, S: StrDrive>(
 }
 
 /// The match, its marks where there is room for them, and what is left of the turns.
-pub fn answer<'c, S: StrDrive>(
+pub fn answer<'c, S: StrDrive, H: Asks<S>>(
     alloc: Global,
+    how: &H,
     code: &'c SreCode<'c>,
     text: S,
     asked: &SreAsked,
@@ -151,7 +156,7 @@ pub fn answer<'c, S: StrDrive>(
 {
     found.turns = asked.turns;
     match table(alloc, code.table) {
-        Some(uni) => answer_by(alloc, code, &uni, text, asked, found, marks),
+        Some(uni) => answer_by(alloc, how, code, &uni, text, asked, found, marks),
         None => Status::FaultyTable,
     }
 }

@@ -14,15 +14,20 @@ ghost use Rattle.sre_c.specs.Answered.{Answers};
 ghost use Rattle.sre_c.specs.Walked.{Walks};
 
 mod answer;
+mod asks;
 mod check;
 mod code;
 mod numbers;
+mod reading;
+mod spans;
 mod status;
+mod steps;
 mod table;
 mod types;
 mod walk;
 
 use answer::answer;
+use asks::{InBytes, InText, Machine};
 use check::check_code;
 use code::SreCode;
 use numbers::{Points, Units};
@@ -65,7 +70,7 @@ pub extern "C" fn sre_answer_bytes(
         Answers status code.now text.now asked.now (length marks.old) found.new marks.new) }
     ensures turns { found.new.turns ≤ asked.now.turns }
 {
-    answer(alloc, code, text, asked, found, marks).number()
+    answer(alloc, &InBytes, code, text, asked, found, marks).number()
 }
 
 /// The match in UTF-8, each code point of which is a character.
@@ -84,7 +89,7 @@ pub extern "C" fn sre_answer_utf8(
     ensures turns { found.new.turns ≤ asked.now.turns }
 {
     let status = match str::from_utf8(text) {
-        Ok(text) => answer(alloc, code, text, asked, found, marks),
+        Ok(text) => answer(alloc, &InText, code, text, asked, found, marks),
         Err(_) => {
             found.turns = asked.turns;
             Status::NotUtf8
@@ -107,7 +112,16 @@ pub extern "C" fn sre_answer_points(
         Answers status code.now text.now asked.now (length marks.old) found.new marks.new) }
     ensures turns { found.new.turns ≤ asked.now.turns }
 {
-    answer(alloc, code, Points { points: text }, asked, found, marks).number()
+    answer(
+        alloc,
+        &Machine,
+        code,
+        Points { points: text },
+        asked,
+        found,
+        marks,
+    )
+    .number()
 }
 
 /// The match in numbers of 16 bits, each of which is a character.
@@ -124,7 +138,16 @@ pub extern "C" fn sre_answer_units(
         Answers status code.now text.now asked.now (length marks.old) found.new marks.new) }
     ensures turns { found.new.turns ≤ asked.now.turns }
 {
-    answer(alloc, code, Units { units: text }, asked, found, marks).number()
+    answer(
+        alloc,
+        &Machine,
+        code,
+        Units { units: text },
+        asked,
+        found,
+        marks,
+    )
+    .number()
 }
 
 /// The matches in bytes, each of which is a character, row by row.
@@ -142,7 +165,7 @@ pub extern "C" fn sre_walk_bytes(
         Walks status code.now text.now asked.now width walked.new rows.new) }
     ensures turns { walked.new.turns ≤ asked.now.turns }
 {
-    walk(alloc, code, text, asked, width, rows, walked).number()
+    walk(alloc, &InBytes, code, text, asked, width, rows, walked).number()
 }
 
 /// The matches in UTF-8, each code point of which is a character, row by row.
@@ -161,7 +184,7 @@ pub extern "C" fn sre_walk_utf8(
     ensures turns { walked.new.turns ≤ asked.now.turns }
 {
     let status = match str::from_utf8(text) {
-        Ok(text) => walk(alloc, code, text, asked, width, rows, walked),
+        Ok(text) => walk(alloc, &InText, code, text, asked, width, rows, walked),
         Err(_) => {
             *walked = begun(asked);
             Status::NotUtf8
@@ -187,6 +210,7 @@ pub extern "C" fn sre_walk_points(
 {
     walk(
         alloc,
+        &Machine,
         code,
         Points { points: text },
         asked,
@@ -214,6 +238,7 @@ pub extern "C" fn sre_walk_units(
 {
     walk(
         alloc,
+        &Machine,
         code,
         Units { units: text },
         asked,

@@ -1,7 +1,7 @@
 //! The walk from match to match, whose matches are written in rows.
 
 ghost use Rattle.std.specs.Prelude.{◌≡◌, ◌<◌, ◌≤◌, ◌+◌, ℕ, length, slice_index, false};
-ghost use Rattle.sre_engine.specs.Requests.{start_of, end_of, must_advance_of};
+ghost use Rattle.sre_engine.specs.Requests.{string_of, start_of, end_of, code_of, must_advance_of};
 ghost use Rattle.sre_engine.specs.Iterators.{request_of, has_ended};
 ghost use Rattle.sre_engine.specs.Answers.{match_shown};
 ghost use Rattle.sre_c.specs.Known.{table_in};
@@ -9,9 +9,11 @@ ghost use Rattle.sre_c.specs.Walked.{index_number, entry_of, begun_of, IsRow, Wa
 ghost use Rattle.sre_c.specs.Rows.{WritesRows};
 
 use crate::answer::{mark_number, request};
+use crate::asks::Asks;
 use crate::check;
 use crate::code::SreCode;
 use crate::status::Status;
+use crate::steps::Steps;
 use crate::table::table;
 use crate::types::{SreAsked, SreWalked};
 use sre_engine::{CodeError, LentTable, SearchIter, SreError, State, StrDrive};
@@ -43,8 +45,8 @@ fn entry(state: &State<Global>, place: usize) -> usize
     }
 }
 
-// Writes the row of the match that a state shows.
-fn write_row(state: &State<Global>, rows: &mut [usize], at: usize, width: usize)
+/// Writes the row of the match that a state shows.
+pub fn write_row(state: &State<Global>, rows: &mut [usize], at: usize, width: usize)
     requires { at + width ≤ length rows.old }
     ensures row { IsRow (match_shown state.now) at width rows.new }
     ensures before { (i : ℕ) → i < at → slice_index rows.new i ≡ slice_index rows.old i }
@@ -66,13 +68,15 @@ fn note_next<S: StrDrive>(walk: &SearchIter<'_, S, Global>, walked: &mut SreWalk
     walked.must_advance = walk.req().must_advance();
 }
 
-// Writes the matches of a walk, row by row, until there is no room for one more, or no match.
-fn write_rows<S: StrDrive>(
+/// Writes the matches of a walk, row by row, until there is no room for one more, or no match.
+pub fn write_rows<S: StrDrive, H: Steps<S>>(
     walk: &mut SearchIter<'_, S, Global>,
+    how: &mut H,
     width: usize,
     rows: &mut [usize],
     walked: &mut SreWalked,
 ) -> Status
+    requires suits { H.suits how.old (string_of (request_of walk.old)) (code_of (request_of walk.old)) }
     requires open { has_ended walk.old ≡ false }
     requires none { walked.old.count ≡ 0 }
     ensures rows { WritesRows result (request_of walk.old) (request_of walk.new) walked.old.turns width walked.new
@@ -83,7 +87,7 @@ fn write_rows<S: StrDrive>(
     note_next(walk, walked);
     'matches: while width > 0 && width <= rows.len() - at {
         walked.step_turns = walked.turns;
-        match walk.next_within(&mut walked.turns) {
+        match how.step(walk, &mut walked.turns) {
             Ok(Some(true)) => {}
             Ok(Some(false)) => return Status::No,
             Ok(None) => return Status::UsedUp,
@@ -98,8 +102,9 @@ fn write_rows<S: StrDrive>(
 }
 
 // Writes the matches of a walk over a code that is read by a table.
-fn walk_by<'a, S: StrDrive>(
+fn walk_by<'a, S: StrDrive, H: Asks<S>>(
     alloc: Global,
+    how: &H,
     code: &'a SreCode<'a>,
     uni: &'a LentTable<'a>,
     text: S,
@@ -118,13 +123,14 @@ fn walk_by<'a, S: StrDrive>(
         Err(CodeError::Memory) => return Status::Memory,
         Err(_) => return Status::NoCode,
     };
-    let mut walk = SearchIter::new(request(text, asked, code), State::new(alloc));
-    write_rows(&mut walk, width, rows, walked)
+    let request = request(text, asked, code);
+    how.write(alloc, &request, width, rows, walked)
 }
 
 /// Writes the matches of a walk, each in `width` numbers, and how it goes on.
-pub fn walk<'c, S: StrDrive>(
+pub fn walk<'c, S: StrDrive, H: Asks<S>>(
     alloc: Global,
+    how: &H,
     code: &'c SreCode<'c>,
     text: S,
     asked: &SreAsked,
@@ -137,7 +143,7 @@ pub fn walk<'c, S: StrDrive>(
 {
     *walked = begun(asked);
     match table(alloc, code.table) {
-        Some(uni) => walk_by(alloc, code, &uni, text, asked, width, rows, walked),
+        Some(uni) => walk_by(alloc, how, code, &uni, text, asked, width, rows, walked),
         None => Status::FaultyTable,
     }
 }

@@ -1,4 +1,5 @@
 use Rattle.std.proofs.Common.{◌≡◌, ◌≤◌, ◌-◌, ◌*◌, length, false}
+use Rattle.sre_engine.specs.Requests.{string_of, code_of}
 use Rattle.sre_engine.specs.Iterators.{request_of, has_ended}
 use Rattle.sre_c.specs.Rows.{IsSoFar}
 use Rattle.sre_c.proofs.walk.write_rows.Given as goal
@@ -12,6 +13,7 @@ invariant-matches g l =
     × (length l.rows ≡ length l.fn.rows)
     × (l.walked.turns ≤ l.fn.walked.turns)
     × (l.walked.count ≡ 0 → l.walked.turns ≡ l.fn.walked.turns)
+    × g.H.Steps.suits l.how (string_of (request_of l.walk)) (code_of (request_of l.walk))
 
 abbrev pub decreases-matches : goal.decreases-matches
 decreases-matches g l = length l.rows - l.at

@@ -1,0 +1,13 @@
+use Rattle.std.proofs.Common.{rules, ◌≡◌, ◌∙◌, subst}
+use Rattle.sre_engine.specs.Iterators.{request_of}
+use Rattle.sre_c.specs.Rows.{WritesRows}
+use Rattle.sre_c.proofs.asks.write_by.Goals as goal
+
+pub returns-clause-rows : goal.returns-clause-rows
+returns-clause-rows g c =
+    let own : c.in-Ok.request ≡ c.args.request.now = search rules in
+    let next = request_of c.write_rows.new.walk in (
+      next,
+      subst (λ first. WritesRows c.write_rows.result first next c.args.walked.now.turns c.args.width
+          c.write_rows.new.walked c.write_rows.new.rows) (c.new-walk.ensures.req ∙ own) c.write_rows.ensures.rows,
+    )

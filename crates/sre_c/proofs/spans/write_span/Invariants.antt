@@ -1,0 +1,12 @@
+use Rattle.std.proofs.Common.{◌≡◌, ◌<◌, ◌+◌, ℕ, length, slice_index}
+use Rattle.sre_model.specs.Marks.{Marks}
+use Rattle.sre_finder.specs.Spans.{match_with}
+use Rattle.sre_c.specs.Walked.{entry_of}
+use Rattle.sre_c.proofs.spans.write_span.Given as goal
+
+abbrev pub invariant-loop-place : goal.invariant-loop-place
+invariant-loop-place l =
+    (length l.rows ≡ length l.fn.rows)
+    × ((marks : Marks) (q : ℕ) → q < l.place
+    → slice_index l.rows (l.at + q) ≡ entry_of (match_with l.span.start l.span.end marks) q)
+    × ((i : ℕ) → i < l.at → slice_index l.rows i ≡ slice_index l.fn.rows i)
