@@ -165,7 +165,7 @@ int engine_match(const Pattern *pattern, const Text *text, const sre_asked *aske
 uint32_t engine_walk(const Pattern *pattern, const Text *text, const sre_asked *asked, size_t *rows, size_t room,
                      sre_walked *walked) {
   const sre_code *code = &pattern->code;
-  size_t length = (size_t)text->length, width = ROW_WIDTH(pattern), numbers = width * room;
+  size_t length = (size_t)text->length, width = WALK_WIDTH(pattern), numbers = width * room;
   PyThreadState *saved = let_others_run(text);
   uint32_t status;
   switch (text->size) {

@@ -69,7 +69,9 @@ PyObject *match_new(const Pattern *pattern, PyObject *string, Window window, con
   self->pattern = (Pattern *)Py_NewRef((PyObject *)pattern);
   self->string = Py_NewRef(string);
   self->window = window;
-  memcpy(self->row, row, width * sizeof *row);
+  memcpy(self->row, row, WALK_WIDTH(pattern) * sizeof *row);
+  if (!pattern->groups)
+    self->row[2] = -1;
   PyObject_GC_Track(self);
   return (PyObject *)self;
 }

@@ -85,6 +85,10 @@ bool arguments_turns(PyObject *given, uint64_t otherwise, uint64_t *into);
  * is not set. This many there are. */
 #define ROW_WIDTH(pattern) (3 + 2 * (size_t)(pattern)->groups)
 
+/* A row of a walk has no more than start and end where there are no groups: then it takes no run of the machine to fill
+ * in. */
+#define WALK_WIDTH(pattern) ((pattern)->groups ? ROW_WIDTH(pattern) : 2)
+
 /* The table of this Python's own letters, digits and cases, or with false that of ASCII. Null with an exception. */
 const sre_table *engine_table(bool is_unicode);
 
@@ -133,7 +137,7 @@ typedef struct {
   Py_ssize_t pos, endpos;
 } Window;
 
-/* A new match of a row. */
+/* A new match of a row, that of a walk, too. */
 PyObject *match_new(const Pattern *pattern, PyObject *string, Window window, const size_t *row);
 
 /* The text of a group of a row; `otherwise` where it took no part. */

@@ -2,7 +2,7 @@
 #include "native.h"
 
 /* A batch has at most so many numbers. */
-#define MOST_NUMBERS 32768
+#define MOST_NUMBERS 262144
 
 /* Rows of the first batch: as many as are wanted, or as there is room for in the walk itself. */
 static size_t first_room(const Walk *walk, Py_ssize_t most) {
@@ -17,7 +17,7 @@ void walk_begin(Walk *walk, const Pattern *pattern, const Text *text, const sre_
   walk->pattern = pattern;
   walk->text = text;
   walk->asked = *asked;
-  walk->width = ROW_WIDTH(pattern);
+  walk->width = WALK_WIDTH(pattern);
   walk->room = first_room(walk, most);
   walk->count = walk->at = 0;
   walk->status = asked->start > asked->end ? SRE_NO : SRE_NO_ROOM;
