@@ -4,11 +4,13 @@ use Rattle.regex_class.specs.Ranges.{in_ranges}
 use Rattle.regex_hir.specs.Re.{Re, cat, alt}
 use Rattle.sre_chars.specs.Tables.{Table}
 use Rattle.sre_chars.specs.declared.constants.SreOpcode.TheVariants as opcode
+use Rattle.sre_chars.specs.declared.constants.SreAtCode.{SreAtCode}
 use Rattle.sre_model.specs.Tree.{Tree, Item, Branch, Run, Atomic, Trees, Test, RunKind}
 use Rattle.sre_model.specs.Roles.{role, ToRepeat, ToRepeatPossessively, ToCheckGroup}
 use Rattle.sre_model.specs.Grammar.{Opcode, item_opcode, Reads, ReadsItem}
 use Rattle.sre_model.specs.Standing.{TestStands}
 use Rattle.sre_shape.specs.Covers.{View, InBytes, InUtf8, Covers, CoversItem, CoversTest, CoversStart}
+use Rattle.sre_shape.specs.Looks.{in_ascii}
 use Rattle.sre_patterns.specs.declared.encoding.Encoding as encoding_type
 use Rattle.sre_patterns.specs.declared.encoding.Encoding.TheVariants as encoding
 
@@ -16,6 +18,12 @@ abbrev pub view_of : encoding_type.Encoding → View
 view_of encoding.Bytes = InBytes 256
 view_of encoding.Ascii = InBytes 128
 view_of encoding.Utf8 = InUtf8
+
+-- the position that holds at the same places of the texts that are seen so
+abbrev pub position_in : encoding_type.Encoding → SreAtCode → SreAtCode
+position_in encoding.Bytes a = a
+position_in encoding.Ascii a = in_ascii a
+position_in encoding.Utf8 a = a
 
 -- patterns one after the other, and then another one
 abbrev pub cat_onto : List Re → Re → Re

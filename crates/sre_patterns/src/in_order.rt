@@ -23,7 +23,7 @@ ghost use Rattle.sre_patterns.specs.Ordered.{HasTree, HasCounted, HasGiving, Tri
 use crate::classes::{end_of_test, is_taken, taken_below};
 use crate::encoding::Encoding;
 use crate::fault::Fault;
-use crate::positions::exact_look;
+use crate::positions::{exact_look, position_in};
 use crate::repeats::{KEPT, repeated};
 use crate::settled::settled_from;
 use crate::translate::{DEPTH, Part};
@@ -226,7 +226,7 @@ fn position(code: &Code<'_>, encoding: Encoding, place: usize) -> Result<Part, F
     ensures { IfOk result (λ p. TriesItem (view_of encoding) (uni_of code.now) (items_of code.now) place
         (meaning p.hir) p.end) }
 {
-    match exact_look(at_code(code, place)) {
+    match exact_look(position_in(at_code(code, place), encoding)) {
         Some(look) => Ok(Part {
             hir: Hir::Look(look),
             end: place + 2,

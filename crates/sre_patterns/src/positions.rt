@@ -2,9 +2,25 @@
 
 ghost use Rattle.std.specs.Prelude.{◌≡◌};
 ghost use Rattle.sre_shape.specs.Looks as looks;
+ghost use Rattle.sre_patterns.specs.Patterns as patterns;
 
+use crate::encoding::Encoding;
 use regex_hir::Look;
 use sre_chars::constants::SreAtCode;
+
+/// The position that holds at the same places of the texts that are seen so: in ASCII each table has the same words.
+pub(crate) fn position_in(code: SreAtCode, encoding: Encoding) -> SreAtCode
+    ensures { result ≡ patterns.position_in encoding code }
+{
+    let Encoding::Ascii = encoding else {
+        return code;
+    };
+    match code {
+        SreAtCode::UNI_BOUNDARY => SreAtCode::BOUNDARY,
+        SreAtCode::UNI_NON_BOUNDARY => SreAtCode::NON_BOUNDARY,
+        _ => code,
+    }
+}
 
 /// The look that holds wherever the position does; none where a table says what a word is.
 pub(crate) fn look_of(code: SreAtCode) -> Option<Look>

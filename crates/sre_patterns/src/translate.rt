@@ -15,7 +15,7 @@ use crate::classes::{anything, end_of_test, pattern_of};
 use crate::encoding::Encoding;
 use crate::fault::Fault;
 use crate::joining::{add, either, joined};
-use crate::positions::look_of;
+use crate::positions::{look_of, position_in};
 use crate::repeats::{Order, any_number, is_greedy, repeated};
 use crate::words::{at_code, item_opcode, operand, skip, word};
 use regex_class::Class;
@@ -153,7 +153,7 @@ fn item(
             end: place + 1,
         }),
         SreOpcode::MARK => Ok(nothing(place + 2)),
-        SreOpcode::AT => Ok(position(code, place)),
+        SreOpcode::AT => Ok(position(code, encoding, place)),
         SreOpcode::BRANCH => branch(alloc, code, encoding, order, place, depth),
         SreOpcode::REPEAT | SreOpcode::POSSESSIVE_REPEAT => {
             counted(alloc, code, encoding, order, place, depth)
@@ -187,14 +187,14 @@ fn nothing(end: usize) -> Part
 }
 
 // The position at a place.
-fn position(code: &Code<'_>, place: usize) -> Part
+fn position(code: &Code<'_>, encoding: Encoding, place: usize) -> Part
     requires opcode { Opcode (items_of code.now) place SreOpcode.AT }
     requires item { HasItem (items_of code.now) place }
-    ensures { (e : Encoding) → CoversItemAt (view_of e) (uni_of code.now) (items_of code.now) place (meaning result.hir)
+    ensures { CoversItemAt (view_of encoding) (uni_of code.now) (items_of code.now) place (meaning result.hir)
         result.end }
 {
     let number = at_code(code, place);
-    let hir = match look_of(number) {
+    let hir = match look_of(position_in(number, encoding)) {
         Some(look) => Hir::Look(look),
         None => Hir::Empty,
     };

@@ -12,7 +12,7 @@ use Rattle.regex_hir.specs.Re.{look}
 use Rattle.regex_hir.specs.declared.look.Look.{Look}
 use Rattle.regex_hir.specs.declared.look.Look.TheVariants.{Start, End, StartLf, EndLf, WordAscii, WordAsciiNegate}
 use Rattle.regex_hir.proofs.TextLemmas.{byte_before-zero, byte_before-add-one}
-use Rattle.sre_chars.specs.Tables.{Table}
+use Rattle.sre_chars.specs.Tables.{Table, is_ascii_alphanumeric, is_scalar, is_in_ranges}
 use Rattle.sre_chars.specs.Categories.{is_word, is_unicode_word, is_linebreak}
 use Rattle.sre_chars.specs.declared.constants.SreAtCode.{SreAtCode}
 use Rattle.sre_chars.specs.declared.constants.SreAtCode.TheVariants.{BEGINNING, BEGINNING_LINE, BEGINNING_STRING}
@@ -23,7 +23,7 @@ use Rattle.sre_model.specs.Tree.{At}
 use Rattle.sre_model.specs.Subject.{Subject, char_at, before, after, holds_at, is_boundary, is_on_nothing}
 use Rattle.sre_model.specs.Subject.{bars_non_boundary}
 use Rattle.sre_shape.specs.Covers.{View, CoversItem, InBytes}
-use Rattle.sre_shape.specs.Looks.{look_of, exact_look}
+use Rattle.sre_shape.specs.Looks.{look_of, exact_look, in_ascii}
 use Rattle.sre_shape.proofs.Matched.{at-matched}
 
 same_word : (c : ℕ) → is_word_byte c ≡ is_word c
@@ -205,23 +205,6 @@ module _ (s : Subject) (hay : List ℕ) (off : ℕ → ℕ) (v : Sided s hay off
   loc_non_boundary : Implies WordAsciiNegate LOC_NON_BOUNDARY
   loc_non_boundary p l h = non_boundary p l h
 
-  -- where the table's words are the ASCII words on this text
-  abbrev AsciiWords : Type 0
-  AsciiWords = (q : ℕ) → q < s.end → is_unicode_word s.table (char_at s q) ≡ is_word (char_at s q)
-
-  uni-agrees : AsciiWords → Agree is_word_byte (is_unicode_word s.table)
-  uni-agrees w q b l a = word-agrees q b l a ∙ sym (w q l)
-
-  uni_boundary : AsciiWords → Implies WordAscii UNI_BOUNDARY
-  uni_boundary w p l h =
-      word-holds (is_unicode_word s.table) (uni-agrees w) p l
-      ∙ (and_parts (not (is_on_nothing s p)) (is_boundary s (is_unicode_word s.table) p) h).1
-
-  uni_non_boundary : AsciiWords → Implies WordAsciiNegate UNI_NON_BOUNDARY
-  uni_non_boundary w p l h =
-      no_word-holds (is_unicode_word s.table) (uni-agrees w) p l
-      ∙ (and_parts (not (bars_non_boundary s p)) (not (is_boundary s (is_unicode_word s.table) p)) h).1
-
   implied : (k l : Look) (a : SreAtCode) → Some k ≡ Some l → Implies k a → Implies l a
   implied k l a e f = subst (λ x. Implies x a) (same_Some k l e) f
 
@@ -275,11 +258,56 @@ module _ (s : Subject) (hay : List ℕ) (off : ℕ → ℕ) (v : Sided s hay off
   look-agrees UNI_BOUNDARY l e = absurd (none-some l e)
   look-agrees UNI_NON_BOUNDARY l e = absurd (none-some l e)
 
--- a position is covered by its assertion
+-- two positions that hold at the same places of the window
+abbrev pub HoldAlike : Subject → SreAtCode → SreAtCode → Type 0
+HoldAlike s a b = (p : ℕ) → p ≤ s.end → holds_at s a p ≡ holds_at s b p
+
+-- a position is covered by the assertion of one that holds at the same places
 pub covers-look_of : (V : View) (table : Table)
     → ((s : Subject) (hay : List ℕ) (off : ℕ → ℕ) → V s hay off → Sided s hay off)
-    → (a : SreAtCode) (l : Look) → look_of a ≡ Some l → CoversItem V table (look l) (At a)
-covers-look_of V table sided a l e = record {
+    → (a b : SreAtCode) → ((s : Subject) (hay : List ℕ) (off : ℕ → ℕ) → V s hay off → HoldAlike s a b)
+    → (l : Look) → look_of a ≡ Some l → CoversItem V table (look l) (At b)
+covers-look_of V table sided a b alike l e = record {
   covers = λ s hay off v same.
-      at-matched s hay off (look l) a (λ p i h. (look-implies s hay off (sided s hay off v) a l e p i h, refl));
+      at-matched s hay off (look l) b (λ p i h. (
+        look-implies s hay off (sided s hay off v) a l e p i (alike s hay off v p i ∙ h),
+        refl,
+      ));
 }
+
+-- in ASCII each table has the same words
+module _ (s : Subject) (hay : List ℕ) (off : ℕ → ℕ) (v : InBytes 128 s hay off) where
+  ascii-word : (p : ℕ) → p < s.end → is_word (char_at s p) ≡ is_unicode_word s.table (char_at s p)
+  ascii-word p inside =
+      let small : nat_lt (char_at s p) 128 ≡ true = let below = v.below p inside in grind (arith, nat_tests) in
+      ap (λ y. char_at s p == 95 || cond y (is_ascii_alphanumeric (char_at s p))
+      (is_scalar (char_at s p) && is_in_ranges s.table.alnum (char_at s p))) (sym small)
+
+  ascii-before : (p : ℕ) → p ≤ s.end → before s is_word p ≡ before s (is_unicode_word s.table) p
+  ascii-before zero l = refl
+  ascii-before (suc q) l = ap (λ y. nat_lt 0 (suc q) && y) (ascii-word (suc q - 1) (omega arith))
+
+  ascii-after : (p : ℕ) → after s is_word p ≡ after s (is_unicode_word s.table) p
+  ascii-after p = by_test (nat_lt p s.end) refl
+    where
+      by_test : (y : Bool) → nat_lt p s.end ≡ y
+          → (y && is_word (char_at s p)) ≡ (y && is_unicode_word s.table (char_at s p))
+      by_test true e = ascii-word p (grind (arith, nat_tests))
+      by_test false e = refl
+
+  ascii-boundary : (p : ℕ) → p ≤ s.end → is_boundary s is_word p ≡ is_boundary s (is_unicode_word s.table) p
+  ascii-boundary p l = ap₂ (λ x y. cond x (not y) y) (ascii-before p l) (ascii-after p)
+
+  pub ascii-alike : (a : SreAtCode) → HoldAlike s (in_ascii a) a
+  ascii-alike BEGINNING p l = refl
+  ascii-alike BEGINNING_LINE p l = refl
+  ascii-alike BEGINNING_STRING p l = refl
+  ascii-alike BOUNDARY p l = refl
+  ascii-alike NON_BOUNDARY p l = refl
+  ascii-alike END p l = refl
+  ascii-alike END_LINE p l = refl
+  ascii-alike END_STRING p l = refl
+  ascii-alike LOC_BOUNDARY p l = refl
+  ascii-alike LOC_NON_BOUNDARY p l = refl
+  ascii-alike UNI_BOUNDARY p l = ap (λ y. not (is_on_nothing s p) && y) (ascii-boundary p l)
+  ascii-alike UNI_NON_BOUNDARY p l = ap (λ y. not (bars_non_boundary s p) && not y) (ascii-boundary p l)

@@ -31,7 +31,7 @@ use Rattle.sre_shape.specs.Looks.{exact_look}
 use Rattle.sre_shape.proofs.InOrder.{empty-exact, then-exact, or-exact, one-exact, char-exact, look-exact, mark-exact}
 use Rattle.sre_shape.proofs.InOrder.{counted-exact, endless-exact}
 use Rattle.sre_shape.proofs.AtPlaces.{empty-at, look-at, none-at, cat-at, alt-at, repeat-at, bytes-at, char-at}
-use Rattle.sre_shape.proofs.Edges.{Sided, look-agrees}
+use Rattle.sre_shape.proofs.Edges.{Sided, HoldAlike, look-agrees}
 use Rattle.sre_shape.proofs.ExactLeads.{exact-moves}
 use Rattle.sre_shape.proofs.RunsInOrder.{run-loop}
 
@@ -203,12 +203,15 @@ chars-exact table ranges t each = record {
   begins = λ s hay off v. char-at s hay off v ranges;
 }
 
--- a position's assertion, where it holds just where the position does
+-- the assertion that holds just where a position does, for one that holds at the same places
 pub exact-at : (V : View) (table : Table)
     → ((s : Subject) (hay : List ℕ) (off : ℕ → ℕ) → V s hay off → Sided s hay off)
-    → (a : SreAtCode) (l : Look) → exact_look a ≡ Some l → ExactItem V table (look l) (At a)
-exact-at V table sided a l e = record {
-  tries = λ s hay off v same. look-exact s hay off l a (look-agrees s hay off (sided s hay off v) a l e);
+    → (a b : SreAtCode) → ((s : Subject) (hay : List ℕ) (off : ℕ → ℕ) → V s hay off → HoldAlike s a b)
+    → (l : Look) → exact_look a ≡ Some l → ExactItem V table (look l) (At b)
+exact-at V table sided a b alike l e = record {
+  tries = λ s hay off v same.
+      look-exact s hay off l b
+      (λ p i. look-agrees s hay off (sided s hay off v) a l e p i ∙ alike s hay off v p i);
   begins = λ s hay off v. look-at s hay off l;
 }
 

@@ -37,3 +37,18 @@ exact_look LOC_BOUNDARY = Some WordAscii
 exact_look LOC_NON_BOUNDARY = None
 exact_look UNI_BOUNDARY = None
 exact_look UNI_NON_BOUNDARY = None
+
+-- the position that holds at the same places of a text of ASCII, where each table has the same words
+abbrev pub in_ascii : SreAtCode → SreAtCode
+in_ascii BEGINNING = BEGINNING
+in_ascii BEGINNING_LINE = BEGINNING_LINE
+in_ascii BEGINNING_STRING = BEGINNING_STRING
+in_ascii BOUNDARY = BOUNDARY
+in_ascii NON_BOUNDARY = NON_BOUNDARY
+in_ascii END = END
+in_ascii END_LINE = END_LINE
+in_ascii END_STRING = END_STRING
+in_ascii LOC_BOUNDARY = LOC_BOUNDARY
+in_ascii LOC_NON_BOUNDARY = LOC_NON_BOUNDARY
+in_ascii UNI_BOUNDARY = BOUNDARY
+in_ascii UNI_NON_BOUNDARY = NON_BOUNDARY

@@ -205,6 +205,15 @@ fn patterns_of_classes_and_positions_are_tight(rt: HostRuntime) {
             "(foo line end )"
         )
     );
+    assert!(rt;
+        are(
+            alloc,
+            &words,
+            Encoding::Ascii,
+            "(boundary foo line end )",
+            "(boundary foo line end )"
+        )
+    );
     // (?i)a
     assert!(rt;
         are(
@@ -256,9 +265,15 @@ fn patterns_in_order_are_exact(rt: HostRuntime) {
             "(boundary [97-97;] line end )"
         )
     );
+    // \ba by the table's words
+    let words = [6, 10, 16, 97, 1];
+    assert!(rt; orders(alloc, &words, Encoding::Ascii, "(boundary [97-97;] )"));
+    assert!(rt; has_no_order(alloc, &words, Encoding::Bytes));
+    assert!(rt; has_no_order(alloc, &words, Encoding::Utf8));
     // a$, which holds before a last line break as well, and \B
     assert!(rt; has_no_order(alloc, &[16, 97, 6, 5, 1], Encoding::Bytes));
     assert!(rt; has_no_order(alloc, &[6, 4, 16, 97, 1], Encoding::Bytes));
+    assert!(rt; has_no_order(alloc, &[6, 11, 16, 97, 1], Encoding::Ascii));
     // (?:a*)*, whose body may read nothing
     let words = [
         23, 10, 0, 4294967295, 24, 6, 0, 4294967295, 16, 97, 1, 18, 1,

@@ -77,7 +77,7 @@ item-run-requires t c =
     has-run (items_of c.args.code.now) c.args.place c.requires o c.item_opcode-opcode.ensures.word k.0 k.1
 
 pub item-returns-in-AT : goal.item-returns-in-AT
-item-returns-in-AT t c = c.position.ensures c.args.encoding
+item-returns-in-AT t c = c.position.ensures
 
 pub item-returns-in-ASSERT : goal.item-returns-in-ASSERT
 item-returns-in-ASSERT t c =

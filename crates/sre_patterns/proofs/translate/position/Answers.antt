@@ -1,19 +1,21 @@
-use Rattle.std.proofs.Common.{◌∙◌, sym, ◌+◌}
+use Rattle.std.proofs.Common.{◌∙◌, ap, sym, ◌+◌}
 use Rattle.regex_hir.specs.Re.{Re, empty, look}
 use Rattle.regex_hir.proofs.MeaningLemmas.{meaning-Look, meaning-Empty}
 use Rattle.sre_model.specs.Tree.{At}
 use Rattle.sre_code.specs.Codes.{items_of, uni_of}
 use Rattle.sre_shape.specs.Covers.{CoversItem}
+use Rattle.sre_shape.specs.Looks.{look_of}
 use Rattle.sre_shape.proofs.Composed.{covers-at}
 use Rattle.sre_shape.proofs.Edges.{covers-look_of}
-use Rattle.sre_patterns.specs.Patterns.{view_of, CoversItemAt}
+use Rattle.sre_patterns.specs.Patterns.{view_of, position_in, CoversItemAt}
 use Rattle.sre_patterns.proofs.Items.{positions}
-use Rattle.sre_patterns.proofs.SidesSeen.{sided}
+use Rattle.sre_patterns.proofs.SidesSeen.{sided, alike}
 use Rattle.sre_patterns.proofs.translate.position.Goals.{in-Some, in-None}
 use Rattle.sre_patterns.proofs.translate.position.Goals as goal
 
 pub returns : goal.returns
-returns c e =
+returns c =
+    let e = c.args.encoding in
     let ws = items_of c.args.code.now in
     let V = view_of e in
     let table = uni_of c.args.code.now in
@@ -24,6 +26,7 @@ returns c e =
     elim c.match-look_of.branch [
       | in-Some w ↦ λ j x r. rw (w.hir-is, meaning-Look)
           (found (look w.in-Some.look)
-          (covers-look_of V table (sided e) a w.in-Some.look (sym c.look_of.ensures ∙ w.in-Some.is)) j x r)
+          (covers-look_of V table (sided e) (position_in e a) a (alike e a) w.in-Some.look
+          (ap look_of (sym c.position_in.ensures) ∙ sym c.look_of.ensures ∙ w.in-Some.is)) j x r)
       | in-None w ↦ λ j x r. rw (w.hir-is, meaning-Empty) (found empty (covers-at V table a) j x r)
     ]
