@@ -73,5 +73,7 @@ pub(super) fn keep_ends<S: StrDrive, A: Allocator>(
 {
     if memo.is_open() && memo.keeps_ends() && board.is_inside() && is_unmarked(req, board) {
         memo.keep_ends(req.pattern_codes().items(), board, cursor);
+    } else {
+        memo.note_end();
     }
 }

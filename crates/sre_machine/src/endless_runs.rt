@@ -17,6 +17,7 @@ ghost use Rattle.sre_reading.specs.Reads.{WordAt};
 use crate::lazy_runs::{longer, one_longer};
 use crate::machine::{opcode, refuses};
 use crate::run_operands::run_operands;
+use crate::vain_runs::stands_at;
 use sre_board::Board;
 use sre_chars::constants::{MAXREPEAT, SreOpcode};
 use sre_chars::string::{StrDrive, StringCursor};
@@ -49,14 +50,37 @@ pub(super) fn is_endless_run<S: StrDrive>(
     }
 }
 
-/// Whether the run at a place gives nothing back, as a possessive one; else it has other ends beside its longest.
+// Whether the run at a place gives nothing back, as a possessive one; else it has other ends beside its longest.
 #[inline(always)]
-pub(super) fn gives_nothing_back<S: StrDrive>(req: &Request<'_, S>, place: usize) -> bool
+fn gives_nothing_back<S: StrDrive>(req: &Request<'_, S>, place: usize) -> bool
     requires { IsEndlessRun req.now place }
     ensures possessive { result ≡ true → OpcodeAt req.now place SreOpcode.POSSESSIVE_REPEAT_ONE }
     ensures others { result ≡ false → HasOtherEnds req.now place }
 {
     word(req, place) == SreOpcode::POSSESSIVE_REPEAT_ONE as u32
+}
+
+// Whether behind a place there is nothing but MARKs up to a SUCCESS, so that nothing fails there.
+fn only_ends<S: StrDrive>(req: &Request<'_, S>, start: usize) -> bool {
+    let words = req.pattern_codes().items();
+    let _length = words.len(); // a slice has few items, so no place overflows
+    let mut place = start;
+    'mark: while stands_at(words, place, SreOpcode::MARK) {
+        place += 2;
+    }
+    stands_at(words, place, SreOpcode::SUCCESS)
+}
+
+/// Whether inside a region whose ends are not kept a run is better gone over at once, whatever came of others: it gives
+/// nothing back, or the region ends behind it, so that its first end is the one that counts.
+#[inline(always)]
+pub(super) fn is_better_at_once<S: StrDrive>(req: &Request<'_, S>, place: usize) -> bool
+    requires { IsEndlessRun req.now place }
+{
+    if gives_nothing_back(req, place) {
+        return true;
+    }
+    only_ends(req, run_operands(req, place).tail)
 }
 
 // Whether the run at a place is a lazy one; else it is greedy.

@@ -44,6 +44,10 @@ const STRIDE: usize = 32;
 // How many turns a search within turns takes for each character before it keeps failures.
 const TURNS_EACH: usize = 32;
 
+// How many bodies that end are counted at most, and how many of them a failure inside of regions takes off.
+const MOST_HOPE: usize = 16;
+const HOPE_LOST: usize = 4;
+
 // How many turns a search goes on without failures, if it is limited.
 #[inline(always)]
 fn turns_waited<S: StrDrive>(req: &Request<'_, S>, limited: bool) -> usize
@@ -68,6 +72,8 @@ pub struct Memo<A: Allocator> {
     keeps_ends: bool,
     // from which position on failures are kept, once they are
     first: usize,
+    // how many bodies of regions ended of late whose ends are not kept, less what failed inside
+    hope: usize,
     // how many steps are left before the next look
     patience: usize,
     // how many were taken up to that look
@@ -108,6 +114,7 @@ impl<A: Allocator + Copy> Memo<A> {
             ends: Ends::new(alloc),
             keeps_ends: false,
             first: 0,
+            hope: 0,
             patience: STRIDE,
             waited: STRIDE,
             waits: 0,
@@ -206,6 +213,33 @@ impl<A: Allocator> Memo<A> {
         let code = req.pattern_codes();
         self.first = req.start().saturating_sub(code.looks_back());
         self.keeps_ends = !code.regions_set_marks();
+        self.hope = MOST_HOPE;
+    }
+
+    // Notes that the body of a region ended, where that is not kept.
+    #[inline(always)]
+    pub(crate) fn note_end(&mut self)
+        ensures { self.new ≡ self.old }
+    {
+        if self.hope < MOST_HOPE {
+            self.hope += 1;
+        }
+    }
+
+    // Notes that something failed inside a region.
+    #[inline(always)]
+    fn note_failure(&mut self, board: &Board<A>)
+        ensures { self.new ≡ self.old }
+    {
+        if board.is_inside() {
+            self.hope = self.hope.saturating_sub(HOPE_LOST);
+        }
+    }
+
+    // Whether bodies of regions mostly ended of late, so that a run inside goes over its characters at once.
+    #[inline(always)]
+    pub(crate) fn is_hopeful(&self) -> bool {
+        self.hope >= MOST_HOPE / 2
     }
 
     // Whether failures are kept by now.
@@ -327,6 +361,7 @@ impl<A: Allocator> Memo<A> {
             (spot_at point board.now.frames position board.now.marks) self.old.kept self.new.kept }
         ensures same { self.new ≡ record self.old { kept = self.new.kept } }
     {
+        self.note_failure(board);
         self.is_used = true;
         self.failures.keep(words, board, point, position);
     }
@@ -475,6 +510,7 @@ impl<A: Allocator> Memo<A> {
         ensures idle { self.new.marked.idle ≡ self.old.marked.idle }
         ensures same { self.new ≡ record self.old { marked = self.new.marked } }
     {
+        self.note_failure(board);
         self.is_used = true;
         self.marked.keep(words, board, point, position);
     }

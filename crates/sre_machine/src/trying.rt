@@ -20,7 +20,7 @@ ghost use Rattle.sre_turns.specs.Limits.{attempt};
 ghost use Rattle.sre_growth.specs.Refusal.{Refused};
 
 use crate::body_ends::known_end;
-use crate::endless_runs::{endless_run, gives_nothing_back, is_endless_run};
+use crate::endless_runs::{endless_run, is_better_at_once, is_endless_run};
 use crate::machine::{instruction, opcode};
 use crate::memo::Memo;
 use crate::possessive_loops::again;
@@ -377,9 +377,10 @@ fn keeps_no_end<A: Allocator>(board: &Board<A>, memo: &Memo<A>, keeping: Keeping
 }
 
 // Whether a run without a greatest count is at a place that is gone on with turn by turn, as such runs are while
-// failures are kept. A possessive one inside a region whose ends are not kept goes over its characters at once: turn by
-// turn each of these places would be gone on from anew, whenever the body ends, which takes many times as long. Within
-// turns it does not, since a turn would go over more characters than it counts for.
+// failures are kept. Inside a region whose ends are not kept it goes over its characters at once where that is better:
+// turn by turn each of these places would be gone on from anew, whenever the body ends, which takes many times as long.
+// Where it fails, turn by turn is better: then each place is known to fail. Within turns it never goes at once, since a
+// turn would go over more characters than it counts for.
 #[inline(always)]
 fn goes_on_endlessly<S: StrDrive, A: Allocator, const LIMITED: bool>(
     req: &Request<'_, S>,
@@ -398,10 +399,10 @@ fn goes_on_endlessly<S: StrDrive, A: Allocator, const LIMITED: bool>(
     if keeping == Keeping::Nothing || !is_endless_run(req, place, cursor) {
         return false;
     }
-    if LIMITED || !gives_nothing_back(req, place) {
+    if LIMITED || !keeps_no_end(board, memo, keeping) {
         return true;
     }
-    !keeps_no_end(board, memo, keeping)
+    !memo.is_hopeful() && !is_better_at_once(req, place)
 }
 
 /// One instruction, which is left at once where it is known to fail, or where the body that it is in is known to end.

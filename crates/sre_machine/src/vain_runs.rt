@@ -17,9 +17,9 @@ use sre_request::Request;
 use std::alloc::Allocator;
 use std::convert::TryFrom;
 
-// Whether an opcode stands at a place.
+/// Whether an opcode stands at a place.
 #[inline(always)]
-fn stands_at(words: &[u32], place: usize, opcode: SreOpcode) -> bool
+pub(super) fn stands_at(words: &[u32], place: usize, opcode: SreOpcode) -> bool
     ensures { result ≡ true → (Opcode words.now place opcode) × (place < length words.now) }
 {
     match word_at(words, place) {
