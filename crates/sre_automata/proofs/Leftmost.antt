@@ -109,11 +109,3 @@ module _ (nfa : Nfa) (re : Re) (hay : List ℕ) (is : Implements nfa re) (bytes 
         forward = is.1;
         inside = l;
       }
-
--- nothing is passed
-pub nothing_passed : (hay : List ℕ) (re : Re) (from : ℕ) → from ≤ length hay → NoneUpTo hay re from from
-nothing_passed hay re from inside = record {
-  after = omega arith;
-  inside = inside;
-  none = λ i j low high. absurd (omega (arith, low, high));
-}

@@ -3,7 +3,7 @@ use Rattle.std.proofs.Common.{ℕ, ◌+◌, ◌-◌, ◌*◌, ◌/◌, ◌^◌, 
 use Rattle.std.proofs.Common.{nat_le}
 use Rattle.std.proofs.Math.Nat.{mul-le-mul_left, mul-le-mul_right}
 use Rattle.std.proofs.lemmas.Bool.Decides.{nat_tests}
-use Rattle.sre_code.specs.TurnsTold.{Held, AreWhole, room_by}
+use Rattle.sre_code.specs.TurnsTold.{Held, room_by}
 
 pub held_same : (x : ℕ) → x < 2 ^ 64 → Held x x
 held_same x lt = record { is = omega arith }
@@ -94,10 +94,3 @@ room_test p f s bits words h e = by (above_or_within (s * 2 * f) (2 ^ 64 - 1)) (
         let further : 2 ^ 40 ≤ room_by p f s = above_second (2 ^ 40) p (s * 2 * f / 64 + 1) (omega arith) q in
         same_test words (room_by p f s) (2 ^ 30) (λ l. absurd (omega (arith, e, far)))
         (λ l. absurd (omega (arith, further)))
-
--- all bits are kept by what is held where they are
-pub whole_test : (f s bits : ℕ) → Held (s * 2 * f) bits → 4096 < s → bits / 64 < 2 ^ 24 → AreWhole f s
-whole_test f s bits h many few = λ _. omega (arith, h.is, few)
-
-pub part_test : (f s bits : ℕ) → Held (s * 2 * f) bits → 4096 < s → 2 ^ 24 ≤ bits / 64 → AreWhole f s → ⊥
-part_test f s bits h many more whole = omega (arith, h.is, more, whole many)

@@ -1,19 +1,17 @@
 -- The slots that are told of a code are those of its tree.
-use Rattle.std.proofs.Common.{ℕ, ◌-◌, ◌^◌, ◌≡◌, ◌<◌, ◌≤◌, ◌⊎◌, ◌*◌, inl, inr, Bool, true, false, List, length, cond}
-use Rattle.std.proofs.Common.{Option, Some, None, IfSome, refl, sym, ap, ◌∙◌, subst, arith}
+use Rattle.std.proofs.Common.{ℕ, ◌-◌, ◌^◌, ◌≡◌, ◌≤◌, ◌*◌, Bool, true, false, List, length, cond}
+use Rattle.std.proofs.Common.{Option, Some, None, IfSome, refl, sym, ap, ◌∙◌, subst}
 use Rattle.std.proofs.lemmas.Bool.{true≢false}
 use Rattle.sre_model.specs.Tree.{Tree}
 use Rattle.sre_model.specs.Grammar.{Reads, WholeItems, Whole, behind_block}
 use Rattle.sre_model.specs.References.{refers}
 use Rattle.sre_model.specs.Regions.{has_forked_region}
-use Rattle.sre_model.specs.MarksSet.{marks_in_regions}
 use Rattle.sre_model.specs.Slots.{most_slots}
 use Rattle.sre_code.specs.PlainItems.{AreTold}
 use Rattle.sre_code.specs.MostSlots.{AreMostSlots, HasTooManySlots, SlotsTold}
 use Rattle.sre_code.specs.TurnsTold.{CountedTold}
 use Rattle.sre_code.specs.declared.code.slots.Passed.{Passed}
 use Rattle.sre_code.specs.declared.code.slots.Regions.TheVariants as regions
-use Rattle.sre_code.specs.declared.code.turns.Counted.{Counted}
 use Rattle.sre_code.proofs.BarredRegions.{barred_forked, never_barred}
 
 -- true, where it is not false
@@ -49,55 +47,11 @@ module _ (ws : List ℕ) (e : ℕ) (at : e ≡ length ws - 1) (t : Tree) (w : Wh
         (λ none.
         not.each t reads (record { unbarred = barred_forked t ∙ none; no_reference = plain; few = few }))
 
-    -- so none sets a mark
-    pub marked_uncounted : (marked : Bool) → (refers t ≡ false → marked ≡ marks_in_regions t) → marked ≡ true
-        → CountedTold t None
-    marked_uncounted marked told some = λ is.
-        true≢false
-        (sym some ∙ told is.no_reference ∙ is.unmarked (forked is.no_reference is.few))
-
-    pub forked_counted : (p : Passed) (marked : Bool) → AreTold regions.All (2 ^ 24) ws 0 e (Some p)
-        → (marked ≡ false → marks_in_regions t ≡ false) → marked ≡ false
-        → CountedTold t (Some (record { slots = p.slots; spots = p.slots * 2; alternatives = p.alternatives }))
-    forked_counted p marked told unmarked none =
-        let are = told.each t reads in
-        let some : has_forked_region t ≡ true = forked are.0.no_reference are.0.few in (
-          record {
-            unmarked = λ f. unmarked none;
-            no_reference = are.0.no_reference;
-            few = are.0.few;
-          },
-          are.2,
-          ap (λ n. n * 2) are.2 ∙ ap (λ b. cond b (most_slots t * 2) (most_slots t)) (sym some),
-          are.3,
-        )
-
   -- where the second tells none the tree is not counted
   pub uncounted : AreTold regions.All (2 ^ 24) ws 0 e None → CountedTold t None
   uncounted told = λ is.
       told.each t reads
       (record { unbarred = never_barred t; no_reference = is.no_reference; few = is.few })
-
-pub slots_told : (n : ℕ) (c : Counted) (t : Tree) → CountedTold t (Some c) → n ≡ c.slots → AreMostSlots n t
-slots_told n c t told same = record {
-  unmarked = told.0.unmarked;
-  no_reference = told.0.no_reference;
-  is = same ∙ told.1;
-  few = omega (arith, same, told.1, told.0.few);
-}
-
-pub no_slots : (t : Tree) → CountedTold t None → HasTooManySlots t
-no_slots t told = record {
-  more = λ unmarked reference.
-      elim (few_or_many (most_slots t) (2 ^ 24)) [
-        | inl few ↦ absurd
-            (told (record { unmarked = unmarked; no_reference = reference; few = few }))
-        | inr many ↦ many
-      ];
-}
-  where
-    few_or_many : (x m : ℕ) → (x ≤ m) ⊎ (m < x)
-    few_or_many x m = grind arith
 
 -- what is told of each tree, by whether a number is
 pub slots_some : (ws items : List ℕ) (r : Option ℕ) → items ≡ behind_block ws

@@ -102,18 +102,6 @@ turns_told ws n counts c r t told by counted =
     (subst (λ m. NumberBy (length ws) (most_slots t) m c.alternatives counts n r) told.2
     (subst (λ s. NumberBy (length ws) s c.spots c.alternatives counts n r) told.1 by))))
 
--- where the tree is not counted there is none
-pub no_turns : (ws : List ℕ) (n : ℕ) (t : Tree) → CountedTold t None → HasNoNumber (length ws) t n
-no_turns ws n t told = record {
-  none = λ a whole kept.
-      absurd
-      (told (record {
-        unmarked = kept.unmarked;
-        no_reference = kept.no_reference;
-        few = kept.slots;
-      }));
-}
-
 -- what is told of each tree, by whether a number is
 pub enough_some : (places n : ℕ) (ws : List ℕ) (r : Option ℕ) → ((t : Tree) → Whole ws t → NumberTold places t n r)
     → IfSome r (λ turns. (t : Tree) → Whole ws t → AreEnoughFor places t n turns)

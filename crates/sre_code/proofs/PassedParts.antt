@@ -1,5 +1,5 @@
 -- What is told of one instruction, by what it is: a loop with its body, a branch, or another one.
-use Rattle.std.proofs.Common.{ℕ, ◌+◌, ◌*◌, ◌/◌, ◌≡◌, ◌<◌, ◌≤◌, ◌⊎◌, inl, inr, ⊎_elim, Bool, true, false, List, Option}
+use Rattle.std.proofs.Common.{ℕ, ◌+◌, ◌*◌, ◌/◌, ◌≡◌, ◌≤◌, ◌⊎◌, inl, inr, ⊎_elim, Bool, List}
 use Rattle.std.proofs.Common.{Some, None, refl, sym, ap, ◌∙◌, subst, arith}
 use Rattle.std.proofs.lemmas.Nat.{le-div}
 use Rattle.std.proofs.Math.Nat.{div-mul-le_self, mul-le-mul_left}
@@ -11,14 +11,13 @@ use Rattle.sre_model.specs.Slots.{loop_slots, most_slots}
 use Rattle.sre_model.specs.Alternatives.{alternatives_of}
 use Rattle.sre_model.specs.Roles.{role}
 use Rattle.sre_model.specs.Grammar.{Word, word, skip, Opcode, Reads, ReadsBranch}
-use Rattle.sre_model.proofs.Words.{same_opcode, word_of}
+use Rattle.sre_model.proofs.Words.{word_of}
 use Rattle.sre_model.proofs.Places.{alternative_long}
 use Rattle.sre_code.specs.Reading.{ReadsTest, NoCode}
 use Rattle.sre_code.specs.Instructions.{own_words, count_at, Behind, NoneBehind, StandsBehind}
 use Rattle.sre_code.specs.PlainItems.{has_barred_region, ArePlain, IsPlain, flat, AreTold, AreCounted, LoopTold}
-use Rattle.sre_code.specs.PlainItems.{BranchTold, OtherTold, PossessiveTold, kind_of, ToldBy, ToldAt}
+use Rattle.sre_code.specs.PlainItems.{OtherTold, ToldAt}
 use Rattle.sre_code.specs.declared.code.slots.Regions.{Regions}
-use Rattle.sre_code.specs.declared.code.slots.Kind.{Kind}
 use Rattle.sre_code.specs.declared.code.slots.Passed.{Passed}
 use Rattle.sre_code.proofs.Scanning.{behind_test, behind_own}
 use Rattle.sre_code.proofs.ScanningLoops.{some_slots}
@@ -56,26 +55,6 @@ module _ (ws : List ℕ) (i least greatest slots : ℕ) (first : least ≡ word 
   same_slots low high l h =
       is ∙ ap (λ n. loop_slots n greatest) (first ∙ word_of ws (i + 2) low l)
       ∙ ap (λ n. loop_slots low n) (second ∙ word_of ws (i + 3) high h)
-
-  -- a possessive loop with more slots than there may be ends the scan
-  pub possessive_stops : (stops : Bool) (most : ℕ) → most < slots → PossessiveTold stops most ws i None
-  possessive_stops stops most more =
-      record { each = λ low high l h. inr (omega (arith, more, same_slots low high l h)) }
-
-  -- the words before its body are passed where no fork ends it
-  pub possessive_passed : (stops : Bool) (most : ℕ) → stops ≡ false → slots ≤ most
-      → PossessiveTold stops most ws i (Some (record { behind = i + 4; slots = slots; alternatives = 0 }))
-  possessive_passed stops most goes few = record {
-    each = λ low high l h.
-        let same = same_slots low high l h in (
-          goes,
-          omega (arith, few, same),
-          ap (λ (n : ℕ). record { behind = i + 4; slots = n; alternatives = 0 }) same,
-        );
-  }
-
-pub possessive_barred : (most : ℕ) (ws : List ℕ) (i : ℕ) → PossessiveTold true most ws i None
-possessive_barred most ws i = record { each = λ low high l h. inl refl }
 
 module _ (q : Regions) (ws : List ℕ) (most i by least greatest slots left : ℕ) (to : by ≡ word ws (i + 1))
     (first : least ≡ word ws (i + 2)) (second : greatest ≡ word ws (i + 3)) (is : slots ≡ loop_slots least greatest)
@@ -115,19 +94,8 @@ module _ (q : Regions) (ws : List ℕ) (most i by least greatest slots left : �
   }
 
 module _ (ws : List ℕ) (i : ℕ) where
-  -- only one opcode is there
-  pub told_at : (q : Regions) (most : ℕ) (code : SreOpcode) (k : Kind) (r : Option Passed) → Opcode ws i code
-      → kind_of (role code) ≡ k → ToldBy k q most ws i r → ToldAt q most ws i r
-  told_at q most code k r there is h = record {
-    by = λ o w.
-        subst (λ z. ToldBy z q most ws i r) (sym is ∙ ap (λ p. kind_of (role p)) (same_opcode ws i code o there w)) h;
-  }
-
   pub none_at : (q : Regions) (most : ℕ) → NoCode opcode_number ws i → ToldAt q most ws i None
   none_at q most none = record { by = λ o w. absurd (none.none o w) }
-
-  pub branch_at : (n : ℕ) → AreCounted ws (i + 1) n → BranchTold ws i (Some (flat (i + 2) n))
-  branch_at n h = record { each = λ ts j w. ap (λ m. Some (flat (i + 2) m)) (h.each ts j w) }
 
   -- what is behind an instruction stands at one place
   pub one_behind : (k c l d : ℕ) → Behind ws i k c → Behind ws i l d → k ≡ l
@@ -154,9 +122,6 @@ pub record CountedTo (ws : List ℕ) (first q count : ℕ) : Type 0 where
       (ts : Trees) (j : ℕ) → ReadsBranch ws first j ts
       → ((word ws q ≡ 0) × (alternatives_of ts ≡ count))
       ⊎ ((us : Trees) × ReadsBranch ws q j us × (alternatives_of ts ≡ count + alternatives_of us))
-
-pub counted_none : (ws : List ℕ) (first : ℕ) → CountedTo ws first first 0
-counted_none ws first = record { few = omega arith; left = λ ts j w. inr (ts, w, omega arith) }
 
 pub counted_more : (ws : List ℕ) (first q count : ℕ) → CountedTo ws first q count → (word ws q ≡ 0 → ⊥)
     → CountedTo ws first (q + word ws q) (count + 1)

@@ -288,9 +288,6 @@ module _ (q : Adding) where
   pub record Onto (ws : List ℕ) (i m : ℕ) : Type 0 where
     pub to : (r : Option ℕ) → Scan (scanner ws) r i m → Scan (scanner ws) r 0 0
 
-  pub added_first : (ws : List ℕ) → Onto ws 0 0
-  added_first ws = record { to = λ r s. s }
-
   pub added_next : (ws : List ℕ) (i m k c n : ℕ) → Onto ws i m → i < length ws - 1 → Adds q.value ws i k c
       → n ≡ q.add m c → Onto ws k n
   added_next ws i m k c n o lt h most =

@@ -35,7 +35,7 @@ use Rattle.sre_patterns.specs.Patterns.{view_of}
 use Rattle.sre_patterns.specs.declared.encoding.Encoding.{Encoding}
 use Rattle.sre_automata.specs.Told.{IsBetween}
 use Rattle.sre_finder.specs.Views.{SeenAs}
-use Rattle.sre_finder.specs.Spans.{match_with, Exactly, FindsSpan, FindsNone, GoesOnBehind}
+use Rattle.sre_finder.specs.Spans.{match_with, Exactly, FindsSpan, GoesOnBehind}
 
 -- a pattern whose matches read so many bytes reads one, where these are some
 pub reads_one : (re : Re) (n : ℕ) → IsMinLen re n → (n ≡ 0 → ⊥) → IsMinLen re 1
@@ -246,13 +246,6 @@ module _ {S : Type 0} {text : Ghosts S} (r : Request S text) (b : Bool) (s : Sho
           );
     },
   )
-
-  pub steps_nowhere : b ≡ false → FindsNone r
-  steps_nowhere is = record {
-    none = λ t whole.
-        let ends = subst (λ c. StepsTo (walk (asked_of r) t) c s (walk (asked_of u) t)) is (walks t whole) in
-        nothing_left (asked_of r) t ends;
-  }
 
 module _ {S : Type 0} {text : Ghosts S} (r : Request S text) (start end : ℕ) (u : Request S text)
     (goes : GoesOnBehind r start end u) (t : Tree) (marks : Marks)

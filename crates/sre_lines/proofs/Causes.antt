@@ -35,9 +35,6 @@ use Rattle.sre_lines.proofs.Words.{IsLeft, all_left, others_left}
 
 -- Digits.
 
-IsDigit : ℕ → Type 0
-IsDigit c = IsInRange 48 57 c
-
 pub digits_model : IsNumeralModel (All (λ c. IsInRange 48 57 c)) (digits_value 10)
 digits_model = numerals_by_value (All (λ c. IsInRange 48 57 c)) (record {
   empty = All-nil (λ c. IsInRange 48 57 c);

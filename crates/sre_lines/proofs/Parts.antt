@@ -1,19 +1,16 @@
 -- Pieces that are written one behind the other: where a write fails, a part of all of them stands there.
 use Rattle.std.proofs.Common.{ℕ, ◌≡◌, ◌∙◌, List, ◌++◌, Option, Some, None, Result, Ok, Err}
-use Rattle.std.proofs.Common.{refl, sym, ap, subst, append_assoc, inl, inr}
+use Rattle.std.proofs.Common.{sym, ap, subst, append_assoc, inl, inr}
 use Rattle.std.specs.Prelude.{OnOk, OnErr, IfOk, Vec, String, string_bytes}
 use Rattle.std.specs.Global.{Global}
 use Rattle.std.specs.Io.KnownBytes.{Appends}
 use Rattle.std.proofs.KnownBytes.{Appends-trans}
 use Rattle.sre_lines.specs.Output.{AppendsPart}
-use Rattle.sre_chars.specs.Tables.{Table, ascii_table}
+use Rattle.sre_chars.specs.Tables.{Table}
 use Rattle.sre_lines.specs.Answers.{fault_text}
-use Rattle.sre_lines.specs.Lines.{lines_of, StopsAt, IsNoCaseAt}
-use Rattle.sre_lines.specs.Program.{Reading, AnswersFile, IsFaultOf, IsEndOf, FileRun, end_of, Tells}
+use Rattle.sre_lines.specs.Program.{Reading, AnswersFile, IsEndOf, FileRun, end_of, Tells}
 use Rattle.sre_lines.specs.Program.{TellsFault, IsTablelessEnd, IsTableFault, IsTableless, IsTable, CallRun}
-use Rattle.std.specs.declared.io.Error.{Error}
 use Rattle.sre_lines.specs.declared.cases.CaseFault.{CaseFault}
-use Rattle.sre_lines.specs.declared.cases.CaseFault.TheVariants.{CannotRead, NotACase}
 use Rattle.sre_lines.specs.declared.cases.Detail.{Detail}
 use Rattle.sre_lines.specs.declared.program.Ending.{Ending}
 use Rattle.sre_lines.specs.declared.program.Ending.TheVariants.{AllAnswered, Told, Untold}
@@ -86,17 +83,6 @@ stopped_file detail table file out out' faults faults' name end fault ending ans
       told_fault (λ fault end. IsEndOf detail file fault end) faults faults' name end fault ending is at line part;
 }
 
--- a file that was not read
-pub unread_file : (detail : Detail) (table : Table) (error : Error) (out out' faults faults' : Option (List ℕ))
-    (name : List ℕ) (fault : CaseFault) (ending : Ending) → end_of ending ≡ Err fault
-    → IsFaultOf error CannotRead fault → out' ≡ out
-    → TellsFault (λ fault end. IsEndOf detail (Err error) fault end) faults faults' name ending
-    → FileRun detail table (Err error) out out' faults faults' name ending
-unread_file detail table error out out' faults faults' name fault ending is of same tells = record {
-  answers = subst (λ r. AnswersFile detail table out out' (Err error) r) (sym is) (of, same);
-  tells = tells;
-}
-
 -- a file that is no table, or memory refused to it
 pub no_table : (detail : Detail) (file : Vec ℕ Global) (old new : Option (List ℕ)) (name end : List ℕ)
     (fault : CaseFault) (ending : Ending) → IsTableFault (Ok file) fault → IsTablelessEnd detail (Ok file) fault end
@@ -128,11 +114,6 @@ pub tableless : (Reads : List ℕ → Reading → Type 0) (call : Call) (name : 
 tableless Reads call name out out' faults faults' ending named same (file, read, runs) =
     inr (record { name = name; named = named; file = file; read = read; written = same; runs = runs })
 
-pub no_name : (Reads : List ℕ → Reading → Type 0) (named : Option (String Global)) → named ≡ None
-    → IsTable Reads named ascii_table
-no_name Reads None is = refl
-no_name Reads (Some name) is = absurd (cc)
-
 pub by_name : (Reads : List ℕ → Reading → Type 0) (named : Option (String Global)) (name : String Global)
     (table : Table) → named ≡ Some name
     → (file : Vec ℕ Global) × Reads (string_bytes name) (Ok file) × (table_text table ≡ file.items)
@@ -146,13 +127,3 @@ by_name Reads (Some other) name table is (file, read, written) =
 pub where_value : {T E : Type 0} (P Q : T → Type 0) (r : Result T E) → ((x : T) → P x → Q x) → IfOk r P → IfOk r Q
 where_value P Q (Ok x) f p = f x p
 where_value P Q (Err e) f p = tt
-
--- the line at which a file stops is no case
-pub no_case_at : (detail : Detail) (table : Table) (old new : Option (List ℕ)) (file : List ℕ) (fault : CaseFault)
-    → StopsAt detail table old new (lines_of file) fault → (n : ℕ) → fault ≡ NotACase n → IsNoCaseAt file n
-no_case_at detail table old new file fault stops n is =
-    let found = stops.no_case n is in record {
-      line = stops.line;
-      at = record { before = stops.before; after = stops.after; split = stops.split; counted = found.0 };
-      is = found.1;
-    }

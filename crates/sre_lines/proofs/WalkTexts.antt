@@ -1,5 +1,5 @@
 -- A walk's text, as it is written: what stands there and what is still to come make the whole.
-use Rattle.std.proofs.Common.{◌≡◌, ◌∙◌, ℕ, List, [], ◌∷◌, ◌++◌, Bool, true, false, refl, sym, ap}
+use Rattle.std.proofs.Common.{◌≡◌, ◌∙◌, ℕ, List, ◌∷◌, ◌++◌, Bool, true, false, refl, sym, ap}
 use Rattle.std.proofs.Common.{append_assoc}
 use Rattle.sre_engine.specs.Tree.{Tree}
 use Rattle.sre_engine.specs.Grammar.{Whole}
@@ -24,11 +24,6 @@ pub record Written (words : List ℕ) (all : Tree → List Match) (before now : 
   pub whole : (t : Tree) → Whole words t → now ++ rest_text first (left t) ≡ before ++ walk_text (all t)
 
 module _ (words : List ℕ) (all : Tree → List Match) (before now : List ℕ) (left : Tree → List Match) where
-  -- nothing is written yet
-  pub none_written : now ≡ before → ((t : Tree) → left t ≡ all t)
-      → Written words all before now true left
-  none_written same each = record { whole = λ t is. rw (same, each t) refl }
-
   -- a span more, whatever marks its match has
   pub one_written : (first : Bool) (start end : ℕ) (after : Tree → List Match) (more : List ℕ)
       → Written words all before now first left
@@ -45,8 +40,3 @@ module _ (words : List ℕ) (all : Tree → List Match) (before now : List ℕ) 
         ∙ ap (λ ms. now ++ rest_text first ms) (sym (next t is).1)
         ∙ written.whole t is;
   }
-
-  -- all are written
-  pub all_written : (first : Bool) → Written words all before now first left → (t : Tree) → Whole words t
-      → left t ≡ [] → now ++ rest_text first [] ≡ before ++ walk_text (all t)
-  all_written first written t is none = ap (λ ms. now ++ rest_text first ms) (sym none) ∙ written.whole t is

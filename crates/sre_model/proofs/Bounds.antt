@@ -225,7 +225,3 @@ module _ (s : Subject) where
     branch-bounded (Only t) p m h = ways-bounded t p m h
     branch-bounded (Or t ts) p m h =
         each-append _ (ways s t p m) (branch_ways s ts p m) (ways-bounded t p m h) (branch-bounded ts p m h)
-
-  -- of a tree's ways none is left out
-  pub within-ways : (t : Tree) (p : ℕ) (m : Marks) → p ≤ s.end → within s p (ways s t p m) ≡ ways s t p m
-  within-ways t p m h = within-all p (ways s t p m) (ways-bounded t p m h)

@@ -14,7 +14,6 @@ pub mod LoopCases
 pub mod PossessiveCases
 pub mod FoundLaws
 pub mod WalkLaws
-pub mod FirstWays
 pub mod FirstCharacters
 pub mod Foldings
 pub mod MarksApart

@@ -1,14 +1,13 @@
 -- The cases of a possessive loop: below the least count, and from it on.
-use Rattle.std.proofs.Common.{◌≡◌, ℕ, zero, suc, ◌+◌, ◌-◌, ◌<◌, ◌≤◌, max, Bool, cond, List, [], ◌∷◌, Option, Some, None}
+use Rattle.std.proofs.Common.{◌≡◌, ℕ, zero, suc, ◌+◌, ◌-◌, ◌<◌, ◌≤◌, max, Bool, cond, List, [], ◌∷◌, Option, Some}
 use Rattle.std.proofs.Common.{refl, sym, ap, ◌∙◌, arith}
-use Rattle.std.specs.List.{flat_map}
 use Rattle.sre_model.specs.Marks.{Marks}
 use Rattle.sre_model.specs.Subject.{Subject}
-use Rattle.sre_model.specs.Ways.{Way, Body, first, here, within, may_repeat, least, possessive_more, possessive_ways}
-use Rattle.sre_model.specs.Loops.{followed, first_of_body, or_here, possessive_from}
+use Rattle.sre_model.specs.Ways.{Way, Body, first, here, within, may_repeat, possessive_more}
+use Rattle.sre_model.specs.Loops.{first_of_body, or_here, possessive_from}
 use Rattle.sre_model.proofs.Each.{each-first, each-cond}
 use Rattle.sre_model.proofs.Bounds.{Between, EachBetween, Bounded, within-each, within-all}
-use Rattle.sre_model.proofs.LoopCases.{none-past, followed-all, by_progress, cond-same, stays}
+use Rattle.sre_model.proofs.LoopCases.{none-past, by_progress, cond-same, stays}
 
 or_here-same : (s : Subject) (p : ℕ) (m : Marks) (f g : Body)
     → ((w : Way) → Between s p w → f w.stop w.marks ≡ g w.stop w.marks) → (ws : List Way) → EachBetween s p ws
@@ -79,51 +78,3 @@ module _ (s : Subject) (low high : ℕ) (body : Body) where
       let owed : low - count ≡ 0 = omega arith in
       let done : max low count ≡ count = omega arith in
       rw (owed, done)
-
-  -- below the least count the loop goes on from the first way of a body, and has none where the body has none
-  pub possessive-below : (count : ℕ) (last : Option ℕ) (p : ℕ) (m : Marks) → count < low
-      → loop count last p m ≡ followed s (first_of_body s body) (loop (count + 1) last) p m
-  possessive-below count last p m h =
-      let owed : low - count ≡ suc (low - (count + 1)) = omega arith in
-      let done : max low count ≡ max low (count + 1) = omega arith in
-      ap (λ c. least s (first_of_body s body) (λ q k. possessive_more s high body (s.end + 1 - q) c last q k)
-      (low - count) p m) done ∙ rw owed
-
-  -- from it on the loop goes on from the first way of a further body, where one may be tried and has a way;
-  -- else it ends here
-  pub possessive-beyond : (count : ℕ) (last : Option ℕ) (p : ℕ) (m : Marks) → low ≤ count
-      → loop count last p m
-      ≡ or_here (loop (count + 1) (Some p)) p m (cond (may_repeat high count last p) (first_of_body s body p m) [])
-  possessive-beyond count last p m h =
-      let fuel : ℕ = s.end + 1 - p in
-      let each : (w : Way) → Between s p w
-      → fuelled fuel (count + 1) (Some p) w.stop w.marks ≡ loop (count + 1) (Some p) w.stop w.marks = λ w l.
-      fuelled-enough fuel (s.end + 1 - w.stop) (count + 1) (Some p) w.stop w.marks (omega arith) (omega arith)
-      ∙ sym (owed-none (count + 1) (Some p) w.stop w.marks (omega arith)) in
-      owed-none count last p m h
-      ∙ fuelled-enough fuel (suc fuel) count last p m (omega arith) (omega arith)
-      ∙ or_here-same s p m (fuelled fuel (count + 1) (Some p)) (loop (count + 1) (Some p)) each (next count last p m)
-      (next-between s body (may_repeat high count last p) p m)
-
-  -- a possessive loop's ways are those after no body
-  pub possessive-ways : (p : ℕ) (m : Marks) → possessive_ways s low high body p m ≡ loop 0 None p m
-  possessive-ways p m =
-      let owed : low - 0 ≡ low = omega arith in
-      let done : max low 0 ≡ low = omega arith in
-      rw (owed, done)
-
-  -- the same two cases over all ways of a body, where these lie between
-  pub possessive-below-all : Bounded s body → (count : ℕ) (last : Option ℕ) (p : ℕ) (m : Marks) → p ≤ s.end
-      → count < low → loop count last p m ≡ flat_map (λ w. loop (count + 1) last w.stop w.marks) (first (body p m))
-  possessive-below-all b count last p m l h =
-      possessive-below count last p m h
-      ∙ followed-all s (first_of_body s body) (loop (count + 1) last) p m (first-bounded s body) l
-      ∙ ap (flat_map (λ w. loop (count + 1) last w.stop w.marks)) (first_of_body-all s body p m b l)
-
-  pub possessive-beyond-all : Bounded s body → (count : ℕ) (last : Option ℕ) (p : ℕ) (m : Marks) → p ≤ s.end
-      → low ≤ count → loop count last p m
-      ≡ or_here (loop (count + 1) (Some p)) p m (cond (may_repeat high count last p) (first (body p m)) [])
-  possessive-beyond-all b count last p m l h =
-      possessive-beyond count last p m h
-      ∙ ap (λ ws. or_here (loop (count + 1) (Some p)) p m (cond (may_repeat high count last p) ws []))
-      (first_of_body-all s body p m b l)

@@ -33,16 +33,10 @@ module _ (V : View) (table : Table) (ws : List ℕ) where
   pub record BranchSoFar (start at : ℕ) (parts : List Re) : Type 0 where
     pub each : (j : ℕ) (ts : Trees) → ReadsBranch ws start j ts → Open at parts j ts ⊎ Closed at parts j ts
 
-  pub branch-begun : (start : ℕ) → BranchSoFar start start []
-  branch-begun start = record { each = λ j ts r. inl (record { rest = ts; reads = r; covers = λ b c. c }) }
-
   pub record BranchRead (i : ℕ) : Type 0 where
     pub end : ℕ
     pub trees : Trees
     pub reads : ReadsBranch ws (i + 1) end trees
-
-  pub branch-read : (i : ℕ) → HasBranch ws i → BranchRead i
-  branch-read i h = record { end = h.end; trees = h.trees; reads = h.reads.1 }
 
   -- the word at an alternative is there
   pub length-there : (at j : ℕ) (ts : Trees) → ReadsBranch ws at j ts → at < length ws

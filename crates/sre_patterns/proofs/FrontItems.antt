@@ -1,5 +1,5 @@
 -- The first items alone: what is read so far tells of where matches start.
-use Rattle.std.proofs.Common.{ℕ, ◌≡◌, ◌<◌, List, [], length, sym, subst}
+use Rattle.std.proofs.Common.{ℕ, ◌≡◌, ◌<◌, List, length, sym, subst}
 use Rattle.regex_hir.specs.Re.{Re, empty, cat}
 use Rattle.sre_chars.specs.Tables.{Table}
 use Rattle.sre_chars.specs.declared.constants.SreOpcode.TheVariants as opcode
@@ -18,9 +18,6 @@ module _ (V : View) (table : Table) (ws : List ℕ) (start end : ℕ) where
 
   pub record FrontSoFar (place : ℕ) (parts : List Re) : Type 0 where
     pub each : (j : ℕ) (t : Tree) → Reads ws start j t → Stops ws j end → FrontLeft place parts j t
-
-  pub front-begun : FrontSoFar start []
-  front-begun = record { each = λ j t r s. record { rest = t; reads = r; covers = λ b c. c } }
 
   pub front-word : (place : ℕ) (parts : List Re) → HasItems ws start end → FrontSoFar place parts → place < end
       → place < length ws

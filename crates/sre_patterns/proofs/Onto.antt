@@ -10,9 +10,6 @@ use Rattle.sre_patterns.specs.Patterns.{cat_onto, alt_onto}
 pub wider-same : (a b : Re) → a ≡ b → IsWider a b
 wider-same a b e hay i j m = subst (λ x. Matches hay x i j) e m
 
-pub wider-then : (a b c : Re) → IsWider a b → IsWider b c → IsWider a c
-wider-then a b c f g hay i j m = g hay i j (f hay i j m)
-
 pub cat-wider : (all : List Re) (a b : Re) → IsWider a b → IsWider (cat_onto all a) (cat_onto all b)
 cat-wider [] a b w hay i j m = w hay i j m
 cat-wider (x ∷ xs) a b w hay i j m = (m.0, m.1, cat-wider xs a b w hay m.0 j m.2)

@@ -35,9 +35,6 @@ module _ (V : View) (table : Table) (ws : List ℕ) where
     pub each : (j : ℕ) (ts : Trees) → ReadsBranch ws start j ts
         → OpenInOrder at parts j ts ⊎ ClosedInOrder at parts j ts
 
-  pub alternatives-begun : (start : ℕ) → BranchInOrder start start []
-  alternatives-begun start = record { each = λ j ts r. inl (record { rest = ts; reads = r; tries = λ b c. c }) }
-
   pub count-there : (i at : ℕ) (parts : List Re) → HasBranch ws i → BranchInOrder (i + 1) at parts → at < length ws
   count-there i at parts h so = go (so.each h.end h.trees h.reads.1)
     where

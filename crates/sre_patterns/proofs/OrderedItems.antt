@@ -9,14 +9,14 @@ use Rattle.sre_chars.specs.Tables.{Table}
 use Rattle.sre_chars.specs.declared.constants.SreOpcode.TheVariants as opcode
 use Rattle.sre_chars.specs.declared.constants.SreAtCode.{SreAtCode}
 use Rattle.sre_chars.specs.Numbers.{at_number}
-use Rattle.sre_model.specs.Tree.{Tree, Empty, Then, At, Loop, Run, Order, Greedy, Lazy, Test}
+use Rattle.sre_model.specs.Tree.{Tree, Empty, Then, At, Loop, Run, Order, Test}
 use Rattle.sre_model.specs.Roles.{ToFail, ToCheckPosition, ToMark, ToRun, ToRepeat}
 use Rattle.sre_model.specs.Grammar.{Word, skip, Opcode, until_opcode, Reads, run_opcode}
 use Rattle.sre_model.specs.Standing.{HasTest, TestStands}
 use Rattle.sre_model.specs.Ways.{unlimited}
 use Rattle.sre_model.proofs.Families.{role_here, run_role, test_here, is_fail, is_one, is_at, is_mark, is_loop}
 use Rattle.sre_model.proofs.Families.{is_run}
-use Rattle.sre_model.proofs.Words.{same_word, same_at, opcode_within, word_within}
+use Rattle.sre_model.proofs.Words.{same_word, same_at}
 use Rattle.sre_model.proofs.Places.{reads_within, operands_past}
 use Rattle.sre_shape.specs.Covers.{View}
 use Rattle.sre_shape.specs.Exact.{ExactTree, ExactItem, Rises, AreKept}
@@ -42,9 +42,6 @@ module _ (V : View) (table : Table) (ws : List ℕ) (start end : ℕ) where
 
   pub record OrderedSoFar (place : ℕ) (parts : List Re) : Type 0 where
     pub each : (t : Tree) → Reads ws start end t → LeftInOrder place parts t
-
-  pub begun-in-order : OrderedSoFar start []
-  begun-in-order = record { each = λ t r. record { rest = t; reads = r; tries = λ b c. c } }
 
   -- where the end is not, an item is
   pub next-in-order : (place : ℕ) (parts : List Re) → HasTree ws start end → OrderedSoFar place parts → place < end
@@ -96,47 +93,10 @@ pub record CountedRead (ws : List ℕ) (i : ℕ) : Type 0 where
   pub counts : i + 3 < length ws
   pub order : (o : Order) × Opcode ws (skip ws (i + 1)) (until_opcode o)
 
-pub counted-read : (ws : List ℕ) (i : ℕ) → HasCounted ws i → CountedRead ws i
-counted-read ws i h =
-    let o = h.reads.1 in
-    record {
-      items = (h.body, o.3);
-      until = opcode_within ws (skip ws (i + 1)) (until_opcode h.order) o.4;
-      counts = word_within ws (i + 3) h.high o.1;
-      order = (h.order, o.4);
-    }
-
-pub has-counted : (ws : List ℕ) (i : ℕ) (h : HasItem ws i) → Opcode ws i opcode.REPEAT → HasCounted ws i
-has-counted ws i h w =
-    let f = is_loop ws i h.end h.item (role_here ws i opcode.REPEAT ToRepeat w refl) h.reads in
-    record { end = h.end; order = f.0; low = f.1; high = f.2; body = f.3; reads = f.5 }
-
-pub has-giving : (ws : List ℕ) (i : ℕ) (h : HasItem ws i) (o : Order) → Opcode ws i (run_opcode (kind_of o))
-    → HasGiving ws i (is_greedy o)
-has-giving ws i h o w =
-    let f =
-    is_run ws i h.end h.item (role_here ws i (run_opcode (kind_of o)) (ToRun (kind_of o)) w (run_role (kind_of o)))
-    h.reads in
-    record { end = h.end; order = o; is = refl; low = f.0; high = f.1; test = f.2; reads = f.4 }
-
 -- what stands in a run
 pub record GivingRead (ws : List ℕ) (i : ℕ) : Type 0 where
   pub test : HasTest ws (i + 4)
   pub counts : i + 3 < length ws
-
-pub giving-read : (ws : List ℕ) (i : ℕ) (greedy : Bool) → HasGiving ws i greedy → GivingRead ws i
-giving-read ws i greedy h =
-    let o = h.reads.1 in
-    record {
-      test = record { end = h.end - 1; test = h.test; stands = record { code = o.4; operands = o.5 } };
-      counts = word_within ws (i + 3) h.high o.2;
-    }
-
--- which order a loop's last word tells
-pub greedy-until : (ws : List ℕ) (i v : ℕ) (o : Order) → Word ws i v → Opcode ws i (until_opcode o)
-    → not (nat_eq v 19) ≡ is_greedy o
-greedy-until ws i v Greedy w p = ap (λ n. not (nat_eq n 19)) (same_word ws i v 18 w p)
-greedy-until ws i v Lazy w p = ap (λ n. not (nat_eq n 19)) (same_word ws i v 19 w p)
 
 -- a pattern whose matches read so many bytes reads one, where these are some
 pub reads-some : (re : Re) (n : ℕ) → IsMinLen re n → not (nat_eq n 0) ≡ true → IsMinLen re 1

@@ -1,19 +1,17 @@
 -- From which character on categories, sets and tests answer alike.
-use Rattle.std.proofs.Common.{◌≡◌, ◌⊎◌, ℕ, ◌+◌, ◌-◌, ◌<◌, ◌≤◌, max, Bool, true, false, not, ◌&&◌, ◌||◌}
-use Rattle.std.proofs.Common.{cond, nat_eq, nat_lt, List, length, slice_range, refl, sym, ap, ap₂, ◌∙◌, subst, arith}
+use Rattle.std.proofs.Common.{◌≡◌, ◌⊎◌, ℕ, ◌+◌, ◌-◌, ◌<◌, ◌≤◌, max, Bool, true, false, not, ◌&&◌}
+use Rattle.std.proofs.Common.{cond, nat_eq, nat_lt, List, slice_range, refl, sym, ap, ap₂, ◌∙◌, arith}
 use Rattle.std.proofs.lemmas.Bool.Decides.{nat_tests}
-use Rattle.sre_chars.specs.Categories.{category, is_linebreak}
+use Rattle.sre_chars.specs.Categories.{category}
 use Rattle.sre_chars.specs.Numbers.{category_number}
-use Rattle.sre_chars.specs.Tables.{Table, ascii_table, is_between, lower_ascii, upper_ascii}
+use Rattle.sre_chars.specs.Tables.{Table, ascii_table, is_between}
 use Rattle.sre_chars.specs.declared.constants.SreCatCode.{SreCatCode}
 use Rattle.sre_chars.specs.declared.constants.SreOpcode.{SreOpcode}
 use Rattle.sre_chars.specs.declared.constants.SreOpcode.TheVariants as opcode
-use Rattle.sre_model.specs.Tree.{SetItem, Charset, Test, Any, AnyAll, InCategory, Literal, NotLiteral, In, Plain, Ascii}
-use Rattle.sre_model.specs.Tree.{Locale}
+use Rattle.sre_model.specs.Tree.{SetItem, Charset, Test}
 use Rattle.sre_model.specs.Characters.{item_holds, bit_of, verdict, holds}
-use Rattle.sre_model.specs.Grammar.{Word, word, Opcode, test_opcode, TestOperands}
-use Rattle.sre_model.specs.Standing.{HasCategory, HasSet, HasTest, SetStands, TestStands, ItemSays}
-use Rattle.sre_model.proofs.Words.{same_opcode, same_word, same_category, word_within}
+use Rattle.sre_model.specs.Grammar.{Word, word, Opcode}
+use Rattle.sre_model.specs.Standing.{HasSet, SetStands, TestStands, ItemSays}
 use Rattle.std.proofs.lemmas.Option.{slice_get-get_or}
 use Rattle.sre_model.proofs.Members.{range_room, single_says, range_says, category_says, charset_says, negated}
 use Rattle.sre_model.proofs.Members.{nothing_left}
@@ -23,9 +21,6 @@ use Rattle.sre_patterns.specs.Settling.{SettledFrom, SettledSet, SettlesBehind}
 -- a test that is false from a number on answers alike from there, and so does its opposite
 none-past : (from : ℕ) (test : ℕ → Bool) → ((c : ℕ) → from ≤ c → test c ≡ false) → SettledFrom from test
 none-past from test f c l = f c l ∙ sym (f from (omega arith))
-
-turned-past : (from : ℕ) (test : ℕ → Bool) → SettledFrom from test → SettledFrom from (λ c. not (test c))
-turned-past from test f c l = ap not (f c l)
 
 -- an item that answers alike lets the rest of its set decide
 pub item-settles : (ws : List ℕ) (i next from : ℕ) (h : Table → ℕ → Bool)
@@ -125,13 +120,6 @@ pub settled-ended : (ws : List ℕ) (start place from : ℕ) → LeftSettled ws 
     → Opcode ws place opcode.FAILURE → SettledSet ws start from
 settled-ended ws start place from left w = left.each from (omega arith) (failure-settles ws place from w)
 
--- past ASCII its case is none
-lower-past : (c : ℕ) → 128 ≤ c → lower_ascii c ≡ c
-lower-past c l = grind (arith, nat_tests)
-
-upper-past : (c : ℕ) → 128 ≤ c → upper_ascii c ≡ c
-upper-past c l = grind (arith, nat_tests)
-
 -- the opcodes of literals and of sets that fold no case but that of ASCII
 abbrev pub IsLiteralOpcode : SreOpcode → Type 0
 IsLiteralOpcode o =
@@ -143,95 +131,9 @@ IsLiteralOpcode o =
 abbrev pub IsSetOpcode : SreOpcode → Type 0
 IsSetOpcode o = (o ≡ opcode.IN) ⊎ ((o ≡ opcode.IN_IGNORE) ⊎ (o ≡ opcode.IN_LOC_IGNORE))
 
--- what stands behind the opcode
-pub literal-there : (ws : List ℕ) (i : ℕ) (o : SreOpcode) → Opcode ws i o → IsLiteralOpcode o → HasTest ws i
-    → i + 1 < length ws
-literal-there ws i o w is h = go h.test is (same_opcode ws i o (test_opcode h.test) w h.stands.code) h.stands.operands
-  where
-    go : (u : Test) → IsLiteralOpcode o → o ≡ test_opcode u → TestOperands ws i h.end u → i + 1 < length ws
-    go (Literal f n) x y r = word_within ws (i + 1) n r.0
-    go (NotLiteral f n) x y r = word_within ws (i + 1) n r.0
-    go u x y r = absurd (grind arith)
-
-pub set-there : (ws : List ℕ) (i : ℕ) (o : SreOpcode) → Opcode ws i o → IsSetOpcode o → HasTest ws i
-    → HasSet ws (i + 2)
-set-there ws i o w is h = go h.test is (same_opcode ws i o (test_opcode h.test) w h.stands.code) h.stands.operands
-  where
-    go : (u : Test) → IsSetOpcode o → o ≡ test_opcode u → TestOperands ws i h.end u → HasSet ws (i + 2)
-    go (In f set) x y r = record { end = h.end - 1; set = set; stands = record { items = r.1; ends = r.2 } }
-    go u x y r = absurd (grind arith)
-
-pub category-there : (ws : List ℕ) (i : ℕ) → Opcode ws i opcode.CATEGORY → HasTest ws i → HasCategory ws (i + 1)
-category-there ws i w h =
-    go h.test (same_opcode ws i opcode.CATEGORY (test_opcode h.test) w h.stands.code) h.stands.operands
-  where
-    go : (u : Test) → opcode.CATEGORY ≡ test_opcode u → TestOperands ws i h.end u → HasCategory ws (i + 1)
-    go (InCategory k) y r = record { code = k; there = r.0 }
-    go u y r = absurd (grind arith)
-
 module _ (ws : List ℕ) (i j : ℕ) (table : Table) (t : Test) (s : TestStands ws i j t) where
-  pub any-settled : Opcode ws i opcode.ANY → SettledFrom 11 (holds table t)
-  any-settled w = go t (same_opcode ws i opcode.ANY (test_opcode t) w s.code)
-    where
-      go : (u : Test) → opcode.ANY ≡ test_opcode u → SettledFrom 11 (holds table u)
-      go Any y = turned-past 11 is_linebreak (none-past 11 is_linebreak (λ c l. grind (arith, nat_tests)))
-      go u y = absurd (grind arith)
-
-  pub any_all-settled : Opcode ws i opcode.ANY_ALL → SettledFrom 0 (holds table t)
-  any_all-settled w = go t (same_opcode ws i opcode.ANY_ALL (test_opcode t) w s.code)
-    where
-      go : (u : Test) → opcode.ANY_ALL ≡ test_opcode u → SettledFrom 0 (holds table u)
-      go AnyAll y = λ c l. refl
-      go u y = absurd (grind arith)
-
-  pub category-settled : (from : ℕ) (k : SreCatCode) → Opcode ws i opcode.CATEGORY
-      → Word ws (i + 1) (category_number k) → SettledFrom from (category table (category_number k))
-      → SettledFrom from (holds table t)
-  category-settled from k w o f =
-      go t (same_opcode ws i opcode.CATEGORY (test_opcode t) w s.code) s.operands
-    where
-      go : (u : Test) → opcode.CATEGORY ≡ test_opcode u → TestOperands ws i j u → SettledFrom from (holds table u)
-      go (InCategory n) y r =
-          let same : k ≡ n = same_category ws (i + 1) k n o r.0 in
-          subst (λ z. SettledFrom from (category table (category_number z))) same f
-      go u y r = absurd (grind arith)
-
   module _ (from v : ℕ) (o : SreOpcode) (w : Opcode ws i o) (value : Word ws (i + 1) v) (e : from ≡ max (v + 1) 128)
     where
-      plain-none : (n : ℕ) → Word ws (i + 1) n → (c : ℕ) → from ≤ c → nat_eq n c ≡ false
-      plain-none n r c l =
-          let same : n ≡ v = same_word ws (i + 1) n v r value in
-          let less : n < c = omega (arith, same, e, l) in
-          grind (arith, nat_tests)
-
-      ascii-none : (n : ℕ) → Word ws (i + 1) n → (c : ℕ) → from ≤ c → nat_eq n (lower_ascii c) ≡ false
-      ascii-none n r c l = ap (nat_eq n) (lower-past c (omega (arith, e, l))) ∙ plain-none n r c l
-
-      locale-none : (n : ℕ) → Word ws (i + 1) n → (c : ℕ) → from ≤ c
-          → (nat_eq n c || nat_eq n (lower_ascii c) || nat_eq n (upper_ascii c)) ≡ false
-      locale-none n r c l =
-          let upper : nat_eq n (upper_ascii c) ≡ false =
-          ap (nat_eq n) (upper-past c (omega (arith, e, l))) ∙ plain-none n r c l in
-          rw (plain-none n r c l, ascii-none n r c l, upper) refl
-
-      pub literal-settled : IsLiteralOpcode o → SettledFrom from (holds table t)
-      literal-settled is = go t is (same_opcode ws i o (test_opcode t) w s.code) s.operands
-        where
-          go : (u : Test) → IsLiteralOpcode o → o ≡ test_opcode u → TestOperands ws i j u
-              → SettledFrom from (holds table u)
-          go (Literal Plain n) x y r = none-past from (holds table (Literal Plain n)) (plain-none n r.0)
-          go (Literal Ascii n) x y r = none-past from (holds table (Literal Ascii n)) (ascii-none n r.0)
-          go (Literal Locale n) x y r = none-past from (holds table (Literal Locale n)) (locale-none n r.0)
-          go (NotLiteral Plain n) x y r =
-              turned-past from (holds table (Literal Plain n))
-              (none-past from (holds table (Literal Plain n)) (plain-none n r.0))
-          go (NotLiteral Ascii n) x y r =
-              turned-past from (holds table (Literal Ascii n))
-              (none-past from (holds table (Literal Ascii n)) (ascii-none n r.0))
-          go (NotLiteral Locale n) x y r =
-              turned-past from (holds table (Literal Locale n))
-              (none-past from (holds table (Literal Locale n)) (locale-none n r.0))
-          go u x y r = absurd (grind arith)
 
   module _ (from b : ℕ) (o : SreOpcode) (w : Opcode ws i o) (set : SettledSet ws (i + 2) b) (e : from ≡ max b 128)
     where
@@ -239,22 +141,3 @@ module _ (ws : List ℕ) (i j : ℕ) (table : Table) (t : Test) (s : TestStands 
       member xs r c l =
           set.each table (j - 1) xs r true c (omega (arith, e, l))
           ∙ sym (set.each table (j - 1) xs r true from (omega (arith, e)))
-
-      folded-member : (f : ℕ → ℕ) → ((c : ℕ) → 128 ≤ c → f c ≡ c) → (xs : List SetItem)
-          → SetStands ws (i + 2) (j - 1) xs → SettledFrom from (λ c. verdict table true xs (f c))
-      folded-member f stays xs r c l =
-          ap (verdict table true xs) (stays c (omega (arith, e, l)))
-          ∙ member xs r c l
-          ∙ sym (ap (verdict table true xs) (stays from (omega (arith, e))))
-
-      pub set-settled : IsSetOpcode o → SettledFrom from (holds table t)
-      set-settled is = go t is (same_opcode ws i o (test_opcode t) w s.code) s.operands
-        where
-          go : (u : Test) → IsSetOpcode o → o ≡ test_opcode u → TestOperands ws i j u
-              → SettledFrom from (holds table u)
-          go (In Plain xs) x y r = member xs (record { items = r.1; ends = r.2 })
-          go (In Ascii xs) x y r = folded-member lower_ascii lower-past xs (record { items = r.1; ends = r.2 })
-          go (In Locale xs) x y r = λ c l.
-              ap₂ (λ p q. p || q) (folded-member lower_ascii lower-past xs (record { items = r.1; ends = r.2 }) c l)
-              (folded-member upper_ascii upper-past xs (record { items = r.1; ends = r.2 }) c l)
-          go u x y r = absurd (grind arith)

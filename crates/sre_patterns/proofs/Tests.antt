@@ -1,26 +1,26 @@
 -- Classes of what a test takes.
 use Rattle.std.proofs.Common.{◌≡◌, ℕ, ◌+◌, ◌≤◌, Bool, true, false, ◌||◌, List, [], ◌∷◌, ◌++◌, refl, sym, ap, ◌∙◌}
-use Rattle.std.proofs.Common.{⊎_elim, arith, true≢false, length, drop, get_or, suc, ◌<◌, subst}
+use Rattle.std.proofs.Common.{⊎_elim, arith, true≢false, drop, get_or, suc}
 use Rattle.std.proofs.lemmas.Bool.{cases_lt}
 use Rattle.std.proofs.lemmas.Bool.Decides.{nat_tests}
 use Rattle.std.specs.Char.{IsScalar}
 use Rattle.std.proofs.Math.Seq.{drop-cons}
 use Rattle.std.proofs.lemmas.Option.{get_or_from_slice_get, slice_get_within}
 use Rattle.regex_class.specs.Ranges.{in_range, in_ranges, HasExactly}
-use Rattle.regex_hir.specs.Re.{byte_in, char_in, Re, literal}
+use Rattle.regex_hir.specs.Re.{byte_in, char_in, literal}
 use Rattle.regex_hir.proofs.TextLemmas.{has_bytes_at_from}
 use Rattle.sre_chars.specs.Tables.{Table}
 use Rattle.sre_chars.specs.declared.constants.SreOpcode.TheVariants as opcode
 use Rattle.sre_model.specs.Grammar.{Word, Opcode, test_opcode, TestOperands}
-use Rattle.sre_model.specs.Standing.{HasTest, TestStands}
+use Rattle.sre_model.specs.Standing.{TestStands}
 use Rattle.sre_model.specs.Subject.{char_at}
 use Rattle.sre_model.specs.Tree.{Test, Literal, Plain}
 use Rattle.sre_model.specs.Characters.{holds}
-use Rattle.sre_model.proofs.Words.{same_word, same_opcode, word_within}
-use Rattle.sre_shape.specs.Covers.{View, CoversTest, InBytes, InUtf8}
+use Rattle.sre_model.proofs.Words.{same_word, same_opcode}
+use Rattle.sre_shape.specs.Covers.{CoversTest, InBytes, InUtf8}
 use Rattle.sre_shape.proofs.OverBytes.{bytes-take}
 use Rattle.sre_shape.proofs.OverUtf8.{utf8-take}
-use Rattle.sre_patterns.specs.Patterns.{CoversTestAt, HasBelow}
+use Rattle.sre_patterns.specs.Patterns.{HasBelow}
 
 pub scalar-most : (c : ℕ) → IsScalar c → c ≤ 1114111
 scalar-most c s = grind (arith, nat_tests)
@@ -72,19 +72,6 @@ plain-literal ws i j v t o w s = go t (same_opcode ws i opcode.LITERAL (test_opc
     go : (u : Test) → opcode.LITERAL ≡ test_opcode u → TestOperands ws i j u → u ≡ Literal Plain v
     go (Literal Plain n) e r = ap (λ z. Literal Plain z) (same_word ws (i + 1) n v r.0 w)
     go u e r = absurd (grind arith)
-
-pub literal-value : (ws : List ℕ) (i : ℕ) → Opcode ws i opcode.LITERAL → HasTest ws i → i + 1 < length ws
-literal-value ws i o h =
-    go h.test (same_opcode ws i opcode.LITERAL (test_opcode h.test) o h.stands.code) h.stands.operands
-  where
-    go : (u : Test) → opcode.LITERAL ≡ test_opcode u → TestOperands ws i h.end u → i + 1 < length ws
-    go (Literal f n) e r = word_within ws (i + 1) n r.0
-    go u e r = absurd (grind arith)
-
-pub literal-at : (V : View) (table : Table) (ws : List ℕ) (i v : ℕ) (re : Re) → Opcode ws i opcode.LITERAL
-    → Word ws (i + 1) v
-    → CoversTest V table re (Literal Plain v) → CoversTestAt V table ws i re
-literal-at V table ws i v re o w c j t s = subst (CoversTest V table re) (sym (plain-literal ws i j v t o w s)) c
 
 -- a byte stands where its character does
 pub bytes-literal : (bound : ℕ) (table : Table) (v : ℕ)

@@ -1,7 +1,6 @@
 -- What bounds leave of a walk.
-use Rattle.std.proofs.Common.{◌≡◌, ◌<◌, ◌+◌, ◌-◌, ℕ, zero, suc, List, [], ◌∷◌, Bool, true, false, take, Option}
+use Rattle.std.proofs.Common.{◌≡◌, ◌<◌, ◌+◌, ◌-◌, ℕ, zero, suc, List, [], ◌∷◌, Bool, false, take, Option}
 use Rattle.std.proofs.Common.{Some, None, refl, sym, ap, ◌∙◌, subst, arith, cond, inl, inr}
-use Rattle.std.proofs.lemmas.Bool.{eqb-true}
 use Rattle.sre_chars.specs.declared.string.StrDrive.{Ghosts}
 use Rattle.sre_engine.specs.Tree.{Tree}
 use Rattle.sre_engine.specs.Grammar.{Whole}
@@ -18,7 +17,7 @@ use Rattle.sre_engine.specs.declared.engine.search_iter.SearchIter.{SearchIter}
 use Rattle.sre_recipes.specs.declared.bounds.Bounds.{Bounds}
 use Rattle.sre_recipes.specs.Bounded.{first_of, AreLeft}
 use Rattle.sre_recipes.proofs.Steps.{walk_step}
-use Rattle.sre_recipes.specs.Limits.{is_spent, one_less, Goes, Ends, Takes, Stops, OutlastRest}
+use Rattle.sre_recipes.specs.Limits.{is_spent, one_less, Goes, Takes, Stops, OutlastRest}
 
 -- all turns are left of themselves
 pub left_all : (turns : Option ℕ) → AreLeft turns turns
@@ -31,11 +30,6 @@ left_on None between left first then = subst (λ (turns : Option ℕ). AreLeft t
 left_on (Some g) None left first then = absurd first
 left_on (Some g) (Some b) None first then = then
 left_on (Some g) (Some b) (Some l) first then = omega (arith, first, then)
-
--- where no match is wanted any more, none is left
-pub spent_none : (most : Option ℕ) (ms : List Match) → is_spent most ≡ true → first_of most ms ≡ []
-spent_none None ms e = absurd (cc)
-spent_none (Some n) ms e = ap (λ (k : ℕ). take k ms) (eqb-true n 0 e)
 
 -- else one is taken, and one less is wanted
 pub one_taken : (most : Option ℕ) (m : Match) (ms : List Match) → is_spent most ≡ false
@@ -89,26 +83,6 @@ gives_falls it next gives =
     let after : most_items next ≡ most_matches (asked_of (request_of next)) + 1 =
     ap (λ (b : Bool). cond b 0 (most_matches (asked_of (request_of next)) + 1)) gives.after in
     omega (arith, before, after, fewer)
-
--- a walk is followed no further where no match is wanted
-pub stops_spent : {S A : Type 0} {text : Ghosts S} (it : SearchIter S A text) (bounds : Bounds)
-    → is_spent bounds.most ≡ true → bounds.used_up ≡ false → Stops it bounds bounds
-stops_spent it bounds spent going = record {
-  none = λ _ t _. spent_none bounds.most (left_of it t) spent;
-  used = λ used. absurd (cc);
-  turns = left_all bounds.turns;
-  lasts = λ _. going;
-}
-
--- nor where a step ends it
-pub stops_ended : {S A : Type 0} {text : Ghosts S} (it : SearchIter S A text) (before after : Bounds)
-    → Ends it before after → Stops it before after
-stops_ended it before after ends = record {
-  none = λ going t tree. ap (first_of before.most) ((ends.over going).none t tree) ∙ none_first before.most;
-  used = ends.used;
-  turns = ends.turns;
-  lasts = ends.lasts;
-}
 
 -- and a match that comes is taken
 pub takes_one : {S A : Type 0} {text : Ghosts S} (it next : SearchIter S A text) (before between after : Bounds)

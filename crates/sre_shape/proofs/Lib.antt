@@ -2,7 +2,6 @@ pub mod Times
 pub mod Journeys
 pub mod RunsAlong
 pub mod Matched
-pub mod Skipped
 pub mod OverBytes
 pub mod Composed
 pub mod OverUtf8

@@ -6,8 +6,7 @@ use Rattle.std.proofs.lemmas.Bool.{and_parts}
 use Rattle.std.proofs.lemmas.Bool.Decides.{nat_tests}
 use Rattle.std.proofs.lemmas.List.{get_or-take, length-take-le, take-take, append_assoc}
 use Rattle.std.proofs.lemmas.Str.{encodes-append, scalars-chars, chars_from_encodes, length-encode, IsUtf8-take}
-use Rattle.std.proofs.lemmas.Str.{chars-IsAscii}
-use Rattle.std.specs.Str.{chars, IsUtf8, IsAscii}
+use Rattle.std.specs.Str.{chars, IsUtf8}
 use Rattle.std.specs.Char.{IsScalar, len_utf8, encode_utf8}
 use lib.Utf8.{scalars, scalar, encodes, encode}
 use Rattle.regex_class.specs.Ranges.{in_ranges}
@@ -20,8 +19,7 @@ use Rattle.sre_chars.proofs.TextPlaces.{take_offset, drop_offset, offset_boundar
 use Rattle.sre_model.specs.Tree.{Test, Plain, Literal}
 use Rattle.sre_model.specs.Characters.{holds}
 use Rattle.sre_model.specs.Subject.{Subject, char_at}
-use Rattle.sre_shape.specs.Covers.{InBytes, InUtf8, CoversTest, place, read_bytes, read_utf8}
-use Rattle.sre_shape.proofs.OverBytes.{bytes-seen}
+use Rattle.sre_shape.specs.Covers.{InUtf8, CoversTest, read_utf8}
 
 scalar-at : (cs : List ℕ) (p : ℕ) → scalars cs ≡ true → p < length cs → scalar (get_or cs p 0) ≡ true
 scalar-at [] p s l = absurd (omega arith)
@@ -82,14 +80,6 @@ utf8-seen bs s u same fits =
       next = λ p inside.
           offset-next bs p (omega arith) ∙ ap (λ l. offset_of bs p + len_utf8 (get_or l p 0)) (sym same);
     }
-
--- a text of ASCII characters is one of bytes
-pub ascii-seen : (bs : List ℕ) (s : Subject) → IsAscii bs → s.text ≡ chars bs → s.end ≤ length (chars bs)
-    → InBytes 128 s (read_bytes s) place
-ascii-seen bs s a same fits =
-    let is : s.text ≡ bs = same ∙ chars-IsAscii bs a in
-    bytes-seen 128 s (subst (λ l. s.end ≤ length l) (sym same) fits)
-    (λ p inside. subst (λ l. get_or l p 0 < 128) (sym is) (a p))
 
 -- any class that has each character that passes
 pub utf8-take : (table : Table) (ranges : List (ℕ × ℕ)) (t : Test)
