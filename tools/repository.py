@@ -1,0 +1,75 @@
+"""The repository as its tools see it: where it is, its crates, and the kit that checks them."""
+import os
+import subprocess
+
+ROOT = os.path.dirname(os.path.dirname(os.path.realpath(__file__)))
+# The parts of a crate's folder that are code, specs and proofs.
+PARTS = ("src", "specs", "proofs")
+
+
+def read(path):
+    with open(path, encoding="utf-8") as file:
+        return file.read()
+
+
+def kit():
+    """The toolchain's folder."""
+    said = subprocess.run(["rt", "doc"], capture_output=True, text=True, check=True)
+    return os.path.dirname(said.stdout.strip())
+
+
+class Crate:
+    """A crate of the repository, and those of the repository and of the kit that it lists."""
+
+    def __init__(self, row, known):
+        name, self.is_static, listed = row
+        self.name, self.folder = name, f"{ROOT}/crates/{name}"
+        self.own = [known[it] for it in listed if it in known]
+        self.of_kit = ["std", *(it for it in listed if it not in known)]
+        self.is_program = os.path.isfile(f"{self.folder}/src/main.rt")
+
+    def answers(self, body):
+        """The answers of a body's function, if it has any."""
+        path = f"{self.folder}/proofs/{body.proof()}/Answers.antt"
+        return read(path) if os.path.isfile(path) else ""
+
+    def below(self):
+        found = {}
+        for crate in self.own:
+            found.update({it.name: it for it in [*crate.below(), crate]})
+        return list(found.values())
+
+    def words(self, kit, rlibs):
+        """What names the crate and its libraries to `rattle check`."""
+        words = ["--crate-name", self.name, "src/main.rt" if self.is_program else "src/lib.rt"]
+        for name in self.of_kit:
+            words += ["--extern", f"{name}={kit}/rlibs/{name}.rlib"]
+        words += ["-L", f"dependency={kit}/rlibs"]
+        for crate in self.own:
+            words += ["--extern", f"{crate.name}={rlibs(crate)}/{crate.name}.rlib"]
+        for crate in self.below():
+            words += ["-L", f"dependency={rlibs(crate)}"]
+        words += ["--crate-type", "staticlib"] if self.is_static else []
+        words += ["--antt-project", f"{kit}/rattle/logic/antt-project.json"]
+        return [*words, "--logic-built", f"{kit}/logic_built", "--jobs", "1"]
+
+
+def row_of(line):
+    """What a line of crates.txt says: a crate's name, whether it is a static library, and what it lists. Another line
+    has no name."""
+    said, colon, listed = line.partition("#")[0].partition(":")
+    name, *kind = said.split() if colon else [""]
+    return name, kind == ["staticlib"], listed.split()
+
+
+def rows():
+    """The lines of the repository's crates.txt that name a crate, lowest first."""
+    return [it for it in map(row_of, read(f"{ROOT}/crates.txt").split("\n")) if it[0]]
+
+
+def crates():
+    """The repository's crates by name, lowest first."""
+    known = {}
+    for row in rows():
+        known[row[0]] = Crate(row, known)
+    return known
