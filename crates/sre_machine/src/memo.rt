@@ -46,6 +46,7 @@ const TURNS_EACH: usize = 32;
 
 // How many bodies that end are counted at most, and how many of them a failure inside of regions takes off.
 const MOST_HOPE: usize = 16;
+
 const HOPE_LOST: usize = 4;
 
 // How many turns a search goes on without failures, if it is limited.

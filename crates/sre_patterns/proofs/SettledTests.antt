@@ -1,17 +1,16 @@
 -- From which character on categories, sets and tests answer alike.
-use Rattle.std.proofs.Common.{◌≡◌, ◌⊎◌, ℕ, ◌+◌, ◌-◌, ◌<◌, ◌≤◌, max, Bool, true, false, not, ◌&&◌}
+use Rattle.std.proofs.Common.{◌≡◌, ℕ, ◌+◌, ◌-◌, ◌<◌, ◌≤◌, max, Bool, false, not, ◌&&◌}
 use Rattle.std.proofs.Common.{cond, nat_eq, nat_lt, List, slice_range, refl, sym, ap, ap₂, ◌∙◌, arith}
 use Rattle.std.proofs.lemmas.Bool.Decides.{nat_tests}
 use Rattle.sre_chars.specs.Categories.{category}
 use Rattle.sre_chars.specs.Numbers.{category_number}
 use Rattle.sre_chars.specs.Tables.{Table, ascii_table, is_between}
 use Rattle.sre_chars.specs.declared.constants.SreCatCode.{SreCatCode}
-use Rattle.sre_chars.specs.declared.constants.SreOpcode.{SreOpcode}
 use Rattle.sre_chars.specs.declared.constants.SreOpcode.TheVariants as opcode
-use Rattle.sre_model.specs.Tree.{SetItem, Charset, Test}
+use Rattle.sre_model.specs.Tree.{Charset}
 use Rattle.sre_model.specs.Characters.{item_holds, bit_of, verdict, holds}
 use Rattle.sre_model.specs.Grammar.{Word, word, Opcode}
-use Rattle.sre_model.specs.Standing.{HasSet, SetStands, TestStands, ItemSays}
+use Rattle.sre_model.specs.Standing.{HasSet, ItemSays}
 use Rattle.std.proofs.lemmas.Option.{slice_get-get_or}
 use Rattle.sre_model.proofs.Members.{range_room, single_says, range_says, category_says, charset_says, negated}
 use Rattle.sre_model.proofs.Members.{nothing_left}
@@ -119,25 +118,3 @@ settled-next ws start place next from item after left x e = record {
 pub settled-ended : (ws : List ℕ) (start place from : ℕ) → LeftSettled ws start place from
     → Opcode ws place opcode.FAILURE → SettledSet ws start from
 settled-ended ws start place from left w = left.each from (omega arith) (failure-settles ws place from w)
-
--- the opcodes of literals and of sets that fold no case but that of ASCII
-abbrev pub IsLiteralOpcode : SreOpcode → Type 0
-IsLiteralOpcode o =
-    (o ≡ opcode.LITERAL)
-    ⊎ ((o ≡ opcode.LITERAL_IGNORE)
-    ⊎ ((o ≡ opcode.LITERAL_LOC_IGNORE)
-    ⊎ ((o ≡ opcode.NOT_LITERAL) ⊎ ((o ≡ opcode.NOT_LITERAL_IGNORE) ⊎ (o ≡ opcode.NOT_LITERAL_LOC_IGNORE)))))
-
-abbrev pub IsSetOpcode : SreOpcode → Type 0
-IsSetOpcode o = (o ≡ opcode.IN) ⊎ ((o ≡ opcode.IN_IGNORE) ⊎ (o ≡ opcode.IN_LOC_IGNORE))
-
-module _ (ws : List ℕ) (i j : ℕ) (table : Table) (t : Test) (s : TestStands ws i j t) where
-  module _ (from v : ℕ) (o : SreOpcode) (w : Opcode ws i o) (value : Word ws (i + 1) v) (e : from ≡ max (v + 1) 128)
-    where
-
-  module _ (from b : ℕ) (o : SreOpcode) (w : Opcode ws i o) (set : SettledSet ws (i + 2) b) (e : from ≡ max b 128)
-    where
-      member : (xs : List SetItem) → SetStands ws (i + 2) (j - 1) xs → SettledFrom from (verdict table true xs)
-      member xs r c l =
-          set.each table (j - 1) xs r true c (omega (arith, e, l))
-          ∙ sym (set.each table (j - 1) xs r true from (omega (arith, e)))
