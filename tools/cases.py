@@ -1,10 +1,10 @@
 #!/usr/bin/env python3
-"""Case files, held to the programs that were built: `sre_cases`, whose answers are proved, and `sre_probes`.
+"""Case files, held to programs that were built: `sre_cases`, whose answers are proved, and `sre_probes`, which is not.
 
-    cases.py        tries all of them, over what an earlier run of the gate or `rt run` left
+    cases.py NAME=PATH..        tries all that the program NAME has to answer over each PATH where it was built
 
-Below crates/NAME/cases, and in examples/ for `sre_cases`, stand files for the program NAME. `{TEXT*N}` in a file of
-lines or answers is TEXT N times.
+Below crates/NAME/cases, tests/NAME/cases and, for `sre_cases`, in examples/ stand files for the program NAME.
+`{TEXT*N}` in a file of lines or answers is TEXT N times.
 
     X.txt           lines; X.expected has the answers, X.fault the line that the program ends with, if it has one, and
                     X.flags the flags that stand before the file's name, if there are any. A file NAME.table lies where
@@ -32,7 +32,7 @@ import finders
 import hostile
 import large
 import refused
-from wrong_bodies import ROOT, read
+from repository import ROOT, read
 
 BEFORE, BEHIND = b"# all lines count\n\ncheck -\n", b"\ncheck -\n"
 ANSWER, EXPLAINED = b"refused\n", b"refused Truncated 0\n"
@@ -43,17 +43,18 @@ def expanded(text):
     return re.sub(r"\{([^{}*]*)\*(\d+)\}", lambda it: it[1] * int(it[2]), text).encode()
 
 
-def programs_of(name):
-    """A crate's program, as each compiler built it."""
-    out = f"{ROOT}/crates/{name}/out/{name}"
-    return [out, *(it for it in [f"{out}.by-rattle"] if os.path.isfile(it))]
+def proved():
+    """The program that is proved, as each compiler built it."""
+    out = f"{ROOT}/crates/sre_cases/out/sre_cases"
+    return {"sre_cases": [out, *(it for it in [f"{out}.by-rattle"] if os.path.isfile(it))]}
 
 
 def folders():
     """The folders with case files, and the crate whose program answers them."""
-    for name in sorted(os.listdir(f"{ROOT}/crates")):
-        if os.path.isdir(f"{ROOT}/crates/{name}/cases"):
-            yield f"{ROOT}/crates/{name}/cases", name
+    for part in ("crates", "tests"):
+        for name in sorted(os.listdir(f"{ROOT}/{part}")):
+            if os.path.isdir(f"{ROOT}/{part}/{name}/cases"):
+                yield f"{ROOT}/{part}/{name}/cases", name
     yield f"{ROOT}/examples", "sre_cases"
 
 
@@ -146,10 +147,10 @@ def calls_of(folder, room):
 
 
 class Cases:
-    """All files and made lines, over the programs as each compiler built them."""
+    """All files and made lines for programs: of each name the paths of its builds."""
 
-    def __init__(self, tell):
-        self.passed, self.failed, self.tell = 0, 0, tell
+    def __init__(self, tell, programs):
+        self.passed, self.failed, self.tell, self.programs = 0, 0, tell, programs
 
     def count(self, is_well, label, program):
         self.passed += is_well
@@ -165,35 +166,48 @@ class Cases:
             room_calls = list(calls_of(folder, room))
             with open(f"{at}/case.txt", "w", encoding="ascii") as file:
                 file.write(read(f"{ROOT}/crates/sre_cases/data/case.txt"))
-            for program in programs_of(name):
+            for program in self.programs[name]:
                 for label, call in room_calls:
                     self.count(bool(call) and os.path.isfile(program) and call.is_met(program, at), label, program)
 
     def made(self, name, label, is_met):
-        for program in programs_of(name):
+        for program in self.programs[name]:
             self.count(os.path.isfile(program) and is_met(program), label, program)
 
     def run(self):
         for folder, name in folders():
-            self.files(folder, name)
-        lists, changed = hostile.Lists(), hostile.Changed()
+            if name in self.programs:
+                self.files(folder, name)
+        changed = hostile.Changed()
+        if "sre_cases" in self.programs:
+            self.made_for_cases(changed)
+        if "sre_probes" in self.programs:
+            self.made_for_probes(changed)
+
+    def made_for_cases(self, changed):
+        lists = hostile.Lists()
         self.made("sre_cases", "random words", lambda it: lists.are_judged(it, self.tell))
         self.made("sre_cases", "changed words", lambda it: changed.are_judged(it, self.tell))
+        if refused.can_try(self.tell):
+            self.made("sre_cases", "requests refused to finders", lambda it: refused.are_plain(it, self.tell))
+        self.made("sre_cases", "large lines", lambda it: large.are_answered(it, large.cases, self.tell))
+
+    def made_for_probes(self, changed):
         self.made("sre_probes", "runs of changed words", lambda it: changed.agree(it, self.tell))
         whole = [f"{ROOT}/{it}" for it in ("crates/sre_cases/cases", "examples")]
         lines = [it.decode() for folder in whole for it in lines_of(folder)]
         self.made("sre_probes", "cases by finders", lambda it: finders.agree(it, lines, self.tell))
-        if refused.can_try(self.tell):
-            self.made("sre_cases", "requests refused to finders", lambda it: refused.are_plain(it, self.tell))
-        self.made("sre_cases", "large lines", lambda it: large.are_answered(it, large.cases, self.tell))
         self.made("sre_probes", "large lines", lambda it: large.are_answered(it, large.probes, self.tell))
 
 
 def main(words):
-    if words:
+    programs, named = {}, {name for _, name in folders()}
+    for name, _, path in (it.partition("=") for it in words):
+        programs.setdefault(name, []).append(os.path.realpath(path))
+    if not programs or set(programs) - named:
         print(__doc__.strip())
         return 2
-    cases = Cases(print)
+    cases = Cases(print, programs)
     cases.run()
     print(f"{cases.passed} passed, {cases.failed} failed")
     return 0 if cases.passed and not cases.failed else 1

@@ -3,7 +3,7 @@ use Rattle.sre_engine.specs.Grammar.{Whole}
 use Rattle.sre_engine.specs.Codes.{words_of, items_of}
 use Rattle.sre_engine.specs.EnoughTurns.{IsWindow, AreEnoughFor}
 use Rattle.sre_engine.specs.Requests.{asked_of, code_of}
-use Rattle.sre_tests.proofs.laws.searched_with_its_number.Goals as goal
+use Rattle.sre_laws.proofs.laws.searched_with_its_number.Goals as goal
 
 -- what is said of a call that is given up holds of one that was
 given_up : {E : Type 0} (R : Type 0) (told : Result (Option Bool) E) → IfOk told (λ t. t ≡ None → R)

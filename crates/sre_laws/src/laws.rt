@@ -20,7 +20,7 @@ ghost use Rattle.sre_engine.specs.Listed.{match_of};
 ghost use Rattle.sre_engine.specs.Width.{width};
 ghost use Rattle.sre_engine.specs.Codes.{hints_of};
 ghost use Rattle.sre_emit.specs.Parts.{tree_of};
-ghost use Rattle.sre_tests.specs.TwoRuns.{words_of_two_runs};
+ghost use Rattle.sre_laws.specs.TwoRuns.{words_of_two_runs};
 ghost use Rattle.sre_emit.specs.Block.{block_prefix, is_all_literals};
 ghost use Rattle.sre_emit.specs.Emitted.{Emitted};
 
@@ -30,8 +30,8 @@ use sre_engine::engine::{Found, SreError, all_matches};
 use sre_engine::{Code, Request, SearchIter, State, StrDrive, UniTable};
 use std::alloc::Global;
 
-// Two requests that ask the same, of codes of the same tree, are answered alike by `pymatch`.
-fn both_matched<S: StrDrive, T: StrDrive>(
+/// Two requests that ask the same, of codes of the same tree, are answered alike by `pymatch`.
+pub fn both_matched<S: StrDrive, T: StrDrive>(
     one: &Request<'_, S>,
     other: &Request<'_, T>,
     first: &mut State<Global>,
@@ -47,8 +47,8 @@ fn both_matched<S: StrDrive, T: StrDrive>(
     Ok((matched, again))
 }
 
-// And by `search`.
-fn both_searched<S: StrDrive, T: StrDrive>(
+/// And by `search`.
+pub fn both_searched<S: StrDrive, T: StrDrive>(
     one: Request<'_, S>,
     other: Request<'_, T>,
     first: &mut State<Global>,
@@ -64,8 +64,8 @@ fn both_searched<S: StrDrive, T: StrDrive>(
     Ok((found, again))
 }
 
-// A code is answered as it is with its block cut off.
-fn matched_without_its_block<S: StrDrive, T: StrDrive>(
+/// A code is answered as it is with its block cut off.
+pub fn matched_without_its_block<S: StrDrive, T: StrDrive>(
     one: &Request<'_, S>,
     cut: &Request<'_, T>,
     first: &mut State<Global>,
@@ -79,8 +79,8 @@ fn matched_without_its_block<S: StrDrive, T: StrDrive>(
     both_matched(one, cut, first, second)
 }
 
-// And so it is searched.
-fn searched_without_its_block<S: StrDrive, T: StrDrive>(
+/// And so it is searched.
+pub fn searched_without_its_block<S: StrDrive, T: StrDrive>(
     one: Request<'_, S>,
     cut: Request<'_, T>,
     first: &mut State<Global>,
@@ -94,9 +94,9 @@ fn searched_without_its_block<S: StrDrive, T: StrDrive>(
     both_searched(one, cut, first, second)
 }
 
-// Words that were emitted are refused for want of memory alone. The code's one tree is the part's, and what its block
-// claims is confirmed.
-fn checked<'a>(
+/// Words that were emitted are refused for want of memory alone. The code's one tree is the part's, and what its block
+/// claims is confirmed.
+pub fn checked<'a>(
     alloc: Global,
     part: &Part,
     with_block: bool,
@@ -121,8 +121,8 @@ fn checked<'a>(
     Ok(code)
 }
 
-// A match lies in the window, from its start on.
-fn matched_in_window<S: StrDrive>(
+/// A match lies in the window, from its start on.
+pub fn matched_in_window<S: StrDrive>(
     req: &Request<'_, S>,
     state: &mut State<Global>,
 ) -> Result<bool, SreError>
@@ -131,8 +131,8 @@ fn matched_in_window<S: StrDrive>(
     state.pymatch(req)
 }
 
-// A search finds a match that lies in the window, or leaves no marks; it errs only where memory was refused.
-fn searched_in_window<S: StrDrive>(
+/// A search finds a match that lies in the window, or leaves no marks; it errs only where memory was refused.
+pub fn searched_in_window<S: StrDrive>(
     req: Request<'_, S>,
     state: &mut State<Global>,
 ) -> Result<bool, SreError>
@@ -145,8 +145,8 @@ fn searched_in_window<S: StrDrive>(
     state.search(req)
 }
 
-// A search is answered within more turns than all its runs can take, where each begins again.
-fn searched_within<S: StrDrive>(
+/// A search is answered within more turns than all its runs can take, where each begins again.
+pub fn searched_within<S: StrDrive>(
     req: Request<'_, S>,
     state: &mut State<Global>,
     turns: &mut u64,
@@ -160,8 +160,8 @@ fn searched_within<S: StrDrive>(
     state.search_within(req, turns)
 }
 
-// A search that is given enough turns is answered, unless memory was refused.
-fn searched_with_enough<S: StrDrive>(
+/// A search that is given enough turns is answered, unless memory was refused.
+pub fn searched_with_enough<S: StrDrive>(
     req: Request<'_, S>,
     state: &mut State<Global>,
     turns: &mut u64,
@@ -172,8 +172,8 @@ fn searched_with_enough<S: StrDrive>(
     state.search_within(req, turns)
 }
 
-// So who has the words of `(?:a+a+)+b` knows how many turns answer a search of any text of up to 1,000 characters.
-fn two_runs_searched<S: StrDrive>(
+/// So who has the words of `(?:a+a+)+b` knows how many turns answer a search of any text of up to 1,000 characters.
+pub fn two_runs_searched<S: StrDrive>(
     text: S,
     code: Code<'_>,
     state: &mut State<Global>,
@@ -186,9 +186,9 @@ fn two_runs_searched<S: StrDrive>(
     state.search_within(Request::new(text, 0, usize::MAX, code, false), &mut turns)
 }
 
-// And who asks a code for its number knows how many turns answer a search by it of any text of up to so many
-// characters, in any window.
-fn searched_with_its_number<S: StrDrive>(
+/// And who asks a code for its number knows how many turns answer a search by it of any text of up to so many
+/// characters, in any window.
+pub fn searched_with_its_number<S: StrDrive>(
     req: Request<'_, S>,
     characters: usize,
     state: &mut State<Global>,
@@ -203,8 +203,8 @@ fn searched_with_its_number<S: StrDrive>(
     Some(state.search_within(req, &mut turns))
 }
 
-// A step of a walk that is given enough turns is answered, too, unless memory was refused.
-fn stepped_with_enough<S: StrDrive>(
+/// A step of a walk that is given enough turns is answered, too, unless memory was refused.
+pub fn stepped_with_enough<S: StrDrive>(
     walk: &mut SearchIter<'_, S, Global>,
     turns: &mut u64,
 ) -> Result<Option<bool>, SreError>
@@ -214,15 +214,15 @@ fn stepped_with_enough<S: StrDrive>(
     walk.next_within(turns)
 }
 
-// The next match of a walk is refused only where memory was.
-fn stepped<S: StrDrive>(walk: &mut SearchIter<'_, S, Global>) -> Option<Result<(), SreError>>
+/// The next match of a walk is refused only where memory was.
+pub fn stepped<S: StrDrive>(walk: &mut SearchIter<'_, S, Global>) -> Option<Result<(), SreError>>
     ensures { (e : SreError) → result ≡ Some (Err e) → Refused }
 {
     walk.next()
 }
 
-// Matches in a list are few and in order, and there is none only where memory was refused.
-fn listed<S: StrDrive>(
+/// Matches in a list are few and in order, and there is none only where memory was refused.
+pub fn listed<S: StrDrive>(
     req: Request<'_, S>,
     state: &mut State<Global>,
 ) -> Result<Vec<Found<Global>>, SreError>

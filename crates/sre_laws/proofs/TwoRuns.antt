@@ -5,7 +5,7 @@ use Rattle.sre_engine.specs.Ways.{unlimited}
 use Rattle.sre_engine.specs.Grammar.{Whole, ReadsItem}
 use Rattle.sre_engine.specs.Found.{Asked}
 use Rattle.sre_engine.specs.Remembered.{IsRemembered, kept_positions, enough_turns}
-use Rattle.sre_tests.specs.TwoRuns.{words_of_two_runs}
+use Rattle.sre_laws.specs.TwoRuns.{words_of_two_runs}
 
 abbrev letters : Item
 letters = Run GreedyRun 1 unlimited (Literal Plain 97)

@@ -1,5 +1,5 @@
 //! `sre_probes FILE` answers the probes of FILE, a line for each: what a case is asked beyond the answer that
-//! `sre_cases` gives it. A probe is proved once, and each line of a file is a test of it (`docs/GATE.md`, "Probes").
+//! `sre_cases` gives it. Each line of a file is a test, which is run and not proved (`docs/GATE.md`, "Probes").
 #![tactic(auto)]
 
 mod codes;

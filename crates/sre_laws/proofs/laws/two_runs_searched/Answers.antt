@@ -3,9 +3,9 @@ use Rattle.sre_engine.specs.Grammar.{Whole, behind_block}
 use Rattle.sre_engine.specs.Codes.{words_of, items_of}
 use Rattle.sre_engine.specs.Requests.{asked_of, code_of, start_of, end_of}
 use Rattle.sre_engine.specs.Remembered.{IsRemembered, enough_turns}
-use Rattle.sre_tests.specs.TwoRuns.{words_of_two_runs}
-use Rattle.sre_tests.proofs.TwoRuns.{two_runs, its_words, two_runs_remembered, turns_enough}
-use Rattle.sre_tests.proofs.laws.two_runs_searched.Goals as goal
+use Rattle.sre_laws.specs.TwoRuns.{words_of_two_runs}
+use Rattle.sre_laws.proofs.TwoRuns.{two_runs, its_words, two_runs_remembered, turns_enough}
+use Rattle.sre_laws.proofs.laws.two_runs_searched.Goals as goal
 
 pub returns : goal.returns
 unfolding items_of

@@ -2,8 +2,8 @@
 //!
 //! That is the numbers of codes and the bits of flags, printed texts, std's table, each request for memory refused in
 //! turn, the memory of a board, what is kept of failures and of ends, worked examples over both types of text, the
-//! words of parts, and how tight patterns are. They are proved while the machine is, and not behind the engine. Answers
-//! to words stand in the files of `sre_cases` and `sre_probes`.
+//! words of parts, and how tight patterns are. Answers to words stand in the files of `sre_cases` and `sre_probes`. The
+//! tests are run, and not proved.
 #![tactic(auto)]
 
 #[cfg(test)]

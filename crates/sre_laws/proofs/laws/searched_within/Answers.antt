@@ -6,7 +6,7 @@ use Rattle.sre_engine.specs.Codes.{words_of}
 use Rattle.sre_engine.specs.Requests.{asked_of, code_of, start_of, end_of}
 use Rattle.sre_engine.proofs.CountLaws.{once}
 use Rattle.sre_engine.proofs.Spending.{never_used_up}
-use Rattle.sre_tests.proofs.laws.searched_within.Goals as goal
+use Rattle.sre_laws.proofs.laws.searched_within.Goals as goal
 
 -- turns that are not used up are not said to be
 answered : {E : Type 0} (left : ℕ) (result : Result (Option Bool) E) → IfOk result (λ told. told ≡ None → left ≡ 0)

@@ -6,7 +6,7 @@ use std::alloc::Global;
 use std::test::Fail;
 use ucd_perl::digit_ranges;
 
-// The digits of CPython 3.13, as `tools/digits.py` writes them.
+// The digits of CPython 3.13, as `tools/unicode.py --digits` writes them.
 #[rattlefmt::skip]
 static OF_CPYTHON: [(u32, u32); 64] = [
     (0x30, 0x39), (0x660, 0x669), (0x6f0, 0x6f9), (0x7c0, 0x7c9),

@@ -1,0 +1,17 @@
+//! Tests of the engine, the recipes and the lines: what neither a clause of a contract nor a line of a program shows.
+//!
+//! That is the names at the engine's root, the digits of CPython, the example of the recipes, and writes that fail.
+//! Answers to words and texts stand in the files of `sre_cases` and `sre_probes`. Laws drawn from several calls are
+//! proved, in `sre_laws`.
+#![tactic(auto)]
+
+#[cfg(test)]
+mod digits;
+#[cfg(test)]
+mod fakes;
+#[cfg(test)]
+mod names;
+#[cfg(test)]
+mod recipes;
+#[cfg(test)]
+mod writes;

@@ -1,0 +1,105 @@
+#!/usr/bin/env python3
+"""The quick run: programs, tests and the library for C, built without their proofs, and all that they have to answer.
+
+    quick.py
+
+`sre_probes` and `sre_cases` answer all case files, examples and made lines (`cases.py`); the unit tests run; and the
+library is called from C, Rust and Python, CPython's `test_re` among its callers (`embedding.py`). Nothing is proved. The
+last line counts what passed, and the status is 1 where something failed.
+"""
+import os
+import resource
+import sys
+import tempfile
+import threading
+import time
+from concurrent.futures import ThreadPoolExecutor
+
+import cases
+import embedding
+import standing
+import unproved
+from repository import ROOT
+
+PRINTING = threading.Lock()
+
+
+def tell(line):
+    with PRINTING:
+        print(line, flush=True)
+
+
+class Quick:
+    """The steps, each of which gives how many things passed and failed."""
+
+    def __init__(self, folder):
+        self.repository, self.folder = unproved.Repository(folder), folder
+
+    def program(self, name):
+        """A program's answers."""
+        path = f"{self.folder}/{name}"
+        self.repository.build(name, path)
+        tell(f"{name} is built")
+        answered = cases.Cases(tell, {name: [path]})
+        answered.run()
+        return answered.passed, answered.failed
+
+    def tests(self, name):
+        """A crate's tests: as many as its sources count."""
+        passed, failed, lines = self.repository.test(name)
+        counted = sum(map(standing.tests_in, standing.files(f"{ROOT}/tests/{name}/src", ".rt")))
+        if failed or passed != counted:
+            tell("\n".join([*lines, f"{name}: its sources count {counted} tests, and {passed} ran and passed"]))
+        return passed, max(failed, counted - passed)
+
+    def library(self, name):
+        """The library, as its users call it."""
+        made, archive = f"{self.folder}/library", f"{self.folder}/lib{name}.a"
+        self.repository.build(name, archive)
+        words = [f"{ROOT}/python/build.py", "library", made, "--archive", archive]
+        joined = unproved.run(sys.executable, *words)
+        if joined.returncode:
+            raise unproved.Fault(f"the library cannot be put together: {joined.stdout}")
+        trials = embedding.Embedding(tell)
+        trials.over(made)
+        return trials.passed, trials.failed
+
+    def step(self, how, name):
+        """What a step came to: nothing but a failure where something cannot be built."""
+        began = time.monotonic()
+        try:
+            passed, failed = how(self, name)
+        except unproved.Fault as fault:
+            tell(str(fault))
+            passed, failed = 0, 1
+        tell(f"{name}: {passed} passed, {failed} failed, {time.monotonic() - began:.0f} seconds")
+        return passed, failed
+
+
+# What the crates of tests have to answer; and with it what the gate proves. The longest first.
+OF_TESTS = [(Quick.program, "sre_probes"), (Quick.tests, "sre_tests"), (Quick.tests, "sre_unit_tests")]
+STEPS = [OF_TESTS[0], (Quick.library, unproved.LIBRARY), (Quick.program, "sre_cases"), *OF_TESTS[1:]]
+
+
+def run(jobs, steps=STEPS):
+    """How many things passed and failed in the steps."""
+    with tempfile.TemporaryDirectory(prefix="quick-") as folder, ThreadPoolExecutor(jobs) as pool:
+        quick = Quick(folder)
+        ended = list(pool.map(lambda it: quick.step(*it), steps))
+    return tuple(map(sum, zip(*ended)))
+
+
+def main(words):
+    if words:
+        print(__doc__.strip())
+        return 2
+    began, (passed, failed) = time.monotonic(), run(os.cpu_count())
+    used = [resource.getrusage(it) for it in (resource.RUSAGE_CHILDREN, resource.RUSAGE_SELF)]
+    taken = sum(it.ru_utime + it.ru_stime for it in used)
+    tell(f"seconds: {time.monotonic() - began:.0f}, {taken:.0f} of processors")
+    tell(f"{passed} passed, {failed} failed")
+    return 0 if passed and not failed else 1
+
+
+if __name__ == "__main__":
+    sys.exit(main(sys.argv[1:]))
