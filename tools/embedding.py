@@ -4,11 +4,11 @@
     embedding.py [LIBRARY]     over a folder that `python/build.py library` has made, or one that is made now
 
 The programs of docs/EMBEDDING.md are compiled and run, and have to write what the page says. The callers of
-embedding/bad_callers.c have to get a status for all that they hand over. All run under valgrind, too. And the package of
-python/ is built for each Python that is found: the examples of docs/PYTHON.md, the package's own tests, and CPython's
-`test_re` with the engine in place of `_sre` are run over it; with one Python the tests run by ctypes, too. Whatever is
-made stands in a folder that is taken away. A line tells of each compiler and Python that was not found: that fails
-nothing. The status is 1 where something fails.
+embedding/bad_callers.c have to get a status for all that they hand over. All run under valgrind, too. And the
+package of python/ is built for each Python that is found: the examples of docs/PYTHON.md, the package's own tests, and
+CPython's `test_re` with the engine in place of `_sre` are run over it; with one Python the tests run by ctypes, too.
+Whatever is made is in a folder that is taken away. A compiler or Python that was not found is named, and fails nothing.
+The status is 1 where something fails.
 """
 import glob
 import os
@@ -18,10 +18,9 @@ import subprocess
 import sys
 import tempfile
 
-import judged
-import wrong_bodies
+import kept
+from repository import PARTS, ROOT, crates, kit, read as text_of
 
-ROOT = os.path.dirname(os.path.dirname(os.path.realpath(__file__)))
 PAGE = "docs/EMBEDDING.md"
 EXAMPLES = "docs/PYTHON.md"
 BLOCK = re.compile(r"(?ms)^```(\w*)\n(.*?)^```$")
@@ -33,8 +32,7 @@ ASKED = "import importlib.util as u, sys; print('%d.%d' % sys.version_info[:2], 
 
 
 def read(path):
-    with open(f"{ROOT}/{path}", encoding="utf-8") as file:
-        return file.read()
+    return text_of(f"{ROOT}/{path}")
 
 
 # ---- the library ----
@@ -42,48 +40,34 @@ def read(path):
 
 class Library:
     """The crate's archive, proved and built over crates that are proved, apart from the work tree. One that an earlier
-    run built of the very same texts and crates is taken, as judged bodies are (judged.py)."""
+    run built of the very same files is taken over (kept.py)."""
 
     def __init__(self, rlibs):
-        self.kit, self.crate, self.rlibs = wrong_bodies.kit(), wrong_bodies.crates()[CRATE], rlibs
-        self.kept = judged.Judged(self.kit, os.path.dirname(os.path.realpath(__file__)))
-
-    def name(self):
-        texts = [judged.sum_of_folder(f"{self.crate.folder}/{part}") for part in wrong_bodies.PARTS]
-        below = self.kept.of_below(self.crate, self.rlibs)
-        return judged.sum_of([self.kept.of_all, below, read("tools/embedding.py"), *texts])
+        self.crate, self.rlibs = crates()[CRATE], rlibs
+        self.kept = kept.Store(kit(), self.crate, PARTS, [os.path.realpath(__file__)])
 
     def build(self, folder, archive):
         """Proves and builds the crate in a folder; what it said, where it failed."""
-        for part in wrong_bodies.PARTS:
+        for part in PARTS:
             if os.path.isdir(f"{self.crate.folder}/{part}"):
                 shutil.copytree(f"{self.crate.folder}/{part}", f"{folder}/{part}")
-        words = [f"{self.kit}/bin/rattle", "build", *self.crate.words(self.kit, self.rlibs)]
-        words += ["--backend", "llvm", "--toolchain", f"{self.kit}/toolchain"]
+        words = [f"{kit()}/bin/rattle", "build", *self.crate.words(kit(), self.rlibs)]
+        words += ["--backend", "llvm", "--toolchain", f"{kit()}/toolchain"]
         how = {"stdin": subprocess.DEVNULL, "stdout": subprocess.PIPE, "stderr": subprocess.STDOUT, "errors": "replace"}
         ran = subprocess.run([*words, "-o", archive], cwd=folder, **how)
         return ran.stdout if ran.returncode else None
 
     def archive(self, room):
         """The archive's path and whether it was taken over; or None and what the build said."""
-        kept = f"{self.kept.at}/{self.name()}.a"
-        if self.kept.is_used and os.path.isfile(kept):
-            return kept, True
+        if self.kept.path():
+            return self.kept.path(), True
         os.makedirs(f"{room}/{CRATE}")
         made = f"{room}/lib{CRATE}.a"
         fault = self.build(f"{room}/{CRATE}", made)
         if fault is not None:
             return None, fault
-        if self.kept.is_used:
-            self.keep(made, kept)
+        self.kept.keep(made)
         return made, False
-
-    def keep(self, made, kept):
-        """Keeps an archive, and of those that are kept the newest ones."""
-        shutil.copyfile(made, f"{kept}.new")
-        os.replace(f"{kept}.new", kept)
-        for old in sorted(glob.glob(f"{self.kept.at}/*.a"), key=os.path.getmtime)[:-8]:
-            os.remove(old)
 
 
 # ---- what is tried ----

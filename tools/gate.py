@@ -1,227 +1,116 @@
 #!/usr/bin/env python3
-"""The gate: what has to stand, `rt ci`, the wrong bodies in bundles, and cases over the programs that were built.
+"""The full verification: proofs, mutants, tests, the library in C, Rust and Python, and the case files.
 
-    gate.py [cases]
+    gate.py [quick]
 
-It looks whether tests, cases, seal and pictures stand (`standing.py`). `rt ci` proves each crate and its tests, or
-takes over what an earlier run on this machine proved of the same files, tries the must-fail edits, and runs the tests
-and the stored runs: each test that the sources count, and each program as both compilers build it. Once the crates
-below a crate are proved, its wrong bodies are tried (`wrong_bodies.py`), and beside them their functions as they are,
-where cores are idle; one that an earlier run judged of the same texts stays judged (`judged.py`), but for GATE_ANEW=1.
-Over the crates that were proved the engine is built as C, Rust and Python take it, and tried there (`embedding.py`). In
-the end the programs answer the case files and made lines (`cases.py`); with `cases` they do that alone, over what an
-earlier run or `rt run` left. The gate tells what it ran on and what it took over, the minutes of each phase, by the
-clock and of processors, the dearest checks, and the dearest functions of the bundles, right or wrong (those of a crate
-or its tests: `dearest.py`). The last line counts what passed.
+First come the looks at files (`standing.py`). `rt ci` proves each crate over a copy of `crates`, or takes over what an
+earlier run on this machine proved of the same files. Beside it run, each as soon as the crates below are proved: the
+mutants of each crate (`mutants.py`), and the static library as C, Rust and Python take it (`embedding.py`). Tests and
+probes are built without proofs, and run (`quick.py`). At the end the program answers the case files and made lines
+(`cases.py`). With `quick` nothing is proved. The last line is `N passed, M failed`.
 """
+import concurrent.futures
 import os
 import re
-import resource
 import shutil
 import subprocess
 import sys
 import tempfile
 import threading
 import time
-from concurrent.futures import ThreadPoolExecutor
 
 import cases
 import embedding
-import judged
+import mutants
+import quick
 import standing
-import tries
-import wrong_bodies
+from quick import tell
+from repository import ROOT, crates
 
-ROOT = wrong_bodies.ROOT
 BEGAN = time.monotonic()
-PRINTING = threading.Lock()
 
-# How `rt ci` tells that an edit says nothing of a contract.
+# How `rt ci` says that an edit says nothing of a contract, and that a program has run as one of the compilers built it.
 SAYS_NOTHING = "only because a proof file names what the edit took away"
-
-# How it tells that a crate's tests have run, and that a program has, as one of the compilers built it.
-TESTS_RAN = re.compile(r"rt: (\w+): its tests passed")
-PROGRAM_RAN = re.compile(
-    r"rt: (\w+) ran(?: \((built by Rattle's own compiler)[^)]*\))?, and wrote what its file stdout has"
-)
-
-
-def tell(line):
-    with PRINTING:
-        print(line, flush=True)
-
-
-def linked(source, target):
-    """Makes a file stand at a second place, or a copy of it where that cannot be."""
-    try:
-        os.link(source, target)
-    except OSError:
-        shutil.copy2(source, target)
+PROGRAM_RAN = re.compile(r"rt: (\w+) ran(?: \(built by Rattle's[^)]*\))?, and wrote what its file stdout has")
 
 
 def minutes(seconds):
     return f"{int(seconds) // 60}:{int(seconds) % 60:02}"
 
 
-def fields_of(pid):
-    """What the system tells of a process, from its state on. The name before it may be cut within a character."""
-    with open(f"/proc/{pid}/stat", encoding="utf-8", errors="replace") as file:
-        return file.read().rpartition(")")[2].split()
+class Count:
+    """What passed and failed in a phase, until when it went on, and the processor seconds that it took."""
 
+    def __init__(self, name):
+        self.name, self.passed, self.failed, self.seconds, self.until, self.lock = name, 0, 0, 0, 0, threading.Lock()
 
-def processor_seconds(fields):
-    """What a process has taken, with those that it has waited for."""
-    return sum(int(it) for it in fields[11:15]) / os.sysconf("SC_CLK_TCK")
-
-
-class Phases:
-    """Each phase's end by the clock, and its time of processors."""
-
-    def __init__(self):
-        self.until, self.taken, self.lock = {}, {}, threading.Lock()
-
-    def reach(self, phase):
-        self.until[phase] = time.monotonic() - BEGAN
-
-    def take(self, phase, seconds):
+    def add(self, passed, failed, seconds=0):
         with self.lock:
-            self.taken[phase] = self.taken.get(phase, 0) + seconds
+            self.passed, self.failed, self.seconds = self.passed + passed, self.failed + failed, self.seconds + seconds
+            self.until = time.monotonic() - BEGAN
 
-    def tell(self):
-        used = resource.getrusage(resource.RUSAGE_CHILDREN)
-        whole = used.ru_utime + used.ru_stime
-        self.take("builds, tests and runs", max(0, whole - sum(self.taken.values())))
-        self.reach("builds, tests and runs")
-        for phase, seconds in self.taken.items():
-            tell(f"minutes: {phase} until {minutes(self.until[phase])}, {minutes(seconds)} of processors")
-        tell(f"minutes: all until {minutes(time.monotonic() - BEGAN)}, {minutes(whole)} of processors")
+    def check(self, is_well, line, seconds=0):
+        tell(line)
+        self.add(is_well, not is_well, seconds)
 
-
-class Checks:
-    """The checks that `rt ci` runs: how many there are now, and what each kind has taken."""
-
-    def __init__(self, rt, phases):
-        self.rt, self.phases, self.seen, self.running = rt, phases, {}, 0
-
-    def kind(self, pid):
-        """Of which kind a check is, and of which crate; nothing of another process."""
-        with open(f"/proc/{pid}/cmdline", "rb") as file:
-            words = file.read().decode(errors="replace").split("\0")
-        if not words[0].endswith("/rattle") or "--crate-name" not in words:
-            return None
-        name = words[words.index("--crate-name") + 1]
-        if "rt-edit-" in os.readlink(f"/proc/{pid}/cwd"):
-            return "must-fail edits", name
-        return "proofs of tests" if "--test" in words else "proofs", name
-
-    def look(self):
-        """Looks at the processes. A check of several jobs has copies below it, whose time it takes over in the end."""
-        parents, checks = {}, set()
-        for pid in filter(str.isdigit, os.listdir("/proc")):
-            try:
-                fields = fields_of(pid)
-                kind = self.kind(pid)
-            except (OSError, IndexError):
-                continue
-            if kind:
-                parents[int(pid)] = int(fields[1])
-            if kind and int(fields[1]) == self.rt.pid:
-                checks.add(int(pid))
-                self.seen[pid, fields[19]] = kind, processor_seconds(fields)
-                self.phases.reach(kind[0])
-        copies = {it for it, parent in parents.items() if parent in checks}
-        # a check waits while its copies work
-        self.running = len(copies) + len(checks - {parents[it] for it in copies})
-
-    def watch(self):
-        while self.rt.poll() is None:
-            self.look()
-            time.sleep(1)
-        self.running = 0
-        for (kind, _), seconds in self.seen.values():
-            self.phases.take(kind, seconds)
-
-    def tell(self):
-        taken = {}
-        for what, seconds in self.seen.values():
-            taken[what] = taken.get(what, 0) + seconds
-        for seconds, (kind, name) in sorted(((it, what) for what, it in taken.items()), reverse=True)[:10]:
-            tell(f"dearest checks: {minutes(seconds)} {kind} of {name}")
+    def told(self):
+        took = f", {minutes(self.seconds)} of processors" if self.seconds else ""
+        return f"minutes: {self.name} until {minutes(self.until)}{took}: {self.passed} passed, {self.failed} failed"
 
 
-class Ran:
-    """The tests and the programs that `rt ci` has run, by its lines."""
-
-    def __init__(self):
-        self.heard, self.tests, self.compilers = 0, {}, {}
-
-    def hear(self, line):
-        self.heard += bool(re.fullmatch(r"test .* \.\.\. ok", line))
-        tests, program = TESTS_RAN.fullmatch(line), PROGRAM_RAN.fullmatch(line)
-        if tests:
-            # its tests stand before this line
-            self.tests[tests[1]], self.heard = self.heard, 0
-        elif program:
-            self.compilers.setdefault(program[1], set()).add(program[2])
-
-    def by_both(self):
-        """The programs that have run as both compilers build them."""
-        return [name for name, compilers in self.compilers.items() if len(compilers) == 2]
-
-    def lacking(self):
-        """What the sources count, and what did not run so."""
-        for what, number in standing.counted().items():
-            name, _, kind = what.partition(" ")
-            if kind == "tests" and self.tests.get(name) != number:
-                yield f"{name}: its sources count {number} tests, and {self.tests.get(name, 0)} ran and passed"
-            if kind == "programs" and name not in self.by_both():
-                yield f"{name}: it was not run as both compilers build it"
+def staged(folder):
+    """A copy of what `rt ci` reads. It refuses sources that are not in a crate of crates.txt, as those of the tests."""
+    shutil.copytree(f"{ROOT}/crates", f"{folder}/crates", ignore=shutil.ignore_patterns("out"))
+    for name in ("crates.txt", "HANDLES"):
+        shutil.copy2(f"{ROOT}/{name}", folder)
 
 
 class Prover:
-    """`rt ci`, with its lines passed on; that crates are proved can be waited for."""
+    """`rt ci` over a copy, with its lines passed on. That crates are proved can be waited for."""
 
-    def __init__(self, phases, rlibs):
-        self.rlibs, self.proved, self.idle_edits, self.last = rlibs, {}, 0, ""
-        self.ran = Ran()
-        self.taken_over, self.crates = 0, len(wrong_bodies.crates())
+    def __init__(self, count, folder):
+        self.count, self.folder, self.proved, self.taken_over = count, folder, {}, 0
+        self.rlibs, self.programs, self.last, self.idle_edits = f"{folder}/rlibs", [], "", 0
         self.changed, self.has_ended = threading.Condition(), False
-        self.rt = subprocess.Popen(
-            ["rt", "ci"], cwd=ROOT, text=True, errors="replace",
-            stdin=subprocess.DEVNULL, stdout=subprocess.PIPE, stderr=subprocess.STDOUT,
-        )
-        self.checks = Checks(self.rt, phases)
+        staged(folder)
 
-    def follow(self):
-        for line in self.rt.stdout:
-            self.last = line.rstrip("\n")
-            tell(self.last)
-            self.ran.hear(self.last)
-            self.idle_edits += SAYS_NOTHING in self.last
-            ended = re.fullmatch(r"rt: (\w+) (proved|is kept|NOT PROVED)(?:: .*)?", self.last)
-            if ended:
-                self.taken_over += ended[2] == "is kept"
-                self.end(ended[1], ended[2] != "NOT PROVED")
-        self.rt.wait()
+    def run(self):
+        how = {"stdin": subprocess.DEVNULL, "stdout": subprocess.PIPE, "stderr": subprocess.STDOUT}
+        rt = subprocess.Popen(["rt", "ci"], cwd=self.folder, text=True, errors="replace", **how)
+        for line in rt.stdout:
+            self.hear(line.rstrip("\n"))
+        _, status, used = os.wait4(rt.pid, 0)
+        found = re.fullmatch(r"(\d+) passed, (\d+) failed", self.last)
+        passed, failed = map(int, found.groups()) if found else (0, 1)
+        lacking = [it.name for it in crates().values() if it.is_program and self.programs.count(it.name) != 2]
+        for name in lacking:
+            tell(f"{name}: it was not run as both compilers build it")
+        self.count.add(passed, failed + len(lacking) + bool(status) + self.idle_edits, used.ru_utime + used.ru_stime)
         with self.changed:
             self.has_ended = True
             self.changed.notify_all()
 
+    def hear(self, line):
+        tell(line)
+        self.last = line
+        self.idle_edits += SAYS_NOTHING in line
+        ran, ended = PROGRAM_RAN.match(line), re.match(r"rt: (\w+) (proved|is kept|NOT PROVED)(?:$|:)", line)
+        self.programs += [ran[1]] if ran else []
+        if ended:
+            self.taken_over += ended[2] == "is kept"
+            self.end(ended[1], ended[2] != "NOT PROVED")
+
     def end(self, name, is_proved):
-        made = f"{ROOT}/crates/{name}/out/rlib/{name}.rlib"
+        made = f"{self.folder}/crates/{name}/out/rlib/{name}.rlib"
         if is_proved and os.path.isdir(made):
-            # in the end rt ci puts back what stood there, and where it takes all over that is soon
-            shutil.copytree(made, f"{self.rlibs}/{name}/{name}.rlib", copy_function=linked)
+            # rt ci takes it away at its end
+            shutil.copytree(made, f"{self.rlibs}/{name}/{name}.rlib", copy_function=os.link)
         with self.changed:
             self.proved[name] = is_proved
             self.changed.notify_all()
 
-    def is_over(self):
-        """Whether all crates are proved, or not, so that tests and wrong bodies are all that is left."""
-        return len(self.proved) >= self.crates
-
     def are_proved(self, names):
-        """Waits until these crates are proved, or one of them cannot be any more: whether they are."""
+        """Waits until these crates are proved, or one of them can't be any more: whether they are."""
         with self.changed:
             self.changed.wait_for(
                 lambda: self.has_ended
@@ -230,182 +119,81 @@ class Prover:
             )
             return all(self.proved.get(it) for it in names)
 
-    def counts(self):
-        found = re.fullmatch(r"(\d+) passed, (\d+) failed", self.last)
-        passed, failed = (int(found[1]), int(found[2])) if found else (0, 1)
-        lacking = list(self.ran.lacking())
-        for line in lacking:
-            tell(line)
-        if self.rt.returncode:
-            tell(f"rt ci ended with status {self.rt.returncode}")
-        if self.idle_edits:
-            tell(f"{self.idle_edits} must-fail edits are refused for the names that they take away alone")
-        return passed, failed + len(lacking) + bool(self.rt.returncode) + self.idle_edits
+    def rlibs_of(self, crate):
+        return f"{self.rlibs}/{crate.name}"
 
 
-class Bundles:
-    """The wrong bodies of all crates: a crate's are tried once those below it are proved, where cores are idle."""
-
-    def __init__(self, prover, phases, room):
-        self.prover, self.phases, self.room, self.kit = prover, phases, room, wrong_bodies.kit()
-        self.judged, self.taken_over = judged.Judged(self.kit, os.path.dirname(os.path.realpath(__file__))), 0
-        self.passed, self.failed, self.dearest = 0, 0, []
-        self.running, self.waiting, self.turn = 0, [], threading.Condition()
-
-    def has_turn(self, size):
-        """Whether a core is idle, and no larger bundle waits for it."""
-        return self.running + self.prover.checks.running < os.cpu_count() and size == max(self.waiting)
-
-    def check(self, command, folder, costs, size):
-        """Runs a check of so many bodies where a core is idle, and gives what it says. `costs` gets what each function
-        took. While crates are still to be proved they go first, since others wait for them."""
-        with self.turn:
-            self.waiting.append(size)
-            while not self.has_turn(size):
-                self.turn.wait(1)
-            self.waiting.remove(size)
-            self.running += 1
-        try:
-            return self.said(command if self.prover.is_over() else ["nice", *command], folder, costs)
-        finally:
-            self.phases.reach("wrong bodies")
-            with self.turn:
-                self.running -= 1
-                self.turn.notify_all()
-
-    def said(self, command, folder, costs):
-        check = subprocess.Popen(
-            command, cwd=folder, text=True, errors="replace",
-            stdin=subprocess.DEVNULL, stdout=subprocess.PIPE, stderr=subprocess.STDOUT,
-        )
-        said, before = [], None
-        for line in check.stdout:
-            said.append(line)
-            ended = re.match(r"checked (\S+), \d+ of \d+", line)
-            if ended or "ahead of the check" in line:
-                now = processor_seconds(fields_of(check.pid))
-                if ended and before is not None:
-                    costs.append((now - before, ended[1]))
-                before = now
-        _, check.returncode, used = os.wait4(check.pid, 0)
-        self.phases.take("wrong bodies", used.ru_utime + used.ru_stime)
-        return "".join(said)
-
-    def count(self, is_well, line):
-        tell(line)
-        with self.turn:
-            self.passed += is_well
-            self.failed += not is_well
-
-    def of_crate(self, crate, pool):
-        """Gives the trials of a crate's bundles, which run in the pool."""
-        rlibs = lambda it: f"{self.prover.rlibs}/{it.name}"
-        trial = wrong_bodies.Trial(crate, self.kit, crate.words(self.kit, rlibs), self.room)
-        if not self.prover.are_proved([it.name for it in crate.below()]):
-            self.count(False, f"wrong bodies of {crate.name}: not tried, since a crate below it is not proved")
-            return []
-        left, names = self.left(trial, self.judged.of_below(crate, rlibs))
-        made, bad = wrong_bodies.bundles(left, crate)
-        for line in bad:
-            self.count(False, line)
-        return [pool.submit(self.of_bundle, trial, names, *it) for it in enumerate(made)]
-
-    def left(self, trial, below):
-        """The bodies that no earlier run has judged, and the name of each body for those that do."""
-        left, names, texts = [], {}, wrong_bodies.sources(trial.crate.folder)
-        bodies = wrong_bodies.bodies_of(trial.crate)
-        control = tries.control(trial.crate, bodies, texts)
-        # so that one is in the first bundle
-        for body in [*control[:1], *bodies, *control[1:]]:
-            alone = wrong_bodies.Bundle(texts)
-            # a body that cannot be tried is told of where the bundles are made
-            if not body.fault(texts) and alone.take(body):
-                names[body.name] = self.judged.name(body, trial.crate, trial.files(alone, False), below)
-            line = self.judged.line(names[body.name]) if body.name in names else None
-            if line:
-                self.count(True, f"{line} (by an earlier run)")
-                self.taken_over += 1
-            else:
-                left.append(body)
-        return left, names
-
-    def of_bundle(self, trial, names, number, bundle):
-        costs, bodies = [], {f"{trial.crate.name}::{it.function}": it.name for it in bundle.bodies}
-        told = trial.bundle(number, bundle, lambda *it: self.check(*it, costs, len(bundle.bodies)))
-        for body, (is_well, line) in zip(bundle.bodies, told):
-            self.count(is_well, line)
-            if is_well:
-                self.judged.keep(names[body.name], line)
-        with self.turn:
-            self.dearest += [(seconds, f"{it} in {bodies[it]}" if it in bodies else it) for seconds, it in costs]
-
-    def run(self):
-        crates = [it for it in wrong_bodies.crates().values() if wrong_bodies.bodies_of(it)]
-        with ThreadPoolExecutor(64) as pool:
-            for trials in [pool.submit(self.of_crate, it, pool) for it in crates]:
-                for it in trials.result():
-                    it.result()
-
-    def tell(self):
-        for seconds, name in sorted(self.dearest, reverse=True)[:10]:
-            tell(f"dearest: {seconds:5.1f} s {name}")
+def try_mutants(crate, prover, count):
+    """Tries the mutants of a crate once those below it are proved. Gives what came of them."""
+    if not prover.are_proved([it.name for it in crate.below()]):
+        count.check(False, f"mutants of {crate.name}: not tried, since a crate below it is not proved")
+        return mutants.Judged([], 0, [], False)
+    judged = mutants.tried(crate, prover.rlibs_of)
+    for is_well, line in judged.found:
+        count.check(is_well, f"{line}{' (by an earlier run)' if judged.is_kept else ''}")
+    count.add(0, 0, judged.seconds)
+    return judged
 
 
-def embedded(prover, trials):
-    """Tries the engine inside C, Rust and Python, once the crates below its library are proved."""
-    if prover.are_proved([it.name for it in wrong_bodies.crates()[embedding.CRATE].below()]):
-        trials.run(lambda it: f"{prover.rlibs}/{it.name}")
+def try_library(prover, count):
+    """Builds the library over proved crates, and tries it in C, Rust and Python."""
+    crate = crates()[embedding.CRATE]
+    if prover.are_proved([it.name for it in crate.below()]):
+        trials = embedding.Embedding(tell)
+        trials.run(prover.rlibs_of)
+        count.add(trials.passed, trials.failed)
     else:
-        trials.count(False, "not tried, since a crate below the library is not proved")
+        count.check(False, f"embedding: not tried, since a crate below {crate.name} is not proved")
 
 
-def proved(room):
-    """Runs all but the case files, and gives how many passed and failed."""
-    phases, trials = Phases(), embedding.Embedding(tell)
-    pool = ThreadPoolExecutor(1)
-    prover = Prover(phases, f"{room}/rlibs")
-    try:
-        bundles = Bundles(prover, phases, room)
-        others = [threading.Thread(target=it) for it in (prover.follow, prover.checks.watch)]
-        for it in others:
-            it.start()
-        tried = pool.submit(embedded, prover, trials)
-        bundles.run()
-        for it in others:
-            it.join()
-        tried.result()
-    finally:
-        prover.rt.terminate()
-    passed, failed = prover.counts()
-    prover.checks.tell()
-    bundles.tell()
-    phases.tell()
-    tell(f"ran on {os.cpu_count()} cores with {wrong_bodies.read(f'{bundles.kit}/KIT-ID').strip()}")
-    tell(f"taken over from earlier runs: {prover.taken_over} of {prover.crates} crates, {bundles.taken_over} bodies")
-    tests, programs = sum(prover.ran.tests.values()), len(prover.ran.by_both())
-    tell(f"{tests} tests, {programs} programs by both compilers, {bundles.passed} bodies in bundles")
-    return passed + bundles.passed + trials.passed, failed + bundles.failed + trials.failed
+def try_unproved(count):
+    """Builds the tests and the probes without proofs, and runs them."""
+    count.add(*quick.run(2, quick.OF_TESTS))
 
 
-def stands():
-    """Counts what does not stand."""
-    lines = standing.fallen()
-    for line in lines:
+def verified():
+    """All phases, with what passed in each; and how many crates and mutants were taken over."""
+    phases = [Count(it) for it in ("files", "proofs", "mutants", "tests", "library", "cases")]
+    files, proofs, of_mutants, tests, library, of_cases = phases
+    for line in standing.fallen():
+        files.check(False, line)
+    files.add(1, 0)
+    with tempfile.TemporaryDirectory(prefix="gate-") as folder:
+        prover = Prover(proofs, folder)
+        # most of them wait: how many checks run at once rt and mutants.py know
+        with concurrent.futures.ThreadPoolExecutor(len(crates()) + 3) as pool:
+            proving = pool.submit(prover.run)
+            testing = pool.submit(try_unproved, tests)
+            with_mutants = filter(mutants.mutants_of, crates().values())
+            tried = [pool.submit(try_mutants, it, prover, of_mutants) for it in with_mutants]
+            building = pool.submit(try_library, prover, library)
+            judged = [it.result() for it in tried]
+            proving.result(), building.result(), testing.result()
+        built = f"{folder}/crates/sre_cases/out/sre_cases"
+        of_programs = cases.Cases(tell, {"sre_cases": [built, f"{built}.by-rattle"]})
+        of_programs.run()
+        of_cases.add(of_programs.passed, of_programs.failed)
+    for line in mutants.dear([it for each in judged for it in each.dearest]):
         tell(line)
-    return len(lines)
+    return phases, prover.taken_over, sum(len(it.found) for it in judged if it.is_kept)
 
 
 def main(words):
-    if words not in ([], ["cases"]):
+    if words == ["quick"]:
+        return quick.main([])
+    if words:
         print(__doc__.strip())
         return 2
-    passed, failed, answered = 0, 0, cases.Cases(tell)
-    lost = stands()
-    if words != ["cases"]:
-        with tempfile.TemporaryDirectory(prefix="gate-") as room:
-            passed, failed = proved(room)
-    answered.run()
-    passed, failed = passed + answered.passed, failed + answered.failed + lost
+    phases, crates_kept, mutants_kept = verified()
+    used = os.times()
+    version = subprocess.run(["rt", "version"], capture_output=True, text=True).stdout.strip()
+    tell(f"kit: {version}, cores: {os.cpu_count()}")
+    tell(f"taken over from earlier runs: {crates_kept} of {len(crates())} crates, {mutants_kept} mutants")
+    for phase in phases:
+        tell(phase.told())
+    whole = used.children_user + used.children_system
+    tell(f"minutes: all until {minutes(time.monotonic() - BEGAN)}, {minutes(whole)} of processors")
+    passed, failed = (sum(getattr(it, what) for it in phases) for what in ("passed", "failed"))
     tell(f"{passed} passed, {failed} failed")
     return 0 if passed and not failed else 1
 

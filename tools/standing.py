@@ -1,44 +1,38 @@
 #!/usr/bin/env python3
-"""What has to stand in the repository whatever else changes: its tests and cases, the seal of refusals, what is drawn.
+"""What the repository has to keep whatever else changes: its tests, cases and mutants, the seal of refusals, its pages.
 
-    standing.py            tells what does not stand
+    standing.py            names what is missing or stale
     standing.py --write    writes today's numbers to .ci/counts
 
-Nothing else would notice that a test, a wrong body, a line of a case file or a pattern is gone: so .ci/counts has
-their numbers by crate, none of which may be less. Nor may a number of that file be less than it was in a commit, but
-where its row says why: 'WHAT NUMBER # was GREATEST: REASON'. What counts is what the tools read. No two wrong bodies
-make the same text, and none changes another function than the one that it names. HANDLES allows nothing. And every
-clause on memory rests on the seal: a crate that could say that a growth was refused could pass on any error. Only
-sre_growth stands on the crate that has the fact, one line of one spec hands on the fact without its lemma, and the
-lemma is cited by the answers of the three growths alone. And what tools draw goes stale without a sign: the pictures
-of docs/ (`pictures.py`), a table (`adding.py`) and the map of the code (`map.py`); and so does the kit's name on a page
-(`kit.py`), and the header of what C calls (`header.py`). The status is 1 where something does not stand.
+Nothing else would notice that a test, a case line, a pattern or a mutant of a public call is gone. So .ci/counts has
+their numbers, none of which may fall, neither below the file nor in the file below what it was in a commit, but where
+its row says why: 'WHAT NUMBER # was GREATEST: REASON'. Each file in the folders of cases and mutants has to be one that
+a tool reads. HANDLES allows nothing. Every clause on memory rests on a seal: a crate that could state that an
+allocation failed could pass on any error. So only sre_growth is above the crate that has the fact, one line of one spec
+hands the fact on without its lemma, and the answers of the three growths alone cite the lemma. Pages that name files and
+the header for C have to agree with the code (`map.py`, `header.py`). The status is 1 where something is missing or
+stale.
 """
 import os
 import re
 import subprocess
 import sys
 
-import adding
-import faults
-import functions
 import header
-import kit
 import map as code_map
-import pictures
-import wrong_bodies
-from wrong_bodies import ROOT, read
+import mutants
+from repository import ROOT, crates, read, rows, told
 
 COUNTS = f"{ROOT}/.ci/counts"
-# What is counted, how many there are, and where that is less than it was: the greatest number before, and why.
-ROW = re.compile(r"(\w+ [a-z -]+) (\d+)(?: # was (\d+): (\S.*))?")
+# What is counted, how many there are, and where that fell: the greatest number before, and why.
+ROW = re.compile(r"(\w+ [\w. -]*[\w-]) (\d+)(?: # was (\d+): (\S.*))?")
 
 HANDLES = "Handles allowed: none.\n"
 
 # What the tools read of these folders of a crate.
 READ = {
     "must-fail": r".*\.edit",
-    "wrong": r".*\.(edit|right)",
+    "wrong": r".*\.edit",
     "cases": r".*\.(txt|expected|fault|flags|table)|(files|no_cases|tables|calls)\.jsonl",
 }
 
@@ -59,15 +53,17 @@ def files(folder, *ends):
     return found
 
 
-def is_said(line):
-    """Whether a line is more than a comment."""
-    return not line.lstrip().startswith(("//", "--"))
-
-
 def listed(folder, end):
     """The files right in a folder whose names end so, as the tools list them."""
     names = sorted(os.listdir(folder)) if os.path.isdir(folder) else []
     return [f"{folder}/{it}" for it in names if it.endswith(end)]
+
+
+def folders():
+    """The folders of the crates, and of the tests' crates."""
+    for top in ("crates", "tests"):
+        found = sorted(os.listdir(f"{ROOT}/{top}")) if os.path.isdir(f"{ROOT}/{top}") else []
+        yield from (f"{ROOT}/{top}/{it}" for it in found if os.path.isdir(f"{ROOT}/{top}/{it}"))
 
 
 def lines_in(paths):
@@ -80,16 +76,12 @@ def tests_in(path):
 
 
 def counted():
-    """The number of each kind of thing, by crate, that nothing else would miss."""
+    """The number of each kind of thing that nothing else would miss."""
     found = {}
-    for name in sorted(os.listdir(f"{ROOT}/crates")):
-        folder = f"{ROOT}/crates/{name}"
-        found[f"{name} tests"] = sum(tests_in(it) for it in files(f"{folder}/src", ".rt"))
-        found[f"{name} programs"] = len(listed(f"{folder}/src", "main.rt"))
+    for folder in folders():
+        name = os.path.basename(folder)
+        found[f"{name} tests"] = sum(map(tests_in, files(f"{folder}/src", ".rt")))
         found[f"{name} must-fail edits"] = len(listed(f"{folder}/must-fail", ".edit"))
-        found[f"{name} wrong bodies"] = len(listed(f"{folder}/wrong", ".edit"))
-        found[f"{name} named goals"] = sum("\ngoal: " in read(it) for it in listed(f"{folder}/wrong", ".edit"))
-        found[f"{name} right bodies"] = len(listed(f"{folder}/wrong", ".right"))
         found[f"{name} answers"] = lines_in(listed(f"{folder}/cases", ".expected"))
         found[f"{name} faults"] = len(listed(f"{folder}/cases", ".fault"))
         found[f"{name} rows"] = lines_in(listed(f"{folder}/cases", ".jsonl"))
@@ -99,6 +91,10 @@ def counted():
     tests = listed(f"{ROOT}/python/tests", ".py")
     found["python test methods"] = sum(read(it).count("\n    def test_") for it in tests)
     found["embedding checks"] = sum(read(it).count(" CHECK(") for it in listed(f"{ROOT}/embedding", ".c"))
+    for crate in crates().values():
+        for it in mutants.mutants_of(crate):
+            what = f"mutants of {it.call}"
+            found[what] = found.get(what, 0) + 1
     return {what: number for what, number in found.items() if number}
 
 
@@ -138,48 +134,29 @@ def greatest():
     return found
 
 
+# Kinds of rows of .ci/counts from before mutants were counted by public call.
+GONE = (" wrong bodies", " named goals", " right bodies", " programs")
+
+
 def lowered():
-    """The rows of .ci/counts that have less than in a commit and do not say why."""
-    now = rows_now()
+    """The rows of .ci/counts that have less than in a commit and do not say why. A crate that is gone has no rows."""
+    now, names = rows_now(), [os.path.basename(it) for it in folders()]
     for what, number in greatest().items():
         has, was, _ = now.get(what, (0, 0, None))
-        if has < number > was:
+        is_gone = what.startswith("sre_") and what.split()[0] not in names
+        if has < number > was and not is_gone and not what.endswith(GONE):
             yield f".ci/counts: {what} {has}, but it was {number}: write '{what} {has} # was {number}: REASON' there"
 
 
 def unread():
-    """What stands beside files that a tool reads, and is read by nothing."""
-    for name in sorted(os.listdir(f"{ROOT}/crates")):
+    """Files beside those that a tool reads, which nothing reads."""
+    for folder in folders():
         for part, form in READ.items():
-            for path in listed(f"{ROOT}/crates/{name}/{part}", ""):
+            for path in listed(f"{folder}/{part}", ""):
                 begun, end = os.path.splitext(path)
                 is_alone = end in (".txt", ".fault", ".flags") and not os.path.isfile(f"{begun}.expected")
                 if is_alone or not os.path.isfile(path) or not re.fullmatch(form, os.path.basename(path)):
                     yield f"{os.path.relpath(path, ROOT)}: nothing reads it"
-
-
-def alike():
-    """The wrong bodies that make the text of another one, but for spaces."""
-    for crate in wrong_bodies.crates().values():
-        texts, made = wrong_bodies.sources(crate.folder), {}
-        for body in [*wrong_bodies.bodies_of(crate), *wrong_bodies.bodies_of(crate, "must-fail")]:
-            written = body.written(texts) or {}
-            changed = tuple((file, "".join(text.split())) for file, text in written.items() if text != texts[file])
-            if changed in made:
-                yield f"{body.label(crate)} makes the same text as {made[changed]}"
-            elif changed:
-                made[changed] = body.name
-
-
-def strayed():
-    """The wrong bodies that change another function than the one that has to be refused, as where a function was split.
-    What stands in no function may be changed, too."""
-    for crate in wrong_bodies.crates().values():
-        texts = wrong_bodies.sources(crate.folder)
-        for body in wrong_bodies.bodies_of(crate):
-            around = {functions.name_around(texts.get(file, ""), old) for file, old, _ in body.pairs}
-            if not body.is_inside(texts) and around - {None, body.function.rpartition("::")[2]}:
-                yield f"{body.label(crate)} changes another function than {body.function}"
 
 
 def widened():
@@ -189,43 +166,35 @@ def widened():
 
 
 def unsealed():
-    """What lets a crate say that a growth was refused where none was."""
-    for name, _, listed in wrong_bodies.rows():
-        if "sre_refusal_seal" in listed and name != "sre_growth":
+    """What lets a crate state that an allocation failed where none did."""
+    for name, _, below in rows():
+        if "sre_refusal_seal" in below and name != "sre_growth":
             yield f"crates.txt: {name} lists sre_refusal_seal"
-    named, crates = {}, f"{ROOT}/crates/"
-    for path in files(crates, ".rt", ".antt"):
-        short = path[len(crates):]
-        lines = [it for it in read(path).split("\n") if "sre_refusal_seal" in it and is_said(it)]
+    named, top = {}, f"{ROOT}/crates/"
+    for path in files(top, ".rt", ".antt"):
+        short = path[len(top):]
+        lines = [it for it in read(path).split("\n") if "sre_refusal_seal" in it and it.lstrip()[:2] not in ("//", "--")]
         if lines and not short.startswith("sre_refusal_seal/"):
             named[short] = lines
     if named != NAMED:
         yield f"other lines than the seal's name sre_refusal_seal: {[it for it in named if named[it] != NAMED.get(it)]}"
-    own = {path[len(crates):] for path in files(f"{crates}sre_growth", ".antt")}
+    own = {path[len(top):] for path in files(f"{top}sre_growth", ".antt")}
     if own != {*NAMED, "sre_growth/specs/Lib.antt", "sre_growth/proofs/Lib.antt"}:
         yield f"sre_growth has other files of specs and proofs: {sorted(own)}"
     for name in GROWTHS:
-        for line in read(f"{crates}sre_growth/proofs/{name}/Answers.antt").split("\n"):
+        for line in read(f"{top}sre_growth/proofs/{name}/Answers.antt").split("\n"):
             if line.startswith("pub ") and not re.fullmatch(r"pub (\S+) : goal\.\1", line):
                 yield f"the answers of sre_growth::{name} hand on more than goals: {line}"
 
 
-def stale():
-    """The pictures that are not what would be drawn now."""
-    for path, picture in pictures.drawn().items():
-        is_there = os.path.isfile(f"{ROOT}/{path}")
-        if not is_there or read(f"{ROOT}/{path}") != picture:
-            yield f"{path} is stale: python3 tools/pictures.py draws it anew"
-
-
 def fallen():
-    """All that does not stand."""
-    kept = [*missed(), *lowered(), *unread(), *alike(), *strayed(), *widened()]
-    return [*kept, *unsealed(), *header.unlike(), *adding.stale(), *code_map.stale(), *kit.unnamed(), *stale()]
+    """All that is missing or stale."""
+    kept = [*missed(), *lowered(), *unread(), *widened(), *unsealed()]
+    return [*kept, *header.unlike(), *code_map.stale()]
 
 
 def write():
-    """Writes today's numbers. A row that says why its number is less keeps that while it is."""
+    """Writes today's numbers. A row that says why its number fell keeps that while it is less."""
     numbers, before = counted(), rows_now()
     reasons = {what: f" # was {was}: {why}" for what, (_, was, why) in before.items() if numbers.get(what, 0) < was}
     with open(COUNTS, "w", encoding="utf-8") as file:
@@ -234,4 +203,4 @@ def write():
 
 
 if __name__ == "__main__":
-    sys.exit(faults.told(sys.argv[1:], __doc__, write, fallen))
+    sys.exit(told(sys.argv[1:], __doc__, write, fallen))

@@ -1,0 +1,360 @@
+#!/usr/bin/env python3
+"""Mutants of public calls: the prover has to refuse each one, at the goal that it names.
+
+    mutants.py [CRATE..]     tries the mutants of these crates, or of all, over the crates below as they were built
+    mutants.py --calls       prints a row for each public call: its mutants, and the clauses that refuse them
+
+A file crates/CRATE/wrong/CALL.edit has the mutants of one public call whose code is in that crate, each a block of
+lines 'WORD: TEXT':
+
+    title: what the mutant does wrong
+    fn: the function that is changed and has to be refused, by its path below the crate
+    goal: the goal of that function that has to stay open, as a check names it
+    cycle: the name of the function's cycle of calls, if it is in one
+    file: src/..
+    old: a text that is once in the function
+    new: the text that stands there instead; further pairs follow
+
+A function is proved from the contracts of those that it calls, so mutants of different functions are tried in one
+check: each is written into a copy of the crate, a second one of a function into a copy of the function. The proofs of
+all other functions are holes and their bodies panics, so nothing but their contracts is read. A mutant is refused only
+where its goal stays open in its own function, or an answer to that goal is no longer a proof; an answer that names what
+the mutant took away counts for nothing. A mutant changes code alone, never a contract, an attribute or ghost code. One
+function goes along unchanged and must not be refused. Where a check does not reach its end, its mutants are tried one by
+one. What a run on this machine judged of the very same files is taken over (`kept.py`). The status is 0 where each
+mutant is refused as it must be.
+"""
+import concurrent.futures
+import copy
+import os
+import re
+import subprocess
+import sys
+import tempfile
+import threading
+import time
+import typing
+
+import kept
+from functions import emptied, functions, sources
+from repository import PARTS, crates, kit, read
+
+# An answer that names what a mutant took away says nothing of the contract.
+TAKEN_AWAY = re.compile(r"has no field|is not in scope|has no `|was not admitted|stands by its signature")
+
+# What a reader takes for promised begins so.
+PROMISE = re.compile(r"\b(?:ensures|requires|ghost)\b[^{;]*[{;]")
+
+# A check offers files for the proof of a refused function, in a second pass; but not beside an answer that is no term.
+NO_OFFERS = "\nno_offers : no_such_type\nno_offers = ?\n"
+
+# The proof of a function that only its contract is read of.
+HOLE = """use Rattle.{crate}.proofs.{path}.Statement as stated
+
+pub {name}_spec : {{M : Type 1}} → stated.statement M
+{name}_spec = ?
+"""
+
+
+def promises(text):
+    """The contracts of a source, what else of it is ghost, and its attributes, which name lemmas for the search."""
+    text = re.sub(r"//.*", "", text)
+    found = re.findall(r"#!?\[.*", text)
+    for begun in PROMISE.finditer(text):
+        at, depth = begun.end(), text[begun.end() - 1] == "{"
+        while depth and at < len(text):
+            depth += {"{": 1, "}": -1}.get(text[at], 0)
+            at += 1
+        found.append(text[begun.start() : at])
+    return found
+
+
+# How many checks run at once, at the lowest priority: one core is left to others.
+RUNNING = threading.BoundedSemaphore(max(1, os.cpu_count() - 1))
+
+
+class Mutant:
+    """A mutant of a public call, as a block of its file has it."""
+
+    def __init__(self, crate, call, block):
+        self.crate, self.call, self.pairs, said = crate, call, [], {}
+        for line in block.split("\n"):
+            word, _, text = line.partition(": ")
+            said[word.removesuffix(":")] = text
+            if word.startswith("new"):
+                self.pairs.append((said.get("file", ""), said.get("old", ""), text))
+        self.title, self.function, self.goal, self.cycle = (said.get(it, "") for it in ("title", "fn", "goal", "cycle"))
+        self.name = self.function.rpartition("::")[2]
+
+    def label(self):
+        return f"mutant of {self.call} in {self.crate.name}: {self.title}"
+
+    def proof(self):
+        """The folder of the function's proof, or of its cycle's, below proofs/."""
+        module = self.function.rpartition("::")[0].replace("::", "/")
+        return f"{module}/{f'+{self.cycle}' if self.cycle else self.name}".lstrip("/")
+
+    def written(self, texts):
+        """The texts with the mutant in them; none where an old text is not once in its function."""
+        texts = dict(texts)
+        for file, old, new in self.pairs:
+            own = functions(texts).get(self.function)
+            parts = own.parts(texts) if own and own.file == file else ["", texts.get(file, ""), ""]
+            if parts[1].count(old) != 1:
+                return None
+            texts[file] = parts[0] + parts[1].replace(old, new) + parts[2]
+        return texts
+
+    def fault(self, texts):
+        """Why it cannot be tried, if so."""
+        if not (self.title and self.function and self.goal and self.pairs):
+            return "it has no title, function, goal or change"
+        made = self.written(texts)
+        if made is None:
+            return "an old text is not once in its function"
+        if any(promises(text) != promises(texts[file]) for file, text in made.items() if text != texts[file]):
+            return "it changes a contract, an attribute or ghost code"
+        return None
+
+    def copied(self, texts, changed, number):
+        """The changed texts with a copy of its function that is the mutant, and the mutant of that copy; nothing where
+        the function can't be copied, as a method of a trait or one of a cycle."""
+        own = functions(texts).get(self.function)
+        if not own or self.cycle:
+            return None, None
+        placed = copy.copy(self)
+        placed.function, placed.name = f"{self.function}_{number}", f"{self.name}_{number}"
+        whole = self.written(texts)
+        text = functions(whole)[self.function].text(whole)
+        now = functions(changed)[self.function].parts(changed)
+        added = re.sub(rf"\bfn {self.name}\b", f"fn {placed.name}", text, count=1)
+        return {**changed, own.file: f"{now[0]}{now[1]}\n{added}{now[2]}"}, placed
+
+
+def as_it_is(mutant):
+    """The mutant's function, unchanged: it goes along, and must not be refused."""
+    found = copy.copy(mutant)
+    found.title, found.pairs = "the function as it is", []
+    return found
+
+
+def mutants_of(crate):
+    """The mutants of a crate, by its files and in their order."""
+    folder, found = f"{crate.folder}/wrong", []
+    for name in sorted(os.listdir(folder)) if os.path.isdir(folder) else []:
+        blocks = read(f"{folder}/{name}").strip("\n").split("\n\n")
+        found += [Mutant(crate, name.removesuffix(".edit"), it) for it in blocks]
+    return found
+
+
+class Round:
+    """Mutants that one check tries, each in a function of its own name."""
+
+    def __init__(self, texts):
+        self.before, self.texts, self.mutants, self.placed, self.copies = texts, texts, [], [], {}
+
+    def take(self, mutant):
+        """Takes a mutant in, in its function or in a copy of it: whether it could."""
+        taken = [it.function for it in self.mutants].count(mutant.function)
+        texts, placed = mutant.written(self.texts), mutant
+        if taken:
+            texts, placed = mutant.copied(self.before, self.texts, taken + 1)
+        if not texts:
+            return False
+        if taken:
+            self.copies[placed.proof()] = mutant.proof()
+        self.texts, self.mutants, self.placed = texts, [*self.mutants, mutant], [*self.placed, placed]
+        return True
+
+
+class Trial:
+    """The checks of one crate's mutants."""
+
+    def __init__(self, crate, words):
+        self.crate, self.words, self.before, self.seconds, self.dearest = crate, words, {}, 0, []
+        for part in PARTS:
+            for at, _, names in os.walk(f"{crate.folder}/{part}"):
+                for name in names:
+                    self.before[os.path.relpath(f"{at}/{name}", crate.folder)] = read(f"{at}/{name}")
+
+    def opened(self, own):
+        """The folders of the proofs of all other functions, but for those of cycles."""
+        listed = {path.replace("::", "/") for path, it in functions(self.before).items() if not it.cycle}
+        named = [it.removeprefix("proofs/") for it in self.before if it.startswith("proofs/")]
+        answered = {os.path.dirname(it) for it in named if os.path.basename(it) in ("Answers.antt", "Invariants.antt")}
+        return (listed | {it for it in answered if "+" not in it}) - own
+
+    def copied_proof(self, of, to):
+        """What a function's proof has, for a copy of the function."""
+        texts = {}
+        for path, text in self.before.items():
+            if path.startswith(f"proofs/{of}/"):
+                for part in ("proofs", "specs.contracts"):
+                    text = text.replace(f"Rattle.{self.crate.name}.{part}.{of.replace('/', '.')}.",
+                                        f"Rattle.{self.crate.name}.{part}.{to.replace('/', '.')}.")
+                texts[f"proofs/{to}/{path.removeprefix(f'proofs/{of}/')}"] = text
+        return texts
+
+    def files(self, made):
+        """The files that a check of a round reads of its crate."""
+        texts = {**self.before, **emptied(made.texts, {it.function for it in made.placed})}
+        for to, of in made.copies.items():
+            texts.update(self.copied_proof(of, to))
+        own = {it.proof() for it in made.placed}
+        opened = self.opened(own)
+        begins = tuple(f"proofs/{it}/" for it in opened)
+        texts = {path: text for path, text in texts.items() if not path.startswith(begins)}
+        for proof in opened:
+            path, name = proof.replace("/", "."), os.path.basename(proof)
+            texts[f"proofs/{proof}/Proof.antt"] = HOLE.format(crate=self.crate.name, path=path, name=name)
+        for proof in own:
+            answers = f"proofs/{proof}/Answers.antt"
+            texts[answers] = texts.get(answers, "") + NO_OFFERS
+        return texts
+
+    def check(self, made):
+        """What a check of a round says."""
+        with RUNNING, tempfile.TemporaryDirectory(prefix="mutants-") as folder:
+            for path, text in self.files(made).items():
+                os.makedirs(os.path.dirname(f"{folder}/{path}"), exist_ok=True)
+                with open(f"{folder}/{path}", "w", encoding="utf-8") as file:
+                    file.write(text)
+            only = [word for it in made.placed for word in ("--only", it.function)]
+            words = ["nice", f"{kit()}/bin/rattle", "check", *self.words, "--allow-holes", "--progress", *only]
+            return self.said(words, folder)
+
+    def said(self, words, folder):
+        """What a command says, with its processor seconds, and those of each function by the clock."""
+        how = {"stdin": subprocess.DEVNULL, "stdout": subprocess.PIPE, "stderr": subprocess.STDOUT}
+        check, said, before = subprocess.Popen(words, cwd=folder, text=True, errors="replace", **how), "", None
+        for line in check.stdout:
+            said, ended = said + line, re.match(r"checked (\S+), \d+ of \d+", line)
+            if ended and before:
+                self.dearest.append((time.monotonic() - before, ended[1]))
+            before = time.monotonic() if ended or "ahead of the check" in line else before
+        _, check.returncode, used = os.wait4(check.pid, 0)
+        self.seconds += used.ru_utime + used.ru_stime
+        return said
+
+    def judged(self, made):
+        """For each mutant of a round whether it is judged as it must be, and a line that says so."""
+        said = self.check(made)
+        lines = re.sub(r"\n +", " ", said).rstrip("\n").split("\n")
+        if not lines[-1].startswith("only=") and len(made.mutants) > 1:
+            return [it for mutant in made.mutants for it in self.judged(rounds([mutant], made.before)[0])]
+        goals, named = refusals(lines, self.crate.name), set(re.findall(rf"(?m)^fn {self.crate.name}::(\S+):", said))
+        first = next((it for it in lines if "error" in it), lines[-1])[:200]
+        return [verdict(it, goals.get(it.function, []), it.function in named, first) for it in made.placed]
+
+
+def refusals(lines, crate):
+    """The goals that a check leaves open, by their functions."""
+    found, open_goals = {}, []
+    for line in lines:
+        goal = re.match(r"note: \S+:\d+:\d+: (?:it is not proved|`search` found no proof) .*\(`([^`]+)`\)", line)
+        ended = re.match(rf"(?:fn|impl|struct|enum) (?:{crate}::(\S+): (?:no proof|not proved)(.*))?", line)
+        if goal:
+            open_goals.append(goal[1])
+        elif ended:
+            # the notes on a function's goals come before its own line
+            if ended[1] and line.startswith("fn "):
+                found[ended[1]] = open_goals + re.findall(r"`search` did not prove `([^`]+)`", ended[2])
+            open_goals = []
+    answers = re.compile(r"(?:\./)?proofs/(\S+)/(?:Answers|Invariants|Proof)\.antt:\d+:\d+: error: `([^`]+)`(.*)")
+    for path, goal, why in (it.groups() for it in map(answers.match, lines) if it):
+        # the answers of a cycle name the function in the goal
+        name = re.sub(r"\+\w+$", goal.partition("-")[0], path).replace("/", "::")
+        if name in found and not TAKEN_AWAY.search(why):
+            found[name].append(goal)
+    return found
+
+
+def verdict(mutant, goals, is_named, first):
+    """Whether a mutant is judged as it must be where these goals of its function are open, and a line that says so."""
+    own = [it for it in goals if not mutant.cycle or it.startswith(f"{mutant.name}-")]
+    if not is_named:
+        return False, f"{mutant.label()}: BAD: the check does not name {mutant.function}: {first}"
+    if not mutant.pairs:
+        return not own, f"{mutant.label()}: {f'REFUSED at {own[0]}' if own else 'not refused'}"
+    if mutant.goal not in own:
+        return False, f"{mutant.label()}: NOT REFUSED: {mutant.goal} is not open; open are {', '.join(own) or 'none'}"
+    return True, f"{mutant.label()}: refused at {mutant.goal}"
+
+
+def rounds(mutants, texts):
+    """The mutants in as few rounds as they go into."""
+    made = []
+    for mutant in mutants:
+        if not any(it.take(mutant) for it in made):
+            made.append(Round(texts))
+            made[-1].take(mutant)
+    return made
+
+
+class Judged(typing.NamedTuple):
+    """Of a crate's mutants: for each whether it is judged as it must be, with a line; the processor seconds that they
+    took, and those of each function by the clock; and whether an earlier run judged them."""
+
+    found: list
+    seconds: float
+    dearest: list
+    is_kept: bool
+
+
+def tried(crate, rlibs):
+    """Tries a crate's mutants."""
+    mutants, texts, tool = mutants_of(crate), sources(crate.folder), os.path.realpath(__file__)
+    tools = [tool, *(f"{os.path.dirname(tool)}/{it}.py" for it in ("functions", "repository"))]
+    store = kept.Store(kit(), crate, [*PARTS, "wrong"], tools)
+    if store.path():
+        return Judged([(True, it) for it in read(store.path()).splitlines()], 0, [], True)
+    faults = [(it, it.fault(texts)) for it in mutants]
+    found = [(False, f"{it.label()}: BAD: {fault}") for it, fault in faults if fault]
+    good = [it for it, fault in faults if not fault]
+    plain = [it for it in good if not it.cycle and it.function in functions(texts)]
+    trial = Trial(crate, crate.words(kit(), rlibs))
+    for made in rounds([*good, *map(as_it_is, plain[:1])], texts):
+        found += trial.judged(made)
+    if all(is_well for is_well, _ in found):
+        with tempfile.NamedTemporaryFile("w", encoding="utf-8") as file:
+            file.write("\n".join(line for _, line in found))
+            file.flush()
+            store.keep(file.name)
+    return Judged(found, trial.seconds, trial.dearest, False)
+
+
+def dear(dearest):
+    """The lines on the ten functions that took longest."""
+    return [f"dearest: {seconds:.0f} seconds, {function}" for seconds, function in sorted(dearest, reverse=True)[:10]]
+
+
+def calls():
+    """A row for each public call that has mutants: how many, and the clauses that refuse them."""
+    found = {}
+    for crate in crates().values():
+        for it in mutants_of(crate):
+            found.setdefault(it.call, []).append(f"{crate.name} {it.function} {it.goal}")
+    return [f"{call} | {len(goals)} | {'; '.join(goals)}" for call, goals in sorted(found.items())]
+
+
+def main(words):
+    if words == ["--calls"]:
+        print("\n".join(calls()))
+        return 0
+    known, failed = crates(), 0
+    if not set(words) <= set(known):
+        print(__doc__.strip())
+        return 2
+    picked, dearest = [known[it] for it in words] or [it for it in known.values() if mutants_of(it)], []
+    with concurrent.futures.ThreadPoolExecutor(os.cpu_count()) as pool:
+        for judged in pool.map(lambda it: tried(it, lambda below: f"{below.folder}/out/rlib"), picked):
+            for is_well, line in judged.found:
+                print(line, flush=True)
+                failed += not is_well
+            dearest += judged.dearest
+    print(*dear(dearest), f"{failed} mutants not judged as they must be", sep="\n")
+    return 1 if failed else 0
+
+
+if __name__ == "__main__":
+    sys.exit(main(sys.argv[1:]))
