@@ -1,6 +1,4 @@
 """Words of patterns as constants of a Rust file, with the numbers of their named groups, in the layout of `rt fmt`."""
-
-import collections
 import re
 import sys
 import textwrap
@@ -9,9 +7,6 @@ import textwrap
 COLUMNS, ROW_COLUMNS, LIST_COLUMNS = 100, 99, 60
 INDENT = ' ' * 4
 NAME = re.compile('[A-Z][A-Z0-9_]{0,47}')
-
-# The letters of flags that a pattern of characters has by itself.
-BY_ITSELF = 'u'
 
 
 def listed(head, values):
@@ -33,43 +28,25 @@ def shown(source):
     return [f'///     {ascii(source)}']
 
 
-def letters_of(flags, known):
-    """The letters of the flags that are set."""
-    return ''.join(letter for letter, flag in known.items() if flags & flag and letter not in BY_ITSELF)
-
-
 def comment(pattern, known):
     """What stands above the words: the pattern, its flags, those that it sets itself among them, and whose words."""
-    flags = letters_of(pattern.flags | pattern.tree.state.flags, known)
-    version = '.'.join(map(str, sys.version_info[:2]))
+    flags = pattern.flags | pattern.tree.state.flags
+    # a pattern of characters has u by itself
+    letters = ''.join(letter for letter, flag in known.items() if flags & flag and letter != 'u')
     kind = 'bytes' if isinstance(pattern.source, bytes) else 'characters'
-    told = f'flags {flags}' if flags else 'no flags'
-    head = f'Words of CPython {version} for a pattern of {kind}, {told}:'
-    return '\n'.join([f'/// {head}', '///', *shown(pattern.source)])
-
-
-def groups_of(name, pattern):
-    """A constant for each named group: its number as Python counts, where group 1 is the first."""
-    return [(f'{name}_{group.upper()}',
-             f'/// Group {number} of [`{name}`], `{group}`.\npub const {name}_{group.upper()}: usize = {number};')
-            for number, group in pattern.names().items()]
+    head = '/// Words of CPython {}.{} for a pattern of {}, {}:'.format(
+        *sys.version_info[:2], kind, f'flags {letters}' if letters else 'no flags')
+    return '\n'.join([head, '///', *shown(pattern.source)])
 
 
 def faults(named):
     """What keeps names from being constants: one line for each."""
-    for name, _ in named:
+    for name, pattern in named:
         if not NAME.fullmatch(name):
             yield f'{ascii(name)} is no name: write up to 48 capital letters, digits and _, with a letter in front'
-    all_names = []
-    for name, pattern in named:
-        all_names.append(name)
         for number, group in pattern.names().items():
             if not re.fullmatch('[A-Za-z0-9_]+', group):
                 yield f'{name}: group {number}, {ascii(group)}, is no name of Rust: write it in letters of ASCII'
-            all_names.append(f'{name}_{group.upper()}')
-    for name, count in collections.Counter(all_names).items():
-        if count > 1:
-            yield f'{name} would be {count} constants'
 
 
 def file_of(named, cut, known):
@@ -79,5 +56,7 @@ def file_of(named, cut, known):
     for name, pattern in named:
         words = cut(pattern)
         items.append(f'{comment(pattern, known)}\n{listed(f"pub const {name}: [u32; {len(words)}]", words)}')
-        items += [text for _, text in groups_of(name, pattern)]
+        for number, group in pattern.names().items():
+            items.append(f'/// Group {number} of [`{name}`], `{group}`.\n'
+                         f'pub const {name}_{group.upper()}: usize = {number};')
     return '\n\n'.join(items)

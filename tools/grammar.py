@@ -1,35 +1,38 @@
 """The grammar of words: whether they are a code, what they say item by item, and else where and why they are none.
 
 This is the one reader of words among the tools: `listing.py` writes lines of what it reads, `trees.py` an expression,
-and `hostile.py` holds the program to its judgement. It is written from docs/WORDS.md and takes nothing of the check
-and its proofs. It looks at the same words as `Code::check` and in the same order, so both name the same cause and
-place.
+and `hostile.py` holds the program to its judgement. It is written from docs/WORDS.md and takes nothing of the check and
+its proofs. It looks at the same words as `Code::check` and in the same order, so both name the same cause and place.
 """
-
 import re
 import sys
 
 # The numbers of the project, in order from 0 on (crates/sre_chars/src/constants.rt).
 OPCODES = """
-    FAILURE SUCCESS ANY ANY_ALL ASSERT ASSERT_NOT AT BRANCH CATEGORY CHARSET BIGCHARSET GROUPREF
-    GROUPREF_EXISTS IN INFO JUMP LITERAL MARK MAX_UNTIL MIN_UNTIL NOT_LITERAL NEGATE RANGE REPEAT
-    REPEAT_ONE SUBPATTERN MIN_REPEAT_ONE ATOMIC_GROUP POSSESSIVE_REPEAT POSSESSIVE_REPEAT_ONE
-    GROUPREF_IGNORE IN_IGNORE LITERAL_IGNORE NOT_LITERAL_IGNORE
-    GROUPREF_LOC_IGNORE IN_LOC_IGNORE LITERAL_LOC_IGNORE NOT_LITERAL_LOC_IGNORE
-    GROUPREF_UNI_IGNORE IN_UNI_IGNORE LITERAL_UNI_IGNORE NOT_LITERAL_UNI_IGNORE RANGE_UNI_IGNORE
+    FAILURE SUCCESS ANY ANY_ALL ASSERT ASSERT_NOT AT BRANCH CATEGORY CHARSET BIGCHARSET GROUPREF GROUPREF_EXISTS IN
+    INFO JUMP LITERAL MARK MAX_UNTIL MIN_UNTIL NOT_LITERAL NEGATE RANGE REPEAT REPEAT_ONE SUBPATTERN MIN_REPEAT_ONE
+    ATOMIC_GROUP POSSESSIVE_REPEAT POSSESSIVE_REPEAT_ONE GROUPREF_IGNORE IN_IGNORE LITERAL_IGNORE NOT_LITERAL_IGNORE
+    GROUPREF_LOC_IGNORE IN_LOC_IGNORE LITERAL_LOC_IGNORE NOT_LITERAL_LOC_IGNORE GROUPREF_UNI_IGNORE IN_UNI_IGNORE
+    LITERAL_UNI_IGNORE NOT_LITERAL_UNI_IGNORE RANGE_UNI_IGNORE
 """.split()
 POSITIONS = """
-    BEGINNING BEGINNING_LINE BEGINNING_STRING BOUNDARY NON_BOUNDARY END END_LINE END_STRING
-    LOC_BOUNDARY LOC_NON_BOUNDARY UNI_BOUNDARY UNI_NON_BOUNDARY
+    BEGINNING BEGINNING_LINE BEGINNING_STRING BOUNDARY NON_BOUNDARY END END_LINE END_STRING LOC_BOUNDARY
+    LOC_NON_BOUNDARY UNI_BOUNDARY UNI_NON_BOUNDARY
 """.split()
 CATEGORIES = """
-    DIGIT NOT_DIGIT SPACE NOT_SPACE WORD NOT_WORD LINEBREAK NOT_LINEBREAK LOC_WORD LOC_NOT_WORD
-    UNI_DIGIT UNI_NOT_DIGIT UNI_SPACE UNI_NOT_SPACE UNI_WORD UNI_NOT_WORD UNI_LINEBREAK
-    UNI_NOT_LINEBREAK
+    DIGIT NOT_DIGIT SPACE NOT_SPACE WORD NOT_WORD LINEBREAK NOT_LINEBREAK LOC_WORD LOC_NOT_WORD UNI_DIGIT
+    UNI_NOT_DIGIT UNI_SPACE UNI_NOT_SPACE UNI_WORD UNI_NOT_WORD UNI_LINEBREAK UNI_NOT_LINEBREAK
 """.split()
 NUMBER = {name: number for number, name in enumerate(OPCODES)}
 UNLIMITED = 4294967295
-HAS_PREFIX, HAS_SET = 1, 4
+
+# How many words stand behind an opcode that is an item by itself, by a pattern that its name is a match of.
+OPERANDS = {
+    r'FAILURE|ANY|ANY_ALL|NEGATE': 0,
+    r'AT|CATEGORY|MARK|JUMP|GROUPREF(_\w*IGNORE)?|(NOT_)?LITERAL(_\w+)?': 1,
+    r'RANGE(_UNI_IGNORE)?': 2,
+    r'CHARSET': 8,
+}
 
 
 class Refused(Exception):
@@ -50,29 +53,25 @@ class Item:
     """What stands at a place: an opcode's name and its operands, or what stands there in place of an opcode.
 
     `behind` is the place behind it, and `parts` has the items of each part: those of a body, of a set without its
-    FAILURE, of each alternative, and of a condition's one or two parts. A loop's `until` is the name of its end, and
-    an alternative's `leads` the place that its JUMP leads to.
+    FAILURE, of each alternative, and of a condition's one or two parts. A loop's `until` is the name of its end.
     """
 
     def __init__(self, name, place, depth, words):
         self.name, self.place, self.depth, self.words = name, place, depth, words
-        self.parts, self.behind = [], place + 1 + len(words)
-        self.until = self.leads = None
+        self.parts, self.behind, self.until = [], place + 1 + len(words), None
 
 
 class Reader:
     """What words say. `tree` has the items of a code, without its block and its last SUCCESS.
 
     `read` has all that is read, in the order of reading, also of refused words up to the `fault`, which is a place and
-    a cause's name. `used` has the names of the opcodes, positions and categories, and `literals` the numbers of the
-    characters that items name.
+    a cause's name. `used` has the names of the opcodes, positions and categories.
 
     Each method for a family of opcodes reads the item at `place`, and gives it.
     """
 
     def __init__(self, words):
-        self.words, self.tree, self.read, self.fault = words, [], [], None
-        self.used, self.literals = set(), []
+        self.words, self.tree, self.read, self.used, self.fault = words, [], [], set(), None
         # the place and depth of the opcode that was read last
         self.begun = None
         limit = sys.getrecursionlimit()
@@ -86,10 +85,10 @@ class Reader:
             sys.setrecursionlimit(limit)
         self.is_code = self.fault is None
 
-    def note(self, name, place, depth, words=()):
-        item = Item(name, place, depth, words)
-        self.read.append(item)
-        return item
+    def note(self, name, place, depth, count=0):
+        """An item of so many words behind its opcode."""
+        self.read.append(Item(name, place, depth, self.words[place + 1:place + 1 + count]))
+        return self.read[-1]
 
     def word(self, place):
         demand(place < len(self.words), len(self.words), 'Truncated')
@@ -134,152 +133,107 @@ class Reader:
                 return method(self, name, place, depth)
         raise Refused(place, cause)
 
-    def end(self, place, names, depth, cause):
+    def end(self, place, names, depth):
         """The opcode that ends a part, which is one of these."""
         name = self.opcode(place, depth)
-        demand(name in names, place, cause)
+        demand(name in names, place, 'BadItem')
         return self.note(name, place, depth)
-
-    def misplaced(self, name, place, depth):
-        raise Refused(place, 'BadInfo')
 
     def alone(self, name, place, depth):
-        return self.note(name, place, depth)
-
-    def operand(self, name, place, depth):
-        word = self.word(place + 1)
-        item = self.note(name, place, depth, [word])
+        count = next(count for family, count in OPERANDS.items() if re.fullmatch(family, name))
+        self.word(place + count)
+        item = self.note(name, place, depth, count)
         if name in ('AT', 'CATEGORY'):
             names = POSITIONS if name == 'AT' else CATEGORIES
-            demand(word < len(names), place + 1, 'UnknownAt' if name == 'AT' else 'UnknownCategory')
-            self.used.add(names[word])
-        elif 'LITERAL' in name:
-            self.literals.append(word)
+            demand(item.words[0] < len(names), place + 1, 'UnknownAt' if name == 'AT' else 'UnknownCategory')
+            self.used.add(names[item.words[0]])
         return item
-
-    def bounds(self, name, place, depth):
-        self.word(place + 2)
-        item = self.note(name, place, depth, self.words[place + 1:place + 3])
-        self.literals += item.words
-        return item
-
-    def charset(self, name, place, depth):
-        self.word(place + 8)
-        return self.note(name, place, depth, self.words[place + 1:place + 9])
 
     def bigcharset(self, name, place, depth):
         self.word(place + 65)
-        count, blocks = self.words[place + 1], place + 66
-        demand(max(block_numbers(self.words[place + 2:blocks])) < count, place, 'BadSet')
-        behind = blocks + 8 * count
-        self.word(behind - 1)
-        return self.note(name, place, depth, self.words[place + 1:behind])
+        count = self.words[place + 1]
+        demand(max(block_numbers(self.words[place + 2:place + 66])) < count, place, 'BadSet')
+        self.word(place + 65 + 8 * count)
+        return self.note(name, place, depth, 65 + 8 * count)
 
-    def in_set(self, name, place, depth):
-        item = self.region(name, place, depth, 2)
-        item.parts = [self.members(place + 2, item.behind, depth + 1)]
+    def region(self, name, place, depth):
+        """A set, an atomic group, or a look, which has a word more. The skip leads behind it."""
+        count = 2 if name.startswith('ASSERT') else 1
+        behind, inside = self.skip(place + 1), place + 1 + count
+        item = self.note(name, place, depth, count)
+        demand(behind > inside, place + 1, 'BadSkip')
+        item.behind = behind
+        if name.startswith('IN'):
+            item.parts = [self.members(inside, behind - 1, depth + 1)]
+        else:
+            item.parts = [self.items(inside, behind - 1, depth + 1)]
+            self.end(behind - 1, ['SUCCESS'], depth + 1)
         return item
 
-    def members(self, place, behind, depth):
+    def members(self, place, end, depth):
         """The items of a set, behind which a FAILURE ends it."""
-        end, found = behind - 1, []
+        found = []
         demand(self.opcode(end, depth) == 'FAILURE', end, 'BadSet')
         while place < end:
             found.append(self.one_of(self.MEMBERS, place, depth, 'BadSet'))
             place = found[-1].behind
         demand(place == end, end, 'BadSet')
-        self.end(end, ['FAILURE'], depth, 'BadSet')
+        self.end(end, ['FAILURE'], depth)
         return found
 
-    def region(self, name, place, depth, head):
-        """The head of an item whose skip leads behind it."""
-        behind = self.skip(place + 1)
-        item = self.note(name, place, depth, self.words[place + 1:place + head])
-        demand(behind > place + head, place + 1, 'BadSkip')
-        item.behind = behind
-        return item
-
-    def closed(self, name, place, depth):
-        """An atomic group, or a look, which has a word more."""
-        head = 2 if name == 'ATOMIC_GROUP' else 3
-        item = self.region(name, place, depth, head)
-        item.parts = [self.items(place + head, item.behind - 1, depth + 1)]
-        self.end(item.behind - 1, ['SUCCESS'], depth + 1, 'BadItem')
-        return item
-
     def repeat(self, name, place, depth):
-        """The head of a run or a loop, whose skip leads behind a run, and to a loop's end."""
+        """A run of a test, whose skip leads behind it, or a loop, whose skip leads to its end."""
         self.word(place + 3)
-        item = self.note(name, place, depth, self.words[place + 1:place + 4])
+        item = self.note(name, place, depth, 3)
         skip, least, greatest = item.words
         demand(least <= greatest, place + 2, 'BadCounts')
         item.behind = place + 1 + skip
-        return item
-
-    def run(self, name, place, depth):
-        item = self.repeat(name, place, depth)
-        test = self.one_of(self.TESTS, place + 4, depth + 1, 'BadItem')
-        end = self.end(test.behind, ['SUCCESS'], depth + 1, 'BadItem')
-        demand(item.behind == end.behind, place + 1, 'BadSkip')
-        item.parts = [[test]]
-        return item
-
-    def loop(self, name, place, depth):
-        item = self.repeat(name, place, depth)
-        item.parts = [self.items(place + 4, item.behind, depth + 1)]
-        ends = ['MAX_UNTIL', 'MIN_UNTIL'] if name == 'REPEAT' else ['SUCCESS']
-        end = self.end(item.behind, ends, depth, 'BadItem')
-        item.until, item.behind = end.name, end.behind
+        if name.endswith('_ONE'):
+            test = self.one_of(self.TESTS, place + 4, depth + 1, 'BadItem')
+            item.parts = [[test]]
+            demand(item.behind == self.end(test.behind, ['SUCCESS'], depth + 1).behind, place + 1, 'BadSkip')
+        else:
+            item.parts = [self.items(place + 4, item.behind, depth + 1)]
+            end = self.end(item.behind, ['MAX_UNTIL', 'MIN_UNTIL'] if name == 'REPEAT' else ['SUCCESS'], depth)
+            item.until, item.behind = end.name, end.behind
         return item
 
     def branch(self, name, place, depth):
         item, place, leads = self.note(name, place, depth), place + 1, None
         while leads is None or self.word(place):
-            part = self.alternative(place, leads, depth + 1)
-            item.parts += part.parts
-            place, leads = part.behind, part.leads
+            # an alternative, whose JUMP leads to where those of the ones before do
+            following = self.skip(place)
+            demand(following >= place + 3, place, 'BadItem')
+            own = self.skip(following - 1)
+            demand(leads in (None, own), place, 'BadSkip')
+            part, leads = self.note('alternative', place, depth + 1), own
+            part.words, part.behind = [self.words[place]], following
+            item.parts.append(self.items(place + 1, following - 2, depth + 2))
+            demand(self.opcode(following - 2, depth + 2) == 'JUMP', following - 2, 'BadItem')
+            self.alone('JUMP', following - 2, depth + 2)
+            place = following
         self.note('no alternative', place, depth + 1)
         demand(leads == place + 1, place, 'BadSkip')
         item.behind = leads
         return item
 
-    def alternative(self, place, leads, depth):
-        """An alternative, whose JUMP leads to where those of the ones before do."""
-        following = self.skip(place)
-        demand(following >= place + 3, place, 'BadItem')
-        own = self.skip(following - 1)
-        demand(leads in (None, own), place, 'BadSkip')
-        part = self.note('alternative', place, depth, [self.words[place]])
-        part.behind, part.leads = following, own
-        part.parts = [self.items(place + 1, following - 2, depth + 1)]
-        demand(self.opcode(following - 2, depth + 1) == 'JUMP', following - 2, 'BadItem')
-        self.operand('JUMP', following - 2, depth + 1)
-        return part
-
     def condition(self, name, place, depth):
         behind = self.skip(place + 2) - 1
-        item = self.note(name, place, depth, self.words[place + 1:place + 3])
+        item = self.note(name, place, depth, 2)
         demand(behind >= place + 3, place + 2, 'BadSkip')
         item.parts, item.behind, place = [[]], behind, place + 3
         while place != behind:
             if self.opcode(place, depth + 1) == 'JUMP' and place + 2 == behind:
-                other = self.otherwise(place, depth)
-                item.parts += other.parts
-                item.behind = other.behind
-                return item
+                # the second part, behind the JUMP at the end of the first one
+                item.behind = self.skip(place + 1)
+                self.alone('JUMP', place, depth + 1)
+                demand(item.behind >= behind, place + 1, 'BadSkip')
+                self.note('otherwise', behind, depth).behind = item.behind
+                item.parts.append(self.items(behind, item.behind, depth + 1))
+                break
             item.parts[0].append(self.item(place, depth + 1))
             place = item.parts[0][-1].behind
         return item
-
-    def otherwise(self, jump, depth):
-        """The second part of a condition, behind the JUMP at the end of the first one."""
-        behind = self.skip(jump + 1)
-        self.operand('JUMP', jump, depth + 1)
-        demand(behind >= jump + 2, jump + 1, 'BadSkip')
-        part = self.note('otherwise', jump + 2, depth)
-        part.behind = behind
-        part.parts = [self.items(jump + 2, behind, depth + 1)]
-        return part
 
     def block(self):
         """Reads the information block, and gives the place behind it. The grammar asks its skip alone, so what it
@@ -287,42 +241,26 @@ class Reader:
         self.opcode(0, 0)
         behind = 1 + self.word(1)
         demand(5 <= behind < len(self.words), 1, 'BadInfo')
-        flags = self.note('INFO', 0, 0, self.words[1:5]).words[1]
-        claims, known = self.words[5:behind], len(self.read)
-        if flags & HAS_PREFIX and claims and len(claims) == 2 + 2 * claims[0]:
-            overlaps = 2 + claims[0]
-            self.note('prefix', 5, 1, claims[:overlaps])
-            self.note('overlaps', 5 + overlaps, 1, claims[overlaps:])
-        elif claims:
-            try:
-                demand(flags & HAS_SET, 5, 'BadSet')
-                self.members(5, behind, 1)
-            except Refused:
-                self.read[known:] = []
-                self.note('claims', 5, 1, claims)
+        self.note('INFO', 0, 0, 4)
+        if behind > 5:
+            self.note('claims', 5, 1).words = self.words[5:behind]
         return behind
 
     # How an item is read: by the first pattern that its opcode's name is a match of, whole.
     TESTS = {
-        r'ANY|ANY_ALL': alone,
-        r'CATEGORY|(NOT_)?LITERAL(_\w+)?': operand,
-        r'IN(_\w*IGNORE)?': in_set,
+        r'ANY|ANY_ALL|CATEGORY|(NOT_)?LITERAL(_\w+)?': alone,
+        r'IN(_\w*IGNORE)?': region,
     }
     ITEMS = {
         **TESTS,
-        r'INFO': misplaced,
-        r'FAILURE': alone,
+        r'INFO': lambda self, name, place, depth: demand(False, place, 'BadInfo'),
+        r'FAILURE|AT|MARK|GROUPREF(_\w*IGNORE)?': alone,
         r'BRANCH': branch,
         r'GROUPREF_EXISTS': condition,
-        r'AT|MARK|GROUPREF(_\w+)?': operand,
-        r'ATOMIC_GROUP|ASSERT(_NOT)?': closed,
-        r'(MIN_|POSSESSIVE_)?REPEAT_ONE': run,
-        r'(POSSESSIVE_)?REPEAT': loop,
+        r'ATOMIC_GROUP|ASSERT(_NOT)?': region,
+        r'(MIN_|POSSESSIVE_)?REPEAT_ONE|(POSSESSIVE_)?REPEAT': repeat,
     }
     MEMBERS = {
-        r'NEGATE': alone,
-        r'LITERAL|CATEGORY': operand,
-        r'RANGE(_UNI_IGNORE)?': bounds,
-        r'CHARSET': charset,
+        r'NEGATE|LITERAL|CATEGORY|RANGE(_UNI_IGNORE)?|CHARSET': alone,
         r'BIGCHARSET': bigcharset,
     }

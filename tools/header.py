@@ -11,20 +11,16 @@ number, each struct by its fields in order, each function by its parameters. A s
 import re
 import sys
 
-import faults
-from wrong_bodies import ROOT, read
+from repository import ROOT, read, told
 
 CRATE = f"{ROOT}/crates/sre_c"
 HEADER = "crates/sre_c/include/sre.h"
-
-# what the crate takes from sre_chars: the file, and what C calls the struct
-PAIRS = "crates/sre_chars/src/table/entries.rt"
-CALLED = {"UniPair": "sre_pair"}
+# The file of sre_chars with the struct that the crate takes from there, and what C calls it.
+PAIRS, CALLED = "crates/sre_chars/src/table/entries.rt", {"UniPair": "sre_pair"}
 
 NUMBERS = {"u8": "uint8_t", "u16": "uint16_t", "u32": "uint32_t", "u64": "uint64_t", "usize": "size_t",
            "isize": "ptrdiff_t", "bool": "bool"}
-SLICE = re.compile(r"&(?:'a )?(mut )?\[(\w+)\]")
-REFERENCE = re.compile(r"&(?:'a )?(mut )?(\w+)(?:<'\w+>)?")
+POINTER = re.compile(r"&(?:'a )?(mut )?(\[?)(\w+)(?:<'\w+>|\])?")
 
 STATUS = re.compile(r"Status::(\w+) => (\d+),")
 STRUCT = re.compile(r"#\[repr\(C\)\]\n(?:#\[[^\n]*\]\n)*pub struct (\w+)(?:<'a>)? \{\n(.*?)\n\}", re.S)
@@ -38,9 +34,9 @@ C_STRUCT = re.compile(r"typedef struct (\w+) \{(.*?)\} (\w+);", re.S)
 C_FUNCTION = re.compile(r"(?m)^(\w+) (\w+)\(([^;{}]*)\);")
 
 
-def in_words(name, end="_"):
+def in_words(name):
     """A name such as NoRoom, with its words apart: no_room."""
-    return re.sub(r"(?<=[a-z0-9])(?=[A-Z])", end, name).lower()
+    return re.sub(r"(?<=[a-z0-9])(?=[A-Z])", "_", name).lower()
 
 
 def type_of(written):
@@ -52,11 +48,11 @@ def declared(name, written):
     """How C declares a field or a parameter of a type: in one part, a slice in two, and a `Global` in none."""
     if written == "Global":
         return []
-    for form, rest in ((SLICE, [f"size_t {name}_count"]), (REFERENCE, [])):
-        found = form.fullmatch(written)
-        if found:
-            return [f"{'' if found[1] else 'const '}{type_of(found[2])} *{name}", *rest]
-    return [f"{type_of(written.partition('<')[0])} {name}"]
+    found = POINTER.fullmatch(written)
+    if not found:
+        return [f"{type_of(written.partition('<')[0])} {name}"]
+    pointer = f"{'' if found[1] else 'const '}{type_of(found[3])} *{name}"
+    return [pointer, f"size_t {name}_count"] if found[2] else [pointer]
 
 
 def joined(pairs):
@@ -103,4 +99,4 @@ def unlike():
 
 
 if __name__ == "__main__":
-    sys.exit(faults.told(sys.argv[1:], __doc__, None, unlike))
+    sys.exit(told(sys.argv[1:], __doc__, None, unlike))

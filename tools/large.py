@@ -1,6 +1,5 @@
 """Large lines for the programs `sre_cases` and `sre_probes`: with ample memory each has its answer."""
-
-import programs
+import repository
 
 LETTERS, TEXT = 100_000, "61" * 100_000
 # (?:(?:a|b)*c|a), (?:a|b)*, which saves a choice at each turn, and (?:.|b)*, which saves two
@@ -60,9 +59,8 @@ def probes():
 def are_answered(program, rows, tell):
     """Whether a program answers all rows."""
     lines, wanted = zip(*rows())
-    ran = programs.ran(program, lines)
-    answers = ran.stdout.splitlines()
+    answers = repository.answers(program, lines)
     for line, answer, other in zip(lines, answers, wanted):
         if answer != other:
             tell(f"answered otherwise: {line[:60]} ..: {answer[:60]}")
-    return ran.returncode == 0 and not ran.stderr and answers == list(wanted)
+    return answers == list(wanted)

@@ -1,139 +1,158 @@
 #!/usr/bin/env python3
-"""The map of docs/CODE.md: each file of the code, with the sentence that its head comment begins with. And its paths.
+"""Which file is what, and whether the pages that name files of the code are as the files are.
 
-    map.py            tells what of the page is not as the files are
-    map.py --write    writes the list of files anew
+    map.py          tells what of docs/CODE.md and docs/ADDING.md does not hold
+    map.py files    lists each source, with the sentence that its head comment begins with
+    map.py items    lists each file that names an item of the grammar, and which items it names
 
-A path is a table by hand, a row for each function on it: the function, the file in which it stands, and a row above
-that calls it. Each function has to stand in its file, and its name in the function that calls it; in the part on hints,
-in the order of the rows. Each file of src/ has to begin with a sentence of its own. The status is 1 where one of these
-does not hold.
+A file is named below crates/ and without its ending. A path of docs/CODE.md is a table by hand, a row for each function
+on it: the function, the file in which it stands, and a row above that calls it. Each function has to stand in its file,
+and its name in the function that calls it; in the part on hints, in the order of the rows. Each source has to begin
+with a sentence of its own.
+
+A phase of docs/ADDING.md names the files of the first column of its table, in the crates of its heading: by a path, by
+a folder, or by a form with * or a word in capitals in place of names. A name without a folder stands in the folder of
+the name before it. Each has to be there, and each file that names an item has to be in a phase. A file names an item
+where it has one of the item's names as a whole word; tests, cases and documents are not looked at. The status is 1
+where something does not hold.
 """
+import glob
 import os
 import re
 import sys
 
-import faults
-import wrong_bodies
 from functions import FUNCTION, extent
-from wrong_bodies import ROOT, read
+from repository import PARTS, ROOT, read, rows, told
 
-PAGE = f"{ROOT}/docs/CODE.md"
-BEGIN, END = "<!-- the map begins -->\n", "<!-- the map ends -->\n"
-
-# A row of a path: a function, its file, and the function that calls it, if one above does.
-FRAME = re.compile(r"\| `([\w:]+)` \| `(\w+)/([\w/]+)` \| (?:`([\w:]+)`)? ?\| .* \|")
-
-# The part whose rows stand in the order in which they are called.
-IN_ORDER = "## In which order hints are tried"
+CODE, ADDING = "docs/CODE.md", "docs/ADDING.md"
 
 # The first sentence of a paragraph.
 SENTENCE = re.compile(r".*?\.(?= [A-Z`\[]|$)")
 
+# A row of a path: a function, its file, and the function that calls it, if one above does.
+FRAME = re.compile(r"\| `([\w:]+)` \| `(\w+/[\w/]+)` \| (?:`([\w:]+)`)? ?\| .* \|")
+# The part whose rows stand in the order in which they are called.
+IN_ORDER = "## In which order hints are tried"
 
-def crates():
-    """The names of the crates, lowest first. A crate that someone tries beside these has another name."""
-    return [name for name, _, _ in wrong_bodies.rows() if name.startswith("sre_")]
-
-
-def files(crate):
-    """The files of a crate's code, the root first, as the page names them: without src/ and their ending."""
-    top, found = f"{ROOT}/crates/{crate}/src", []
-    for at, _, names in os.walk(top):
-        found += [os.path.relpath(f"{at}/{it}", top).removesuffix(".rt") for it in names if it.endswith(".rt")]
-    return sorted(found, key=lambda it: (it not in ("lib", "main"), it))
-
-
-def source(crate, file):
-    return f"{ROOT}/crates/{crate}/src/{file}.rt"
-
-
-def head(text):
-    """The sentence that a file's head comment begins with; none where it begins with no sentence."""
-    lines = re.match(r"(?://! .*\n)*", text)[0].replace("//! ", "").split("\n")
-    found = SENTENCE.match(" ".join(lines).strip())
-    # a link of the comment is a name here
-    return re.sub(r"\[(`[^`]*`)\]", r"\1", found[0]).replace("|", r"\|") if found else None
+CRATES = ("sre_chars", "sre_model", "sre_turns", "sre_code", "sre_board", "sre_request", "sre_reading", "sre_machine",
+          "sre_engine", "sre_emit", "sre_shape", "sre_patterns")
+# Items whose names nothing else has, and what names them.
+ITEMS = {
+    "branch": r"Branch|BRANCH|ToBranch|is_branch|branch-ran|branch_turn",
+    "atomic": r"Atomic|ATOMIC_GROUP|ToGroupAtomically|AtomicMove|AtomicGroup|is_atomic|atomic[-_]\w+",
+    "look": r"Look|ASSERT|ASSERT_NOT|ToLook|LookMove|is_look|look_opcode",
+    "possessive": r"PossessiveLoop|POSSESSIVE_REPEAT|ToRepeatPossessively|is_possessive",
+    "reference": r"Reference|GROUPREF(_\w*IGNORE)?|ToRefer|is_reference|reference_opcode",
+    "condition": r"Exists|ExistsElse|GROUPREF_EXISTS|ToCheckGroup|is_exists",
+}
+NAMED = {item: re.compile(rf"(?<![\w-])(?:{names})(?![\w-])") for item, names in ITEMS.items()}
+# The kit's patterns have a `Look` of their own, which is no item.
+KITS_LOOK = re.compile(r"regex_hir\S*\bLook\b")
 
 
-def listed():
-    """The list of files, a table for each crate."""
-    lines = []
-    for crate in crates():
-        lines += ["", f"### `{crate}`", "", "| File | Begins with |", "|---|---|"]
-        lines += [f"| `{file}` | {head(read(source(crate, file)))} |" for file in files(crate)]
-    return "\n".join(lines[1:]) + "\n"
+def files(crate, parts=PARTS):
+    """The paths of a crate's files of code, specs and proofs, by their names."""
+    below = (f"{ROOT}/crates/{crate}/{part}/**/*.{end}" for part in parts for end in ("rt", "antt"))
+    paths = (path for form in below for path in glob.glob(form, recursive=True))
+    return dict(sorted((os.path.splitext(os.path.relpath(it, f"{ROOT}/crates"))[0], it) for it in paths))
 
 
-PART = faults.Part(PAGE, BEGIN, END, listed)
+def heads():
+    """Each source with the sentence that its head comment begins with; with none where it begins with no sentence."""
+    # a crate that someone tries beside these has another name
+    for crate in (name for name, _, _ in rows() if name.startswith("sre_")):
+        for name, path in files(crate, ["src"]).items():
+            lines = re.match(r"(?://! .*\n)*", read(path))[0].replace("//! ", "").split("\n")
+            found = SENTENCE.match(" ".join(lines).strip())
+            yield name, found and found[0]
 
 
-def headless():
-    """The files that begin with no sentence."""
-    for crate in crates():
-        for file in files(crate):
-            if not head(read(source(crate, file))):
-                yield f"crates/{crate}/src/{file}.rt begins with no sentence on what it is"
-
-
-def bodies(text, name):
-    """The texts of a file's functions of a name, without the lines that are comments."""
-    lines = text.split("\n")
+def bodies(name, file):
+    """The texts of a file's functions of a name, without their heads and the lines that are comments."""
+    path = f"{ROOT}/crates/{file}.rt"
+    lines = read(path).split("\n") if os.path.isfile(path) else []
     for at, line in enumerate(lines):
         begun = FUNCTION.match(line)
         if begun and begun[2] == name:
-            _, end = extent(lines, at, begun[1]) if not line.endswith(";") else (at, at)
-            yield "\n".join(it for it in lines[at : end + 1] if not it.lstrip().startswith("//"))
+            end = at if line.endswith(";") else extent(lines, at, begun[1])[1]
+            yield "\n".join(it for it in lines[at + 1 : end + 1] if not it.lstrip().startswith("//"))
 
 
-class Frame:
-    """A row of a path."""
-
-    def __init__(self, row):
-        self.path, crate, file, self.caller = row.groups()
-        self.name, self.file = self.path.split("::")[-1], f"{crate}/{file}"
-        where = f"{ROOT}/crates/{self.file}.rt"
-        self.bodies = list(bodies(read(where), self.name)) if os.path.isfile(where) else []
-
-    def called_at(self, callers):
-        """Where a function of those above that calls it has its name as that of a call, if one has."""
-        called = re.compile(rf"\b{self.name}(?:::<[^()]*>)?\(")
-        own = [body.partition("\n")[2] for it in callers if it.path == self.caller for body in it.bodies]
-        return next((it.start() for it in map(called.search, own) if it), None)
-
-
-def astray():
+def off_path():
     """The rows of the paths that are not as the code is."""
-    lines = read(PAGE).partition(BEGIN)[0].split("\n")
+    lines = read(f"{ROOT}/{CODE}").split("\n")
     if IN_ORDER not in lines:
-        yield f"docs/CODE.md: it has no part '{IN_ORDER}'"
-    part, above, reached = "", [], {}
+        yield f"it has no part '{IN_ORDER}'"
+    # the bodies of the functions above, and how far in a body calls have come
+    part, above, reached = "", {}, {}
     for line in lines:
         row = FRAME.fullmatch(line)
         if line.startswith("## "):
-            part, above, reached = line, [], {}
+            part, above, reached = line, {}, {}
         elif row:
-            frame = Frame(row)
-            at = frame.called_at(above)
-            if not frame.bodies:
-                yield f"docs/CODE.md: {frame.path} does not stand in {frame.file}"
-            elif frame.caller and at is None:
-                yield f"docs/CODE.md: no row above has a {frame.caller} that calls {frame.path}"
-            elif part == IN_ORDER and frame.caller and at < reached.get(frame.caller, 0):
-                yield f"docs/CODE.md: {frame.caller} calls {frame.path} before what stands above it"
-            above.append(frame)
-            reached[frame.caller] = at or 0
+            path, file, caller = row.groups()
+            name = path.split("::")[-1]
+            own, call = list(bodies(name, file)), re.compile(rf"\b{name}(?:::<[^()]*>)?\(")
+            at = next((it.start() for it in map(call.search, above.get(caller, [])) if it), None)
+            if not own:
+                yield f"{path} does not stand in {file}"
+            elif caller and at is None:
+                yield f"no row above has a {caller} that calls {path}"
+            elif part == IN_ORDER and caller and at < reached.get(caller, 0):
+                yield f"{caller} calls {path} before what stands above it"
+            above[path] = above.get(path, []) + own
+            reached[caller] = at or 0
         elif line.startswith("| `"):
-            yield f"docs/CODE.md: no row of a path: {line}"
+            yield f"no row of a path: {line}"
+
+
+def items():
+    """The files that name items, with these."""
+    for path, text in ((path, read(at)) for crate in CRATES for path, at in files(crate).items()):
+        text = re.sub(r"\bLook\b", "", text) if KITS_LOOK.search(text) else text
+        named = [item for item, names in NAMED.items() if names.search(text)]
+        if named:
+            yield path, ", ".join(named)
+
+
+def phases():
+    """The names of each phase's files, each with what they match as this tool names files."""
+    crates, found = [], {}
+    for line in read(f"{ROOT}/{ADDING}").split("\n"):
+        if line.startswith("## "):
+            crates = re.findall(r"`(sre_\w+)`", line)
+        elif line.startswith("|") and crates:
+            folder = ""
+            for name in re.findall(r"`([^`]+)`", line.split("|")[1]):
+                folder = os.path.dirname(name) or folder
+                name = f"{folder}/{os.path.basename(name)}"
+                form = re.sub(r"\b[A-Z]{2,}\b", "[^/]+", re.escape(name).replace(r"\*", "[^/]*"))
+                own = "" if name.startswith("sre_") else f"(?:{'|'.join(crates)})/"
+                # a crate's name alone says nothing of a file
+                found.update({name: re.compile(f"{own}{form}(?:/.*)?")} if folder else {})
+    return found
+
+
+def out_of_phase():
+    """The names of phases that no file has, and the files that name an item and that no phase names."""
+    forms, every = phases(), [path for crate in CRATES for path in files(crate)]
+    for name, form in forms.items():
+        if not any(map(form.fullmatch, every)) and not os.path.exists(f"{ROOT}/{name}"):
+            yield f"a phase names {name}, which is not there"
+    for path, _ in items():
+        if not any(form.fullmatch(path) for form in forms.values()):
+            yield f"{path} names an item, and is in no phase"
 
 
 def stale():
-    """What is told where the page is not as the files are."""
-    lost = list(headless())
-    if not lost and not PART.is_new():
-        lost.append("docs/CODE.md: its list of files is stale, `tools/map.py --write` renews it")
-    return [*lost, *astray()]
+    """What does not hold."""
+    yield from (f"{name} begins with no sentence on what it is" for name, head in heads() if not head)
+    yield from (f"{CODE}: {it}" for it in off_path())
+    yield from (f"{ADDING}: {it}" for it in out_of_phase())
 
 
 if __name__ == "__main__":
-    sys.exit(faults.told(sys.argv[1:], __doc__, PART.write, stale))
+    lists = {"files": heads, "items": items}
+    if len(sys.argv) == 2 and sys.argv[1] in lists:
+        sys.exit(print(*(f"{name}: {said}" for name, said in lists[sys.argv[1]]()), sep="\n"))
+    sys.exit(told(sys.argv[1:], __doc__, None, stale))

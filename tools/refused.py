@@ -1,21 +1,17 @@
-#!/usr/bin/env python3
-"""Whether a finder of `sre_cases` whose memory is refused leaves the plain answer.
-
-    refused.py [--program PATH]
+"""Whether a finder of `sre_cases` whose memory is refused leaves the plain answer. The gate asks for it (`cases.py`).
 
 Each line is long enough to be asked of a finder. Each request for memory of the whole program is refused in turn, by
 `refused.c` before the C library. What is refused to the program's reading and writing ends it with `no memory`, and
 what is refused to the machine gives the answer `memory`: no more of them than the same line makes as a `match`, which
 asks no finder. All others are the finder's, and leave the answer as it is. It needs `cc`.
 """
-import argparse
 import os
 import shutil
 import subprocess
-import sys
 import tempfile
 
-ROOT = os.path.dirname(os.path.dirname(os.path.realpath(__file__)))
+from repository import ROOT, read, write
+
 MEMORY = (1, "", "no memory\n"), (0, "memory\n", "")
 LETTERS = "6162632031323320" * 5000
 # [a-z]+!, (?:cat|dog|[0-9]+)! and (?:cat|dög|[0-9]+)!
@@ -29,20 +25,18 @@ def lines():
     # the ! that each match contains does not come
     yield "search", f"{RUN} b:{LETTERS} all -"
     # it comes, and no match does
-    yield "search", f"{RUN} b:{LETTERS}21 all -"
     yield "search", f"{CHOICE.format(111)} s:{LETTERS}21 all -"
-    yield "search", f"{CHOICE.format(246)} s:{LETTERS}c3a921 all -"
-    # a finder of spans
-    yield "walk", f"{RUN} b:{LETTERS}21 all -"
-    yield "walk", f"{CHOICE.format(246)} s:{LETTERS}c3a921 all -"
+    # by a finder, and by a finder of spans
+    for verb in ("search", "walk"):
+        yield verb, f"{RUN} b:{LETTERS}21 all -"
+        yield verb, f"{CHOICE.format(246)} s:{LETTERS}c3a921 all -"
 
 
 class Refusing:
     """Runs of a program on a line, with one request for memory refused."""
 
     def __init__(self, program, room):
-        self.program, self.case, self.told = program, os.path.join(room, "case"), os.path.join(room, "told")
-        self.library = os.path.join(room, "refused.so")
+        self.program, self.case, self.told, self.library = program, *(f"{room}/{it}" for it in ("case", "told", "so"))
         source = f"{ROOT}/tools/refused.c"
         subprocess.run(["cc", "-shared", "-fPIC", "-O1", "-Wall", "-Werror", source, "-o", self.library], check=True)
 
@@ -54,16 +48,10 @@ class Refusing:
 
     def asked(self, line):
         """What a line comes to with ample memory, and how many requests it makes."""
-        with open(self.case, "w", encoding="ascii") as file:
-            file.write(f"{line}\n")
-        return self.ran(0), self.requests()
-
-    def requests(self):
-        """How many requests the last run told of; none where the program does not ask the C library."""
-        if not os.path.isfile(self.told):
-            return 0
-        with open(self.told, encoding="ascii") as file:
-            return int(file.read())
+        write(self.case, f"{line}\n")
+        came_to = self.ran(0)
+        # none is told where the program does not ask the C library
+        return came_to, int(read(self.told)) if os.path.isfile(self.told) else 0
 
     def is_plain(self, verb, asked, tell):
         """Whether each request of the finder's leaves the plain answer, and each other one is told."""
@@ -90,14 +78,3 @@ def are_plain(program, tell):
     with tempfile.TemporaryDirectory(prefix="refused-") as room:
         refusing = Refusing(program, room)
         return all([refusing.is_plain(verb, asked, tell) for verb, asked in lines()])
-
-
-def main():
-    parser = argparse.ArgumentParser(description=__doc__, formatter_class=argparse.RawDescriptionHelpFormatter)
-    parser.add_argument("--program", default="crates/sre_cases/out/sre_cases", metavar="PATH")
-    options = parser.parse_args()
-    return 0 if can_try(print) and are_plain(options.program, print) else 1
-
-
-if __name__ == "__main__":
-    sys.exit(main())

@@ -1,6 +1,8 @@
-"""The repository as its tools see it: where it is, its crates, and the kit that checks them."""
+"""What tools share: where the repository is, its crates, the kit that checks them, files, and how programs are run."""
+import functools
 import os
 import subprocess
+import tempfile
 
 ROOT = os.path.dirname(os.path.dirname(os.path.realpath(__file__)))
 # The parts of a crate's folder that are code, specs and proofs.
@@ -12,6 +14,34 @@ def read(path):
         return file.read()
 
 
+def write(path, text):
+    with open(path, "w", encoding="utf-8", newline="\n") as file:
+        file.write(text)
+
+
+def told(words, usage, renew, faults):
+    """The status of a tool that looks whether something stands. What does not is a line each, and the status is 1
+    behind lines; --write renews, where it can; other words give the usage, and the status 2."""
+    if words == ["--write"] and renew:
+        renew()
+    elif words:
+        print(usage.strip())
+        return 2
+    lines = list(faults())
+    for line in lines:
+        print(line)
+    return 1 if lines else 0
+
+
+def answers(program, lines):
+    """What a program answers to a file of these lines, line by line; no line where it does not come to a good end."""
+    with tempfile.TemporaryDirectory(prefix="lines-") as room:
+        write(f"{room}/lines.txt", "".join(f"{it}\n" for it in lines))
+        ran = subprocess.run([program, f"{room}/lines.txt"], capture_output=True, text=True)
+    return [] if ran.returncode or ran.stderr else ran.stdout.splitlines()
+
+
+@functools.lru_cache(maxsize=1)
 def kit():
     """The toolchain's folder."""
     said = subprocess.run(["rt", "doc"], capture_output=True, text=True, check=True)
@@ -27,11 +57,6 @@ class Crate:
         self.own = [known[it] for it in listed if it in known]
         self.of_kit = ["std", *(it for it in listed if it not in known)]
         self.is_program = os.path.isfile(f"{self.folder}/src/main.rt")
-
-    def answers(self, body):
-        """The answers of a body's function, if it has any."""
-        path = f"{self.folder}/proofs/{body.proof()}/Answers.antt"
-        return read(path) if os.path.isfile(path) else ""
 
     def below(self):
         found = {}

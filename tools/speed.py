@@ -1,58 +1,53 @@
 #!/usr/bin/env python3
-"""Times the program `sre_cases` beside CPython's `_sre`, on the same words and the same texts.
+"""Times the program `sre_cases` beside CPython's `_sre`, on the same words and the same texts, or counts instructions.
 
-    speed.py [--program PATH] [--runs N] [--repeat N] [--scale F] [--only NAME,..] [--svg FILE]
+    speed.py [--runs N] [--repeat N] [--scale F] [--svg FILE]
+    speed.py --instructions [--before PATH] [--beside PATH] [--characters N]
 
-For each line of WORK: nanoseconds of processor time a character, the best of N runs, of CPython and
-of the program without and with the information block, and the ratios; below 1 the program is ahead.
-What the program takes for reading the text is taken off: the time of a match of the empty pattern.
-An answer that is not CPython's is marked WRONG, and the status is then 1. Without one, --svg draws
-the ratios as bars.
+Both take --program PATH and --only NAME,... For each line of WORK, without and with the information block: nanoseconds
+of processor time a character, the best of N runs, of the program and of CPython, and the ratio; below 1 the program is
+ahead. What reading the text takes is taken off: the time of a match of the empty pattern. An answer that is not
+CPython's is marked WRONG, and the status is then 1. Without one, --svg draws the ratios as bars. Texts are made by
+seeded generators, so they are the same each time. Run it on an idle machine; single lines swing by a tenth or more.
 
-It runs under CPython 3.11 to 3.13. Texts are made by seeded generators, so they are the same each
-time. Run it on an idle machine; single lines swing by a tenth or more.
+Instructions a character do not swing. They are counted by cachegrind of valgrind, over N characters, and reading is
+taken off likewise. All else is counted, with the building of what a search rests on. --before counts an earlier build
+too, and --beside a program of another engine. That one gets two arguments, a file with a pattern and a file with a
+text, both UTF-8, and prints how many matches there are; a pattern that has none, and is tried at the text's start
+alone, tells what its reading takes. Lines that it may not be able to say, with looks, references and possessive runs,
+are left out, and so are those of single matches. At last come the geometric means of the ratios. It runs under CPython
+3.11 to 3.13.
 """
-
 import argparse
-import math
-import os
+import collections
+import io
 import random
 import re
 import resource
+import statistics
 import subprocess
 import sys
 import tempfile
 import time
 import typing
 
-import _sre
-import pictures
+import bars
 import words
+from repository import write
 
 NOUNS = """
-    amber anchor basin beacon cinder cobalt comet delta ember falcon fjord garnet glacier harvest
-    hazel indigo island jasper juniper kelp lagoon lantern marble meadow nectar oasis orchid pebble
-    prairie quarry raven river saffron sierra summit thicket tundra valley willow zephyr
+    amber anchor basin beacon cinder cobalt comet delta ember falcon fjord garnet glacier harvest hazel indigo island
+    jasper juniper kelp lagoon lantern marble meadow nectar oasis orchid pebble prairie quarry raven river saffron
+    sierra summit thicket tundra valley willow zephyr
 """.split()
 SMALL = 'a an and as at by for from in is it of on or so the this to was with'.split()
 
 
-def joined(make, size):
-    """Pieces that `make` gives, up to so many characters."""
-    pieces, length = [], 0
-    while length < size:
-        pieces.append(make())
-        length += len(pieces[-1])
-    return ''.join(pieces)[:size]
-
-
-def prose(draw, size):
-    """Sentences in lines."""
-    def word():
-        text = draw.choice(NOUNS if draw.random() < .6 else SMALL)
-        text = text.capitalize() if draw.random() < .1 else text
-        return text + draw.choice([' '] * 16 + [', ', '. ', ';\n', '.\n'])
-    return joined(word, size)
+def prose(draw):
+    """A word of sentences in lines."""
+    text = draw.choice(NOUNS if draw.random() < .6 else SMALL)
+    text = text.capitalize() if draw.random() < .1 else text
+    return text + draw.choice([' '] * 16 + [', ', '. ', ';\n', '.\n'])
 
 
 def name(draw):
@@ -61,64 +56,51 @@ def name(draw):
     return '_'.join(parts) + str(draw.randrange(100)) * (draw.random() < .2)
 
 
-def program(draw, size):
-    """Lines of a program."""
-    def line():
-        first, second, third = name(draw), name(draw), name(draw)
-        return draw.choice([
-            f'{first} = {second}({third}, {draw.randrange(10000)})\n',
-            f'if {first}.{second} == "{third}":\n',
-            f'return [{first} for {second} in {third}]\n',
-            f'# {first} {second} {draw.choice(SMALL)} {third}\n',
-        ])
-    return joined(line, size)
+def program(draw):
+    """A line of a program."""
+    first, second, third = name(draw), name(draw), name(draw)
+    return draw.choice([
+        f'{first} = {second}({third}, {draw.randrange(10000)})\n',
+        f'if {first}.{second} == "{third}":\n',
+        f'return [{first} for {second} in {third}]\n',
+        f'# {first} {second} {draw.choice(SMALL)} {third}\n',
+    ])
 
 
-def log(draw, size):
-    """Lines of a server's log."""
-    def line():
-        address = '.'.join(str(draw.randrange(256)) for _ in range(4))
-        asked = f'{draw.choice(["GET", "PUT", "POST"])} /{name(draw)}/{name(draw)}?n={draw.randrange(10000)}'
-        clock = f'{draw.randrange(24):02}:{draw.randrange(60):02}'
-        return f'{address} - - [{clock}] "{asked}" {draw.randrange(200, 600)} {draw.randrange(100000)}\n'
-    return joined(line, size)
+def log(draw):
+    """A line of a server's log."""
+    address = '.'.join(str(draw.randrange(256)) for _ in range(4))
+    asked = f'{draw.choice(["GET", "PUT", "POST"])} /{name(draw)}/{name(draw)}?n={draw.randrange(10000)}'
+    clock = f'{draw.randrange(24):02}:{draw.randrange(60):02}'
+    return f'{address} - - [{clock}] "{asked}" {draw.randrange(200, 600)} {draw.randrange(100000)}\n'
 
 
-def table(draw, size):
-    """Fields between commas, some in quotes."""
-    def field():
-        value = draw.choice([str(draw.randrange(10 ** 6)), f'"{name(draw)}, ""{name(draw)}"""', name(draw), ''])
-        return value + draw.choice(',,,,\n')
-    return joined(field, size)
+def table(draw):
+    """A field between commas, perhaps in quotes."""
+    value = draw.choice([str(draw.randrange(10 ** 6)), f'"{name(draw)}, ""{name(draw)}"""', name(draw), ''])
+    return value + draw.choice(',,,,\n')
 
 
-def markup(draw, size):
-    """Elements, one on a line."""
-    def line():
-        tag = draw.choice(['b', 'em', 'span', 'h3'])
-        inside = ' '.join(draw.choice(NOUNS) for _ in range(draw.randrange(1, 8)))
-        return f'<{tag} id="{name(draw)}">{inside}</{tag}>\n'
-    return joined(line, size)
+def markup(draw):
+    """An element on a line."""
+    tag = draw.choice(['b', 'em', 'span', 'h3'])
+    inside = ' '.join(draw.choice(NOUNS) for _ in range(draw.randrange(1, 8)))
+    return f'<{tag} id="{name(draw)}">{inside}</{tag}>\n'
 
 
-def greek(draw, size):
-    """Words of Greek letters."""
+def greek(draw):
+    """A word of Greek letters."""
     letters = [chr(code) for code in range(0x3b1, 0x3ca)]
-    return joined(lambda: ''.join(draw.choices(letters, k=draw.randrange(2, 9))) + draw.choice('    ,\n'), size)
+    return ''.join(draw.choices(letters, k=draw.randrange(2, 9))) + draw.choice('    ,\n')
 
 
-def pairs(draw, size):
-    """The letters a and b in turn."""
-    return 'ab' * (size // 2)
-
-
-TOKENS = (r'(\#[^\n]*)|("(?:[^"\\\n]|\\.)*")|(\d+)|([A-Za-z_]\w*)|(==|[-+*/=<>()\[\]:,.?&;])'
-          r'|([ \t]+)|(\n)')
+TOKENS = r'(\#[^\n]*)|("(?:[^"\\\n]|\\.)*")|(\d+)|([A-Za-z_]\w*)|(==|[-+*/=<>()\[\]:,.?&;])|([ \t]+)|(\n)'
+# What another engine may not be able to say, and a pattern without a match that is tried at the text's start alone.
+APART, NOTHING = ('looks', 'reference', 'possessive', 'elements'), r'\A\x01'
 
 
 class Work(typing.NamedTuple):
-    """A line of the table: what is asked of a text of so many characters."""
-
+    """A line of the table: what is asked of a text of so many characters, which `text` gives piece by piece."""
     name: str
     verb: str
     pattern: str
@@ -147,7 +129,7 @@ WORK = [
     Work('looks', 'search', r'(?<=\()\w+(?=, \d)!', program, 600000),
     Work('reference', 'search', r'<(\w+)[^>]*>[^<]*</\1>!', markup, 600000, False),
     Work('possessive', 'search', r'[a-z]++_[a-z]++!', program, 600000),
-    Work('nested loops', 'match', '(?:(?:a|b)+c?)*d', pairs, 18),
+    Work('nested loops', 'match', '(?:(?:a|b)+c?)*d', lambda _: 'ab', 18),
     Work('tokens', 'walk', TOKENS, program, 400000, False),
     Work('fields', 'walk', r'("(?:[^"]|"")*"|[^,\n]*)(,|\n)', table, 400000),
     Work('requests', 'walk', r'^(\S+) - - \[([^\]]+)\] "(\w+) (\S+)" (\d+) (\d+)', log, 600000, True, re.M),
@@ -156,111 +138,139 @@ WORK = [
 ]
 
 
-def spent(run, who):
-    """The seconds of processor time that a run takes, and what it gives."""
-    before = resource.getrusage(who)
-    given = run()
-    after = resource.getrusage(who)
-    return after.ru_utime + after.ru_stime - before.ru_utime - before.ru_stime, given
-
-
 def python_time(pattern, asked):
     """The time of CPython on these words, in seconds."""
-    ask = getattr(pattern, 'finditer' if asked.verb == 'walk' else asked.verb)
-    start = time.process_time()
-    found = ask(asked.text)
-    if asked.verb == 'walk':
-        for _match in found:
-            pass
+    ask, start = getattr(pattern, 'finditer' if asked.verb == 'walk' else asked.verb), time.process_time()
+    collections.deque(ask(asked.text) if asked.verb == 'walk' else [ask(asked.text)], 0)
     return time.process_time() - start
-
-
-def python_answer(pattern, asked):
-    """What CPython answers, as the program writes it."""
-    if asked.verb != 'walk':
-        return words.match_answer(getattr(pattern, asked.verb)(asked.text))
-    return ' '.join('{}..{}'.format(*match.span()) for match in pattern.finditer(asked.text)) or 'none'
 
 
 def program_time(program, line, repeat, room):
     """The time of the program for a case, in seconds, and its answer."""
-    path = os.path.join(room, 'case')
-    words.write_lines(path, [line] * repeat)
-
-    def run():
-        return subprocess.run([program, path], capture_output=True, text=True, check=True).stdout
-    took, answers = spent(run, resource.RUSAGE_CHILDREN)
+    write(f'{room}/case', f'{line}\n' * repeat)
+    # of processor time, in user mode and in the kernel
+    before = sum(resource.getrusage(resource.RUSAGE_CHILDREN)[:2])
+    answers = subprocess.run([program, f'{room}/case'], capture_output=True, text=True, check=True).stdout
+    took = sum(resource.getrusage(resource.RUSAGE_CHILDREN)[:2]) - before
     return took / repeat, answers.split('\n', 1)[0]
 
 
-def measure(work, options, room):
-    """The two times, in nanoseconds a character, and whether the answers agree: without and with the block."""
-    text = work.text(random.Random(work.name), work.size if work.size < 100 else int(work.size * options.scale))
-    pattern = work.pattern.encode() if work.is_bytes else work.pattern
-    asked = words.Asked(work.verb, text.encode() if work.is_bytes else text)
-    whole = words.compiled(pattern, int(work.flags))
-    groups = whole.tree.state.groups
-    empty = words.case_line([1], asked._replace(verb='match'))
-    for code in (words.without_block(whole.words), whole.words):
-        python = _sre.compile(None, whole.flags | whole.tree.state.flags, code, groups - 1, {}, (None,) * groups)
-        line = words.case_line(code, asked)
+def case_of(work, size):
+    """The pattern of a line, and what is asked of it over so many characters."""
+    draw, text = random.Random(work.name), io.StringIO()
+    while text.tell() < size:
+        text.write(work.text(draw))
+    text = text.getvalue()[:size]
+    pattern = words.compiled(work.pattern.encode() if work.is_bytes else work.pattern, int(work.flags))
+    return pattern, words.Asked(work.verb, text.encode() if work.is_bytes else text)
+
+
+def lines_of(code, asked):
+    """The line of a case, and that of the empty pattern at the text's start, which takes what reading the text does."""
+    return words.case_line(code, asked), words.case_line([1], asked._replace(verb='match'))
+
+
+def forms(pattern):
+    """The words of a pattern without and with the block."""
+    return ('without block', words.without_block(pattern.words)), ('with block', pattern.words)
+
+
+def times(work, options, room):
+    """The program's time in nanoseconds a character, that of CPython, and whether the answers agree, by the form."""
+    pattern, asked = case_of(work, work.size if work.size < 100 else int(work.size * options.scale))
+    expected, unit = words.answer(pattern, asked), 1e9 / len(asked.text)
+    for form, code in forms(pattern):
+        python, (line, empty) = words.of_words(pattern, code), lines_of(code, asked)
         # One run of each in turn, so that a slow moment of the machine is one for all.
-        theirs, ours, reading = (min(times) for times in zip(*(
-            (python_time(python, asked),
-             program_time(options.program, line, options.repeat, room)[0],
-             program_time(options.program, empty, options.repeat, room)[0])
-            for _ in range(options.runs))))
-        given = program_time(options.program, line, 1, room)[1]
-        agrees = given == python_answer(python, asked)
-        yield theirs * 1e9 / len(text), max(ours - reading, 1e-9) * 1e9 / len(text), agrees
+        theirs, ours, reading = map(min, zip(*(
+            (python_time(python, asked), program_time(options.program, line, options.repeat, room),
+             program_time(options.program, empty, options.repeat, room)) for _ in range(options.runs))))
+        yield form, max(ours[0] - reading[0], 1e-9) * unit, {'CPython': theirs * unit}, ours[1] == expected
+
+
+def instructions(*command):
+    """How many instructions a command executes."""
+    told = subprocess.run(['valgrind', '--tool=cachegrind', '--cache-sim=no', '--cachegrind-out-file=/dev/null',
+                           *command], stdout=subprocess.DEVNULL, stderr=subprocess.PIPE, text=True, check=True).stderr
+    return int(re.search(r'I +refs: +([\d,]+)', told)[1].replace(',', ''))
+
+
+def of_program(program, code, asked, room):
+    """The instructions a character of the program for a case, less those for reading the text."""
+    counts = []
+    for line in lines_of(code, asked):
+        write(f'{room}/case', f'{line}\n')
+        counts.append(instructions(program, f'{room}/case'))
+    return (counts[0] - counts[1]) / len(asked.text)
+
+
+def of_another(program, work, asked, room):
+    """The instructions a character of another engine's program for the matches of a line, less those for reading."""
+    letters, counts = ''.join(letter for letter, flag in words.FLAGS.items() if flag & work.flags), []
+    write(f'{room}/text', asked.text.decode() if work.is_bytes else asked.text)
+    for pattern in (f'(?{letters})' * bool(letters) + work.pattern, NOTHING):
+        write(f'{room}/pattern', pattern)
+        counts.append(instructions(program, f'{room}/pattern', f'{room}/text'))
+    return (counts[0] - counts[1]) / len(asked.text)
+
+
+def counts(work, options, room):
+    """The program's instructions a character, those of the other programs, and True, by the form of the words."""
+    pattern, asked = case_of(work, work.size if work.verb == 'match' else options.characters)
+    is_asked = options.beside and work.verb != 'match' and work.name not in APART
+    beside = {'beside': of_another(options.beside, work, asked, room)} if is_asked else {}
+    for form, code in forms(pattern):
+        before = {'before': of_program(options.before, code, asked, room)} if options.before else {}
+        yield form, of_program(options.program, code, asked, room), {**before, **beside}, True
 
 
 def arguments():
     parser = argparse.ArgumentParser(description=__doc__, formatter_class=argparse.RawDescriptionHelpFormatter)
     add = parser.add_argument
     add('--program', default='crates/sre_cases/out/sre_cases', metavar='PATH')
+    add('--only', default='', metavar='NAME,..', help='these lines alone')
     add('--runs', type=int, default=5, metavar='N', help='runs of which the best counts')
     add('--repeat', type=int, default=5, metavar='N', help='how often a run of the program repeats a case')
     add('--scale', type=float, default=1, metavar='F', help='texts of so many times the characters')
-    add('--only', default='', metavar='NAME,..', help='these lines alone')
     add('--svg', metavar='FILE', help='draws the ratios as bars')
+    add('--instructions', action='store_true', help='counts instructions')
+    add('--before', metavar='PATH', help='an earlier build of the program')
+    add('--beside', metavar='PATH', help="another engine's program")
+    add('--characters', type=int, default=100000, metavar='N', help='the length of each text')
     return parser
 
 
-def shown(theirs, ours):
-    """Two times and their ratio, as columns that no number fills."""
-    return f'{theirs:>11.2f}{ours:>11.2f}{ours / theirs:>7.2f}'
-
-
-def mean(ratios):
-    """The geometric mean."""
-    return math.exp(sum(map(math.log, ratios)) / len(ratios))
+def measured(options, chosen, room):
+    """Writes a row for each line and form, gathers the ratios by what they are to and the form, and gives the
+    status."""
+    ratios, wrong = collections.defaultdict(dict), 0
+    for work in chosen:
+        for form, ours, others, is_right in (counts if options.instructions else times)(work, options, room):
+            shown = ''.join(f'{what:>11}{it:>11.2f}{ours / it:>8.3f}' for what, it in others.items())
+            print(f'{work.name:<16}{form:<14}{ours:>11.2f}{shown}' + '  WRONG' * (not is_right), flush=True)
+            wrong += not is_right
+            for what, it in others.items():
+                ratios[f'{form}, to {what}'][work.name] = ours / it
+    for what, found in ratios.items():
+        greatest = max(found, key=found.get)
+        print(f'{what}: geometric mean {statistics.geometric_mean(found.values()):.3f}, greatest '
+              f'{found[greatest]:.3f} ({greatest}), {sum(it < 1 for it in found.values())} of {len(found)} ahead')
+    if options.svg and not options.instructions and not wrong:
+        rows = {work.name: [it[work.name] for it in ratios.values()] for work in chosen}
+        rows['geometric mean'] = [statistics.geometric_mean(it.values()) for it in ratios.values()]
+        python = 'CPython ' + '.'.join(map(str, sys.version_info[:3]))
+        write(options.svg, bars.picture([(name, *row) for name, row in rows.items()], python))
+    return int(wrong > 0)
 
 
 def main():
     words.require_known_numbers()
     options = arguments().parse_args()
-    words.require_program(options.program)
+    for program in filter(None, (options.program, options.before, options.beside)):
+        words.require_program(program)
     chosen = [work for work in WORK if not options.only or work.name in options.only.split(',')]
-    print(f'{"":<16}{"characters":>11}{"CPython":>11}{"ours":>11}{"ratio":>7}     with the block{"ratio":>10}')
-    columns, is_wrong = ([], []), False
     with tempfile.TemporaryDirectory() as room:
-        for work in chosen:
-            bare, block = measure(work, options, room)
-            for column, (theirs, ours, _) in zip(columns, (bare, block)):
-                column.append(ours / theirs)
-            agree = bare[2] and block[2]
-            is_wrong = is_wrong or not agree
-            print(f'{work.name:<16}{work.size:>11}' + shown(*bare[:2]) + shown(*block[:2]) + '  WRONG' * (not agree),
-                  flush=True)
-    python = 'CPython ' + '.'.join(map(str, sys.version_info[:3]))
-    if options.svg and not is_wrong:
-        rows = [*zip((work.name for work in chosen), *columns), ('geometric mean', *map(mean, columns))]
-        pictures.write(options.svg, pictures.speed_picture(rows, python))
-    for said, ratios in zip(('without', 'with'), columns):
-        print(f'{said} the block, beside {python}: geometric mean {mean(ratios):.2f}, '
-              f'worst {max(ratios):.2f}, {sum(ratio < 1 for ratio in ratios)} of {len(ratios)} ahead')
-    return 1 if is_wrong else 0
+        return measured(options, chosen, room)
 
 
 if __name__ == '__main__':

@@ -3,17 +3,13 @@
 
     unicode.py > src/unicode.rt        for `mod unicode;`: the function `table` makes the table
     unicode.py --lines > FILE          for `sre_cases --table FILE CASES` (docs/PROGRAM.md)
-    unicode.py --against FILE          counts the characters that a table of FILE takes otherwise
+    unicode.py --digits                the digits of all characters, as rows of a test (crates/sre_tests)
 
 `\\w` over a `str` is what this Python's own `str.isalnum` says of each character, besides `_`, and `\\d` is its
-`str.isdecimal`. A case is the one that its `_sre` compares with: the first character of a longer one. FILE has a line
-for each list that it holds, LOWER, UPPER, ALNUM or DIGITS, and the pairs behind it as 1a-2b.
-
-It runs under CPython 3.11 to 3.13. Each has its own Unicode: 14.0, 15.0 and 15.1.
+`str.isdecimal`. A case is the one that its `_sre` compares with: the first character of a longer one. It runs under
+CPython 3.11 to 3.13. Each has its own Unicode: 14.0, 15.0 and 15.1.
 """
 import _sre
-import collections
-import re
 import sys
 import unicodedata
 
@@ -48,10 +44,10 @@ NOTES = {
 }
 
 
-def ranges(has):
+def ranges(has, codes=PAST_ASCII):
     """The runs of characters that a test takes, each with its first and its last, rising."""
     found = []
-    for code in filter(lambda it: has(chr(it)), PAST_ASCII):
+    for code in (it for it in codes if has(chr(it))):
         if found and found[-1][1] == code - 1:
             found[-1] = found[-1][0], code
         else:
@@ -59,32 +55,28 @@ def ranges(has):
     return found
 
 
-def changes(case):
-    """The characters that a case changes, each with what it is then, rising."""
-    pairs = ((code, case(code)) for code in PAST_ASCII)
-    return [(code, other) for code, other in pairs if other != code]
-
-
 def lists():
-    """The four lists of a table."""
-    return {
-        "LOWER": changes(_sre.unicode_tolower),
-        "UPPER": changes(lambda code: ord(chr(code).upper()[0])),
-        "ALNUM": ranges(str.isalnum),
-        "DIGITS": ranges(str.isdecimal),
-    }
+    """The four lists of a table: the characters that a case changes, with what they are then, and runs."""
+    cases = {"LOWER": _sre.unicode_tolower, "UPPER": lambda code: ord(chr(code).upper()[0])}
+    found = {name: [(it, case(it)) for it in PAST_ASCII if case(it) != it] for name, case in cases.items()}
+    return {**found, "ALNUM": ranges(str.isalnum), "DIGITS": ranges(str.isdecimal)}
 
 
-def shown(name, pairs):
-    """A list as a static of Rust, in as few lines as fit."""
+def rows_of(pairs):
+    """Pairs as Rust has them, in as few lines as fit."""
     rows = [INDENT]
     for low, high in pairs:
         text = f"(0x{low:x}, 0x{high:x}),"
         if len(rows[-1]) + len(text) > COLUMNS:
             rows.append(INDENT)
         rows[-1] += text + " "
+    return [it.rstrip() for it in rows]
+
+
+def shown(name, pairs):
+    """A list as a static of Rust."""
     head = f"// {NOTES[name]}\n#[rattlefmt::skip]\nstatic {name}: [(u32, u32); {len(pairs)}] = ["
-    return "\n".join([head, *(it.rstrip() for it in rows), "];"])
+    return "\n".join([head, *rows_of(pairs), "];"])
 
 
 def lines_of(held):
@@ -98,50 +90,14 @@ def file_of(held):
     return "\n".join([head, "\n\n".join(shown(name, pairs) for name, pairs in held.items())])
 
 
-def read(path):
-    """The lists of a file."""
-    with open(path, encoding="utf-8") as file:
-        lines = [line.split() for line in file]
-    return {line[0]: [tuple(int(it, 16) for it in pair.split("-")) for pair in line[1:]] for line in lines if line}
-
-
-def taken(name, pairs):
-    """What a list says of each character that it has."""
-    if name in ("LOWER", "UPPER"):
-        return dict(pairs)
-    return {code: True for low, high in pairs for code in range(low, high + 1)}
-
-
-def by_category(codes):
-    """How many these characters are, and how many of each general category, those that are unassigned here apart."""
-    counts = collections.Counter(unicodedata.category(chr(it)) for it in codes)
-    unassigned = counts.pop("Cn", 0)
-    kinds = ", ".join(f"{count} {kind}" for kind, count in counts.most_common())
-    return f"{counts.total()} ({kinds or 'none'}), and {unassigned} that are unassigned here"
-
-
-def differences(held, others):
-    """A line for each list, on the characters that another one takes otherwise."""
-    for name, pairs in others.items():
-        ours, theirs = taken(name, held[name]), taken(name, pairs)
-        both = ours.keys() & theirs.keys()
-        yield f"{name}: only there {by_category(theirs.keys() - both)}"
-        yield f"{name}: only here {by_category(ours.keys() - both)}"
-        yield f"{name}: otherwise {by_category(it for it in both if ours[it] != theirs[it])}"
-
-
 def main(words):
-    if len(words) == 2 and words[0] == "--against":
-        print(f"Unicode {unicodedata.unidata_version}")
-        print(*differences(lists(), read(words[1])), sep="\n")
-        return 0
-    if words == ["--lines"]:
-        print(*lines_of(lists()), sep="\n")
-        return 0
-    if words:
+    if words == ["--digits"]:
+        print(*rows_of(ranges(str.isdecimal, range(sys.maxunicode + 1))), sep="\n")
+    elif words in ([], ["--lines"]):
+        print(*(lines_of(lists()) if words else [file_of(lists())]), sep="\n")
+    else:
         print(__doc__.strip())
         return 2
-    print(file_of(lists()))
     return 0
 
 

@@ -12,139 +12,78 @@ A crate of TARGET that differs from the one here is not overwritten, nor is anot
 one does, nothing is written at all, and the status is 1. The kit has to be there in any case (docs/DEPENDING.md).
 """
 import os
+import re
 import shutil
 import subprocess
 import sys
 
-import wrong_bodies
+from repository import PARTS, ROOT, crates, read, row_of, write
 
-ROOT = wrong_bodies.ROOT
-OFFERED = ("sre_engine", "sre_recipes", "sre_emit")
-BEGIN, END = "# Gaffsilver begins", "# Gaffsilver ends"
-SEAL = "no crate but sre_growth may list sre_refusal_seal, since clauses on memory rest on that"
-
-
-def read(path):
-    with open(path, "rb") as file:
-        return file.read()
-
-
-def commit():
-    """The commit that is copied."""
-    ran = subprocess.run(["git", "-C", ROOT, "describe", "--always", "--dirty"], stdout=subprocess.PIPE, text=True)
-    return ran.stdout.strip() or "unknown"
+OFFERED = {"sre_engine", "sre_recipes", "sre_emit"}
+PART = re.compile(r"^# Gaffsilver begins.*?(?:^# Gaffsilver ends\n|\Z)", re.M | re.S)
+BEGIN = "# Gaffsilver begins: commit {}; no crate but sre_growth may list sre_refusal_seal (docs/TRUST.md there)"
+END = "# Gaffsilver ends"
 
 
 def files_of(folder):
     """The contents of a crate's files that are copied, by their paths in its folder."""
-    found = {}
-    for part in wrong_bodies.PARTS:
-        for at, _, names in os.walk(f"{folder}/{part}"):
-            found.update({os.path.relpath(f"{at}/{it}", folder): read(f"{at}/{it}") for it in names})
-    return found
+    found = (f"{at}/{it}" for part in PARTS for at, _, names in os.walk(f"{folder}/{part}") for it in names)
+    return {os.path.relpath(it, folder): read(it) for it in found}
 
 
-class Taken:
-    """The crates of crates.txt in TARGET: the lines of its own, and the names of those that an earlier run took."""
-
-    def __init__(self, target):
-        self.path, self.own, self.names = f"{target}/crates.txt", [], []
-        is_ours = False
-        for line in read(self.path).decode().splitlines() if os.path.isfile(self.path) else []:
-            name, _, _ = wrong_bodies.row_of(line)
-            if line.startswith((BEGIN, END)):
-                is_ours = line.startswith(BEGIN)
-            elif not is_ours:
-                self.own.append(line)
-            elif name:
-                self.names.append(name)
-
-    def listed(self, name):
-        """What a line of its own says that a crate lists, where there is one."""
-        for own, _, listed in map(wrong_bodies.row_of, self.own):
-            if own == name:
-                return listed
-        return None
-
-    def write(self, crates):
-        """Writes the lines of these crates behind its own, in place of those that stand for them now."""
-        own = [it for it in self.own if wrong_bodies.row_of(it)[0] not in crates]
-        lines = [f"{name}: {' '.join(libraries_of(crate))}".rstrip() for name, crate in crates.items()]
-        with open(self.path, "w", encoding="utf-8") as file:
-            file.write("\n".join([*own, f"{BEGIN}: commit {commit()}; {SEAL}", *lines, END]) + "\n")
+def line_of(crate):
+    """A crate's line, which lists all but std."""
+    return f"{crate.name}: {' '.join([*(it.name for it in crate.own), *crate.of_kit[1:]])}".rstrip()
 
 
-def libraries_of(crate):
-    """What a crate lists, but for std."""
-    return [*(it.name for it in crate.own), *crate.of_kit[1:]]
-
-
-def chosen(names):
-    """Crates of these names, with all that they stand on, lowest first."""
-    known, wanted = wrong_bodies.crates(), set()
-    for name in names:
-        wanted.update(it.name for it in [*known[name].below(), known[name]])
-    return {name: crate for name, crate in known.items() if name in wanted}
-
-
-def differing(target, taken, crates):
-    """What would be overwritten by something else."""
-    for name, crate in crates.items():
-        there = files_of(f"{target}/crates/{name}")
-        if there and there != files_of(crate.folder):
-            yield f"crates/{name} differs"
-        if taken.listed(name) not in (None, libraries_of(crate)):
-            yield f"crates.txt has another line for {name}"
-
-
-def copy(target, name, crate):
+def copy(crate, folder):
     """Copies a crate in place of what is there of it, and says so."""
-    folder, files = f"{target}/crates/{name}", files_of(crate.folder)
-    if files_of(folder) == files:
-        return f"{name}: is the same already"
-    for part in wrong_bodies.PARTS:
+    if files_of(folder) == files_of(crate.folder):
+        return f"{crate.name}: is the same already"
+    for part in PARTS:
         shutil.rmtree(f"{folder}/{part}", ignore_errors=True)
-    for path, content in files.items():
-        os.makedirs(os.path.dirname(f"{folder}/{path}"), exist_ok=True)
-        with open(f"{folder}/{path}", "wb") as file:
-            file.write(content)
-    shutil.copy(f"{ROOT}/LICENSE", f"{folder}/LICENSE")
-    return f"{name}: {len(files)} files copied"
+        if os.path.isdir(f"{crate.folder}/{part}"):
+            shutil.copytree(f"{crate.folder}/{part}", f"{folder}/{part}", copy_function=shutil.copyfile)
+    shutil.copy(f"{ROOT}/LICENSE", folder)
+    return f"{crate.name}: {len(files_of(folder))} files copied"
 
 
-def refused(target):
-    """Why nothing can be copied to a folder, if so."""
-    if not os.path.isdir(target):
-        return f"{target} is no folder"
-    if os.path.realpath(target) == ROOT:
-        return f"{target} is the repository itself"
-    if os.path.isfile(f"{target}/crates.txt") and not os.path.isdir(f"{target}/crates"):
-        return f"the crates of {target} stand right in it: they have to stand in {target}/crates"
-    return None
+def differing(taken, top, own):
+    """What would be overwritten by something else: crates, and lines of the target's own."""
+    rows = {row_of(it)[0]: row_of(it) for it in own}
+    for crate in taken:
+        if files_of(f"{top}/{crate.name}") not in ({}, files_of(crate.folder)):
+            yield f"crates/{crate.name} differs"
+        row = row_of(line_of(crate))
+        if rows.get(crate.name, row) != row:
+            yield f"crates.txt has another line for {crate.name}"
 
 
 def main(words):
     is_forced, words = "--force" in words, [it for it in words if it != "--force"]
-    if not words or words[0].startswith("-") or not set(words[1:]) <= set(OFFERED):
+    if not words or not os.path.isdir(words[0]) or os.path.realpath(words[0]) == ROOT or not {*words[1:]} <= OFFERED:
         print(__doc__.strip())
         return 2
-    target, names = words[0], words[1:] or ["sre_engine"]
-    reason = refused(target)
-    if reason:
-        print(reason)
+    top, listed, known = f"{words[0]}/crates", f"{words[0]}/crates.txt", crates()
+    text = read(listed) if os.path.isfile(listed) else ""
+    if text and not os.path.isdir(top):
+        print(f"the crates of {words[0]} stand right in it: they have to stand in {top}")
         return 1
-    taken = Taken(target)
-    crates = chosen({*names, *(it for it in taken.names if it in wrong_bodies.crates())})
-    lost = list(differing(target, taken, crates))
+    own, part = PART.sub("", text).splitlines(), "".join(PART.findall(text)).splitlines()
+    named = [known[it] for it in {*(words[1:] or ["sre_engine"]), *(row_of(it)[0] for it in part)} if it in known]
+    wanted = {it.name for crate in named for it in [*crate.below(), crate]}
+    taken = [crate for name, crate in known.items() if name in wanted]
+    lost = list(differing(taken, top, own))
     if lost and not is_forced:
         print(*lost, "nothing is written; --force overwrites these", sep="\n")
         return 1
-    for name, crate in crates.items():
-        print(copy(target, name, crate))
-    taken.write(crates)
-    for name in sorted({*taken.names} - {*crates}):
-        print(f"{name}: is no crate here any more, so its folder may go")
-    print(f"crates.txt: {len(crates)} lines, of commit {commit()}")
+    for crate in taken:
+        print(copy(crate, f"{top}/{crate.name}"))
+    ran = subprocess.run(["git", "-C", ROOT, "describe", "--always", "--dirty"], stdout=subprocess.PIPE, text=True)
+    lines = [it for it in own if row_of(it)[0] not in wanted]
+    lines += [BEGIN.format(ran.stdout.strip() or "unknown"), *map(line_of, taken), END]
+    write(listed, "\n".join(lines) + "\n")
+    print(f"crates.txt: {len(taken)} lines")
     return 0
 
 
