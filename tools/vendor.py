@@ -5,7 +5,7 @@
 
 TARGET is the top folder of a repository that lists its crates in crates.txt, or of a new one. CRATE is sre_engine,
 sre_recipes or sre_emit; with none it is sre_engine. Of each crate the code, the specs and the proofs are copied into
-TARGET/crates, beside the licence, and no tests, no wrong bodies and no results of checks. TARGET/crates.txt gets a part
+TARGET/crates, beside the licence, and no tests, no mutants and no results of checks. TARGET/crates.txt gets a part
 with their lines, between two notes. A later run renews all crates of that part.
 
 A crate of TARGET that differs from the one here is not overwritten, nor is another line of it, but with --force. Where
