@@ -19,10 +19,10 @@ A function is proved from the contracts of those that it calls, so mutants of di
 check: each is written into a copy of the crate, a second one of a function into a copy of the function. The proofs of
 all other functions are holes and their bodies panics, so nothing but their contracts is read. A mutant is refused only
 where its goal stays open in its own function, or an answer to that goal is no longer a proof; an answer that names what
-the mutant took away counts for nothing. A mutant changes code alone, never a contract, an attribute or ghost code. One
-function goes along unchanged and must not be refused. Where a check does not reach its end, its mutants are tried one by
-one. What a run on this machine judged of the very same files is taken over (`kept.py`). The status is 0 where each
-mutant is refused as it must be.
+the mutant took away counts for nothing. A mutant changes code alone, never a contract, an attribute or ghost code. The
+shortest function goes along unchanged, too, and must not be refused. Where a check does not reach its end, its mutants
+are tried one by one. What a run on this machine judged of the very same files is taken over (`kept.py`). The status is
+0 where each mutant is refused as it must be.
 """
 import concurrent.futures
 import copy
@@ -312,6 +312,7 @@ def tried(crate, rlibs):
     found = [(False, f"{it.label()}: BAD: {fault}") for it, fault in faults if fault]
     good = [it for it, fault in faults if not fault]
     plain = [it for it in good if not it.cycle and it.function in functions(texts)]
+    plain.sort(key=lambda it: len(functions(texts)[it.function].text(texts)))
     trial = Trial(crate, crate.words(kit(), rlibs))
     for made in rounds([*good, *map(as_it_is, plain[:1])], texts):
         found += trial.judged(made)
