@@ -49,9 +49,9 @@ class Count:
             self.passed, self.failed, self.seconds = self.passed + passed, self.failed + failed, self.seconds + seconds
             self.until = time.monotonic() - BEGAN
 
-    def check(self, is_well, line, seconds=0):
+    def check(self, is_well, line):
         tell(line)
-        self.add(is_well, not is_well, seconds)
+        self.add(is_well, not is_well)
 
     def told(self):
         took = f", {minutes(self.seconds)} of processors" if self.seconds else ""
@@ -69,12 +69,20 @@ class Prover:
     """`rt ci` over a copy, with its lines passed on. That crates are proved can be waited for."""
 
     def __init__(self, count, folder):
-        self.count, self.folder, self.proved, self.taken_over = count, folder, {}, 0
+        self.count, self.folder, self.proved, self.taken_over = count, f"{folder}/repository", {}, 0
         self.rlibs, self.programs, self.last, self.idle_edits = f"{folder}/rlibs", [], "", 0
         self.changed, self.has_ended = threading.Condition(), False
-        staged(folder)
+        staged(self.folder)
 
     def run(self):
+        try:
+            self.prove()
+        finally:
+            with self.changed:
+                self.has_ended = True
+                self.changed.notify_all()
+
+    def prove(self):
         how = {"stdin": subprocess.DEVNULL, "stdout": subprocess.PIPE, "stderr": subprocess.STDOUT}
         rt = subprocess.Popen(["rt", "ci"], cwd=self.folder, text=True, errors="replace", **how)
         for line in rt.stdout:
@@ -86,9 +94,6 @@ class Prover:
         for name in lacking:
             tell(f"{name}: it was not run as both compilers build it")
         self.count.add(passed, failed + len(lacking) + bool(status) + self.idle_edits, used.ru_utime + used.ru_stime)
-        with self.changed:
-            self.has_ended = True
-            self.changed.notify_all()
 
     def hear(self, line):
         tell(line)
@@ -155,9 +160,10 @@ def verified():
     """All phases, with what passed in each; and how many crates and mutants were taken over."""
     phases = [Count(it) for it in ("files", "proofs", "mutants", "tests", "library", "cases")]
     files, proofs, of_mutants, tests, library, of_cases = phases
-    for line in standing.fallen():
+    lost = standing.fallen()
+    for line in lost:
         files.check(False, line)
-    files.add(1, 0)
+    files.add(not lost, 0)
     with tempfile.TemporaryDirectory(prefix="gate-") as folder:
         prover = Prover(proofs, folder)
         # most of them wait: how many checks run at once rt and mutants.py know
@@ -169,7 +175,7 @@ def verified():
             building = pool.submit(try_library, prover, library)
             judged = [it.result() for it in tried]
             proving.result(), building.result(), testing.result()
-        built = f"{folder}/crates/sre_cases/out/sre_cases"
+        built = f"{prover.folder}/crates/sre_cases/out/sre_cases"
         of_programs = cases.Cases(tell, {"sre_cases": [built, f"{built}.by-rattle"]})
         of_programs.run()
         of_cases.add(of_programs.passed, of_programs.failed)
